@@ -1,34 +1,30 @@
--- The seven calls: on rows, and on tables.
-use mathlib.Core.Path.{_≡_, refl}
-use mathlib.Core.Bool.{Bool, true, false, not, _&&_}
+-- The seven calls: on rows, then on tables.
+use mathlib.Core.Path.{_≡_}
+use mathlib.Core.Bool.{Bool, true, false, _&&_}
 use mathlib.Core.Option.{Option, none, some}
 use mathlib.Core.List.{List, [], _∷_, _++_}
 use Prim.Native.Nat.{ℕ, zero, suc, _+_}
 use lib.ListN.{length}
 use lib.Dec.{eqb, leb, ltb}
-use Rattle.definition.specs.World.{World, at}
-use Rattle.definition.specs.Answer.{Refusal, Word, Result, refused, ok, _>>=_, need, take?}
+use Rattle.definition.specs.Requests.{at}
+use Rattle.definition.specs.Constraints.{World}
+use Rattle.definition.specs.Answers.{Refusal, Word, Answer, Idle, Ran, Finished, Refused, Reply, Accepted, Defined, Stepped, RanFor, Denied, Result, refused, ok, _>>=_, need, take?}
 use Rattle.definition.specs.Machine.{Frame, Progress, step}
-use Rattle.definition.specs.Load.{Store, define, recorded, started}
-use Rattle.definition.specs.Decode.{decode}
+use Rattle.definition.specs.Loading.{define, recorded, started}
 use Rattle.definition.specs.File.{readFile, classOf}
-use Rattle.definition.specs.Layout.{Tables, shaped, ClassRow, Rows, storeOf, view, put}
+use Rattle.definition.specs.Tables.{Tables, shaped, Rows, worldOf, view, put}
 use Rattle.definition.specs.Broken.{broken}
-pub use Rattle.definition.specs.declared.Answer.{Answer}
-pub use Rattle.definition.specs.declared.Answer.the-variants.{Idle, Ran, Finished, Refused}
-pub use Rattle.definition.specs.declared.Reply.{Reply}
-pub use Rattle.definition.specs.declared.Reply.the-variants.{Accepted, Defined, Stepped, RanFor, Denied}
+
+-- On rows: an answer with the rows that the call leaves
 
 pub record Given (A : Type 0) : Type 0 where
   pub answer : A
   pub rows : Rows
 
-pub record Done (A : Type 0) : Type 0 where
-  pub answer : A
-  pub tables : Tables
+abbrev pub given : {A : Type 0} → A → Rows → Result (Given A)
+given a r = ok (record { answer = a; rows = r })
 
--- On rows
-
+-- boot: class 0 is Object of loader 0, the cache holds only (0, 2), all other rows are emptied
 abbrev pub bootRows : Rows
 bootRows = record
   { classes = record { loader = 0; start = 0; size = 0 } ∷ []; kept = []; cache = record { request = at 0 2; class = 0 } ∷ []
@@ -41,83 +37,117 @@ addFile l bs r w = record
   ; ties = w .ties; subtypes = w .subtypes; objects = r .objects; quote = r .quote; report = r .report }
 
 abbrev pub addEntry : Rows → World → Rows
-addEntry r w = record { classes = r .classes; kept = r .kept; cache = w .base .cache; ties = r .ties; subtypes = r .subtypes; objects = r .objects; quote = r .quote; report = r .report }
+addEntry r w = record
+  { classes = r .classes; kept = r .kept; cache = w .base .cache; ties = r .ties; subtypes = r .subtypes
+  ; objects = r .objects; quote = r .quote; report = r .report }
 
-abbrev pub ofQuote : Rows → Progress → Rows
-ofQuote r o = record { classes = r .classes; kept = r .kept; cache = r .cache; ties = o .world .ties; subtypes = r .subtypes; objects = o .objects; quote = o .frames; report = r .report }
+-- a task's progress: ties, objects, and the task's frames
+abbrev pub progressed : ℕ → Rows → Progress → Rows
+progressed zero r o = record
+  { classes = r .classes; kept = r .kept; cache = r .cache; ties = o .world .ties; subtypes = r .subtypes
+  ; objects = o .objects; quote = o .frames; report = r .report }
+progressed (suc k) r o = record
+  { classes = r .classes; kept = r .kept; cache = r .cache; ties = o .world .ties; subtypes = r .subtypes
+  ; objects = o .objects; quote = r .quote; report = o .frames }
 
-abbrev pub ofReport : Rows → Progress → Rows
-ofReport r o = record { classes = r .classes; kept = r .kept; cache = r .cache; ties = o .world .ties; subtypes = r .subtypes; objects = o .objects; quote = r .quote; report = o .frames }
+abbrev pub withFrames : ℕ → Rows → List Frame → Rows
+withFrames zero r fs = record
+  { classes = r .classes; kept = r .kept; cache = r .cache; ties = r .ties; subtypes = r .subtypes; objects = r .objects; quote = fs; report = r .report }
+withFrames (suc k) r fs = record
+  { classes = r .classes; kept = r .kept; cache = r .cache; ties = r .ties; subtypes = r .subtypes; objects = r .objects; quote = r .quote; report = fs }
 
-abbrev pub dropped : Bool → Rows → Rows
-dropped true r = record { classes = r .classes; kept = r .kept; cache = r .cache; ties = r .ties; subtypes = r .subtypes; objects = r .objects; quote = []; report = r .report }
-dropped false r = record { classes = r .classes; kept = r .kept; cache = r .cache; ties = r .ties; subtypes = r .subtypes; objects = r .objects; quote = r .quote; report = [] }
+abbrev pub framesIn : ℕ → Rows → List Frame
+framesIn zero r = r .quote
+framesIn (suc k) r = r .report
 
-abbrev pub given : {A : Type 0} → A → Rows → Result (Given A)
-given a r = ok (record { answer = a; rows = r })
-
--- refusals: 3 2 6 4 5 8 10 9
+-- define. Refusals: 3 2 6 4 5 8 10 9
 unfoldable pub defineRows : ℕ → List ℕ → Rows → Result (Given Reply)
 defineRows l bs r =
     need (ltb l 16) (Word 3) >>= λ _. take? (readFile bs) (Word 2) >>= λ f.
-    define decode (leb (length (r .kept) + length bs) 16384) (classOf l f) (storeOf r .world) >>= λ w.
+    define (leb (length (r .kept) + length bs) 16384) (classOf l f) (worldOf r) >>= λ w.
     given (Defined (length (r .classes))) (addFile l bs r w)
 
--- 3 13 4 10 9
+-- record. 3 13 4 10 9
 unfoldable pub recordRows : ℕ → ℕ → ℕ → Rows → Result (Given Reply)
-recordRows l n c r = recorded decode l n c (storeOf r .world) >>= λ w. given Accepted (addEntry r w)
+recordRows l n c r = recorded l n c (worldOf r) >>= λ w. given Accepted (addEntry r w)
 
--- 3 12 5 7 10
-unfoldable pub startOn : Bool → ℕ → ℕ → ℕ → ℕ → Rows → Result (Given Reply)
-startOn true l n m v r = started decode l n m v (storeOf r .world) (r .objects) (r .quote) >>= λ o. given Accepted (ofQuote r o)
-startOn false l n m v r = started decode l n m v (storeOf r .world) (r .objects) (r .report) >>= λ o. given Accepted (ofReport r o)
-
+-- start of task k. 3 12 5 7 10
 unfoldable pub startRows : ℕ → ℕ → ℕ → ℕ → ℕ → Rows → Result (Given Reply)
-startRows τ l n m v r = need (ltb τ 2) (Word 3) >>= λ _. startOn (eqb τ 0) l n m v r
+startRows k l n m v r =
+    need (ltb k 2) (Word 3) >>= λ _. started l n m v (worldOf r) (r .objects) (framesIn k r) >>= λ o. given Accepted (progressed k r o)
+
+-- drop of task k. 3
+unfoldable pub dropRows : ℕ → Rows → Result (Given Reply)
+dropRows k r = need (ltb k 2) (Word 3) >>= λ _. given Accepted (withFrames k r [])
+
+-- step: one instruction of the quote if it has a frame, else of the report; w is what the rows' classes, cache and constraints are
 
 unfoldable pub answerOf : ℕ → Option ℕ → Answer
-answerOf τ none = Ran τ
-answerOf τ (some n) = Finished τ n
+answerOf k none = Ran k
+answerOf k (some n) = Finished k n
 
-unfoldable pub stepOn : List Frame → List Frame → Rows → Result (Given Answer)
-stepOn (f ∷ fs) gs r = step decode (storeOf r .world) (r .objects) f fs >>= λ o. given (answerOf 0 (o .result)) (ofQuote r o)
-stepOn [] (f ∷ fs) r = step decode (storeOf r .world) (r .objects) f fs >>= λ o. given (answerOf 1 (o .result)) (ofReport r o)
-stepOn [] [] r = given Idle r
+unfoldable pub stepTask : ℕ → World → Frame → List Frame → Rows → Result (Given Answer)
+stepTask k w f fs r = step w (r .objects) f fs >>= λ o. given (answerOf k (o .result)) (progressed k r o)
+
+unfoldable pub stepOn : List Frame → List Frame → World → Rows → Result (Given Answer)
+stepOn (f ∷ fs) gs w r = stepTask 0 w f fs r
+stepOn [] (f ∷ fs) w r = stepTask 1 w f fs r
+stepOn [] [] w r = given Idle r
 
 unfoldable pub stepRows : Rows → Result (Given Answer)
-stepRows r = stepOn (r .quote) (r .report) r
+stepRows r = stepOn (r .quote) (r .report) (worldOf r) r
 
-unfoldable pub dropRows : ℕ → Rows → Result (Given Reply)
-dropRows τ r = need (ltb τ 2) (Word 3) >>= λ _. given Accepted (dropped (eqb τ 0) r)
+-- the task whose turn it is, which a step's 'wanted' names
+unfoldable pub turnOf : List Frame → ℕ
+turnOf [] = 1
+turnOf (f ∷ fs) = 0
 
--- On tables: broken tables and refusals alter nothing
+unfoldable pub turn : Rows → ℕ
+turn r = turnOf (r .quote)
+
+-- On tables: an answer with the tables that the call leaves. Broken tables and refusals alter nothing.
+
+pub record Done (A : Type 0) : Type 0 where
+  pub answer : A
+  pub tables : Tables
+
+abbrev pub done : {A : Type 0} → A → Tables → Done A
+done a t = record { answer = a; tables = t }
+
+unfoldable pub carried : {A : Type 0} → (Refusal → A) → Tables → Result (Given A) → Done A
+carried deny t (refused w) = done (deny w) t
+carried deny t (ok g) = done (g .answer) (put (g .rows) t)
 
 unfoldable pub wrap : {A : Type 0} → (Refusal → A) → (Rows → Result (Given A)) → Tables → Done A
-wrap {A} deny f t = elim (broken t) as (λ _. Done A)
-  [ true ↦ record { answer = deny (Word 1); tables = t }
-  | false ↦ elim (f (view t)) as (λ _. Done A) [ refused w ↦ record { answer = deny w; tables = t } | ok g ↦ record { answer = g .answer; tables = put (g .rows) t } ] ]
+wrap {A} deny f t = elim (broken t) as (λ _. Done A) [ true ↦ done (deny (Word 1)) t | false ↦ carried deny t (f (view t)) ]
 
+-- boot checks the lengths alone
 unfoldable pub boot : Tables → Done Reply
-boot t = elim (shaped t) as (λ _. Done Reply) [ true ↦ record { answer = Accepted; tables = put bootRows t } | false ↦ record { answer = Denied (Word 1); tables = t } ]
+boot t = elim (shaped t) as (λ _. Done Reply) [ true ↦ done Accepted (put bootRows t) | false ↦ done (Denied (Word 1)) t ]
 
 unfoldable pub stepTables : Tables → Done Answer
 stepTables t = wrap Refused stepRows t
 
-abbrev pub ranOn : (ℕ → Answer → Tables → Done Reply) → ℕ → Answer → Tables → Done Reply
-ranOn go k Idle t = record { answer = RanFor k Idle; tables = t }
-ranOn go k (Ran τ) t = go (suc k) (Ran τ) t
-ranOn go k (Finished τ n) t = record { answer = RanFor k (Finished τ n); tables = t }
-ranOn go k (Refused w) t = record { answer = RanFor k (Refused w); tables = t }
+-- run: up to n steps, ended by the first answer other than ran; k ran before, and the last answer was a
 
--- at most n more steps, where k ran and the last answer is a
-unfoldable pub runFrom : ℕ → ℕ → Answer → Tables → Done Reply
-runFrom zero k a t = record { answer = RanFor k a; tables = t }
-runFrom (suc n) k a t = let d = stepTables t in ranOn (runFrom n) k (d .answer) (d .tables)
+abbrev pub goOn : (ℕ → Answer → Tables → Done Reply) → ℕ → Answer → Tables → Done Reply
+goOn go k Idle t = done (RanFor k Idle) t
+goOn go k (Ran j) t = go (suc k) (Ran j) t
+goOn go k (Finished j n) t = done (RanFor k (Finished j n)) t
+goOn go k (Refused w) t = done (RanFor k (Refused w)) t
 
+module _ (one : Tables → Done Answer) where
+  unfoldable pub runFrom : ℕ → ℕ → Answer → Tables → Done Reply
+  runFrom zero k a t = done (RanFor k a) t
+  runFrom (suc n) k a t = let d = one t in goOn (runFrom n) k (d .answer) (d .tables)
+
+-- n is 1 to 65,535. Refusals: 1 3
 unfoldable pub run : ℕ → Tables → Done Reply
 run n t = elim (broken t) as (λ _. Done Reply)
-  [ true ↦ record { answer = Denied (Word 1); tables = t }
-  | false ↦ elim (leb 1 n && leb n 65535) as (λ _. Done Reply) [ true ↦ runFrom n 0 Idle t | false ↦ record { answer = Denied (Word 3); tables = t } ] ]
+  [ true ↦ done (Denied (Word 1)) t
+  | false ↦ elim (leb 1 n && leb n 65535) as (λ _. Done Reply) [ true ↦ runFrom stepTables n 0 Idle t | false ↦ done (Denied (Word 3)) t ] ]
+
+-- Lists of calls
 
 pub data Call : Type 0 where
   callBoot : Call
@@ -129,18 +159,25 @@ pub data Call : Type 0 where
   callDrop : ℕ → Call
 
 abbrev pub ofStep : Done Answer → Done Reply
-ofStep d = record { answer = Stepped (d .answer); tables = d .tables }
+ofStep d = done (Stepped (d .answer)) (d .tables)
 
 unfoldable pub perform : Call → Tables → Done Reply
 perform callBoot t = boot t
 perform (callDefine l bs) t = wrap Denied (defineRows l bs) t
 perform (callRecord l n c) t = wrap Denied (recordRows l n c) t
-perform (callStart τ l n m v) t = wrap Denied (startRows τ l n m v) t
+perform (callStart k l n m v) t = wrap Denied (startRows k l n m v) t
 perform callStep t = ofStep (stepTables t)
 perform (callRun n) t = run n t
-perform (callDrop τ) t = wrap Denied (dropRows τ) t
+perform (callDrop k) t = wrap Denied (dropRows k) t
 
 -- each call's answer, and the tables after the last
 unfoldable pub performAll : List Call → Tables → Done (List Reply)
-performAll [] t = record { answer = []; tables = t }
-performAll (c ∷ cs) t = let d = perform c t in let e = performAll cs (d .tables) in record { answer = d .answer ∷ e .answer; tables = e .tables }
+performAll [] t = done [] t
+performAll (c ∷ cs) t = let d = perform c t in let e = performAll cs (d .tables) in done (d .answer ∷ e .answer) (e .tables)
+
+-- a store that a list of calls leads to from an accepted boot
+pub record ComesFromBoot (t : Tables) : Type 0 where
+  pub before : Tables
+  pub accepted : boot before .answer ≡ Accepted
+  pub calls : List Call
+  pub leaves : performAll calls (boot before .tables) .tables ≡ t

@@ -23,6 +23,27 @@ pub enum Reply {
     Denied(Refusal),
 }
 
+// What an opcode byte is.
+pub enum Opcode {
+    OpAconstNull,
+    OpSipush,
+    OpIload,
+    OpAload,
+    OpIstore,
+    OpAstore,
+    OpPop,
+    OpDup,
+    OpIadd,
+    OpIsub,
+    OpGetfield,
+    OpPutfield,
+    OpInvokevirtual,
+    OpNew,
+    OpIreturn,
+    OpAreturn,
+    OpUnknown,
+}
+
 // An instruction: its opcode and what stands inline. A local is its number, the int of sipush its 32 bits, the others names.
 pub enum Instruction {
     AconstNull,

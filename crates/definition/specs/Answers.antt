@@ -1,0 +1,91 @@
+-- Answers and refusals: this paper's number and values for each case, and calls as sequences of tests, the first that fails refusing.
+use mathlib.Core.Bool.{Bool, true, false}
+use mathlib.Core.Option.{Option, none, some}
+use Prim.Native.Nat.{ℕ, _+_, _-_}
+use lib.IntN.{ℤ, pos, negsuc}
+use lib.Dec.{ltb}
+use Rattle.definition.specs.Requests.{Request}
+pub use Rattle.definition.specs.declared.Refusal.{Refusal}
+pub use Rattle.definition.specs.declared.Refusal.the-variants.{Wanted, Word}
+pub use Rattle.definition.specs.declared.Answer.{Answer}
+pub use Rattle.definition.specs.declared.Answer.the-variants.{Idle, Ran, Finished, Refused}
+pub use Rattle.definition.specs.declared.Reply.{Reply}
+pub use Rattle.definition.specs.declared.Reply.the-variants.{Accepted, Defined, Stepped, RanFor, Denied}
+
+-- Ints: 32 bits, read as signed where people read them
+
+unfoldable pub signed : ℕ → ℤ
+signed n = elim (ltb n 2147483648) [ true ↦ pos n | false ↦ negsuc (4294967295 - n) ]
+
+-- Words of refusal by number
+
+abbrev pub wanted : Request → Refusal
+wanted r = Wanted (r .loader) (r .name)
+
+unfoldable pub number : Refusal → ℕ
+number (Wanted l n) = 5
+number (Word n) = n
+
+-- the number of a step's answer and of a call's: 0 if it isn't refused; a run is judged by its last answer
+unfoldable pub numberOfStep : Answer → ℕ
+numberOfStep Idle = 0
+numberOfStep (Ran k) = 0
+numberOfStep (Finished k n) = 0
+numberOfStep (Refused r) = number r
+
+unfoldable pub numberOf : Reply → ℕ
+numberOf Accepted = 0
+numberOf (Defined c) = 0
+numberOf (Stepped a) = numberOfStep a
+numberOf (RanFor n a) = numberOfStep a
+numberOf (Denied r) = number r
+
+-- A printed line's numbers: the refusal's, then three details
+
+pub record Details : Type 0 where
+  pub refusal : ℕ
+  pub one : ℤ
+  pub two : ℤ
+  pub three : ℤ
+
+abbrev pub line : ℕ → ℤ → ℤ → ℤ → Details
+line n a b c = record { refusal = n; one = a; two = b; three = c }
+
+-- wanted: loader, name, and the task whose step wants it, 0 if no step does
+unfoldable pub refusalDetails : ℕ → Refusal → Details
+refusalDetails k (Wanted l n) = line 5 (pos l) (pos n) (pos k)
+refusalDetails k (Word n) = line n (pos 0) (pos 0) (pos 0)
+
+-- idle, ran or finished as 0, 1, 2; the task; the result or 0. `turn` is the task whose turn it was.
+unfoldable pub stepDetails : ℕ → Answer → Details
+stepDetails turn Idle = line 0 (pos 0) (pos 0) (pos 0)
+stepDetails turn (Ran k) = line 0 (pos 1) (pos k) (pos 0)
+stepDetails turn (Finished k n) = line 0 (pos 2) (pos k) (signed n)
+stepDetails turn (Refused r) = refusalDetails turn r
+
+-- a run's are those of its last answer; its count stands beside them
+unfoldable pub details : ℕ → Reply → Details
+details turn Accepted = line 0 (pos 0) (pos 0) (pos 0)
+details turn (Defined c) = line 0 (pos c) (pos 0) (pos 0)
+details turn (Stepped a) = stepDetails turn a
+details turn (RanFor n a) = stepDetails turn a
+details turn (Denied r) = refusalDetails 0 r
+
+-- A value, or a refusal; in sequence, the first refusal
+
+pub data Result (A : Type 0) : Type 0 where
+  refused : Refusal → Result A
+  ok : A → Result A
+
+infixl 10 _>>=_
+unfoldable pub _>>=_ : {A B : Type 0} → Result A → (A → Result B) → Result B
+(refused w) >>= f = refused w
+(ok a) >>= f = f a
+
+unfoldable pub need : Bool → Refusal → Result (Unit {0})
+need true w = ok tt
+need false w = refused w
+
+unfoldable pub take? : {A : Type 0} → Option A → Refusal → Result A
+take? none w = refused w
+take? (some a) w = ok a

@@ -1,0 +1,13 @@
+-- The publishers' desk: the file and verifier checks of a byte range, for a number: 0, 2 or 6.
+use mathlib.Core.Option.{Option, none, some}
+use mathlib.Core.List.{List}
+use Prim.Native.Nat.{ℕ}
+use Rattle.definition.specs.Verifier.{notesOf}
+use Rattle.definition.specs.File.{File, readFile, classOf}
+
+-- the verifier doesn't ask for the loader
+unfoldable pub verifierNumber : File → ℕ
+verifierNumber f = elim (notesOf (classOf 0 f) (f .methods)) [ none ↦ 6 | some _ ↦ 0 ]
+
+unfoldable pub deskNumber : List ℕ → ℕ
+deskNumber bs = elim (readFile bs) [ none ↦ 2 | some f ↦ verifierNumber f ]

@@ -1,0 +1,263 @@
+-- The store as lent tables: lengths, cells, and how the used rows are read and written. docs/STORE.md publishes this layout.
+use mathlib.Core.Bool.{Bool, true, false}
+use mathlib.Core.Option.{Option, none, some}
+use mathlib.Core.List.{List, [], _∷_, map}
+use Prim.Native.Nat.{ℕ, _+_, _*_}
+use lib.ListN.{length, take, drop, getD, set}
+use lib.Dec.{eqb, leb}
+use Rattle.definition.specs.Lists.{every, rows, writeRows, stack, writeStack}
+use Rattle.definition.specs.Maybe.{_>>=_, need}
+use Rattle.definition.specs.Requests.{at}
+use Rattle.definition.specs.Classes.{Base, Class, Entry, slots}
+use Rattle.definition.specs.Constraints.{Tie, Subtype, World}
+use Rattle.definition.specs.Instructions.{pick}
+use Rattle.definition.specs.Machine.{Value, unsetValue, intValue, nullValue, objectValue, unlistedValue, Object, Frame}
+use Rattle.definition.specs.File.{File, readFile, classOf, objectClass}
+
+pub record Tables : Type 0 where
+  pub counts : List ℕ
+  pub classes : List ℕ
+  pub kept : List ℕ
+  pub cache : List ℕ
+  pub ties : List ℕ
+  pub subtypes : List ℕ
+  pub objects : List ℕ
+  pub frames : List ℕ
+
+abbrev pub tables : List ℕ → List ℕ → List ℕ → List ℕ → List ℕ → List ℕ → List ℕ → List ℕ → Tables
+tables n c k e t s o f = record { counts = n; classes = c; kept = k; cache = e; ties = t; subtypes = s; objects = o; frames = f }
+
+-- the published lengths
+unfoldable pub shaped : Tables → Bool
+shaped t = every
+  ( eqb (length (t .counts)) 8
+  ∷ eqb (length (t .classes)) 192
+  ∷ eqb (length (t .kept)) 16384
+  ∷ eqb (length (t .cache)) 768
+  ∷ eqb (length (t .ties)) 768
+  ∷ eqb (length (t .subtypes)) 768
+  ∷ eqb (length (t .objects)) 8448
+  ∷ eqb (length (t .frames)) 3328
+  ∷ [])
+
+-- The store as rows. A class is its loader and where its file is kept, so that classes are always read off the kept files.
+
+pub record ClassRow : Type 0 where
+  pub loader : ℕ
+  pub start : ℕ
+  pub size : ℕ
+
+pub record Rows : Type 0 where
+  pub classes : List ClassRow
+  pub kept : List ℕ
+  pub cache : List Entry
+  pub ties : List Tie
+  pub subtypes : List Subtype
+  pub objects : List Object
+  pub quote : List Frame
+  pub report : List Frame
+
+unfoldable pub fileAt : List ℕ → ClassRow → Option File
+fileAt bs k = need (leb (k .start + k .size) (length bs)) >>= λ _. readFile (take (k .size) (drop (k .start) bs))
+
+-- Object has no file
+unfoldable pub classAt : List ℕ → ClassRow → Class
+classAt bs k = elim (fileAt bs k) [ none ↦ objectClass | some f ↦ classOf (k .loader) f ]
+
+abbrev pub baseOf : List ClassRow → List ℕ → List Entry → Base
+baseOf ks bs es = record { classes = map (classAt bs) ks; cache = es }
+
+abbrev pub worldOf : Rows → World
+worldOf r = record { base = baseOf (r .classes) (r .kept) (r .cache); ties = r .ties; subtypes = r .subtypes }
+
+-- how many fields an object of class c has
+abbrev pub sizeOf : Base → ℕ → ℕ
+sizeOf b c = length (slots b c)
+
+-- Cells. Class rows, cache entries, ties and subtype constraints have three cells each.
+
+abbrev pub threeAt : {A : Type 0} → (ℕ → ℕ → ℕ → A) → List ℕ → ℕ → A
+threeAt make t i = make (getD t (i * 3) 0) (getD t (i * 3 + 1) 0) (getD t (i * 3 + 2) 0)
+
+abbrev pub putThree : List ℕ → ℕ → ℕ → ℕ → ℕ → List ℕ
+putThree t i a b c = set (set (set t (i * 3) a) (i * 3 + 1) b) (i * 3 + 2) c
+
+abbrev pub classRow : ℕ → ℕ → ℕ → ClassRow
+classRow l s n = record { loader = l; start = s; size = n }
+
+abbrev pub entry : ℕ → ℕ → ℕ → Entry
+entry l n c = record { request = at l n; class = c }
+
+abbrev pub tie : ℕ → ℕ → ℕ → Tie
+tie l m n = record { one = l; two = m; name = n }
+
+abbrev pub subtype : ℕ → ℕ → ℕ → Subtype
+subtype l a b = record { loader = l; low = a; high = b }
+
+unfoldable pub classRowAt : List ℕ → ℕ → ClassRow
+classRowAt t i = threeAt classRow t i
+
+unfoldable pub putClassRow : List ℕ → ℕ → ClassRow → List ℕ
+putClassRow t i k = putThree t i (k .loader) (k .start) (k .size)
+
+unfoldable pub entryAt : List ℕ → ℕ → Entry
+entryAt t i = threeAt entry t i
+
+unfoldable pub putEntry : List ℕ → ℕ → Entry → List ℕ
+putEntry t i e = putThree t i (e .request .loader) (e .request .name) (e .class)
+
+unfoldable pub tieAt : List ℕ → ℕ → Tie
+tieAt t i = threeAt tie t i
+
+unfoldable pub putTie : List ℕ → ℕ → Tie → List ℕ
+putTie t i e = putThree t i (e .one) (e .two) (e .name)
+
+unfoldable pub subtypeAt : List ℕ → ℕ → Subtype
+subtypeAt t i = threeAt subtype t i
+
+unfoldable pub putSubtype : List ℕ → ℕ → Subtype → List ℕ
+putSubtype t i e = putThree t i (e .loader) (e .low) (e .high)
+
+-- A value has two cells, a kind and 32 bits: 0 empty, 1 an int, 2 null, 3 an object; the bits of empty and null are 0
+
+unfoldable pub valueOf : ℕ → ℕ → Value
+valueOf k b =
+    pick (eqb k 1) (intValue b)
+    (pick (eqb k 3) (objectValue b)
+    (pick (eqb b 0) (pick (eqb k 0) unsetValue (pick (eqb k 2) nullValue (unlistedValue k b))) (unlistedValue k b)))
+
+unfoldable pub kindOf : Value → ℕ
+kindOf unsetValue = 0
+kindOf (intValue n) = 1
+kindOf nullValue = 2
+kindOf (objectValue o) = 3
+kindOf (unlistedValue k b) = k
+
+unfoldable pub bitsOf : Value → ℕ
+bitsOf unsetValue = 0
+bitsOf (intValue n) = n
+bitsOf nullValue = 0
+bitsOf (objectValue o) = o
+bitsOf (unlistedValue k b) = b
+
+unfoldable pub valueAt : List ℕ → ℕ → Value
+valueAt t i = valueOf (getD t i 0) (getD t (i + 1) 0)
+
+abbrev pub putCells : List ℕ → ℕ → ℕ → ℕ → List ℕ
+putCells t i k b = set (set t i k) (i + 1) b
+
+unfoldable pub putValue : List ℕ → ℕ → Value → List ℕ
+putValue t i v = putCells t i (kindOf v) (bitsOf v)
+
+-- An object has 33 cells: its class, then 16 values, of which those of its class's fields are used
+
+unfoldable pub fieldAt : List ℕ → ℕ → ℕ → Value
+fieldAt t o i = valueAt t (o * 33 + (1 + 2 * i))
+
+unfoldable pub putField : ℕ → List ℕ → ℕ → Value → List ℕ
+putField o t i v = putValue t (o * 33 + (1 + 2 * i)) v
+
+-- a class with more than 16 fields is broken; no row has room for more
+unfoldable pub usedFields : Base → ℕ → ℕ
+usedFields b c = pick (leb (sizeOf b c) 16) (sizeOf b c) 16
+
+unfoldable pub objectAt : Base → List ℕ → ℕ → Object
+objectAt b t o = record { class = getD t (o * 33) 0; values = rows (fieldAt t o) (usedFields b (getD t (o * 33) 0)) 0 }
+
+unfoldable pub putObject : List ℕ → ℕ → Object → List ℕ
+putObject t o x = writeRows (putField o) (x .values) 0 (set t (o * 33) (x .class))
+
+-- A frame has 52 cells: class, method, point, operand count, 8 locals, 16 operands from the lowest
+
+unfoldable pub localAt : List ℕ → ℕ → ℕ → Value
+localAt t b i = valueAt t (b + (4 + 2 * i))
+
+unfoldable pub putLocal : ℕ → List ℕ → ℕ → Value → List ℕ
+putLocal b t i v = putValue t (b + (4 + 2 * i)) v
+
+unfoldable pub operandAt : List ℕ → ℕ → ℕ → Value
+operandAt t b i = valueAt t (b + (20 + 2 * i))
+
+unfoldable pub putOperand : ℕ → List ℕ → ℕ → Value → List ℕ
+putOperand b t i v = putValue t (b + (20 + 2 * i)) v
+
+abbrev pub frame : ℕ → ℕ → ℕ → List Value → List Value → Frame
+frame c m p o l = record { class = c; method = m; point = p; operands = o; locals = l }
+
+-- the frame whose row begins at cell b, at point p with d operands
+unfoldable pub frameOf : List ℕ → ℕ → ℕ → ℕ → Frame
+frameOf t b p d = frame (getD t b 0) (getD t (b + 1) 0) p (stack (operandAt t b) d) (rows (localAt t b) 8 0)
+
+unfoldable pub frameAt : List ℕ → ℕ → Frame
+frameAt t b = frameOf t b (getD t (b + 2) 0) (getD t (b + 3) 0)
+
+abbrev pub putHead : List ℕ → ℕ → ℕ → ℕ → ℕ → ℕ → List ℕ
+putHead t b c m p d = set (set (set (set t b c) (b + 1) m) (b + 2) p) (b + 3) d
+
+unfoldable pub putFrame : List ℕ → ℕ → Frame → List ℕ
+putFrame t b f =
+    writeStack (putOperand b) (f .operands) (writeRows (putLocal b) (f .locals) 0 (putHead t b (f .class) (f .method) (f .point) (length (f .operands))))
+
+-- where row i of task k begins: each task has 32 rows, its first frame in the first
+abbrev pub frameBase : ℕ → ℕ → ℕ
+frameBase k i = (k * 32 + i) * 52
+
+unfoldable pub frameIn : List ℕ → ℕ → ℕ → Frame
+frameIn t k i = frameAt t (frameBase k i)
+
+unfoldable pub putFrameIn : ℕ → List ℕ → ℕ → Frame → List ℕ
+putFrameIn k t i f = putFrame t (frameBase k i) f
+
+-- The used rows: classes, kept bytes, cache entries, ties, subtype constraints, objects, and each task's frames, by their counts
+
+abbrev pub classRowsOf : Tables → List ClassRow
+classRowsOf t = rows (classRowAt (t .classes)) (getD (t .counts) 0 0) 0
+
+abbrev pub keptOf : Tables → List ℕ
+keptOf t = rows (λ i. getD (t .kept) i 0) (getD (t .counts) 1 0) 0
+
+abbrev pub cacheOf : Tables → List Entry
+cacheOf t = rows (entryAt (t .cache)) (getD (t .counts) 2 0) 0
+
+abbrev pub tiesOf : Tables → List Tie
+tiesOf t = rows (tieAt (t .ties)) (getD (t .counts) 3 0) 0
+
+abbrev pub subtypesOf : Tables → List Subtype
+subtypesOf t = rows (subtypeAt (t .subtypes)) (getD (t .counts) 4 0) 0
+
+abbrev pub viewBase : Tables → Base
+viewBase t = baseOf (classRowsOf t) (keptOf t) (cacheOf t)
+
+unfoldable pub objectsOf : Base → Tables → List Object
+objectsOf b t = rows (objectAt b (t .objects)) (getD (t .counts) 5 0) 0
+
+-- task 0 is the quote, 1 the report; the top frame first
+unfoldable pub framesOf : Tables → ℕ → List Frame
+framesOf t k = stack (frameIn (t .frames) k) (getD (t .counts) (6 + k) 0)
+
+-- the rows, where classes have the fields that b gives them
+unfoldable pub viewOver : Base → Tables → Rows
+viewOver b t = record
+  { classes = classRowsOf t; kept = keptOf t; cache = cacheOf t; ties = tiesOf t; subtypes = subtypesOf t
+  ; objects = objectsOf b t; quote = framesOf t 0; report = framesOf t 1 }
+
+unfoldable pub view : Tables → Rows
+view t = viewOver (viewBase t) t
+
+-- Rows written back; every other cell stays
+
+unfoldable pub countsOf : Rows → List ℕ
+countsOf r =
+    length (r .classes) ∷ length (r .kept) ∷ length (r .cache) ∷ length (r .ties) ∷ length (r .subtypes) ∷ length (r .objects)
+    ∷ length (r .quote) ∷ length (r .report) ∷ []
+
+unfoldable pub put : Rows → Tables → Tables
+put r t = record
+  { counts = writeRows set (countsOf r) 0 (t .counts)
+  ; classes = writeRows putClassRow (r .classes) 0 (t .classes)
+  ; kept = writeRows set (r .kept) 0 (t .kept)
+  ; cache = writeRows putEntry (r .cache) 0 (t .cache)
+  ; ties = writeRows putTie (r .ties) 0 (t .ties)
+  ; subtypes = writeRows putSubtype (r .subtypes) 0 (t .subtypes)
+  ; objects = writeRows putObject (r .objects) 0 (t .objects)
+  ; frames = writeStack (putFrameIn 1) (r .report) (writeStack (putFrameIn 0) (r .quote) (t .frames)) }

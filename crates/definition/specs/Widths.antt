@@ -1,0 +1,30 @@
+-- The widths of cells and arguments: bytes, 16-bit numbers and 32-bit numbers.
+use mathlib.Core.List.{List, [], _∷_}
+use Prim.Native.Nat.{ℕ, _<_}
+use Rattle.definition.specs.Tables.{Tables}
+use Rattle.definition.specs.Calls.{Call, callBoot, callDefine, callRecord, callStart, callStep, callRun, callDrop}
+
+-- each number is below w
+abbrev pub Under : ℕ → List ℕ → Type 0
+Under w [] = Unit {0}
+Under w (x ∷ xs) = (x < w) × Under w xs
+
+pub record Widths (t : Tables) : Type 0 where
+  pub counts : Under 65536 (t .counts)
+  pub classes : Under 65536 (t .classes)
+  pub kept : Under 256 (t .kept)
+  pub cache : Under 65536 (t .cache)
+  pub ties : Under 65536 (t .ties)
+  pub subtypes : Under 65536 (t .subtypes)
+  pub objects : Under 4294967296 (t .objects)
+  pub frames : Under 4294967296 (t .frames)
+
+-- a call's arguments have their widths: bytes in a file, 16-bit names, an int of 32 bits
+abbrev pub Fitting : Call → Type 0
+Fitting callBoot = Unit {0}
+Fitting (callDefine l bs) = Under 256 bs
+Fitting (callRecord l n c) = n < 65536
+Fitting (callStart k l n m v) = v < 4294967296
+Fitting callStep = Unit {0}
+Fitting (callRun n) = Unit {0}
+Fitting (callDrop k) = Unit {0}
