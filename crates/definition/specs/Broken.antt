@@ -13,15 +13,15 @@ use Rattle.definition.specs.Tables.{Tables, shaped, ClassRow, Rows, file
 -- each count within its limit
 unfoldable pub within : List ℕ → Bool
 within c = every
-  ( leb (getD c 0 0) 64
-  ∷ leb (getD c 1 0) 16384
-  ∷ leb (getD c 2 0) 256
-  ∷ leb (getD c 3 0) 256
-  ∷ leb (getD c 4 0) 256
-  ∷ leb (getD c 5 0) 256
-  ∷ leb (getD c 6 0) 32
-  ∷ leb (getD c 7 0) 32
-  ∷ [])
+    (leb (getD c 0 0) 64
+    ∷ leb (getD c 1 0) 16384
+    ∷ leb (getD c 2 0) 256
+    ∷ leb (getD c 3 0) 256
+    ∷ leb (getD c 4 0) 256
+    ∷ leb (getD c 5 0) 256
+    ∷ leb (getD c 6 0) 32
+    ∷ leb (getD c 7 0) 32
+    ∷ [])
 
 -- class 0, if there, is boot's Object
 unfoldable pub isObject : ClassRow → Bool
@@ -68,14 +68,14 @@ frameFits n os f = every (ltb (f .class) n ∷ leb (length (f .operands)) 16 ∷
 
 unfoldable pub sound : Rows → Bool
 sound r = every
-  ( classesFit (baseOf (r .classes) (r .kept) (r .cache)) (r .kept) (r .classes)
-  ∷ all (entryFits (length (r .classes))) (r .cache)
-  ∷ all tieFits (r .ties)
-  ∷ all subtypeFits (r .subtypes)
-  ∷ all (objectFits (length (r .classes)) (r .objects)) (r .objects)
-  ∷ all (frameFits (length (r .classes)) (r .objects)) (r .quote)
-  ∷ all (frameFits (length (r .classes)) (r .objects)) (r .report)
-  ∷ [])
+    (classesFit (baseOf (r .classes) (r .kept) (r .cache)) (r .kept) (r .classes)
+    ∷ all (entryFits (length (r .classes))) (r .cache)
+    ∷ all tieFits (r .ties)
+    ∷ all subtypeFits (r .subtypes)
+    ∷ all (objectFits (length (r .classes)) (r .objects)) (r .objects)
+    ∷ all (frameFits (length (r .classes)) (r .objects)) (r .quote)
+    ∷ all (frameFits (length (r .classes)) (r .objects)) (r .report)
+    ∷ [])
 
 unfoldable pub whole : Tables → Bool
 whole t = every (shaped t ∷ within (t .counts) ∷ sound (view t) ∷ [])

@@ -26,35 +26,70 @@ given a r = ok (record { answer = a; rows = r })
 
 -- boot: class 0 is Object of loader 0, the cache holds only (0, 2), all other rows are emptied
 abbrev pub bootRows : Rows
-bootRows = record
-  { classes = record { loader = 0; start = 0; size = 0 } ∷ []; kept = []; cache = record { request = at 0 2; class = 0 } ∷ []
-  ; ties = []; subtypes = []; objects = []; quote = []; report = [] }
+bootRows = record {
+  classes = record { loader = 0; start = 0; size = 0 } ∷ [];
+  kept = [];
+  cache = record { request = at 0 2; class = 0 } ∷ [];
+  ties = [];
+  subtypes = [];
+  objects = [];
+  quote = [];
+  report = [];
+}
 
 -- the next class, with its file behind the kept ones
 abbrev pub addFile : ℕ → List ℕ → Rows → World → Rows
-addFile l bs r w = record
-  { classes = r .classes ++ (record { loader = l; start = length (r .kept); size = length bs } ∷ []); kept = r .kept ++ bs; cache = w .base .cache
-  ; ties = w .ties; subtypes = w .subtypes; objects = r .objects; quote = r .quote; report = r .report }
+addFile l bs r w = record {
+  classes = r .classes ++ (record { loader = l; start = length (r .kept); size = length bs } ∷ []);
+  kept = r .kept ++ bs;
+  cache = w .base .cache;
+  ties = w .ties;
+  subtypes = w .subtypes;
+  objects = r .objects;
+  quote = r .quote;
+  report = r .report;
+}
 
 abbrev pub addEntry : Rows → World → Rows
-addEntry r w = record
-  { classes = r .classes; kept = r .kept; cache = w .base .cache; ties = r .ties; subtypes = r .subtypes
-  ; objects = r .objects; quote = r .quote; report = r .report }
+addEntry r w = record {
+  classes = r .classes;
+  kept = r .kept;
+  cache = w .base .cache;
+  ties = r .ties;
+  subtypes = r .subtypes;
+  objects = r .objects;
+  quote = r .quote;
+  report = r .report;
+}
 
 -- a task's progress: ties, objects, and the task's frames
 abbrev pub progressed : ℕ → Rows → Progress → Rows
-progressed zero r o = record
-  { classes = r .classes; kept = r .kept; cache = r .cache; ties = o .world .ties; subtypes = r .subtypes
-  ; objects = o .objects; quote = o .frames; report = r .report }
-progressed (suc k) r o = record
-  { classes = r .classes; kept = r .kept; cache = r .cache; ties = o .world .ties; subtypes = r .subtypes
-  ; objects = o .objects; quote = r .quote; report = o .frames }
+progressed zero r o = record {
+  classes = r .classes;
+  kept = r .kept;
+  cache = r .cache;
+  ties = o .world .ties;
+  subtypes = r .subtypes;
+  objects = o .objects;
+  quote = o .frames;
+  report = r .report;
+}
+progressed (suc k) r o = record {
+  classes = r .classes;
+  kept = r .kept;
+  cache = r .cache;
+  ties = o .world .ties;
+  subtypes = r .subtypes;
+  objects = o .objects;
+  quote = r .quote;
+  report = o .frames;
+}
 
 abbrev pub withFrames : ℕ → Rows → List Frame → Rows
 withFrames zero r fs = record
-  { classes = r .classes; kept = r .kept; cache = r .cache; ties = r .ties; subtypes = r .subtypes; objects = r .objects; quote = fs; report = r .report }
+    { classes = r .classes; kept = r .kept; cache = r .cache; ties = r .ties; subtypes = r .subtypes; objects = r .objects; quote = fs; report = r .report }
 withFrames (suc k) r fs = record
-  { classes = r .classes; kept = r .kept; cache = r .cache; ties = r .ties; subtypes = r .subtypes; objects = r .objects; quote = r .quote; report = fs }
+    { classes = r .classes; kept = r .kept; cache = r .cache; ties = r .ties; subtypes = r .subtypes; objects = r .objects; quote = r .quote; report = fs }
 
 abbrev pub framesIn : ℕ → Rows → List Frame
 framesIn zero r = r .quote
@@ -143,9 +178,10 @@ module _ (one : Tables → Done Answer) where
 
 -- n is 1 to 65,535. Refusals: 1 3
 unfoldable pub run : ℕ → Tables → Done Reply
-run n t = elim (broken t) as (λ _. Done Reply)
-  [ true ↦ done (Denied (Word 1)) t
-  | false ↦ elim (leb 1 n && leb n 65535) as (λ _. Done Reply) [ true ↦ runFrom stepTables n 0 Idle t | false ↦ done (Denied (Word 3)) t ] ]
+run n t = elim (broken t) as (λ _. Done Reply) [
+  | true ↦ done (Denied (Word 1)) t
+  | false ↦ elim (leb 1 n && leb n 65535) as (λ _. Done Reply) [ true ↦ runFrom stepTables n 0 Idle t | false ↦ done (Denied (Word 3)) t ]
+]
 
 -- Lists of calls
 

@@ -48,9 +48,10 @@ unfoldable pub lower : ℕ → ℕ → Option ℕ
 lower c p = elim (ltb p c) [ true ↦ some p | false ↦ none ]
 
 unfoldable pub superOf : Base → ℕ → Option ℕ
-superOf w c = elim (getElem? (w .classes) c)
-  [ none ↦ none
-  | some k ↦ elim (find (w .cache) (at (k .loader) (k .super))) [ none ↦ none | some p ↦ lower c p ] ]
+superOf w c = elim (getElem? (w .classes) c) [
+  | none ↦ none
+  | some k ↦ elim (find (w .cache) (at (k .loader) (k .super))) [ none ↦ none | some p ↦ lower c p ]
+]
 
 unfoldable pub loaderOf : Base → ℕ → ℕ
 loaderOf w c = elim (getElem? (w .classes) c) [ none ↦ 0 | some k ↦ k .loader ]

@@ -53,17 +53,20 @@ pub record Agrees (w : World) : Type 0 where
 
 -- the pair of a, of class c, and b, where T is what ties and L what all constraints reach from a
 unfoldable pub pairAgrees : (ℕ → Option ℕ) → List Entry → ℕ → List Request → List Request → Request → Bool
-pairAgrees sup cache c T L b = elim (find cache b)
-  [ none ↦ true
-  | some d ↦ elim (has b T)
-      [ true ↦ eqb c d
-      | false ↦ elim (has b L) [ true ↦ below sup c d | false ↦ true ] ] ]
+pairAgrees sup cache c T L b = elim (find cache b) [
+  | none ↦ true
+  | some d ↦ elim (has b T) [
+    | true ↦ eqb c d
+    | false ↦ elim (has b L) [ true ↦ below sup c d | false ↦ true ]
+  ]
+]
 
 -- a with every cached request
 unfoldable pub rowAgrees : (ℕ → Option ℕ) → List Entry → List Edge → List Edge → Request → Bool
-rowAgrees sup cache ts es a = elim (find cache a)
-  [ none ↦ true
-  | some c ↦ let T = reach ts a in let L = reach es a in all (λ f. pairAgrees sup cache c T L (f .request)) cache ]
+rowAgrees sup cache ts es a = elim (find cache a) [
+  | none ↦ true
+  | some c ↦ let T = reach ts a in let L = reach es a in all (λ f. pairAgrees sup cache c T L (f .request)) cache
+]
 
 -- every pair of cached requests, where `sup` gives direct superclasses
 unfoldable pub agreesOver : (ℕ → Option ℕ) → List Entry → List Edge → List Edge → Bool

@@ -24,16 +24,18 @@ subtypeOf l n = record { loader = l; low = n .low; high = n .high }
 
 unfoldable pub newSubtypes : List Subtype → ℕ → List Note → List Subtype
 newSubtypes ss l [] = []
-newSubtypes ss l (n ∷ ns) = elim (any (subtypeIs l n) ss)
-  [ true ↦ newSubtypes ss l ns
-  | false ↦ subtypeOf l n ∷ newSubtypes (ss ++ (subtypeOf l n ∷ [])) l ns ]
+newSubtypes ss l (n ∷ ns) = elim (any (subtypeIs l n) ss) [
+  | true ↦ newSubtypes ss l ns
+  | false ↦ subtypeOf l n ∷ newSubtypes (ss ++ (subtypeOf l n ∷ [])) l ns
+]
 
 -- For each method, ties on argument and result between its loader l and that of the nearest superclass with a method alike, from p upward
 
 unfoldable pub overrideTie : Base → ℕ → ℕ → List Tie → Method → List Tie
-overrideTie b l p ts m = elim (nearest (superOf b) (hasMethod b (m .name) (m .argument) (m .result)) p)
-  [ none ↦ []
-  | some y ↦ let us = newTie ts l (loaderOf b y) (m .argument) in us ++ newTie (ts ++ us) l (loaderOf b y) (m .result) ]
+overrideTie b l p ts m = elim (nearest (superOf b) (hasMethod b (m .name) (m .argument) (m .result)) p) [
+  | none ↦ []
+  | some y ↦ let us = newTie ts l (loaderOf b y) (m .argument) in us ++ newTie (ts ++ us) l (loaderOf b y) (m .result)
+]
 
 unfoldable pub overrideTies : Base → ℕ → ℕ → List Tie → List Method → List Tie
 overrideTies b l p ts [] = []
@@ -45,16 +47,21 @@ hides b p f = any (λ s. eqb (s .name) (f .name)) (slots b p)
 
 -- one class more, cached under its own request, with the constraints it posts
 abbrev pub withClass : World → Class → List Tie → List Subtype → World
-withClass w k us ss = record
-  { base = record
-      { classes = w .base .classes ++ (k ∷ [])
-      ; cache = w .base .cache ++ (record { request = at (k .loader) (k .name); class = length (w .base .classes) } ∷ []) }
-  ; ties = w .ties ++ us; subtypes = w .subtypes ++ ss }
+withClass w k us ss = record {
+  base = record {
+    classes = w .base .classes ++ (k ∷ []);
+    cache = w .base .cache ++ (record { request = at (k .loader) (k .name); class = length (w .base .classes) } ∷ []);
+  };
+  ties = w .ties ++ us;
+  subtypes = w .subtypes ++ ss;
+}
 
 abbrev pub withEntry : World → Request → ℕ → World
-withEntry w r c = record
-  { base = record { classes = w .base .classes; cache = w .base .cache ++ (record { request = r; class = c } ∷ []) }
-  ; ties = w .ties; subtypes = w .subtypes }
+withEntry w r c = record {
+  base = record { classes = w .base .classes; cache = w .base .cache ++ (record { request = r; class = c } ∷ []) };
+  ties = w .ties;
+  subtypes = w .subtypes;
+}
 
 -- define, of a file that was read as the class k; `room` is whether its bytes can be kept. Refusals: 6 4 5 8 10 9
 unfoldable pub define : Bool → Class → World → Result World
@@ -64,16 +71,16 @@ define room k w =
     take? (find (w .base .cache) (at (k .loader) (k .super))) (wanted (at (k .loader) (k .super))) >>= λ p.
     need (not (any (hides (w .base) p) (k .fields))) (Word 8) >>= λ _.
     (let us = overrideTies (w .base) (k .loader) p (w .ties) (k .methods) in
-     let ss = newSubtypes (w .subtypes) (k .loader) ns in
-     need (every
-       ( room
-       ∷ ltb (length (w .base .classes)) 64
-       ∷ ltb (length (w .base .cache)) 256
-       ∷ leb (length (w .ties ++ us)) 256
-       ∷ leb (length (w .subtypes ++ ss)) 256
-       ∷ leb (length (slots (w .base) p) + length (k .fields)) 16
-       ∷ [])) (Word 10) >>= λ _.
-     need (agrees (withClass w k us ss)) (Word 9) >>= λ _. ok (withClass w k us ss))
+    let ss = newSubtypes (w .subtypes) (k .loader) ns in
+    need (every
+    (room
+    ∷ ltb (length (w .base .classes)) 64
+    ∷ ltb (length (w .base .cache)) 256
+    ∷ leb (length (w .ties ++ us)) 256
+    ∷ leb (length (w .subtypes ++ ss)) 256
+    ∷ leb (length (slots (w .base) p) + length (k .fields)) 16
+    ∷ [])) (Word 10) >>= λ _.
+    need (agrees (withClass w k us ss)) (Word 9) >>= λ _. ok (withClass w k us ss))
 
 -- record. Refusals: 3 13 4 10 9
 unfoldable pub recorded : ℕ → ℕ → ℕ → World → Result World
@@ -81,10 +88,11 @@ recorded l n c w =
     need (ltb l 16 && leb 2 n) (Word 3) >>= λ _.
     take? (getElem? (w .base .classes) c) (Word 3) >>= λ k.
     need (eqb (k .name) n) (Word 13) >>= λ _.
-    elim (find (w .base .cache) (at l n))
-      [ some d ↦ need (eqb d c) (Word 4) >>= λ _. ok w
+    elim (find (w .base .cache) (at l n)) [
+      | some d ↦ need (eqb d c) (Word 4) >>= λ _. ok w
       | none ↦ need (ltb (length (w .base .cache)) 256) (Word 10) >>= λ _.
-          need (agrees (withEntry w (at l n) c)) (Word 9) >>= λ _. ok (withEntry w (at l n) c) ]
+          need (agrees (withEntry w (at l n) c)) (Word 9) >>= λ _. ok (withEntry w (at l n) c)
+    ]
 
 -- start: a new object and a first frame in the method selected for (m, int, int). Refusals: 3 12 5 7 10
 unfoldable pub started : ℕ → ℕ → ℕ → ℕ → World → List Object → List Frame → Result Progress

@@ -122,9 +122,12 @@ under! (g ∷ gs) = room! (g .operands)
 -- a value given back to the frame below; a first frame's must be an int
 unfoldable pub give : List Frame → World → List Object → Value → Result Progress
 give [] w os v = int! v >>= λ n. ok (record { world = w; objects = os; frames = []; result = some n })
-give (g ∷ gs) w os v = ok (record
-  { world = w; objects = os
-  ; frames = record { class = g .class; method = g .method; point = g .point; operands = v ∷ g .operands; locals = g .locals } ∷ gs; result = none })
+give (g ∷ gs) w os v = ok (record {
+  world = w;
+  objects = os;
+  frames = record { class = g .class; method = g .method; point = g .point; operands = v ∷ g .operands; locals = g .locals } ∷ gs;
+  result = none;
+})
 
 -- An instruction of frame f, above fs, of class k. Refusals in order: 5 7 10 9, then 14, then 11.
 module _ (w : World) (os : List Object) (f : Frame) (fs : List Frame) (k : Class) (i : Decoded) where
@@ -163,15 +166,18 @@ module _ (w : World) (os : List Object) (f : Frame) (fs : List Frame) (k : Class
       post w true (newTie (w .ties) (loaderOf (w .base) d) (k .loader) t) >>= λ w′.
       pop! (f .operands) >>= λ p. pop! (p .more) >>= λ q. kind! t (p .top) >>= λ _. object! (w .base) os e (q .top) >>= λ o.
       take? (indexOf (slotIs d n t) (slots (w .base) d)) (Word 14) >>= λ j.
-      ok (record
-        { world = w′; objects = set os (o .number) (record { class = o .object .class; values = set (o .object .values) j (p .top) })
-        ; frames = past f i (q .more) (f .locals) ∷ fs; result = none })
+      ok (record {
+        world = w′;
+        objects = set os (o .number) (record { class = o .object .class; values = set (o .object .values) j (p .top) });
+        frames = past f i (q .more) (f .locals) ∷ fs;
+        result = none;
+      })
   execute (Invokevirtual c n t r) =
       take? (find (w .base .cache) (at (k .loader) c)) (wanted (at (k .loader) c)) >>= λ e.
       take? (nearest (superOf (w .base)) (hasMethod (w .base) n t r) e) (Word 7) >>= λ d.
       (let us = newTie (w .ties) (loaderOf (w .base) d) (k .loader) t in
-       let vs = newTie (w .ties ++ us) (loaderOf (w .base) d) (k .loader) r in
-       post w (ltb (suc (length fs)) 32) (us ++ vs)) >>= λ w′.
+      let vs = newTie (w .ties ++ us) (loaderOf (w .base) d) (k .loader) r in
+      post w (ltb (suc (length fs)) 32) (us ++ vs)) >>= λ w′.
       pop! (f .operands) >>= λ p. pop! (p .more) >>= λ q. kind! t (p .top) >>= λ _. object! (w .base) os e (q .top) >>= λ o.
       take? (nearest (superOf (w .base)) (hasMethod (w .base) n t r) (o .object .class)) (Word 14) >>= λ s.
       take? (indexOf (alike n t r) (methodsOf (w .base) s)) (Word 14) >>= λ j.

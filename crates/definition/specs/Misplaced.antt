@@ -51,9 +51,10 @@ placed w os l typeNull (unlistedValue k b) = false
 placed w os l (typeClass n) unsetValue = false
 placed w os l (typeClass n) (intValue m) = false
 placed w os l (typeClass n) nullValue = true
-placed w os l (typeClass n) (objectValue o) = elim (existing os o)
-  [ none ↦ false
-  | some b ↦ elim (find (w .base .cache) (at l n)) [ none ↦ true | some d ↦ below (superOf (w .base)) (b .class) d ] ]
+placed w os l (typeClass n) (objectValue o) = elim (existing os o) [
+  | none ↦ false
+  | some b ↦ elim (find (w .base .cache) (at l n)) [ none ↦ true | some d ↦ below (superOf (w .base)) (b .class) d ]
+]
 placed w os l (typeClass n) (unlistedValue k b) = false
 
 -- a local is set unless its type is unset
@@ -98,9 +99,10 @@ typesOf w waits f =
 
 -- a frame that has no types counts 1
 unfoldable pub misplacedInFrame : World → List Object → Bool → Frame → ℕ
-misplacedInFrame w os waits f = elim (typesOf w waits f)
-  [ none ↦ 1
-  | some x ↦ failures (placed w os (x .loader)) (x .operands) (f .operands) + failures (placedLocal w os (x .loader)) (x .locals) (f .locals) ]
+misplacedInFrame w os waits f = elim (typesOf w waits f) [
+  | none ↦ 1
+  | some x ↦ failures (placed w os (x .loader)) (x .operands) (f .operands) + failures (placedLocal w os (x .loader)) (x .locals) (f .locals)
+]
 
 -- the top frame runs, those below wait
 unfoldable pub misplacedInFrames : World → List Object → Bool → List Frame → ℕ

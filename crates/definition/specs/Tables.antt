@@ -30,15 +30,15 @@ tables n c k e t s o f = record { counts = n; classes = c; kept = k; cache = e; 
 -- the published lengths
 unfoldable pub shaped : Tables → Bool
 shaped t = every
-  ( eqb (length (t .counts)) 8
-  ∷ eqb (length (t .classes)) 192
-  ∷ eqb (length (t .kept)) 16384
-  ∷ eqb (length (t .cache)) 768
-  ∷ eqb (length (t .ties)) 768
-  ∷ eqb (length (t .subtypes)) 768
-  ∷ eqb (length (t .objects)) 8448
-  ∷ eqb (length (t .frames)) 3328
-  ∷ [])
+    (eqb (length (t .counts)) 8
+    ∷ eqb (length (t .classes)) 192
+    ∷ eqb (length (t .kept)) 16384
+    ∷ eqb (length (t .cache)) 768
+    ∷ eqb (length (t .ties)) 768
+    ∷ eqb (length (t .subtypes)) 768
+    ∷ eqb (length (t .objects)) 8448
+    ∷ eqb (length (t .frames)) 3328
+    ∷ [])
 
 -- The store as rows. A class is its loader and where its file is kept, so that classes are always read off the kept files.
 
@@ -237,9 +237,16 @@ framesOf t k = stack (frameIn (t .frames) k) (getD (t .counts) (6 + k) 0)
 
 -- the rows, where classes have the fields that b gives them
 unfoldable pub viewOver : Base → Tables → Rows
-viewOver b t = record
-  { classes = classRowsOf t; kept = keptOf t; cache = cacheOf t; ties = tiesOf t; subtypes = subtypesOf t
-  ; objects = objectsOf b t; quote = framesOf t 0; report = framesOf t 1 }
+viewOver b t = record {
+  classes = classRowsOf t;
+  kept = keptOf t;
+  cache = cacheOf t;
+  ties = tiesOf t;
+  subtypes = subtypesOf t;
+  objects = objectsOf b t;
+  quote = framesOf t 0;
+  report = framesOf t 1;
+}
 
 unfoldable pub view : Tables → Rows
 view t = viewOver (viewBase t) t
@@ -252,12 +259,13 @@ countsOf r =
     ∷ length (r .quote) ∷ length (r .report) ∷ []
 
 unfoldable pub put : Rows → Tables → Tables
-put r t = record
-  { counts = writeRows set (countsOf r) 0 (t .counts)
-  ; classes = writeRows putClassRow (r .classes) 0 (t .classes)
-  ; kept = writeRows set (r .kept) 0 (t .kept)
-  ; cache = writeRows putEntry (r .cache) 0 (t .cache)
-  ; ties = writeRows putTie (r .ties) 0 (t .ties)
-  ; subtypes = writeRows putSubtype (r .subtypes) 0 (t .subtypes)
-  ; objects = writeRows putObject (r .objects) 0 (t .objects)
-  ; frames = writeStack (putFrameIn 1) (r .report) (writeStack (putFrameIn 0) (r .quote) (t .frames)) }
+put r t = record {
+  counts = writeRows set (countsOf r) 0 (t .counts);
+  classes = writeRows putClassRow (r .classes) 0 (t .classes);
+  kept = writeRows set (r .kept) 0 (t .kept);
+  cache = writeRows putEntry (r .cache) 0 (t .cache);
+  ties = writeRows putTie (r .ties) 0 (t .ties);
+  subtypes = writeRows putSubtype (r .subtypes) 0 (t .subtypes);
+  objects = writeRows putObject (r .objects) 0 (t .objects);
+  frames = writeStack (putFrameIn 1) (r .report) (writeStack (putFrameIn 0) (r .quote) (t .frames));
+}

@@ -133,16 +133,18 @@ module _ (code : List ℕ) (result : ℕ) where
   -- Each instruction has a byte or more, so that as many steps as bytes are enough.
   unfoldable pub verify : ℕ → ℕ → TypeState → Option (List Note)
   verify zero p s = none
-  verify (suc k) p s = decode code p >>= λ i. elim (isReturn (i .instruction))
-    [ true ↦ need (eqb (p + i .size) (length code)) >>= λ _. returns (i .instruction) result s
-    | false ↦ effect (i .instruction) s >>= λ f. verify k (p + i .size) (f .types) >>= λ ns. some (f .notes ++ ns) ]
+  verify (suc k) p s = decode code p >>= λ i. elim (isReturn (i .instruction)) [
+    | true ↦ need (eqb (p + i .size) (length code)) >>= λ _. returns (i .instruction) result s
+    | false ↦ effect (i .instruction) s >>= λ f. verify k (p + i .size) (f .types) >>= λ ns. some (f .notes ++ ns)
+  ]
 
   -- the types at the point q
   unfoldable pub typesAt : ℕ → ℕ → TypeState → ℕ → Option TypeState
   typesAt zero p s q = none
-  typesAt (suc k) p s q = elim (eqb p q)
-    [ true ↦ some s
-    | false ↦ decode code p >>= λ i. effect (i .instruction) s >>= λ f. typesAt k (p + i .size) (f .types) q ]
+  typesAt (suc k) p s q = elim (eqb p q) [
+    | true ↦ some s
+    | false ↦ decode code p >>= λ i. effect (i .instruction) s >>= λ f. typesAt k (p + i .size) (f .types) q
+  ]
 
 abbrev pub notesOfMethod : Class → Method → Option (List Note)
 notesOfMethod k m = verify (m .code) (m .result) (length (m .code)) 0 (entryTypes k m)

@@ -1,0 +1,94 @@
+// Cells of a table, read and written totally: a read past the end answers 0, a write past the end does nothing.
+ghost use mathlib.Core.Path.{_≡_};
+ghost use Prim.Native.Nat.{_+_, _*_, _<_};
+ghost use lib.ListN.{getD, set};
+ghost use Rattle.definition.specs.Instructions.{shortAt};
+
+// Numbers widened: sums and products of these do not wrap.
+pub fn wide8(x: u8) -> usize
+    ensures { λ r. ⌜ (r ≡ x) × (r < 256) ⌝ }
+{
+    x as usize
+}
+
+pub fn wide16(x: u16) -> usize
+    ensures { λ r. ⌜ (r ≡ x) × (r < 65536) ⌝ }
+{
+    x as usize
+}
+
+pub fn wide32(x: u32) -> usize
+    ensures { λ r. ⌜ (r ≡ x) × (r < 4294967296) ⌝ }
+{
+    x as usize
+}
+
+pub fn from8(x: u8) -> u16
+    ensures { λ r. ⌜ (r ≡ x) × (r < 256) ⌝ }
+{
+    x as u16
+}
+
+pub fn from16(x: u16) -> u32
+    ensures { λ r. ⌜ (r ≡ x) × (r < 65536) ⌝ }
+{
+    x as u32
+}
+
+// A cell, 0 past the end.
+pub fn at8(t: &[u8], i: usize) -> u8
+    ensures { λ r. ⌜ r ≡ getD (now (t .entry)) i 0 ⌝ }
+{
+    if i < t.len() { t[i] } else { 0 }
+}
+
+pub fn at16(t: &[u16], i: usize) -> u16
+    ensures { λ r. ⌜ r ≡ getD (now (t .entry)) i 0 ⌝ }
+{
+    if i < t.len() { t[i] } else { 0 }
+}
+
+pub fn at32(t: &[u32], i: usize) -> u32
+    ensures { λ r. ⌜ r ≡ getD (now (t .entry)) i 0 ⌝ }
+{
+    if i < t.len() { t[i] } else { 0 }
+}
+
+// A cell written, nothing past the end.
+pub fn put8(t: &mut [u8], i: usize, v: u8)
+    ensures { λ _. ⌜ now (t .exit) ≡ set (now (t .entry)) i v ⌝ }
+{
+    if i < t.len() {
+        t[i] = v;
+    }
+}
+
+pub fn put16(t: &mut [u16], i: usize, v: u16)
+    ensures { λ _. ⌜ now (t .exit) ≡ set (now (t .entry)) i v ⌝ }
+{
+    if i < t.len() {
+        t[i] = v;
+    }
+}
+
+pub fn put32(t: &mut [u32], i: usize, v: u32)
+    ensures { λ _. ⌜ now (t .exit) ≡ set (now (t .entry)) i v ⌝ }
+{
+    if i < t.len() {
+        t[i] = v;
+    }
+}
+
+// The byte after place i; the place may be the last that a slice can have.
+fn next8(t: &[u8], i: usize) -> u8
+    ensures { λ r. ⌜ r ≡ getD (now (t .entry)) (i + 1) 0 ⌝ }
+{
+    if i < t.len() { at8(t, i + 1) } else { 0 }
+}
+
+// 16 bits, big-endian, at a place.
+pub fn short_at(t: &[u8], i: usize) -> u16
+    ensures { λ r. ⌜ r ≡ shortAt (now (t .entry)) i ⌝ }
+{
+    from8(at8(t, i)) * 256 + from8(next8(t, i))
+}
