@@ -5,3 +5,6 @@ pub mod Chains
 pub mod Upward
 pub mod Agreement
 pub mod Tests
+pub mod Growth
+pub mod Slots
+pub mod Stable

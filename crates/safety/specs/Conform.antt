@@ -14,6 +14,7 @@ use Rattle.definition.specs.Superclasses.{Below, Falls, nearest, same, up}
 use Rattle.laws.specs.Agreement.{find-more, is-super, nth-more, super-falls, super-is}
 use Rattle.laws.specs.Chains.{chain-join, chain-more, chain-turn, turned}
 use Rattle.laws.specs.Upward.{below-more, below-trans, nearest-below, nearest-finds, nearest-here, nearest-up}
+use Rattle.laws.specs.Growth.{Grows, grows-edges, grows-super}
 
 -- A class of number c may stand where a request r is demanded: c is below a class cached under a request that leads to r
 pub record Fits (w : World) (c : ℕ) (r : Request) : Type 0 where
@@ -33,52 +34,8 @@ fits-own {w} {c} {d} {r} h b = record { via = r; class = d; cached = h; under = 
 pub fits-on : {w : World} {c : ℕ} {r s : Request} → Fits w c r → Chain (edges w) r s → Fits w c s
 fits-on f k = record { via = f .via; class = f .class; cached = f .cached; under = f .under; leads = chain-join (f .leads) k }
 
--- The later world has all that the earlier has
-pub record Grows (v w : World) : Type 0 where
-  pub classes : (c : ℕ) (k : Class) → getElem? (v .base .classes) c ≡ some k → getElem? (w .base .classes) c ≡ some k
-  pub cache : (r : Request) (c : ℕ) → find (v .base .cache) r ≡ some c → find (w .base .cache) r ≡ some c
-  pub ties : (e : Edge) → List·Memᴰ e (tieEdges (v .ties)) → List·Memᴰ e (tieEdges (w .ties))
-  pub subtypes : (e : Edge) → List·Memᴰ e (subtypeEdges (v .subtypes)) → List·Memᴰ e (subtypeEdges (w .subtypes))
-
-pub grows-super : {v w : World} → Grows v w → (c p : ℕ) → superOf (v .base) c ≡ some p → superOf (w .base) c ≡ some p
-grows-super {v} {w} g c p h = let s = super-is (v .base) c p h in
-  is-super (w .base) c p (record { theClass = s .theClass; isClass = g .classes c (s .theClass) (s .isClass); cached = g .cache (at (s .theClass .loader) (s .theClass .super)) p (s .cached); less = s .less })
-
-pub grows-edges : {v w : World} → Grows v w → (e : Edge) → List·Memᴰ e (edges v) → List·Memᴰ e (edges w)
-unfolding edges
-grows-edges {v} {w} g e m = elim (List·Memᴰ·append-cases (tieEdges (v .ties)) m)
-  [ inl p ↦ Memᴰ·append-left (subtypeEdges (w .subtypes)) (g .ties e p) | inr p ↦ Memᴰ·append-right (tieEdges (w .ties)) (g .subtypes e p) ]
-
 pub grows-fits : {v w : World} {c : ℕ} {r : Request} → Grows v w → Fits v c r → Fits w c r
 grows-fits g f = record { via = f .via; class = f .class; cached = g .cache (f .via) (f .class) (f .cached); under = below-more (grows-super g) (f .under); leads = chain-more (grows-edges g) (f .leads) }
-
-pub grows-self : (w : World) → Grows w w
-grows-self w = record { classes = λ c k h. h; cache = λ r c h. h; ties = λ e m. m; subtypes = λ e m. m }
-
-pub grows-join : {u v w : World} → Grows u v → Grows v w → Grows u w
-grows-join g h = record
-  { classes = λ c k p. h .classes c k (g .classes c k p); cache = λ r c p. h .cache r c (g .cache r c p)
-  ; ties = λ e m. h .ties e (g .ties e m); subtypes = λ e m. h .subtypes e (g .subtypes e m) }
-
-pub tie-edges-more : (ts us : List Tie) → tieEdges (ts ++ us) ≡ tieEdges ts ++ tieEdges us
-unfolding tieEdges
-tie-edges-more [] us = refl
-tie-edges-more (t ∷ ts) us = rw (tie-edges-more ts us, tieEdges) refl
-
-pub sub-edges-more : (ts us : List Subtype) → subtypeEdges (ts ++ us) ≡ subtypeEdges ts ++ subtypeEdges us
-unfolding subtypeEdges
-sub-edges-more [] us = refl
-sub-edges-more (t ∷ ts) us = rw (sub-edges-more ts us, subtypeEdges) refl
-
-abbrev pub added : World → List Class → List Entry → List Tie → List Subtype → World
-added w ks es ts ss = record { base = record { classes = w .base .classes ++ ks; cache = w .base .cache ++ es }; ties = w .ties ++ ts; subtypes = w .subtypes ++ ss }
-
-pub grows-added : (w : World) (ks : List Class) (es : List Entry) (ts : List Tie) (ss : List Subtype) → Grows w (added w ks es ts ss)
-grows-added w ks es ts ss = record
-  { classes = λ c k h. nth-more (w .base .classes) ks c k h
-  ; cache = λ r c h. find-more (w .base .cache) es r c h
-  ; ties = λ e m. rw (tie-edges-more (w .ties) ts) (Memᴰ·append-left (tieEdges ts) m)
-  ; subtypes = λ e m. rw (sub-edges-more (w .subtypes) ss) (Memᴰ·append-left (subtypeEdges ss) m) }
 
 -- Ties
 

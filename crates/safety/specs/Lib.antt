@@ -6,7 +6,7 @@ pub mod Conform
 pub mod Valid
 pub mod Places
 pub mod Steps
-pub mod Stable
+pub mod Heap
 pub mod Loads
 pub mod Safe
 pub mod Misplaced

@@ -22,16 +22,13 @@ use Rattle.laws.specs.Chains.{chain-more}
 use Rattle.laws.specs.Options.{bind-some, nth-last, nth-snoc}
 use Rattle.laws.specs.Tests.{and-true, any-true, nth-left}
 use Rattle.laws.specs.Upward.{nearest-below}
-use Rattle.safety.specs.Conform.{Grows, Tied, grows-super, sub-edges-more, tie-edges-more}
-use Rattle.safety.specs.Stable.{find-last, find-snoc, has-class, has-is, has-stable, loader-is, loader-stable, nearest-stable, real-super, super-stable}
+use Rattle.safety.specs.Conform.{Tied}
 use Rattle.safety.specs.Steps.{call-arg, call-res}
 use Rattle.safety.specs.Valid.{Linked, Verified, rooted}
 use Rattle.definition.specs.Maybe as Maybe
-
-pub nth-lt : {A : Type 0} (xs : List A) (i : ℕ) (x : A) → getElem? xs i ≡ some x → i < length xs
-nth-lt [] i x h = absurd (Option·none-ne-some x h)
-nth-lt (y ∷ xs) zero x h = omega arith
-nth-lt (y ∷ xs) (suc i) x h = omega (arith, nth-lt xs i x h)
+use Rattle.laws.specs.Growth.{Grows, grows-super, sub-edges-more, tie-edges-more}
+use Rattle.laws.specs.Stable.{find-last, find-snoc, has-class, has-is, has-stable, loader-is, loader-stable, nearest-stable, real-super, super-stable}
+use Rattle.laws.specs.Growth.{grows-class, grows-entry, nth-lt}
 
 nth-mem : {A : Type 0} (xs : List A) (i : ℕ) (x : A) → getElem? xs i ≡ some x → List·Memᴰ x xs
 nth-mem [] i x h = absurd (Option·none-ne-some x h)
@@ -127,9 +124,6 @@ module _ (v w : World) (lk : Linked v) (gr : Grows v w) where
 
 -- a cache entry more
 
-pub grows-entry : (v : World) (r : Request) (c : ℕ) → Grows v (withEntry v r c)
-grows-entry v r c = record { classes = λ x k h. h; cache = λ q x h. find-more (v .base .cache) _ q x h; ties = λ e m. m; subtypes = λ e m. m }
-
 pub linked-entry : (v : World) (r : Request) (c : ℕ) (k : Class) → Linked v → getElem? (v .base .classes) c ≡ some k → Agrees (withEntry v r c) → Linked (withEntry v r c)
 linked-entry v r c k lk ck g = record
   { agreed = g
@@ -146,11 +140,6 @@ linked-entry v r c k lk ck g = record
     gr = grows-entry v r c
 
 -- a class more
-
-pub grows-class : (v : World) (k : Class) (us : List Tie) (ss : List Subtype) → Grows v (withClass v k us ss)
-grows-class v k us ss = record
-  { classes = λ x y h. nth-left (v .base .classes) (k ∷ []) x y h; cache = λ q x h. find-more (v .base .cache) _ q x h
-  ; ties = λ e m. rw (tie-edges-more (v .ties) us) (Memᴰ·append-left (tieEdges us) m); subtypes = λ e m. rw (sub-edges-more (v .subtypes) ss) (Memᴰ·append-left (subtypeEdges ss) m) }
 
 module _ (v : World) (k : Class) (ns : List Note) (p : ℕ) (lk : Linked v) (vn : notesOf k (k .methods) ≡ some ns)
          (fr : find (v .base .cache) (at (k .loader) (k .name)) ≡ none) (fp : find (v .base .cache) (at (k .loader) (k .super)) ≡ some p) where

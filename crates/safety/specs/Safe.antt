@@ -23,13 +23,15 @@ use Rattle.laws.specs.Agreement.{agrees-true, find-row, super-falls, super-is}
 use Rattle.laws.specs.Options.{nth-last}
 use Rattle.laws.specs.Results.{Wp, not-wanted, not-word, wp-need, wp-take}
 use Rattle.laws.specs.Upward.{nearest-below}
-use Rattle.safety.specs.Conform.{Grows, fits-own}
+use Rattle.safety.specs.Conform.{fits-own}
 use Rattle.safety.specs.Store.{Store, booted, inQuote, inReport, inWorld}
-use Rattle.safety.specs.Loads.{grows-class, grows-entry, linked-class, linked-entry, ss, us}
-use Rattle.safety.specs.Stable.{heap-grows}
+use Rattle.safety.specs.Loads.{linked-class, linked-entry, ss, us}
 use Rattle.safety.specs.Steps.{Kept, as-int, heap-more, later-more, later-same, method-at, zeros-conform}
 use Rattle.safety.specs.Typing.{verified-here}
 use Rattle.safety.specs.Valid.{Heap, Later, Linked, Stack, later-stack, rooted}
+use Rattle.laws.specs.Growth.{Grows}
+use Rattle.laws.specs.Growth.{grows-class, grows-entry}
+use Rattle.safety.specs.Heap.{heap-grows}
 
 pub none-is : {A : Type 0} (o : Option A) → isNone o ≡ true → o ≡ none
 unfolding isNone

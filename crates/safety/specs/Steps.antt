@@ -26,11 +26,13 @@ use Rattle.laws.specs.Options.{Each, bind-some, each-at, each-both, each-more, 
 use Rattle.laws.specs.Results.{Wp, not-wanted, not-word, wp-bind, wp-known, wp-need, wp-sure, wp-take, wp-there}
 use Rattle.laws.specs.Tests.{and-true, any-found, any-right, any-true, nth-left}
 use Rattle.laws.specs.Upward.{below-trans, nearest-below, nearest-finds, true-below}
-use Rattle.safety.specs.Conform.{Grows, Tied, fits-below, fits-own, grows-join, grows-self, override, tie-edges-more, tied-turn}
-use Rattle.safety.specs.Places.{Noted, agrees-after, carry, meet-class, meet-name, of-class, of-int, slots-below, slots-own, tie-there}
+use Rattle.safety.specs.Conform.{Tied, fits-below, fits-own, override, tied-turn}
+use Rattle.safety.specs.Places.{Noted, agrees-after, carry, meet-class, meet-name, of-class, of-int, tie-there}
 use Rattle.safety.specs.Typing.{Known, known, verified-here}
 use Rattle.safety.specs.Valid.{Conforms, Heap, Later, Linked, Local, ObjectSound, Stack, Top, Under, Verified, later-conforms, later-local, later-ops, later-under}
 use Rattle.definition.specs.Maybe as Maybe
+use Rattle.laws.specs.Growth.{Grows, grows-join, grows-self, tie-edges-more}
+use Rattle.laws.specs.Slots.{slots-below, slots-own}
 
 -- Operands against their types
 

@@ -15,7 +15,9 @@ use Rattle.definition.specs.Superclasses.{nearest}
 use Rattle.definition.specs.Verifier.{Note, TypeState, VerifierType, entryTypes, typeClass, typeInt, typeNull, typeOfName, typesAt, verify}
 use Rattle.laws.specs.Chains.{chain-more}
 use Rattle.laws.specs.Options.{Each, each-more}
-use Rattle.safety.specs.Conform.{Fits, Grows, Tied, grows-fits}
+use Rattle.safety.specs.Conform.{Fits, Tied, grows-fits}
+use Rattle.laws.specs.Growth.{Grows}
+use Rattle.laws.specs.Stable.{Rooted}
 
 pub record Holds (w : World) (os : List Object) (l n o : ℕ) : Type 0 where
   pub object : Object
@@ -57,11 +59,6 @@ pub record ObjectSound (w : World) (os : List Object) (b : Object) : Type 0 wher
   pub theClass : Class
   pub isClass : getElem? (w .base .classes) (b .class) ≡ some theClass
   pub filled : Each (λ s v. Conforms w os (loaderOf (w .base) (s .owner)) (typeOfName (s .type)) v) (slots (w .base) (b .class)) (b .values)
-
--- each class that is cached is there, and each but the first has its superclass
-pub record Rooted (b : Base) : Type 0 where
-  pub real : (r : Request) (c : ℕ) → find (b .cache) r ≡ some c → (k : Class) × (getElem? (b .classes) c ≡ some k)
-  pub supers : (c : ℕ) (k : Class) → getElem? (b .classes) c ≡ some k → 0 < c → (p : ℕ) × (superOf b c ≡ some p)
 
 pub record Verified (w : World) (k : Class) (m : Method) : Type 0 where
   pub notes : List Note

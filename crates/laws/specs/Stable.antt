@@ -14,11 +14,15 @@ use Rattle.definition.specs.Machine.{Object}
 use Rattle.definition.specs.Requests.{Request, at, sameRequest}
 use Rattle.definition.specs.Superclasses.{nearest, seek}
 use Rattle.definition.specs.Verifier.{typeOfName}
 use Rattle.laws.specs.Agreement.{super-falls, super-is}
 use Rattle.laws.specs.Chains.{same-refl}
 use Rattle.laws.specs.Options.{each-more-in}
-use Rattle.safety.specs.Conform.{Grows, grows-super}
-use Rattle.safety.specs.Valid.{Heap, Later, Rooted, later-conforms}
+use Rattle.laws.specs.Growth.{Grows, grows-super}
+
+-- each class that is cached is there, and each but the first has its superclass
+pub record Rooted (b : Base) : Type 0 where
+  pub real : (r : Request) (c : ℕ) → find (b .cache) r ≡ some c → (k : Class) × (getElem? (b .classes) c ≡ some k)
+  pub supers : (c : ℕ) (k : Class) → getElem? (b .classes) c ≡ some k → 0 < c → (p : ℕ) × (superOf b c ≡ some p)
 
 -- the cache with one more row
 pub find-last : (es : List Entry) (e : Entry) → find es (e .request) ≡ none → find (es ++ (e ∷ [])) (e .request) ≡ some (e .class)
@@ -144,7 +148,7 @@ module _ (v w : World) (lk : Rooted (v .base)) (gr : Grows v w) where
   own-real : (c : ℕ) → Real c → (s : Slot) → List·Memᴰ s (ownSlots (v .base) c) → Real (s .owner)
   own-real c q s m = rw (sym (map-owner c (q .0 .fields) s (rw (own-is (v .base) c (q .0) (q .1)) at m))) at q
 
-  slot-real : (j c : ℕ) → Real c → (s : Slot) → List·Memᴰ s (slotsIn j (v .base) c) → Real (s .owner)
+  pub slot-real : (j c : ℕ) → Real c → (s : Slot) → List·Memᴰ s (slotsIn j (v .base) c) → Real (s .owner)
   unfolding slotsIn
   slot-real zero c q s m = own-real c q s m
   slot-real (suc j) c q s m = go (superOf (v .base) c) refl m (λ p r. slot-real j p r s)
@@ -153,12 +157,3 @@ module _ (v w : World) (lk : Rooted (v .base)) (gr : Grows v w) where
         → ((p : ℕ) → Real p → List·Memᴰ s (slotsIn j (v .base) p) → Real (s .owner)) → Real (s .owner)
       go none e m f = own-real c q s m
       go (some p) e m f = elim (List·Memᴰ·append-cases (slotsIn j (v .base) p) m) [ inl x ↦ f p (real-super c p e) x | inr x ↦ own-real c q s x ]
-
-  pub heap-grows : (os : List Object) → Heap v os → Later v os w os → Heap w os
-  unfolding slots
-  heap-grows os hp z o b e =
-      let x = hp o b e in
-      let q : Real (b .class) = (x .theClass, x .isClass) in
-      record { theClass = x .theClass; isClass = gr .classes (b .class) (x .theClass) (x .isClass)
-             ; filled = rw (slots-stable (b .class) q) (each-more-in (slots (v .base) (b .class)) (b .values)
-                 (λ s u m h. rw (loader-stable (s .owner) (slot-real (b .class) (b .class) q s m)) (later-conforms z (loaderOf (v .base) (s .owner)) (typeOfName (s .type)) u h)) (x .filled)) }
