@@ -8,3 +8,7 @@ pub mod Tests
 pub mod Growth
 pub mod Slots
 pub mod Stable
+pub mod Refusals
+pub mod Wrapped
+pub mod Runs
+pub mod Turns

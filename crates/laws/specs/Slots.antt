@@ -17,7 +17,8 @@ use Rattle.definition.specs.Requests.{Chain, Edge, at, hop, stay}
 use Rattle.definition.specs.Superclasses.{Below, below, same, up}
 use Rattle.definition.specs.Verifier.{Note, VerifierType, meetClass, meetInt, meets, typeClass, typeInt, typeNull, typeOfName}
 use Rattle.laws.specs.Agreement.{agrees-true, super-falls}
-use Rattle.laws.specs.Tests.{and-true, any-true, nth-left, or-true}
+use Rattle.laws.specs.Tests.{and-true, any-true, or-true}
+use Rattle.laws.specs.Agreement.{nth-more}
 
 module _ (b : Base) where
   slots-fuel : (j k c : ℕ) → c ≤ j → c ≤ k → slotsIn j b c ≡ slotsIn k b c
@@ -65,4 +66,4 @@ module _ (b : Base) where
   -- an object of a class below d has d's fields where d has them
   pub slots-below : {c d : ℕ} → Below (superOf b) d c → (i : ℕ) (s : Slot) → getElem? (slots b d) i ≡ some s → getElem? (slots b c) i ≡ some s
   slots-below (same q) i s h = rw q h
-  slots-below (up {c} {p} e z) i s h = rw (slots-up c p e) (nth-left (slots b p) (ownSlots b c) i s (slots-below z i s h))
+  slots-below (up {c} {p} e z) i s h = rw (slots-up c p e) (nth-more (slots b p) (ownSlots b c) i s (slots-below z i s h))

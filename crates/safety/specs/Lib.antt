@@ -10,3 +10,4 @@ pub mod Heap
 pub mod Loads
 pub mod Safe
 pub mod Misplaced
+pub mod Words

@@ -15,7 +15,6 @@ use Rattle.definition.specs.Requests.{at}
 use Rattle.definition.specs.Superclasses.{below}
 use Rattle.definition.specs.Verifier.{TypeState, VerifierType, typeClass, typeInt, typeNull, typeOfName}
 use Rattle.laws.specs.Agreement.{super-falls}
-use Rattle.laws.specs.Options.{Each}
 use Rattle.laws.specs.Upward.{true-below}
 use Rattle.safety.specs.Conform.{fits-below}
 use Rattle.safety.specs.Store.{Store}
@@ -25,6 +24,7 @@ use Rattle.laws.specs.Options.{some-bind}
 use Rattle.definition.specs.Tables.{Rows, worldOf}
 use Rattle.safety.specs.Store.{storeOf}
 use Rattle.definition.specs.Misplaced.{waitingTypes, misplacedIn}
+use Rattle.definition.specs.Lists.{Each}
 
 -- What conforms is placed
 
@@ -55,7 +55,7 @@ unfolding placedLocal
 local-placed w os g l none v h = refl
 local-placed w os g l (some t) v h = conforms-placed w os g l t v h
 
-none-bad : {A B : Type 0} (R : A → B → Type 0) (f : A → B → Bool) → ((x : A) (y : B) → R x y → f x y ≡ true) → (xs : List A) (ys : List B) → Each R xs ys → failures f xs ys ≡ 0
+pub none-bad : {A B : Type 0} (R : A → B → Type 0) (f : A → B → Bool) → ((x : A) (y : B) → R x y → f x y ≡ true) → (xs : List A) (ys : List B) → Each R xs ys → failures f xs ys ≡ 0
 unfolding failures
 none-bad R f g [] [] h = refl
 none-bad R f g [] (y ∷ ys) h = absurd h

@@ -17,9 +17,10 @@ use Rattle.definition.specs.Requests.{Chain, Edge, at, hop, stay}
 use Rattle.definition.specs.Superclasses.{Below, below, same, up}
 use Rattle.definition.specs.Verifier.{Note, VerifierType, meetClass, meetInt, meets, typeClass, typeInt, typeNull, typeOfName}
 use Rattle.laws.specs.Agreement.{agrees-true, super-falls}
-use Rattle.laws.specs.Tests.{and-true, any-true, nth-left, or-true}
+use Rattle.laws.specs.Tests.{and-true, any-true, or-true}
 use Rattle.safety.specs.Conform.{Fits, Tied, fits-on, fits-tied, tie-turned}
 use Rattle.safety.specs.Valid.{Conforms}
+use Rattle.laws.specs.Agreement.{nth-more}
 
 -- every note of the list is a constraint of loader l
 abbrev pub Noted : World → ℕ → List Note → Type 0

@@ -22,9 +22,9 @@ use Rattle.definition.specs.declared.Instruction.{Instruction}
 use Rattle.definition.specs.declared.Instruction.the-variants.{AconstNull, Aload, Areturn, Astore, Dup, Getfield, Iadd, Iload, Invokevirtual, Ireturn, Istore, Isub, New, Pop, Putfield, Sipush}
 use Rattle.laws.specs.Agreement.{super-falls}
 use Rattle.laws.specs.Chains.{chain-join, chain-more}
-use Rattle.laws.specs.Options.{Each, bind-some, each-at, each-both, each-more, each-set, nth-last, nth-set, nth-snoc, set-nth, need-true}
+use Rattle.laws.specs.Options.{bind-some, each-at, each-both, each-more, each-set, nth-last, nth-set, nth-snoc, set-nth, need-true}
 use Rattle.laws.specs.Results.{Wp, not-wanted, not-word, wp-bind, wp-known, wp-need, wp-sure, wp-take, wp-there}
-use Rattle.laws.specs.Tests.{and-true, any-found, any-right, any-true, nth-left}
+use Rattle.laws.specs.Tests.{and-true, any-found, any-right, any-true}
 use Rattle.laws.specs.Upward.{below-trans, nearest-below, nearest-finds, true-below}
 use Rattle.safety.specs.Conform.{Tied, fits-below, fits-own, override, tied-turn}
 use Rattle.safety.specs.Places.{Noted, agrees-after, carry, meet-class, meet-name, of-class, of-int, tie-there}
@@ -33,6 +33,8 @@ use Rattle.safety.specs.Valid.{Conforms, Heap, Later, Linked, Local, Obj
 use Rattle.definition.specs.Maybe as Maybe
 use Rattle.laws.specs.Growth.{Grows, grows-join, grows-self, tie-edges-more}
 use Rattle.laws.specs.Slots.{slots-below, slots-own}
+use Rattle.definition.specs.Lists.{Each}
+use Rattle.laws.specs.Agreement.{nth-more}
 
 -- Operands against their types
 
@@ -240,7 +242,7 @@ heap-changed w os o b vs h hp ea x y e = go (set-nth os o (record { class = b .c
 
 -- one object more
 pub later-more : (w : World) (os : List Object) (b : Object) → Later w os w (os ++ (b ∷ []))
-later-more w os b = record { grows = grows-self w; objects = λ x y e. (y, nth-left os (b ∷ []) x y e, refl) }
+later-more w os b = record { grows = grows-self w; objects = λ x y e. (y, nth-more os (b ∷ []) x y e, refl) }
 
 pub heap-more : (w : World) (os : List Object) (b : Object) → Heap w os → ObjectSound w os b → Heap w (os ++ (b ∷ []))
 heap-more w os b hp ob x y e = elim (nth-snoc os b x y e)

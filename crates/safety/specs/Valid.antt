@@ -14,10 +14,11 @@ use Rattle.definition.specs.Requests.{Request, at}
 use Rattle.definition.specs.Superclasses.{nearest}
 use Rattle.definition.specs.Verifier.{Note, TypeState, VerifierType, entryTypes, typeClass, typeInt, typeNull, typeOfName, typesAt, verify}
 use Rattle.laws.specs.Chains.{chain-more}
-use Rattle.laws.specs.Options.{Each, each-more}
+use Rattle.laws.specs.Options.{each-more}
 use Rattle.safety.specs.Conform.{Fits, Tied, grows-fits}
 use Rattle.laws.specs.Growth.{Grows}
 use Rattle.laws.specs.Stable.{Rooted}
+use Rattle.definition.specs.Lists.{Each}
 
 pub record Holds (w : World) (os : List Object) (l n o : ℕ) : Type 0 where
   pub object : Object
