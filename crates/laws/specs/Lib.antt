@@ -12,3 +12,4 @@ pub mod Refusals
 pub mod Wrapped
 pub mod Runs
 pub mod Turns
+pub mod Refused

@@ -3,7 +3,10 @@ use mathlib.Core.Path.{_≡_, refl, sym, ap, _∙_}
 use mathlib.Core.Bool.{Bool, true, false}
 use Rattle.definition.specs.declared.Refusal.{Refusal}
 use Rattle.definition.specs.declared.Refusal.the-variants.{Word}
-use Rattle.definition.specs.Answers.{Result, refused, ok}
+use Rattle.definition.specs.Answers.{Result, refused, ok, _>>=_}
+use Prim.Native.Nat.{ℕ}
+use native.Mathlib.Omega.{arith}
+use Rattle.laws.specs.Results.{ok-inj}
 use Rattle.definition.specs.Tables.{Tables, Rows, view, put}
 use Rattle.definition.specs.Broken.{broken}
 use Rattle.definition.specs.Calls.{Given, Done, done, carried, wrap}
@@ -31,3 +34,12 @@ wrap-carried deny f t h = rw (h, wrap) refl
 abbrev pub Ok : {A : Type 0} → Result A → (A → Type 0) → Type 0
 Ok (refused w) Q = Unit {0}
 Ok (ok a) Q = Q a
+
+pub then : {A B : Type 0} (Q : B → Type 0) (o : Result A) (f : A → Result B) → ((a : A) → o ≡ ok a → Ok (f a) Q) → Ok (o >>= f) Q
+unfolding _>>=_
+then Q (refused w) f k = tt
+then Q (ok a) f k = k a refl
+
+pub ok-at : {A : Type 0} (Q : A → Type 0) (o : Result A) → Ok o Q → (a : A) → o ≡ ok a → Q a
+ok-at Q (refused w) h a e = absurd (let z : _≡_ {A = ℕ} 0 1 = cc in omega arith)
+ok-at Q (ok b) h a e = rw (ok-inj e) at h

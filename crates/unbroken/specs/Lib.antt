@@ -1,0 +1,3 @@
+-- Every call on a store that is not broken leaves one that is not broken.
+pub mod Steps
+pub mod Calls
