@@ -1,3 +1,4 @@
 -- Every call on a store that is not broken leaves one that is not broken.
 pub mod Steps
 pub mod Calls
+pub mod Unbroken
