@@ -1,0 +1,3 @@
+-- Laws of the tables: reading what was written, writing what was read, and what 'broken' means.
+pub mod Tests
+pub mod Places
