@@ -1,0 +1,5 @@
+-- Laws of the tables: reading what was written, writing what was read, and what 'broken' means.
+pub mod Tests
+pub mod Places
+pub mod Cells
+pub mod Whole
