@@ -11,3 +11,4 @@ pub mod Loads
 pub mod Safe
 pub mod Misplaced
 pub mod Words
+pub mod Safety

@@ -33,14 +33,11 @@ use Rattle.laws.specs.Tests.{and-true}
 use Rattle.layout.specs.Tests.{All, all-both, all-more, every-true}
 use Rattle.layout.specs.Unbroken.{object-class}
 use Rattle.layout.specs.Whole.{Between, ClassSound, Classes, First, Framed, From, Listed, ObjectSound, Whole}
-use Rattle.unbroken.specs.Steps.{Moved, Ok, Ready, class-found, class-selected, entered-frame, grow-frame, loader-small, made-objects, new-between, step-moves, then}
+use Rattle.unbroken.specs.Steps.{Moved, Ready, class-found, class-selected, entered-frame, grow-frame, loader-small, made-objects, new-between, step-moves}
 use Rattle.definition.specs.Maybe as Maybe
+use Rattle.laws.specs.Wrapped.{Ok, ok-at, then}
 
 -- Lists
-
-pub ok-at : {A : Type 0} (Q : A → Type 0) (o : Result A) → Ok o Q → (a : A) → o ≡ ok a → Q a
-ok-at Q (refused w) h a e = absurd (let z : _≡_ {A = ℕ} 0 1 = cc in omega arith)
-ok-at Q (ok b) h a e = rw (ok-inj e) at h
 
 all-mem : {A : Type 0} (P : A → Type 0) {xs : List A} {x : A} → All P xs → List·Memᴰ x xs → P x
 all-mem P {xs = y ∷ ys} {x} h (List·Memᴰ·head e) = rw e (h .0)

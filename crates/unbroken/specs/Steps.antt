@@ -14,7 +14,7 @@ use Rattle.definition.specs.Classes.{Base, Class, Slot, find, hasMethod, loader
 use Rattle.definition.specs.Constraints.{Tie, World, newTie, post, posted, tieIs}
 use Rattle.definition.specs.Instructions.{Decoded}
 use Rattle.definition.specs.Lists.{any}
-use Rattle.definition.specs.Machine.{Frame, Now, Object, Progress, Value, entryFrame, execute, give, initialValue, int!, intValue, newObject, now, nullValue, object!, objectValue, past, pop!, reference!, room!, step, under!, unsetValue}
+use Rattle.definition.specs.Machine.{Frame, Now, Object, Progress, Value, entryFrame, execute, give, initialValue, int!, intValue, newObject, now, nullValue, object!, objectValue, past, pop!, reference!, room!, step, under!, unsetValue, unlistedValue, existing}
 use Rattle.definition.specs.Requests.{Request, at}
 use Rattle.definition.specs.Superclasses.{nearest}
 use Rattle.definition.specs.Verifier.{pop}
@@ -29,13 +29,9 @@ use Rattle.laws.specs.Tests.{and-true}
 use Rattle.laws.specs.Upward.{nearest-below}
 use Rattle.layout.specs.Tests.{All, all-both, all-more}
 use Rattle.layout.specs.Whole.{Between, Framed, Local, ObjectSound, ValueSound}
+use Rattle.laws.specs.Wrapped.{Ok, then}
 
 -- what holds of a value, if there is one
-pub then : {A B : Type 0} (Q : B → Type 0) (o : Result A) (f : A → Result B) → ((a : A) → o ≡ ok a → Ok (f a) Q) → Ok (o >>= f) Q
-unfolding _>>=_
-then Q (refused w) f h = tt
-then Q (ok a) f h = h a refl
-
 never : {A : Type 0} {B : Type 0} (w : Refusal) (a : A) → Path (Result A) (refused w) (ok a) → B
 never w a e = absurd (let z : _≡_ {A = ℕ} 0 1 = cc in omega arith)
 
@@ -43,18 +39,21 @@ never w a e = absurd (let z : _≡_ {A = ℕ} 0 1 = cc in omega arith)
 
 value-local : (m : ℕ) (v : Value) → ValueSound m v → Local m v
 value-local m unsetValue h = tt
+value-local m (unlistedValue α β) h = absurd h
 value-local m (intValue n) h = tt
 value-local m nullValue h = tt
 value-local m (objectValue o) h = h
 
 grow-value : (m k : ℕ) → m ≤ k → (v : Value) → ValueSound m v → ValueSound k v
 grow-value m k l unsetValue h = h
+grow-value m k l (unlistedValue α β) h = h
 grow-value m k l (intValue n) h = h
 grow-value m k l nullValue h = h
 grow-value m k l (objectValue o) h = omega arith
 
 grow-local : (m k : ℕ) → m ≤ k → (v : Value) → Local m v → Local k v
 grow-local m k l unsetValue h = h
+grow-local m k l (unlistedValue α β) h = h
 grow-local m k l (intValue n) h = h
 grow-local m k l nullValue h = h
 grow-local m k l (objectValue o) h = omega arith
@@ -62,6 +61,7 @@ grow-local m k l (objectValue o) h = omega arith
 int-value : (m : ℕ) (v : Value) (n : ℕ) → int! v ≡ ok n → ValueSound m v
 unfolding int!
 int-value m unsetValue n e = never _ _ e
+int-value m (unlistedValue α β) n e = never _ _ e
 int-value m (intValue x) n e = tt
 int-value m nullValue n e = tt
 int-value m (objectValue o) n e = never _ _ e
@@ -69,6 +69,7 @@ int-value m (objectValue o) n e = never _ _ e
 ref-value : (m : ℕ) (v x : Value) → reference! v ≡ ok x → Local m v → ValueSound m v
 unfolding reference!
 ref-value m unsetValue x e h = never _ _ e
+ref-value m (unlistedValue α β) x e h = never _ _ e
 ref-value m (intValue n) x e h = tt
 ref-value m nullValue x e h = tt
 ref-value m (objectValue o) x e h = h
@@ -94,8 +95,9 @@ pop-all m [] p h e = never _ _ e
 pop-all m (v ∷ vs) p h e = rw (sym (ok-inj e)) (record { top = h .0; more = h .1; less = refl })
 
 object-is : (b : Base) (os : List Object) (e : ℕ) (v : Value) (p : record { number : ℕ; object : Object }) → object! b os e v ≡ ok p → getElem? os (p .number) ≡ some (p .object)
-unfolding object!
+unfolding object! existing
 object-is b os e unsetValue p h = never _ _ h
+object-is b os e (unlistedValue α β) p h = never _ _ h
 object-is b os e (intValue n) p h = never _ _ h
 object-is b os e nullValue p h = never _ _ h
 object-is b os e (objectValue o) p h =
