@@ -5,6 +5,7 @@ use mathlib.Core.Bool.{Bool, true, false}
 use mathlib.Core.List.{List, [], _∷_, _++_}
 use mathlib.Core.Logic.{_≢_}
 use Prim.Native.Nat.{ℕ, zero, suc, _+_, _*_, _<_, _≤_}
+use native.Mathlib.Nat.{suc-mul, mul-le-mul-right}
 use native.Mathlib.Omega.{arith}
 use lib.ListN.{length, getD, set, length-set}
 use lib.Seq.{set-getD, set-out, set-comm, getD-set-same, getD-set-other}
@@ -16,8 +17,8 @@ use Rattle.definition.specs.Constraints.{Tie, Subtype}
 use Rattle.definition.specs.Instructions.{pick}
 use Rattle.definition.specs.Machine.{Value, unsetValue, intValue, nullValue, objectValue, unlistedValue, Object, Frame}
 use Rattle.definition.specs.Tables.{ClassRow, threeAt, putThree, classRow, entry, tie, subtype, classRowAt, putClassRow, entryAt, putEntry, tieAt, putTie, subtypeAt, putSubtype, valueOf, kindOf, bitsOf, valueAt, putCells, putValue, fieldAt, putField, sizeOf, usedFields, objectAt, putObject, localAt, putLocal, operandAt, putOperand, frame, frameOf, frameAt, putHead, putFrame, frameBase, frameIn, putFrameIn}
-use Rattle.layout.specs.Tests.{All}
-use Rattle.layout.specs.Places.{rows-length, rows-cong, stack-length, stack-cong, writeRows-same, writeStack-same, writeStack-above, writeStack-two, writeRows-put, writeRows-replace, writeRows-last, writeRows-keeps, writeStack-keeps, writeRows-length, writeStack-length, rows-written, stack-written}
+use Rattle.layout.specs.Tests.{All, all-each}
+use Rattle.layout.specs.Places.{rows-length, rows-cong, rows-set, rows-last, writeRows-append, stack-length, stack-cong, writeRows-same, writeStack-same, writeStack-above, writeStack-two, writeRows-put, writeRows-replace, writeRows-last, writeRows-keeps, writeStack-keeps, writeRows-length, writeStack-length, rows-written, stack-written}
 
 -- Rows of w cells that hold anything
 
@@ -27,6 +28,42 @@ pub record RowLaws {A : Type 0} (at : List ℕ → ℕ → A) (put : List ℕ �
   pub other : (t : List ℕ) (i j : ℕ) (x : A) → i ≢ j → at (put t j x) i ≡ at t i
   pub long : (t : List ℕ) (i : ℕ) (x : A) → length (put t i x) ≡ length t
   pub commute : (t : List ℕ) (i j : ℕ) (x y : A) → i < j → put (put t j y) i x ≡ put (put t i x) j y
+
+module _ {A : Type 0} (at : List ℕ → ℕ → A) (put : List ℕ → ℕ → A → List ℕ) (w : ℕ) (laws : RowLaws at put w) where
+  -- rows that were written are read back
+  pub rows-back : (xs : List A) (t : List ℕ) → length xs * w ≤ length t → rows (at (writeRows put xs 0 t)) (length xs) 0 ≡ xs
+  rows-back xs t l =
+      rows-written put (laws .long) at (λ _. Unit {0}) (length t) (length xs)
+        (λ s i x e h p. laws .back s i x (omega (arith, mul-le-mul-right w h, suc-mul i w))) (λ s i j x h p. laws .other s i j x (λ e. omega arith)) xs 0 (omega arith)
+        (all-each (λ _. Unit {0}) (λ x. tt) xs) t refl
+
+  below : (t : List ℕ) (i j : ℕ) (x : A) → i < j → at (put t j x) i ≡ at t i
+  below t i j x l = laws .other t i j x (λ e. omega arith)
+
+  -- n rows written back as they were read, with others behind them, with one of them replaced
+  pub rows-kept : (t : List ℕ) (n : ℕ) → writeRows put (rows (at t) n 0) 0 t ≡ t
+  rows-kept t n = writeRows-same put (at t) t (laws .same t) n 0
+
+  pub rows-more : (t : List ℕ) (n : ℕ) (xs : List A) → writeRows put (rows (at t) n 0 ++ xs) 0 t ≡ writeRows put xs n t
+  rows-more t n xs = writeRows-append put at (laws .same) below t n xs
+
+  pub row-more : (t : List ℕ) (n : ℕ) (x : A) → writeRows put (rows (at t) n 0 ++ (x ∷ [])) 0 t ≡ put t n x
+  row-more t n x = writeRows-last put at (laws .same) below t n x
+
+  pub row-replaced : (t : List ℕ) (n j : ℕ) (x : A) → j < n → writeRows put (set (rows (at t) n 0) j x) 0 t ≡ put t j x
+  row-replaced t n j x l = writeRows-replace put at (laws .same) below t n j x l
+
+  -- what is read after a row is written
+  pub rows-after : (t : List ℕ) (n j : ℕ) (x : A) → j < n → n * w ≤ length t → rows (at (put t j x)) n 0 ≡ set (rows (at t) n 0) j x
+  rows-after t n j x l h =
+      let e : 0 + j ≡ j = omega arith in
+      rows-set (at t) (at (put t j x)) n 0 j x (rw e (laws .back t j x (omega (arith, mul-le-mul-right w l, suc-mul j w)))) (λ m q. laws .other t m j x (λ r. q (r ∙ sym e)))
+
+  pub rows-after-last : (t : List ℕ) (n : ℕ) (x : A) → suc n * w ≤ length t → rows (at (put t n x)) (suc n) 0 ≡ rows (at t) n 0 ++ (x ∷ [])
+  rows-after-last t n x h =
+      let e : 0 + n ≡ n = omega arith in
+      rows-last (at (put t n x)) n 0
+      ∙ rw (e, laws .back t n x (omega (arith, suc-mul n w)), rows-cong (at (put t n x)) (at t) n 0 (λ m a k. laws .other t m n x (λ r. omega arith)))
 
 module _ (t : List ℕ) where
   three-same : (i : ℕ) → putThree t i (getD t (i * 3) 0) (getD t (i * 3 + 1) 0) (getD t (i * 3 + 2) 0) ≡ t
