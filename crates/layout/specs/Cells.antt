@@ -34,8 +34,8 @@ module _ {A : Type 0} (at : List ℕ → ℕ → A) (put : List ℕ → ℕ → 
   pub rows-back : (xs : List A) (t : List ℕ) → length xs * w ≤ length t → rows (at (writeRows put xs 0 t)) (length xs) 0 ≡ xs
   rows-back xs t l =
       rows-written put (laws .long) at (λ _. Unit {0}) (length t) (length xs)
-        (λ s i x e h p. laws .back s i x (omega (arith, mul-le-mul-right w h, suc-mul i w))) (λ s i j x h p. laws .other s i j x (λ e. omega arith)) xs 0 (omega arith)
-        (all-each (λ _. Unit {0}) (λ x. tt) xs) t refl
+      (λ s i x e h p. laws .back s i x (omega (arith, mul-le-mul-right w h, suc-mul i w))) (λ s i j x h p. laws .other s i j x (λ e. omega arith)) xs 0 (omega arith)
+      (all-each (λ _. Unit {0}) (λ x. tt) xs) t refl
 
   below : (t : List ℕ) (i j : ℕ) (x : A) → i < j → at (put t j x) i ≡ at t i
   below t i j x l = laws .other t i j x (λ e. omega arith)
@@ -100,8 +100,8 @@ three-commute : (t : List ℕ) (i j a b c d e f : ℕ) → i < j → putThree (p
 three-commute t i j a b c d e f l =
     three-set (set (set t (j * 3) d) (j * 3 + 1) e) i a b c (j * 3 + 2) f (λ q. omega arith) (λ q. omega arith) (λ q. omega arith)
     ∙ ap (λ (s : List ℕ). set s (j * 3 + 2) f)
-        (three-set (set t (j * 3) d) i a b c (j * 3 + 1) e (λ q. omega arith) (λ q. omega arith) (λ q. omega arith)
-        ∙ ap (λ (s : List ℕ). set s (j * 3 + 1) e) (three-set t i a b c (j * 3) d (λ q. omega arith) (λ q. omega arith) (λ q. omega arith)))
+    (three-set (set t (j * 3) d) i a b c (j * 3 + 1) e (λ q. omega arith) (λ q. omega arith) (λ q. omega arith)
+    ∙ ap (λ (s : List ℕ). set s (j * 3 + 1) e) (three-set t i a b c (j * 3) d (λ q. omega arith) (λ q. omega arith) (λ q. omega arith)))
 
 -- three cells are a row, whatever is made of them
 three-rows : {A : Type 0} (make : ℕ → ℕ → ℕ → A) (a b c : A → ℕ) → ((x : A) → make (a x) (b x) (c x) ≡ x)
@@ -111,7 +111,7 @@ three-rows make a b c whole parts = record {
   back = λ t i x l. rw (three-first t i (a x) (b x) (c x) l, three-second t i (a x) (b x) (c x) l, three-third t i (a x) (b x) (c x) l) (whole x);
   other = λ t i j x n.
       let cell : (m : ℕ) → m < 3 → getD (putThree t j (a x) (b x) (c x)) (i * 3 + m) 0 ≡ getD t (i * 3 + m) 0 =
-            λ m h. three-cell t j (a x) (b x) (c x) (i * 3 + m) (λ e. omega arith) (λ e. omega arith) (λ e. omega arith) in
+      λ m h. three-cell t j (a x) (b x) (c x) (i * 3 + m) (λ e. omega arith) (λ e. omega arith) (λ e. omega arith) in
       let z : i * 3 + 0 ≡ i * 3 = omega arith in
       let c0 : getD (putThree t j (a x) (b x) (c x)) (i * 3) 0 ≡ getD t (i * 3) 0 = rw z at (cell 0 (omega arith)) in
       rw (c0, cell 1 (omega arith), cell 2 (omega arith));
@@ -154,19 +154,23 @@ kind-value k b = one (eqb k 1) refl
     null : (u : Bool) → eqb k 2 ≡ u → kindOf (pick u nullValue (unlistedValue k b)) ≡ k
     null true e = sym (eqb-true k 2 e)
     null false e = refl
+
     unset : (u : Bool) → eqb k 0 ≡ u → kindOf (pick u unsetValue (pick (eqb k 2) nullValue (unlistedValue k b))) ≡ k
     unset true e = sym (eqb-true k 0 e)
     unset false e = null (eqb k 2) refl
+
     bare : (u : Bool) → kindOf (pick u (pick (eqb k 0) unsetValue (pick (eqb k 2) nullValue (unlistedValue k b))) (unlistedValue k b)) ≡ k
     bare true = unset (eqb k 0) refl
     bare false = refl
+
     three : (u : Bool) → eqb k 3 ≡ u
         → kindOf (pick u (objectValue b) (pick (eqb b 0) (pick (eqb k 0) unsetValue (pick (eqb k 2) nullValue (unlistedValue k b))) (unlistedValue k b))) ≡ k
     three true e = sym (eqb-true k 3 e)
     three false e = bare (eqb b 0)
+
     one : (u : Bool) → eqb k 1 ≡ u
         → kindOf (pick u (intValue b) (pick (eqb k 3) (objectValue b)
-            (pick (eqb b 0) (pick (eqb k 0) unsetValue (pick (eqb k 2) nullValue (unlistedValue k b))) (unlistedValue k b)))) ≡ k
+        (pick (eqb b 0) (pick (eqb k 0) unsetValue (pick (eqb k 2) nullValue (unlistedValue k b))) (unlistedValue k b)))) ≡ k
     one true e = sym (eqb-true k 1 e)
     one false e = three (eqb k 3) refl
 
@@ -177,19 +181,23 @@ bits-value k b = one (eqb k 1)
     null : (u : Bool) → b ≡ 0 → bitsOf (pick u nullValue (unlistedValue k b)) ≡ b
     null true e = sym e
     null false e = refl
+
     unset : (u : Bool) → b ≡ 0 → bitsOf (pick u unsetValue (pick (eqb k 2) nullValue (unlistedValue k b))) ≡ b
     unset true e = sym e
     unset false e = null (eqb k 2) e
+
     bare : (u : Bool) → eqb b 0 ≡ u → bitsOf (pick u (pick (eqb k 0) unsetValue (pick (eqb k 2) nullValue (unlistedValue k b))) (unlistedValue k b)) ≡ b
     bare true e = unset (eqb k 0) (eqb-true b 0 e)
     bare false e = refl
+
     three : (u : Bool)
         → bitsOf (pick u (objectValue b) (pick (eqb b 0) (pick (eqb k 0) unsetValue (pick (eqb k 2) nullValue (unlistedValue k b))) (unlistedValue k b))) ≡ b
     three true = refl
     three false = bare (eqb b 0) refl
+
     one : (u : Bool)
         → bitsOf (pick u (intValue b) (pick (eqb k 3) (objectValue b)
-            (pick (eqb b 0) (pick (eqb k 0) unsetValue (pick (eqb k 2) nullValue (unlistedValue k b))) (unlistedValue k b)))) ≡ b
+        (pick (eqb b 0) (pick (eqb k 0) unsetValue (pick (eqb k 2) nullValue (unlistedValue k b))) (unlistedValue k b)))) ≡ b
     one true = refl
     one false = three (eqb k 3)
 
@@ -246,9 +254,9 @@ pub valueAt-back : (t : List ℕ) (i : ℕ) (v : Value) → i + 1 < length t →
 unfolding valueAt putValue
 valueAt-back t i v l h =
     let e : getD (set (set t i (kindOf v)) (i + 1) (bitsOf v)) i 0 ≡ kindOf v =
-          getD-set-other (set t i (kindOf v)) (i + 1) i (bitsOf v) 0 (λ e. omega arith) ∙ getD-set-same t i (kindOf v) 0 (omega arith) in
+    getD-set-other (set t i (kindOf v)) (i + 1) i (bitsOf v) 0 (λ e. omega arith) ∙ getD-set-same t i (kindOf v) 0 (omega arith) in
     let f : getD (set (set t i (kindOf v)) (i + 1) (bitsOf v)) (i + 1) 0 ≡ bitsOf v =
-          getD-set-same (set t i (kindOf v)) (i + 1) (bitsOf v) 0 (rw (length-set t i (kindOf v)) l) in
+    getD-set-same (set t i (kindOf v)) (i + 1) (bitsOf v) 0 (rw (length-set t i (kindOf v)) l) in
     rw (e, f) h
 
 -- values in cells, two and two, may be written in any order
@@ -256,10 +264,10 @@ pub putValue-commute : (t : List ℕ) (i j : ℕ) (x y : Value) → i + 1 < j �
 unfolding putValue
 putValue-commute t i j x y l =
     ap (λ (s : List ℕ). set s (i + 1) (bitsOf x))
-      (set-comm (set t j (kindOf y)) (j + 1) i (bitsOf y) (kindOf x) (λ e. omega arith)
-      ∙ ap (λ (s : List ℕ). set s (j + 1) (bitsOf y)) (set-comm t j i (kindOf y) (kindOf x) (λ e. omega arith)))
+    (set-comm (set t j (kindOf y)) (j + 1) i (bitsOf y) (kindOf x) (λ e. omega arith)
+    ∙ ap (λ (s : List ℕ). set s (j + 1) (bitsOf y)) (set-comm t j i (kindOf y) (kindOf x) (λ e. omega arith)))
     ∙ (set-comm (set (set t i (kindOf x)) j (kindOf y)) (j + 1) (i + 1) (bitsOf y) (bitsOf x) (λ e. omega arith)
-      ∙ ap (λ (s : List ℕ). set s (j + 1) (bitsOf y)) (set-comm (set t i (kindOf x)) j (i + 1) (kindOf y) (bitsOf x) (λ e. omega arith)))
+    ∙ ap (λ (s : List ℕ). set s (j + 1) (bitsOf y)) (set-comm (set t i (kindOf x)) j (i + 1) (kindOf y) (bitsOf x) (λ e. omega arith)))
 
 -- What is read elsewhere: a read that no cell from lo up to hi bears on
 
@@ -297,12 +305,12 @@ module _ (b c : ℕ) where
   pub places-back : (vs : List Value) (t : List ℕ) → b + (c + 2 * length vs) ≤ length t → All Proper vs → rows (placeAt (writeRows putPlace vs 0 t)) (length vs) 0 ≡ vs
   places-back vs t l h =
       rows-written putPlace place-length placeAt Proper (length t) (length vs)
-        (λ s i v e k p. place-back s i v (omega arith) p) (λ s i j v k p. place-other s i j v (λ e. omega arith)) vs 0 (omega arith) h t refl
+      (λ s i v e k p. place-back s i v (omega arith) p) (λ s i j v k p. place-other s i j v (λ e. omega arith)) vs 0 (omega arith) h t refl
 
   pub stacked-back : (vs : List Value) (t : List ℕ) → b + (c + 2 * length vs) ≤ length t → All Proper vs → stack (placeAt (writeStack putPlace vs t)) (length vs) ≡ vs
   stacked-back vs t l h =
       stack-written putPlace place-length placeAt Proper (length t) (length vs)
-        (λ s i v e k p. place-back s i v (omega arith) p) (λ s i j v k p q. place-other s i j v (λ e. omega arith)) vs (omega arith) h t refl
+      (λ s i v e k p. place-back s i v (omega arith) p) (λ s i j v k p q. place-other s i j v (λ e. omega arith)) vs (omega arith) h t refl
 
   unread-places : {B : Type 0} (r : List ℕ → B) (lo hi : ℕ) → Unread r lo hi → (vs : List Value) (i : ℕ) (t : List ℕ) → lo ≤ b + c → b + (c + 2 * (i + length vs)) ≤ hi
       → r (writeRows putPlace vs i t) ≡ r t
@@ -352,8 +360,11 @@ module _ (b : Base) where
   object-cells t u o e =
       let z : o * 33 + 0 ≡ o * 33 = omega arith in
       let c0 : getD u (o * 33) 0 ≡ getD t (o * 33) 0 = rw z at (e 0 (omega arith)) in
-      rw (c0, rows-cong (fieldAt u o) (fieldAt t o) (usedFields b (getD t (o * 33) 0)) 0
-                (λ i h k. two (1 + 2 * i) (omega (arith, used-few b (getD t (o * 33) 0)))))
+      rw (
+        c0,
+        rows-cong (fieldAt u o) (fieldAt t o) (usedFields b (getD t (o * 33) 0)) 0
+            (λ i h k. two (1 + 2 * i) (omega (arith, used-few b (getD t (o * 33) 0)))),
+      )
     where
       two : (c : ℕ) → c + 1 < 33 → valueOf (getD u (o * 33 + c) 0) (getD u (o * 33 + c + 1) 0) ≡ valueOf (getD t (o * 33 + c) 0) (getD t (o * 33 + c + 1) 0)
       two c h = let a : o * 33 + c + 1 ≡ o * 33 + (c + 1) = omega arith in rw (a, e c (omega arith), e (c + 1) h)
@@ -370,12 +381,12 @@ module _ (b : Base) where
   pub object-below : (t : List ℕ) (i o : ℕ) (x : Object) → i < o → objectAt b (putObject t o x) i ≡ objectAt b t i
   object-below t i o x l =
       object-cells b t (putObject t o x) i (λ c h.
-        unread-object (λ s. getD s (i * 33 + c) 0) o (o * 33 + (1 + 2 * length (x .values))) (unread-cell (i * 33 + c) (o * 33) (o * 33 + (1 + 2 * length (x .values))) (λ m j k e. omega arith)) x (omega arith) t)
+      unread-object (λ s. getD s (i * 33 + c) 0) o (o * 33 + (1 + 2 * length (x .values))) (unread-cell (i * 33 + c) (o * 33) (o * 33 + (1 + 2 * length (x .values))) (λ m j k e. omega arith)) x (omega arith) t)
 
   pub object-other : (t : List ℕ) (i o : ℕ) (x : Object) → i ≢ o → length (x .values) ≤ 16 → objectAt b (putObject t o x) i ≡ objectAt b t i
   object-other t i o x n l =
       object-cells b t (putObject t o x) i (λ c h.
-        unread-object (λ s. getD s (i * 33 + c) 0) o (o * 33 + 33) (unread-cell (i * 33 + c) (o * 33) (o * 33 + 33) (λ m j k e. omega arith)) x (omega arith) t)
+      unread-object (λ s. getD s (i * 33 + c) 0) o (o * 33 + 33) (unread-cell (i * 33 + c) (o * 33) (o * 33 + 33) (λ m j k e. omega arith)) x (omega arith) t)
 
   pub object-back : (t : List ℕ) (o : ℕ) (x : Object) → o * 33 + 33 ≤ length t → length (x .values) ≡ usedFields b (x .class) → All Proper (x .values)
       → objectAt b (putObject t o x) o ≡ x
@@ -385,8 +396,8 @@ module _ (b : Base) where
       let u : List ℕ = writeRows (putPlace (o * 33) 1) (x .values) 0 h in
       let few : length (x .values) ≤ 16 = omega (arith, used-few b (x .class)) in
       let c : getD u (o * 33) 0 ≡ x .class =
-            unread-places (o * 33) 1 (λ s. getD s (o * 33) 0) (o * 33 + 1) (o * 33 + 33) (unread-cell (o * 33) (o * 33 + 1) (o * 33 + 33) (λ m j k e. omega arith)) (x .values) 0 h (omega arith) (omega arith)
-            ∙ getD-set-same t (o * 33) (x .class) 0 (omega arith) in
+      unread-places (o * 33) 1 (λ s. getD s (o * 33) 0) (o * 33 + 1) (o * 33 + 33) (unread-cell (o * 33) (o * 33 + 1) (o * 33 + 33) (λ m j k e. omega arith)) (x .values) 0 h (omega arith) (omega arith)
+      ∙ getD-set-same t (o * 33) (x .class) 0 (omega arith) in
       let v : rows (placeAt (o * 33) 1 u) (length (x .values)) 0 ≡ x .values = places-back (o * 33) 1 (x .values) h (rw (length-set t (o * 33) (x .class)) (omega arith)) proper in
       rw (c, ← n, v)
 
@@ -436,7 +447,7 @@ module _ (t : List ℕ) (b : ℕ) where
   place-moved : (c i p d : ℕ) → 4 ≤ c → placeAt b c t i ≡ placeAt b c (moved t b p d) i
   place-moved c i p d h =
       sym (valueAt-set (set t (b + 2) p) (b + (c + 2 * i)) (b + 3) d (λ e. omega arith) (λ e. omega arith)
-        ∙ valueAt-set t (b + (c + 2 * i)) (b + 2) p (λ e. omega arith) (λ e. omega arith))
+      ∙ valueAt-set t (b + (c + 2 * i)) (b + 2) p (λ e. omega arith) (λ e. omega arith))
 
   operand-local : (i j : ℕ) (x : Value) → j < 8 → placeAt b 20 t i ≡ placeAt b 20 (putPlace b 4 t j x) i
   operand-local i j x h = sym (valueAt-other t (b + (20 + 2 * i)) (b + (4 + 2 * j)) x (λ e. omega arith) (λ e. omega arith) (λ e. omega arith))
@@ -460,21 +471,21 @@ module _ (t : List ℕ) (b p k : ℕ) where
   unfolding putFrame frameOf putOperand operandAt putLocal localAt
   frame-kept =
       rw (stack-length (placeAt b 20 t) k, head-moved t b p k, locals-kept k, operands-moved k)
-        (writeStack-same (putPlace b 20) (placeAt b 20 (moved t b p k)) (moved t b p k) (place-same b 20 (moved t b p k)) k)
+      (writeStack-same (putPlace b 20) (placeAt b 20 (moved t b p k)) (moved t b p k) (place-same b 20 (moved t b p k)) k)
 
   -- and a value above them: two cells more
   pub frame-above : (v : Value) → putFrame t b (frameWith t b p (v ∷ stack (operandAt t b) k) (rows (localAt t b) 8 0)) ≡ putOperand b (moved t b p (suc k)) k v
   unfolding putFrame putOperand operandAt putLocal localAt
   frame-above v =
       rw (stack-length (placeAt b 20 t) k, head-moved t b p (suc k), locals-kept (suc k), operands-moved (suc k))
-        (writeStack-above (putPlace b 20) (placeAt b 20 (moved t b p (suc k))) (moved t b p (suc k)) (place-same b 20 (moved t b p (suc k))) k v)
+      (writeStack-above (putPlace b 20) (placeAt b 20 (moved t b p (suc k))) (moved t b p (suc k)) (place-same b 20 (moved t b p (suc k))) k v)
 
   -- and two values above them
   pub frame-two : (v w : Value) → putFrame t b (frameWith t b p (w ∷ v ∷ stack (operandAt t b) k) (rows (localAt t b) 8 0)) ≡ putOperand b (putOperand b (moved t b p (suc (suc k))) k v) (suc k) w
   unfolding putFrame putOperand operandAt putLocal localAt
   frame-two v w =
       rw (stack-length (placeAt b 20 t) k, head-moved t b p (suc (suc k)), locals-kept (suc (suc k)), operands-moved (suc (suc k)))
-        (writeStack-two (putPlace b 20) (placeAt b 20 (moved t b p (suc (suc k)))) (moved t b p (suc (suc k))) (place-same b 20 (moved t b p (suc (suc k)))) k v w)
+      (writeStack-two (putPlace b 20) (placeAt b 20 (moved t b p (suc (suc k)))) (moved t b p (suc (suc k))) (place-same b 20 (moved t b p (suc (suc k)))) k v w)
 
   -- the lowest k operands kept and a local set
   pub frame-local : (j : ℕ) (v : Value) → j < 8 → putFrame t b (frameWith t b p (stack (operandAt t b) k) (set (rows (localAt t b) 8 0) j v)) ≡ putLocal b (moved t b p k) j v
@@ -482,9 +493,15 @@ module _ (t : List ℕ) (b p k : ℕ) where
   frame-local j v h =
       let u : List ℕ = moved t b p k in
       let s : List ℕ = putPlace b 4 u j v in
-      rw (stack-length (placeAt b 20 t) k, head-moved t b p k, locals-moved k, place-set b 4 u 8 j v h, operands-moved k
-         , stack-cong (placeAt b 20 u) (placeAt b 20 s) k (λ i l. operand-local u b i j v h))
-        (writeStack-same (putPlace b 20) (placeAt b 20 s) s (place-same b 20 s) k)
+      rw (
+        stack-length (placeAt b 20 t) k,
+        head-moved t b p k,
+        locals-moved k,
+        place-set b 4 u 8 j v h,
+        operands-moved k,
+        stack-cong (placeAt b 20 u) (placeAt b 20 s) k (λ i l. operand-local u b i j v h),
+      )
+      (writeStack-same (putPlace b 20) (placeAt b 20 s) s (place-same b 20 s) k)
 
 pub frame-same : (t : List ℕ) (b : ℕ) → putFrame t b (frameAt t b) ≡ t
 unfolding frameAt
@@ -506,9 +523,14 @@ unfolding frameAt frameOf operandAt localAt valueAt
 frame-cells t u b e =
     let z : b + 0 ≡ b = omega arith in
     let c0 : getD u b 0 ≡ getD t b 0 = rw z at (e 0 (omega arith)) in
-    rw (c0, e 1 (omega arith), e 2 (omega arith), e 3 (omega arith)
-       , stack-cong (operandAt u b) (operandAt t b) (getD t (b + 3) 0) (λ i h. two (20 + 2 * i) (omega arith))
-       , rows-cong (localAt u b) (localAt t b) 8 0 (λ i h l. two (4 + 2 * i) (omega arith)))
+    rw (
+      c0,
+      e 1 (omega arith),
+      e 2 (omega arith),
+      e 3 (omega arith),
+      stack-cong (operandAt u b) (operandAt t b) (getD t (b + 3) 0) (λ i h. two (20 + 2 * i) (omega arith)),
+      rows-cong (localAt u b) (localAt t b) 8 0 (λ i h l. two (4 + 2 * i) (omega arith)),
+    )
   where
     two : (c : ℕ) → c + 1 < 20 + 2 * getD t (b + 3) 0 → valueOf (getD u (b + c) 0) (getD u (b + c + 1) 0) ≡ valueOf (getD t (b + c) 0) (getD t (b + c + 1) 0)
     two c h = let a : b + c + 1 ≡ b + (c + 1) = omega arith in rw (a, e c (omega arith), e (c + 1) h)
@@ -591,7 +613,7 @@ module _ (t : List ℕ) (b : ℕ) (f : Frame) (room : b + 52 ≤ length t) (fits
   unfolding putFrame localAt putLocal putOperand
   locals-back =
       rows-cong (localAt (putFrame t b f) b) (placeAt b 4 located) 8 0 (λ i h l.
-        unread-stacked b 20 (λ s. placeAt b 4 s i) (b + 20) (b + 52) (λ s m v j k. valueAt-set s (b + (4 + 2 * i)) m v (λ e. omega arith) (λ e. omega arith)) (f .operands) located (omega arith) (omega (arith, fits .few)))
+      unread-stacked b 20 (λ s. placeAt b 4 s i) (b + 20) (b + 52) (λ s m v j k. valueAt-set s (b + (4 + 2 * i)) m v (λ e. omega arith) (λ e. omega arith)) (f .operands) located (omega arith) (omega (arith, fits .few)))
       ∙ (rw (fits .eight) at (places-back b 4 (f .locals) head (omega (arith, head-length, fits .eight)) (fits .locals)))
 
   -- a frame that was put is read back

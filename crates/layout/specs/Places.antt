@@ -150,6 +150,7 @@ all-stack P g (suc k) a i l = go (eqb i k) refl (λ h. all-stack P g k (a .1) i 
   where
     less : i ≢ k → i < k
     less n = omega arith
+
     go : (u : Bool) → eqb i k ≡ u → (i < k → P (g i)) → P (g i)
     go true e r = rw (eqb-true i k e) (a .0)
     go false e r = r (less (eqb-false i k e))
@@ -337,8 +338,11 @@ module _ {A : Type 0} (p : List ℕ → ℕ → A → List ℕ) where
         let u : List ℕ = writeStack p xs t in
         let ih : stack (g u) (length xs) ≡ xs = stack-written g P w n hit under xs (omega arith) (a .1) t e in
         let each : All P (stack (g u) (length xs)) = rw ih (a .1) in
-        rw (hit u (length xs) x (writeStack-length xs t ∙ e) (omega arith) (a .0)
-           , stack-cong (g (p u (length xs) x)) (g u) (length xs) (λ i h. under u i (length xs) x h (a .0) (all-stack P (g u) (length xs) each i h)), ih)
+        rw (
+          hit u (length xs) x (writeStack-length xs t ∙ e) (omega arith) (a .0),
+          stack-cong (g (p u (length xs) x)) (g u) (length xs) (λ i h. under u i (length xs) x h (a .0) (all-stack P (g u) (length xs) each i h)),
+          ih,
+        )
 
     -- and so are written rows
     pub rows-written : (g : List ℕ → ℕ → A) (P : A → Type 0) (w n : ℕ)
@@ -349,6 +353,8 @@ module _ {A : Type 0} (p : List ℕ → ℕ → A → List ℕ) where
     rows-written g P w n hit above [] i l a t e = refl
     rows-written g P w n hit above (x ∷ xs) i l a t e =
         let u : List ℕ = writeRows p xs (suc i) t in
-        rw (hit u i x (writeRows-length xs (suc i) t ∙ e) (omega arith) (a .0)
-           , rows-cong (g (p u i x)) (g u) (length xs) (suc i) (λ m h k. above u m i x (omega arith) (a .0))
-           , rows-written g P w n hit above xs (suc i) (omega arith) (a .1) t e)
+        rw (
+          hit u i x (writeRows-length xs (suc i) t ∙ e) (omega arith) (a .0),
+          rows-cong (g (p u i x)) (g u) (length xs) (suc i) (λ m h k. above u m i x (omega arith) (a .0)),
+          rows-written g P w n hit above xs (suc i) (omega arith) (a .1) t e,
+        )
