@@ -5,6 +5,7 @@ use mathlib.Core.Bool.{Bool, true, false}
 use mathlib.Core.List.{List, [], _∷_, _++_}
 use mathlib.Core.Logic.{_≢_}
 use Prim.Native.Nat.{ℕ, zero, suc, _+_, _*_, _<_, _≤_}
+use native.Mathlib.Nat.{suc-mul, mul-le-mul-right}
 use native.Mathlib.Omega.{arith}
 use lib.ListN.{length, getD, set, length-set}
 use lib.Seq.{set-getD, set-out, set-comm, getD-set-same, getD-set-other}
@@ -16,8 +17,8 @@ use Rattle.definition.specs.Constraints.{Tie, Subtype}
 use Rattle.definition.specs.Instructions.{pick}
 use Rattle.definition.specs.Machine.{Value, unsetValue, intValue, nullValue, objectValue, unlistedValue, Object, Frame}
 use Rattle.definition.specs.Tables.{ClassRow, threeAt, putThree, classRow, entry, tie, subtype, classRowAt, putClassRow, entryAt, putEntry, tieAt, putTie, subtypeAt, putSubtype, valueOf, kindOf, bitsOf, valueAt, putCells, putValue, fieldAt, putField, sizeOf, usedFields, objectAt, putObject, localAt, putLocal, operandAt, putOperand, frame, frameOf, frameAt, putHead, putFrame, frameBase, frameIn, putFrameIn}
-use Rattle.layout.specs.Tests.{All}
-use Rattle.layout.specs.Places.{rows-length, rows-cong, stack-length, stack-cong, writeRows-same, writeStack-same, writeStack-above, writeStack-two, writeRows-put, writeRows-replace, writeRows-last, writeRows-keeps, writeStack-keeps, writeRows-length, writeStack-length, rows-written, stack-written}
+use Rattle.layout.specs.Tests.{All, all-each}
+use Rattle.layout.specs.Places.{rows-length, rows-cong, rows-set, rows-last, writeRows-append, stack-length, stack-cong, writeRows-same, writeStack-same, writeStack-above, writeStack-two, writeRows-put, writeRows-replace, writeRows-last, writeRows-keeps, writeStack-keeps, writeRows-length, writeStack-length, rows-written, stack-written}
 
 -- Rows of w cells that hold anything
 
@@ -27,6 +28,42 @@ pub record RowLaws {A : Type 0} (at : List ℕ → ℕ → A) (put : List ℕ �
   pub other : (t : List ℕ) (i j : ℕ) (x : A) → i ≢ j → at (put t j x) i ≡ at t i
   pub long : (t : List ℕ) (i : ℕ) (x : A) → length (put t i x) ≡ length t
   pub commute : (t : List ℕ) (i j : ℕ) (x y : A) → i < j → put (put t j y) i x ≡ put (put t i x) j y
+
+module _ {A : Type 0} (at : List ℕ → ℕ → A) (put : List ℕ → ℕ → A → List ℕ) (w : ℕ) (laws : RowLaws at put w) where
+  -- rows that were written are read back
+  pub rows-back : (xs : List A) (t : List ℕ) → length xs * w ≤ length t → rows (at (writeRows put xs 0 t)) (length xs) 0 ≡ xs
+  rows-back xs t l =
+      rows-written put (laws .long) at (λ _. Unit {0}) (length t) (length xs)
+      (λ s i x e h p. laws .back s i x (omega (arith, mul-le-mul-right w h, suc-mul i w))) (λ s i j x h p. laws .other s i j x (λ e. omega arith)) xs 0 (omega arith)
+      (all-each (λ _. Unit {0}) (λ x. tt) xs) t refl
+
+  below : (t : List ℕ) (i j : ℕ) (x : A) → i < j → at (put t j x) i ≡ at t i
+  below t i j x l = laws .other t i j x (λ e. omega arith)
+
+  -- n rows written back as they were read, with others behind them, with one of them replaced
+  pub rows-kept : (t : List ℕ) (n : ℕ) → writeRows put (rows (at t) n 0) 0 t ≡ t
+  rows-kept t n = writeRows-same put (at t) t (laws .same t) n 0
+
+  pub rows-more : (t : List ℕ) (n : ℕ) (xs : List A) → writeRows put (rows (at t) n 0 ++ xs) 0 t ≡ writeRows put xs n t
+  rows-more t n xs = writeRows-append put at (laws .same) below t n xs
+
+  pub row-more : (t : List ℕ) (n : ℕ) (x : A) → writeRows put (rows (at t) n 0 ++ (x ∷ [])) 0 t ≡ put t n x
+  row-more t n x = writeRows-last put at (laws .same) below t n x
+
+  pub row-replaced : (t : List ℕ) (n j : ℕ) (x : A) → j < n → writeRows put (set (rows (at t) n 0) j x) 0 t ≡ put t j x
+  row-replaced t n j x l = writeRows-replace put at (laws .same) below t n j x l
+
+  -- what is read after a row is written
+  pub rows-after : (t : List ℕ) (n j : ℕ) (x : A) → j < n → n * w ≤ length t → rows (at (put t j x)) n 0 ≡ set (rows (at t) n 0) j x
+  rows-after t n j x l h =
+      let e : 0 + j ≡ j = omega arith in
+      rows-set (at t) (at (put t j x)) n 0 j x (rw e (laws .back t j x (omega (arith, mul-le-mul-right w l, suc-mul j w)))) (λ m q. laws .other t m j x (λ r. q (r ∙ sym e)))
+
+  pub rows-after-last : (t : List ℕ) (n : ℕ) (x : A) → suc n * w ≤ length t → rows (at (put t n x)) (suc n) 0 ≡ rows (at t) n 0 ++ (x ∷ [])
+  rows-after-last t n x h =
+      let e : 0 + n ≡ n = omega arith in
+      rows-last (at (put t n x)) n 0
+      ∙ rw (e, laws .back t n x (omega (arith, suc-mul n w)), rows-cong (at (put t n x)) (at t) n 0 (λ m a k. laws .other t m n x (λ r. omega arith)))
 
 module _ (t : List ℕ) where
   three-same : (i : ℕ) → putThree t i (getD t (i * 3) 0) (getD t (i * 3 + 1) 0) (getD t (i * 3 + 2) 0) ≡ t
@@ -63,8 +100,8 @@ three-commute : (t : List ℕ) (i j a b c d e f : ℕ) → i < j → putThree (p
 three-commute t i j a b c d e f l =
     three-set (set (set t (j * 3) d) (j * 3 + 1) e) i a b c (j * 3 + 2) f (λ q. omega arith) (λ q. omega arith) (λ q. omega arith)
     ∙ ap (λ (s : List ℕ). set s (j * 3 + 2) f)
-        (three-set (set t (j * 3) d) i a b c (j * 3 + 1) e (λ q. omega arith) (λ q. omega arith) (λ q. omega arith)
-        ∙ ap (λ (s : List ℕ). set s (j * 3 + 1) e) (three-set t i a b c (j * 3) d (λ q. omega arith) (λ q. omega arith) (λ q. omega arith)))
+    (three-set (set t (j * 3) d) i a b c (j * 3 + 1) e (λ q. omega arith) (λ q. omega arith) (λ q. omega arith)
+    ∙ ap (λ (s : List ℕ). set s (j * 3 + 1) e) (three-set t i a b c (j * 3) d (λ q. omega arith) (λ q. omega arith) (λ q. omega arith)))
 
 -- three cells are a row, whatever is made of them
 three-rows : {A : Type 0} (make : ℕ → ℕ → ℕ → A) (a b c : A → ℕ) → ((x : A) → make (a x) (b x) (c x) ≡ x)
@@ -74,7 +111,7 @@ three-rows make a b c whole parts = record {
   back = λ t i x l. rw (three-first t i (a x) (b x) (c x) l, three-second t i (a x) (b x) (c x) l, three-third t i (a x) (b x) (c x) l) (whole x);
   other = λ t i j x n.
       let cell : (m : ℕ) → m < 3 → getD (putThree t j (a x) (b x) (c x)) (i * 3 + m) 0 ≡ getD t (i * 3 + m) 0 =
-            λ m h. three-cell t j (a x) (b x) (c x) (i * 3 + m) (λ e. omega arith) (λ e. omega arith) (λ e. omega arith) in
+      λ m h. three-cell t j (a x) (b x) (c x) (i * 3 + m) (λ e. omega arith) (λ e. omega arith) (λ e. omega arith) in
       let z : i * 3 + 0 ≡ i * 3 = omega arith in
       let c0 : getD (putThree t j (a x) (b x) (c x)) (i * 3) 0 ≡ getD t (i * 3) 0 = rw z at (cell 0 (omega arith)) in
       rw (c0, cell 1 (omega arith), cell 2 (omega arith));
@@ -117,19 +154,23 @@ kind-value k b = one (eqb k 1) refl
     null : (u : Bool) → eqb k 2 ≡ u → kindOf (pick u nullValue (unlistedValue k b)) ≡ k
     null true e = sym (eqb-true k 2 e)
     null false e = refl
+
     unset : (u : Bool) → eqb k 0 ≡ u → kindOf (pick u unsetValue (pick (eqb k 2) nullValue (unlistedValue k b))) ≡ k
     unset true e = sym (eqb-true k 0 e)
     unset false e = null (eqb k 2) refl
+
     bare : (u : Bool) → kindOf (pick u (pick (eqb k 0) unsetValue (pick (eqb k 2) nullValue (unlistedValue k b))) (unlistedValue k b)) ≡ k
     bare true = unset (eqb k 0) refl
     bare false = refl
+
     three : (u : Bool) → eqb k 3 ≡ u
         → kindOf (pick u (objectValue b) (pick (eqb b 0) (pick (eqb k 0) unsetValue (pick (eqb k 2) nullValue (unlistedValue k b))) (unlistedValue k b))) ≡ k
     three true e = sym (eqb-true k 3 e)
     three false e = bare (eqb b 0)
+
     one : (u : Bool) → eqb k 1 ≡ u
         → kindOf (pick u (intValue b) (pick (eqb k 3) (objectValue b)
-            (pick (eqb b 0) (pick (eqb k 0) unsetValue (pick (eqb k 2) nullValue (unlistedValue k b))) (unlistedValue k b)))) ≡ k
+        (pick (eqb b 0) (pick (eqb k 0) unsetValue (pick (eqb k 2) nullValue (unlistedValue k b))) (unlistedValue k b)))) ≡ k
     one true e = sym (eqb-true k 1 e)
     one false e = three (eqb k 3) refl
 
@@ -140,19 +181,23 @@ bits-value k b = one (eqb k 1)
     null : (u : Bool) → b ≡ 0 → bitsOf (pick u nullValue (unlistedValue k b)) ≡ b
     null true e = sym e
     null false e = refl
+
     unset : (u : Bool) → b ≡ 0 → bitsOf (pick u unsetValue (pick (eqb k 2) nullValue (unlistedValue k b))) ≡ b
     unset true e = sym e
     unset false e = null (eqb k 2) e
+
     bare : (u : Bool) → eqb b 0 ≡ u → bitsOf (pick u (pick (eqb k 0) unsetValue (pick (eqb k 2) nullValue (unlistedValue k b))) (unlistedValue k b)) ≡ b
     bare true e = unset (eqb k 0) (eqb-true b 0 e)
     bare false e = refl
+
     three : (u : Bool)
         → bitsOf (pick u (objectValue b) (pick (eqb b 0) (pick (eqb k 0) unsetValue (pick (eqb k 2) nullValue (unlistedValue k b))) (unlistedValue k b))) ≡ b
     three true = refl
     three false = bare (eqb b 0) refl
+
     one : (u : Bool)
         → bitsOf (pick u (intValue b) (pick (eqb k 3) (objectValue b)
-            (pick (eqb b 0) (pick (eqb k 0) unsetValue (pick (eqb k 2) nullValue (unlistedValue k b))) (unlistedValue k b)))) ≡ b
+        (pick (eqb b 0) (pick (eqb k 0) unsetValue (pick (eqb k 2) nullValue (unlistedValue k b))) (unlistedValue k b)))) ≡ b
     one true = refl
     one false = three (eqb k 3)
 
@@ -209,9 +254,9 @@ pub valueAt-back : (t : List ℕ) (i : ℕ) (v : Value) → i + 1 < length t →
 unfolding valueAt putValue
 valueAt-back t i v l h =
     let e : getD (set (set t i (kindOf v)) (i + 1) (bitsOf v)) i 0 ≡ kindOf v =
-          getD-set-other (set t i (kindOf v)) (i + 1) i (bitsOf v) 0 (λ e. omega arith) ∙ getD-set-same t i (kindOf v) 0 (omega arith) in
+    getD-set-other (set t i (kindOf v)) (i + 1) i (bitsOf v) 0 (λ e. omega arith) ∙ getD-set-same t i (kindOf v) 0 (omega arith) in
     let f : getD (set (set t i (kindOf v)) (i + 1) (bitsOf v)) (i + 1) 0 ≡ bitsOf v =
-          getD-set-same (set t i (kindOf v)) (i + 1) (bitsOf v) 0 (rw (length-set t i (kindOf v)) l) in
+    getD-set-same (set t i (kindOf v)) (i + 1) (bitsOf v) 0 (rw (length-set t i (kindOf v)) l) in
     rw (e, f) h
 
 -- values in cells, two and two, may be written in any order
@@ -219,10 +264,10 @@ pub putValue-commute : (t : List ℕ) (i j : ℕ) (x y : Value) → i + 1 < j �
 unfolding putValue
 putValue-commute t i j x y l =
     ap (λ (s : List ℕ). set s (i + 1) (bitsOf x))
-      (set-comm (set t j (kindOf y)) (j + 1) i (bitsOf y) (kindOf x) (λ e. omega arith)
-      ∙ ap (λ (s : List ℕ). set s (j + 1) (bitsOf y)) (set-comm t j i (kindOf y) (kindOf x) (λ e. omega arith)))
+    (set-comm (set t j (kindOf y)) (j + 1) i (bitsOf y) (kindOf x) (λ e. omega arith)
+    ∙ ap (λ (s : List ℕ). set s (j + 1) (bitsOf y)) (set-comm t j i (kindOf y) (kindOf x) (λ e. omega arith)))
     ∙ (set-comm (set (set t i (kindOf x)) j (kindOf y)) (j + 1) (i + 1) (bitsOf y) (bitsOf x) (λ e. omega arith)
-      ∙ ap (λ (s : List ℕ). set s (j + 1) (bitsOf y)) (set-comm (set t i (kindOf x)) j (i + 1) (kindOf y) (bitsOf x) (λ e. omega arith)))
+    ∙ ap (λ (s : List ℕ). set s (j + 1) (bitsOf y)) (set-comm (set t i (kindOf x)) j (i + 1) (kindOf y) (bitsOf x) (λ e. omega arith)))
 
 -- What is read elsewhere: a read that no cell from lo up to hi bears on
 
@@ -260,12 +305,12 @@ module _ (b c : ℕ) where
   pub places-back : (vs : List Value) (t : List ℕ) → b + (c + 2 * length vs) ≤ length t → All Proper vs → rows (placeAt (writeRows putPlace vs 0 t)) (length vs) 0 ≡ vs
   places-back vs t l h =
       rows-written putPlace place-length placeAt Proper (length t) (length vs)
-        (λ s i v e k p. place-back s i v (omega arith) p) (λ s i j v k p. place-other s i j v (λ e. omega arith)) vs 0 (omega arith) h t refl
+      (λ s i v e k p. place-back s i v (omega arith) p) (λ s i j v k p. place-other s i j v (λ e. omega arith)) vs 0 (omega arith) h t refl
 
   pub stacked-back : (vs : List Value) (t : List ℕ) → b + (c + 2 * length vs) ≤ length t → All Proper vs → stack (placeAt (writeStack putPlace vs t)) (length vs) ≡ vs
   stacked-back vs t l h =
       stack-written putPlace place-length placeAt Proper (length t) (length vs)
-        (λ s i v e k p. place-back s i v (omega arith) p) (λ s i j v k p q. place-other s i j v (λ e. omega arith)) vs (omega arith) h t refl
+      (λ s i v e k p. place-back s i v (omega arith) p) (λ s i j v k p q. place-other s i j v (λ e. omega arith)) vs (omega arith) h t refl
 
   unread-places : {B : Type 0} (r : List ℕ → B) (lo hi : ℕ) → Unread r lo hi → (vs : List Value) (i : ℕ) (t : List ℕ) → lo ≤ b + c → b + (c + 2 * (i + length vs)) ≤ hi
       → r (writeRows putPlace vs i t) ≡ r t
@@ -315,8 +360,11 @@ module _ (b : Base) where
   object-cells t u o e =
       let z : o * 33 + 0 ≡ o * 33 = omega arith in
       let c0 : getD u (o * 33) 0 ≡ getD t (o * 33) 0 = rw z at (e 0 (omega arith)) in
-      rw (c0, rows-cong (fieldAt u o) (fieldAt t o) (usedFields b (getD t (o * 33) 0)) 0
-                (λ i h k. two (1 + 2 * i) (omega (arith, used-few b (getD t (o * 33) 0)))))
+      rw (
+        c0,
+        rows-cong (fieldAt u o) (fieldAt t o) (usedFields b (getD t (o * 33) 0)) 0
+            (λ i h k. two (1 + 2 * i) (omega (arith, used-few b (getD t (o * 33) 0)))),
+      )
     where
       two : (c : ℕ) → c + 1 < 33 → valueOf (getD u (o * 33 + c) 0) (getD u (o * 33 + c + 1) 0) ≡ valueOf (getD t (o * 33 + c) 0) (getD t (o * 33 + c + 1) 0)
       two c h = let a : o * 33 + c + 1 ≡ o * 33 + (c + 1) = omega arith in rw (a, e c (omega arith), e (c + 1) h)
@@ -333,12 +381,12 @@ module _ (b : Base) where
   pub object-below : (t : List ℕ) (i o : ℕ) (x : Object) → i < o → objectAt b (putObject t o x) i ≡ objectAt b t i
   object-below t i o x l =
       object-cells b t (putObject t o x) i (λ c h.
-        unread-object (λ s. getD s (i * 33 + c) 0) o (o * 33 + (1 + 2 * length (x .values))) (unread-cell (i * 33 + c) (o * 33) (o * 33 + (1 + 2 * length (x .values))) (λ m j k e. omega arith)) x (omega arith) t)
+      unread-object (λ s. getD s (i * 33 + c) 0) o (o * 33 + (1 + 2 * length (x .values))) (unread-cell (i * 33 + c) (o * 33) (o * 33 + (1 + 2 * length (x .values))) (λ m j k e. omega arith)) x (omega arith) t)
 
   pub object-other : (t : List ℕ) (i o : ℕ) (x : Object) → i ≢ o → length (x .values) ≤ 16 → objectAt b (putObject t o x) i ≡ objectAt b t i
   object-other t i o x n l =
       object-cells b t (putObject t o x) i (λ c h.
-        unread-object (λ s. getD s (i * 33 + c) 0) o (o * 33 + 33) (unread-cell (i * 33 + c) (o * 33) (o * 33 + 33) (λ m j k e. omega arith)) x (omega arith) t)
+      unread-object (λ s. getD s (i * 33 + c) 0) o (o * 33 + 33) (unread-cell (i * 33 + c) (o * 33) (o * 33 + 33) (λ m j k e. omega arith)) x (omega arith) t)
 
   pub object-back : (t : List ℕ) (o : ℕ) (x : Object) → o * 33 + 33 ≤ length t → length (x .values) ≡ usedFields b (x .class) → All Proper (x .values)
       → objectAt b (putObject t o x) o ≡ x
@@ -348,8 +396,8 @@ module _ (b : Base) where
       let u : List ℕ = writeRows (putPlace (o * 33) 1) (x .values) 0 h in
       let few : length (x .values) ≤ 16 = omega (arith, used-few b (x .class)) in
       let c : getD u (o * 33) 0 ≡ x .class =
-            unread-places (o * 33) 1 (λ s. getD s (o * 33) 0) (o * 33 + 1) (o * 33 + 33) (unread-cell (o * 33) (o * 33 + 1) (o * 33 + 33) (λ m j k e. omega arith)) (x .values) 0 h (omega arith) (omega arith)
-            ∙ getD-set-same t (o * 33) (x .class) 0 (omega arith) in
+      unread-places (o * 33) 1 (λ s. getD s (o * 33) 0) (o * 33 + 1) (o * 33 + 33) (unread-cell (o * 33) (o * 33 + 1) (o * 33 + 33) (λ m j k e. omega arith)) (x .values) 0 h (omega arith) (omega arith)
+      ∙ getD-set-same t (o * 33) (x .class) 0 (omega arith) in
       let v : rows (placeAt (o * 33) 1 u) (length (x .values)) 0 ≡ x .values = places-back (o * 33) 1 (x .values) h (rw (length-set t (o * 33) (x .class)) (omega arith)) proper in
       rw (c, ← n, v)
 
@@ -399,7 +447,7 @@ module _ (t : List ℕ) (b : ℕ) where
   place-moved : (c i p d : ℕ) → 4 ≤ c → placeAt b c t i ≡ placeAt b c (moved t b p d) i
   place-moved c i p d h =
       sym (valueAt-set (set t (b + 2) p) (b + (c + 2 * i)) (b + 3) d (λ e. omega arith) (λ e. omega arith)
-        ∙ valueAt-set t (b + (c + 2 * i)) (b + 2) p (λ e. omega arith) (λ e. omega arith))
+      ∙ valueAt-set t (b + (c + 2 * i)) (b + 2) p (λ e. omega arith) (λ e. omega arith))
 
   operand-local : (i j : ℕ) (x : Value) → j < 8 → placeAt b 20 t i ≡ placeAt b 20 (putPlace b 4 t j x) i
   operand-local i j x h = sym (valueAt-other t (b + (20 + 2 * i)) (b + (4 + 2 * j)) x (λ e. omega arith) (λ e. omega arith) (λ e. omega arith))
@@ -423,21 +471,21 @@ module _ (t : List ℕ) (b p k : ℕ) where
   unfolding putFrame frameOf putOperand operandAt putLocal localAt
   frame-kept =
       rw (stack-length (placeAt b 20 t) k, head-moved t b p k, locals-kept k, operands-moved k)
-        (writeStack-same (putPlace b 20) (placeAt b 20 (moved t b p k)) (moved t b p k) (place-same b 20 (moved t b p k)) k)
+      (writeStack-same (putPlace b 20) (placeAt b 20 (moved t b p k)) (moved t b p k) (place-same b 20 (moved t b p k)) k)
 
   -- and a value above them: two cells more
   pub frame-above : (v : Value) → putFrame t b (frameWith t b p (v ∷ stack (operandAt t b) k) (rows (localAt t b) 8 0)) ≡ putOperand b (moved t b p (suc k)) k v
   unfolding putFrame putOperand operandAt putLocal localAt
   frame-above v =
       rw (stack-length (placeAt b 20 t) k, head-moved t b p (suc k), locals-kept (suc k), operands-moved (suc k))
-        (writeStack-above (putPlace b 20) (placeAt b 20 (moved t b p (suc k))) (moved t b p (suc k)) (place-same b 20 (moved t b p (suc k))) k v)
+      (writeStack-above (putPlace b 20) (placeAt b 20 (moved t b p (suc k))) (moved t b p (suc k)) (place-same b 20 (moved t b p (suc k))) k v)
 
   -- and two values above them
   pub frame-two : (v w : Value) → putFrame t b (frameWith t b p (w ∷ v ∷ stack (operandAt t b) k) (rows (localAt t b) 8 0)) ≡ putOperand b (putOperand b (moved t b p (suc (suc k))) k v) (suc k) w
   unfolding putFrame putOperand operandAt putLocal localAt
   frame-two v w =
       rw (stack-length (placeAt b 20 t) k, head-moved t b p (suc (suc k)), locals-kept (suc (suc k)), operands-moved (suc (suc k)))
-        (writeStack-two (putPlace b 20) (placeAt b 20 (moved t b p (suc (suc k)))) (moved t b p (suc (suc k))) (place-same b 20 (moved t b p (suc (suc k)))) k v w)
+      (writeStack-two (putPlace b 20) (placeAt b 20 (moved t b p (suc (suc k)))) (moved t b p (suc (suc k))) (place-same b 20 (moved t b p (suc (suc k)))) k v w)
 
   -- the lowest k operands kept and a local set
   pub frame-local : (j : ℕ) (v : Value) → j < 8 → putFrame t b (frameWith t b p (stack (operandAt t b) k) (set (rows (localAt t b) 8 0) j v)) ≡ putLocal b (moved t b p k) j v
@@ -445,9 +493,15 @@ module _ (t : List ℕ) (b p k : ℕ) where
   frame-local j v h =
       let u : List ℕ = moved t b p k in
       let s : List ℕ = putPlace b 4 u j v in
-      rw (stack-length (placeAt b 20 t) k, head-moved t b p k, locals-moved k, place-set b 4 u 8 j v h, operands-moved k
-         , stack-cong (placeAt b 20 u) (placeAt b 20 s) k (λ i l. operand-local u b i j v h))
-        (writeStack-same (putPlace b 20) (placeAt b 20 s) s (place-same b 20 s) k)
+      rw (
+        stack-length (placeAt b 20 t) k,
+        head-moved t b p k,
+        locals-moved k,
+        place-set b 4 u 8 j v h,
+        operands-moved k,
+        stack-cong (placeAt b 20 u) (placeAt b 20 s) k (λ i l. operand-local u b i j v h),
+      )
+      (writeStack-same (putPlace b 20) (placeAt b 20 s) s (place-same b 20 s) k)
 
 pub frame-same : (t : List ℕ) (b : ℕ) → putFrame t b (frameAt t b) ≡ t
 unfolding frameAt
@@ -469,9 +523,14 @@ unfolding frameAt frameOf operandAt localAt valueAt
 frame-cells t u b e =
     let z : b + 0 ≡ b = omega arith in
     let c0 : getD u b 0 ≡ getD t b 0 = rw z at (e 0 (omega arith)) in
-    rw (c0, e 1 (omega arith), e 2 (omega arith), e 3 (omega arith)
-       , stack-cong (operandAt u b) (operandAt t b) (getD t (b + 3) 0) (λ i h. two (20 + 2 * i) (omega arith))
-       , rows-cong (localAt u b) (localAt t b) 8 0 (λ i h l. two (4 + 2 * i) (omega arith)))
+    rw (
+      c0,
+      e 1 (omega arith),
+      e 2 (omega arith),
+      e 3 (omega arith),
+      stack-cong (operandAt u b) (operandAt t b) (getD t (b + 3) 0) (λ i h. two (20 + 2 * i) (omega arith)),
+      rows-cong (localAt u b) (localAt t b) 8 0 (λ i h l. two (4 + 2 * i) (omega arith)),
+    )
   where
     two : (c : ℕ) → c + 1 < 20 + 2 * getD t (b + 3) 0 → valueOf (getD u (b + c) 0) (getD u (b + c + 1) 0) ≡ valueOf (getD t (b + c) 0) (getD t (b + c + 1) 0)
     two c h = let a : b + c + 1 ≡ b + (c + 1) = omega arith in rw (a, e c (omega arith), e (c + 1) h)
@@ -554,7 +613,7 @@ module _ (t : List ℕ) (b : ℕ) (f : Frame) (room : b + 52 ≤ length t) (fits
   unfolding putFrame localAt putLocal putOperand
   locals-back =
       rows-cong (localAt (putFrame t b f) b) (placeAt b 4 located) 8 0 (λ i h l.
-        unread-stacked b 20 (λ s. placeAt b 4 s i) (b + 20) (b + 52) (λ s m v j k. valueAt-set s (b + (4 + 2 * i)) m v (λ e. omega arith) (λ e. omega arith)) (f .operands) located (omega arith) (omega (arith, fits .few)))
+      unread-stacked b 20 (λ s. placeAt b 4 s i) (b + 20) (b + 52) (λ s m v j k. valueAt-set s (b + (4 + 2 * i)) m v (λ e. omega arith) (λ e. omega arith)) (f .operands) located (omega arith) (omega (arith, fits .few)))
       ∙ (rw (fits .eight) at (places-back b 4 (f .locals) head (omega (arith, head-length, fits .eight)) (fits .locals)))
 
   -- a frame that was put is read back

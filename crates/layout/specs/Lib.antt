@@ -3,3 +3,4 @@ pub mod Tests
 pub mod Places
 pub mod Cells
 pub mod Whole
+pub mod Unbroken

@@ -130,6 +130,36 @@ rows-take (x ∷ t) (suc n) h = rw (shifted n 0 ∙ rows-take t n (omega arith))
     shifted zero i = refl
     shifted (suc k) i = rw (shifted k (suc i))
 
+-- What holds of each row
+
+pub all-rows : {A : Type 0} (P : A → Type 0) (g : ℕ → A) (k i : ℕ) → All P (rows g k i) → (m : ℕ) → m < k → P (g (i + m))
+unfolding rows
+all-rows P g zero i a m l = absurd (omega arith)
+all-rows P g (suc k) i a zero l = let e : i + 0 ≡ i = omega arith in rw e (a .0)
+all-rows P g (suc k) i a (suc m) l = let e : i + suc m ≡ suc i + m = omega arith in rw e (all-rows P g k (suc i) (a .1) m (omega arith))
+
+pub rows-all : {A : Type 0} (P : A → Type 0) (g : ℕ → A) (k i : ℕ) → ((m : ℕ) → i ≤ m → m < i + k → P (g m)) → All P (rows g k i)
+unfolding rows
+rows-all P g zero i h = tt
+rows-all P g (suc k) i h = (h i (omega arith) (omega arith), rows-all P g k (suc i) (λ m a b. h m (omega arith) (omega arith)))
+
+pub all-stack : {A : Type 0} (P : A → Type 0) (g : ℕ → A) (k : ℕ) → All P (stack g k) → (i : ℕ) → i < k → P (g i)
+unfolding stack
+all-stack P g zero a i l = absurd (omega arith)
+all-stack P g (suc k) a i l = go (eqb i k) refl (λ h. all-stack P g k (a .1) i h)
+  where
+    less : i ≢ k → i < k
+    less n = omega arith
+
+    go : (u : Bool) → eqb i k ≡ u → (i < k → P (g i)) → P (g i)
+    go true e r = rw (eqb-true i k e) (a .0)
+    go false e r = r (less (eqb-false i k e))
+
+pub stack-all : {A : Type 0} (P : A → Type 0) (g : ℕ → A) (k : ℕ) → ((i : ℕ) → i < k → P (g i)) → All P (stack g k)
+unfolding stack
+stack-all P g zero h = tt
+stack-all P g (suc k) h = (h k (omega arith), stack-all P g k (λ i l. h i (omega arith)))
+
 -- Scans
 
 module _ {A : Type 0} (f : A → Bool) (g : ℕ → A) where
@@ -308,19 +338,11 @@ module _ {A : Type 0} (p : List ℕ → ℕ → A → List ℕ) where
         let u : List ℕ = writeStack p xs t in
         let ih : stack (g u) (length xs) ≡ xs = stack-written g P w n hit under xs (omega arith) (a .1) t e in
         let each : All P (stack (g u) (length xs)) = rw ih (a .1) in
-        rw (hit u (length xs) x (writeStack-length xs t ∙ e) (omega arith) (a .0)
-           , stack-cong (g (p u (length xs) x)) (g u) (length xs) (λ i h. under u i (length xs) x h (a .0) (all-stack P (g u) (length xs) each i h)), ih)
-      where
-        all-stack : (P : A → Type 0) (g : ℕ → A) (k : ℕ) → All P (stack g k) → (i : ℕ) → i < k → P (g i)
-        all-stack P g zero a i l = absurd (omega arith)
-        all-stack P g (suc k) a i l = go (eqb i k) refl (λ h. all-stack P g k (a .1) i h)
-          where
-            go : (u : Bool) → eqb i k ≡ u → (i < k → P (g i)) → P (g i)
-            go true e r = rw (eqb-true i k e) (a .0)
-            go false e r = r (less (eqb-false i k e))
-              where
-                less : i ≢ k → i < k
-                less n = omega arith
+        rw (
+          hit u (length xs) x (writeStack-length xs t ∙ e) (omega arith) (a .0),
+          stack-cong (g (p u (length xs) x)) (g u) (length xs) (λ i h. under u i (length xs) x h (a .0) (all-stack P (g u) (length xs) each i h)),
+          ih,
+        )
 
     -- and so are written rows
     pub rows-written : (g : List ℕ → ℕ → A) (P : A → Type 0) (w n : ℕ)
@@ -331,6 +353,8 @@ module _ {A : Type 0} (p : List ℕ → ℕ → A → List ℕ) where
     rows-written g P w n hit above [] i l a t e = refl
     rows-written g P w n hit above (x ∷ xs) i l a t e =
         let u : List ℕ = writeRows p xs (suc i) t in
-        rw (hit u i x (writeRows-length xs (suc i) t ∙ e) (omega arith) (a .0)
-           , rows-cong (g (p u i x)) (g u) (length xs) (suc i) (λ m h k. above u m i x (omega arith) (a .0))
-           , rows-written g P w n hit above xs (suc i) (omega arith) (a .1) t e)
+        rw (
+          hit u i x (writeRows-length xs (suc i) t ∙ e) (omega arith) (a .0),
+          rows-cong (g (p u i x)) (g u) (length xs) (suc i) (λ m h k. above u m i x (omega arith) (a .0)),
+          rows-written g P w n hit above xs (suc i) (omega arith) (a .1) t e,
+        )

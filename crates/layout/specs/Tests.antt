@@ -3,8 +3,7 @@ use mathlib.Core.Path.{_≡_, refl}
 use mathlib.Core.Bool.{Bool, true, false, false≢true}
 use mathlib.Core.List.{List, [], _∷_, _++_}
 use mathlib.Core.Option.{Option, none, some}
-use Prim.Native.Nat.{ℕ, zero, suc, _+_, _<_}
-use native.Mathlib.Omega.{arith}
+use Prim.Native.Nat.{ℕ, suc}
 use Rattle.definition.specs.Lists.{every, all, allFrom, isSome}
 
 -- what holds of each
@@ -82,3 +81,11 @@ all-more f (x ∷ xs) h = (f x (h .0), all-more f xs (h .1))
 pub all-both : {A : Type 0} (P : A → Type 0) (xs ys : List A) → All P xs → All P ys → All P (xs ++ ys)
 all-both P [] ys h k = k
 all-both P (x ∷ xs) ys h k = (h .0, all-both P xs ys (h .1) k)
+
+pub all-each : {A : Type 0} (P : A → Type 0) → ((x : A) → P x) → (xs : List A) → All P xs
+all-each P f [] = tt
+all-each P f (x ∷ xs) = (f x, all-each P f xs)
+
+pub from-more : {A : Type 0} (P Q : ℕ → A → Type 0) → ((c : ℕ) (x : A) → P c x → Q c x) → (c : ℕ) (xs : List A) → From P c xs → From Q c xs
+from-more P Q f c [] h = tt
+from-more P Q f c (x ∷ xs) h = (f c x (h .0), from-more P Q f (suc c) xs (h .1))

@@ -189,10 +189,16 @@ module _ (os : List Object) where
   pub frame-fits : (n : ℕ) (f : Frame) → Frames n (length os) f → frameFits n os f ≡ true
   unfolding frameFits
   frame-fits n f h =
-      true-every _
-        (lt-ltb (f .class) n (h .class), (le-leb (length (f .operands)) 16 (h .depth)
-        , (all-test (valueFits os) (ValueSound (length os)) value-fits (f .operands) (h .operands)
-        , (all-test (localFits os) (Local (length os)) local-fits (f .locals) (h .locals), tt))))
+      true-every _ (
+        lt-ltb (f .class) n (h .class),
+        (
+          le-leb (length (f .operands)) 16 (h .depth),
+          (
+            all-test (valueFits os) (ValueSound (length os)) value-fits (f .operands) (h .operands),
+            (all-test (localFits os) (Local (length os)) local-fits (f .locals) (h .locals), tt),
+          ),
+        ),
+      )
 
   pub fits-frame : (n : ℕ) (f : Frame) → frameFits n os f ≡ true → Frames n (length os) f
   unfolding frameFits
@@ -224,17 +230,19 @@ module _ (b : Base) (bs : List ℕ) where
   fits-classes [] h = tt
   fits-classes (k ∷ ks) h =
       let p = every-true _ h in
-      let q = every-true _ (p .0) in
-      ( record { loader = eqb-true (k .loader) 0 (q .0); start = eqb-true (k .start) 0 (q .1 .0); size = eqb-true (k .size) 0 (q .1 .1 .0) }
-      , from-all (classFits b bs) (ClassSound b bs) fits-class 1 ks (p .1 .0))
+      let q = every-true _ (p .0) in (
+        record { loader = eqb-true (k .loader) 0 (q .0); start = eqb-true (k .start) 0 (q .1 .0); size = eqb-true (k .size) 0 (q .1 .1 .0) },
+        from-all (classFits b bs) (ClassSound b bs) fits-class 1 ks (p .1 .0),
+      )
 
   pub classes-fit : (ks : List ClassRow) → Classes b bs ks → classesFit b bs ks ≡ true
   unfolding classesFit isObject
   classes-fit [] h = refl
   classes-fit (k ∷ ks) h =
-      true-every _
-        ( true-every _ (eq-eqb (k .loader) 0 (h .0 .loader), (eq-eqb (k .start) 0 (h .0 .start), (eq-eqb (k .size) 0 (h .0 .size), tt)))
-        , (all-from (classFits b bs) (ClassSound b bs) class-fits 1 ks (h .1), tt))
+      true-every _ (
+        true-every _ (eq-eqb (k .loader) 0 (h .0 .loader), (eq-eqb (k .start) 0 (h .0 .start), (eq-eqb (k .size) 0 (h .0 .size), tt))),
+        (all-from (classFits b bs) (ClassSound b bs) class-fits 1 ks (h .1), tt),
+      )
 
 pub fits-entry : (n : ℕ) (e : Entry) → entryFits n e ≡ true → Listed n e
 unfolding entryFits
@@ -283,14 +291,25 @@ unfolding sound
 sound-is r s =
     let n = length (r .classes) in
     let os = r .objects in
-    true-every _
-      ( classes-fit _ _ _ (s .classes)
-      , (all-test _ (Listed n) (entry-fits n) (r .cache) (s .cache)
-      , (all-test _ Between tie-fits (r .ties) (s .ties)
-      , (all-test _ (λ s. s .loader < 16) subtype-fits (r .subtypes) (s .subtypes)
-      , (all-test _ (Objected n (length os)) (object-fits os n) os (s .objects)
-      , (all-test _ (Frames n (length os)) (frame-fits os n) (r .quote) (s .quote)
-      , (all-test _ (Frames n (length os)) (frame-fits os n) (r .report) (s .report), tt)))))))
+    true-every _ (
+      classes-fit _ _ _ (s .classes),
+      (
+        all-test _ (Listed n) (entry-fits n) (r .cache) (s .cache),
+        (
+          all-test _ Between tie-fits (r .ties) (s .ties),
+          (
+            all-test _ (λ s. s .loader < 16) subtype-fits (r .subtypes) (s .subtypes),
+            (
+              all-test _ (Objected n (length os)) (object-fits os n) os (s .objects),
+              (
+                all-test _ (Frames n (length os)) (frame-fits os n) (r .quote) (s .quote),
+                (all-test _ (Frames n (length os)) (frame-fits os n) (r .report) (s .report), tt),
+              ),
+            ),
+          ),
+        ),
+      ),
+    )
 
 pub true-sound : (r : Rows) → Whole r → sound r ≡ true
 true-sound r w = sound-is r (whole-sound r w)
