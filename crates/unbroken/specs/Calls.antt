@@ -11,7 +11,7 @@ use lib.Seq.{take-append-le, drop-append-le, take-at, drop-at, take-length}
 use lib.Dec.{eqb, leb, ltb}
 use borrow.Author.Tests.{eqb-true, leb-true, ltb-true, le-leb}
 use Rattle.definition.specs.Answers.{Result, _>>=_, need, ok, refused}
-use Rattle.definition.specs.Calls.{Given, addEntry, addFile, bootRows, defineRows, dropRows, recordRows, startRows, stepOn, stepRows}
+use Rattle.definition.specs.Calls.{Given, addEntry, addFile, bootRows, defineRows, dropRows, recordRows, startRows, stepOn, stepRows, withFrames, stepTask, progressed, framesIn}
 use Rattle.definition.specs.Classes.{Base, Class, Entry, Method, find, hasMethod, loaderOf, ownSlots, slots, superOf}
 use Rattle.definition.specs.Constraints.{Subtype, Tie, World, agrees, newTie}
 use Rattle.definition.specs.File.{File, classOf, readFile}
@@ -20,12 +20,12 @@ use Rattle.definition.specs.Loading.{define, newSubtypes, overrideTie, override
 use Rattle.definition.specs.Machine.{Frame, Progress, intValue, newObject}
 use Rattle.definition.specs.Requests.{Request, at}
 use Rattle.definition.specs.Superclasses.{nearest}
-use Rattle.definition.specs.Tables.{ClassRow, Rows, baseOf, classAt, fileAt, sizeOf}
+use Rattle.definition.specs.Tables.{ClassRow, Rows, baseOf, classAt, fileAt, sizeOf, worldOf}
 use Rattle.definition.specs.Verifier.{Note}
 use Rattle.definition.specs.declared.Refusal.the-variants.{Word}
 use Rattle.laws.specs.Agreement.{find-more, find-row, is-super, super-is}
 use Rattle.laws.specs.Growth.{Grows, grows-class, grows-entry, grows-super, nth-lt}
-use Rattle.laws.specs.Options.{bind-some, some-bind}
+use Rattle.laws.specs.Options.{bind-some, need-true, nth-last, some-bind}
 use Rattle.laws.specs.Results.{bind-ok, need-ok, ok-inj, take-ok}
 use Rattle.laws.specs.Slots.{slots-up}
 use Rattle.laws.specs.Stable.{own-is, slots-stable}
@@ -176,7 +176,7 @@ file-more : (bs cs : List ℕ) (k : ClassRow) (f : File) → fileAt bs k ≡ som
 unfolding fileAt
 file-more bs cs k f e =
     let a = bind-some _ _ e in
-    let l = leb-true (k .start + k .size) (length bs) (Maybe.need-true _ (a .1)) in
+    let l = leb-true (k .start + k .size) (length bs) (need-true _ (a .1)) in
     let z : k .size ≤ length (drop (k .start) bs) = omega (arith, length-drop (k .start) bs) in
     some-bind (Maybe.need (leb (k .start + k .size) (length (bs ++ cs)))) _ (needed _ (le-leb (k .start + k .size) (length (bs ++ cs)) (omega (arith, length-append bs cs))))
       (rw (drop-append-le (k .start) bs cs (omega arith), take-append-le (k .size) (drop (k .start) bs) cs z) (a .2))
@@ -335,7 +335,7 @@ module _ (r : Rows) (w : Whole r) where
       grew = grows-class (W r w) K us ss
 
       here : getElem? (Y .base .classes) (N r w) ≡ some K
-      here = rw (sym many) (Maybe.nth-last (W r w .base .classes) K)
+      here = rw (sym many) (nth-last (W r w .base .classes) K)
 
       up : superOf (Y .base) (N r w) ≡ some p
       up = is-super (Y .base) (N r w) p (record { theClass = K; isClass = here; cached = find-more (r .cache) _ _ p fp; less = plt })
