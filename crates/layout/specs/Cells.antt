@@ -30,7 +30,7 @@ pub record RowLaws {A : Type 0} (at : List ℕ → ℕ → A) (put : List ℕ �
   pub long : (t : List ℕ) (i : ℕ) (x : A) → length (put t i x) ≡ length t
   pub commute : (t : List ℕ) (i j : ℕ) (x y : A) → i < j → put (put t j y) i x ≡ put (put t i x) j y
 
-module _ {A : Type 0} (at : List ℕ → ℕ → A) (put : List ℕ → ℕ → A → List ℕ) (w : ℕ) (laws : RowLaws at put w) where
+module _ {A : Type 0} {at : List ℕ → ℕ → A} {put : List ℕ → ℕ → A → List ℕ} {w : ℕ} (laws : RowLaws at put w) where
   -- rows that were written are read back
   pub rows-back : (xs : List A) (t : List ℕ) → length xs * w ≤ length t → rows (at (writeRows put xs 0 t)) (length xs) 0 ≡ xs
   rows-back xs t l =

@@ -123,6 +123,10 @@ rows-set g h (suc k) i (suc j) x e o =
     let z : i + suc j ≡ suc i + j = omega arith in
     rw (o i (λ q. omega arith), rows-set g h k (suc i) j x (rw z at e) (λ m q. o m (λ r. q (r ∙ z))))
 
+-- a row set to what it is
+pub set-there : {A : Type 0} (g : ℕ → A) (k j : ℕ) → set (rows g k 0) j (g j) ≡ rows g k 0
+set-there g k j = sym (rows-set g g k 0 j (g j) (let e : 0 + j ≡ j = omega arith in rw e) (λ m q. refl))
+
 -- a list is the rows of its cells
 pub rows-take : (t : List ℕ) (n : ℕ) → n ≤ length t → rows (λ i. getD t i 0) n 0 ≡ take n t
 unfolding rows
