@@ -11,11 +11,12 @@ use Rattle.definition.specs.declared.Answer.the-variants.{Idle, Ran, Finished, 
 use Rattle.definition.specs.declared.Reply.{Reply}
 use Rattle.definition.specs.declared.Reply.the-variants.{Accepted, Stepped, RanFor, Denied}
 use Rattle.definition.specs.Answers.{Result, refused, ok}
-use Rattle.definition.specs.Tables.{Tables, shaped, Rows, view, put}
+use Rattle.definition.specs.Tables.{Tables, shaped, Rows, view, put, putTie}
 use Rattle.definition.specs.Broken.{broken}
 use Rattle.definition.specs.Calls.{Given, bootRows, defineRows, recordRows, startRows, dropRows, stepRows, Done, done, wrap, boot, stepTables, goOn, runFrom, run, Call, callBoot, callDefine, callRecord, callStart, callStep, callRun, callDrop, perform, performAll}
 use Rattle.laws.specs.Wrapped.{wrapped, Ok, ok-at}
 use Rattle.layout.specs.Whole.{Whole}
+use Rattle.layout.specs.View.{put-view}
 use Rattle.layout.specs.Unbroken.{Lengths, shaped-true, true-shaped, view-put, true-whole, broken-false}
 use Rattle.unbroken.specs.Calls.{define-whole, record-whole, start-whole, step-whole, drop-whole, boot-whole}
 use Rattle.unbroken.specs.Unbroken.{Keeps}
@@ -134,3 +135,29 @@ same-all (c ∷ cs) t r s =
 -- after a boot of any tables of the published lengths
 pub same-booted : (cs : List Call) (t : Tables) → shaped t ≡ true → Same (performAll cs (boot t .tables) .answer) (performAll cs (boot t .tables) .tables) (performAllRows cs bootRows)
 same-booted cs t h = same-all cs (boot t .tables) bootRows (same-boot t h .1)
+
+-- A call that leaves the rows leaves the tables; a boot and a run apart, which write counts again or go by steps
+
+still : {A : Type 0} (deny : Refusal → A) (f : Rows → Result (Given A)) (t : Tables) → onRows deny f (view t) .rows ≡ view t → wrap deny f t .tables ≡ t
+unfolding onRows settle
+still deny f t q = wrapped deny f t (λ _ z. z ≡ t) (λ _. refl) (λ _ _. refl)
+  (λ g e. ap (λ (x : Rows). put x t) (sym (ap (λ (o : Result (Given _)). settle deny (view t) o .rows) e) ∙ q) ∙ put-view t)
+
+abbrev pub OneStep : Call → Type 0
+OneStep callBoot = ⊥
+OneStep (callDefine l bs) = Unit {0}
+OneStep (callRecord l n c) = Unit {0}
+OneStep (callStart k l n m v) = Unit {0}
+OneStep callStep = Unit {0}
+OneStep (callRun n) = ⊥
+OneStep (callDrop k) = Unit {0}
+
+pub rows-same : (c : Call) → OneStep c → (t : Tables) (r : Rows) → Shows t r → performRows c r .rows ≡ r → perform c t .tables ≡ t
+unfolding perform performRows
+rows-same callBoot h t r s q = absurd h
+rows-same (callDefine l bs) h t r s q = still Denied (defineRows l bs) t (subst (λ (x : Rows). onRows Denied (defineRows l bs) x .rows ≡ x) (sym (s .rows)) q)
+rows-same (callRecord l n c) h t r s q = still Denied (recordRows l n c) t (subst (λ (x : Rows). onRows Denied (recordRows l n c) x .rows ≡ x) (sym (s .rows)) q)
+rows-same (callStart k l n m v) h t r s q = still Denied (startRows k l n m v) t (subst (λ (x : Rows). onRows Denied (startRows k l n m v) x .rows ≡ x) (sym (s .rows)) q)
+rows-same callStep h t r s q = unfold stepTables in still Refused stepRows t (subst (λ (x : Rows). onRows Refused stepRows x .rows ≡ x) (sym (s .rows)) q)
+rows-same (callRun n) h t r s q = absurd h
+rows-same (callDrop k) h t r s q = still Denied (dropRows k) t (subst (λ (x : Rows). onRows Denied (dropRows k) x .rows ≡ x) (sym (s .rows)) q)

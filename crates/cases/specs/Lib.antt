@@ -1,0 +1,4 @@
+-- The proved cases.
+pub mod Files
+pub mod Cases
+pub mod Proved
