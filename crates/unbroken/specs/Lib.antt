@@ -4,3 +4,4 @@ pub mod Calls
 pub mod Unbroken
 pub mod OnRows
 pub mod Record
+pub mod Tasks
