@@ -9,7 +9,7 @@ use lib.IntN.{ℤ, pos, negsuc}
 use Rattle.definition.specs.Answers.{Details, line, details}
 use Rattle.definition.specs.Tables.{Tables, shaped, Rows, view}
 use Rattle.definition.specs.Calls.{turn, boot, Call, callBoot, callDefine, callRecord, callStart, callStep, callRun, callDrop, perform, performAll}
-use Rattle.cases.specs.Files.{fileF, plain, coded, lifts, pushes, ready, tied12, tied123}
+use Rattle.definition.specs.Samples.{fileF, plain, coded, lifts, pushes, ready, tied12, tied123}
 
 -- case p: after a boot and the calls `before`, `last` answers `expect`, and changes the tables or not
 pub record Case : Type 0 where

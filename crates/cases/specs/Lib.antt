@@ -1,4 +1,3 @@
 -- The proved cases.
-pub mod Files
 pub mod Cases
 pub mod Proved

@@ -21,8 +21,9 @@ use Rattle.laws.specs.Refused.{refusal, refused-same}
 use Rattle.definition.specs.Answers.{Details, line, details, stepDetails, refusalDetails, signed, number, numberOfStep, numberOf, _>>=_, need, take?}
 use Rattle.definition.specs.Tables.{Tables, tables, shaped, Rows, view, fileAt, classAt}
 use Rattle.definition.specs.Calls.{turn, bootRows, boot, Call, callDefine, callRecord, callStart, callStep, callRun, callDrop, perform, performAll, defineRows, recordRows, startRows, dropRows, answerOf, stepTask, stepOn, stepRows, turnOf}
-use Rattle.unbroken.specs.OnRows.{performRows, performAllRows, Same, Shows, same-booted, same-perform, OneStep, rows-same, settle, onRows, runRows}
-use Rattle.cases.specs.Files.{fileF, two, method, fileOf, plain, taker, coded, lifts, pushes, ready, tied12, tied123}
+use Rattle.definition.specs.OnRows.{settle, onRows, runRows, performRows, performAllRows}
+use Rattle.unbroken.specs.OnRows.{Same, Shows, same-booted, same-perform, OneStep, rows-same}
+use Rattle.definition.specs.Samples.{fileF, two, method, fileOf, plain, taker, coded, lifts, pushes, ready, tied12, tied123}
 use Rattle.cases.specs.Cases.{Case, table, beforeLast, answered, left, Right}
 use Rattle.definition.specs.Classes.{find, lower, superOf, loaderOf, ownSlots, slotsIn, slots, slotIs, hasField, alike, methodsOf, hasMethod}
 use Rattle.definition.specs.Constraints.{tieEdges, subtypeEdges, edges, pairAgrees, rowAgrees, agreesOver, agrees, tieIs, newTie, agreesAfter, post}
@@ -90,9 +91,31 @@ other p = ((λ e. impossible e), (λ _. p))
 
 stays : All Stays table
 unfolding isRefusal rowsBefore rowsAfter size signed number numberOfStep numberOf refusalDetails stepDetails details _>>=_ need take? defineRows recordRows startRows dropRows answerOf stepTask stepOn stepRows turnOf turn find lower superOf loaderOf ownSlots slotsIn slots slotIs hasField alike methodsOf hasMethod tieEdges subtypeEdges edges pairAgrees rowAgrees agreesOver agrees tieIs newTie agreesAfter post byte short name count fieldsIn methodsIn ends sameField sameMethod readFile pick opcodeOf inlineLength shortAt extend instructionOf sizedAs decode every all any doubled indexOf isNone subtypeIs newSubtypes overrideTie overrideTies hides define recorded started existing initialValue newObject pop! int! reference! kind! room! object! now under! give execute step Maybe._>>=_ Maybe.need sameRequest has fires rest grow reach leads seek nearest below fileAt classAt typeOfName meetClass meetInt meets asReference pop effect returns isReturn verify typesAt notesOf settle onRows runRows performRows performAllRows two method fileOf plain fileF taker coded lifts pushes ready tied12 tied123 table
-stays =
-    ( same (inr refl), (same (inl refl), (other refl, (same (inl refl), (other refl, (other refl, (same (inr refl), (same (inl refl)
-    , (other refl, (same (inl refl), (other refl, (same (inl refl), (other refl, (other refl, (same (inl refl), (other refl, (same (inl refl), tt)))))))))))))))))
+stays = (
+  same (inr refl),
+  (
+    same (inl refl),
+    (
+      other refl,
+      (
+        same (inl refl),
+        (
+          other refl,
+          (
+            other refl,
+            (
+              same (inr refl),
+              (
+                same (inl refl),
+                (other refl, (same (inl refl), (other refl, (same (inl refl), (other refl, (other refl, (same (inl refl), (other refl, (same (inl refl), tt))))))))),
+              ),
+            ),
+          ),
+        ),
+      ),
+    ),
+  ),
+)
 
 one-steps : All (λ c. OneStep (c .last)) table
 unfolding table
@@ -131,6 +154,7 @@ accepted-shaped t h = go (shaped t) refl
   where
     refuses : shaped t ≡ false → boot t .answer ≡ Denied (Word 1)
     refuses e = unfold boot in rw (e, boot) refl
+
     go : (b : Bool) → shaped t ≡ b → shaped t ≡ true
     go true e = e
     go false e = absurd (let z : Path Reply (Denied (Word 1)) Accepted = sym (refuses e) ∙ h in let y : _≡_ {A = ℕ} 0 1 = cc in omega arith)
@@ -143,10 +167,11 @@ keeps t h c o (inl q) =
 keeps t h c o (inr q) = rows-same (c .last) o (beforeLast t c) (rowsBefore c) (shows t h c) q
 
 pub cases : (t : Tables) → boot t .answer ≡ Accepted → Right t
-cases t a = record
-  { answers = map-same (answered t) answeredRows (answered-rows t h) table ∙ on-rows
-  ; unchanged = λ i c e u. keeps t h c (all-at (λ c. OneStep (c .last)) table one-steps i c e) (all-at Stays table stays i c e .0 u)
-  ; changed = λ i c e u q. eqb-false _ _ (all-at Stays table stays i c e .1 u) (ap size (sym (view-left t h c) ∙ ap view q ∙ shows t h c .rows)) }
+cases t a = record {
+  answers = map-same (answered t) answeredRows (answered-rows t h) table ∙ on-rows;
+  unchanged = λ i c e u. keeps t h c (all-at (λ c. OneStep (c .last)) table one-steps i c e) (all-at Stays table stays i c e .0 u);
+  changed = λ i c e u q. eqb-false _ _ (all-at Stays table stays i c e .1 u) (ap size (sym (view-left t h c) ∙ ap view q ∙ shows t h c .rows));
+}
   where
     h : shaped t ≡ true
     h = accepted-shaped t a

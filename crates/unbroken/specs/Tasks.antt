@@ -75,18 +75,20 @@ step-left w os f fs = then Left _ _ (λ n _. left w os f fs (n .theClass) (n .at
 
 -- what holds of an accepted call's rows holds of what the tables then show
 shown : {A : Type 0} (deny : Refusal → A) (f : Rows → Result (Given A)) (P : A → Rows → Type 0) (t : Tables) → Keeps f → ((w : Refusal) → P (deny w) (view t))
-  → ((g : Given A) → f (view t) ≡ ok g → P (g .answer) (g .rows)) → P (wrap deny f t .answer) (view (wrap deny f t .tables))
+    → ((g : Given A) → f (view t) ≡ ok g → P (g .answer) (g .rows)) → P (wrap deny f t .answer) (view (wrap deny f t .tables))
 unfolding wrap
 shown {A} deny f P t k deny-holds ok-holds = go (broken t) refl
   where
     D : Bool → Done A
     D b = elim b as (λ _. Done A) [ true ↦ done (deny (Word 1)) t | false ↦ carried deny t (f (view t)) ]
+
     res : broken t ≡ false → (o : Result (Given A)) → f (view t) ≡ o → P (carried deny t o .answer) (view (carried deny t o .tables))
     res h (refused w) e = unfold carried in deny-holds w
     res h (ok g) e =
         let u = broken-false t h in
         let z = view-put (g .rows) t (u .0) (ok-at (λ g. Whole (g .rows)) _ (k (view t) (u .1)) g e) in
         unfold carried in subst (P (g .answer)) (sym z) (ok-holds g e)
+
     go : (b : Bool) → broken t ≡ b → P (D b .answer) (view (D b .tables))
     go true h = deny-holds (Word 1)
     go false h = res h (f (view t)) refl
@@ -100,7 +102,7 @@ same-result k j none e = refl
 same-result k j (some n) e = let z : _≡_ {A = ℕ} 0 1 = cc in absurd (omega arith)
 
 task-ok : (k : ℕ) (w : World) (f : Frame) (fs : List Frame) (r : Rows) (g : Given Answer) → stepTask k w f fs r ≡ ok g
-  → (o : Progress) × (step w (r .objects) f fs ≡ ok o) × (ok (record { answer = answerOf k (o .result); rows = progressed k r o }) ≡ ok g)
+    → (o : Progress) × (step w (r .objects) f fs ≡ ok o) × (ok (record { answer = answerOf k (o .result); rows = progressed k r o }) ≡ ok g)
 unfolding stepTask
 task-ok k w f fs r g e = bind-ok _ _ e
 
@@ -110,15 +112,18 @@ step-kept t h = shown Refused stepRows (Kept t) t step-whole (λ w. (refl, λ k 
   where
     r : Rows
     r = view t
+
     go : (q p : List Frame) → (q ≡ [] → ⊥) → (g : Given Answer) → stepOn q p (worldOf r) r ≡ ok g → Kept t (g .answer) (g .rows)
     go [] p h g e = absurd (h refl)
     go (f ∷ fs) p h g e =
         let d : stepTask 0 (worldOf r) f fs r ≡ ok g = unfold stepOn in e in
         let a = task-ok 0 (worldOf r) f fs r g d in
         let x : answerOf 0 (a .0 .result) ≡ g .answer = cc (a .2) in
-        let y : progressed 0 r (a .0) ≡ g .rows = cc (a .2) in
-        (ap (λ (z : Rows). z .report) (sym y), λ k q n.
-          ok-at Left _ (step-left (worldOf r) (r .objects) f fs) (a .0) (a .1) (same-result 0 k (a .0 .result) (x ∙ q)) (ap (λ (z : Rows). z .quote) y ∙ n))
+        let y : progressed 0 r (a .0) ≡ g .rows = cc (a .2) in (
+          ap (λ (z : Rows). z .report) (sym y),
+          λ k q n.
+              ok-at Left _ (step-left (worldOf r) (r .objects) f fs) (a .0) (a .1) (same-result 0 k (a .0 .result) (x ∙ q)) (ap (λ (z : Rows). z .quote) y ∙ n),
+        )
 
 runs-kept : (n k : ℕ) (a : Answer) (t s : Tables) → view s .report ≡ view t .report → (view s .quote ≡ [] → ⊥) → view (runFrom stepTables n k a s .tables) .report ≡ view t .report
 unfolding runFrom
@@ -126,8 +131,8 @@ runs-kept zero k a t s e h = e
 runs-kept (suc n) k a t s e h = let d = step-kept s h in go (stepTables s .answer) refl (d .0 ∙ e) (λ j q. d .1 j q) (λ k a s. runs-kept n k a t s)
   where
     go : (x : Answer) → stepTables s .answer ≡ x → view (stepTables s .tables) .report ≡ view t .report → ((j : ℕ) → stepTables s .answer ≡ Ran j → view (stepTables s .tables) .quote ≡ [] → ⊥)
-      → ((k : ℕ) (a : Answer) (s : Tables) → view s .report ≡ view t .report → (view s .quote ≡ [] → ⊥) → view (runFrom stepTables n k a s .tables) .report ≡ view t .report)
-      → view (goOn (runFrom stepTables n) k x (stepTables s .tables) .tables) .report ≡ view t .report
+        → ((k : ℕ) (a : Answer) (s : Tables) → view s .report ≡ view t .report → (view s .quote ≡ [] → ⊥) → view (runFrom stepTables n k a s .tables) .report ≡ view t .report)
+        → view (goOn (runFrom stepTables n) k x (stepTables s .tables) .tables) .report ≡ view t .report
     go Idle q y z ih = y
     go (Ran j) q y z ih = ih (suc k) (Ran j) (stepTables s .tables) y (z j q)
     go (Finished j v) q y z ih = y
@@ -182,9 +187,9 @@ pub report-stays : (c : Call) (t : Tables) → (view t .quote ≡ [] → ⊥) �
 unfolding perform
 report-stays callBoot t h m = absurd (m tt)
 report-stays (callDefine l bs) t h m = shown Denied (defineRows l bs) (Stays t) t (λ r w. define-whole r w l bs) (λ w. refl)
-  (λ g e. ok-at _ _ (define-stays l bs (view t)) g e)
+    (λ g e. ok-at _ _ (define-stays l bs (view t)) g e)
 report-stays (callRecord l n c) t h m = shown Denied (recordRows l n c) (Stays t) t (λ r w. record-whole r w l n c) (λ w. refl)
-  (λ g e. ok-at _ _ (record-stays l n c (view t)) g e)
+    (λ g e. ok-at _ _ (record-stays l n c (view t)) g e)
 report-stays (callStart k l n m v) t h x = shown Denied (startRows k l n m v) (Stays t) t (λ r w. start-whole r w k l n m v) (λ w. refl) (λ g e. ok-at _ _ (start-stays k l n m v (view t) x) g e)
 report-stays callStep t h m = step-kept t h .0
 report-stays (callRun n) t h m = run-kept n t h
