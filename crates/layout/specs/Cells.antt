@@ -230,6 +230,18 @@ pub putValue-cells : (t : List ℕ) (i k b : ℕ) → putValue t i (valueOf k b)
 unfolding putValue
 putValue-cells t i k b = rw (kind-value k b, bits-value k b)
 
+pub putField-cells : (o : ℕ) (t : List ℕ) (i k b : ℕ) → putField o t i (valueOf k b) ≡ putCells t (o * 33 + (1 + 2 * i)) k b
+unfolding putField
+putField-cells o t i k b = putValue-cells t (o * 33 + (1 + 2 * i)) k b
+
+pub putLocal-cells : (c : ℕ) (t : List ℕ) (i k b : ℕ) → putLocal c t i (valueOf k b) ≡ putCells t (c + (4 + 2 * i)) k b
+unfolding putLocal
+putLocal-cells c t i k b = putValue-cells t (c + (4 + 2 * i)) k b
+
+pub putOperand-cells : (c : ℕ) (t : List ℕ) (i k b : ℕ) → putOperand c t i (valueOf k b) ≡ putCells t (c + (20 + 2 * i)) k b
+unfolding putOperand
+putOperand-cells c t i k b = putValue-cells t (c + (20 + 2 * i)) k b
+
 pub putValue-same : (t : List ℕ) (i : ℕ) → putValue t i (valueAt t i) ≡ t
 unfolding valueAt
 putValue-same t i = putValue-cells t i (getD t i 0) (getD t (i + 1) 0) ∙ rw (set-getD t i 0) (set-getD t (i + 1) 0)
@@ -278,7 +290,7 @@ Unread r lo hi = (t : List ℕ) (m v : ℕ) → lo ≤ m → m < hi → r (set t
 pub unread-cell : (c lo hi : ℕ) → ((m : ℕ) → lo ≤ m → m < hi → c ≢ m) → Unread (λ t. getD t c 0) lo hi
 unread-cell c lo hi apart = λ t m v a b. getD-set-other t m c v 0 (apart m a b)
 
-unread-value : {B : Type 0} (r : List ℕ → B) (lo hi : ℕ) → Unread r lo hi → (t : List ℕ) (i : ℕ) (v : Value) → lo ≤ i → i + 1 < hi → r (putValue t i v) ≡ r t
+pub unread-value : {B : Type 0} (r : List ℕ → B) (lo hi : ℕ) → Unread r lo hi → (t : List ℕ) (i : ℕ) (v : Value) → lo ≤ i → i + 1 < hi → r (putValue t i v) ≡ r t
 unfolding putValue
 unread-value r lo hi un t i v a b = un (set t i (kindOf v)) (i + 1) (bitsOf v) (omega arith) (omega arith) ∙ un t i (kindOf v) (omega arith) (omega arith)
 

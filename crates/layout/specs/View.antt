@@ -1,6 +1,7 @@
 -- What a change of rows writes. Rows read off tables and put back change nothing; rows that were appended, replaced or dropped write their own
 -- cells and their count. The classes' fields may be read off any base: the laws ask nothing of it.
 use mathlib.Core.Path.{_≡_, refl, sym, ap, _∙_}
+use mathlib.Core.Option.{Option}
 use mathlib.Core.List.{List, [], _∷_, _++_, map}
 use Prim.Native.Nat.{ℕ, zero, suc, _+_, _*_, _<_, _≤_}
 use native.Mathlib.Omega.{arith}
@@ -15,7 +16,7 @@ use Rattle.definition.specs.Loading.{withClass, withEntry}
 use Rattle.definition.specs.Tables.{Tables, tables, ClassRow, Rows, classAt, worldOf, putThree, classRowAt, putClassRow, entryAt, putEntry, tieAt, putTie, subtypeAt, putSubtype, usedFields, objectAt, putObject, putField, localAt, putLocal, operandAt, putOperand, frame, frameOf, frameAt, putFrame, frameBase, frameIn, putFrameIn, classRowsOf, keptOf, cacheOf, tiesOf, subtypesOf, viewBase, objectsOf, framesOf, viewOver, view, countsOf, put}
 use Rattle.definition.specs.Calls.{addFile, addEntry, progressed, withFrames}
 use Rattle.layout.specs.Places.{rows-length, set-there, writeRows-same, stack-length, stack-cong, writeStack-same, writeStack-above, writeStack-two, written-set}
-use Rattle.layout.specs.Cells.{RowLaws, rows-kept, rows-more, row-more, class-rows, entry-rows, tie-rows, subtype-rows, cell-rows, Unread, withField, object-same, object-below, object-field-past, objects-field, objects-made, moved, frameWith, frame-kept, frame-above, frame-two, frame-local, frame-given, frameIn-same, frame-unread, unread-frame}
+use Rattle.layout.specs.Cells.{RowLaws, rows-kept, rows-more, row-more, class-rows, entry-rows, tie-rows, subtype-rows, cell-rows, Unread, withField, object-same, object-below, object-field-past, objects-field, objects-made, moved, frameWith, frame-kept, frame-above, frame-two, frame-local, frame-given, frameIn-same, frame-unread, unread-value, unread-frame}
 
 -- A list of rows, n of them, that leaves the table u when it is written into t
 
@@ -147,3 +148,230 @@ put-over b t =
 pub put-view : (t : Tables) → put (view t) t ≡ t
 unfolding view
 put-view t = put-over (viewBase t) t
+
+-- The frames of task k replaced, n of them, that leave u where they are written. The report's rows lie behind the quote's: frames put for the quote must
+-- not reach them.
+
+pub record FillsTask (k : ℕ) (fs : List Frame) (t : Tables) (n : ℕ) (u : List ℕ) : Type 0 where
+  pub count : length fs ≡ n
+  pub cells : writeStack (putFrameIn k) fs (t .frames) ≡ u
+  pub apart : k ≡ 0 → stack (frameIn u 1) (getD (t .counts) 7 0) ≡ stack (frameIn (t .frames) 1) (getD (t .counts) 7 0)
+
+module _ (t : Tables) (fs : List Frame) (n : ℕ) (u : List ℕ) where
+  quote-fill : FillsTask 0 fs t n u → FillsFrames fs (framesOf t 1) (t .frames) n (getD (t .counts) 7 0) u
+  unfolding framesOf
+  quote-fill h = record {
+    quote = h .count;
+    report = stack-length (frameIn (t .frames) 1) (getD (t .counts) 7 0);
+    cells =
+        (λ i. writeStack (putFrameIn 1) (sym (h .apart refl) i) (h .cells i))
+        ∙ writeStack-same (putFrameIn 1) (frameIn u 1) u (frameIn-same u 1) (getD (t .counts) 7 0);
+  }
+
+  report-fill : FillsTask 1 fs t n u → FillsFrames (framesOf t 0) fs (t .frames) (getD (t .counts) 6 0) n u
+  unfolding framesOf
+  report-fill h = record {
+    quote = stack-length (frameIn (t .frames) 0) (getD (t .counts) 6 0);
+    report = h .count;
+    cells =
+        ap (writeStack (putFrameIn 1) fs) (writeStack-same (putFrameIn 0) (frameIn (t .frames) 0) (t .frames) (frameIn-same (t .frames) 0) (getD (t .counts) 6 0))
+        ∙ h .cells;
+  }
+
+-- What the calls put
+
+module _ (b : Base) (t : Tables) where
+  -- a task's frames alone
+  pub frames-writes : (k : ℕ) (fs : List Frame) (n : ℕ) (u : List ℕ) → k < 2 → FillsTask k fs t n u
+      → put (withFrames k (viewOver b t) fs) t
+        ≡ tables (set (t .counts) (6 + k) n) (t .classes) (t .kept) (t .cache) (t .ties) (t .subtypes) (t .objects) u
+  unfolding viewOver
+  frames-writes zero fs n u two h =
+      put-fills (withFrames 0 (viewOver b t) fs) t (classes-fill t) (kept-fill t) (cache-fill t) (ties-fill t) (subtypes-fill t) (objects-fill t b) (quote-fill t fs n u h)
+      ∙ rw (count-set (countsRead (t .counts)) 6 n (t .counts) (omega arith), counts-kept (t .counts))
+  frames-writes (suc zero) fs n u two h =
+      put-fills (withFrames 1 (viewOver b t) fs) t (classes-fill t) (kept-fill t) (cache-fill t) (ties-fill t) (subtypes-fill t) (objects-fill t b) (report-fill t fs n u h)
+      ∙ rw (count-set (countsRead (t .counts)) 7 n (t .counts) (omega arith), counts-kept (t .counts))
+  frames-writes (suc (suc k)) fs n u two h = absurd (omega arith)
+
+  -- drop: one count
+  pub drop-writes : (k : ℕ) → k < 2
+      → put (withFrames k (viewOver b t) []) t
+        ≡ tables (set (t .counts) (6 + k) 0) (t .classes) (t .kept) (t .cache) (t .ties) (t .subtypes) (t .objects) (t .frames)
+  unfolding writeStack
+  drop-writes k two = frames-writes k [] 0 (t .frames) two (record { count = refl; cells = refl; apart = λ e. refl })
+
+  -- record: one entry and one count
+  pub entry-writes : (l n c : ℕ)
+      → put (addEntry (viewOver b t) (withEntry (worldOf (viewOver b t)) (at l n) c)) t
+        ≡ tables (set (t .counts) 2 (getD (t .counts) 2 0 + 1)) (t .classes) (t .kept) (putThree (t .cache) (getD (t .counts) 2 0) l n c) (t .ties) (t .subtypes) (t .objects) (t .frames)
+  unfolding viewOver putEntry
+  entry-writes l n c =
+      put-fills (addEntry (viewOver b t) (withEntry (worldOf (viewOver b t)) (at l n) c)) t (classes-fill t) (kept-fill t)
+        (fill-last entry-rows (t .cache) (getD (t .counts) 2 0) (record { request = at l n; class = c })) (ties-fill t) (subtypes-fill t) (objects-fill t b) (frames-fill t)
+      ∙ rw (count-set (countsRead (t .counts)) 2 (getD (t .counts) 2 0 + 1) (t .counts) (omega arith), counts-kept (t .counts))
+
+  -- define: a class row, the file's bytes, an entry, ties, subtype constraints, and their five counts
+  pub class-writes : (l : ℕ) (bs : List ℕ) (k : Class) (us : List Tie) (ss : List Subtype)
+      → let c = t .counts in
+        put (addFile l bs (viewOver b t) (withClass (worldOf (viewOver b t)) k us ss)) t
+        ≡ tables
+          (set (set (set (set (set c 0 (getD c 0 0 + 1)) 1 (getD c 1 0 + length bs)) 2 (getD c 2 0 + 1)) 3 (getD c 3 0 + length us)) 4 (getD c 4 0 + length ss))
+          (putThree (t .classes) (getD c 0 0) l (getD c 1 0) (length bs))
+          (writeRows set bs (getD c 1 0) (t .kept))
+          (putThree (t .cache) (getD c 2 0) (k .loader) (k .name) (getD c 0 0))
+          (writeRows putTie us (getD c 3 0) (t .ties))
+          (writeRows putSubtype ss (getD c 4 0) (t .subtypes))
+          (t .objects)
+          (t .frames)
+  unfolding viewOver putEntry putClassRow
+  class-writes l bs k us ss =
+      let c : List ℕ = t .counts in
+      let n : length (keptOf t) ≡ getD c 1 0 = kept-fill t .count in
+      let m : length (map (classAt (keptOf t)) (classRowsOf t)) ≡ getD c 0 0 = length-map (classRowsOf t) (classAt (keptOf t)) ∙ classes-fill t .count in
+      put-fills (addFile l bs (viewOver b t) (withClass (worldOf (viewOver b t)) k us ss)) t
+        (fill-last class-rows (t .classes) (getD c 0 0) (record { loader = l; start = length (keptOf t); size = length bs })) (fill-more cell-rows (t .kept) (getD c 1 0) bs)
+        (fill-last entry-rows (t .cache) (getD c 2 0) (record { request = at (k .loader) (k .name); class = length (map (classAt (keptOf t)) (classRowsOf t)) }))
+        (ties-more t us) (subtypes-more t ss) (objects-fill t b) (frames-fill t)
+      ∙ rw (n, m
+           , count-set (set (set (set (set (countsRead c) 0 (getD c 0 0 + 1)) 1 (getD c 1 0 + length bs)) 2 (getD c 2 0 + 1)) 3 (getD c 3 0 + length us)) 4 (getD c 4 0 + length ss) c (omega arith)
+           , count-set (set (set (set (countsRead c) 0 (getD c 0 0 + 1)) 1 (getD c 1 0 + length bs)) 2 (getD c 2 0 + 1)) 3 (getD c 3 0 + length us) c (omega arith)
+           , count-set (set (set (countsRead c) 0 (getD c 0 0 + 1)) 1 (getD c 1 0 + length bs)) 2 (getD c 2 0 + 1) c (omega arith)
+           , count-set (set (countsRead c) 0 (getD c 0 0 + 1)) 1 (getD c 1 0 + length bs) c (omega arith)
+           , count-set (countsRead c) 0 (getD c 0 0 + 1) c (omega arith), counts-kept c)
+
+  -- a task's progress: the ties that it posted, the objects and the task's frames that it leaves, and their three counts
+  pub progress-writes : (k : ℕ) (p : Progress) (us : List Tie) (m n : ℕ) (o u : List ℕ) → k < 2 → p .world .ties ≡ tiesOf t ++ us
+      → Fills putObject (p .objects) (t .objects) m o → FillsTask k (p .frames) t n u
+      → put (progressed k (viewOver b t) p) t
+        ≡ tables (set (set (set (t .counts) 3 (getD (t .counts) 3 0 + length us)) 5 m) (6 + k) n) (t .classes) (t .kept) (t .cache) (writeRows putTie us (getD (t .counts) 3 0) (t .ties)) (t .subtypes) o u
+  unfolding viewOver
+  progress-writes zero p us m n o u two e g h =
+      let c : List ℕ = t .counts in
+      let i : Fills putTie (p .world .ties) (t .ties) (getD c 3 0 + length us) (writeRows putTie us (getD c 3 0) (t .ties)) = rw e (ties-more t us) in
+      put-fills (progressed 0 (viewOver b t) p) t (classes-fill t) (kept-fill t) (cache-fill t) i (subtypes-fill t) g (quote-fill t (p .frames) n u h)
+      ∙ rw (count-set (set (set (countsRead c) 3 (getD c 3 0 + length us)) 5 m) 6 n c (omega arith), count-set (set (countsRead c) 3 (getD c 3 0 + length us)) 5 m c (omega arith)
+           , count-set (countsRead c) 3 (getD c 3 0 + length us) c (omega arith), counts-kept c)
+  progress-writes (suc zero) p us m n o u two e g h =
+      let c : List ℕ = t .counts in
+      let i : Fills putTie (p .world .ties) (t .ties) (getD c 3 0 + length us) (writeRows putTie us (getD c 3 0) (t .ties)) = rw e (ties-more t us) in
+      put-fills (progressed 1 (viewOver b t) p) t (classes-fill t) (kept-fill t) (cache-fill t) i (subtypes-fill t) g (report-fill t (p .frames) n u h)
+      ∙ rw (count-set (set (set (countsRead c) 3 (getD c 3 0 + length us)) 5 m) 7 n c (omega arith), count-set (set (countsRead c) 3 (getD c 3 0 + length us)) 5 m c (omega arith)
+           , count-set (countsRead c) 3 (getD c 3 0 + length us) c (omega arith), counts-kept c)
+  progress-writes (suc (suc k)) p us m n o u two e g h = absurd (omega arith)
+
+  -- frames alone, by a step: no tie, no object
+  pub task-writes : (k : ℕ) (fs : List Frame) (x : Option ℕ) (n : ℕ) (u : List ℕ) → k < 2 → FillsTask k fs t n u
+      → put (progressed k (viewOver b t) (record { world = worldOf (viewOver b t); objects = objectsOf b t; frames = fs; result = x })) t
+        ≡ tables (set (t .counts) (6 + k) n) (t .classes) (t .kept) (t .cache) (t .ties) (t .subtypes) (t .objects) u
+  unfolding viewOver
+  task-writes zero fs x n u two h = frames-writes 0 fs n u two h
+  task-writes (suc k) fs x n u two h = frames-writes (suc k) fs n u two h
+
+  -- as many frames as before: no count
+  pub top-writes : (k : ℕ) (fs : List Frame) (x : Option ℕ) (u : List ℕ) → k < 2 → FillsTask k fs t (getD (t .counts) (6 + k) 0) u
+      → put (progressed k (viewOver b t) (record { world = worldOf (viewOver b t); objects = objectsOf b t; frames = fs; result = x })) t
+        ≡ tables (t .counts) (t .classes) (t .kept) (t .cache) (t .ties) (t .subtypes) (t .objects) u
+  top-writes k fs x u two h = task-writes k fs x (getD (t .counts) (6 + k) 0) u two h ∙ rw (set-getD (t .counts) (6 + k) 0)
+
+-- What a task's frames write
+
+-- the report's frames, where cells of the quote's rows are written
+report-unread : (n lo : ℕ) → Unread (λ s. stack (frameIn s 1) n) lo 1664
+unfolding frameIn
+report-unread n lo =
+    λ t m v a h. stack-cong (frameIn (set t m v) 1) (frameIn t 1) n (λ i l. frame-unread (frameBase 1 i) lo 1664 (omega arith) t m v a h)
+
+-- no frame
+pub none-left : (t : Tables) (k : ℕ) → FillsTask k [] t 0 (t .frames)
+unfolding writeStack
+none-left t k = record { count = refl; cells = refl; apart = λ e. refl }
+
+-- m frames of task k stay under the one that changes, in row m
+module _ (t : Tables) (k m : ℕ) (room : m < 32) where
+  abbrev row : ℕ
+  row = frameBase k m
+
+  abbrev under : List Frame
+  under = stack (frameIn (t .frames) k) m
+
+  abbrev reported : List ℕ → List Frame
+  reported s = stack (frameIn s 1) (getD (t .counts) 7 0)
+
+  abbrev unreported : Unread reported 0 1664
+  unreported = report-unread (getD (t .counts) 7 0) 0
+
+  moved-apart : (p d : ℕ) → k ≡ 0 → reported (moved (t .frames) row p d) ≡ reported (t .frames)
+  moved-apart p d e = unreported (set (t .frames) (row + 2) p) (row + 3) d (omega arith) (omega arith) ∙ unreported (t .frames) (row + 2) p (omega arith) (omega arith)
+
+  frame-apart : (s : List ℕ) (f : Frame) → length (f .operands) ≤ 16 → length (f .locals) ≤ 8 → k ≡ 0 → reported (putFrame s row f) ≡ reported s
+  frame-apart s f a c e = unread-frame reported row 1664 (report-unread (getD (t .counts) 7 0) row) f (omega arith) (omega arith) (omega arith) s
+
+  under-count : length under ≡ m
+  under-count = stack-length (frameIn (t .frames) k) m
+
+  -- any frame that fits its row
+  pub top-fill : (f : Frame) → length (f .operands) ≤ 16 → length (f .locals) ≤ 8 → FillsTask k (f ∷ under) t (suc m) (putFrame (t .frames) row f)
+  unfolding putFrameIn
+  top-fill f a c = record {
+    count = ap suc under-count;
+    cells = writeStack-above (putFrameIn k) (frameIn (t .frames) k) (t .frames) (frameIn-same (t .frames) k) m f;
+    apart = frame-apart (t .frames) f a c;
+  }
+
+  -- the frame moved to point p with its lowest d operands
+  pub top-kept : (p d : ℕ) → FillsTask k (frameOf (t .frames) row p d ∷ under) t (suc m) (moved (t .frames) row p d)
+  unfolding putFrameIn
+  top-kept p d = record {
+    count = ap suc under-count;
+    cells = writeStack-above (putFrameIn k) (frameIn (t .frames) k) (t .frames) (frameIn-same (t .frames) k) m (frameOf (t .frames) row p d) ∙ frame-kept (t .frames) row p d;
+    apart = moved-apart p d;
+  }
+
+  -- and a value above them
+  pub top-above : (p d : ℕ) (v : Value) → d < 16
+      → FillsTask k (frameWith (t .frames) row p (v ∷ stack (operandAt (t .frames) row) d) (rows (localAt (t .frames) row) 8 0) ∷ under) t (suc m)
+        (putOperand row (moved (t .frames) row p (d + 1)) d v)
+  unfolding putFrameIn putOperand
+  top-above p d v l =
+      let e : d + 1 ≡ suc d = omega arith in
+      rw e (record {
+        count = ap suc under-count;
+        cells =
+            writeStack-above (putFrameIn k) (frameIn (t .frames) k) (t .frames) (frameIn-same (t .frames) k) m
+              (frameWith (t .frames) row p (v ∷ stack (operandAt (t .frames) row) d) (rows (localAt (t .frames) row) 8 0))
+            ∙ frame-above (t .frames) row p d v;
+        apart = λ z. unread-value reported 0 1664 unreported (moved (t .frames) row p (suc d)) (row + (20 + 2 * d)) v (omega arith) (omega arith) ∙ moved-apart p (suc d) z;
+      })
+
+  -- the frame moved, with its lowest d operands and a local set
+  pub top-local : (p d j : ℕ) (v : Value) → j < 8
+      → FillsTask k (frameWith (t .frames) row p (stack (operandAt (t .frames) row) d) (set (rows (localAt (t .frames) row) 8 0) j v) ∷ under) t (suc m)
+        (putLocal row (moved (t .frames) row p d) j v)
+  unfolding putFrameIn putLocal
+  top-local p d j v l = record {
+    count = ap suc under-count;
+    cells =
+        writeStack-above (putFrameIn k) (frameIn (t .frames) k) (t .frames) (frameIn-same (t .frames) k) m
+          (frameWith (t .frames) row p (stack (operandAt (t .frames) row) d) (set (rows (localAt (t .frames) row) 8 0) j v))
+        ∙ frame-local (t .frames) row p d j v l;
+    apart = λ z. unread-value reported 0 1664 unreported (moved (t .frames) row p d) (row + (4 + 2 * j)) v (omega arith) (omega arith) ∙ moved-apart p d z;
+  }
+
+  -- a waiting frame is given a value: it had d operands
+  pub top-given : (d : ℕ) (v : Value) → d ≡ getD (t .frames) (row + 3) 0 → d < 16
+      → FillsTask k (frame (frameIn (t .frames) k m .class) (frameIn (t .frames) k m .method) (frameIn (t .frames) k m .point) (v ∷ frameIn (t .frames) k m .operands) (frameIn (t .frames) k m .locals) ∷ under)
+        t (suc m) (putOperand row (set (t .frames) (row + 3) (d + 1)) d v)
+  unfolding putFrameIn frameIn putOperand
+  top-given d v q l =
+      let e : d + 1 ≡ suc d = omega arith in
+      rw e (record {
+        count = ap suc under-count;
+        cells =
+            writeStack-above (putFrameIn k) (frameIn (t .frames) k) (t .frames) (frameIn-same (t .frames) k) m
+              (frame (frameIn (t .frames) k m .class) (frameIn (t .frames) k m .method) (frameIn (t .frames) k m .point) (v ∷ frameIn (t .frames) k m .operands) (frameIn (t .frames) k m .locals))
+            ∙ frame-given (t .frames) row d v q;
+        apart = λ z.
+            unread-value reported 0 1664 unreported (set (t .frames) (row + 3) (suc d)) (row + (20 + 2 * d)) v (omega arith) (omega arith)
+            ∙ unreported (t .frames) (row + 3) (suc d) (omega arith) (omega arith);
+      })
