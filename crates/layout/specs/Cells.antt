@@ -8,7 +8,7 @@ use mathlib.Core.Logic.{_≢_}
 use Prim.Native.Nat.{ℕ, zero, suc, _+_, _*_, _<_, _≤_}
 use native.Mathlib.Nat.{suc-mul, mul-le-mul-right}
 use native.Mathlib.Omega.{arith}
-use lib.ListN.{length, getElem?, getD, set, length-set}
+use lib.ListN.{length, getElem?, getD, set, take, replicate, length-set}
 use lib.Seq.{set-getD, set-out, set-comm, getD-set-same, getD-set-other}
 use lib.Dec.{eqb, leb}
 use borrow.Author.Tests.{eqb-true, leb-true, le-leb}
@@ -16,10 +16,10 @@ use Rattle.definition.specs.Lists.{rows, writeRows, stack, writeStack}
 use Rattle.definition.specs.Classes.{Base, Entry}
 use Rattle.definition.specs.Constraints.{Tie, Subtype}
 use Rattle.definition.specs.Instructions.{pick}
-use Rattle.definition.specs.Machine.{Value, unsetValue, intValue, nullValue, objectValue, unlistedValue, Object, Frame}
+use Rattle.definition.specs.Machine.{Value, unsetValue, intValue, nullValue, objectValue, unlistedValue, Object, Frame, entryFrame}
 use Rattle.definition.specs.Tables.{ClassRow, threeAt, putThree, classRow, entry, tie, subtype, classRowAt, putClassRow, entryAt, putEntry, tieAt, putTie, subtypeAt, putSubtype, valueOf, kindOf, bitsOf, valueAt, putCells, putValue, fieldAt, putField, sizeOf, usedFields, objectAt, putObject, localAt, putLocal, operandAt, putOperand, frame, frameOf, frameAt, putHead, putFrame, frameBase, frameIn, putFrameIn}
 use Rattle.layout.specs.Tests.{All, all-each}
-use Rattle.layout.specs.Places.{rows-length, rows-cong, rows-set, rows-last, rows-there, rows-past, writeRows-append, stack-length, stack-cong, writeRows-same, writeStack-same, writeStack-above, writeStack-two, writeRows-put, writeRows-replace, writeRows-last, writeRows-keeps, writeStack-keeps, writeRows-length, writeStack-length, rows-written, stack-written}
+use Rattle.layout.specs.Places.{rows-length, rows-cong, rows-set, rows-last, rows-both, rows-there, rows-past, writeRows-append, writeRows-below, writeRows-first, writeRows-snoc, writeRows-copy, stack-length, stack-cong, writeRows-same, writeStack-same, writeStack-above, writeStack-two, writeRows-put, writeRows-replace, writeRows-last, writeRows-keeps, writeStack-keeps, writeRows-length, writeStack-length, rows-written, stack-written}
 
 -- Rows of w cells that hold anything
 
@@ -54,6 +54,16 @@ module _ {A : Type 0} {at : List ℕ → ℕ → A} {put : List ℕ → ℕ → 
   pub row-replaced : (t : List ℕ) (n j : ℕ) (x : A) → j < n → writeRows put (set (rows (at t) n 0) j x) 0 t ≡ put t j x
   row-replaced t n j x l = writeRows-replace put at (laws .same) below t n j x l
 
+  -- rows written from the first on, as a loop writes them
+  pub rows-first : (x : A) (xs : List A) (i : ℕ) (t : List ℕ) → writeRows put (x ∷ xs) i t ≡ writeRows put xs (suc i) (put t i x)
+  rows-first x xs i t = writeRows-first put (laws .commute) x xs i t
+
+  pub rows-snoc : (xs : List A) (x : A) (i : ℕ) (t : List ℕ) → writeRows put (xs ++ (x ∷ [])) i t ≡ put (writeRows put xs i t) (i + length xs) x
+  rows-snoc xs x i t = writeRows-snoc put (laws .commute) xs x i t
+
+  pub rows-copy : (xs : List A) (d : A) (i j : ℕ) (t : List ℕ) → j < length xs → writeRows put (take (suc j) xs) i t ≡ put (writeRows put (take j xs) i t) (i + j) (getD xs j d)
+  rows-copy xs d i j t l = writeRows-copy put (laws .commute) xs d i j t l
+
   -- what is read after a row is written
   pub rows-after : (t : List ℕ) (n j : ℕ) (x : A) → j < n → n * w ≤ length t → rows (at (put t j x)) n 0 ≡ set (rows (at t) n 0) j x
   rows-after t n j x l h =
@@ -65,6 +75,18 @@ module _ {A : Type 0} {at : List ℕ → ℕ → A} {put : List ℕ → ℕ → 
       let e : 0 + n ≡ n = omega arith in
       rows-last (at (put t n x)) n 0
       ∙ rw (e, laws .back t n x (omega (arith, suc-mul n w)), rows-cong (at (put t n x)) (at t) n 0 (λ m a k. laws .other t m n x (λ r. omega arith)))
+
+-- what is read after rows were written behind the first n
+pub rows-after-more : {A : Type 0} {at : List ℕ → ℕ → A} {put : List ℕ → ℕ → A → List ℕ} {w : ℕ} (laws : RowLaws at put w) (xs : List A) (t : List ℕ) (n : ℕ) → (n + length xs) * w ≤ length t
+    → rows (at (writeRows put xs n t)) (n + length xs) 0 ≡ rows (at t) n 0 ++ xs
+rows-after-more {at = at} {put = put} {w = w} laws xs t n h =
+    let z : 0 + n ≡ n = omega arith in
+    rows-both (at (writeRows put xs n t)) n (length xs) 0
+    ∙ rw (z
+         , rows-cong (at (writeRows put xs n t)) (at t) n 0 (λ m a k. writeRows-below put at (laws .same) (λ s i j x l. laws .other s i j x (λ e. omega arith)) xs m n t (omega arith))
+         , rows-written put (laws .long) at (λ _. Unit {0}) (length t) (n + length xs)
+             (λ s i x e k p. laws .back s i x (omega (arith, mul-le-mul-right w k, suc-mul i w))) (λ s i j x k p. laws .other s i j x (λ e. omega arith)) xs n (omega arith)
+             (all-each (λ _. Unit {0}) (λ x. tt) xs) t refl)
 
 module _ (t : List ℕ) where
   three-same : (i : ℕ) → putThree t i (getD t (i * 3) 0) (getD t (i * 3 + 1) 0) (getD t (i * 3 + 2) 0) ≡ t
@@ -343,6 +365,20 @@ module _ (b c : ℕ) where
   pub place-set : (t : List ℕ) (n j : ℕ) (v : Value) → j < n → writeRows putPlace (set (rows (placeAt t) n 0) j v) 0 t ≡ putPlace t j v
   place-set t n j v l = writeRows-replace putPlace placeAt place-same (λ s i k w h. place-other s i k w (λ e. omega arith)) t n j v l
 
+-- values side by side are cells side by side
+unfoldable pub valueCells : List Value → List ℕ
+valueCells [] = []
+valueCells (v ∷ vs) = kindOf v ∷ bitsOf v ∷ valueCells vs
+
+pub places-cells : (b c : ℕ) (vs : List Value) (i : ℕ) (t : List ℕ) → writeRows (putPlace b c) vs i t ≡ writeRows set (valueCells vs) (b + (c + 2 * i)) t
+unfolding writeRows valueCells putValue
+places-cells b c [] i t = refl
+places-cells b c (v ∷ vs) i t =
+    let a : ℕ = b + (c + 2 * i) in
+    let e : b + (c + 2 * suc i) ≡ suc (suc (b + (c + 2 * i))) = omega arith in
+    let f : b + (c + 2 * i) + 1 ≡ suc (b + (c + 2 * i)) = omega arith in
+    rw (f, places-cells b c vs (suc i) t, e) (set-comm (writeRows set (valueCells vs) (suc (suc a)) t) a (suc a) (kindOf v) (bitsOf v) (λ q. omega arith))
+
 -- Objects: a class and values
 
 abbrev pub withField : Object → ℕ → Value → Object
@@ -388,6 +424,13 @@ module _ (b : Base) where
 pub unread-object : {B : Type 0} (r : List ℕ → B) (o hi : ℕ) → Unread r (o * 33) hi → (x : Object) → o * 33 + (1 + 2 * length (x .values)) ≤ hi → (t : List ℕ) → r (putObject t o x) ≡ r t
 unfolding putObject putField
 unread-object r o hi un x l t = unread-places (o * 33) 1 r (o * 33) hi un (x .values) 0 (set t (o * 33) (x .class)) (omega arith) (omega arith) ∙ un t (o * 33) (x .class) (omega arith) (omega arith)
+
+-- an object put is its cells written, from its class on
+pub object-row : (t : List ℕ) (o : ℕ) (x : Object) → putObject t o x ≡ writeRows set (x .class ∷ valueCells (x .values)) (o * 33) t
+unfolding putObject putField
+object-row t o x =
+    let e : o * 33 + (1 + 2 * 0) ≡ suc (o * 33) = omega arith in
+    places-cells (o * 33) 1 (x .values) 0 (set t (o * 33) (x .class)) ∙ rw e (sym (rows-first cell-rows (x .class) (valueCells (x .values)) (o * 33) t))
 
 pub putObject-length : (t : List ℕ) (o : ℕ) (x : Object) → length (putObject t o x) ≡ length t
 putObject-length t o x = unread-object length o (o * 33 + (1 + 2 * length (x .values))) (λ s m v a k. length-set s m v) x (omega arith) t
@@ -647,3 +690,25 @@ module _ (t : List ℕ) (b : ℕ) (f : Frame) (room : b + 52 ≤ length t) (fits
       let z : b + 0 ≡ b = omega arith in
       let c0 : getD (putFrame t b f) b 0 ≡ f .class = (rw z at (head-cell 0 (omega arith))) ∙ head-class in
       rw (c0, head-cell 1 (omega arith) ∙ head-method, head-cell 2 (omega arith) ∙ head-point, head-cell 3 (omega arith) ∙ head-depth, operands-back, locals-back)
+
+-- two pairs of cells, then the rest
+pairs-first : (x y z w : ℕ) (xs : List ℕ) (i : ℕ) (t : List ℕ) → writeRows set (x ∷ y ∷ z ∷ w ∷ xs) i t ≡ writeRows set xs (i + 4) (putCells (putCells t i x y) (i + 2) z w)
+pairs-first x y z w xs i t =
+    let a : i + 1 ≡ suc i = omega arith in
+    let b : i + 2 ≡ suc (suc i) = omega arith in
+    let c : i + 2 + 1 ≡ suc (suc (suc i)) = omega arith in
+    let d : i + 4 ≡ suc (suc (suc (suc i))) = omega arith in
+    rows-first cell-rows x (y ∷ z ∷ w ∷ xs) i t
+    ∙ (rows-first cell-rows y (z ∷ w ∷ xs) (suc i) (set t i x)
+    ∙ (rows-first cell-rows z (w ∷ xs) (suc (suc i)) (set (set t i x) (suc i) y)
+    ∙ (rows-first cell-rows w xs (suc (suc (suc i))) (set (set (set t i x) (suc i) y) (suc (suc i)) z) ∙ rw (c, a, b, d))))
+
+-- a frame entered: its first 20 cells, the 12 of six empty locals last
+pub frame-entered : (t : List ℕ) (b c m o : ℕ) (v : Value)
+    → putFrame t b (entryFrame c m o v) ≡ writeRows set (replicate 12 0) (b + 8) (putCells (putCells (putHead t b c m 0 0) (b + 4) 3 o) (b + 6) (kindOf v) (bitsOf v))
+unfolding putFrame putLocal writeStack valueCells kindOf bitsOf
+frame-entered t b c m o v =
+    let e : b + (4 + 2 * 0) + 4 ≡ b + 8 = omega arith in
+    let f : b + (4 + 2 * 0) + 2 ≡ b + 6 = omega arith in
+    places-cells b 4 (entryFrame c m o v .locals) 0 (putHead t b c m 0 0)
+    ∙ (pairs-first 3 o (kindOf v) (bitsOf v) (replicate 12 0) (b + (4 + 2 * 0)) (putHead t b c m 0 0) ∙ rw (e, f))

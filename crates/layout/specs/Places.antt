@@ -7,8 +7,8 @@ use mathlib.Core.Logic.{_≢_}
 use Prim.Native.Nat.{ℕ, zero, suc, _+_, _-_, _<_, _≤_}
 use native.Mathlib.Omega.{arith}
 use native.Mathlib.Numerals.{add-one}
-use lib.ListN.{length, getElem?, getD, set, take, drop}
-use lib.Seq.{set-set, set-comm}
+use lib.ListN.{length, getElem?, getD, set, take, drop, replicate}
+use lib.Seq.{set-set, set-comm, take-suc, length-take-le}
 use lib.Dec.{eqb}
 use borrow.Author.Tests.{eqb-true, eqb-false}
 use Rattle.definition.specs.Lists.{all, any, allFrom, rows, writeRows, stack, writeStack}
@@ -306,6 +306,19 @@ module _ {A : Type 0} (p : List ℕ → ℕ → A → List ℕ) (comm : (t : Lis
   writeRows-snoc (y ∷ xs) x i t =
       let e : i + suc (length xs) ≡ suc i + length xs = omega arith in
       rw (e, writeRows-snoc xs x (suc i) t) (comm (writeRows p xs (suc i) t) i (suc i + length xs) y x (omega arith))
+
+  -- a list copied element by element: the next is written behind those that are there
+  pub writeRows-copy : (xs : List A) (d : A) (i j : ℕ) (t : List ℕ) → j < length xs → writeRows p (take (suc j) xs) i t ≡ p (writeRows p (take j xs) i t) (i + j) (getD xs j d)
+  writeRows-copy xs d i j t l =
+      let e : length (take j xs) ≡ j = length-take-le j xs (omega arith) in
+      rw (take-suc xs j d l, writeRows-snoc (take j xs) (getD xs j d) i t, e)
+
+  pub writeRows-replicate : (x : A) (n i : ℕ) (t : List ℕ) → writeRows p (replicate (suc n) x) i t ≡ p (writeRows p (replicate n x) i t) (i + n) x
+  unfolding writeRows
+  writeRows-replicate x zero i t = let e : i + 0 ≡ i = omega arith in rw e
+  writeRows-replicate x (suc n) i t =
+      let e : i + suc n ≡ suc i + n = omega arith in
+      rw e (ap (λ (s : List ℕ). p s i x) (writeRows-replicate x n (suc i) t) ∙ comm (writeRows p (replicate n x) (suc i) t) i (suc i + n) x x (omega arith))
 
 -- the first of two lists, then the second behind it
 pub writeRows-both : {A : Type 0} (p : List ℕ → ℕ → A → List ℕ) (xs ys : List A) (i : ℕ) (t : List ℕ) → writeRows p (xs ++ ys) i t ≡ writeRows p xs i (writeRows p ys (i + length xs) t)
