@@ -5,7 +5,7 @@ use mathlib.Core.Bool.{Bool, true, false}
 use mathlib.Core.Option.{none, some}
 use mathlib.Core.List.{List, [], _∷_, _++_}
 use mathlib.Core.Logic.{_≢_}
-use Prim.Native.Nat.{ℕ, zero, suc, _+_, _*_, _<_, _≤_}
+use Prim.Native.Nat.{ℕ, suc, _+_, _*_, _<_, _≤_}
 use native.Mathlib.Nat.{suc-mul, mul-le-mul-right}
 use native.Mathlib.Omega.{arith}
 use lib.ListN.{length, getElem?, getD, set, take, replicate, length-set}
@@ -13,13 +13,12 @@ use lib.Seq.{set-getD, set-out, set-comm, getD-set-same, getD-set-other}
 use lib.Dec.{eqb, leb}
 use borrow.Author.Tests.{eqb-true, leb-true, le-leb}
 use Rattle.definition.specs.Lists.{rows, writeRows, stack, writeStack}
-use Rattle.definition.specs.Classes.{Base, Entry}
-use Rattle.definition.specs.Constraints.{Tie, Subtype}
+use Rattle.definition.specs.Classes.{Base}
 use Rattle.definition.specs.Instructions.{pick}
 use Rattle.definition.specs.Machine.{Value, unsetValue, intValue, nullValue, objectValue, unlistedValue, Object, Frame, entryFrame}
-use Rattle.definition.specs.Tables.{ClassRow, threeAt, putThree, classRow, entry, tie, subtype, classRowAt, putClassRow, entryAt, putEntry, tieAt, putTie, subtypeAt, putSubtype, valueOf, kindOf, bitsOf, valueAt, putCells, putValue, fieldAt, putField, sizeOf, usedFields, objectAt, putObject, localAt, putLocal, operandAt, putOperand, frame, frameOf, frameAt, putHead, putFrame, frameBase, frameIn, putFrameIn}
+use Rattle.definition.specs.Tables.{threeAt, putThree, classRow, entry, tie, subtype, classRowAt, putClassRow, entryAt, putEntry, tieAt, putTie, subtypeAt, putSubtype, valueOf, kindOf, bitsOf, valueAt, putCells, putValue, fieldAt, putField, sizeOf, usedFields, objectAt, putObject, localAt, putLocal, operandAt, putOperand, frame, frameOf, frameAt, putHead, putFrame, frameBase, frameIn, putFrameIn}
 use Rattle.layout.specs.Tests.{All, all-each}
-use Rattle.layout.specs.Places.{rows-length, rows-cong, rows-set, rows-last, rows-both, rows-there, rows-past, writeRows-append, writeRows-below, writeRows-first, writeRows-snoc, writeRows-copy, stack-length, stack-cong, writeRows-same, writeStack-same, writeStack-above, writeStack-two, writeRows-put, writeRows-replace, writeRows-last, writeRows-keeps, writeStack-keeps, writeRows-length, writeStack-length, rows-written, stack-written}
+use Rattle.layout.specs.Places.{rows-length, rows-cong, rows-set, rows-last, rows-both, rows-there, rows-past, writeRows-append, writeRows-below, writeRows-first, writeRows-snoc, writeRows-copy, stack-length, stack-cong, writeRows-same, writeStack-same, writeStack-above, writeStack-two, writeRows-replace, writeRows-last, writeRows-length, rows-written, stack-written}
 
 -- Rows of w cells that hold anything
 
@@ -82,11 +81,13 @@ pub rows-after-more : {A : Type 0} {at : List ℕ → ℕ → A} {put : List ℕ
 rows-after-more {at = at} {put = put} {w = w} laws xs t n h =
     let z : 0 + n ≡ n = omega arith in
     rows-both (at (writeRows put xs n t)) n (length xs) 0
-    ∙ rw (z
-         , rows-cong (at (writeRows put xs n t)) (at t) n 0 (λ m a k. writeRows-below put at (laws .same) (λ s i j x l. laws .other s i j x (λ e. omega arith)) xs m n t (omega arith))
-         , rows-written put (laws .long) at (λ _. Unit {0}) (length t) (n + length xs)
-             (λ s i x e k p. laws .back s i x (omega (arith, mul-le-mul-right w k, suc-mul i w))) (λ s i j x k p. laws .other s i j x (λ e. omega arith)) xs n (omega arith)
-             (all-each (λ _. Unit {0}) (λ x. tt) xs) t refl)
+    ∙ rw (
+      z,
+      rows-cong (at (writeRows put xs n t)) (at t) n 0 (λ m a k. writeRows-below put at (laws .same) (λ s i j x l. laws .other s i j x (λ e. omega arith)) xs m n t (omega arith)),
+      rows-written put (laws .long) at (λ _. Unit {0}) (length t) (n + length xs)
+          (λ s i x e k p. laws .back s i x (omega (arith, mul-le-mul-right w k, suc-mul i w))) (λ s i j x k p. laws .other s i j x (λ e. omega arith)) xs n (omega arith)
+          (all-each (λ _. Unit {0}) (λ x. tt) xs) t refl,
+    )
 
 module _ (t : List ℕ) where
   three-same : (i : ℕ) → putThree t i (getD t (i * 3) 0) (getD t (i * 3 + 1) 0) (getD t (i * 3 + 2) 0) ≡ t

@@ -2,14 +2,13 @@
 -- read back as they are, so what a call puts is not broken.
 use mathlib.Core.Path.{_≡_, refl, sym, ap, _∙_}
 use mathlib.Core.Bool.{Bool, true, false, not}
-use mathlib.Core.Option.{Option, none, some}
+use mathlib.Core.Option.{Option, none}
 use mathlib.Core.List.{List, [], _∷_}
-use mathlib.Core.Logic.{_≢_}
 use Prim.Native.Nat.{ℕ, zero, suc, _+_, _*_, _≤_, _<_}
 use native.Mathlib.Omega.{arith}
-use lib.ListN.{length, take, drop, getD, set, length-set}
+use lib.ListN.{length, getD, set, length-set}
 use lib.Seq.{take-all}
-use lib.Dec.{eqb, leb}
+use lib.Dec.{leb}
 use borrow.Author.Tests.{eqb-true, eq-eqb, leb-true, le-leb, not-false}
 use Rattle.definition.specs.Lists.{rows, writeRows, stack, writeStack}
 use Rattle.definition.specs.Maybe.{_>>=_, need}
@@ -17,11 +16,11 @@ use Rattle.definition.specs.Classes.{Base, Entry, slots, slotsIn, ownSlots}
 use Rattle.definition.specs.Machine.{Value, unsetValue, intValue, nullValue, objectValue, unlistedValue, Object, Frame}
 use Rattle.definition.specs.File.{File, byte, readFile, objectClass}
 use Rattle.definition.specs.Tables.{Tables, shaped, ClassRow, Rows, fileAt, classAt, baseOf, worldOf, sizeOf, usedFields, classRowAt, putClassRow, entryAt, putEntry, tieAt, putTie, subtypeAt, putSubtype, objectAt, putObject, localAt, operandAt, fieldAt, frameOf, frameAt, putFrame, frameBase, frameIn, putFrameIn, classRowsOf, keptOf, cacheOf, viewBase, objectsOf, framesOf, viewOver, view, countsOf, put}
-use Rattle.definition.specs.Broken.{within, sound, whole, broken}
-use Rattle.layout.specs.Tests.{All, From, every-true, true-every, all-more, all-each}
-use Rattle.layout.specs.Places.{rows-length, rows-cong, rows-take, stack-length, stack-cong, all-rows, rows-all, all-stack, stack-all, writeRows-length, writeStack-length, writeStack-keeps, rows-written, stack-written}
-use Rattle.layout.specs.Cells.{rows-back, class-rows, entry-rows, tie-rows, subtype-rows, cell-rows, Proper, proper-unset, proper-int, proper-null, proper-object, Unread, unread-cell, used-all, putObject-length, object-other, object-back, frame-cells, putFrame-length, FrameProper, unread-row, frame-back}
-use Rattle.layout.specs.Whole.{Local, ValueSound, ObjectSound, Framed, Objected, Frames, First, ClassSound, Classes, Limits, Whole, Sound, sound-true, sound-is, whole-sound, true-sound}
+use Rattle.definition.specs.Broken.{within, whole, broken}
+use Rattle.layout.specs.Tests.{All, From, every-true, true-every, all-more}
+use Rattle.layout.specs.Places.{rows-length, rows-take, stack-length, stack-cong, all-stack, writeRows-length, writeStack-length, writeStack-keeps, rows-written, stack-written}
+use Rattle.layout.specs.Cells.{rows-back, class-rows, entry-rows, tie-rows, subtype-rows, cell-rows, Proper, proper-unset, proper-int, proper-null, proper-object, unread-cell, used-all, putObject-length, object-other, object-back, frame-cells, putFrame-length, FrameProper, unread-row, frame-back}
+use Rattle.layout.specs.Whole.{Local, ValueSound, ObjectSound, Framed, Objected, Frames, First, ClassSound, Classes, Limits, Whole, Sound, sound-true, sound-is, whole-sound}
 
 -- The published lengths
 

@@ -1,22 +1,22 @@
 -- What a change of rows writes. Rows read off tables and put back change nothing; rows that were appended, replaced or dropped write their own
 -- cells and their count. The classes' fields may be read off any base: the laws ask nothing of it.
 use mathlib.Core.Path.{_≡_, refl, sym, ap, _∙_}
-use mathlib.Core.Option.{Option}
-use mathlib.Core.List.{List, [], _∷_, _++_, map}
+use mathlib.Core.Option.{Option, none, some}
+use mathlib.Core.List.{List, [], _∷_, _++_, map, append-nil}
 use Prim.Native.Nat.{ℕ, zero, suc, _+_, _*_, _<_, _≤_}
 use native.Mathlib.Omega.{arith}
-use lib.ListN.{length, getD, set, length-append, length-map, length-set}
-use lib.Seq.{set-getD}
+use lib.ListN.{length, getElem?, getD, set, take, drop, length-append, length-map, length-set}
+use lib.Seq.{set-getD, take-length}
 use Rattle.definition.specs.Lists.{rows, writeRows, stack, writeStack}
 use Rattle.definition.specs.Requests.{at}
-use Rattle.definition.specs.Classes.{Base, Class, Entry}
-use Rattle.definition.specs.Constraints.{Tie, Subtype, World}
-use Rattle.definition.specs.Machine.{Value, Object, Frame, Progress}
+use Rattle.definition.specs.Classes.{Base, Class}
+use Rattle.definition.specs.Constraints.{Tie, Subtype}
+use Rattle.definition.specs.Machine.{Value, Object, Frame, Progress, existing}
 use Rattle.definition.specs.Loading.{withClass, withEntry}
-use Rattle.definition.specs.Tables.{Tables, tables, ClassRow, Rows, classAt, worldOf, putThree, classRowAt, putClassRow, entryAt, putEntry, tieAt, putTie, subtypeAt, putSubtype, usedFields, objectAt, putObject, putField, localAt, putLocal, operandAt, putOperand, frame, frameOf, frameAt, putFrame, frameBase, frameIn, putFrameIn, classRowsOf, keptOf, cacheOf, tiesOf, subtypesOf, viewBase, objectsOf, framesOf, viewOver, view, countsOf, put}
+use Rattle.definition.specs.Tables.{Tables, tables, Rows, classAt, worldOf, putThree, classRowAt, putClassRow, putEntry, putTie, putSubtype, usedFields, objectAt, putObject, putField, localAt, putLocal, operandAt, putOperand, frame, frameOf, putFrame, frameBase, frameIn, putFrameIn, classRowsOf, keptOf, cacheOf, tiesOf, subtypesOf, viewBase, objectsOf, framesOf, viewOver, view, countsOf, put}
 use Rattle.definition.specs.Calls.{addFile, addEntry, progressed, withFrames}
-use Rattle.layout.specs.Places.{rows-length, set-there, writeRows-same, stack-length, stack-cong, writeStack-same, writeStack-above, writeStack-two, written-set}
-use Rattle.layout.specs.Cells.{RowLaws, rows-kept, rows-more, row-more, class-rows, entry-rows, tie-rows, subtype-rows, cell-rows, Unread, withField, object-same, object-below, object-field-past, objects-field, objects-made, moved, frameWith, frame-kept, frame-above, frame-two, frame-local, frame-given, frameIn-same, frame-unread, unread-value, unread-frame}
+use Rattle.layout.specs.Places.{rows-length, rows-map, rows-there, rows-past, rows-take, rows-part, set-there, writeRows-same, stack-length, stack-cong, writeStack-same, writeStack-above, writeStack-two, written-set}
+use Rattle.layout.specs.Cells.{RowLaws, rows-kept, rows-more, row-more, class-rows, entry-rows, tie-rows, subtype-rows, cell-rows, Unread, withField, object-same, object-field-past, objects-field, objects-made, moved, frameWith, frame-kept, frame-above, frame-local, frame-given, frameIn-same, frame-unread, unread-value, unread-frame}
 
 -- A list of rows, n of them, that leaves the table u when it is written into t
 
@@ -184,7 +184,7 @@ module _ (b : Base) (t : Tables) where
   -- a task's frames alone
   pub frames-writes : (k : ℕ) (fs : List Frame) (n : ℕ) (u : List ℕ) → k < 2 → FillsTask k fs t n u
       → put (withFrames k (viewOver b t) fs) t
-        ≡ tables (set (t .counts) (6 + k) n) (t .classes) (t .kept) (t .cache) (t .ties) (t .subtypes) (t .objects) u
+      ≡ tables (set (t .counts) (6 + k) n) (t .classes) (t .kept) (t .cache) (t .ties) (t .subtypes) (t .objects) u
   unfolding viewOver
   frames-writes zero fs n u two h =
       put-fills (withFrames 0 (viewOver b t) fs) t (classes-fill t) (kept-fill t) (cache-fill t) (ties-fill t) (subtypes-fill t) (objects-fill t b) (quote-fill t fs n u h)
@@ -197,73 +197,94 @@ module _ (b : Base) (t : Tables) where
   -- drop: one count
   pub drop-writes : (k : ℕ) → k < 2
       → put (withFrames k (viewOver b t) []) t
-        ≡ tables (set (t .counts) (6 + k) 0) (t .classes) (t .kept) (t .cache) (t .ties) (t .subtypes) (t .objects) (t .frames)
+      ≡ tables (set (t .counts) (6 + k) 0) (t .classes) (t .kept) (t .cache) (t .ties) (t .subtypes) (t .objects) (t .frames)
   unfolding writeStack
   drop-writes k two = frames-writes k [] 0 (t .frames) two (record { count = refl; cells = refl; apart = λ e. refl })
 
   -- record: one entry and one count
   pub entry-writes : (l n c : ℕ)
       → put (addEntry (viewOver b t) (withEntry (worldOf (viewOver b t)) (at l n) c)) t
-        ≡ tables (set (t .counts) 2 (getD (t .counts) 2 0 + 1)) (t .classes) (t .kept) (putThree (t .cache) (getD (t .counts) 2 0) l n c) (t .ties) (t .subtypes) (t .objects) (t .frames)
+      ≡ tables (set (t .counts) 2 (getD (t .counts) 2 0 + 1)) (t .classes) (t .kept) (putThree (t .cache) (getD (t .counts) 2 0) l n c) (t .ties) (t .subtypes) (t .objects) (t .frames)
   unfolding viewOver putEntry
   entry-writes l n c =
       put-fills (addEntry (viewOver b t) (withEntry (worldOf (viewOver b t)) (at l n) c)) t (classes-fill t) (kept-fill t)
-        (fill-last entry-rows (t .cache) (getD (t .counts) 2 0) (record { request = at l n; class = c })) (ties-fill t) (subtypes-fill t) (objects-fill t b) (frames-fill t)
+      (fill-last entry-rows (t .cache) (getD (t .counts) 2 0) (record { request = at l n; class = c })) (ties-fill t) (subtypes-fill t) (objects-fill t b) (frames-fill t)
       ∙ rw (count-set (countsRead (t .counts)) 2 (getD (t .counts) 2 0 + 1) (t .counts) (omega arith), counts-kept (t .counts))
 
   -- define: a class row, the file's bytes, an entry, ties, subtype constraints, and their five counts
   pub class-writes : (l : ℕ) (bs : List ℕ) (k : Class) (us : List Tie) (ss : List Subtype)
       → let c = t .counts in
-        put (addFile l bs (viewOver b t) (withClass (worldOf (viewOver b t)) k us ss)) t
-        ≡ tables
-          (set (set (set (set (set c 0 (getD c 0 0 + 1)) 1 (getD c 1 0 + length bs)) 2 (getD c 2 0 + 1)) 3 (getD c 3 0 + length us)) 4 (getD c 4 0 + length ss))
-          (putThree (t .classes) (getD c 0 0) l (getD c 1 0) (length bs))
-          (writeRows set bs (getD c 1 0) (t .kept))
-          (putThree (t .cache) (getD c 2 0) (k .loader) (k .name) (getD c 0 0))
-          (writeRows putTie us (getD c 3 0) (t .ties))
-          (writeRows putSubtype ss (getD c 4 0) (t .subtypes))
-          (t .objects)
-          (t .frames)
+      put (addFile l bs (viewOver b t) (withClass (worldOf (viewOver b t)) k us ss)) t
+      ≡ tables
+      (set (set (set (set (set c 0 (getD c 0 0 + 1)) 1 (getD c 1 0 + length bs)) 2 (getD c 2 0 + 1)) 3 (getD c 3 0 + length us)) 4 (getD c 4 0 + length ss))
+      (putThree (t .classes) (getD c 0 0) l (getD c 1 0) (length bs))
+      (writeRows set bs (getD c 1 0) (t .kept))
+      (putThree (t .cache) (getD c 2 0) (k .loader) (k .name) (getD c 0 0))
+      (writeRows putTie us (getD c 3 0) (t .ties))
+      (writeRows putSubtype ss (getD c 4 0) (t .subtypes))
+      (t .objects)
+      (t .frames)
   unfolding viewOver putEntry putClassRow
   class-writes l bs k us ss =
       let c : List ℕ = t .counts in
       let n : length (keptOf t) ≡ getD c 1 0 = kept-fill t .count in
       let m : length (map (classAt (keptOf t)) (classRowsOf t)) ≡ getD c 0 0 = length-map (classRowsOf t) (classAt (keptOf t)) ∙ classes-fill t .count in
       put-fills (addFile l bs (viewOver b t) (withClass (worldOf (viewOver b t)) k us ss)) t
-        (fill-last class-rows (t .classes) (getD c 0 0) (record { loader = l; start = length (keptOf t); size = length bs })) (fill-more cell-rows (t .kept) (getD c 1 0) bs)
-        (fill-last entry-rows (t .cache) (getD c 2 0) (record { request = at (k .loader) (k .name); class = length (map (classAt (keptOf t)) (classRowsOf t)) }))
-        (ties-more t us) (subtypes-more t ss) (objects-fill t b) (frames-fill t)
-      ∙ rw (n, m
-           , count-set (set (set (set (set (countsRead c) 0 (getD c 0 0 + 1)) 1 (getD c 1 0 + length bs)) 2 (getD c 2 0 + 1)) 3 (getD c 3 0 + length us)) 4 (getD c 4 0 + length ss) c (omega arith)
-           , count-set (set (set (set (countsRead c) 0 (getD c 0 0 + 1)) 1 (getD c 1 0 + length bs)) 2 (getD c 2 0 + 1)) 3 (getD c 3 0 + length us) c (omega arith)
-           , count-set (set (set (countsRead c) 0 (getD c 0 0 + 1)) 1 (getD c 1 0 + length bs)) 2 (getD c 2 0 + 1) c (omega arith)
-           , count-set (set (countsRead c) 0 (getD c 0 0 + 1)) 1 (getD c 1 0 + length bs) c (omega arith)
-           , count-set (countsRead c) 0 (getD c 0 0 + 1) c (omega arith), counts-kept c)
+      (fill-last class-rows (t .classes) (getD c 0 0) (record { loader = l; start = length (keptOf t); size = length bs })) (fill-more cell-rows (t .kept) (getD c 1 0) bs)
+      (fill-last entry-rows (t .cache) (getD c 2 0) (record { request = at (k .loader) (k .name); class = length (map (classAt (keptOf t)) (classRowsOf t)) }))
+      (ties-more t us) (subtypes-more t ss) (objects-fill t b) (frames-fill t)
+      ∙ rw (
+        n,
+        m,
+        count-set (set (set (set (set (countsRead c) 0 (getD c 0 0 + 1)) 1 (getD c 1 0 + length bs)) 2 (getD c 2 0 + 1)) 3 (getD c 3 0 + length us)) 4 (getD c 4 0 + length ss) c (omega arith),
+        count-set (set (set (set (countsRead c) 0 (getD c 0 0 + 1)) 1 (getD c 1 0 + length bs)) 2 (getD c 2 0 + 1)) 3 (getD c 3 0 + length us) c (omega arith),
+        count-set (set (set (countsRead c) 0 (getD c 0 0 + 1)) 1 (getD c 1 0 + length bs)) 2 (getD c 2 0 + 1) c (omega arith),
+        count-set (set (countsRead c) 0 (getD c 0 0 + 1)) 1 (getD c 1 0 + length bs) c (omega arith),
+        count-set (countsRead c) 0 (getD c 0 0 + 1) c (omega arith),
+        counts-kept c,
+      )
 
   -- a task's progress: the ties that it posted, the objects and the task's frames that it leaves, and their three counts
   pub progress-writes : (k : ℕ) (p : Progress) (us : List Tie) (m n : ℕ) (o u : List ℕ) → k < 2 → p .world .ties ≡ tiesOf t ++ us
       → Fills putObject (p .objects) (t .objects) m o → FillsTask k (p .frames) t n u
       → put (progressed k (viewOver b t) p) t
-        ≡ tables (set (set (set (t .counts) 3 (getD (t .counts) 3 0 + length us)) 5 m) (6 + k) n) (t .classes) (t .kept) (t .cache) (writeRows putTie us (getD (t .counts) 3 0) (t .ties)) (t .subtypes) o u
+      ≡ tables (set (set (set (t .counts) 3 (getD (t .counts) 3 0 + length us)) 5 m) (6 + k) n) (t .classes) (t .kept) (t .cache) (writeRows putTie us (getD (t .counts) 3 0) (t .ties)) (t .subtypes) o u
   unfolding viewOver
   progress-writes zero p us m n o u two e g h =
       let c : List ℕ = t .counts in
       let i : Fills putTie (p .world .ties) (t .ties) (getD c 3 0 + length us) (writeRows putTie us (getD c 3 0) (t .ties)) = rw e (ties-more t us) in
       put-fills (progressed 0 (viewOver b t) p) t (classes-fill t) (kept-fill t) (cache-fill t) i (subtypes-fill t) g (quote-fill t (p .frames) n u h)
-      ∙ rw (count-set (set (set (countsRead c) 3 (getD c 3 0 + length us)) 5 m) 6 n c (omega arith), count-set (set (countsRead c) 3 (getD c 3 0 + length us)) 5 m c (omega arith)
-           , count-set (countsRead c) 3 (getD c 3 0 + length us) c (omega arith), counts-kept c)
+      ∙ rw (
+        count-set (set (set (countsRead c) 3 (getD c 3 0 + length us)) 5 m) 6 n c (omega arith),
+        count-set (set (countsRead c) 3 (getD c 3 0 + length us)) 5 m c (omega arith),
+        count-set (countsRead c) 3 (getD c 3 0 + length us) c (omega arith),
+        counts-kept c,
+      )
   progress-writes (suc zero) p us m n o u two e g h =
       let c : List ℕ = t .counts in
       let i : Fills putTie (p .world .ties) (t .ties) (getD c 3 0 + length us) (writeRows putTie us (getD c 3 0) (t .ties)) = rw e (ties-more t us) in
       put-fills (progressed 1 (viewOver b t) p) t (classes-fill t) (kept-fill t) (cache-fill t) i (subtypes-fill t) g (report-fill t (p .frames) n u h)
-      ∙ rw (count-set (set (set (countsRead c) 3 (getD c 3 0 + length us)) 5 m) 7 n c (omega arith), count-set (set (countsRead c) 3 (getD c 3 0 + length us)) 5 m c (omega arith)
-           , count-set (countsRead c) 3 (getD c 3 0 + length us) c (omega arith), counts-kept c)
+      ∙ rw (
+        count-set (set (set (countsRead c) 3 (getD c 3 0 + length us)) 5 m) 7 n c (omega arith),
+        count-set (set (countsRead c) 3 (getD c 3 0 + length us)) 5 m c (omega arith),
+        count-set (countsRead c) 3 (getD c 3 0 + length us) c (omega arith),
+        counts-kept c,
+      )
   progress-writes (suc (suc k)) p us m n o u two e g h = absurd (omega arith)
+
+  -- the same where it posted no tie
+  pub quiet-writes : (k : ℕ) (p : Progress) (m n : ℕ) (o u : List ℕ) → k < 2 → p .world .ties ≡ tiesOf t
+      → Fills putObject (p .objects) (t .objects) m o → FillsTask k (p .frames) t n u
+      → put (progressed k (viewOver b t) p) t ≡ tables (set (set (t .counts) 5 m) (6 + k) n) (t .classes) (t .kept) (t .cache) (t .ties) (t .subtypes) o u
+  unfolding writeRows
+  quiet-writes k p m n o u two e g h =
+      let z : getD (t .counts) 3 0 + 0 ≡ getD (t .counts) 3 0 = omega arith in
+      progress-writes k p [] m n o u two (e ∙ sym (append-nil (tiesOf t))) g h ∙ rw (z, set-getD (t .counts) 3 0)
 
   -- frames alone, by a step: no tie, no object
   pub task-writes : (k : ℕ) (fs : List Frame) (x : Option ℕ) (n : ℕ) (u : List ℕ) → k < 2 → FillsTask k fs t n u
       → put (progressed k (viewOver b t) (record { world = worldOf (viewOver b t); objects = objectsOf b t; frames = fs; result = x })) t
-        ≡ tables (set (t .counts) (6 + k) n) (t .classes) (t .kept) (t .cache) (t .ties) (t .subtypes) (t .objects) u
+      ≡ tables (set (t .counts) (6 + k) n) (t .classes) (t .kept) (t .cache) (t .ties) (t .subtypes) (t .objects) u
   unfolding viewOver
   task-writes zero fs x n u two h = frames-writes 0 fs n u two h
   task-writes (suc k) fs x n u two h = frames-writes (suc k) fs n u two h
@@ -271,7 +292,7 @@ module _ (b : Base) (t : Tables) where
   -- as many frames as before: no count
   pub top-writes : (k : ℕ) (fs : List Frame) (x : Option ℕ) (u : List ℕ) → k < 2 → FillsTask k fs t (getD (t .counts) (6 + k) 0) u
       → put (progressed k (viewOver b t) (record { world = worldOf (viewOver b t); objects = objectsOf b t; frames = fs; result = x })) t
-        ≡ tables (t .counts) (t .classes) (t .kept) (t .cache) (t .ties) (t .subtypes) (t .objects) u
+      ≡ tables (t .counts) (t .classes) (t .kept) (t .cache) (t .ties) (t .subtypes) (t .objects) u
   top-writes k fs x u two h = task-writes k fs x (getD (t .counts) (6 + k) 0) u two h ∙ rw (set-getD (t .counts) (6 + k) 0)
 
 -- What a task's frames write
@@ -331,7 +352,7 @@ module _ (t : Tables) (k m : ℕ) (room : m < 32) where
   -- and a value above them
   pub top-above : (p d : ℕ) (v : Value) → d < 16
       → FillsTask k (frameWith (t .frames) row p (v ∷ stack (operandAt (t .frames) row) d) (rows (localAt (t .frames) row) 8 0) ∷ under) t (suc m)
-        (putOperand row (moved (t .frames) row p (d + 1)) d v)
+      (putOperand row (moved (t .frames) row p (d + 1)) d v)
   unfolding putFrameIn putOperand
   top-above p d v l =
       let e : d + 1 ≡ suc d = omega arith in
@@ -339,7 +360,7 @@ module _ (t : Tables) (k m : ℕ) (room : m < 32) where
         count = ap suc under-count;
         cells =
             writeStack-above (putFrameIn k) (frameIn (t .frames) k) (t .frames) (frameIn-same (t .frames) k) m
-              (frameWith (t .frames) row p (v ∷ stack (operandAt (t .frames) row) d) (rows (localAt (t .frames) row) 8 0))
+            (frameWith (t .frames) row p (v ∷ stack (operandAt (t .frames) row) d) (rows (localAt (t .frames) row) 8 0))
             ∙ frame-above (t .frames) row p d v;
         apart = λ z. unread-value reported 0 1664 unreported (moved (t .frames) row p (suc d)) (row + (20 + 2 * d)) v (omega arith) (omega arith) ∙ moved-apart p (suc d) z;
       })
@@ -347,13 +368,13 @@ module _ (t : Tables) (k m : ℕ) (room : m < 32) where
   -- the frame moved, with its lowest d operands and a local set
   pub top-local : (p d j : ℕ) (v : Value) → j < 8
       → FillsTask k (frameWith (t .frames) row p (stack (operandAt (t .frames) row) d) (set (rows (localAt (t .frames) row) 8 0) j v) ∷ under) t (suc m)
-        (putLocal row (moved (t .frames) row p d) j v)
+      (putLocal row (moved (t .frames) row p d) j v)
   unfolding putFrameIn putLocal
   top-local p d j v l = record {
     count = ap suc under-count;
     cells =
         writeStack-above (putFrameIn k) (frameIn (t .frames) k) (t .frames) (frameIn-same (t .frames) k) m
-          (frameWith (t .frames) row p (stack (operandAt (t .frames) row) d) (set (rows (localAt (t .frames) row) 8 0) j v))
+        (frameWith (t .frames) row p (stack (operandAt (t .frames) row) d) (set (rows (localAt (t .frames) row) 8 0) j v))
         ∙ frame-local (t .frames) row p d j v l;
     apart = λ z. unread-value reported 0 1664 unreported (moved (t .frames) row p d) (row + (4 + 2 * j)) v (omega arith) (omega arith) ∙ moved-apart p d z;
   }
@@ -361,7 +382,7 @@ module _ (t : Tables) (k m : ℕ) (room : m < 32) where
   -- a waiting frame is given a value: it had d operands
   pub top-given : (d : ℕ) (v : Value) → d ≡ getD (t .frames) (row + 3) 0 → d < 16
       → FillsTask k (frame (frameIn (t .frames) k m .class) (frameIn (t .frames) k m .method) (frameIn (t .frames) k m .point) (v ∷ frameIn (t .frames) k m .operands) (frameIn (t .frames) k m .locals) ∷ under)
-        t (suc m) (putOperand row (set (t .frames) (row + 3) (d + 1)) d v)
+      t (suc m) (putOperand row (set (t .frames) (row + 3) (d + 1)) d v)
   unfolding putFrameIn frameIn putOperand
   top-given d v q l =
       let e : d + 1 ≡ suc d = omega arith in
@@ -369,9 +390,70 @@ module _ (t : Tables) (k m : ℕ) (room : m < 32) where
         count = ap suc under-count;
         cells =
             writeStack-above (putFrameIn k) (frameIn (t .frames) k) (t .frames) (frameIn-same (t .frames) k) m
-              (frame (frameIn (t .frames) k m .class) (frameIn (t .frames) k m .method) (frameIn (t .frames) k m .point) (v ∷ frameIn (t .frames) k m .operands) (frameIn (t .frames) k m .locals))
+            (frame (frameIn (t .frames) k m .class) (frameIn (t .frames) k m .method) (frameIn (t .frames) k m .point) (v ∷ frameIn (t .frames) k m .operands) (frameIn (t .frames) k m .locals))
             ∙ frame-given (t .frames) row d v q;
         apart = λ z.
             unread-value reported 0 1664 unreported (set (t .frames) (row + 3) (suc d)) (row + (20 + 2 * d)) v (omega arith) (omega arith)
             ∙ unreported (t .frames) (row + 3) (suc d) (omega arith) (omega arith);
       })
+
+  -- a frame entered above the one that moved on
+  pub top-entered : (p d : ℕ) (f : Frame) → suc m < 32 → length (f .operands) ≤ 16 → length (f .locals) ≤ 8
+      → FillsTask k (f ∷ frameOf (t .frames) row p d ∷ under) t (suc (suc m)) (putFrame (moved (t .frames) row p d) (frameBase k (suc m)) f)
+  unfolding putFrameIn
+  top-entered p d f l a c = record {
+    count = ap (λ (z : ℕ). suc (suc z)) under-count;
+    cells =
+        writeStack-two (putFrameIn k) (frameIn (t .frames) k) (t .frames) (frameIn-same (t .frames) k) m (frameOf (t .frames) row p d) f
+        ∙ ap (λ (s : List ℕ). putFrame s (frameBase k (suc m)) f) (frame-kept (t .frames) row p d);
+    apart = λ z.
+        unread-frame reported (frameBase k (suc m)) 1664 (report-unread (getD (t .counts) 7 0) (frameBase k (suc m))) f (omega arith) (omega arith) (omega arith) (moved (t .frames) row p d)
+        ∙ moved-apart p d z;
+  }
+
+-- a first frame
+pub first-entered : (t : Tables) (k : ℕ) (f : Frame) → length (f .operands) ≤ 16 → length (f .locals) ≤ 8 → FillsTask k (f ∷ []) t 1 (putFrame (t .frames) (frameBase k 0) f)
+unfolding stack
+first-entered t k f a c = top-fill t k 0 (omega arith) f a c
+
+-- start: an object, a first frame, two counts
+pub start-writes : (b : Base) (t : Tables) (k : ℕ) (x : Object) (f : Frame) (y : Option ℕ) → k < 2 → length (f .operands) ≤ 16 → length (f .locals) ≤ 8
+    → put (progressed k (viewOver b t) (record { world = worldOf (viewOver b t); objects = objectsOf b t ++ (x ∷ []); frames = f ∷ []; result = y })) t
+    ≡ tables (set (set (t .counts) 5 (getD (t .counts) 5 0 + 1)) (6 + k) 1) (t .classes) (t .kept) (t .cache) (t .ties) (t .subtypes)
+    (putObject (t .objects) (getD (t .counts) 5 0) x) (putFrame (t .frames) (frameBase k 0) f)
+unfolding viewOver
+start-writes b t k x f y two a c =
+    quiet-writes b t k (record { world = worldOf (viewOver b t); objects = objectsOf b t ++ (x ∷ []); frames = f ∷ []; result = y })
+    (getD (t .counts) 5 0 + 1) 1 (putObject (t .objects) (getD (t .counts) 5 0) x) (putFrame (t .frames) (frameBase k 0) f) two refl (object-made t b x) (first-entered t k f a c)
+
+-- What the calls read
+
+module _ (t : Tables) where
+  pub class-there : (c : ℕ) → c < getD (t .counts) 0 0 → getElem? (viewBase t .classes) c ≡ some (classAt (keptOf t) (classRowAt (t .classes) c))
+  class-there c l =
+      rw (rows-map (classAt (keptOf t)) (classRowAt (t .classes)) (getD (t .counts) 0 0) 0) (rows-there (λ i. classAt (keptOf t) (classRowAt (t .classes) i)) (getD (t .counts) 0 0) c l)
+
+  pub class-past : (c : ℕ) → getD (t .counts) 0 0 ≤ c → getElem? (viewBase t .classes) c ≡ none
+  class-past c l =
+      rw (rows-map (classAt (keptOf t)) (classRowAt (t .classes)) (getD (t .counts) 0 0) 0) (rows-past (λ i. classAt (keptOf t) (classRowAt (t .classes) i)) (getD (t .counts) 0 0) 0 c l)
+
+  pub class-count : length (viewBase t .classes) ≡ getD (t .counts) 0 0
+  class-count = length-map (classRowsOf t) (classAt (keptOf t)) ∙ classes-fill t .count
+
+  pub object-there : (b : Base) (o : ℕ) → o < getD (t .counts) 5 0 → existing (objectsOf b t) o ≡ some (objectAt b (t .objects) o)
+  unfolding existing objectsOf
+  object-there b o l = rows-there (objectAt b (t .objects)) (getD (t .counts) 5 0) o l
+
+  pub object-past : (b : Base) (o : ℕ) → getD (t .counts) 5 0 ≤ o → existing (objectsOf b t) o ≡ none
+  unfolding existing objectsOf
+  object-past b o l = rows-past (objectAt b (t .objects)) (getD (t .counts) 5 0) 0 o l
+
+  -- the kept bytes are the front of their table, and a file's bytes a part of it
+  pub kept-front : getD (t .counts) 1 0 ≤ length (t .kept) → keptOf t ≡ take (getD (t .counts) 1 0) (t .kept)
+  kept-front l = rows-take (t .kept) (getD (t .counts) 1 0) l
+
+  pub kept-part : (s n : ℕ) → s + n ≤ getD (t .counts) 1 0 → getD (t .counts) 1 0 ≤ length (t .kept) → take n (drop s (keptOf t)) ≡ take n (drop s (t .kept))
+  kept-part s n h l =
+      let a : 0 + s ≡ s = omega arith in
+      rows-part (λ i. getD (t .kept) i 0) (getD (t .counts) 1 0) s n 0 h
+      ∙ (sym (rows-part (λ i. getD (t .kept) i 0) (length (t .kept)) s n 0 (omega arith)) ∙ rw (rows-take (t .kept) (length (t .kept)) (omega arith), take-length (t .kept)))
