@@ -207,6 +207,18 @@ module _ {A : Type 0} (f : A → Bool) (g : ℕ → A) where
   unfolding all stack
   stack-end i h = let z : i ≡ 0 = omega arith in rw z
 
+  pub any-stack-hit : (i : ℕ) → 0 < i → f (g (i - 1)) ≡ true → any f (stack g i) ≡ true
+  unfolding any
+  any-stack-hit i h e = rw (stack-top g i h, e, any)
+
+  pub any-stack-on : (i : ℕ) → 0 < i → f (g (i - 1)) ≡ false → any f (stack g i) ≡ any f (stack g (i - 1))
+  unfolding any
+  any-stack-on i h e = ap (any f) (stack-top g i h) ∙ rw e
+
+  pub any-stack-end : (i : ℕ) → i ≤ 0 → any f (stack g i) ≡ false
+  unfolding any stack
+  any-stack-end i h = let z : i ≡ 0 = omega arith in rw z
+
 -- each with its place
 module _ {A : Type 0} (f : ℕ → A → Bool) (g : ℕ → A) where
   pub from-hit : (n i : ℕ) → i < n → f i (g i) ≡ false → allFrom f i (rows g (n - i) i) ≡ false

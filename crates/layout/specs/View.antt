@@ -448,6 +448,15 @@ module _ (t : Tables) where
   unfolding existing objectsOf
   object-past b o l = rows-past (objectAt b (t .objects)) (getD (t .counts) 5 0) 0 o l
 
+  -- a task's frames: none, or the top frame and those under it
+  pub frames-none : (k : ℕ) → getD (t .counts) (6 + k) 0 ≡ 0 → framesOf t k ≡ []
+  unfolding framesOf stack
+  frames-none k e = rw e
+
+  pub frames-top : (k m : ℕ) → getD (t .counts) (6 + k) 0 ≡ suc m → framesOf t k ≡ frameIn (t .frames) k m ∷ stack (frameIn (t .frames) k) m
+  unfolding framesOf stack
+  frames-top k m e = rw e
+
   -- the kept bytes are the front of their table, and a file's bytes a part of it
   pub kept-front : getD (t .counts) 1 0 ≤ length (t .kept) → keptOf t ≡ take (getD (t .counts) 1 0) (t .kept)
   kept-front l = rows-take (t .kept) (getD (t .counts) 1 0) l
