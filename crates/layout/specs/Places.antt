@@ -257,7 +257,8 @@ module _ {A : Type 0} (p : List ℕ → ℕ → A → List ℕ) (g : ℕ → A) 
   writeRows-same (suc k) i = rw (writeRows-same k (suc i)) (same i)
 
   -- one of the rows replaced: one place written, if rows below it are then still there
-  pub writeRows-set : (k i j : ℕ) (x : A) → j < k → ((m : ℕ) → m < i + j → p (p t (i + j) x) m (g m) ≡ p t (i + j) x) → writeRows p (set (rows g k i) j x) i t ≡ p t (i + j) x
+  pub writeRows-set : (k i j : ℕ) (x : A) → j < k → ((m : ℕ) → m < i + j → p (p t (i + j) x) m (g m) ≡ p t (i + j) x) → writeRows p (set (rows g k i) j x) i t
+      ≡ p t (i + j) x
   unfolding writeRows rows
   writeRows-set zero i j x l other = absurd (omega arith)
   writeRows-set (suc k) i zero x l other = let e : i + 0 ≡ i = omega arith in rw (writeRows-same k (suc i), e)
@@ -320,7 +321,8 @@ module _ {A : Type 0} (p : List ℕ → ℕ → A → List ℕ) (comm : (t : Lis
       rw (e, writeRows-snoc xs x (suc i) t) (comm (writeRows p xs (suc i) t) i (suc i + length xs) y x (omega arith))
 
   -- a list copied element by element: the next is written behind those that are there
-  pub writeRows-copy : (xs : List A) (d : A) (i j : ℕ) (t : List ℕ) → j < length xs → writeRows p (take (suc j) xs) i t ≡ p (writeRows p (take j xs) i t) (i + j) (getD xs j d)
+  pub writeRows-copy : (xs : List A) (d : A) (i j : ℕ) (t : List ℕ) → j < length xs → writeRows p (take (suc j) xs) i t
+      ≡ p (writeRows p (take j xs) i t) (i + j) (getD xs j d)
   writeRows-copy xs d i j t l =
       let e : length (take j xs) ≡ j = length-take-le j xs (omega arith) in
       rw (take-suc xs j d l, writeRows-snoc (take j xs) (getD xs j d) i t, e)
@@ -333,7 +335,8 @@ module _ {A : Type 0} (p : List ℕ → ℕ → A → List ℕ) (comm : (t : Lis
       rw e (ap (λ (s : List ℕ). p s i x) (writeRows-replicate x n (suc i) t) ∙ comm (writeRows p (replicate n x) (suc i) t) i (suc i + n) x x (omega arith))
 
 -- the first of two lists, then the second behind it
-pub writeRows-both : {A : Type 0} (p : List ℕ → ℕ → A → List ℕ) (xs ys : List A) (i : ℕ) (t : List ℕ) → writeRows p (xs ++ ys) i t ≡ writeRows p xs i (writeRows p ys (i + length xs) t)
+pub writeRows-both : {A : Type 0} (p : List ℕ → ℕ → A → List ℕ) (xs ys : List A) (i : ℕ) (t : List ℕ) → writeRows p (xs ++ ys) i t
+    ≡ writeRows p xs i (writeRows p ys (i + length xs) t)
 unfolding writeRows
 writeRows-both p [] ys i t = let e : i + 0 ≡ i = omega arith in rw e
 writeRows-both p (x ∷ xs) ys i t = let e : i + suc (length xs) ≡ suc i + length xs = omega arith in rw (e, writeRows-both p xs ys (suc i) t)
