@@ -8,8 +8,8 @@ use mathlib.Core.Logic.{_≢_}
 use Prim.Native.Nat.{ℕ, suc, _+_, _*_, _<_, _≤_}
 use native.Mathlib.Nat.{suc-mul, mul-le-mul-right}
 use native.Mathlib.Omega.{arith}
-use lib.ListN.{length, getElem?, getD, set, take, replicate, length-set}
-use lib.Seq.{set-getD, set-out, set-comm, getD-set-same, getD-set-other}
+use lib.ListN.{length, getElem?, getD, set, take, drop, replicate, length-set}
+use lib.Seq.{sets, sets-eq, set-getD, set-out, set-comm, getD-set-same, getD-set-other}
 use lib.Dec.{eqb, leb}
 use borrow.Author.Tests.{eqb-true, leb-true, le-leb}
 use Rattle.definition.specs.Lists.{rows, writeRows, stack, writeStack}
@@ -170,6 +170,15 @@ cell-rows = record {
   long = λ t i x. length-set t i x;
   commute = λ t i j x y l. set-comm t j i y x (λ e. omega arith);
 }
+
+-- cells written from the first on, and as a block
+pub cells-sets : (xs : List ℕ) (i : ℕ) (t : List ℕ) → writeRows set xs i t ≡ sets t i xs
+unfolding writeRows
+cells-sets [] i t = refl
+cells-sets (x ∷ xs) i t = rows-first cell-rows x xs i t ∙ cells-sets xs (suc i) (set t i x)
+
+pub cells-block : (xs : List ℕ) (i : ℕ) (t : List ℕ) → i + length xs ≤ length t → writeRows set xs i t ≡ take i t ++ xs ++ drop (i + length xs) t
+cells-block xs i t l = cells-sets xs i t ∙ sets-eq xs t i l
 
 -- Values
 

@@ -6,7 +6,7 @@ use mathlib.Core.List.{List, [], _∷_, _++_, map, append-nil}
 use Prim.Native.Nat.{ℕ, zero, suc, _+_, _*_, _<_, _≤_}
 use native.Mathlib.Omega.{arith}
 use lib.ListN.{length, getElem?, getD, set, take, drop, length-append, length-map, length-set}
-use lib.Seq.{set-getD, take-length}
+use lib.Seq.{sets, set-getD, take-length}
 use Rattle.definition.specs.Lists.{rows, writeRows, stack, writeStack}
 use Rattle.definition.specs.Requests.{at}
 use Rattle.definition.specs.Classes.{Base, Class}
@@ -14,9 +14,9 @@ use Rattle.definition.specs.Constraints.{Tie, Subtype}
 use Rattle.definition.specs.Machine.{Value, Object, Frame, Progress, existing}
 use Rattle.definition.specs.Loading.{withClass, withEntry}
 use Rattle.definition.specs.Tables.{Tables, tables, Rows, classAt, worldOf, putThree, classRowAt, putClassRow, putEntry, putTie, putSubtype, usedFields, objectAt, putObject, putField, localAt, putLocal, operandAt, putOperand, frameOf, putFrame, frameBase, frameIn, putFrameIn, classRowsOf, keptOf, cacheOf, tiesOf, subtypesOf, viewBase, objectsOf, framesOf, viewOver, view, countsOf, put}
-use Rattle.definition.specs.Calls.{addFile, addEntry, progressed, withFrames}
+use Rattle.definition.specs.Calls.{bootRows, addFile, addEntry, progressed, withFrames}
 use Rattle.layout.specs.Places.{rows-length, rows-map, rows-there, rows-past, rows-take, rows-part, set-there, writeRows-same, stack-length, stack-cong, writeStack-same, writeStack-above, writeStack-two, written-set}
-use Rattle.layout.specs.Cells.{RowLaws, rows-kept, rows-more, row-more, class-rows, entry-rows, tie-rows, subtype-rows, cell-rows, Unread, withField, object-same, object-field-past, objects-field, objects-made, moved, frameWith, withValue, frame-kept, frame-above, frame-local, frame-given, frameIn-same, frame-unread, unread-value, unread-frame}
+use Rattle.layout.specs.Cells.{RowLaws, rows-kept, rows-more, row-more, class-rows, entry-rows, tie-rows, subtype-rows, cell-rows, cells-sets, Unread, withField, object-same, object-field-past, objects-field, objects-made, moved, frameWith, withValue, frame-kept, frame-above, frame-local, frame-given, frameIn-same, frame-unread, unread-value, unread-frame}
 
 -- the count in cell i
 abbrev pub countAt : Tables → ℕ → ℕ
@@ -190,6 +190,14 @@ module _ (t : Tables) (fs : List Frame) (n : ℕ) (u : List ℕ) where
   }
 
 -- What the calls put
+
+-- boot: the eight counts, class 0 and the one entry
+pub boot-writes : (t : Tables)
+    → put bootRows t
+    ≡ tables (sets (t .counts) 0 (1 ∷ 0 ∷ 1 ∷ 0 ∷ 0 ∷ 0 ∷ 0 ∷ 0 ∷ [])) (putThree (t .classes) 0 0 0 0) (t .kept) (putThree (t .cache) 0 0 2 0) (t .ties)
+    (t .subtypes) (t .objects) (t .frames)
+unfolding put writeRows writeStack countsOf putClassRow putEntry
+boot-writes t = rw (cells-sets (1 ∷ 0 ∷ 1 ∷ 0 ∷ 0 ∷ 0 ∷ 0 ∷ 0 ∷ []) 0 (t .counts))
 
 module _ (b : Base) (t : Tables) where
   -- a task's frames alone
