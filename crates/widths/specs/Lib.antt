@@ -1,0 +1,3 @@
+-- Every call keeps the widths of cells, and cells that hold no row stay as they are.
+pub mod Below
+pub mod Fits
