@@ -1,3 +1,4 @@
 -- Every call keeps the widths of cells, and cells that hold no row stay as they are.
 pub mod Below
 pub mod Fits
+pub mod Files
