@@ -34,6 +34,12 @@ unfolding _>>=_
 read-on P Q none f h k = tt
 read-on P Q (some a) f h k = k a h
 
+-- where nothing of the first reading counts
+pub read-past : {A B : Type 0} (Q : B → Type 0) (o : Option A) (f : A → Option B) → ((a : A) → Read (f a) Q) → Read (o >>= f) Q
+unfolding _>>=_
+read-past Q none f k = tt
+read-past Q (some a) f k = k a
+
 pub read-need : {B : Type 0} (Q : B → Type 0) (b : Bool) (f : Unit {0} → Option B) → (b ≡ true → Read (f tt) Q) → Read (need b >>= f) Q
 unfolding _>>=_ need
 read-need Q true f k = k refl

@@ -2,3 +2,4 @@
 pub mod Below
 pub mod Fits
 pub mod Files
+pub mod Notes
