@@ -49,6 +49,11 @@ pub read-at : {A : Type 0} (Q : A → Type 0) (o : Option A) → Read o Q → (a
 read-at Q none h a e = absurd (Option·none-ne-some a e)
 read-at Q (some b) h a e = rw (Option·some-injective b a e) at h
 
+pub read-nth : {A : Type 0} (P : A → Type 0) (xs : List A) (i : ℕ) → All P xs → Read (getElem? xs i) P
+read-nth P [] i h = tt
+read-nth P (x ∷ xs) zero h = h .0
+read-nth P (x ∷ xs) (suc i) h = read-nth P xs i (h .1)
+
 -- Bytes and 16-bit numbers
 
 -- what was read has P, and the rest are bytes

@@ -3,3 +3,4 @@ pub mod Below
 pub mod Fits
 pub mod Files
 pub mod Notes
+pub mod Steps

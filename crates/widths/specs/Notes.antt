@@ -15,7 +15,7 @@ use Rattle.definition.specs.Verifier.{VerifierType, typeInt, typeNull, typeClas
 use Rattle.definition.specs.Widths.{EachBelow}
 use Rattle.layout.specs.Tests.{All, all-both}
 use Rattle.widths.specs.Below.{all-set}
-use Rattle.widths.specs.Files.{Read, read-on, read-past, read-need, InstructionFits, DecodedFits, decode-fits, MethodFits}
+use Rattle.widths.specs.Files.{Read, read-on, read-past, read-need, read-nth, InstructionFits, DecodedFits, decode-fits, MethodFits}
 
 -- a class name has 16 bits
 abbrev TypeFits : VerifierType → Type 0
@@ -78,11 +78,6 @@ unfolding pop
 popped [] h = tt
 popped (t ∷ ts) h = (h .0, h .1)
 
-local-read : (ls : List (Option VerifierType)) (i : ℕ) → All LocalFits ls → Read (getElem? ls i) LocalFits
-local-read [] i h = tt
-local-read (x ∷ ls) zero h = h .0
-local-read (x ∷ ls) (suc i) h = local-read ls i (h .1)
-
 flows : (o : List VerifierType) (l : List (Option VerifierType)) (n : List Note) → All TypeFits o → All LocalFits l → All NoteFits n → Read (flow o l n) FlowFits
 flows o l n a b c = read-need FlowFits _ _ (λ _. record { types = record { operands = a; locals = b }; notes = c })
 
@@ -92,10 +87,10 @@ module _ (s : TypeState) (h : StateFits s) where
   effect-fits AconstNull f = flows (typeNull ∷ s .operands) (s .locals) [] (tt, h .operands) (h .locals) tt
   effect-fits (Sipush n) f = flows (typeInt ∷ s .operands) (s .locals) [] (tt, h .operands) (h .locals) tt
   effect-fits (Iload i) f =
-      read-on LocalFits FlowFits _ _ (local-read (s .locals) i (h .locals)) (λ x hx. read-on TypeFits FlowFits x _ hx (λ t ht. read-past FlowFits _ _ (λ _.
+      read-on LocalFits FlowFits _ _ (read-nth LocalFits (s .locals) i (h .locals)) (λ x hx. read-on TypeFits FlowFits x _ hx (λ t ht. read-past FlowFits _ _ (λ _.
       flows (t ∷ s .operands) (s .locals) [] (ht, h .operands) (h .locals) tt)))
   effect-fits (Aload i) f =
-      read-on LocalFits FlowFits _ _ (local-read (s .locals) i (h .locals)) (λ x hx. read-on TypeFits FlowFits x _ hx (λ t ht. read-past FlowFits _ _ (λ _.
+      read-on LocalFits FlowFits _ _ (read-nth LocalFits (s .locals) i (h .locals)) (λ x hx. read-on TypeFits FlowFits x _ hx (λ t ht. read-past FlowFits _ _ (λ _.
       flows (t ∷ s .operands) (s .locals) [] (ht, h .operands) (h .locals) tt)))
   effect-fits (Istore i) f = read-on Popped FlowFits _ _ (popped (s .operands) (h .operands)) (λ p hp. read-past FlowFits _ _ (λ _. read-past FlowFits _ _ (λ _.
       flows (p .more) (set (s .locals) i (some (p .top))) [] (hp .1) (all-set LocalFits (s .locals) i (some (p .top)) (h .locals) (hp .0)) tt)))
