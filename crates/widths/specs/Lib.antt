@@ -4,3 +4,4 @@ pub mod Fits
 pub mod Files
 pub mod Notes
 pub mod Steps
+pub mod Calls
