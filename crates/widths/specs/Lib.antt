@@ -5,3 +5,4 @@ pub mod Files
 pub mod Notes
 pub mod Steps
 pub mod Calls
+pub mod Widths
