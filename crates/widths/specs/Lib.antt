@@ -6,3 +6,4 @@ pub mod Notes
 pub mod Steps
 pub mod Calls
 pub mod Widths
+pub mod Untouched
