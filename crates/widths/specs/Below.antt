@@ -1,9 +1,6 @@
 -- Numbers below a bound: cells read and set, parts of a list, rows and stacks written.
 use mathlib.Core.List.{List, [], _∷_, _++_, map}
-use mathlib.Core.Path.{_≡_}
-use mathlib.Core.Option.{Option, none, some}
 use Prim.Native.Nat.{ℕ, zero, suc, _<_}
-use native.Mathlib.Omega.{arith}
 use lib.ListN.{getD, set, take, drop}
 use Rattle.definition.specs.Lists.{rows, writeRows, writeStack}
 use Rattle.definition.specs.Widths.{EachBelow}

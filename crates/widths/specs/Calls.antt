@@ -1,18 +1,16 @@
 -- Every call on rows whose numbers have their widths leaves such rows, if its own arguments have theirs.
-use mathlib.Core.Path.{_≡_, refl, sym, subst}
+use mathlib.Core.Path.{_≡_, subst}
 use mathlib.Core.Bool.{Bool, true, false}
 use mathlib.Core.Option.{Option, none, some}
 use mathlib.Core.List.{List, [], _∷_, _++_}
-use mathlib.Core.Logic.{_⊎_, inl, inr}
+use mathlib.Core.Logic.{inl, inr}
 use Prim.Native.Nat.{ℕ, zero, suc, _<_}
 use native.Mathlib.Omega.{arith}
-use Rattle.definition.specs.declared.Reply.{Reply}
-use Rattle.definition.specs.declared.Answer.{Answer}
-use Rattle.definition.specs.Answers.{Result, ok, _>>=_}
+use Rattle.definition.specs.Answers.{ok}
 use Rattle.definition.specs.Lists.{any}
 use Rattle.definition.specs.Classes.{Base, Class, Method, superOf, loaderOf, hasMethod}
 use Rattle.definition.specs.Constraints.{Tie, Subtype, World, newTie}
-use Rattle.definition.specs.File.{File, readFile, classOf}
+use Rattle.definition.specs.File.{readFile, classOf}
 use Rattle.definition.specs.Superclasses.{nearest}
 use Rattle.definition.specs.Verifier.{Note}
 use Rattle.definition.specs.Machine.{Frame, Progress, newObject, intValue}

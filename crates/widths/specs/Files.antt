@@ -1,19 +1,19 @@
 -- What is read of bytes has its width: names of a file 16 bits, bytes of a method's code 8, and an instruction's inline numbers their own.
-use mathlib.Core.Path.{_≡_, refl, sym}
+use mathlib.Core.Path.{_≡_, refl}
 use mathlib.Core.Bool.{Bool, true, false, _&&_}
-use mathlib.Core.Option.{Option, none, some, Option·none-ne-some, Option·some-injective}
+use mathlib.Core.Option.{Option, none, some}
 use mathlib.Core.List.{List, [], _∷_, map}
-use Prim.Native.Nat.{ℕ, zero, suc, _+_, _*_, _<_, _≤_}
+use Prim.Native.Nat.{ℕ, zero, suc, _+_, _<_, _≤_}
 use native.Mathlib.Omega.{arith}
 use lib.ListN.{length, take, drop, getD, getElem?, length-take}
-use lib.Dec.{eqb, leb, ltb}
-use borrow.Author.Tests.{leb-true, ltb-true}
+use lib.Dec.{leb, ltb}
+use borrow.Author.Tests.{leb-true}
 use Rattle.definition.specs.declared.Opcode.{Opcode}
 use Rattle.definition.specs.declared.Opcode.the-variants.{OpAconstNull, OpSipush, OpIload, OpAload, OpIstore, OpAstore, OpPop, OpDup, OpIadd, OpIsub, OpGetfield, OpPutfield, OpInvokevirtual, OpNew, OpIreturn, OpAreturn, OpUnknown}
 use Rattle.definition.specs.declared.Instruction.{Instruction}
 use Rattle.definition.specs.declared.Instruction.the-variants.{AconstNull, Sipush, Iload, Aload, Istore, Astore, Pop, Dup, Iadd, Isub, Getfield, Putfield, Invokevirtual, New, Ireturn, Areturn}
 use Rattle.definition.specs.Maybe.{_>>=_, need}
-use Rattle.definition.specs.Classes.{Base, Class, Field, Method, methodsOf}
+use Rattle.definition.specs.Classes.{Base, Class, Method, methodsOf}
 use Rattle.definition.specs.File.{File, Got, byte, short, name, count, fieldsIn, methodsIn, readFile, classOf, objectClass}
 use Rattle.definition.specs.Instructions.{opcodeOf, inlineLength, shortAt, extend, instructionOf, Decoded, sizedAs, decode}
 use Rattle.definition.specs.Tables.{ClassRow, fileAt, classAt}
@@ -44,10 +44,6 @@ pub read-need : {B : Type 0} (Q : B → Type 0) (b : Bool) (f : Unit {0} → Opt
 unfolding _>>=_ need
 read-need Q true f k = k refl
 read-need Q false f k = tt
-
-pub read-at : {A : Type 0} (Q : A → Type 0) (o : Option A) → Read o Q → (a : A) → o ≡ some a → Q a
-read-at Q none h a e = absurd (Option·none-ne-some a e)
-read-at Q (some b) h a e = rw (Option·some-injective b a e) at h
 
 pub read-nth : {A : Type 0} (P : A → Type 0) (xs : List A) (i : ℕ) → All P xs → Read (getElem? xs i) P
 read-nth P [] i h = tt

@@ -1,26 +1,25 @@
 -- Rows whose numbers have their widths: rows that are read off tables of right widths are such rows, and whole rows that are such rows, put into
 -- tables of right widths, leave tables of right widths. What a whole store bounds anyhow (class, object and loader numbers, kinds, places of files,
 -- counts) isn't asked again.
-use mathlib.Core.Path.{_≡_, refl, sym}
+use mathlib.Core.Path.{_≡_}
 use mathlib.Core.Option.{some}
 use mathlib.Core.List.{List, [], _∷_}
-use Prim.Native.Nat.{ℕ, zero, suc, _+_, _*_, _<_, _≤_}
+use Prim.Native.Nat.{ℕ, _+_, _*_, _<_, _≤_}
 use native.Mathlib.Omega.{arith}
 use lib.ListN.{length, getD, set}
-use lib.Dec.{leb}
 use borrow.Author.Tests.{leb-true}
-use Rattle.definition.specs.Lists.{rows, writeRows, stack, writeStack}
+use Rattle.definition.specs.Lists.{writeRows, writeStack}
 use Rattle.definition.specs.Classes.{Base, Entry}
 use Rattle.definition.specs.Constraints.{Tie, Subtype}
 use Rattle.definition.specs.Machine.{Value, unsetValue, intValue, nullValue, objectValue, unlistedValue, Object, Frame}
 use Rattle.definition.specs.File.{File}
-use Rattle.definition.specs.Tables.{Tables, ClassRow, Rows, fileAt, worldOf, putThree, classRowAt, putClassRow, entryAt, putEntry, tieAt, putTie, subtypeAt, putSubtype, valueOf, kindOf, bitsOf, valueAt, putValue, fieldAt, putField, usedFields, objectAt, putObject, localAt, putLocal, operandAt, putOperand, frameOf, frameAt, putFrame, frameBase, frameIn, putFrameIn, viewBase, objectsOf, framesOf, viewOver, view, countsOf, put}
+use Rattle.definition.specs.Tables.{Tables, ClassRow, Rows, fileAt, worldOf, putThree, putClassRow, entryAt, putEntry, tieAt, putTie, subtypeAt, putSubtype, valueOf, kindOf, bitsOf, valueAt, putValue, fieldAt, putField, usedFields, objectAt, putObject, localAt, putLocal, operandAt, putOperand, frameOf, frameAt, putFrame, frameBase, frameIn, putFrameIn, viewBase, objectsOf, framesOf, viewOver, view, countsOf, put}
 use Rattle.definition.specs.Widths.{EachBelow, Widths}
 use Rattle.laws.specs.Options.{bind-some, need-true}
 use Rattle.layout.specs.Tests.{All}
 use Rattle.layout.specs.Places.{rows-all, stack-all}
 use Rattle.layout.specs.Cells.{bits-value}
-use Rattle.layout.specs.Whole.{Local, ValueSound, ObjectSound, Framed, Listed, Between, First, ClassSound, Classes, Whole}
+use Rattle.layout.specs.Whole.{Local, ValueSound, ObjectSound, Framed, Listed, Between, ClassSound, Classes, Whole}
 use Rattle.widths.specs.Below.{all-zip, from-all, below-cell, below-set, below-read, each-all, below-rows, below-stack}
 
 -- an int has 32 bits

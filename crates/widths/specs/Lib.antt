@@ -5,5 +5,6 @@ pub mod Files
 pub mod Notes
 pub mod Steps
 pub mod Calls
+pub mod Puts
 pub mod Widths
 pub mod Untouched

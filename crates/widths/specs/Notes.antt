@@ -1,17 +1,16 @@
 -- The verifier's notes are between names of 16 bits: every type that it gives comes from the class's name, a method's types or an inline name.
-use mathlib.Core.Path.{_≡_, refl, sym}
 use mathlib.Core.Bool.{Bool, true, false}
 use mathlib.Core.Option.{Option, none, some}
 use mathlib.Core.List.{List, [], _∷_, _++_}
 use Prim.Native.Nat.{ℕ, zero, suc, _+_, _<_}
-use lib.ListN.{length, getElem?, set}
+use lib.ListN.{length, set}
 use lib.Dec.{eqb}
 use Rattle.definition.specs.declared.Instruction.{Instruction}
 use Rattle.definition.specs.declared.Instruction.the-variants.{AconstNull, Sipush, Iload, Aload, Istore, Astore, Pop, Dup, Iadd, Isub, Getfield, Putfield, Invokevirtual, New, Ireturn, Areturn}
 use Rattle.definition.specs.Maybe.{_>>=_, need}
 use Rattle.definition.specs.Classes.{Class, Method}
-use Rattle.definition.specs.Instructions.{Decoded, decode}
-use Rattle.definition.specs.Verifier.{VerifierType, typeInt, typeNull, typeClass, Note, TypeState, Flow, typeOfName, entryTypes, meetClass, meetInt, meets, asReference, pop, flow, effect, returns, isReturn, verify, notesOf}
+use Rattle.definition.specs.Instructions.{Decoded}
+use Rattle.definition.specs.Verifier.{VerifierType, typeInt, typeNull, typeClass, Note, TypeState, Flow, typeOfName, entryTypes, meetClass, meetInt, meets, pop, flow, effect, returns, isReturn, verify, notesOf}
 use Rattle.definition.specs.Widths.{EachBelow}
 use Rattle.layout.specs.Tests.{All, all-both}
 use Rattle.widths.specs.Below.{all-set}

@@ -1,30 +1,28 @@
 -- A step leaves ints of 32 bits, ties on names of 16 bits, and methods and points that fit their cells.
-use mathlib.Core.Path.{_≡_, refl, sym}
 use mathlib.Core.Bool.{Bool, true, false, _||_}
 use mathlib.Core.Option.{Option, none, some}
-use mathlib.Core.List.{List, [], _∷_, _++_, map}
-use Prim.Native.Nat.{ℕ, zero, suc, _+_, _-_, _%_, _<_, _≤_}
+use mathlib.Core.List.{List, [], _∷_, _++_}
+use Prim.Native.Nat.{ℕ, suc, _+_, _-_, _%_, _<_}
 use native.Mathlib.Nat.{mod-lt}
 use native.Mathlib.Omega.{arith}
 use lib.ListN.{length, getElem?, set}
-use lib.Dec.{eqb, ltb}
+use lib.Dec.{eqb}
 use Rattle.definition.specs.declared.Instruction.{Instruction}
 use Rattle.definition.specs.declared.Instruction.the-variants.{AconstNull, Sipush, Iload, Aload, Istore, Astore, Pop, Dup, Iadd, Isub, Getfield, Putfield, Invokevirtual, New, Ireturn, Areturn}
 use Rattle.definition.specs.declared.Refusal.{Refusal}
 use Rattle.definition.specs.declared.Refusal.the-variants.{Word}
-use Rattle.definition.specs.Answers.{Result, refused, ok, _>>=_, need, take?}
+use Rattle.definition.specs.Answers.{Result, refused, ok, _>>=_, take?}
 use Rattle.definition.specs.Lists.{any, indexOf}
-use Rattle.definition.specs.Classes.{Base, Class, Method, Slot, slots, loaderOf, methodsOf, alike}
+use Rattle.definition.specs.Classes.{Base, Class, slots, loaderOf, methodsOf, alike}
 use Rattle.definition.specs.Constraints.{Tie, World, tieIs, newTie, post}
-use Rattle.definition.specs.Instructions.{Decoded, decode}
+use Rattle.definition.specs.Instructions.{Decoded}
 use Rattle.definition.specs.Verifier.{pop}
 use Rattle.definition.specs.Machine.{Value, unsetValue, intValue, nullValue, objectValue, unlistedValue, Object, Frame, existing, initialValue, newObject, entryFrame, pop!, object!, Progress, Now, now, past, give, execute, step}
-use Rattle.laws.specs.Results.{take-ok}
 use Rattle.laws.specs.Wrapped.{Ok, then}
 use Rattle.layout.specs.Tests.{All, all-both}
 use Rattle.widths.specs.Below.{all-map, all-set}
 use Rattle.widths.specs.Fits.{IntFits, TieFits, ObjectFits, FrameFits}
-use Rattle.widths.specs.Files.{Read, read-at, read-nth, InstructionFits, DecodedFits, decode-fits, MethodFits, MethodsFit, ClassFits, methods-of-fit}
+use Rattle.widths.specs.Files.{Read, read-nth, InstructionFits, DecodedFits, decode-fits, MethodFits, ClassFits, methods-of-fit}
 
 -- Answers in sequence: what holds of an accepted value
 

@@ -2,14 +2,14 @@
 use mathlib.Core.Path.{_≡_, refl, sym, ap, _∙_}
 use mathlib.Core.Option.{some, Option·some-injective}
 use mathlib.Core.List.{List, [], _∷_}
-use mathlib.Core.Logic.{_⊎_, inl, inr, _≢_}
-use Prim.Native.Nat.{ℕ, zero, suc, _+_, _-_, _*_, _<_, _≤_}
+use mathlib.Core.Logic.{_⊎_, inl, inr}
+use Prim.Native.Nat.{ℕ, suc, _+_, _-_, _*_, _<_, _≤_}
 use native.Mathlib.Omega.{arith}
 use lib.ListN.{length, getElem?, getD, set, length-set}
 use lib.Seq.{getD-set-other}
 use Rattle.definition.specs.Lists.{writeRows, writeStack}
-use Rattle.definition.specs.Machine.{Value, Object, Frame}
-use Rattle.definition.specs.Tables.{Tables, Rows, putThree, putClassRow, putEntry, putTie, putSubtype, putField, putObject, putLocal, putOperand, putHead, putFrame, frameBase, putFrameIn, countsOf, put}
+use Rattle.definition.specs.Machine.{Object, Frame}
+use Rattle.definition.specs.Tables.{Tables, Rows, putThree, putClassRow, putEntry, putTie, putSubtype, putField, putObject, putLocal, putOperand, putFrame, frameBase, putFrameIn, countsOf, put}
 use Rattle.laws.specs.Growth.{nth-lt}
 use Rattle.layout.specs.Tests.{All, all-more}
 use Rattle.layout.specs.Places.{writeRows-length, writeStack-length}

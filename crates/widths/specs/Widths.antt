@@ -1,7 +1,8 @@
 -- Every call whose arguments have their widths keeps the widths of cells, whatever the tables hold; so does every list of such calls.
-use mathlib.Core.Path.{_≡_, refl}
+use mathlib.Core.Path.{sym, subst}
 use mathlib.Core.Bool.{Bool, true, false, _&&_}
 use mathlib.Core.List.{List, [], _∷_}
+use mathlib.Core.Logic.{inl, inr}
 use Prim.Native.Nat.{ℕ, zero, suc}
 use lib.Dec.{leb}
 use Rattle.definition.specs.declared.Refusal.{Refusal}
@@ -10,18 +11,17 @@ use Rattle.definition.specs.declared.Answer.{Answer}
 use Rattle.definition.specs.declared.Answer.the-variants.{Idle, Ran, Finished, Refused}
 use Rattle.definition.specs.declared.Reply.{Reply}
 use Rattle.definition.specs.declared.Reply.the-variants.{Accepted, Denied}
-use Rattle.definition.specs.Answers.{Result, refused, ok}
+use Rattle.definition.specs.Answers.{Result}
 use Rattle.definition.specs.Tables.{Tables, shaped, Rows, view, put}
 use Rattle.definition.specs.Broken.{broken}
-use Rattle.definition.specs.Calls.{Given, bootRows, defineRows, recordRows, startRows, dropRows, stepRows, Done, done, carried, wrap, boot, stepTables, goOn, runFrom, run, Call, callBoot, callDefine, callRecord, callStart, callStep, callRun, callDrop, perform, performAll}
+use Rattle.definition.specs.Calls.{Given, bootRows, defineRows, recordRows, startRows, dropRows, stepRows, Done, done, wrap, boot, stepTables, goOn, runFrom, run, Call, callBoot, callDefine, callRecord, callStart, callStep, callRun, callDrop, perform, performAll}
 use Rattle.definition.specs.Widths.{Widths, Fitting}
 use Rattle.laws.specs.Wrapped.{Ok, ok-at}
 use Rattle.layout.specs.Tests.{All}
-use Rattle.layout.specs.Whole.{Whole}
-use Rattle.layout.specs.Unbroken.{broken-false}
 use Rattle.unbroken.specs.Calls.{define-whole, record-whole, start-whole, step-whole, drop-whole, boot-whole}
 use Rattle.unbroken.specs.Unbroken.{Keeps}
 use Rattle.widths.specs.Fits.{RowsFit, view-fits, put-widths}
+use Rattle.widths.specs.Puts.{wrap-puts}
 use Rattle.widths.specs.Calls.{define-fits, record-fits, start-fits, step-rows-fit, drop-fits, boot-fits}
 
 -- a call that leaves rows whose numbers have their widths
@@ -29,17 +29,10 @@ abbrev KeepsFit : {A : Type 0} → (Rows → Result (Given A)) → Type 0
 KeepsFit {A} f = (r : Rows) → RowsFit r → Ok (f r) (λ g. RowsFit (g .rows))
 
 wrap-widths : {A : Type 0} (deny : Refusal → A) (f : Rows → Result (Given A)) (t : Tables) → Keeps f → KeepsFit f → Widths t → Widths (wrap deny f t .tables)
-unfolding wrap carried
-wrap-widths {A} deny f t whole fit w = go (broken t) refl
-  where
-    carry : broken t ≡ false → (o : Result (Given A)) → f (view t) ≡ o → Widths (carried deny t o .tables)
-    carry h (refused x) e = w
-    carry h (ok g) e =
-        put-widths (g .rows) t w (ok-at (λ g. Whole (g .rows)) _ (whole (view t) (broken-false t h .1)) g e)
-        (ok-at (λ g. RowsFit (g .rows)) _ (fit (view t) (view-fits t w)) g e)
-    go : (b : Bool) → broken t ≡ b → Widths ((elim b as (λ _. Done A) [ true ↦ done (deny (Word 1)) t | false ↦ carried deny t (f (view t)) ]) .tables)
-    go true h = w
-    go false h = carry h (f (view t)) refl
+wrap-widths deny f t whole fit w = elim (wrap-puts deny f t whole) [
+  | inl e ↦ subst Widths (sym e) w
+  | inr p ↦ subst Widths (sym (p .is)) (put-widths (p .given .rows) t w (p .whole) (ok-at (λ g. RowsFit (g .rows)) _ (fit (view t) (view-fits t w)) (p .given) (p .accepted)))
+]
 
 boot-widths : (t : Tables) → Widths t → Widths (boot t .tables)
 unfolding boot
