@@ -40,7 +40,7 @@ subtypes-fit ss l [] h = tt
 subtypes-fit ss l (n ∷ ns) h = go (any (subtypeIs l n) ss) (subtypes-fit ss l ns (h .1)) (subtypes-fit (ss ++ (subtypeOf l n ∷ [])) l ns (h .1))
   where
     go : (t : Bool) → All SubtypeFits (newSubtypes ss l ns) → All SubtypeFits (newSubtypes (ss ++ (subtypeOf l n ∷ [])) l ns)
-      → All SubtypeFits (elim t as (λ _. List Subtype) [ true ↦ newSubtypes ss l ns | false ↦ subtypeOf l n ∷ newSubtypes (ss ++ (subtypeOf l n ∷ [])) l ns ])
+        → All SubtypeFits (elim t as (λ _. List Subtype) [ true ↦ newSubtypes ss l ns | false ↦ subtypeOf l n ∷ newSubtypes (ss ++ (subtypeOf l n ∷ [])) l ns ])
     go true x y = x
     go false x y = (record { low = h .0 .low; high = h .0 .high }, y)
 
@@ -53,12 +53,16 @@ override-fits b l p ts m h = go (nearest (superOf b) (hasMethod b (m .name) (m .
       | some y ↦ let us = newTie ts l (loaderOf b y) (m .argument) in us ++ newTie (ts ++ us) l (loaderOf b y) (m .result)
     ])
     go none = tt
-    go (some y) = all-both TieFits (newTie ts l (loaderOf b y) (m .argument)) _ (new-tie-fits ts l (loaderOf b y) (m .argument) (h .argument)) (new-tie-fits _ l (loaderOf b y) (m .result) (h .result))
+    go (some y) =
+        let us : List Tie = newTie ts l (loaderOf b y) (m .argument) in
+        all-both TieFits us _ (new-tie-fits ts l (loaderOf b y) (m .argument) (h .argument)) (new-tie-fits (ts ++ us) l (loaderOf b y) (m .result) (h .result))
 
 overrides-fit : (b : Base) (l p : ℕ) (ts : List Tie) (ms : List Method) → All MethodFits ms → All TieFits (overrideTies b l p ts ms)
 unfolding overrideTies
 overrides-fit b l p ts [] h = tt
-overrides-fit b l p ts (m ∷ ms) h = all-both TieFits (overrideTie b l p ts m) _ (override-fits b l p ts m (h .0)) (overrides-fit b l p (ts ++ overrideTie b l p ts m) ms (h .1))
+overrides-fit b l p ts (m ∷ ms) h =
+    let us : List Tie = overrideTie b l p ts m in
+    all-both TieFits us _ (override-fits b l p ts m (h .0)) (overrides-fit b l p (ts ++ us) ms (h .1))
 
 define-world : (room : Bool) (k : Class) (w : World) → ClassFits k → WorldFits w → Ok (define room k w) WorldFits
 unfolding define
@@ -111,13 +115,22 @@ module _ (r : Rows) (f : RowsFit r) where
   pub record-fits : (l n c : ℕ) → n < 65536 → Ok (recordRows l n c r) Fit
   unfolding recordRows
   record-fits l n c h = then Fit _ _ (λ w e.
-      record { kept = f .kept; cache = record-world l n c (worldOf r) w h world-fits e .cache; ties = f .ties; subtypes = f .subtypes; objects = f .objects; quote = f .quote; report = f .report })
+      record {
+        kept = f .kept;
+        cache = record-world l n c (worldOf r) w h world-fits e .cache;
+        ties = f .ties;
+        subtypes = f .subtypes;
+        objects = f .objects;
+        quote = f .quote;
+        report = f .report;
+      })
 
   started-fits : (l n m v : ℕ) (fs : List Frame) → v < 4294967296 → Ok (started l n m v (worldOf r) (r .objects) fs) ProgressFits
   unfolding started
   started-fits l n m v fs h =
       then ProgressFits _ _ (λ _ _. then ProgressFits _ _ (λ _ _. then ProgressFits _ _ (λ c _. then ProgressFits _ _ (λ s _.
-      then-on (λ j. j < 4294967296) ProgressFits _ _ (take-read (λ j. j < 4294967296) _ _ (method-fits (worldOf r .base) class-list m 1 1 s)) (λ j hj. then ProgressFits _ _ (λ _ _.
+      then-on (λ j. j < 4294967296) ProgressFits _ _ (take-read (λ j. j < 4294967296) _ _ (method-fits (worldOf r .base) class-list m 1 1 s)) (λ j hj.
+      then ProgressFits _ _ (λ _ _.
       record {
         ties = f .ties;
         objects = all-both ObjectFits (r .objects) (newObject (worldOf r .base) c ∷ []) (f .objects) (new-fits (worldOf r .base) c, tt);
@@ -130,7 +143,8 @@ module _ (r : Rows) (f : RowsFit r) where
 
   task-fits : (k : ℕ) (g : Frame) (gs : List Frame) → All FrameFits (g ∷ gs) → Ok (stepTask k (worldOf r) g gs r) Fit
   unfolding stepTask
-  task-fits k g gs h = then-on ProgressFits Fit _ _ (step-fits (worldOf r) (r .objects) class-list (f .ties) (f .objects) g gs (h .0) (h .1)) (λ o p. progressed-fits k o p)
+  task-fits k g gs h =
+      then-on ProgressFits Fit _ _ (step-fits (worldOf r) (r .objects) class-list (f .ties) (f .objects) g gs (h .0) (h .1)) (λ o p. progressed-fits k o p)
 
   pub step-rows-fit : Ok (stepRows r) Fit
   unfolding stepRows

@@ -133,6 +133,7 @@ methods-fit (suc k) bs h =
   where
     G : Got (List Method) → Type 0
     G = GotFits (MethodsFit (suc k))
+
     at-most : (n m : ℕ) → (leb 1 n && leb n 512 && leb n m) ≡ true → n ≤ 512
     at-most n m e = leb-true n 512 (and-true (leb 1 n) (leb n 512) (and-true (leb 1 n && leb n 512) (leb n m) e .0) .1)
 
@@ -169,8 +170,10 @@ class-fits bs h k = go (fileAt bs k) kept
   where
     Q : File → Type 0
     Q f = ClassFits (classOf (k .loader) f)
+
     kept : Read (fileAt bs k) Q
     kept = read-need Q _ _ (λ _. file-fits (k .loader) (take (k .size) (drop (k .start) bs)) (below-take 256 (k .size) (drop (k .start) bs) (below-drop 256 (k .start) bs h)))
+
     go : (o : Option File) → Read o Q → ClassFits (elim o as (λ _. Class) [ none ↦ objectClass | some f ↦ classOf (k .loader) f ])
     go none x = object-fits
     go (some f) x = x
@@ -250,10 +253,12 @@ module _ (code : List ℕ) (h : EachBelow 256 code) where
     where
       n : ℕ
       n = suc (inlineLength (opcodeOf (getD code p 0)))
+
       sized : p + n ≤ length code → (o : Option Instruction) → Read o InstructionFits → Read (sizedAs n o) (DecodedFits p)
       sized l none x = tt
       sized l (some i) x = record { instruction = x; inside = l }
+
       go : (b : Bool) → leb (p + n) (length code) ≡ b
-        → Read (elim b as (λ _. Option Decoded) [ true ↦ sizedAs n (instructionOf code (p + 1) (opcodeOf (getD code p 0))) | false ↦ none ]) (DecodedFits p)
+          → Read (elim b as (λ _. Option Decoded) [ true ↦ sizedAs n (instructionOf code (p + 1) (opcodeOf (getD code p 0))) | false ↦ none ]) (DecodedFits p)
       go true e = sized (leb-true (p + n) (length code) e) (instructionOf code (p + 1) (opcodeOf (getD code p 0))) (instruction-fits (p + 1) (opcodeOf (getD code p 0)))
       go false e = tt

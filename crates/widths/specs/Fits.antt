@@ -115,13 +115,18 @@ pub record Three (w a b c : ℕ) : Type 0 where
   pub second : b < w
   pub third : c < w
 
-below-three : (w : ℕ) (t : List ℕ) (i a b c : ℕ) → Three w a b c → EachBelow w t → EachBelow w (putThree t i a b c)
-below-three w t i a b c f h =
-    below-set w (set (set t (i * 3) a) (i * 3 + 1) b) (i * 3 + 2) c
-    (below-set w (set t (i * 3) a) (i * 3 + 1) b (below-set w t (i * 3) a h (f .first)) (f .second)) (f .third)
+below-threes : {A : Type 0} (w : ℕ) (a b c : A → ℕ) (xs : List A) (t : List ℕ) → All (λ x. Three w (a x) (b x) (c x)) xs → EachBelow w t
+    → EachBelow w (writeRows (λ s i x. putThree s i (a x) (b x) (c x)) xs 0 t)
+below-threes {A} w a b c xs t h k = below-rows w (λ s i x. putThree s i (a x) (b x) (c x)) (λ x. Three w (a x) (b x) (c x)) row xs 0 t h k
+  where
+    row : (s : List ℕ) (i : ℕ) (x : A) → Three w (a x) (b x) (c x) → EachBelow w s → EachBelow w (putThree s i (a x) (b x) (c x))
+    row s i x f h =
+        let s1 : List ℕ = set s (i * 3) (a x) in
+        let s2 : List ℕ = set s1 (i * 3 + 1) (b x) in
+        below-set w s2 (i * 3 + 2) (c x) (below-set w s1 (i * 3 + 1) (b x) (below-set w s (i * 3) (a x) h (f .first)) (f .second)) (f .third)
 
 -- a class's row: where its file is kept
-ClassRowFits : ClassRow → Type 0
+abbrev ClassRowFits : ClassRow → Type 0
 ClassRowFits k = Three 65536 (k .loader) (k .start) (k .size)
 
 file-inside : (bs : List ℕ) (k : ClassRow) (f : File) → fileAt bs k ≡ some f → k .start + k .size ≤ length bs
@@ -129,11 +134,12 @@ unfolding fileAt
 file-inside bs k f e = leb-true _ _ (need-true _ (bind-some _ _ e .1))
 
 class-rows-fit : (b : Base) (bs : List ℕ) (ks : List ClassRow) → length bs ≤ 16384 → Classes b bs ks → All ClassRowFits ks
-unfolding ClassRowFits
 class-rows-fit b bs [] l h = tt
 class-rows-fit b bs (k ∷ ks) l h = (
   record { first = omega (arith, h .0 .loader); second = omega (arith, h .0 .start); third = omega (arith, h .0 .size) },
-  from-all (ClassSound b bs) ClassRowFits (λ c x s. let e = file-inside bs x (s .file) (s .reads) in record { first = omega (arith, s .loader); second = omega arith; third = omega arith }) 1 ks (h .1),
+  from-all (ClassSound b bs) ClassRowFits (λ c x s.
+      let e = file-inside bs x (s .file) (s .reads) in
+      record { first = omega (arith, s .loader); second = omega arith; third = omega arith }) 1 ks (h .1),
 )
 
 -- a value's two cells
@@ -209,33 +215,64 @@ module _ (n m : ℕ) (few : n ≤ 64) (room : m ≤ 256) where
     locals = all-zip (Local m) IntFits CellsFit (local-cells m room) (f .locals) (s .locals) (h .locals);
   }
 
-pub put-widths : (r : Rows) (t : Tables) → Widths t → Whole r → RowsFit r → Widths (put r t)
-unfolding put countsOf ClassRowFits putClassRow putEntry putTie putSubtype
-put-widths r t w s f =
-    let n : ℕ = length (r .classes) in
-    let m : ℕ = length (r .objects) in
-    let cells : (fs : List Frame) → All (Framed n m) fs → All FrameFits fs → All FrameCells fs =
-    all-zip (Framed n m) FrameFits FrameCells (frame-cells n m (s .limits .classes) (s .limits .objects)) in
-    record {
-      counts = below-rows 65536 set (λ c. c < 65536) (λ u i c l h. below-set 65536 u i c h l) (countsOf r) 0 (t .counts) counted (w .counts);
-      classes = below-rows 65536 putClassRow ClassRowFits (λ u i k. below-three 65536 u i (k .loader) (k .start) (k .size)) (r .classes) 0 (t .classes)
-          (class-rows-fit (worldOf r .base) (r .kept) (r .classes) (s .limits .kept) (s .classes)) (w .classes);
-      kept = below-rows 256 set (λ c. c < 256) (λ u i c l h. below-set 256 u i c h l) (r .kept) 0 (t .kept) (each-all 256 (r .kept) (f .kept)) (w .kept);
-      cache = below-rows 65536 putEntry (λ e. Three 65536 (e .request .loader) (e .request .name) (e .class)) (λ u i e. below-three 65536 u i (e .request .loader) (e .request .name) (e .class))
-          (r .cache) 0 (t .cache)
-          (all-zip (Listed n) EntryFits _ (λ e l x. record { first = omega (arith, l .loader); second = x; third = omega (arith, l .class, s .limits .classes) }) (r .cache) (s .cache) (f .cache)) (w .cache);
-      ties = below-rows 65536 putTie (λ e. Three 65536 (e .one) (e .two) (e .name)) (λ u i e. below-three 65536 u i (e .one) (e .two) (e .name)) (r .ties) 0 (t .ties)
-          (all-zip Between TieFits _ (λ e l x. record { first = omega (arith, l .one); second = omega (arith, l .two); third = x }) (r .ties) (s .ties) (f .ties)) (w .ties);
-      subtypes = below-rows 65536 putSubtype (λ e. Three 65536 (e .loader) (e .low) (e .high)) (λ u i e. below-three 65536 u i (e .loader) (e .low) (e .high)) (r .subtypes) 0 (t .subtypes)
-          (all-zip (λ e. e .loader < 16) SubtypeFits _ (λ e l x. record { first = omega (arith, l); second = x .low; third = x .high }) (r .subtypes) (s .subtypes) (f .subtypes)) (w .subtypes);
-      objects = below-rows 4294967296 putObject ObjectCells below-object (r .objects) 0 (t .objects)
-          (all-zip (ObjectSound (worldOf r .base) n m) ObjectFits ObjectCells (object-cells n m (s .limits .classes) (s .limits .objects) (worldOf r .base)) (r .objects) (s .objects) (f .objects)) (w .objects);
-      frames = below-stack 4294967296 (putFrameIn 1) FrameCells (below-frame 1) (r .report) (writeStack (putFrameIn 0) (r .quote) (t .frames)) (cells (r .report) (s .report) (f .report))
-          (below-stack 4294967296 (putFrameIn 0) FrameCells (below-frame 0) (r .quote) (t .frames) (cells (r .quote) (s .quote) (f .quote)) (w .frames));
-    }
-  where
-    counted : All (λ c. c < 65536) (countsOf r)
-    counted = let l = s .limits in (
-      omega (arith, l .classes),
-      (omega (arith, l .kept), (omega (arith, l .cache), (omega (arith, l .ties), (omega (arith, l .subtypes), (omega (arith, l .objects), (omega (arith, l .quote), (omega (arith, l .report), tt))))))),
-    )
+module _ (r : Rows) (s : Whole r) (f : RowsFit r) where
+  abbrev N : ℕ
+  N = length (r .classes)
+
+  abbrev M : ℕ
+  M = length (r .objects)
+
+  counts-cells : All (λ c. c < 65536) (countsOf r)
+  unfolding countsOf
+  counts-cells = let l = s .limits in (
+    omega (arith, l .classes),
+    (
+      omega (arith, l .kept),
+      (
+        omega (arith, l .cache),
+        (
+          omega (arith, l .ties),
+          (omega (arith, l .subtypes), (omega (arith, l .objects), (omega (arith, l .quote), (omega (arith, l .report), tt)))),
+        ),
+      ),
+    ),
+  )
+
+  entries-cells : All (λ e. Three 65536 (e .request .loader) (e .request .name) (e .class)) (r .cache)
+  entries-cells =
+      all-zip (Listed N) EntryFits _ (λ e l x. record { first = omega (arith, l .loader); second = x; third = omega (arith, l .class, s .limits .classes) })
+      (r .cache) (s .cache) (f .cache)
+
+  ties-cells : All (λ e. Three 65536 (e .one) (e .two) (e .name)) (r .ties)
+  ties-cells = all-zip Between TieFits _ (λ e l x. record { first = omega (arith, l .one); second = omega (arith, l .two); third = x }) (r .ties) (s .ties) (f .ties)
+
+  subtypes-cells : All (λ e. Three 65536 (e .loader) (e .low) (e .high)) (r .subtypes)
+  subtypes-cells =
+      all-zip (λ e. e .loader < 16) SubtypeFits _ (λ e l x. record { first = omega (arith, l); second = x .low; third = x .high })
+      (r .subtypes) (s .subtypes) (f .subtypes)
+
+  objects-cells : All ObjectCells (r .objects)
+  objects-cells =
+      all-zip (ObjectSound (worldOf r .base) N M) ObjectFits ObjectCells (object-cells N M (s .limits .classes) (s .limits .objects) (worldOf r .base))
+      (r .objects) (s .objects) (f .objects)
+
+  frames-cells : (fs : List Frame) → All (Framed N M) fs → All FrameFits fs → All FrameCells fs
+  frames-cells fs a b = all-zip (Framed N M) FrameFits FrameCells (frame-cells N M (s .limits .classes) (s .limits .objects)) fs a b
+
+  pub put-widths : (t : Tables) → Widths t → Widths (put r t)
+  unfolding put putClassRow putEntry putTie putSubtype
+  put-widths t w =
+      let quoted : EachBelow 4294967296 (writeStack (putFrameIn 0) (r .quote) (t .frames)) =
+      below-stack 4294967296 (putFrameIn 0) FrameCells (below-frame 0) (r .quote) (t .frames) (frames-cells (r .quote) (s .quote) (f .quote)) (w .frames) in
+      record {
+        counts = below-rows 65536 set (λ c. c < 65536) (λ u i c l h. below-set 65536 u i c h l) (countsOf r) 0 (t .counts) counts-cells (w .counts);
+        classes = below-threes 65536 (λ k. k .loader) (λ k. k .start) (λ k. k .size) (r .classes) (t .classes)
+            (class-rows-fit (worldOf r .base) (r .kept) (r .classes) (s .limits .kept) (s .classes)) (w .classes);
+        kept = below-rows 256 set (λ c. c < 256) (λ u i c l h. below-set 256 u i c h l) (r .kept) 0 (t .kept) (each-all 256 (r .kept) (f .kept)) (w .kept);
+        cache = below-threes 65536 (λ e. e .request .loader) (λ e. e .request .name) (λ e. e .class) (r .cache) (t .cache) entries-cells (w .cache);
+        ties = below-threes 65536 (λ e. e .one) (λ e. e .two) (λ e. e .name) (r .ties) (t .ties) ties-cells (w .ties);
+        subtypes = below-threes 65536 (λ e. e .loader) (λ e. e .low) (λ e. e .high) (r .subtypes) (t .subtypes) subtypes-cells (w .subtypes);
+        objects = below-rows 4294967296 putObject ObjectCells below-object (r .objects) 0 (t .objects) objects-cells (w .objects);
+        frames = below-stack 4294967296 (putFrameIn 1) FrameCells (below-frame 1) (r .report) (writeStack (putFrameIn 0) (r .quote) (t .frames))
+            (frames-cells (r .report) (s .report) (f .report)) quoted;
+      }

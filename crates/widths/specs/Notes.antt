@@ -145,10 +145,10 @@ module _ (code : List ℕ) (bytes : EachBelow 256 code) (result : ℕ) (small : 
   verify-fits (suc k) p s h = read-on (DecodedFits code bytes p) (All NoteFits) _ _ (decode-fits code bytes p) (λ i x. go i x (isReturn (i .instruction)) (λ q s. verify-fits k q s))
     where
       go : (i : Decoded) → DecodedFits code bytes p i → (b : Bool) → ((q : ℕ) (s : TypeState) → StateFits s → Read (verify code result k q s) (All NoteFits))
-        → Read (elim b as (λ _. Option (List Note)) [
-          | true ↦ need (eqb (p + i .size) (length code)) >>= λ _. returns (i .instruction) result s
-          | false ↦ effect (i .instruction) s >>= λ f. verify code result k (p + i .size) (f .types) >>= λ ns. some (f .notes ++ ns)
-        ]) (All NoteFits)
+          → Read (elim b as (λ _. Option (List Note)) [
+            | true ↦ need (eqb (p + i .size) (length code)) >>= λ _. returns (i .instruction) result s
+            | false ↦ effect (i .instruction) s >>= λ f. verify code result k (p + i .size) (f .types) >>= λ ns. some (f .notes ++ ns)
+          ]) (All NoteFits)
       go i x true ih = read-need (All NoteFits) _ _ (λ _. returns-fit s h (i .instruction) result small)
       go i x false ih = read-on FlowFits (All NoteFits) _ _ (effect-fits s h (i .instruction) (x .instruction)) (λ f hf.
           read-on (All NoteFits) (All NoteFits) _ _ (ih (p + i .size) (f .types) (hf .types)) (λ ns hn. all-both NoteFits (f .notes) ns (hf .notes) hn))

@@ -31,8 +31,10 @@ wrap-puts {A} deny f t keeps = go (broken t) refl
     carry : broken t ≡ false → (o : Result (Given A)) → f (view t) ≡ o → (carried deny t o .tables ≡ t) ⊎ Put f t (carried deny t o .tables)
     carry h (refused w) e = inl refl
     carry h (ok g) e = inr (record { given = g; accepted = e; whole = ok-at (λ g. Whole (g .rows)) _ (keeps (view t) (broken-false t h .1)) g e; is = refl })
+
     D : Bool → Tables
     D b = (elim b as (λ _. Done A) [ true ↦ done (deny (Word 1)) t | false ↦ carried deny t (f (view t)) ]) .tables
+
     go : (b : Bool) → broken t ≡ b → (D b ≡ t) ⊎ Put f t (D b)
     go true h = inl refl
     go false h = carry h (f (view t)) refl

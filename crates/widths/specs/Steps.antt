@@ -94,7 +94,7 @@ index-lt f [] = tt
 index-lt f (x ∷ xs) = go (f x) (indexOf f xs) (index-lt f xs)
   where
     go : (b : Bool) (o : Option ℕ) → Read o (λ j. j < length xs)
-      → Read (elim b as (λ _. Option ℕ) [ true ↦ some 0 | false ↦ elim o as (λ _. Option ℕ) [ none ↦ none | some i ↦ some (suc i) ] ]) (λ j. j < suc (length xs))
+        → Read (elim b as (λ _. Option ℕ) [ true ↦ some 0 | false ↦ elim o as (λ _. Option ℕ) [ none ↦ none | some i ↦ some (suc i) ] ]) (λ j. j < suc (length xs))
     go true o h = omega arith
     go false none h = tt
     go false (some i) h = omega arith
@@ -139,6 +139,9 @@ module _ (w : World) (os : List Object) (classes : All ClassFits (w .base .class
     abbrev Q : Progress → Type 0
     Q = ProgressFits
 
+    pushed : (v : Value) → IntFits v → Q (record { world = w; objects = os; frames = past f i (v ∷ f .operands) (f .locals) ∷ fs; result = none })
+    pushed v h = frame-only (v ∷ f .operands) (f .locals) (h, top .operands) (top .locals)
+
     abbrev Held : record { number : ℕ; object : Object } → Type 0
     Held o = ObjectFits (o .object)
 
@@ -146,24 +149,27 @@ module _ (w : World) (os : List Object) (classes : All ClassFits (w .base .class
     local j = take-read IntFits (getElem? (f .locals) j) (Word 14) (read-nth IntFits (f .locals) j (top .locals))
 
     stored : (j : ℕ) (p : record { top : Value; more : List Value }) → Popped p
-      → Q (record { world = w; objects = os; frames = past f i (p .more) (set (f .locals) j (p .top)) ∷ fs; result = none })
+        → Q (record { world = w; objects = os; frames = past f i (p .more) (set (f .locals) j (p .top)) ∷ fs; result = none })
     stored j p h = frame-only (p .more) (set (f .locals) j (p .top)) (h .1) (all-set IntFits (f .locals) j (p .top) (top .locals) (h .0))
 
     -- two operands popped, whatever follows
-    two-popped : (g : (p q : record { top : Value; more : List Value }) → Result Progress) → ((p q : record { top : Value; more : List Value }) → Popped p → Popped q → Ok (g p q) Q)
-      → Ok (pop! (f .operands) >>= λ p. pop! (p .more) >>= λ q. g p q) Q
-    two-popped g n = then-on Popped Q _ _ (pop-fits (f .operands) (top .operands)) (λ p hp. then-on Popped Q _ (g p) (pop-fits (p .more) (hp .1)) (λ q hq. n p q hp hq))
+    two-popped : (g : (p q : record { top : Value; more : List Value }) → Result Progress)
+        → ((p q : record { top : Value; more : List Value }) → Popped p → Popped q → Ok (g p q) Q)
+        → Ok (pop! (f .operands) >>= λ p. pop! (p .more) >>= λ q. g p q) Q
+    two-popped g n =
+        then-on Popped Q _ _ (pop-fits (f .operands) (top .operands)) (λ p hp. then-on Popped Q _ (g p) (pop-fits (p .more) (hp .1)) (λ q hq. n p q hp hq))
 
     both-ties : (l m t r : ℕ) → t < 65536 → r < 65536 → All TieFits (newTie (w .ties) l m t ++ newTie (w .ties ++ newTie (w .ties) l m t) l m r)
     both-ties l m t r a b =
-        all-both TieFits (newTie (w .ties) l m t) (newTie (w .ties ++ newTie (w .ties) l m t) l m r) (new-tie-fits (w .ties) l m t a) (new-tie-fits (w .ties ++ newTie (w .ties) l m t) l m r b)
+        let us : List Tie = newTie (w .ties) l m t in
+        all-both TieFits us (newTie (w .ties ++ us) l m r) (new-tie-fits (w .ties) l m t a) (new-tie-fits (w .ties ++ us) l m r b)
 
     execute-fits : (j : Instruction) → InstructionFits j → Ok (execute w os f fs k i j) Q
     unfolding execute
-    execute-fits AconstNull x = then Q _ _ (λ _ _. frame-only (nullValue ∷ f .operands) (f .locals) (tt, top .operands) (top .locals))
-    execute-fits (Sipush n) x = then Q _ _ (λ _ _. frame-only (intValue n ∷ f .operands) (f .locals) (x, top .operands) (top .locals))
-    execute-fits (Iload j) x = then Q _ _ (λ _ _. then-on IntFits Q _ _ (local j) (λ v h. then Q _ _ (λ _ _. frame-only (v ∷ f .operands) (f .locals) (h, top .operands) (top .locals))))
-    execute-fits (Aload j) x = then Q _ _ (λ _ _. then-on IntFits Q _ _ (local j) (λ v h. then Q _ _ (λ _ _. frame-only (v ∷ f .operands) (f .locals) (h, top .operands) (top .locals))))
+    execute-fits AconstNull x = then Q _ _ (λ _ _. pushed nullValue tt)
+    execute-fits (Sipush n) x = then Q _ _ (λ _ _. pushed (intValue n) x)
+    execute-fits (Iload j) x = then Q _ _ (λ _ _. then-on IntFits Q _ _ (local j) (λ v h. then Q _ _ (λ _ _. pushed v h)))
+    execute-fits (Aload j) x = then Q _ _ (λ _ _. then-on IntFits Q _ _ (local j) (λ v h. then Q _ _ (λ _ _. pushed v h)))
     execute-fits (Istore j) x = then-on Popped Q _ _ (pop-fits (f .operands) (top .operands)) (λ p h. then Q _ _ (λ _ _. then Q _ _ (λ _ _. stored j p h)))
     execute-fits (Astore j) x = then-on Popped Q _ _ (pop-fits (f .operands) (top .operands)) (λ p h. then Q _ _ (λ _ _. then Q _ _ (λ _ _. stored j p h)))
     execute-fits Pop x = then-on Popped Q _ _ (pop-fits (f .operands) (top .operands)) (λ p h. frame-only (p .more) (f .locals) (h .1) (top .locals))
@@ -203,8 +209,10 @@ module _ (w : World) (os : List Object) (classes : All ClassFits (w .base .class
           objects = all-both ObjectFits os (newObject (w .base) e ∷ []) objects (new-fits (w .base) e, tt);
           frames = (moved (objectValue (length os) ∷ f .operands) (f .locals) (tt, top .operands) (top .locals), rest);
         }))
-    execute-fits Ireturn x = then Q _ _ (λ _ _. then-on Popped Q _ _ (pop-fits (f .operands) (top .operands)) (λ p h. then Q _ _ (λ _ _. give-fits fs (p .top) rest (h .0))))
-    execute-fits Areturn x = then Q _ _ (λ _ _. then-on Popped Q _ _ (pop-fits (f .operands) (top .operands)) (λ p h. then Q _ _ (λ _ _. give-fits fs (p .top) rest (h .0))))
+    execute-fits Ireturn x = then Q _ _ (λ _ _. then-on Popped Q _ _ (pop-fits (f .operands) (top .operands)) (λ p h.
+        then Q _ _ (λ _ _. give-fits fs (p .top) rest (h .0))))
+    execute-fits Areturn x = then Q _ _ (λ _ _. then-on Popped Q _ _ (pop-fits (f .operands) (top .operands)) (λ p h.
+        then Q _ _ (λ _ _. give-fits fs (p .top) rest (h .0))))
 
   record NowFits (f : Frame) (n : Now) : Type 0 where
     instruction : InstructionFits (n .at .instruction)
@@ -215,9 +223,11 @@ module _ (w : World) (os : List Object) (classes : All ClassFits (w .base .class
   now-fits f =
       then-on ClassFits (NowFits f) _ _ (take-read ClassFits _ _ (read-nth ClassFits (w .base .classes) (f .class) classes)) (λ k hk.
       then-on MethodFits (NowFits f) _ _ (take-read MethodFits _ _ (read-nth MethodFits (k .methods) (f .method) (hk .methods .each))) (λ m hm.
-      then-on (DecodedFits (m .code) (hm .code) (f .point)) (NowFits f) _ _ (take-read (DecodedFits (m .code) (hm .code) (f .point)) _ _ (decode-fits (m .code) (hm .code) (f .point))) (λ i hi.
+      let D : Decoded → Type 0 = DecodedFits (m .code) (hm .code) (f .point) in
+      then-on D (NowFits f) _ _ (take-read D _ _ (decode-fits (m .code) (hm .code) (f .point))) (λ i hi.
       record { instruction = hi .instruction; point = omega (arith, hi .inside, hm .short) })))
 
   pub step-fits : (f : Frame) (fs : List Frame) → FrameFits f → All FrameFits fs → Ok (step w os f fs) ProgressFits
   unfolding step
-  step-fits f fs top rest = then-on (NowFits f) ProgressFits _ _ (now-fits f) (λ n h. execute-fits f fs (n .theClass) (n .at) top rest (h .point) (n .at .instruction) (h .instruction))
+  step-fits f fs top rest =
+      then-on (NowFits f) ProgressFits _ _ (now-fits f) (λ n h. execute-fits f fs (n .theClass) (n .at) top rest (h .point) (n .at .instruction) (h .instruction))

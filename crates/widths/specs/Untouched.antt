@@ -91,14 +91,15 @@ module _ {A : Type 0} (p : List ℕ → ℕ → A → List ℕ) (j : ℕ) where
 cells-spare : (xs : List ℕ) (j : ℕ) (t : List ℕ) → length xs ≤ j → getD (writeRows set xs 0 t) j 0 ≡ getD t j 0
 cells-spare xs j t l = rows-spare set j xs 0 (λ n x q s. getD-set-other s (0 + n) j x 0 (λ e. omega (arith, nth-lt xs n x q))) t
 
-three-spare : (s : List ℕ) (i a b c j : ℕ) → i * 3 + 3 ≤ j → getD (putThree s i a b c) j 0 ≡ getD s j 0
-three-spare s i a b c j l =
-    getD-set-other (set (set s (i * 3) a) (i * 3 + 1) b) (i * 3 + 2) j c 0 (λ e. omega arith)
-    ∙ (getD-set-other (set s (i * 3) a) (i * 3 + 1) j b 0 (λ e. omega arith) ∙ getD-set-other s (i * 3) j a 0 (λ e. omega arith))
-
-threes-spare : {A : Type 0} (p : List ℕ → ℕ → A → List ℕ) → ((s : List ℕ) (i : ℕ) (x : A) (j : ℕ) → i * 3 + 3 ≤ j → getD (p s i x) j 0 ≡ getD s j 0)
-    → (xs : List A) (j : ℕ) (t : List ℕ) → length xs * 3 ≤ j → getD (writeRows p xs 0 t) j 0 ≡ getD t j 0
-threes-spare p row xs j t l = rows-spare p j xs 0 (λ n x q s. row s (0 + n) x j (omega (arith, nth-lt xs n x q))) t
+threes-spare : {A : Type 0} (a b c : A → ℕ) (xs : List A) (j : ℕ) (t : List ℕ) → length xs * 3 ≤ j
+    → getD (writeRows (λ s i x. putThree s i (a x) (b x) (c x)) xs 0 t) j 0 ≡ getD t j 0
+threes-spare {A} a b c xs j t l = rows-spare (λ s i x. putThree s i (a x) (b x) (c x)) j xs 0 (λ n x q s. row (0 + n) (omega (arith, nth-lt xs n x q)) x s) t
+  where
+    row : (i : ℕ) → i * 3 + 3 ≤ j → (x : A) (s : List ℕ) → getD (putThree s i (a x) (b x) (c x)) j 0 ≡ getD s j 0
+    row i l x s =
+        let s1 : List ℕ = set s (i * 3) (a x) in
+        let s2 : List ℕ = set s1 (i * 3 + 1) (b x) in
+        getD-set-other s2 (i * 3 + 2) j (c x) 0 (λ e. omega arith) ∙ (getD-set-other s1 (i * 3 + 1) j (b x) 0 (λ e. omega arith) ∙ getD-set-other s (i * 3) j (a x) 0 (λ e. omega arith))
 
 -- objects
 
@@ -155,12 +156,14 @@ untouched r t = record {
         ∙ writeStack-length (putFrameIn 0) (λ s i f. putFrame-length s (frameBase 0 i) f) (r .quote) (t .frames);
   };
   counts = λ j l. cells-spare (countsOf r) j (t .counts) l;
-  classes = λ j l. threes-spare putClassRow (λ s i k. three-spare s i (k .loader) (k .start) (k .size)) (r .classes) j (t .classes) l;
+  classes = λ j l. threes-spare (λ k. k .loader) (λ k. k .start) (λ k. k .size) (r .classes) j (t .classes) l;
   kept = λ j l. cells-spare (r .kept) j (t .kept) l;
-  cache = λ j l. threes-spare putEntry (λ s i e. three-spare s i (e .request .loader) (e .request .name) (e .class)) (r .cache) j (t .cache) l;
-  ties = λ j l. threes-spare putTie (λ s i e. three-spare s i (e .one) (e .two) (e .name)) (r .ties) j (t .ties) l;
-  subtypes = λ j l. threes-spare putSubtype (λ s i e. three-spare s i (e .loader) (e .low) (e .high)) (r .subtypes) j (t .subtypes) l;
-  objects = λ j h. rows-spare putObject j (r .objects) 0 (λ o x q s. object-spare s (0 + o) x j (λ a. h (o, x, q, record { from = omega (arith, a .from); to = omega (arith, a .to) }))) (t .objects);
+  cache = λ j l. threes-spare (λ e. e .request .loader) (λ e. e .request .name) (λ e. e .class) (r .cache) j (t .cache) l;
+  ties = λ j l. threes-spare (λ e. e .one) (λ e. e .two) (λ e. e .name) (r .ties) j (t .ties) l;
+  subtypes = λ j l. threes-spare (λ e. e .loader) (λ e. e .low) (λ e. e .high) (r .subtypes) j (t .subtypes) l;
+  objects = λ j h.
+      rows-spare putObject j (r .objects) 0 (λ o x q s. object-spare s (0 + o) x j (λ a. h (o, x, q, record { from = omega (arith, a .from); to = omega (arith, a .to) })))
+      (t .objects);
   frames = λ j a b. task-spare 1 (r .report) j b (writeStack (putFrameIn 0) (r .quote) (t .frames)) ∙ task-spare 0 (r .quote) j a (t .frames);
 }
 
@@ -237,7 +240,8 @@ past-operands k fs n c f h q l m x =
 
 pub untouched-rows : (r : Rows) (t : Tables) → Room r → LeavesRows r t
 untouched-rows r t h = record {
-  objects = λ j l. all .objects j (λ x. omega (arith, x .3 .to, nth-lt (r .objects) (x .0) (x .1) (x .2), all-nth Few (r .objects) (h .values) (x .0) (x .1) (x .2)));
+  objects = λ j l. all .objects j (λ x.
+      omega (arith, x .3 .to, nth-lt (r .objects) (x .0) (x .1) (x .2), all-nth Few (r .objects) (h .values) (x .0) (x .1) (x .2)));
   values = λ o c x q l m. all .objects (o * 33 + c) (λ y.
       let few : length (y .1 .values) ≤ 16 = all-nth Few (r .objects) (h .values) (y .0) (y .1) (y .2) in
       let same : y .0 ≡ o = omega (arith, y .3 .from, y .3 .to) in
@@ -252,10 +256,12 @@ untouched-rows r t h = record {
   quoteOperands = λ n c f q l m. all .frames (frameBase 0 (length (r .quote) - suc n) + c) (past-operands 0 (r .quote) n c f (h .quote) q l m)
       (λ x. let y : InRow 1 (r .report) _ = task-held 1 (r .report) _ (h .report) x in omega (arith, y .cells .from, nth-lt (r .quote) n f q, h .many));
   reportOperands = λ n c f q l m. all .frames (frameBase 1 (length (r .report) - suc n) + c)
-      (λ x. let y : InRow 0 (r .quote) _ = task-held 0 (r .quote) _ (h .quote) x in omega (arith, y .cells .to, y .few, y .less, h .many)) (past-operands 1 (r .report) n c f (h .report) q l m);
+      (λ x. let y : InRow 0 (r .quote) _ = task-held 0 (r .quote) _ (h .quote) x in omega (arith, y .cells .to, y .few, y .less, h .many))
+      (past-operands 1 (r .report) n c f (h .report) q l m);
 }
   where
     Few : Object → Type 0
     Few x = length (x .values) ≤ 16
+
     all : Leaves r t
     all = untouched r t

@@ -31,7 +31,9 @@ KeepsFit {A} f = (r : Rows) → RowsFit r → Ok (f r) (λ g. RowsFit (g .rows))
 wrap-widths : {A : Type 0} (deny : Refusal → A) (f : Rows → Result (Given A)) (t : Tables) → Keeps f → KeepsFit f → Widths t → Widths (wrap deny f t .tables)
 wrap-widths deny f t whole fit w = elim (wrap-puts deny f t whole) [
   | inl e ↦ subst Widths (sym e) w
-  | inr p ↦ subst Widths (sym (p .is)) (put-widths (p .given .rows) t w (p .whole) (ok-at (λ g. RowsFit (g .rows)) _ (fit (view t) (view-fits t w)) (p .given) (p .accepted)))
+  | inr p ↦
+      let fits = ok-at (λ g. RowsFit (g .rows)) _ (fit (view t) (view-fits t w)) (p .given) (p .accepted) in
+      subst Widths (sym (p .is)) (put-widths (p .given .rows) (p .whole) fits t w)
 ]
 
 boot-widths : (t : Tables) → Widths t → Widths (boot t .tables)
@@ -39,7 +41,7 @@ unfolding boot
 boot-widths t w = go (shaped t)
   where
     go : (b : Bool) → Widths ((elim b as (λ _. Done Reply) [ true ↦ done Accepted (put bootRows t) | false ↦ done (Denied (Word 1)) t ]) .tables)
-    go true = put-widths bootRows t w boot-whole boot-fits
+    go true = put-widths bootRows boot-whole boot-fits t w
     go false = w
 
 step-widths : (t : Tables) → Widths t → Widths (stepTables t .tables)
@@ -51,7 +53,8 @@ unfolding runFrom
 runs-widths zero k a t w = w
 runs-widths (suc n) k a t w = go (stepTables t .answer) (stepTables t .tables) (step-widths t w) (λ k a t w. runs-widths n k a t w)
   where
-    go : (x : Answer) (z : Tables) → Widths z → ((k : ℕ) (a : Answer) (t : Tables) → Widths t → Widths (runFrom stepTables n k a t .tables)) → Widths (goOn (runFrom stepTables n) k x z .tables)
+    go : (x : Answer) (z : Tables) → Widths z → ((k : ℕ) (a : Answer) (t : Tables) → Widths t → Widths (runFrom stepTables n k a t .tables))
+        → Widths (goOn (runFrom stepTables n) k x z .tables)
     go Idle z q ih = q
     go (Ran j) z q ih = ih (suc k) (Ran j) z q
     go (Finished j v) z q ih = q
