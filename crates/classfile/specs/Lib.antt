@@ -1,0 +1,4 @@
+-- Reading a class file by fixed places, and its laws.
+pub mod Lists
+pub mod Reading
+pub mod Rules
