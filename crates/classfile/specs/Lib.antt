@@ -2,3 +2,5 @@
 pub mod Lists
 pub mod Reading
 pub mod Rules
+pub mod Stages
+pub mod Laws
