@@ -87,3 +87,56 @@ module _ (bs : List ℕ) where
       then _ (ends-at bs (methodPlace bs (methodCount bs))) (λ _.
       then _ (needs (not (doubled sameField (quickFields bs)))) (λ _.
       made _ (needs (not (doubled sameMethod (quickMethods bs))))))))))))))))))
+
+  -- What others go by
+
+  pub reads-quick : Readable bs → readFile bs ≡ some (quickFile bs)
+  reads-quick r = go file-read
+    where
+      go : Outcome (readFile bs) (Readable bs) (quickFile bs) → readFile bs ≡ some (quickFile bs)
+      go (passes _ e) = e
+      go (fails n _) = absurd (n r)
+
+  pub reads-nothing : (Readable bs → ⊥) → readFile bs ≡ none
+  reads-nothing n = go file-read
+    where
+      go : Outcome (readFile bs) (Readable bs) (quickFile bs) → readFile bs ≡ none
+      go (passes r _) = absurd (n r)
+      go (fails _ e) = e
+
+  -- the test says whether the bytes read
+  pub reads-as : isSome (readFile bs) ≡ readable bs
+  unfolding isSome
+  reads-as = go file-read
+    where
+      go : Outcome (readFile bs) (Readable bs) (quickFile bs) → isSome (readFile bs) ≡ readable bs
+      go (passes r e) = rw (e, tested bs r)
+      go (fails n e) = rw e (same-test false (readable bs) (λ h. absurd (false≢true h)) (λ h. absurd (n (said bs h))))
+
+  pub reads-some : isSome (readFile bs) ≡ true → readFile bs ≡ some (quickFile bs)
+  reads-some h = reads-quick (said bs (sym reads-as ∙ h))
+
+  -- of bytes that read as the file f
+  module _ (f : File) (h : readFile bs ≡ some f) where
+    pub file-readable : Readable bs
+    unfolding isSome
+    file-readable = said bs (sym reads-as ∙ ap isSome h)
+
+    pub quick-file : quickFile bs ≡ f
+    quick-file = let e = reads-quick file-readable in cc
+
+    pub name-of : className bs ≡ f .name
+    unfolding quickFile
+    name-of = ap (λ (g : File). g .name) quick-file
+
+    pub super-of : superName bs ≡ f .super
+    unfolding quickFile
+    super-of = ap (λ (g : File). g .super) quick-file
+
+    pub fields-of : quickFields bs ≡ f .fields
+    unfolding quickFile
+    fields-of = ap (λ (g : File). g .fields) quick-file
+
+    pub methods-of : quickMethods bs ≡ f .methods
+    unfolding quickFile
+    methods-of = ap (λ (g : File). g .methods) quick-file

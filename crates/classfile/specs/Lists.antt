@@ -3,7 +3,7 @@ use mathlib.Core.Path.{_≡_, refl, sym, ap, _∙_, subst}
 use mathlib.Core.Logic.{⊎-elim}
 use mathlib.Core.Bool.{Bool, true, false, false≢true}
 use mathlib.Core.Option.{Option, none, some}
-use mathlib.Core.List.{List, [], _∷_, map}
+use mathlib.Core.List.{List, [], _∷_, _++_, map}
 use Prim.Native.Nat.{ℕ, zero, suc, _+_, _-_, _≤_, _<_}
 use native.Mathlib.Nat.{eq-or-lt-of-le}
 use native.Mathlib.Omega.{arith}
@@ -16,6 +16,21 @@ use Rattle.definition.specs.Lists.{every, any, doubled, indexOf, isSome, rows}
 unfoldable pub shift : ℕ → Option ℕ → Option ℕ
 shift i none = none
 shift i (some j) = some (i + j)
+
+shift-some : (o : Option ℕ) (i : ℕ) → isSome (shift i o) ≡ isSome o
+unfolding isSome shift
+shift-some none i = refl
+shift-some (some j) i = refl
+
+shift-none : (o : Option ℕ) → shift 0 o ≡ o
+unfolding shift
+shift-none none = refl
+shift-none (some j) = ap {B = Option ℕ} some (omega arith)
+
+shift-shift : (o : Option ℕ) (i j : ℕ) → shift i (shift j o) ≡ shift (i + j) o
+unfolding shift
+shift-shift none i j = refl
+shift-shift (some k) i j = ap {B = Option ℕ} some (omega arith)
 
 -- Tests joined
 
@@ -146,12 +161,8 @@ module _ {A : Type 0} (f : A → Bool) (g : ℕ → A) (n i : ℕ) where
   find-here h e = rw (rows-more g n i h, index-here f (g i) (rows g (n - (i + 1)) (i + 1)) e) (ap {B = Option ℕ} some (omega arith))
 
   pub find-later : i < n → f (g i) ≡ false → shift i (indexOf f (rows g (n - i) i)) ≡ shift (i + 1) (indexOf f (rows g (n - (i + 1)) (i + 1)))
-  unfolding shift
-  find-later h e = rw (rows-more g n i h, index-later f (g i) (rows g (n - (i + 1)) (i + 1)) e) (go (indexOf f (rows g (n - (i + 1)) (i + 1))))
-    where
-      go : (o : Option ℕ) → shift i (shift 1 o) ≡ shift (i + 1) o
-      go none = refl
-      go (some j) = ap {B = Option ℕ} some (omega arith)
+  find-later h e =
+      rw (rows-more g n i h, index-later f (g i) (rows g (n - (i + 1)) (i + 1)) e) (shift-shift (indexOf f (rows g (n - (i + 1)) (i + 1))) i 1)
 
   pub find-end : n ≤ i → shift i (indexOf f (rows g (n - i) i)) ≡ none
   unfolding shift indexOf
@@ -168,12 +179,7 @@ module _ {A : Type 0} (f : A → Bool) (g : ℕ → A) (n i : ℕ) where
   any-end h = rw (rows-end g n i h)
 
 pub find-start : {A : Type 0} (f : A → Bool) (g : ℕ → A) (n : ℕ) → shift 0 (indexOf f (rows g (n - 0) 0)) ≡ indexOf f (rows g n 0)
-unfolding shift
-find-start f g n = rw (rows-start g n) (go (indexOf f (rows g n 0)))
-  where
-    go : (o : Option ℕ) → shift 0 o ≡ o
-    go none = refl
-    go (some j) = ap {B = Option ℕ} some (omega arith)
+find-start f g n = rw (rows-start g n) (shift-none (indexOf f (rows g n 0)))
 
 module _ {A : Type 0} (r : A → A → Bool) (g : ℕ → A) (n i : ℕ) where
   pub doubled-row : i < n → any (r (g i)) (rows g (n - (i + 1)) (i + 1)) ≡ true → doubled r (rows g (n - i) i) ≡ true
@@ -196,3 +202,55 @@ module _ (t : ℕ → Bool) (n i : ℕ) where
   pub every-end : n ≤ i → every (rows t (n - i) i) ≡ true
   unfolding every
   every-end h = rw (rows-end t n i h)
+
+-- Searches, and lists made of lists
+
+-- the place that a shifted search names, counted from its start
+unshift : (o : Option ℕ) (j : ℕ) → shift 1 o ≡ some j → (k : ℕ) × (o ≡ some k) × (j ≡ suc k)
+unfolding shift
+unshift none j h = let z : _≡_ {A = ℕ} 0 1 = cc in absurd (omega arith)
+unshift (some k) j h = let e : 1 + k ≡ j = cc in (k, refl, omega arith)
+
+module _ {A : Type 0} (f : A → Bool) where
+  pub any-index : (xs : List A) → any f xs ≡ isSome (indexOf f xs)
+  unfolding any indexOf isSome
+  any-index [] = refl
+  any-index (x ∷ xs) = go (f x) refl (any-index xs)
+    where
+      go : (t : Bool) → f x ≡ t → any f xs ≡ isSome (indexOf f xs) → any f (x ∷ xs) ≡ isSome (indexOf f (x ∷ xs))
+      go true e h = any-here f x xs e ∙ ap isSome (sym (index-here f x xs e))
+      go false e h = any-later f x xs e ∙ h ∙ sym (ap isSome (index-later f x xs e) ∙ shift-some (indexOf f xs) 1)
+
+  -- what a search finds is there and passes
+  pub index-found : (xs : List A) (j : ℕ) → indexOf f xs ≡ some j → (x : A) × (getElem? xs j ≡ some x) × (f x ≡ true)
+  unfolding indexOf
+  index-found [] j h = let z : _≡_ {A = ℕ} 0 1 = cc in absurd (omega arith)
+  index-found (x ∷ xs) j h = go (f x) refl (index-found xs)
+    where
+      go : (t : Bool) → f x ≡ t → ((k : ℕ) → indexOf f xs ≡ some k → (y : A) × (getElem? xs k ≡ some y) × (f y ≡ true)) → (y : A) × (getElem? (x ∷ xs) j ≡ some y) × (f y ≡ true)
+      go true e r = let z : 0 ≡ j = cc (index-here f x xs e) in (x, rw (← z), e)
+      go false e r =
+          let u = unshift (indexOf f xs) j (sym (index-later f x xs e) ∙ h) in
+          let v = r (u .0) (u .1) in
+          (v .0, ap (λ (n : ℕ). getElem? (x ∷ xs) n) (u .2) ∙ v .1, v .2)
+
+  -- a search of two lists, where nothing of the first passes
+  pub index-append : (xs ys : List A) → any f xs ≡ false → indexOf f (xs ++ ys) ≡ shift (length xs) (indexOf f ys)
+  unfolding any
+  index-append [] ys h = sym (shift-none (indexOf f ys))
+  index-append (x ∷ xs) ys h = go (f x) refl (index-append xs ys)
+    where
+      go : (t : Bool) → f x ≡ t → (any f xs ≡ false → indexOf f (xs ++ ys) ≡ shift (length xs) (indexOf f ys)) → indexOf f (x ∷ (xs ++ ys)) ≡ shift (suc (length xs)) (indexOf f ys)
+      go true e r = absurd (false≢true (sym h ∙ any-here f x xs e))
+      go false e r = index-later f x (xs ++ ys) e ∙ ap (shift 1) (r (sym (any-later f x xs e) ∙ h)) ∙ shift-shift (indexOf f ys) 1 (length xs) ∙ ap (λ (n : ℕ). shift n (indexOf f ys)) (omega arith)
+
+module _ {A B : Type 0} (f : B → Bool) (h : A → Bool) (g : A → B) (same : (x : A) → f (g x) ≡ h x) where
+  pub any-map : (xs : List A) → any f (map g xs) ≡ any h xs
+  unfolding any
+  any-map [] = refl
+  any-map (x ∷ xs) = λ i. elim (same x i) as (λ _. Bool) [ true ↦ true | false ↦ any-map xs i ]
+
+  pub index-map : (xs : List A) → indexOf f (map g xs) ≡ indexOf h xs
+  unfolding indexOf
+  index-map [] = refl
+  index-map (x ∷ xs) = λ i. elim (same x i) as (λ _. Option ℕ) [ true ↦ some 0 | false ↦ elim (index-map xs i) as (λ _. Option ℕ) [ none ↦ none | some j ↦ some (suc j) ] ]
