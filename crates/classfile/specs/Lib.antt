@@ -4,3 +4,4 @@ pub mod Reading
 pub mod Rules
 pub mod Stages
 pub mod Laws
+pub mod Searches
