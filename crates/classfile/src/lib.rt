@@ -220,7 +220,14 @@ fn is_alike(bytes: &[u8], place: u32, name: u16, argument: u16, result: u16) -> 
 }
 
 // The first method alike in name and both types, from method `first` on, whose record begins at `start`.
-fn alike_from(bytes: &[u8], first: u8, start: u32, name: u16, argument: u16, result: u16) -> MethodFound
+fn alike_from(
+    bytes: &[u8],
+    first: u8,
+    start: u32,
+    name: u16,
+    argument: u16,
+    result: u16,
+) -> MethodFound
     requires { ⌜ Placed (now bytes) first start ⌝ }
     ensures { λ r. ⌜ r ≡ methodFound (now (bytes .entry)) (shift first (indexOf (alike name argument result) (rows (methodIn (now (bytes .entry))) (methodCount (now (bytes .entry)) - first) first))) ⌝ }
 {
@@ -374,7 +381,14 @@ fn is_repeated(bytes: &[u8], j: u8, place: u32) -> bool
     let name = method_name(bytes, place);
     let argument = method_argument(bytes, place);
     let result = method_result(bytes, place);
-    let later = alike_from(bytes, j + 1, next_place(bytes, place), name, argument, result);
+    let later = alike_from(
+        bytes,
+        j + 1,
+        next_place(bytes, place),
+        name,
+        argument,
+        result,
+    );
     match later {
         MethodFound::At(_, _) => true,
         MethodFound::Absent => false,
