@@ -12,6 +12,11 @@ use lib.ListN.{length, getElem?}
 use borrow.Author.Tests.{lt-ltb, le-ltb}
 use Rattle.definition.specs.Lists.{every, any, doubled, indexOf, isSome, rows}
 
+-- one fact, and then more
+infixr 5 _and_
+abbrev pub _and_ : {A B : Type 0} → A → B → A × B
+a and b = (a, b)
+
 -- a place counted from i on
 unfoldable pub shift : ℕ → Option ℕ → Option ℕ
 shift i none = none

@@ -15,7 +15,7 @@ use Rattle.definition.specs.Maybe.{_>>=_, need}
 use Rattle.definition.specs.Classes.{Field, Method}
 use Rattle.definition.specs.Instructions.{shortAt}
 use Rattle.definition.specs.File.{File, Got, byte, short, name, count, fieldsIn, methodsIn, ends}
-use Rattle.classfile.specs.Lists.{Each, each-more, each-rest}
+use Rattle.classfile.specs.Lists.{_and_, Each, each-more, each-rest}
 use Rattle.classfile.specs.Reading.{fieldPlace, fieldIn, codeLength, codeAt, methodAt, nextPlace, methodPlace, methodIn}
 use Rattle.classfile.specs.Rules.{NamedField, WholeMethod}
 
@@ -122,7 +122,9 @@ module _ (bs : List ℕ) where
 
   field-tests : (k i : ℕ) → Each FieldRule (suc k) i → FieldsFrom k i
   unfolding fieldIn fieldPlace
-  field-tests k i h = let p = each-rest FieldRule k i h in ((omega (arith, p .0 .0), p .0 .1 .name), ((omega (arith, p .0 .0), p .0 .1 .type), p .1))
+  field-tests k i h =
+      let p = each-rest FieldRule k i h in
+      ((omega (arith, p .0 .0)) and p .0 .1 .name) and ((omega (arith, p .0 .0)) and p .0 .1 .type) and p .1
 
   pub fields-at : (k i : ℕ) → Outcome (fieldsIn k (drop (fieldPlace i) bs)) (Each FieldRule k i) (got bs (rows (fieldIn bs) k i) (fieldPlace (i + k)))
   unfolding fieldsIn rows fieldIn fieldPlace
@@ -184,7 +186,12 @@ module _ (bs : List ℕ) where
       let p = each-rest MethodRule k j h in
       let m = p .0 in
       let all : methodPlace bs j + 8 + codeLength bs (methodPlace bs j) ≤ length bs = m .within in
-      ((omega arith, m .name), ((omega arith, m .argument), ((omega arith, m .result), (omega arith, ((m .some, m .few, all), p .1)))))
+      ((omega arith) and m .name)
+      and ((omega arith) and m .argument)
+      and ((omega arith) and m .result)
+      and (omega arith)
+      and (m .some, m .few, all)
+      and p .1
 
   -- after the code of the method at place p
   rest-at : (k p : ℕ) {T : Type 0} {x : Got (List Method)} → Outcome (methodsIn k (drop (nextPlace bs p) bs)) T x → Outcome (methodsIn k (drop (codeLength bs p) (drop (p + 8) bs))) T x
