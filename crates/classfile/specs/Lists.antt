@@ -5,11 +5,11 @@ use mathlib.Core.Bool.{Bool, true, false, false≢true}
 use mathlib.Core.Option.{Option, none, some}
 use mathlib.Core.List.{List, [], _∷_, _++_, map}
 use Prim.Native.Nat.{ℕ, zero, suc, _+_, _-_, _≤_, _<_}
-use native.Mathlib.Nat.{eq-or-lt-of-le}
+use native.Mathlib.Nat.{zero-add, eq-or-lt-of-le}
 use native.Mathlib.Omega.{arith}
-use lib.Dec.{ltb}
 use lib.ListN.{length, getElem?}
-use borrow.Author.Tests.{lt-ltb, le-ltb}
+use lib.Dec.{ltb}
+use borrow.Author.Tests.{ltb-true, ltb-false}
 use Rattle.definition.specs.Lists.{every, any, doubled, indexOf, isSome, rows}
 
 -- one fact, and then more
@@ -162,6 +162,17 @@ unfolding rows
 no-row g zero i j h = refl
 no-row g (suc k) i zero h = absurd (omega arith)
 no-row g (suc k) i (suc j) h = no-row g k (suc i) j (omega arith)
+
+-- an element of the list is what stands at its place
+pub row-is : {A : Type 0} (g : ℕ → A) (n j : ℕ) (x : A) → getElem? (rows g n 0) j ≡ some x → (j < n) × (g j ≡ x)
+row-is {A} g n j x h = go (ltb j n) refl
+  where
+    go : (t : Bool) → ltb j n ≡ t → (j < n) × (g j ≡ x)
+    go true e =
+        let l = ltb-true j n e in
+        let here : getElem? (rows g n 0) j ≡ some (g j) = get-rows g n 0 j l ∙ ap {B = Option A} (λ i. some (g i)) (zero-add j) in
+        (l, cc)
+    go false e = let past = no-row g n 0 j (ltb-false j n e) in let z : _≡_ {A = ℕ} 0 1 = cc in absurd (omega arith)
 
 -- A search of the places from i on: it stops at i, goes on, or ends
 

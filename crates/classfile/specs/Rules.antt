@@ -1,14 +1,13 @@
 -- The file rules by places: as tests, and as what they say.
-use mathlib.Core.Path.{_≡_, refl, sym, ap, _∙_}
+use mathlib.Core.Path.{_≡_, ap}
 use mathlib.Core.Bool.{Bool, true, false, not}
 use mathlib.Core.List.{List, [], _∷_}
-use Prim.Native.Nat.{ℕ, zero, suc, _+_, _≤_, _<_}
+use Prim.Native.Nat.{ℕ, _+_, _≤_, _<_}
 use native.Mathlib.Omega.{arith}
 use lib.ListN.{length, getD}
 use lib.Dec.{eqb, leb}
 use borrow.Author.Tests.{leb-true, eqb-true, le-leb, eq-eqb, not-true}
 use Rattle.definition.specs.Lists.{every, rows, doubled}
-use Rattle.definition.specs.Classes.{Field}
 use Rattle.definition.specs.Instructions.{shortAt}
 use Rattle.definition.specs.File.{sameField, sameMethod}
 use Rattle.classfile.specs.Lists.{_and_, every-true, true-every, each-true, true-each}

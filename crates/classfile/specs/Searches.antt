@@ -1,9 +1,9 @@
 -- What the answers of the searches say of the file that was read, and of a class's slots.
 use mathlib.Core.Path.{_≡_, refl, sym, ap, _∙_}
-use mathlib.Core.Bool.{Bool, true, false, false≢true, _&&_}
+use mathlib.Core.Bool.{Bool, true, false}
 use mathlib.Core.Option.{Option, none, some}
-use mathlib.Core.List.{List, [], _∷_, map}
-use Prim.Native.Nat.{ℕ, zero, suc, _+_, _≤_, _<_}
+use mathlib.Core.List.{List, [], map}
+use Prim.Native.Nat.{ℕ, _+_, _≤_, _<_}
 use native.Mathlib.Nat.{zero-add}
 use native.Mathlib.Omega.{arith}
 use lib.ListN.{length, take, drop, getElem?, length-take, length-drop}
@@ -16,8 +16,8 @@ use Rattle.definition.specs.File.{File, byte, readFile}
 use Rattle.definition.specs.Tables.{ClassRow, fileAt}
 use Rattle.classfile.specs.declared.FieldFound.{FieldFound}
 use Rattle.classfile.specs.declared.MethodFound.{MethodFound}
-use Rattle.classfile.specs.Lists.{shift, shift-some, get-rows, no-row, any-index, index-found, any-map, index-map}
-use Rattle.classfile.specs.Reading.{quickFields, methodCount, codeAt, methodAt, methodPlace, methodIn, quickMethods, fieldIs, fieldNamed, fieldFound, methodFound, numbered, partOf}
+use Rattle.classfile.specs.Lists.{shift, shift-some, get-rows, no-row, row-is, any-index, index-found, any-map, index-map}
+use Rattle.classfile.specs.Reading.{methodCount, codeAt, methodAt, methodPlace, methodIn, quickMethods, fieldIs, fieldNamed, fieldFound, methodFound, numbered, partOf}
 use Rattle.classfile.specs.Laws.{methods-of}
 
 -- Fields
@@ -80,11 +80,8 @@ module _ (bs : List ℕ) where
 
   -- the place of the method of number j is known
   pub method-is : (j : ℕ) (m : Method) → getElem? (quickMethods bs) j ≡ some m → methodAt bs (methodPlace bs j) ≡ m
-  method-is j m h = go (ltb j (methodCount bs)) refl
-    where
-      go : (t : Bool) → ltb j (methodCount bs) ≡ t → methodAt bs (methodPlace bs j) ≡ m
-      go true e = let here = method-there j (ltb-true j (methodCount bs) e) in cc
-      go false e = let past = method-past j (ltb-false j (methodCount bs) e) in cc
+  unfolding quickMethods methodIn
+  method-is j m h = row-is (methodIn bs) (methodCount bs) j m h .1
 
   -- what is found by a number
 

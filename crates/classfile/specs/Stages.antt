@@ -1,20 +1,19 @@
 -- The readings of the file rules, one after another, each at a place of the bytes: when it passes, and what it then gives.
-use mathlib.Core.Path.{_≡_, refl, sym, ap, _∙_}
-use mathlib.Core.Logic.{⊎-elim}
-use mathlib.Core.Bool.{Bool, true, false, false≢true, not, _&&_}
+use mathlib.Core.Path.{_≡_, refl, ap}
+use mathlib.Core.Bool.{Bool, true, false, false≢true, _&&_}
 use mathlib.Core.Option.{Option, none, some}
-use mathlib.Core.List.{List, [], _∷_}
-use Prim.Native.Nat.{ℕ, zero, suc, _+_, _*_, _-_, _≤_, _<_}
+use mathlib.Core.List.{List}
+use Prim.Native.Nat.{ℕ, zero, suc, _+_, _≤_, _<_}
 use native.Mathlib.Omega.{arith}
-use lib.ListN.{length, getD, take, drop, length-drop, drop-of-length-le}
+use lib.ListN.{length, getD, drop, length-drop, drop-of-length-le}
 use lib.Seq.{drop-cons, drop-drop}
 use lib.Dec.{eqb, leb}
 use borrow.Author.Tests.{leb-true, leb-false, eqb-true, le-leb, eq-eqb}
-use Rattle.definition.specs.Lists.{rows, doubled}
+use Rattle.definition.specs.Lists.{rows}
 use Rattle.definition.specs.Maybe.{_>>=_, need}
-use Rattle.definition.specs.Classes.{Field, Method}
+use Rattle.definition.specs.Classes.{Method}
 use Rattle.definition.specs.Instructions.{shortAt}
-use Rattle.definition.specs.File.{File, Got, byte, short, name, count, fieldsIn, methodsIn, ends}
+use Rattle.definition.specs.File.{Got, byte, short, name, count, fieldsIn, methodsIn, ends}
 use Rattle.classfile.specs.Lists.{_and_, Each, each-more, each-rest}
 use Rattle.classfile.specs.Reading.{fieldPlace, fieldIn, codeLength, codeAt, methodAt, nextPlace, methodPlace, methodIn}
 use Rattle.classfile.specs.Rules.{NamedField, WholeMethod}

@@ -1,5 +1,4 @@
 -- Each part of the test that fails is answered at once; the parts that passed before it are known.
-use Prim.Native.Nat.{_≤_}
 use mathlib.Core.Path.{_≡_, sym, _∙_}
 use mathlib.Core.Bool.{true}
 use lib.Dec.{leb}
