@@ -1,9 +1,8 @@
 // Class files read off any bytes. The quick functions read fixed places and check nothing, so that they are total; `reads` checks every
 // rule of a file. Of bytes that `reads` accepts the quick functions give the file that the rules give.
 ghost use mathlib.Core.Path.{_≡_};
-ghost use Prim.Native.Nat.{_+_, _*_, _<_, _≤_, min};
-ghost use lib.ListN.{length};
-ghost use Rattle.definition.specs.Lists.{any, doubled, every, indexOf, isSome};
+ghost use Prim.Native.Nat.{_+_, _<_, _≤_, min};
+ghost use Rattle.definition.specs.Lists.{any, doubled, indexOf, isSome};
 ghost use Rattle.definition.specs.Classes.{alike};
 ghost use Rattle.definition.specs.File.{readFile, sameField, sameMethod};
 ghost use Rattle.classfile.specs.Lists.{shift};
