@@ -1,0 +1,5 @@
+-- Laws that the proofs of this crate share.
+pub mod Rows
+pub mod Renaming
+pub mod Edges
+pub mod Agreeing

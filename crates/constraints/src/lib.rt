@@ -1,0 +1,1 @@
+// Posting ties and subtype constraints, and the test of agreement.
