@@ -20,7 +20,7 @@ use Rattle.definition.specs.Tables.{entryAt, tieAt, subtypeAt}
 use Rattle.constraints.specs.Nodes.{requestOf, requestIn, AllNumbered, First, NodesOf, ClassesOf, startOf, endOf, linkOf, linksFrom, leadsFrom, pairIs, pairOn, allPlaces, agreeOn}
 use Rattle.constraints.proofs.Rows.{Place, in-rows, rows-in, all-places}
 use Rattle.constraints.proofs.Renaming.{Carried, leads-same}
-use Rattle.constraints.proofs.Edges.{forward, turned, upward, forward-in, turned-in, upward-in, OfTie, of-tie, OfSubtype, of-subtype, find-at}
+use Rattle.constraints.proofs.Edges.{edge, edge-at, forward, turned, upward, forward-in, turned-in, upward-in, OfTie, of-tie, OfSubtype, of-subtype, find-at}
 
 -- Numbers and first places
 
@@ -61,12 +61,6 @@ module _ (numbers : List ℕ) (n : ℕ) (nodes : List ℕ) (f : NodesOf numbers 
 first-cell : (t : List ℕ) (name i : ℕ) → requestIn t 0 name i ≡ at (getD t (i * 3) 0) (getD t (i * 3 + name) 0)
 unfolding requestIn
 first-cell t name i = ap (λ (x : ℕ). at (getD t x 0) (getD t (i * 3 + name) 0)) (add-zero (i * 3))
-
-abbrev edge : Request → Request → Edge
-edge a b = record { from = a; to = b }
-
-edge-at : {E : List Edge} {a b c d : Request} → a ≡ c → b ≡ d → List·Memᴰ (edge c d) E → List·Memᴰ (edge a b) E
-edge-at p q m = rw (p, q) m
 
 -- A store as nodes
 

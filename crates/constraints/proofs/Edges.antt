@@ -14,6 +14,12 @@ use Rattle.definition.specs.Constraints.{Tie, Subtype, tieEdges, subtypeEdges}
 use Rattle.definition.specs.Tables.{entryAt}
 use Rattle.laws.specs.Chains.{same-eq, same-refl}
 
+abbrev pub edge : Request → Request → Edge
+edge a b = record { from = a; to = b }
+
+pub edge-at : {E : List Edge} {a b c d : Request} → a ≡ c → b ≡ d → List·Memᴰ (edge c d) E → List·Memᴰ (edge a b) E
+edge-at p q m = rw (p, q) m
+
 abbrev pub forward : Tie → Edge
 forward t = record { from = at (t .one) (t .name); to = at (t .two) (t .name) }
 

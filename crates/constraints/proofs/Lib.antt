@@ -3,3 +3,6 @@ pub mod Rows
 pub mod Renaming
 pub mod Edges
 pub mod Agreeing
+pub mod Filling
+pub mod Searching
+pub mod Supers

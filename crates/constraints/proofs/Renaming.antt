@@ -41,7 +41,8 @@ module _ (U W : ℕ → Request) (n : ℕ) (E F : List Edge) (same : (p q : ℕ)
       let s : W (r .place) ≡ W b = same (r .place) b (r .fits) k (sym (r .is)) in
       rw s at (r .chain)
 
-same-truth : (x y : Bool) → (x ≡ true → y ≡ true) → (y ≡ true → x ≡ true) → x ≡ y
+-- two tests, each true if the other is
+pub same-truth : (x y : Bool) → (x ≡ true → y ≡ true) → (y ≡ true → x ≡ true) → x ≡ y
 same-truth true y f g = sym (f refl)
 same-truth false true f g = g refl
 same-truth false false f g = refl
