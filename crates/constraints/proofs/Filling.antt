@@ -11,7 +11,7 @@ use lib.Seq.{getD-set-same, getD-set-other}
 use lib.Dec.{eqb}
 use borrow.Author.Tests.{eqb-true, eqb-false}
 use Rattle.definition.specs.Requests.{at}
-use Rattle.constraints.specs.Nodes.{requestOf, startOf}
+use Rattle.constraints.specs.Nodes.{requestOf, Numbers, Kept, Numbered, EndsNumbered, AllNumbered, startOf}
 use Rattle.constraints.specs.Search.{Last, Joined}
 
 -- the places f 0, f 1, .. are written in this order: what holds of each before place f i is written, and of what is written, holds after it
@@ -37,6 +37,36 @@ number-at l n x y p q h =
     let high : (x * 65536 + y) / 65536 ≡ l = omega arith in
     let low : (x * 65536 + y) % 65536 ≡ n = omega arith in
     λ i. record { loader = high i; name = low i }
+
+-- numbers stay where only later places are written
+numbers-on : (t : List ℕ) (loader name count : ℕ) (old new : List ℕ) (from k : ℕ) → from + count ≤ k → Kept old new k → Numbers t loader name count old from
+  → Numbers t loader name count new from
+numbers-on t loader name count old new from k h kept f i l = ap (λ (x : ℕ). requestOf x) (kept (from + i) (omega arith)) ∙ f i l
+
+-- one end of each link, of subtype constraints, of ties, of ties turned round
+pub ends-put : {ties subtypes : List ℕ} {tied noted name near far from : ℕ} {a b c d : List ℕ} → Numbered subtypes 0 name noted a b from
+  → Numbered ties near 2 tied b c (from + noted) → Numbered ties far 2 tied c d (from + noted + tied) → EndsNumbered ties tied subtypes noted name near far a d from
+ends-put {ties} {subtypes} {tied} {noted} {name} {near} {far} {from} {a} {b} {c} {d} p q r = record {
+  subtypesPut = numbers-on subtypes 0 name noted c d from (from + noted + tied) (omega arith) (r .kept) (numbers-on subtypes 0 name noted b c from (from + noted) (omega arith) (q .kept) (p .put));
+  tiesPut = numbers-on ties near 2 tied c d (from + noted) (from + noted + tied) (omega arith) (r .kept) (q .put);
+  turnedPut = r .put;
+  kept = λ i l. r .kept i (omega arith) ∙ q .kept i (omega arith) ∙ p .kept i l;
+}
+
+-- all places
+pub all-put : {cache ties subtypes : List ℕ} {rows tied noted : ℕ} {a b c d : List ℕ} → Numbered cache 0 1 rows a b 0
+  → EndsNumbered ties tied subtypes noted 1 0 1 b c rows → EndsNumbered ties tied subtypes noted 2 1 0 c d (rows + (noted + tied + tied))
+  → AllNumbered cache rows ties tied subtypes noted d
+all-put {cache} {ties} {subtypes} {rows} {tied} {noted} {a} {b} {c} {d} p q r =
+    let half = rows + (noted + tied + tied) in record {
+      cachePut = numbers-on cache 0 1 rows c d 0 half (omega arith) (r .kept) (numbers-on cache 0 1 rows b c 0 rows (omega arith) (q .kept) (p .put));
+      lowPut = numbers-on subtypes 0 1 noted c d rows half (omega arith) (r .kept) (q .subtypesPut);
+      onePut = numbers-on ties 0 2 tied c d (rows + noted) half (omega arith) (r .kept) (q .tiesPut);
+      twoPut = numbers-on ties 1 2 tied c d (rows + noted + tied) half (omega arith) (r .kept) (q .turnedPut);
+      highPut = r .subtypesPut;
+      twoAgain = r .tiesPut;
+      oneAgain = r .turnedPut;
+    }
 
 -- Links
 

@@ -2,6 +2,7 @@
 -- links were visited, the marks hold the start, hold only what it leads to and are closed, so they decide what it leads to.
 use mathlib.Core.Path.{_≡_, refl, sym, ap, _∙_}
 use mathlib.Core.Bool.{Bool, true, false, false≢true}
+use mathlib.Core.Option.{Option}
 use mathlib.Core.List.{List, [], _∷_, List·Memᴰ}
 use mathlib.Core.Logic.{_⊎_, inl, inr}
 use Prim.Native.Nat.{ℕ, zero, suc, _+_, _-_, _<_, _≤_}
@@ -14,7 +15,7 @@ use borrow.Author.Tests.{eqb-true, eqb-false, eq-eqb, ne-eqb, ltb-true, ltb-fals
 use Rattle.definition.specs.Lists.{rows}
 use Rattle.definition.specs.Requests.{Request, at, Edge, Chain, stay, hop, leads}
 use Rattle.laws.specs.Chains.{leads-chain, chain-leads}
-use Rattle.constraints.specs.Nodes.{startOf, endOf, linkOf, linksFrom, leadsFrom}
+use Rattle.constraints.specs.Nodes.{startOf, endOf, linkOf, linksFrom, leadsFrom, pairIs, pairOn}
 use Rattle.constraints.specs.Search.{Last, marked, Marked, Queued, Grown, Visited, Link, Expanded, Searched}
 use Rattle.constraints.proofs.Rows.{Place, in-rows, rows-in}
 use Rattle.constraints.proofs.Renaming.{same-truth}
@@ -123,20 +124,27 @@ module _ (x : ℕ) (marks queue : List ℕ) (tail : ℕ) (s : Queued marks queue
         two y (inl m) = let r = s .isQueued y m in (r .0, omega (arith, r .1), queue-at (r .0) (r .1) ∙ r .2)
         two y (inr e) = (tail, omega arith, queue-end ∙ sym e)
 
+pub tail-low : {marks queue : List ℕ} {tail : ℕ} → Queued marks queue tail → tail ≤ 1792
+tail-low {marks} s = omega (arith, marked-le marks, s .counted, s .marksLong)
+
+-- what is queued is a node
+pub queue-low : {marks queue : List ℕ} {tail : ℕ} → Queued marks queue tail → (p : ℕ) → p < tail → getD queue p 0 < 1792
+queue-low {marks} {queue} s p h = rw (s .marksLong) at (mark-low marks (getD queue p 0) (s .isMarked p h))
+
 -- nothing is marked yet
+pub none-marked : (x : ℕ) → Marked (replicate 1792 0) x → ⊥
+none-marked x m =
+    let z : _≡_ {A = ℕ} 0 1 = sym (getD-replicate {A = ℕ} 1792 x 0 0 (omega (arith, mark-low (replicate 1792 0) x m, length-replicate {A = ℕ} 1792 0))) ∙ m in
+    omega arith
+
 pub queued-none : Queued (replicate 1792 0) (replicate 1792 0) 0
 queued-none = record {
   marksLong = length-replicate {A = ℕ} 1792 0;
   queueLong = length-replicate {A = ℕ} 1792 0;
   counted = marked-none 1792;
   isMarked = λ p l. absurd (omega arith);
-  isQueued = λ x m. absurd (none x m);
+  isQueued = λ x m. absurd (none-marked x m);
 }
-  where
-    none : (x : ℕ) → Marked (replicate 1792 0) x → ⊥
-    none x m =
-        let z : _≡_ {A = ℕ} 0 1 = sym (getD-replicate 1792 x 0 0 (omega (arith, mark-low (replicate 1792 0) x m, length-replicate {A = ℕ} 1792 0))) ∙ m in
-        omega arith
 
 -- Visiting the ends of a node's links, the last link first
 
@@ -269,3 +277,11 @@ module _ (nodes : List ℕ) (n links base a : ℕ) where
       where
         there : (y : ℕ) × (at 0 b ≡ at 0 y) × Marked marks y → eqb (getD marks b 0) 1 ≡ true
         there r = eq-eqb (getD marks b 0) 1 (rw (sym (ap (λ (k : Request). k .name) (r .1))) at (r .2))
+
+-- a pair, by the marks of the searches from the first
+pub pair-marks : (sup : ℕ → Option ℕ) (nodes classes : List ℕ) (n links noted a b s : ℕ) (tied led : List ℕ) → s ≡ getD nodes a 0
+  → Searched nodes n links noted s tied → Searched nodes n links 0 s led
+  → pairIs sup (eqb (getD tied (getD nodes b 0) 0) 1) (eqb (getD led (getD nodes b 0) 0) 1) (getD classes a 0) (getD classes b 0)
+    ≡ pairOn sup nodes classes n links noted a b
+unfolding pairOn
+pair-marks sup nodes classes n links noted a b s tied led e p q = rw (p (getD nodes b 0), q (getD nodes b 0), e) refl

@@ -219,3 +219,61 @@ fn pair_agrees(supers: &[u8], tied: bool, led: bool, c: usize, d: usize) -> bool
     }
     true
 }
+
+// The pair of cached requests a and b, where the marks are those of what a is tied to and of what it leads to.
+fn marks_agree(supers: &[u8], nodes: &[usize], classes: &[usize], tied: &[u8], led: &[u8], a: usize, b: usize) -> bool
+    ensures {
+        λ r. ⌜ r ≡ pairIs (superIn (now (supers .entry))) (eqb (getD (now (tied .entry)) (getD (now (nodes .entry)) b 0) 0) 1) (eqb (getD (now (led .entry)) (getD (now (nodes .entry)) b 0) 0) 1) (getD (now (classes .entry)) a 0) (getD (now (classes .entry)) b 0) ⌝
+    }
+{
+    let node = place(nodes, b);
+    let is_tied = at8(tied, node) == 1;
+    let is_led = at8(led, node) == 1;
+    pair_agrees(supers, is_tied, is_led, place(classes, a), place(classes, b))
+}
+
+// Every pair of cached requests agrees: a's search is made once, and the first pair that does not agree ends the test.
+fn pairs_agree(supers: &[u8], nodes: &[usize], classes: &[usize], rows: usize, links: usize, noted: usize, heads: &[usize], nexts: &[usize]) -> bool
+    requires { ⌜ Small (now nodes) rows links × Joined (now nodes) rows links (now heads) (now nexts) ⌝ }
+    ensures { λ r. ⌜ r ≡ agreeOn (superIn (now (supers .entry))) (now (nodes .entry)) (now (classes .entry)) rows links noted ⌝ }
+{
+    let mut agreed = true;
+    let mut a = 0;
+    'pairs: while a < rows {
+        let start = place(nodes, a);
+        let tied = search(nodes, rows, links, heads, nexts, noted, start);
+        let led = search(nodes, rows, links, heads, nexts, 0, start);
+        let mut b = 0;
+        while b < rows {
+            if !marks_agree(supers, nodes, classes, &tied, &led, a, b) {
+                agreed = false;
+                break 'pairs;
+            }
+            b += 1;
+        }
+        a += 1;
+    }
+    agreed
+}
+
+// The store of these tables agrees: tied cached requests mean one class, and where one leads to another, its class is the other's or below.
+pub fn agree(supers: &[u8], cache: &[u16], entries: u16, ties: &[u16], tie_count: u16, subtypes: &[u16], subtype_count: u16) -> bool
+    ensures {
+        λ r. ⌜ r ≡ agreeIn (now (supers .entry)) (now (cache .entry)) entries (now (ties .entry)) «tie_count» (now (subtypes .entry)) «subtype_count» ⌝
+    }
+{
+    let rows = at_most(entries);
+    let tied = at_most(tie_count);
+    let noted = at_most(subtype_count);
+    let links = noted + tied + tied;
+    let mut numbers = [0usize; 1792];
+    number_places(cache, rows, ties, tied, subtypes, noted, &mut numbers);
+    let mut nodes = [0usize; 1792];
+    number_nodes(&numbers, rows + links + links, &mut nodes);
+    let mut classes = [0usize; 256];
+    list_classes(cache, &nodes, rows, &mut classes);
+    let mut heads = [0usize; 1792];
+    let mut nexts = [0usize; 768];
+    join(&nodes, rows, links, &mut heads, &mut nexts);
+    pairs_agree(supers, &nodes, &classes, rows, links, noted, &heads, &nexts)
+}

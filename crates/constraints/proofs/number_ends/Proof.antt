@@ -1,3 +1,4 @@
+use Rattle.constraints.proofs.Filling.{ends-put}
 use borrow.Author.Needs.{needs}
 use Rattle.constraints.proofs.number_ends.Statement.{statement}
 use Rattle.constraints.proofs.number_ends.Tie as tie
@@ -35,7 +36,7 @@ same-length c = search needs
 
 -- src/lib.rt:61:1
 returns : tie.Need-returns
-returns c = ?
+returns c = ends-put (c .before .before .before .before .before .before .before .before .before .before .number-rows .ensures) (c .before .before .before .before .before .before .number-rows2 .ensures) (c .before .before .number-rows3 .ensures)
 
 pub number-ends-spec : {M : Type 1} → statement M
 number-ends-spec =

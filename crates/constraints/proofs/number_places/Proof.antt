@@ -1,3 +1,4 @@
+use Rattle.constraints.proofs.Filling.{all-put}
 use borrow.Author.Needs.{needs}
 use Rattle.constraints.proofs.number_places.Statement.{statement}
 use Rattle.constraints.proofs.number_places.Tie as tie
@@ -36,7 +37,7 @@ same-length c = search needs
 
 -- src/lib.rt:71:1
 returns : tie.Need-returns
-returns c = ?
+returns c = all-put (c .before .before .before .before .before .before .before .before .before .before .number-rows .ensures) (c .before .before .before .before .before .before .number-ends .ensures) (c .before .before .number-ends2 .ensures)
 
 pub number-places-spec : {M : Type 1} → statement M
 number-places-spec =
