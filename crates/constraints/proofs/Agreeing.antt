@@ -18,6 +18,7 @@ use Rattle.definition.specs.Classes.{Entry, find}
 use Rattle.definition.specs.Constraints.{Tie, Subtype, tieEdges, subtypeEdges, pairAgrees, rowAgrees, agreesOver}
 use Rattle.definition.specs.Tables.{entryAt, tieAt, subtypeAt}
 use Rattle.constraints.specs.Nodes.{requestOf, requestIn, AllNumbered, First, NodesOf, ClassesOf, startOf, endOf, linkOf, linksFrom, leadsFrom, pairIs, pairOn, allPlaces, agreeOn}
+use Rattle.constraints.specs.Search.{Small}
 use Rattle.constraints.proofs.Rows.{Place, in-rows, rows-in, all-places}
 use Rattle.constraints.proofs.Renaming.{Carried, leads-same}
 use Rattle.constraints.proofs.Edges.{edge, edge-at, forward, turned, upward, forward-in, turned-in, upward-in, OfTie, of-tie, OfSubtype, of-subtype, find-at}
@@ -56,6 +57,11 @@ module _ (numbers : List ℕ) (n : ℕ) (nodes : List ℕ) (f : NodesOf numbers 
       let l : getD nodes p 0 ≤ p = node-low numbers n nodes f p h in
       let m : getD nodes q 0 ≤ q = node-low numbers n nodes f q k in
       sym (f p h .here (omega arith)) ∙ ap (λ (x : ℕ). getD numbers x 0) e ∙ f q k .here (omega arith)
+
+-- there is room for all places
+pub small-nodes : (numbers nodes : List ℕ) (n links : ℕ) → n ≤ 256 → links ≤ 768 → NodesOf numbers (n + links + links) nodes → Small nodes n links
+small-nodes numbers nodes n links h k f =
+    record { rowsFit = h; linksFit = k; node = λ p l. omega (arith, node-low numbers (n + links + links) nodes f p l) }
 
 -- cell 0 of a row
 first-cell : (t : List ℕ) (name i : ℕ) → requestIn t 0 name i ≡ at (getD t (i * 3) 0) (getD t (i * 3 + name) 0)
@@ -267,3 +273,11 @@ module _ (cache : List ℕ) (n : ℕ) (ties : List ℕ) (tied : ℕ) (subtypes :
     agree-same =
         all-places (λ e. rowAgrees sup theCache theTies (theTies ++ theSubtypes) (e .request)) (entryAt cache)
         (λ a. allPlaces (pairOn sup nodes classes n links noted a) n 0) n 0 (λ a _ h. class-same a (omega arith))
+
+-- the same, where the counts are given by their values
+pub agree-counted : (sup : ℕ → Option ℕ) (cache ties subtypes : List ℕ) (n tied noted n′ tied′ noted′ : ℕ) (nodes classes : List ℕ) → n ≡ n′ → tied ≡ tied′ → noted ≡ noted′
+  → agreesOver sup (rows (entryAt cache) n 0) (tieEdges (rows (tieAt ties) tied 0)) (tieEdges (rows (tieAt ties) tied 0) ++ subtypeEdges (rows (subtypeAt subtypes) noted 0))
+    ≡ agreeOn sup nodes classes n (noted + tied + tied) noted
+  → agreeOn sup nodes classes n (noted + tied + tied) noted
+    ≡ agreesOver sup (rows (entryAt cache) n′ 0) (tieEdges (rows (tieAt ties) tied′ 0)) (tieEdges (rows (tieAt ties) tied′ 0) ++ subtypeEdges (rows (subtypeAt subtypes) noted′ 0))
+agree-counted sup cache ties subtypes n tied noted n′ tied′ noted′ nodes classes p q r e = rw (sym p, sym q, sym r) (sym e)
