@@ -6,3 +6,4 @@ pub mod Agreeing
 pub mod Filling
 pub mod Searching
 pub mod Supers
+pub mod Posting
