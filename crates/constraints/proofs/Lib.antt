@@ -7,3 +7,4 @@ pub mod Filling
 pub mod Searching
 pub mod Supers
 pub mod Posting
+pub mod Notes

@@ -403,3 +403,28 @@ pub fn add_subtype(subtypes: &mut [u16], count: u16, loader: u8, low: u16, high:
     put_row(subtypes, wide16(count), from8(loader), low, high);
     rows + 1
 }
+
+// Adds the notes of a verifier, two cells each, as subtype constraints of a loader, those that are not there yet.
+pub fn add_subtypes(subtypes: &mut [u16], count: u16, loader: u8, notes: &[u16], note_count: u16) -> Added
+    ensures { λ r. ⌜ r ≡ counted (roomy (now (subtypes .entry))) (count + length (newSubtypesIn (now (subtypes .entry)) count loader (rows (noteAt (now (notes .entry))) «note_count» 0))) ⌝ }
+    ensures { λ _. ⌜ now (subtypes .exit) ≡ notesPosted (now (subtypes .entry)) count (newSubtypesIn (now (subtypes .entry)) count loader (rows (noteAt (now (notes .entry))) «note_count» 0)) ⌝ }
+{
+    if subtypes.len() < 768 {
+        return Added::Full;
+    }
+    if 256 < count {
+        return Added::Full;
+    }
+    let n = wide16(note_count);
+    let mut total = count;
+    let mut i = 0;
+    while i < n {
+        let next = add_subtype(subtypes, total, loader, at16(notes, i * 2), at16(notes, i * 2 + 1));
+        if 256 < next {
+            return Added::Full;
+        }
+        total = next as u16;
+        i += 1;
+    }
+    Added::Count(total)
+}
