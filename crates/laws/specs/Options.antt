@@ -7,6 +7,7 @@ use mathlib.Core.Logic.{_⊎_, inl, inr}
 use Prim.Native.Nat.{ℕ, zero, suc, _+_, _≤_, _<_}
 use lib.ListN.{length, getElem?, set}
 use Rattle.definition.specs.Maybe.{_>>=_, need}
+use Rattle.definition.specs.Lists.{Each}
 
 pub bind-some : {A B : Type 0} (o : Option A) (f : A → Option B) {b : B} → (o >>= f) ≡ some b → (a : A) × (o ≡ some a) × (f a ≡ some b)
 unfolding _>>=_
@@ -21,13 +22,6 @@ pub need-true : (t : Bool) {u : Unit {0}} → need t ≡ some u → t ≡ true
 unfolding need
 need-true true h = refl
 need-true false {u} h = absurd (Option·none-ne-some u h)
-
--- element by element
-abbrev pub Each : {A B : Type 0} → (A → B → Type 0) → List A → List B → Type 0
-Each R [] [] = Unit {0}
-Each R [] (y ∷ ys) = ⊥
-Each R (x ∷ xs) [] = ⊥
-Each R (x ∷ xs) (y ∷ ys) = R x y × Each R xs ys
 
 pub each-more : {A B : Type 0} {R S : A → B → Type 0} → ((x : A) (y : B) → R x y → S x y) → (xs : List A) (ys : List B) → Each R xs ys → Each S xs ys
 each-more f [] [] h = tt

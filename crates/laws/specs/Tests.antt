@@ -49,8 +49,3 @@ any-found {A} f (x ∷ xs) h = go (f x) refl h (any-found f xs)
     go : (t : Bool) → f x ≡ t → (elim t as (λ _. Bool) [ true ↦ true | false ↦ any f xs ]) ≡ true → (any f xs ≡ true → Found f xs) → Found f (x ∷ xs)
     go true e r ih = record { place = 0; item = x; index = rw (e, indexOf) refl; there = refl; passes = e }
     go false e r ih = let a = ih r in record { place = suc (a .place); item = a .item; index = rw (e, indexOf) (rw (a .index) refl); there = a .there; passes = a .passes }
-
-pub nth-left : {A : Type 0} (xs ys : List A) (i : ℕ) (x : A) → getElem? xs i ≡ some x → getElem? (xs ++ ys) i ≡ some x
-nth-left [] ys i x h = absurd (Option·none-ne-some x h)
-nth-left (z ∷ xs) ys zero x h = h
-nth-left (z ∷ xs) ys (suc i) x h = nth-left xs ys i x h
