@@ -17,9 +17,9 @@ use Rattle.definition.specs.Superclasses.{below}
 use Rattle.definition.specs.Classes.{Entry, find}
 use Rattle.definition.specs.Constraints.{Tie, Subtype, tieEdges, subtypeEdges, pairAgrees, rowAgrees, agreesOver}
 use Rattle.definition.specs.Tables.{entryAt, tieAt, subtypeAt}
-use Rattle.constraints.specs.Nodes.{requestOf, requestIn, AllNumbered, First, NodesOf, ClassesOf, startOf, endOf, linkOf, linksFrom, leadsFrom, pairIs, pairOn, allPlaces, agreeOn}
+use Rattle.constraints.specs.Nodes.{requestOf, requestIn, AllNumbered, First, NodesOf, ClassesOf, startOf, endOf, linkOf, linksFrom, leadsFrom, pairIs, pairOn, agreeOn}
 use Rattle.constraints.specs.Search.{Small}
-use Rattle.constraints.proofs.Rows.{Place, in-rows, rows-in, all-places}
+use Rattle.constraints.proofs.Rows.{Place, in-rows, rows-in, all-same}
 use Rattle.constraints.proofs.Renaming.{Carried, leads-same}
 use Rattle.constraints.proofs.Edges.{edge, edge-at, forward, turned, upward, forward-in, turned-in, upward-in, OfTie, of-tie, OfSubtype, of-subtype, find-at}
 
@@ -61,7 +61,7 @@ module _ (numbers : List ℕ) (n : ℕ) (nodes : List ℕ) (f : NodesOf numbers 
 -- there is room for all places
 pub small-nodes : (numbers nodes : List ℕ) (n links : ℕ) → n ≤ 256 → links ≤ 768 → NodesOf numbers (n + links + links) nodes → Small nodes n links
 small-nodes numbers nodes n links h k f =
-    record { rowsFit = h; linksFit = k; node = λ p l. omega (arith, node-low numbers (n + links + links) nodes f p l) }
+    record { cachedFit = h; linksFit = k; node = λ p l. omega (arith, node-low numbers (n + links + links) nodes f p l) }
 
 -- cell 0 of a row
 first-cell : (t : List ℕ) (name i : ℕ) → requestIn t 0 name i ≡ at (getD t (i * 3) 0) (getD t (i * 3 + name) 0)
@@ -260,19 +260,19 @@ module _ (cache : List ℕ) (n : ℕ) (ties : List ℕ) (tied : ℕ) (subtypes :
         (row-same (theTies ++ theSubtypes) 0 led-same a b h k))
 
     class-same : (a : ℕ) → a < n
-      → rowAgrees sup theCache theTies (theTies ++ theSubtypes) (entryAt cache a .request) ≡ allPlaces (pairOn sup nodes classes n links noted a) n 0
+      → rowAgrees sup theCache theTies (theTies ++ theSubtypes) (entryAt cache a .request) ≡ all (pairOn sup nodes classes n links noted a) (rows (λ i. i) n 0)
     unfolding rowAgrees
     class-same a h =
         rw (found a h, rowAgrees)
-        (all-places
+        (all-same
         (λ f. pairAgrees sup theCache (getD classes a 0) (reach theTies (entryAt cache a .request)) (reach (theTies ++ theSubtypes) (entryAt cache a .request)) (f .request))
-        (entryAt cache) (pairOn sup nodes classes n links noted a) n 0 (λ b _ k. pair-same a b h (omega arith)))
+        (entryAt cache) (pairOn sup nodes classes n links noted a) (λ i. i) n 0 (λ b _ k. pair-same a b h (omega arith)))
 
     pub agree-same : agreesOver sup theCache theTies (theTies ++ theSubtypes) ≡ agreeOn sup nodes classes n links noted
     unfolding agreesOver agreeOn
     agree-same =
-        all-places (λ e. rowAgrees sup theCache theTies (theTies ++ theSubtypes) (e .request)) (entryAt cache)
-        (λ a. allPlaces (pairOn sup nodes classes n links noted a) n 0) n 0 (λ a _ h. class-same a (omega arith))
+        all-same (λ e. rowAgrees sup theCache theTies (theTies ++ theSubtypes) (e .request)) (entryAt cache)
+        (λ a. all (pairOn sup nodes classes n links noted a) (rows (λ i. i) n 0)) (λ i. i) n 0 (λ a _ h. class-same a (omega arith))
 
 -- the same, where the counts are given by their values
 pub agree-counted : (sup : ℕ → Option ℕ) (cache ties subtypes : List ℕ) (n tied noted n′ tied′ noted′ : ℕ) (nodes classes : List ℕ) → n ≡ n′ → tied ≡ tied′ → noted ≡ noted′

@@ -54,15 +54,15 @@ ends-put {ties} {subtypes} {tied} {noted} {name} {near} {far} {from} {a} {b} {c}
 }
 
 -- all places
-pub all-put : {cache ties subtypes : List ℕ} {rows tied noted : ℕ} {a b c d : List ℕ} → Numbered cache 0 1 rows a b 0
-  → EndsNumbered ties tied subtypes noted 1 0 1 b c rows → EndsNumbered ties tied subtypes noted 2 1 0 c d (rows + (noted + tied + tied))
-  → AllNumbered cache rows ties tied subtypes noted d
-all-put {cache} {ties} {subtypes} {rows} {tied} {noted} {a} {b} {c} {d} p q r =
-    let half = rows + (noted + tied + tied) in record {
-      cachePut = numbers-on cache 0 1 rows c d 0 half (omega arith) (r .kept) (numbers-on cache 0 1 rows b c 0 rows (omega arith) (q .kept) (p .put));
-      lowPut = numbers-on subtypes 0 1 noted c d rows half (omega arith) (r .kept) (q .subtypesPut);
-      onePut = numbers-on ties 0 2 tied c d (rows + noted) half (omega arith) (r .kept) (q .tiesPut);
-      twoPut = numbers-on ties 1 2 tied c d (rows + noted + tied) half (omega arith) (r .kept) (q .turnedPut);
+pub all-put : {cache ties subtypes : List ℕ} {cached tied noted : ℕ} {a b c d : List ℕ} → Numbered cache 0 1 cached a b 0
+  → EndsNumbered ties tied subtypes noted 1 0 1 b c cached → EndsNumbered ties tied subtypes noted 2 1 0 c d (cached + (noted + tied + tied))
+  → AllNumbered cache cached ties tied subtypes noted d
+all-put {cache} {ties} {subtypes} {cached} {tied} {noted} {a} {b} {c} {d} p q r =
+    let half = cached + (noted + tied + tied) in record {
+      cachePut = numbers-on cache 0 1 cached c d 0 half (omega arith) (r .kept) (numbers-on cache 0 1 cached b c 0 cached (omega arith) (q .kept) (p .put));
+      lowPut = numbers-on subtypes 0 1 noted c d cached half (omega arith) (r .kept) (q .subtypesPut);
+      onePut = numbers-on ties 0 2 tied c d (cached + noted) half (omega arith) (r .kept) (q .tiesPut);
+      twoPut = numbers-on ties 1 2 tied c d (cached + noted + tied) half (omega arith) (r .kept) (q .turnedPut);
       highPut = r .subtypesPut;
       twoAgain = r .tiesPut;
       oneAgain = r .turnedPut;
@@ -70,32 +70,32 @@ all-put {cache} {ties} {subtypes} {rows} {tied} {noted} {a} {b} {c} {d} p q r =
 
 -- Links
 
-pub joined-none : (nodes : List ℕ) (rows : ℕ) → Joined nodes rows 0 (replicate 1792 0) (replicate 768 0)
-joined-none nodes rows = record {
+pub joined-none : (nodes : List ℕ) (cached : ℕ) → Joined nodes cached 0 (replicate 1792 0) (replicate 768 0)
+joined-none nodes cached = record {
   headsLong = length-replicate {A = ℕ} 1792 0;
   nextsLong = length-replicate {A = ℕ} 768 0;
   head = λ x h. rw (getD-replicate {A = ℕ} 1792 x 0 0 h) (record { high = omega arith; here = λ e q. absurd (omega arith); none = λ e l m. absurd (omega arith) });
   next = λ e h. absurd (omega arith);
 }
 
-pub joined-more : (nodes : List ℕ) (rows e : ℕ) (heads nexts : List ℕ) (s : ℕ) → s ≡ startOf nodes rows e → s < 1792 → e < 768 → Joined nodes rows e heads nexts
-  → Joined nodes rows (e + 1) (set heads s (e + 1)) (set nexts e (getD heads s 0))
-joined-more nodes rows e heads nexts s q h k j = record {
+pub joined-more : (nodes : List ℕ) (cached e : ℕ) (heads nexts : List ℕ) (s : ℕ) → s ≡ startOf nodes cached e → s < 1792 → e < 768 → Joined nodes cached e heads nexts
+  → Joined nodes cached (e + 1) (set heads s (e + 1)) (set nexts e (getD heads s 0))
+joined-more nodes cached e heads nexts s q h k j = record {
   headsLong = length-set heads s (e + 1) ∙ j .headsLong;
   nextsLong = length-set nexts e (getD heads s 0) ∙ j .nextsLong;
   head = λ x l. one x l (eqb x s) refl;
-  next = fill-more (λ p. p) (λ p v. Last nodes rows (startOf nodes rows p) p v) nexts e (getD heads s 0) (omega (arith, j .nextsLong)) (λ p m r. omega arith) (j .next)
+  next = fill-more (λ p. p) (λ p v. Last nodes cached (startOf nodes cached p) p v) nexts e (getD heads s 0) (omega (arith, j .nextsLong)) (λ p m r. omega arith) (j .next)
       (rw (sym q) (j .head s h));
 }
   where
     before : (d : ℕ) → d < e + 1 → (d ≡ e) ⊎ (d < e)
     before d l = eq-or-lt-of-le (omega arith)
-    here : (d : ℕ) → e + 1 ≡ suc d → startOf nodes rows d ≡ s
+    here : (d : ℕ) → e + 1 ≡ suc d → startOf nodes cached d ≡ s
     here d r = let z : d ≡ e = omega arith in rw z (sym q)
-    older : (x d : ℕ) → (x ≡ s → ⊥) → getD heads x 0 ≤ d → (d ≡ e) ⊎ (d < e) → x < 1792 → startOf nodes rows d ≡ x → ⊥
+    older : (x d : ℕ) → (x ≡ s → ⊥) → getD heads x 0 ≤ d → (d ≡ e) ⊎ (d < e) → x < 1792 → startOf nodes cached d ≡ x → ⊥
     older x d n l (inl r) w z = n (sym z ∙ rw r (sym q))
     older x d n l (inr r) w z = j .head x w .none d l r z
-    one : (x : ℕ) → x < 1792 → (t : Bool) → eqb x s ≡ t → Last nodes rows x (e + 1) (getD (set heads s (e + 1)) x 0)
+    one : (x : ℕ) → x < 1792 → (t : Bool) → eqb x s ≡ t → Last nodes cached x (e + 1) (getD (set heads s (e + 1)) x 0)
     one x l true r = rw (eqb-true x s r, getD-set-same heads s (e + 1) 0 (omega (arith, j .headsLong))) (record { high = omega arith; here = here; none = λ d a b. absurd (omega arith) })
     one x l false r = rw (getD-set-other heads s x (e + 1) 0 (eqb-false x s r)) (record {
       high = omega (arith, j .head x l .high);

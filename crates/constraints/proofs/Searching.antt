@@ -12,7 +12,6 @@ use lib.ListN.{length, getD, set, replicate, length-set, length-replicate, List�
 use lib.Seq.{getD-set-same, getD-set-other}
 use lib.Dec.{eqb, ltb}
 use borrow.Author.Tests.{eqb-true, eqb-false, eq-eqb, ne-eqb, ltb-true, ltb-false}
-use Rattle.definition.specs.Lists.{rows}
 use Rattle.definition.specs.Requests.{Request, at, Edge, Chain, stay, hop, leads}
 use Rattle.laws.specs.Chains.{leads-chain, chain-leads}
 use Rattle.constraints.specs.Nodes.{startOf, endOf, linkOf, linksFrom, leadsFrom, pairIs, pairOn}
@@ -149,17 +148,17 @@ queued-none = record {
 -- Visiting the ends of a node's links, the last link first
 
 -- the links from number f on were visited; f is 0, or one more than a link that starts at x
-pub record Expanding (nodes : List ℕ) (rows links base x f : ℕ) (marks queue : List ℕ) (tail : ℕ) (marks′ queue′ : List ℕ) (tail′ : ℕ) : Type 0 where
+pub record Expanding (nodes : List ℕ) (cached links base x f : ℕ) (marks queue : List ℕ) (tail : ℕ) (marks′ queue′ : List ℕ) (tail′ : ℕ) : Type 0 where
   pub high : f ≤ links
-  pub here : (e : ℕ) → f ≡ suc e → startOf nodes rows e ≡ x
+  pub here : (e : ℕ) → f ≡ suc e → startOf nodes cached e ≡ x
   pub queued : Queued marks′ queue′ tail′
   pub grown : Grown marks queue tail marks′ queue′ tail′
-  pub all : (y : ℕ) (l : Link nodes rows links base x y) → f ≤ l .number → Marked marks′ y
-  pub only : (y : ℕ) → Marked marks′ y → Marked marks y ⊎ Link nodes rows links base x y
+  pub all : (y : ℕ) (l : Link nodes cached links base x y) → f ≤ l .number → Marked marks′ y
+  pub only : (y : ℕ) → Marked marks′ y → Marked marks y ⊎ Link nodes cached links base x y
 
-module _ (nodes : List ℕ) (rows links base x : ℕ) where
-  pub expanding-none : {f : ℕ} {marks queue : List ℕ} {tail : ℕ} → Last nodes rows x links f → Queued marks queue tail
-    → Expanding nodes rows links base x f marks queue tail marks queue tail
+module _ (nodes : List ℕ) (cached links base x : ℕ) where
+  pub expanding-none : {f : ℕ} {marks queue : List ℕ} {tail : ℕ} → Last nodes cached x links f → Queued marks queue tail
+    → Expanding nodes cached links base x f marks queue tail marks queue tail
   expanding-none {f} last s = record {
     high = last .high;
     here = last .here;
@@ -169,9 +168,9 @@ module _ (nodes : List ℕ) (rows links base x : ℕ) where
     only = λ y m. inl m;
   }
 
-  pub expanding-one : {f e g : ℕ} {m q m′ q′ m″ q″ : List ℕ} {t t′ t″ : ℕ} → f ≡ suc e → base ≤ e → Last nodes rows (startOf nodes rows e) e g
-    → Expanding nodes rows links base x f m q t m′ q′ t′ → Visited (endOf nodes rows links e) m′ q′ t′ m″ q″ t″
-    → Expanding nodes rows links base x g m q t m″ q″ t″
+  pub expanding-one : {f e g : ℕ} {m q m′ q′ m″ q″ : List ℕ} {t t′ t″ : ℕ} → f ≡ suc e → base ≤ e → Last nodes cached (startOf nodes cached e) e g
+    → Expanding nodes cached links base x f m q t m′ q′ t′ → Visited (endOf nodes cached links e) m′ q′ t′ m″ q″ t″
+    → Expanding nodes cached links base x g m q t m″ q″ t″
   expanding-one {f} {e} {g} {m} {q} {m′} {q′} {m″} {q″} i b last s v = record {
     high = omega (arith, last .high, s .high);
     here = λ d k. last .here d k ∙ start;
@@ -181,20 +180,20 @@ module _ (nodes : List ℕ) (rows links base x : ℕ) where
     only = λ y k. new y (v .only y k);
   }
     where
-      start : startOf nodes rows e ≡ x
+      start : startOf nodes cached e ≡ x
       start = s .here e i
       between : (k : ℕ) → (ltb k e ≡ false) → (ltb e k ≡ false) → k ≡ e
       between k p r = omega (arith, ltb-false k e p, ltb-false e k r)
-      later : (y : ℕ) (l : Link nodes rows links base x y) (a : Bool) → ltb (l .number) e ≡ a → (c : Bool) → ltb e (l .number) ≡ c → g ≤ l .number → Marked m″ y
+      later : (y : ℕ) (l : Link nodes cached links base x y) (a : Bool) → ltb (l .number) e ≡ a → (c : Bool) → ltb e (l .number) ≡ c → g ≤ l .number → Marked m″ y
       later y l true p c r h = absurd (last .none (l .number) h (ltb-true (l .number) e p) (l .start ∙ sym start))
       later y l false p true r h = v .grown .still y (s .all y l (omega (arith, ltb-true e (l .number) r)))
       later y l false p false r h = rw (sym (l .end), between (l .number) p r) (v .it)
-      new : (y : ℕ) → Marked m′ y ⊎ (y ≡ endOf nodes rows links e) → Marked m y ⊎ Link nodes rows links base x y
+      new : (y : ℕ) → Marked m′ y ⊎ (y ≡ endOf nodes cached links e) → Marked m y ⊎ Link nodes cached links base x y
       new y (inl k) = s .only y k
       new y (inr k) = inr (record { number = e; low = b; high = omega (arith, s .high); start = start; end = sym k })
 
-  pub expanding-all : {f : ℕ} {m q m′ q′ : List ℕ} {t t′ : ℕ} → f ≤ base → Expanding nodes rows links base x f m q t m′ q′ t′
-    → Expanded nodes rows links base x m q t m′ q′ t′
+  pub expanding-all : {f : ℕ} {m q m′ q′ : List ℕ} {t t′ : ℕ} → f ≤ base → Expanding nodes cached links base x f m q t m′ q′ t′
+    → Expanded nodes cached links base x m q t m′ q′ t′
   expanding-all h s = record {
     queued = s .queued;
     grown = s .grown;
@@ -204,12 +203,12 @@ module _ (nodes : List ℕ) (rows links base x : ℕ) where
 
 -- Searching from node a: the links of the queue's first `done` nodes were visited
 
-pub record Searching (nodes : List ℕ) (rows links base a done : ℕ) (marks queue : List ℕ) (tail : ℕ) : Type 0 where
+pub record Searching (nodes : List ℕ) (cached links base a done : ℕ) (marks queue : List ℕ) (tail : ℕ) : Type 0 where
   pub high : done ≤ tail
   pub queued : Queued marks queue tail
   pub start : Marked marks a
-  pub sound : (y : ℕ) → Marked marks y → Chain (linksFrom nodes rows links base) (at 0 a) (at 0 y)
-  pub closed : (p : ℕ) → p < done → (y : ℕ) → Link nodes rows links base (getD queue p 0) y → Marked marks y
+  pub sound : (y : ℕ) → Marked marks y → Chain (linksFrom nodes cached links base) (at 0 a) (at 0 y)
+  pub closed : (p : ℕ) → p < done → (y : ℕ) → Link nodes cached links base (getD queue p 0) y → Marked marks y
 
 module _ (nodes : List ℕ) (n links base a : ℕ) where
   abbrev Led : ℕ → Type 0

@@ -78,13 +78,13 @@ fn number_ends(ties: &[u16], tied: usize, subtypes: &[u16], noted: usize, name: 
 }
 
 // The numbers of all places: the cached requests, where links start, and where they end.
-fn number_places(cache: &[u16], rows: usize, ties: &[u16], tied: usize, subtypes: &[u16], noted: usize, numbers: &mut [usize])
-    requires { ⌜ (rows ≤ 256) × (tied ≤ 256) × (noted ≤ 256) × (length (now numbers) ≡ 1792) ⌝ }
-    ensures { λ _. ⌜ AllNumbered (now (cache .entry)) rows (now (ties .entry)) tied (now (subtypes .entry)) noted (now (numbers .exit)) ⌝ }
+fn number_places(cache: &[u16], cached: usize, ties: &[u16], tied: usize, subtypes: &[u16], noted: usize, numbers: &mut [usize])
+    requires { ⌜ (cached ≤ 256) × (tied ≤ 256) × (noted ≤ 256) × (length (now numbers) ≡ 1792) ⌝ }
+    ensures { λ _. ⌜ AllNumbered (now (cache .entry)) cached (now (ties .entry)) tied (now (subtypes .entry)) noted (now (numbers .exit)) ⌝ }
 {
-    number_rows(cache, 0, 1, rows, numbers, 0);
-    number_ends(ties, tied, subtypes, noted, 1, 0, 1, numbers, rows);
-    number_ends(ties, tied, subtypes, noted, 2, 1, 0, numbers, rows + (noted + tied + tied));
+    number_rows(cache, 0, 1, cached, numbers, 0);
+    number_ends(ties, tied, subtypes, noted, 1, 0, 1, numbers, cached);
+    number_ends(ties, tied, subtypes, noted, 2, 1, 0, numbers, cached + (noted + tied + tied));
 }
 
 // Nodes.
@@ -124,12 +124,12 @@ fn class_at(cache: &[u16], row: usize) -> usize
 }
 
 // What each cached request means: the class of the first row with its node.
-fn list_classes(cache: &[u16], nodes: &[usize], rows: usize, classes: &mut [usize])
-    requires { ⌜ (rows ≤ length (now classes)) × ((p : ℕ) → p < rows → getD (now nodes) p 0 < 1792) ⌝ }
-    ensures { λ _. ⌜ ClassesOf (now (cache .entry)) (now (nodes .entry)) rows (now (classes .exit)) ⌝ }
+fn list_classes(cache: &[u16], nodes: &[usize], cached: usize, classes: &mut [usize])
+    requires { ⌜ (cached ≤ length (now classes)) × ((p : ℕ) → p < cached → getD (now nodes) p 0 < 1792) ⌝ }
+    ensures { λ _. ⌜ ClassesOf (now (cache .entry)) (now (nodes .entry)) cached (now (classes .exit)) ⌝ }
 {
     let mut p = 0;
-    while p < rows {
+    while p < cached {
         classes[p] = class_at(cache, place(nodes, p));
         p += 1;
     }
@@ -137,13 +137,13 @@ fn list_classes(cache: &[u16], nodes: &[usize], rows: usize, classes: &mut [usiz
 
 // Links, each joined to the last before it that starts at the same node.
 
-fn join(nodes: &[usize], rows: usize, links: usize, heads: &mut [usize], nexts: &mut [usize])
-    requires { ⌜ Small (now nodes) rows links × Joined (now nodes) rows 0 (now heads) (now nexts) ⌝ }
-    ensures { λ _. ⌜ Joined (now (nodes .entry)) rows links (now (heads .exit)) (now (nexts .exit)) ⌝ }
+fn join(nodes: &[usize], cached: usize, links: usize, heads: &mut [usize], nexts: &mut [usize])
+    requires { ⌜ Small (now nodes) cached links × Joined (now nodes) cached 0 (now heads) (now nexts) ⌝ }
+    ensures { λ _. ⌜ Joined (now (nodes .entry)) cached links (now (heads .exit)) (now (nexts .exit)) ⌝ }
 {
     let mut e = 0;
     while e < links {
-        let start = place(nodes, rows + e);
+        let start = place(nodes, cached + e);
         nexts[e] = place(heads, start);
         heads[start] = e + 1;
         e += 1;
@@ -166,24 +166,24 @@ fn visit(node: usize, marks: &mut [u8], queue: &mut [usize], tail: usize) -> usi
 }
 
 // Visits the end of each link from number `base` on that starts at a node.
-fn expand(nodes: &[usize], rows: usize, links: usize, heads: &[usize], nexts: &[usize], base: usize, node: usize, marks: &mut [u8], queue: &mut [usize], tail: usize) -> usize
-    requires { ⌜ (node < 1792) × Small (now nodes) rows links × Joined (now nodes) rows links (now heads) (now nexts) × Queued (now marks) (now queue) tail ⌝ }
-    ensures { λ r. ⌜ Expanded (now (nodes .entry)) rows links base node (now (marks .entry)) (now (queue .entry)) tail (now (marks .exit)) (now (queue .exit)) r ⌝ }
+fn expand(nodes: &[usize], cached: usize, links: usize, heads: &[usize], nexts: &[usize], base: usize, node: usize, marks: &mut [u8], queue: &mut [usize], tail: usize) -> usize
+    requires { ⌜ (node < 1792) × Small (now nodes) cached links × Joined (now nodes) cached links (now heads) (now nexts) × Queued (now marks) (now queue) tail ⌝ }
+    ensures { λ r. ⌜ Expanded (now (nodes .entry)) cached links base node (now (marks .entry)) (now (queue .entry)) tail (now (marks .exit)) (now (queue .exit)) r ⌝ }
 {
     let mut queued = tail;
     let mut follow = place(heads, node);
     while base < follow {
         let e = follow - 1;
-        queued = visit(place(nodes, rows + links + e), marks, queue, queued);
+        queued = visit(place(nodes, cached + links + e), marks, queue, queued);
         follow = place(nexts, e);
     }
     queued
 }
 
 // The marks of what a node leads to, by links from number `base` on.
-fn search(nodes: &[usize], rows: usize, links: usize, heads: &[usize], nexts: &[usize], base: usize, start: usize) -> [u8; 1792]
-    requires { ⌜ (start < 1792) × Small (now nodes) rows links × Joined (now nodes) rows links (now heads) (now nexts) ⌝ }
-    ensures { λ r. ⌜ Searched (now (nodes .entry)) rows links base start r ⌝ }
+fn search(nodes: &[usize], cached: usize, links: usize, heads: &[usize], nexts: &[usize], base: usize, start: usize) -> [u8; 1792]
+    requires { ⌜ (start < 1792) × Small (now nodes) cached links × Joined (now nodes) cached links (now heads) (now nexts) ⌝ }
+    ensures { λ r. ⌜ Searched (now (nodes .entry)) cached links base start r ⌝ }
 {
     let mut marks = [0u8; 1792];
     let mut queue = [0usize; 1792];
@@ -191,7 +191,7 @@ fn search(nodes: &[usize], rows: usize, links: usize, heads: &[usize], nexts: &[
     let mut done = 0;
     while done < tail {
         let node = queue[done];
-        tail = expand(nodes, rows, links, heads, nexts, base, node, &mut marks, &mut queue, tail);
+        tail = expand(nodes, cached, links, heads, nexts, base, node, &mut marks, &mut queue, tail);
         done += 1;
     }
     marks
@@ -243,18 +243,18 @@ fn marks_agree(supers: &[u8], nodes: &[usize], classes: &[usize], tied: &[u8], l
 }
 
 // Every pair of cached requests agrees: a's search is made once, and the first pair that does not agree ends the test.
-fn pairs_agree(supers: &[u8], nodes: &[usize], classes: &[usize], rows: usize, links: usize, noted: usize, heads: &[usize], nexts: &[usize]) -> bool
-    requires { ⌜ Small (now nodes) rows links × Joined (now nodes) rows links (now heads) (now nexts) ⌝ }
-    ensures { λ r. ⌜ r ≡ agreeOn (superIn (now (supers .entry))) (now (nodes .entry)) (now (classes .entry)) rows links noted ⌝ }
+fn pairs_agree(supers: &[u8], nodes: &[usize], classes: &[usize], cached: usize, links: usize, noted: usize, heads: &[usize], nexts: &[usize]) -> bool
+    requires { ⌜ Small (now nodes) cached links × Joined (now nodes) cached links (now heads) (now nexts) ⌝ }
+    ensures { λ r. ⌜ r ≡ agreeOn (superIn (now (supers .entry))) (now (nodes .entry)) (now (classes .entry)) cached links noted ⌝ }
 {
     let mut agreed = true;
     let mut a = 0;
-    'pairs: while a < rows {
+    'pairs: while a < cached {
         let start = place(nodes, a);
-        let tied = search(nodes, rows, links, heads, nexts, noted, start);
-        let led = search(nodes, rows, links, heads, nexts, 0, start);
+        let tied = search(nodes, cached, links, heads, nexts, noted, start);
+        let led = search(nodes, cached, links, heads, nexts, 0, start);
         let mut b = 0;
-        while b < rows {
+        while b < cached {
             if !marks_agree(supers, nodes, classes, &tied, &led, a, b) {
                 agreed = false;
                 break 'pairs;
@@ -272,20 +272,20 @@ pub fn agree(supers: &[u8], cache: &[u16], entries: u16, ties: &[u16], tie_count
         λ r. ⌜ r ≡ agreeIn (now (supers .entry)) (now (cache .entry)) entries (now (ties .entry)) «tie_count» (now (subtypes .entry)) «subtype_count» ⌝
     }
 {
-    let rows = at_most(entries);
+    let cached = at_most(entries);
     let tied = at_most(tie_count);
     let noted = at_most(subtype_count);
     let links = noted + tied + tied;
     let mut numbers = [0usize; 1792];
-    number_places(cache, rows, ties, tied, subtypes, noted, &mut numbers);
+    number_places(cache, cached, ties, tied, subtypes, noted, &mut numbers);
     let mut nodes = [0usize; 1792];
-    number_nodes(&numbers, rows + links + links, &mut nodes);
+    number_nodes(&numbers, cached + links + links, &mut nodes);
     let mut classes = [0usize; 256];
-    list_classes(cache, &nodes, rows, &mut classes);
+    list_classes(cache, &nodes, cached, &mut classes);
     let mut heads = [0usize; 1792];
     let mut nexts = [0usize; 768];
-    join(&nodes, rows, links, &mut heads, &mut nexts);
-    pairs_agree(supers, &nodes, &classes, rows, links, noted, &heads, &nexts)
+    join(&nodes, cached, links, &mut heads, &mut nexts);
+    pairs_agree(supers, &nodes, &classes, cached, links, noted, &heads, &nexts)
 }
 
 // Posting.

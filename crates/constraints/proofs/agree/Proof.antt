@@ -32,8 +32,8 @@ module _ (c : tie.After-number-nodes) where
   abbrev nodes : List ℕ
   nodes = c .number-nodes .last .1 .1 .0
 
-  abbrev rows : ℕ
-  rows = places .before .before .before .before .at-most .result
+  abbrev cached : ℕ
+  cached = places .before .before .before .before .at-most .result
 
   abbrev tied : ℕ
   tied = places .before .before .before .at-most2 .result
@@ -41,9 +41,9 @@ module _ (c : tie.After-number-nodes) where
   abbrev noted : ℕ
   noted = places .before .before .at-most3 .result
 
-  small : Small nodes rows (noted + tied + tied)
+  small : Small nodes cached (noted + tied + tied)
   small =
-      small-nodes numbers nodes rows (noted + tied + tied) (places .before .before .before .before .at-most .ensures .1)
+      small-nodes numbers nodes cached (noted + tied + tied) (places .before .before .before .before .at-most .ensures .1)
       (omega (arith, places .before .before .before .at-most2 .ensures .1, places .before .before .at-most3 .ensures .1)) (c .number-nodes .ensures)
 
 -- src/lib.rt:265:9
@@ -104,7 +104,7 @@ slice-aggregate-list-classes-2 c = search needs
 
 -- src/lib.rt:274:5
 list-classes-requires : tie.Need-list-classes-requires
-list-classes-requires c κs = let s = small (c .before .before .before) in (s .rowsFit, λ p h. s .node p (omega arith))
+list-classes-requires c κs = let s = small (c .before .before .before) in (s .cachedFit, λ p h. s .node p (omega arith))
 
 -- src/lib.rt:277:10
 slice-aggregate-join : tie.Need-slice-aggregate-join
@@ -148,7 +148,7 @@ returns c =
     let k = c .before .before .before .before .before .before .before .before .before .before .before .before .before .before .before .before in
     c .pairs-agree .ensures
     ∙ agree-counted _ (now (c .before .before .before .before .before .before .before .before .before .before .before .before .before .before .before .before .before .before .before .before .before .before .before .before .before .before .before .before .before .args .cache)) (now (c .before .before .before .before .before .before .before .before .before .before .before .before .before .before .before .before .before .before .before .before .before .before .before .before .before .before .before .before .before .args .ties)) (now (c .before .before .before .before .before .before .before .before .before .before .before .before .before .before .before .before .before .before .before .before .before .before .before .before .before .before .before .before .before .args .subtypes)) _ _ _ _ _ _ _ _ (c .before .before .before .before .before .before .before .before .before .before .before .before .before .before .before .before .before .before .before .before .before .before .before .before .at-most .ensures .0) (c .before .before .before .before .before .before .before .before .before .before .before .before .before .before .before .before .before .before .before .before .before .before .before .at-most2 .ensures .0) (c .before .before .before .before .before .before .before .before .before .before .before .before .before .before .before .before .before .before .before .before .before .before .at-most3 .ensures .0)
-    (agree-same (now (c .before .before .before .before .before .before .before .before .before .before .before .before .before .before .before .before .before .before .before .before .before .before .before .before .before .before .before .before .before .args .cache)) (rows k) (now (c .before .before .before .before .before .before .before .before .before .before .before .before .before .before .before .before .before .before .before .before .before .before .before .before .before .before .before .before .before .args .ties)) (tied k) (now (c .before .before .before .before .before .before .before .before .before .before .before .before .before .before .before .before .before .before .before .before .before .before .before .before .before .before .before .before .before .args .subtypes)) (noted k) (numbers k) (nodes k) (c .before .before .before .before .before .before .before .before .before .before .before .before .list-classes .last .1 .1 .1 .0)
+    (agree-same (now (c .before .before .before .before .before .before .before .before .before .before .before .before .before .before .before .before .before .before .before .before .before .before .before .before .before .before .before .before .before .args .cache)) (cached k) (now (c .before .before .before .before .before .before .before .before .before .before .before .before .before .before .before .before .before .before .before .before .before .before .before .before .before .before .before .before .before .args .ties)) (tied k) (now (c .before .before .before .before .before .before .before .before .before .before .before .before .before .before .before .before .before .before .before .before .before .before .before .before .before .before .before .before .before .args .subtypes)) (noted k) (numbers k) (nodes k) (c .before .before .before .before .before .before .before .before .before .before .before .before .list-classes .last .1 .1 .1 .0)
     (c .before .before .before .before .before .before .before .before .before .before .before .before .before .before .before .before .before .before .before .before .number-places .ensures) (c .before .before .before .before .before .before .before .before .before .before .before .before .before .before .before .before .number-nodes .ensures) (c .before .before .before .before .before .before .before .before .before .before .before .before .list-classes .ensures) (superIn (now (c .before .before .before .before .before .before .before .before .before .before .before .before .before .before .before .before .before .before .before .before .before .before .before .before .before .before .before .before .before .args .supers))))
 
 pub agree-spec : {M : Type 1} → statement M

@@ -15,10 +15,10 @@ use Rattle.constraints.proofs.place.Reads as place-reads
 use Rattle.constraints.proofs.visit.Reads as visit-reads
 
 abbrev Inv-loop : tie.InvT-loop
-Inv-loop nodes rows links heads nexts base node marks₀ queue₀ tail queued₀ follow₀ marks queue queued follow = Expanding nodes rows links base node follow marks₀ queue₀ tail marks queue queued
+Inv-loop nodes cached links heads nexts base node marks₀ queue₀ tail queued₀ follow₀ marks queue queued follow = Expanding nodes cached links base node follow marks₀ queue₀ tail marks queue queued
 
 abbrev μ-loop : tie.MeasureT-loop
-μ-loop nodes rows links heads nexts base node marks₀ queue₀ tail queued₀ follow₀ marks queue queued follow = follow
+μ-loop nodes cached links heads nexts base node marks₀ queue₀ tail queued₀ follow₀ marks queue queued follow = follow
 
 -- src/lib.rt:164:9
 place-requires : tie.Need-place-requires Inv-loop μ-loop
@@ -46,7 +46,7 @@ place-requires-2 c κs = search needs
 
 -- src/lib.rt:167:9
 visit-requires : tie.Need-visit-requires Inv-loop μ-loop
-visit-requires c κs = (rw (c .before .before .place2 .ensures) (c .before .before .before .before .before .before .before .before .before .before .before .pre .1 .node (c .before .before .before .before .before .before .before .before .before .before .before .args .rows + c .before .before .before .before .before .before .before .before .before .before .before .args .links + (c .before .before .before .before .loop .follow - 1)) (omega (arith, c .before .before .before .before .loop .inv .high, c .before .before .before .loop-test .taken))), c .before .before .before .before .loop .inv .queued)
+visit-requires c κs = (rw (c .before .before .place2 .ensures) (c .before .before .before .before .before .before .before .before .before .before .before .pre .1 .node (c .before .before .before .before .before .before .before .before .before .before .before .args .cached + c .before .before .before .before .before .before .before .before .before .before .before .args .links + (c .before .before .before .before .loop .follow - 1)) (omega (arith, c .before .before .before .before .loop .inv .high, c .before .before .before .loop-test .taken))), c .before .before .before .before .loop .inv .queued)
 
 -- src/lib.rt:168:9
 place-requires-3 : tie.Need-place-requires-3 Inv-loop μ-loop

@@ -14,10 +14,10 @@ use Rattle.constraints.proofs.join.Lts as lts
 use Rattle.constraints.proofs.place.Reads as place-reads
 
 abbrev Inv-loop : tie.InvT-loop
-Inv-loop nodes rows links heads₀ nexts₀ e₀ heads nexts e = (e ≤ links) × Joined nodes rows e heads nexts
+Inv-loop nodes cached links heads₀ nexts₀ e₀ heads nexts e = (e ≤ links) × Joined nodes cached e heads nexts
 
 abbrev μ-loop : tie.MeasureT-loop
-μ-loop nodes rows links heads₀ nexts₀ e₀ heads nexts e = links - e
+μ-loop nodes cached links heads₀ nexts₀ e₀ heads nexts e = links - e
 
 -- src/lib.rt:135:5
 loop-holds : tie.Need-loop-holds Inv-loop μ-loop
@@ -49,11 +49,11 @@ add-heads c = search needs
 
 -- src/lib.rt:138:9
 mul-heads : tie.Need-mul-heads Inv-loop μ-loop
-mul-heads c = let low : c .before .before .place .result < 1792 = rw (c .before .before .place .ensures) (c .before .before .before .before .before .before .before .before .pre .0 .node (c .before .before .before .before .before .before .before .before .args .rows + c .before .before .before .before .loop .e) (omega (arith, c .before .before .before .before .before .before .before .before .pre .0 .linksFit, c .before .before .before .loop-test .taken))) in omega arith
+mul-heads c = let low : c .before .before .place .result < 1792 = rw (c .before .before .place .ensures) (c .before .before .before .before .before .before .before .before .pre .0 .node (c .before .before .before .before .before .before .before .before .args .cached + c .before .before .before .before .loop .e) (omega (arith, c .before .before .before .before .before .before .before .before .pre .0 .linksFit, c .before .before .before .loop-test .taken))) in omega arith
 
 -- src/lib.rt:138:9
 slice-write-heads : tie.Need-slice-write-heads Inv-loop μ-loop
-slice-write-heads c = let low : c .before .before .place .result < 1792 = rw (c .before .before .place .ensures) (c .before .before .before .before .before .before .before .before .pre .0 .node (c .before .before .before .before .before .before .before .before .args .rows + c .before .before .before .before .loop .e) (omega (arith, c .before .before .before .before .before .before .before .before .pre .0 .linksFit, c .before .before .before .loop-test .taken))) in omega (arith, c .before .before .before .before .loop .inv .1 .headsLong)
+slice-write-heads c = let low : c .before .before .place .result < 1792 = rw (c .before .before .place .ensures) (c .before .before .before .before .before .before .before .before .pre .0 .node (c .before .before .before .before .before .before .before .before .args .cached + c .before .before .before .before .loop .e) (omega (arith, c .before .before .before .before .before .before .before .before .pre .0 .linksFit, c .before .before .before .loop-test .taken))) in omega (arith, c .before .before .before .before .loop .inv .1 .headsLong)
 
 -- src/lib.rt:139:9
 add-e : tie.Need-add-e Inv-loop μ-loop
@@ -68,7 +68,7 @@ loop-again : tie.Need-loop-again Inv-loop μ-loop
 unfolding startOf
 loop-again c = 
     let s = c .before .before .before .before .loop .inv .1 in
-    let low : c .before .before .place .result < 1792 = rw (c .before .before .place .ensures) (c .before .before .before .before .before .before .before .before .pre .0 .node (c .before .before .before .before .before .before .before .before .args .rows + c .before .before .before .before .loop .e) (omega (arith, c .before .before .before .before .before .before .before .before .pre .0 .linksFit, c .before .before .before .loop-test .taken))) in
+    let low : c .before .before .place .result < 1792 = rw (c .before .before .place .ensures) (c .before .before .before .before .before .before .before .before .pre .0 .node (c .before .before .before .before .before .before .before .before .args .cached + c .before .before .before .before .loop .e) (omega (arith, c .before .before .before .before .before .before .before .before .pre .0 .linksFit, c .before .before .before .loop-test .taken))) in
     (omega arith, rw (c .place2 .ensures) (joined-more _ _ _ _ _ _ (c .before .before .place .ensures) low (omega (arith, c .before .before .before .before .before .before .before .before .pre .0 .linksFit, c .before .before .before .loop-test .taken)) s))
 
 -- src/lib.rt:130:1

@@ -14,10 +14,10 @@ use Rattle.constraints.proofs.class_at.Reads as class-at-reads
 use Rattle.constraints.proofs.place.Reads as place-reads
 
 abbrev Inv-loop : tie.InvT-loop
-Inv-loop cache nodes rows classes₀ p₀ classes p = (p ≤ rows) × ClassesOf cache nodes p classes × (length classes ≡ length classes₀)
+Inv-loop cache nodes cached classes₀ p₀ classes p = (p ≤ cached) × ClassesOf cache nodes p classes × (length classes ≡ length classes₀)
 
 abbrev μ-loop : tie.MeasureT-loop
-μ-loop cache nodes rows classes₀ p₀ classes p = rows - p
+μ-loop cache nodes cached classes₀ p₀ classes p = cached - p
 
 -- src/lib.rt:122:5
 loop-holds : tie.Need-loop-holds Inv-loop μ-loop
@@ -61,7 +61,7 @@ same-length c = c .before .loop .inv .2
 
 -- src/lib.rt:117:1
 returns : tie.Need-returns Inv-loop μ-loop
-returns c = let e : c .before .loop .p ≡ c .before .before .before .before .before .args .rows = omega arith in rw e at (c .before .loop .inv .1)
+returns c = let e : c .before .loop .p ≡ c .before .before .before .before .before .args .cached = omega arith in rw e at (c .before .loop .inv .1)
 
 pub list-classes-spec : {M : Type 1} → statement M
 list-classes-spec =

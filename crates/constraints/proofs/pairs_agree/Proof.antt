@@ -1,7 +1,9 @@
 use borrow.Author.Needs.{needs}
 use Rattle.constraints.proofs.Searching.{pair-marks}
-use Rattle.constraints.proofs.Rows.{places-yes, places-no, places-end, places-start}
-use Rattle.constraints.specs.Nodes.{pairOn, allPlaces, agreeOn}
+use Rattle.definition.specs.Lists.{rows, all}
+use Rattle.layout.specs.Places.{rows-on, rows-hit, rows-end}
+use Rattle.constraints.proofs.Rows.{all-start}
+use Rattle.constraints.specs.Nodes.{pairOn, agreeOn}
 use Rattle.constraints.specs.Agreement.{superIn}
 use borrow.Author.Tests.{not-true, not-false}
 use mathlib.Core.Bool.{Bool, true, false}
@@ -18,21 +20,21 @@ use Rattle.constraints.proofs.place.Reads as place-reads
 use Rattle.constraints.proofs.search.Reads as search-reads
 
 abbrev Inv-loop : tie.InvT-loop
-Inv-loop supers nodes classes rows links noted heads nexts agreed₀ a start tied led b₀ agreed b = (agreed ≡ true) × (b ≤ rows) × (allPlaces (pairOn (superIn supers) nodes classes rows links noted a) (rows - b) b ≡ allPlaces (pairOn (superIn supers) nodes classes rows links noted a) rows 0)
+Inv-loop supers nodes classes cached links noted heads nexts agreed₀ a start tied led b₀ agreed b = (agreed ≡ true) × (b ≤ cached) × (all (pairOn (superIn supers) nodes classes cached links noted a) (rows (λ i. i) (cached - b) b) ≡ all (pairOn (superIn supers) nodes classes cached links noted a) (rows (λ i. i) cached 0))
 
 abbrev μ-loop : tie.MeasureT-loop
-μ-loop supers nodes classes rows links noted heads nexts agreed₀ a start tied led b₀ agreed b = rows - b
+μ-loop supers nodes classes cached links noted heads nexts agreed₀ a start tied led b₀ agreed b = cached - b
 
 abbrev Inv-pairs : tie.InvT-pairs
-Inv-pairs supers nodes classes rows links noted heads nexts agreed₀ a₀ agreed a = (agreed ≡ true) × (a ≤ rows) × (allPlaces (λ a. allPlaces (pairOn (superIn supers) nodes classes rows links noted a) rows 0) (rows - a) a ≡ agreeOn (superIn supers) nodes classes rows links noted)
+Inv-pairs supers nodes classes cached links noted heads nexts agreed₀ a₀ agreed a = (agreed ≡ true) × (a ≤ cached) × (all (λ a. all (pairOn (superIn supers) nodes classes cached links noted a) (rows (λ i. i) cached 0)) (rows (λ i. i) (cached - a) a) ≡ agreeOn (superIn supers) nodes classes cached links noted)
 
 abbrev μ-pairs : tie.MeasureT-pairs
-μ-pairs supers nodes classes rows links noted heads nexts agreed₀ a₀ agreed a = rows - a
+μ-pairs supers nodes classes cached links noted heads nexts agreed₀ a₀ agreed a = cached - a
 
 -- src/lib.rt:242:5
 pairs-holds : tie.Need-pairs-holds Inv-loop μ-loop Inv-pairs μ-pairs
 unfolding agreeOn
-pairs-holds c = (refl, omega arith, places-start _ _)
+pairs-holds c = (refl, omega arith, all-start _ (λ i. i) _)
 
 -- src/lib.rt:243:13
 place-requires : tie.Need-place-requires Inv-loop μ-loop Inv-pairs μ-pairs
@@ -48,7 +50,7 @@ search-requires-2 c κs = (rw (c .before .place .ensures) (c .before .before .be
 
 -- src/lib.rt:247:9
 loop-holds : tie.Need-loop-holds Inv-loop μ-loop Inv-pairs μ-pairs
-loop-holds c = (c .before .before .before .before .pairs .inv .0, omega arith, places-start _ _)
+loop-holds c = (c .before .before .before .before .pairs .inv .0, omega arith, all-start _ (λ i. i) _)
 
 -- src/lib.rt:248:53
 slice-aggregate-marks-agree :
@@ -75,8 +77,8 @@ loop-less c = search needs
 -- src/lib.rt:247:9
 loop-again : tie.Need-loop-again Inv-loop μ-loop Inv-pairs μ-pairs
 loop-again c = 
-    let one : pairOn (superIn (now (c .before .before .before .before .before .before .before .before .before .before .before .before .before .before .before .before .args .supers))) (now (c .before .before .before .before .before .before .before .before .before .before .before .before .before .before .before .before .args .nodes)) (now (c .before .before .before .before .before .before .before .before .before .before .before .before .before .before .before .before .args .classes)) (c .before .before .before .before .before .before .before .before .before .before .before .before .before .before .before .before .args .rows) (c .before .before .before .before .before .before .before .before .before .before .before .before .before .before .before .before .args .links) (c .before .before .before .before .before .before .before .before .before .before .before .before .before .before .before .before .args .noted) (c .before .before .before .before .before .before .before .before .before .before .pairs .a) (c .before .before .before .before .before .loop .b) ≡ true = sym (pair-marks _ _ _ _ _ _ _ _ _ (c .before .before .before .before .before .before .before .search .result) (c .before .before .before .before .before .before .search2 .result) (c .before .before .before .before .before .before .before .before .place .ensures) (c .before .before .before .before .before .before .before .search .ensures) (c .before .before .before .before .before .before .search2 .ensures)) ∙ sym (c .before .marks-agree .ensures) ∙ not-false _ (c .if1 .left) in
-    (c .before .before .before .before .before .loop .inv .0, omega arith, sym (places-yes _ _ _ (c .before .before .before .before .loop-test .taken) one) ∙ c .before .before .before .before .before .loop .inv .2)
+    let one : pairOn (superIn (now (c .before .before .before .before .before .before .before .before .before .before .before .before .before .before .before .before .args .supers))) (now (c .before .before .before .before .before .before .before .before .before .before .before .before .before .before .before .before .args .nodes)) (now (c .before .before .before .before .before .before .before .before .before .before .before .before .before .before .before .before .args .classes)) (c .before .before .before .before .before .before .before .before .before .before .before .before .before .before .before .before .args .cached) (c .before .before .before .before .before .before .before .before .before .before .before .before .before .before .before .before .args .links) (c .before .before .before .before .before .before .before .before .before .before .before .before .before .before .before .before .args .noted) (c .before .before .before .before .before .before .before .before .before .before .pairs .a) (c .before .before .before .before .before .loop .b) ≡ true = sym (pair-marks _ _ _ _ _ _ _ _ _ (c .before .before .before .before .before .before .before .search .result) (c .before .before .before .before .before .before .search2 .result) (c .before .before .before .before .before .before .before .before .place .ensures) (c .before .before .before .before .before .before .before .search .ensures) (c .before .before .before .before .before .before .search2 .ensures)) ∙ sym (c .before .marks-agree .ensures) ∙ not-false _ (c .if1 .left) in
+    (c .before .before .before .before .before .loop .inv .0, omega arith, sym (rows-on _ (λ i. i) _ _ (c .before .before .before .before .loop-test .taken) one) ∙ c .before .before .before .before .before .loop .inv .2)
 
 -- src/lib.rt:254:9
 add-a : tie.Need-add-a Inv-loop μ-loop Inv-pairs μ-pairs
@@ -89,19 +91,19 @@ pairs-less c = search needs
 -- src/lib.rt:242:5
 pairs-again : tie.Need-pairs-again Inv-loop μ-loop Inv-pairs μ-pairs
 pairs-again c = 
-    let row = sym (c .before .loop .inv .2) ∙ places-end _ _ _ (c .loop-test .left) in
-    (c .before .loop .inv .0, omega arith, sym (places-yes _ _ _ (c .before .before .before .before .before .pairs-test .taken) row) ∙ c .before .before .before .before .before .before .pairs .inv .2)
+    let row = sym (c .before .loop .inv .2) ∙ rows-end _ (λ i. i) _ _ (c .loop-test .left) in
+    (c .before .loop .inv .0, omega arith, sym (rows-on _ (λ i. i) _ _ (c .before .before .before .before .before .pairs-test .taken) row) ∙ c .before .before .before .before .before .before .pairs .inv .2)
 
 -- src/lib.rt:236:1
 returns : tie.Need-returns Inv-loop μ-loop Inv-pairs μ-pairs
-returns c = c .before .pairs .inv .0 ∙ sym (places-end _ _ _ (c .pairs-test .left)) ∙ c .before .pairs .inv .2
+returns c = c .before .pairs .inv .0 ∙ sym (rows-end _ (λ i. i) _ _ (c .pairs-test .left)) ∙ c .before .pairs .inv .2
 
 -- src/lib.rt:236:1
 returns-2 : tie.Need-returns-2 Inv-loop μ-loop Inv-pairs μ-pairs
 returns-2 c = 
-    let one : pairOn (superIn (now (c .before .before .before .before .before .before .before .before .before .before .before .before .before .before .before .before .args .supers))) (now (c .before .before .before .before .before .before .before .before .before .before .before .before .before .before .before .before .args .nodes)) (now (c .before .before .before .before .before .before .before .before .before .before .before .before .before .before .before .before .args .classes)) (c .before .before .before .before .before .before .before .before .before .before .before .before .before .before .before .before .args .rows) (c .before .before .before .before .before .before .before .before .before .before .before .before .before .before .before .before .args .links) (c .before .before .before .before .before .before .before .before .before .before .before .before .before .before .before .before .args .noted) (c .before .before .before .before .before .before .before .before .before .before .pairs .a) (c .before .before .before .before .before .loop .b) ≡ false = sym (pair-marks _ _ _ _ _ _ _ _ _ (c .before .before .before .before .before .before .before .search .result) (c .before .before .before .before .before .before .search2 .result) (c .before .before .before .before .before .before .before .before .place .ensures) (c .before .before .before .before .before .before .before .search .ensures) (c .before .before .before .before .before .before .search2 .ensures)) ∙ sym (c .before .marks-agree .ensures) ∙ not-true _ (c .if1 .taken) in
-    let row = sym (c .before .before .before .before .before .loop .inv .2) ∙ places-no _ _ _ (c .before .before .before .before .loop-test .taken) one in
-    sym (places-no _ _ _ (c .before .before .before .before .before .before .before .before .before .pairs-test .taken) row) ∙ c .before .before .before .before .before .before .before .before .before .before .pairs .inv .2
+    let one : pairOn (superIn (now (c .before .before .before .before .before .before .before .before .before .before .before .before .before .before .before .before .args .supers))) (now (c .before .before .before .before .before .before .before .before .before .before .before .before .before .before .before .before .args .nodes)) (now (c .before .before .before .before .before .before .before .before .before .before .before .before .before .before .before .before .args .classes)) (c .before .before .before .before .before .before .before .before .before .before .before .before .before .before .before .before .args .cached) (c .before .before .before .before .before .before .before .before .before .before .before .before .before .before .before .before .args .links) (c .before .before .before .before .before .before .before .before .before .before .before .before .before .before .before .before .args .noted) (c .before .before .before .before .before .before .before .before .before .before .pairs .a) (c .before .before .before .before .before .loop .b) ≡ false = sym (pair-marks _ _ _ _ _ _ _ _ _ (c .before .before .before .before .before .before .before .search .result) (c .before .before .before .before .before .before .search2 .result) (c .before .before .before .before .before .before .before .before .place .ensures) (c .before .before .before .before .before .before .before .search .ensures) (c .before .before .before .before .before .before .search2 .ensures)) ∙ sym (c .before .marks-agree .ensures) ∙ not-true _ (c .if1 .taken) in
+    let row = sym (c .before .before .before .before .before .loop .inv .2) ∙ rows-hit _ (λ i. i) _ _ (c .before .before .before .before .loop-test .taken) one in
+    sym (rows-hit _ (λ i. i) _ _ (c .before .before .before .before .before .before .before .before .before .pairs-test .taken) row) ∙ c .before .before .before .before .before .before .before .before .before .before .pairs .inv .2
 
 pub pairs-agree-spec : {M : Type 1} → statement M
 pairs-agree-spec =

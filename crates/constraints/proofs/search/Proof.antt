@@ -14,10 +14,10 @@ use Rattle.constraints.proofs.expand.Reads as expand-reads
 use Rattle.constraints.proofs.visit.Reads as visit-reads
 
 abbrev Inv-loop : tie.InvT-loop
-Inv-loop nodes rows links heads nexts base start marks₀ queue₀ tail₀ done₀ marks queue tail done = Searching nodes rows links base start done marks queue tail
+Inv-loop nodes cached links heads nexts base start marks₀ queue₀ tail₀ done₀ marks queue tail done = Searching nodes cached links base start done marks queue tail
 
 abbrev μ-loop : tie.MeasureT-loop
-μ-loop nodes rows links heads nexts base start marks₀ queue₀ tail₀ done₀ marks queue tail done = 1792 - done
+μ-loop nodes cached links heads nexts base start marks₀ queue₀ tail₀ done₀ marks queue tail done = 1792 - done
 
 -- src/lib.rt:180:33
 slice-aggregate-visit : tie.Need-slice-aggregate-visit Inv-loop μ-loop

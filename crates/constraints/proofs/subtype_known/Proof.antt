@@ -1,5 +1,6 @@
 use borrow.Author.Needs.{needs}
-use Rattle.constraints.proofs.Rows.{any-yes, any-no, any-end, any-start}
+use Rattle.layout.specs.Places.{any-hit, any-on, any-end}
+use Rattle.constraints.proofs.Rows.{any-start}
 use Rattle.constraints.specs.Posting.{note}
 use Rattle.definition.specs.Loading.{subtypeIs}
 use Rattle.definition.specs.Tables.{subtypeAt}
@@ -34,7 +35,7 @@ subtype-is-requires c κs = omega (arith, c .before .before .wide16 .ensures .1)
 
 -- src/lib.rt:385:13
 returns : tie.Need-returns Inv-loop μ-loop
-returns c = sym (any-yes _ _ _ _ (c .before .before .loop-test .taken) (sym (c .before .subtype-is .ensures) ∙ c .if1 .taken)) ∙ c .before .before .before .loop .inv .1
+returns c = sym (any-hit _ _ _ _ (c .before .before .loop-test .taken) (sym (c .before .subtype-is .ensures) ∙ c .if1 .taken)) ∙ c .before .before .before .loop .inv .1
 
 -- src/lib.rt:387:9
 add-i : tie.Need-add-i Inv-loop μ-loop
@@ -46,7 +47,7 @@ loop-less c = search needs
 
 -- src/lib.rt:383:5
 loop-again : tie.Need-loop-again Inv-loop μ-loop
-loop-again c = (omega arith, sym (any-no _ _ _ _ (c .before .before .loop-test .taken) (sym (c .before .subtype-is .ensures) ∙ c .if1 .left)) ∙ c .before .before .before .loop .inv .1)
+loop-again c = (omega arith, sym (any-on _ _ _ _ (c .before .before .loop-test .taken) (sym (c .before .subtype-is .ensures) ∙ c .if1 .left)) ∙ c .before .before .before .loop .inv .1)
 
 -- src/lib.rt:378:1
 returns-2 : tie.Need-returns-2 Inv-loop μ-loop
