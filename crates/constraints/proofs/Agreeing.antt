@@ -71,9 +71,8 @@ first-cell t name i = ap (λ (x : ℕ). at (getD t x 0) (getD t (i * 3 + name) 0
 -- A store as nodes
 
 module _ (cache : List ℕ) (n : ℕ) (ties : List ℕ) (tied : ℕ) (subtypes : List ℕ) (noted : ℕ) (numbers nodes classes : List ℕ)
-  (put : AllNumbered cache n ties tied subtypes noted numbers) (isNode : NodesOf numbers (n + (noted + tied + tied) + (noted + tied + tied)) nodes)
-  (isClass : ClassesOf cache nodes n classes) where
-
+    (put : AllNumbered cache n ties tied subtypes noted numbers) (isNode : NodesOf numbers (n + (noted + tied + tied) + (noted + tied + tied)) nodes)
+    (isClass : ClassesOf cache nodes n classes) where
   abbrev links : ℕ
   links = noted + tied + tied
 
@@ -133,7 +132,7 @@ module _ (cache : List ℕ) (n : ℕ) (ties : List ℕ) (tied : ℕ) (subtypes :
   -- each edge is a link
 
   link-of : (base e : ℕ) (d : Edge) → base ≤ e → e < links → d .from ≡ named (n + e) → d .to ≡ named (n + links + e)
-    → Carried named noded places (linksFrom nodes n links base) d
+      → Carried named noded places (linksFrom nodes n links base) d
   unfolding linksFrom linkOf startOf endOf
   link-of base e d l h p q = record {
     start = n + e;
@@ -152,6 +151,7 @@ module _ (cache : List ℕ) (n : ℕ) (ties : List ℕ) (tied : ℕ) (subtypes :
       way i h (inl e) = link-of base (noted + i) d (omega arith) (omega arith) (ap (λ (x : Edge). x .from) e ∙ sym (one-at i h)) (ap (λ (x : Edge). x .to) e ∙ sym (two-at i h))
       way i h (inr e) =
           link-of base (noted + tied + i) d (omega arith) (omega arith) (ap (λ (x : Edge). x .from) e ∙ sym (two-back i h)) (ap (λ (x : Edge). x .to) e ∙ sym (one-back i h))
+
       go : OfTie (rows (tieAt ties) tied 0) d → Carried named noded places (linksFrom nodes n links base) d
       go r = let p = rows-in (tieAt ties) tied 0 (r .tie) (r .there) in way (p .number) (omega arith) (rw (p .is) at (r .way))
 
@@ -160,6 +160,7 @@ module _ (cache : List ℕ) (n : ℕ) (ties : List ℕ) (tied : ℕ) (subtypes :
     where
       way : (i : ℕ) → i < noted → d ≡ upward (subtypeAt subtypes i) → Carried named noded places (linksFrom nodes n links 0) d
       way i h e = link-of 0 i d (omega arith) (omega arith) (ap (λ (x : Edge). x .from) e ∙ sym (low-at i h)) (ap (λ (x : Edge). x .to) e ∙ sym (high-at i h))
+
       go : OfSubtype (rows (subtypeAt subtypes) noted 0) d → Carried named noded places (linksFrom nodes n links 0) d
       go r = let p = rows-in (subtypeAt subtypes) noted 0 (r .subtype) (r .there) in way (p .number) (omega arith) (r .is ∙ ap (λ (x : Subtype). upward x) (p .is))
 
@@ -173,8 +174,10 @@ module _ (cache : List ℕ) (n : ℕ) (ties : List ℕ) (tied : ℕ) (subtypes :
     where
       ahead : (i : ℕ) → i < tied → e ≡ noted + i → List·Memᴰ (edge (named (n + e)) (named (n + links + e))) theTies
       ahead i k q = rw q (edge-at (one-at i k) (two-at i k) (forward-in (in-rows (tieAt ties) tied 0 i (omega arith) (omega arith))))
+
       back : (i : ℕ) → i < tied → e ≡ noted + tied + i → List·Memᴰ (edge (named (n + e)) (named (n + links + e))) theTies
       back i k q = rw q (edge-at (two-back i k) (one-back i k) (turned-in (in-rows (tieAt ties) tied 0 i (omega arith) (omega arith))))
+
       go : (t : Bool) → ltb e (noted + tied) ≡ t → List·Memᴰ (edge (named (n + e)) (named (n + links + e))) theTies
       go true q = ahead (e - noted) (omega (arith, ltb-true e (noted + tied) q)) (omega arith)
       go false q = back (e - (noted + tied)) (omega (arith, ltb-false e (noted + tied) q)) (omega (arith, ltb-false e (noted + tied) q))
@@ -189,7 +192,7 @@ module _ (cache : List ℕ) (n : ℕ) (ties : List ℕ) (tied : ℕ) (subtypes :
       go false q = Memᴰ·append-left theSubtypes (link-tie e (ltb-false e noted q) h)
 
   edge-of : (base : ℕ) (E : List Edge) → ((e : ℕ) → base ≤ e → e < links → List·Memᴰ (edge (named (n + e)) (named (n + links + e))) E)
-    → (d : Edge) → List·Memᴰ d (linksFrom nodes n links base) → Carried noded named places E d
+      → (d : Edge) → List·Memᴰ d (linksFrom nodes n links base) → Carried noded named places E d
   unfolding linksFrom linkOf startOf endOf
   edge-of base E f d m = let p = rows-in (linkOf nodes n links) (links - base) base d m in record {
     start = n + p .number;
@@ -204,13 +207,13 @@ module _ (cache : List ℕ) (n : ℕ) (ties : List ℕ) (tied : ℕ) (subtypes :
   -- what leads to what
 
   tied-same : (a b : ℕ) → a < places → b < places
-    → leads theTies (named a) (named b) ≡ leadsFrom nodes n links noted (getD nodes a 0) (getD nodes b 0)
+      → leads theTies (named a) (named b) ≡ leadsFrom nodes n links noted (getD nodes a 0) (getD nodes b 0)
   unfolding leadsFrom
   tied-same a b h k =
       leads-same named noded places theTies (linksFrom nodes n links noted) same-node (tie-link noted (omega arith)) same-name (edge-of noted theTies link-tie) a b h k
 
   led-same : (a b : ℕ) → a < places → b < places
-    → leads (theTies ++ theSubtypes) (named a) (named b) ≡ leadsFrom nodes n links 0 (getD nodes a 0) (getD nodes b 0)
+      → leads (theTies ++ theSubtypes) (named a) (named b) ≡ leadsFrom nodes n links 0 (getD nodes a 0) (getD nodes b 0)
   unfolding leadsFrom
   led-same a b h k =
       leads-same named noded places (theTies ++ theSubtypes) (linksFrom nodes n links 0) same-node any-link same-name
@@ -239,8 +242,8 @@ module _ (cache : List ℕ) (n : ℕ) (ties : List ℕ) (tied : ℕ) (subtypes :
   -- agreement
 
   row-same : (E : List Edge) (base : ℕ)
-    → ((a b : ℕ) → a < places → b < places → leads E (named a) (named b) ≡ leadsFrom nodes n links base (getD nodes a 0) (getD nodes b 0))
-    → (a b : ℕ) → a < n → b < n → has (entryAt cache b .request) (reach E (entryAt cache a .request)) ≡ leadsFrom nodes n links base (getD nodes a 0) (getD nodes b 0)
+      → ((a b : ℕ) → a < places → b < places → leads E (named a) (named b) ≡ leadsFrom nodes n links base (getD nodes a 0) (getD nodes b 0))
+      → (a b : ℕ) → a < n → b < n → has (entryAt cache b .request) (reach E (entryAt cache a .request)) ≡ leadsFrom nodes n links base (getD nodes a 0) (getD nodes b 0)
   unfolding leads
   row-same E base f a b h k = rw (cached-at a h, cached-at b k) at (f a b (omega arith) (omega arith))
 
@@ -249,7 +252,7 @@ module _ (cache : List ℕ) (n : ℕ) (ties : List ℕ) (tied : ℕ) (subtypes :
     theCache = rows (entryAt cache) n 0
 
     pair-same : (a b : ℕ) → a < n → b < n
-      → pairAgrees sup theCache (getD classes a 0) (reach theTies (entryAt cache a .request)) (reach (theTies ++ theSubtypes) (entryAt cache a .request)) (entryAt cache b .request)
+        → pairAgrees sup theCache (getD classes a 0) (reach theTies (entryAt cache a .request)) (reach (theTies ++ theSubtypes) (entryAt cache a .request)) (entryAt cache b .request)
         ≡ pairOn sup nodes classes n links noted a b
     unfolding pairAgrees pairOn pairIs
     pair-same a b h k =
@@ -260,7 +263,7 @@ module _ (cache : List ℕ) (n : ℕ) (ties : List ℕ) (tied : ℕ) (subtypes :
         (row-same (theTies ++ theSubtypes) 0 led-same a b h k))
 
     class-same : (a : ℕ) → a < n
-      → rowAgrees sup theCache theTies (theTies ++ theSubtypes) (entryAt cache a .request) ≡ all (pairOn sup nodes classes n links noted a) (rows (λ i. i) n 0)
+        → rowAgrees sup theCache theTies (theTies ++ theSubtypes) (entryAt cache a .request) ≡ all (pairOn sup nodes classes n links noted a) (rows (λ i. i) n 0)
     unfolding rowAgrees
     class-same a h =
         rw (found a h, rowAgrees)
@@ -276,8 +279,8 @@ module _ (cache : List ℕ) (n : ℕ) (ties : List ℕ) (tied : ℕ) (subtypes :
 
 -- the same, where the counts are given by their values
 pub agree-counted : (sup : ℕ → Option ℕ) (cache ties subtypes : List ℕ) (n tied noted n′ tied′ noted′ : ℕ) (nodes classes : List ℕ) → n ≡ n′ → tied ≡ tied′ → noted ≡ noted′
-  → agreesOver sup (rows (entryAt cache) n 0) (tieEdges (rows (tieAt ties) tied 0)) (tieEdges (rows (tieAt ties) tied 0) ++ subtypeEdges (rows (subtypeAt subtypes) noted 0))
+    → agreesOver sup (rows (entryAt cache) n 0) (tieEdges (rows (tieAt ties) tied 0)) (tieEdges (rows (tieAt ties) tied 0) ++ subtypeEdges (rows (subtypeAt subtypes) noted 0))
     ≡ agreeOn sup nodes classes n (noted + tied + tied) noted
-  → agreeOn sup nodes classes n (noted + tied + tied) noted
+    → agreeOn sup nodes classes n (noted + tied + tied) noted
     ≡ agreesOver sup (rows (entryAt cache) n′ 0) (tieEdges (rows (tieAt ties) tied′ 0)) (tieEdges (rows (tieAt ties) tied′ 0) ++ subtypeEdges (rows (subtypeAt subtypes) noted′ 0))
 agree-counted sup cache ties subtypes n tied noted n′ tied′ noted′ nodes classes p q r e = rw (sym p, sym q, sym r) (sym e)

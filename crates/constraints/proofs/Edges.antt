@@ -78,13 +78,14 @@ not-same a b h = go (sameRequest a b) refl
     go false e = refl
 
 pub find-at : (t : List ℕ) (r : Request) (k i j : ℕ) → i ≤ j → j < i + k → entryAt t j .request ≡ r
-  → ((h : ℕ) → i ≤ h → h < j → entryAt t h .request ≡ r → ⊥) → find (rows (entryAt t) k i) r ≡ some (entryAt t j .class)
+    → ((h : ℕ) → i ≤ h → h < j → entryAt t h .request ≡ r → ⊥) → find (rows (entryAt t) k i) r ≡ some (entryAt t j .class)
 unfolding rows find
 find-at t r zero i j l h e f = absurd (omega arith)
 find-at t r (suc k) i j l h e f = go (eq-or-lt-of-le l) (λ m. find-at t r k (suc i) j m (omega arith) e (λ x o q. f x (omega arith) q))
   where
     here : i ≡ j → sameRequest (entryAt t i .request) r ≡ true
     here q = rw (q, e) (same-refl r)
+
     go : (i ≡ j) ⊎ (i < j) → (i < j → find (rows (entryAt t) k (suc i)) r ≡ some (entryAt t j .class)) → find (entryAt t i ∷ rows (entryAt t) k (suc i)) r ≡ some (entryAt t j .class)
     go (inl q) g = rw (here q, find) (ap (λ (x : ℕ). some (entryAt t x .class)) q)
     go (inr m) g = rw (not-same (entryAt t i .request) r (f i (omega arith) m), find) (g m)

@@ -54,8 +54,7 @@ module _ (t₀ : List ℕ) (count l : ℕ) (notes : List ℕ) (n : ℕ) where
 
   -- a note that is there, and one that is new
   module _ {i : ℕ} {t : List ℕ} {total : ℕ} (room : 768 ≤ length t₀) (h : i < n) (few : total ≤ 256) (s : Adding t₀ count l notes n i t total)
-    (u : List ℕ) (r : ℕ) where
-
+      (u : List ℕ) (r : ℕ) where
     abbrev it : Note
     it = noteAt notes i
 
@@ -88,8 +87,9 @@ module _ (t₀ : List ℕ) (count l : ℕ) (notes : List ℕ) (n : ℕ) where
       where
         one : r ≡ suc total
         one = omega arith
+
         moved : (ns : List Note)
-          → s .done ++ (subtypeOf l it ∷ newSubtypes ((old ++ s .done) ++ (subtypeOf l it ∷ [])) l ns)
+            → s .done ++ (subtypeOf l it ∷ newSubtypes ((old ++ s .done) ++ (subtypeOf l it ∷ [])) l ns)
             ≡ (s .done ++ (subtypeOf l it ∷ [])) ++ newSubtypes (old ++ (s .done ++ (subtypeOf l it ∷ []))) l ns
         moved ns =
             sym (append-assoc (s .done) (subtypeOf l it ∷ []) (newSubtypes ((old ++ s .done) ++ (subtypeOf l it ∷ [])) l ns))
@@ -101,10 +101,13 @@ module _ (t₀ : List ℕ) (count l : ℕ) (notes : List ℕ) (n : ℕ) where
       where
         seen : any (subtypeIs l it) (rows (subtypeAt t) total 0) ≡ any (subtypeIs l it) (old ++ s .done)
         seen = ap (λ (x : List Subtype). any (subtypeIs l it) x) (s .view few)
+
         none : any (subtypeIs l it) (old ++ s .done) ≡ true → newSubtypes (rows (subtypeAt t) total 0) l (it ∷ []) ≡ []
         none e = note-there (rows (subtypeAt t) total 0) l it [] (seen ∙ e)
+
         one : any (subtypeIs l it) (old ++ s .done) ≡ false → newSubtypes (rows (subtypeAt t) total 0) l (it ∷ []) ≡ subtypeOf l it ∷ []
         one e = note-new (rows (subtypeAt t) total 0) l it [] (seen ∙ e)
+
         go : (b : Bool) → any (subtypeIs l it) (old ++ s .done) ≡ b → Adding t₀ count l notes n (i + 1) u r
         go true e = there e (q ∙ ap (λ (x : List Subtype). subtypesAfter t total x) (none e)) (omega (arith, p, ap length (none e)))
         go false e = fresh e (q ∙ ap (λ (x : List Subtype). subtypesAfter t total x) (one e)) (omega (arith, p, ap length (one e)))
@@ -129,6 +132,7 @@ module _ (t₀ : List ℕ) (count l : ℕ) (notes : List ℕ) (n : ℕ) where
     where
       zero-left : 257 - count ≡ 0
       zero-left = omega arith
+
       table : (b : Bool) → t₀ ≡ elim b as (λ _. List ℕ) [ true ↦ subtypesAfter t₀ count (take (257 - count) new) | false ↦ t₀ ]
       table true = rw zero-left refl
       table false = refl
@@ -145,6 +149,7 @@ module _ (t₀ : List ℕ) (count l : ℕ) (notes : List ℕ) (n : ℕ) where
       where
         more : List Subtype
         more = newSubtypes (old ++ s .done) l (rows (noteAt notes) (n - i) i)
+
         front : take (257 - count) new ≡ s .done
         front = ap (λ (x : List Subtype). take (257 - count) x) (s .rest) ∙ take-at (s .done) more (257 - count) (omega (arith, s .totals, s .few))
 
@@ -155,9 +160,12 @@ module _ (t₀ : List ℕ) (count l : ℕ) (notes : List ℕ) (n : ℕ) where
       where
         fits : counted (roomy t₀) total ≡ Count total
         fits = rw (roomy-true, le-leb total 256 h, counted) refl
+
         end : newSubtypes (old ++ s .done) l (rows (noteAt notes) (n - i) i) ≡ []
         end = rw (rows-none (noteAt notes) n i e) refl
+
         all : new ≡ s .done
         all = s .rest ∙ ap (λ (x : List Subtype). s .done ++ x) end ∙ append-nil (s .done)
+
         same : count + length new ≡ total
         same = omega (arith, s .totals, ap length all)

@@ -27,7 +27,7 @@ module _ (t : List ℕ) (i l m n : ℕ) where
   tie-straight h e = rw (eq-eqb (getD t (i * 3 + 2) 0) n h, e) refl
 
   pub tie-turned : getD t (i * 3 + 2) 0 ≡ n → (eqb (getD t (i * 3) 0) l && eqb (getD t (i * 3 + 1) 0) m) ≡ false
-    → tieIs l m n (tieAt t i) ≡ (eqb (getD t (i * 3) 0) m && eqb (getD t (i * 3 + 1) 0) l)
+      → tieIs l m n (tieAt t i) ≡ (eqb (getD t (i * 3) 0) m && eqb (getD t (i * 3 + 1) 0) l)
   unfolding tieIs tieAt
   tie-turned h e = rw (eq-eqb (getD t (i * 3 + 2) 0) n h, e) refl
 
@@ -72,7 +72,7 @@ module _ (t : List ℕ) (c l m n r : ℕ) where
       go false b h = rw h refl
 
   pub tie-new : (u : List ℕ) → (l ≡ m → ⊥) → (n ≡ 1 → ⊥) → any (tieIs l m n) (rows (tieAt t) c 0) ≡ false → r ≡ c → u ≡ putThree t c l m n
-    → (r + 1 ≡ c + length (newTieIn t c l m n)) × (u ≡ tiesAfter t c (newTieIn t c l m n))
+      → (r + 1 ≡ c + length (newTieIn t c l m n)) × (u ≡ tiesAfter t c (newTieIn t c l m n))
   unfolding newTieIn newTie tiesAfter writeRows putTie
   tie-new u p q e z w = rw (one (eqb l m) (eqb n 1) (any (tieIs l m n) (rows (tieAt t) c 0)) (ne-eqb l m p) (ne-eqb n 1 q) e) (omega arith, w)
     where
@@ -95,11 +95,11 @@ module _ (t : List ℕ) (c l a b r : ℕ) where
   one = note a b ∷ []
 
   pub subtype-there : any (subtypeIs l (note a b)) (rows (subtypeAt t) c 0) ≡ true → r ≡ c
-    → (r ≡ c + length (newSubtypesIn t c l one)) × (t ≡ subtypesAfter t c (newSubtypesIn t c l one))
+      → (r ≡ c + length (newSubtypesIn t c l one)) × (t ≡ subtypesAfter t c (newSubtypesIn t c l one))
   unfolding newSubtypesIn newSubtypes subtypesAfter writeRows
   subtype-there e q = rw (note-there (rows (subtypeAt t) c 0) l (note a b) [] e) (omega arith, refl)
 
   pub subtype-new : (u : List ℕ) → any (subtypeIs l (note a b)) (rows (subtypeAt t) c 0) ≡ false → r ≡ c → u ≡ putThree t c l a b
-    → (r + 1 ≡ c + length (newSubtypesIn t c l one)) × (u ≡ subtypesAfter t c (newSubtypesIn t c l one))
+      → (r + 1 ≡ c + length (newSubtypesIn t c l one)) × (u ≡ subtypesAfter t c (newSubtypesIn t c l one))
   unfolding newSubtypesIn newSubtypes subtypesAfter writeRows putSubtype
   subtype-new u e q w = rw (note-new (rows (subtypeAt t) c 0) l (note a b) [] e) (omega arith, w)

@@ -26,14 +26,14 @@ unfolding atMost
 within limit n h = rw (le-leb n limit h, atMost) refl
 
 rows-agree : (f g : ℕ → Option ℕ) (es fs : List Entry) (ts us : List Tie) (ss rs : List Subtype) → ((c : ℕ) → f c ≡ g c) → fs ≡ es → us ≡ ts → rs ≡ ss
-  → agreesOver f es (tieEdges ts) (tieEdges ts ++ subtypeEdges ss) ≡ agreesOver g fs (tieEdges us) (tieEdges us ++ subtypeEdges rs)
+    → agreesOver f es (tieEdges ts) (tieEdges ts ++ subtypeEdges ss) ≡ agreesOver g fs (tieEdges us) (tieEdges us ++ subtypeEdges rs)
 rows-agree f g es fs ts us ss rs s p q r =
     rw (p, q, r) (ap (λ (h : ℕ → Option ℕ). agreesOver h es (tieEdges ts) (tieEdges ts ++ subtypeEdges ss)) (λ i c. s c i))
 
 -- the test on tables is that of the store, where the counts are within their limits and the table of superclasses has the store's
 pub agree-store : (w : World) (supers cache ties subtypes : List ℕ) (n tied noted : ℕ) → ((c : ℕ) → superIn supers c ≡ superOf (w .base) c)
-  → w .base .cache ≡ rows (entryAt cache) n 0 → w .ties ≡ rows (tieAt ties) tied 0 → w .subtypes ≡ rows (subtypeAt subtypes) noted 0
-  → n ≤ 256 → tied ≤ 256 → noted ≤ 256 → agreeIn supers cache n ties tied subtypes noted ≡ agrees w
+    → w .base .cache ≡ rows (entryAt cache) n 0 → w .ties ≡ rows (tieAt ties) tied 0 → w .subtypes ≡ rows (subtypeAt subtypes) noted 0
+    → n ≤ 256 → tied ≤ 256 → noted ≤ 256 → agreeIn supers cache n ties tied subtypes noted ≡ agrees w
 unfolding agrees edges
 agree-store w supers cache ties subtypes n tied noted s p q r h k l =
     rw (within 256 n h, within 256 tied k, within 256 noted l)
@@ -52,12 +52,12 @@ tie-few ts l m n = go (eqb l m || eqb n 1 || any (tieIs l m n) ts)
 
 -- the rows that a table with room then has
 pub ties-seen : (t : List ℕ) (count : ℕ) (new : List Tie) → (count + length new) * 3 ≤ length t
-  → rows (tieAt (tiesAfter t count new)) (count + length new) 0 ≡ rows (tieAt t) count 0 ++ new
+    → rows (tieAt (tiesAfter t count new)) (count + length new) 0 ≡ rows (tieAt t) count 0 ++ new
 unfolding tiesAfter
 ties-seen t count new h = rows-after-more tie-rows new t count h
 
 pub subtypes-seen : (t : List ℕ) (count : ℕ) (new : List Subtype) → (count + length new) * 3 ≤ length t
-  → rows (subtypeAt (subtypesAfter t count new)) (count + length new) 0 ≡ rows (subtypeAt t) count 0 ++ new
+    → rows (subtypeAt (subtypesAfter t count new)) (count + length new) 0 ≡ rows (subtypeAt t) count 0 ++ new
 unfolding subtypesAfter
 subtypes-seen t count new h = rows-after-more subtype-rows new t count h
 

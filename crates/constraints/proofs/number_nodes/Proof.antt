@@ -22,12 +22,11 @@ loop-holds c = (omega arith, λ q h. absurd (omega arith), refl)
 loop-again : tie.Need-loop-again Inv-loop μ-loop
 loop-again c =
     let loop = c .before .before .before .loop in
-    let args = c .before .before .before .before .before .before .args in
-    (
-  omega arith,
-  fill-more (λ q. q) (λ q v. First (now (args .numbers)) (getD (now (args .numbers)) q 0) (args .n) v) (loop .nodes) (loop .p) (c .first .result) (omega (arith, loop .inv .2)) (λ q h r. omega arith) (loop .inv .1) (rw (c .before .place .ensures) at (c .first .ensures)),
-  length-set (loop .nodes) _ _ ∙ loop .inv .2,
-  )
+    let args = c .before .before .before .before .before .before .args in (
+      omega arith,
+      fill-more (λ q. q) (λ q v. First (now (args .numbers)) (getD (now (args .numbers)) q 0) (args .n) v) (loop .nodes) (loop .p) (c .first .result) (omega (arith, loop .inv .2)) (λ q h r. omega arith) (loop .inv .1) (rw (c .before .place .ensures) at (c .first .ensures)),
+      length-set (loop .nodes) _ _ ∙ loop .inv .2,
+    )
 
 same-length : tie.Need-same-length Inv-loop μ-loop
 same-length c = c .before .loop .inv .2

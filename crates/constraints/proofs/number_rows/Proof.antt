@@ -22,13 +22,12 @@ loop-holds c = (omega arith, λ i h. absurd (omega arith), λ p h. refl, refl)
 loop-again : tie.Need-loop-again Inv-loop μ-loop
 loop-again c =
     let loop = c .before .before .loop in
-    let args = c .before .before .before .before .before .args in
-    (
-  omega arith,
-  fill-more (λ p. args .from + p) (λ p v. requestOf v ≡ requestIn (now (args .t)) (args .loader) (args .name) p) (loop .numbers) (loop .i) (c .row-number .result) (omega (arith, loop .inv .3)) (λ p h q. omega arith) (loop .inv .1) (c .row-number .ensures),
-  kept-set (now (args .numbers)) (loop .numbers) _ _ _ (omega arith) (loop .inv .2),
-  length-set (loop .numbers) _ _ ∙ loop .inv .3,
-  )
+    let args = c .before .before .before .before .before .args in (
+      omega arith,
+      fill-more (λ p. args .from + p) (λ p v. requestOf v ≡ requestIn (now (args .t)) (args .loader) (args .name) p) (loop .numbers) (loop .i) (c .row-number .result) (omega (arith, loop .inv .3)) (λ p h q. omega arith) (loop .inv .1) (c .row-number .ensures),
+      kept-set (now (args .numbers)) (loop .numbers) _ _ _ (omega arith) (loop .inv .2),
+      length-set (loop .numbers) _ _ ∙ loop .inv .3,
+    )
 
 same-length : tie.Need-same-length Inv-loop μ-loop
 same-length c = c .before .loop .inv .3
