@@ -73,7 +73,8 @@ fn number_rows(
     }
 }
 
-// The numbers at one end of each link: of subtype constraints, of ties, and of ties turned round.
+// The numbers at one end of each link, of subtype constraints, of ties, and of ties turned round: of subtype constraints the name in cell
+// `name`, of ties the loader in cell `near`, of ties turned round that in cell `far`.
 fn number_ends(
     ties: &[u16],
     tied: usize,
@@ -93,7 +94,8 @@ fn number_ends(
     number_rows(ties, far, 2, tied, numbers, from + noted + tied);
 }
 
-// The numbers of all places: the cached requests, where links start, and where they end.
+// The numbers of all places: the cached requests, where links start, and where they end. A subtype constraint leads from its lower name,
+// in cell 1, to its higher, in cell 2; a tie from its one loader, in cell 0, to its other, in cell 1, and back.
 fn number_places(
     cache: &[u16],
     cached: usize,
@@ -106,6 +108,7 @@ fn number_places(
     requires { ⌜ (cached ≤ 256) × (tied ≤ 256) × (noted ≤ 256) × (length (now numbers) ≡ 1792) ⌝ }
     ensures { λ _. ⌜ AllNumbered (now (cache .entry)) cached (now (ties .entry)) tied (now (subtypes .entry)) noted (now (numbers .exit)) ⌝ }
 {
+    let links = noted + tied + tied;
     number_rows(cache, 0, 1, cached, numbers, 0);
     number_ends(ties, tied, subtypes, noted, 1, 0, 1, numbers, cached);
     number_ends(
@@ -117,7 +120,7 @@ fn number_places(
         1,
         0,
         numbers,
-        cached + (noted + tied + tied),
+        cached + links,
     );
 }
 
@@ -169,8 +172,9 @@ fn list_classes(cache: &[u16], nodes: &[usize], cached: usize, classes: &mut [us
     }
 }
 
-// Links, each joined to the last before it that starts at the same node.
+// Links.
 
+// Joins each link to the last before it that starts at the same node.
 fn join(nodes: &[usize], cached: usize, links: usize, heads: &mut [usize], nexts: &mut [usize])
     requires { ⌜ Small (now nodes) cached links × Joined (now nodes) cached 0 (now heads) (now nexts) ⌝ }
     ensures { λ _. ⌜ Joined (now (nodes .entry)) cached links (now (heads .exit)) (now (nexts .exit)) ⌝ }
@@ -318,7 +322,8 @@ fn marks_agree(
     )
 }
 
-// Every pair of cached requests agrees: a's search is made once, and the first pair that does not agree ends the test.
+// Every pair of cached requests agrees. What a request leads to is searched once; the first pair that does not agree ends the test. The
+// links from number `noted` on are ties.
 fn pairs_agree(
     supers: &[u8],
     nodes: &[usize],

@@ -16,16 +16,45 @@ use Rattle.constraints.proofs.pairs_agree.Statement.{statement}
 use Rattle.constraints.proofs.pairs_agree.Tie as tie
 
 abbrev Inv-loop : tie.InvT-loop
-Inv-loop supers nodes classes cached links noted heads nexts agreed₀ a start tied led b₀ agreed b = (agreed ≡ true) × (b ≤ cached) × (all (pairOn (superIn supers) nodes classes cached links noted a) (rows (λ i. i) (cached - b) b) ≡ all (pairOn (superIn supers) nodes classes cached links noted a) (rows (λ i. i) cached 0))
+Inv-loop supers nodes classes cached links noted heads nexts agreed₀ a start tied led b₀ agreed b =
+    (agreed ≡ true)
+    × (b ≤ cached)
+    × (all (pairOn (superIn supers) nodes classes cached links noted a) (rows (λ i. i) (cached - b) b)
+    ≡ all (pairOn (superIn supers) nodes classes cached links noted a) (rows (λ i. i) cached 0))
 
 abbrev μ-loop : tie.MeasureT-loop
 μ-loop supers nodes classes cached links noted heads nexts agreed₀ a start tied led b₀ agreed b = cached - b
 
 abbrev Inv-pairs : tie.InvT-pairs
-Inv-pairs supers nodes classes cached links noted heads nexts agreed₀ a₀ agreed a = (agreed ≡ true) × (a ≤ cached) × (all (λ a. all (pairOn (superIn supers) nodes classes cached links noted a) (rows (λ i. i) cached 0)) (rows (λ i. i) (cached - a) a) ≡ agreeOn (superIn supers) nodes classes cached links noted)
+Inv-pairs supers nodes classes cached links noted heads nexts agreed₀ a₀ agreed a =
+    (agreed ≡ true)
+    × (a ≤ cached)
+    × (all (λ a. all (pairOn (superIn supers) nodes classes cached links noted a) (rows (λ i. i) cached 0)) (rows (λ i. i) (cached - a) a)
+    ≡ agreeOn (superIn supers) nodes classes cached links noted)
 
 abbrev μ-pairs : tie.MeasureT-pairs
 μ-pairs supers nodes classes cached links noted heads nexts agreed₀ a₀ agreed a = cached - a
+
+-- the test of a pair
+module _ (c : tie.After-marks-agree Inv-loop μ-loop Inv-pairs μ-pairs) where
+  abbrev turn : tie.At-loop Inv-loop μ-loop Inv-pairs μ-pairs
+  turn = c .before .before .before .before
+
+  abbrev row : tie.At-pairs Inv-loop μ-loop Inv-pairs μ-pairs
+  row = turn .before .before .before .before .before
+
+  abbrev entry : tie.Start Inv-loop μ-loop Inv-pairs μ-pairs
+  entry = row .before .before .before .before .before .before
+
+  decided :
+      pairOn (superIn (now (entry .args .supers))) (now (entry .args .nodes)) (now (entry .args .classes)) (entry .args .cached)
+      (entry .args .links) (entry .args .noted) (row .pairs .a) (turn .loop .b)
+      ≡ c .marks-agree .result
+  decided =
+      let led = turn .before .search2 in
+      let tied = turn .before .before .search in
+      let place = turn .before .before .before .place in
+      sym (pair-marks _ _ _ _ _ _ _ _ _ (tied .result) (led .result) (place .ensures) (tied .ensures) (led .ensures)) ∙ sym (c .marks-agree .ensures)
 
 pairs-holds : tie.Need-pairs-holds Inv-loop μ-loop Inv-pairs μ-pairs
 unfolding agreeOn
@@ -53,12 +82,7 @@ loop-again : tie.Need-loop-again Inv-loop μ-loop Inv-pairs μ-pairs
 loop-again c =
     let test = c .before .before .before .before .loop-test in
     let loop = c .before .before .before .before .before .loop in
-    let led = c .before .before .before .before .before .before .search2 in
-    let tied = c .before .before .before .before .before .before .before .search in
-    let place = c .before .before .before .before .before .before .before .before .place in
-    let pairs = c .before .before .before .before .before .before .before .before .before .before .pairs in
-    let args = c .before .before .before .before .before .before .before .before .before .before .before .before .before .before .before .before .args in
-    let one : pairOn (superIn (now (args .supers))) (now (args .nodes)) (now (args .classes)) (args .cached) (args .links) (args .noted) (pairs .a) (loop .b) ≡ true = sym (pair-marks _ _ _ _ _ _ _ _ _ (tied .result) (led .result) (place .ensures) (tied .ensures) (led .ensures)) ∙ sym (c .before .marks-agree .ensures) ∙ not-false _ (c .if1 .left) in
+    let one = decided (c .before) ∙ not-false _ (c .if1 .left) in
     (loop .inv .0, omega arith, sym (rows-on _ (λ i. i) _ _ (test .taken) one) ∙ loop .inv .2)
 
 pairs-again : tie.Need-pairs-again Inv-loop μ-loop Inv-pairs μ-pairs
@@ -75,13 +99,9 @@ returns-2 : tie.Need-returns-2 Inv-loop μ-loop Inv-pairs μ-pairs
 returns-2 c =
     let test = c .before .before .before .before .loop-test in
     let loop = c .before .before .before .before .before .loop in
-    let led = c .before .before .before .before .before .before .search2 in
-    let tied = c .before .before .before .before .before .before .before .search in
-    let place = c .before .before .before .before .before .before .before .before .place in
     let pairs-test = c .before .before .before .before .before .before .before .before .before .pairs-test in
     let pairs = c .before .before .before .before .before .before .before .before .before .before .pairs in
-    let args = c .before .before .before .before .before .before .before .before .before .before .before .before .before .before .before .before .args in
-    let one : pairOn (superIn (now (args .supers))) (now (args .nodes)) (now (args .classes)) (args .cached) (args .links) (args .noted) (pairs .a) (loop .b) ≡ false = sym (pair-marks _ _ _ _ _ _ _ _ _ (tied .result) (led .result) (place .ensures) (tied .ensures) (led .ensures)) ∙ sym (c .before .marks-agree .ensures) ∙ not-true _ (c .if1 .taken) in
+    let one = decided (c .before) ∙ not-true _ (c .if1 .taken) in
     let row = sym (loop .inv .2) ∙ rows-hit _ (λ i. i) _ _ (test .taken) one in
     sym (rows-hit _ (λ i. i) _ _ (pairs-test .taken) row) ∙ pairs .inv .2
 
