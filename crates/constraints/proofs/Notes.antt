@@ -3,9 +3,9 @@
 use mathlib.Core.Path.{_≡_, refl, sym, ap, _∙_}
 use mathlib.Core.Bool.{Bool, true, false, _&&_}
 use mathlib.Core.List.{List, [], _∷_, _++_, append-assoc, append-nil}
-use Prim.Native.Nat.{ℕ, zero, suc, _+_, _*_, _-_, _<_, _≤_}
+use Prim.Native.Nat.{ℕ, suc, _+_, _*_, _-_, _<_, _≤_}
 use native.Mathlib.Omega.{arith}
-use lib.ListN.{length, take, length-append}
+use lib.ListN.{length, getD, take, length-append}
 use lib.Seq.{take-at, take-all}
 use lib.Dec.{leb}
 use borrow.Author.Tests.{le-leb, lt-leb}
@@ -16,7 +16,7 @@ use Rattle.definition.specs.Verifier.{Note}
 use Rattle.definition.specs.Tables.{subtypeAt, putSubtype}
 use Rattle.constraints.specs.declared.Added.{Added}
 use Rattle.constraints.specs.declared.Added.the-variants.{Count, Full}
-use Rattle.constraints.specs.Posting.{noteAt, newSubtypesIn, subtypesAfter, roomy, counted, notesPosted}
+use Rattle.constraints.specs.Posting.{note, noteAt, newSubtypesIn, subtypesAfter, roomy, counted, notesPosted}
 use Rattle.layout.specs.Places.{rows-step, rows-none, rows-start}
 use Rattle.layout.specs.Cells.{subtype-rows, rows-snoc, rows-after-last}
 use Rattle.constraints.proofs.Posting.{note-there, note-new}
@@ -95,9 +95,10 @@ module _ (t₀ : List ℕ) (count l : ℕ) (notes : List ℕ) (n : ℕ) where
             sym (append-assoc (s .done) (subtypeOf l it ∷ []) (newSubtypes ((old ++ s .done) ++ (subtypeOf l it ∷ [])) l ns))
             ∙ ap (λ (x : List Subtype). (s .done ++ (subtypeOf l it ∷ [])) ++ newSubtypes x l ns) (append-assoc old (s .done) (subtypeOf l it ∷ []))
 
-    pub adding-one : r ≡ total + length (newSubtypesIn t total l (it ∷ [])) → u ≡ subtypesAfter t total (newSubtypesIn t total l (it ∷ [])) → Adding t₀ count l notes n (i + 1) u r
+    adding-it : r ≡ total + length (newSubtypesIn t total l (it ∷ [])) → u ≡ subtypesAfter t total (newSubtypesIn t total l (it ∷ []))
+      → Adding t₀ count l notes n (i + 1) u r
     unfolding newSubtypesIn subtypesAfter writeRows newSubtypes
-    adding-one p q = go (any (subtypeIs l it) (old ++ s .done)) refl
+    adding-it p q = go (any (subtypeIs l it) (old ++ s .done)) refl
       where
         seen : any (subtypeIs l it) (rows (subtypeAt t) total 0) ≡ any (subtypeIs l it) (old ++ s .done)
         seen = ap (λ (x : List Subtype). any (subtypeIs l it) x) (s .view few)
@@ -111,6 +112,11 @@ module _ (t₀ : List ℕ) (count l : ℕ) (notes : List ℕ) (n : ℕ) where
         go : (b : Bool) → any (subtypeIs l it) (old ++ s .done) ≡ b → Adding t₀ count l notes n (i + 1) u r
         go true e = there e (q ∙ ap (λ (x : List Subtype). subtypesAfter t total x) (none e)) (omega (arith, p, ap length (none e)))
         go false e = fresh e (q ∙ ap (λ (x : List Subtype). subtypesAfter t total x) (one e)) (omega (arith, p, ap length (one e)))
+
+    pub adding-one : (a b : ℕ) → a ≡ getD notes (i * 2) 0 → b ≡ getD notes (i * 2 + 1) 0 → r ≡ total + length (newSubtypesIn t total l (note a b ∷ []))
+      → u ≡ subtypesAfter t total (newSubtypesIn t total l (note a b ∷ [])) → Adding t₀ count l notes n (i + 1) u r
+    unfolding noteAt
+    adding-one a b e f p q = adding-it (rw (e, f) at p) (rw (e, f) at q)
 
   -- the answers
 

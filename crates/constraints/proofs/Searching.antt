@@ -14,7 +14,7 @@ use lib.Dec.{eqb, ltb}
 use borrow.Author.Tests.{eqb-true, eqb-false, eq-eqb, ne-eqb, ltb-true, ltb-false}
 use Rattle.definition.specs.Requests.{Request, at, Edge, Chain, stay, hop, leads}
 use Rattle.laws.specs.Chains.{leads-chain, chain-leads}
-use Rattle.constraints.specs.Nodes.{startOf, endOf, linkOf, linksFrom, leadsFrom, pairIs, pairOn}
+use Rattle.constraints.specs.Nodes.{startOf, endOf, linkOf, linksFrom, leadsFrom, pairMarked, pairOn}
 use Rattle.constraints.specs.Search.{Last, marked, Marked, Queued, Grown, Visited, Link, Expanded, Searched}
 use Rattle.constraints.proofs.Rows.{Place, in-rows, rows-in}
 use Rattle.constraints.proofs.Renaming.{same-truth}
@@ -287,7 +287,6 @@ module _ (nodes : List ℕ) (n links base a : ℕ) where
 -- a pair, by the marks of the searches from the first
 pub pair-marks : (sup : ℕ → Option ℕ) (nodes classes : List ℕ) (n links noted a b s : ℕ) (tied led : List ℕ) → s ≡ getD nodes a 0
     → Searched nodes n links noted s tied → Searched nodes n links 0 s led
-    → pairIs sup (eqb (getD tied (getD nodes b 0) 0) 1) (eqb (getD led (getD nodes b 0) 0) 1) (getD classes a 0) (getD classes b 0)
-    ≡ pairOn sup nodes classes n links noted a b
-unfolding pairOn
+    → pairMarked sup nodes classes tied led a b ≡ pairOn sup nodes classes n links noted a b
+unfolding pairMarked pairOn
 pair-marks sup nodes classes n links noted a b s tied led e p q = rw (p (getD nodes b 0), q (getD nodes b 0), e) refl

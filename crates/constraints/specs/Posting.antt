@@ -27,6 +27,10 @@ noteAt t i = note (getD t (i * 2) 0) (getD t (i * 2 + 1) 0)
 unfoldable pub newSubtypesIn : List ℕ → ℕ → ℕ → List Note → List Subtype
 newSubtypesIn t count loader notes = newSubtypes (rows (subtypeAt t) count 0) loader notes
 
+-- those that a table of notes adds
+abbrev pub newNotesIn : List ℕ → ℕ → ℕ → List ℕ → ℕ → List Subtype
+newNotesIn t count loader notes n = newSubtypesIn t count loader (rows (noteAt notes) n 0)
+
 -- the rows behind the first ones
 unfoldable pub tiesAfter : List ℕ → ℕ → List Tie → List ℕ
 tiesAfter t count new = writeRows putTie new count t

@@ -1,7 +1,7 @@
 // Posting ties and subtype constraints, and the test of agreement.
 ghost use mathlib.Core.Path.{_≡_};
 ghost use Prim.Native.Nat.{ℕ, _+_, _*_, _<_, _≤_};
-ghost use lib.ListN.{length, getD, set};
+ghost use lib.ListN.{length, getD};
 ghost use lib.Dec.{eqb};
 ghost use mathlib.Core.Bool.{_&&_};
 ghost use mathlib.Core.List.{[], _∷_};
@@ -12,8 +12,8 @@ ghost use Rattle.definition.specs.Tables.{tieAt, subtypeAt, putThree};
 ghost use Rattle.definition.specs.Requests.{at};
 ghost use Rattle.definition.specs.Superclasses.{below};
 ghost use Rattle.constraints.specs.Agreement.{atMost, superIn, agreeIn};
-ghost use Rattle.constraints.specs.Nodes.{requestOf, requestIn, Numbered, EndsNumbered, AllNumbered, First, NodesOf, ClassesOf, pairIs, pairOn, agreeOn};
-ghost use Rattle.constraints.specs.Posting.{newTieIn, newSubtypesIn, noteAt, note, tiesAfter, subtypesAfter, roomy, counted, notesPosted};
+ghost use Rattle.constraints.specs.Nodes.{requestOf, requestIn, Numbered, EndsNumbered, AllNumbered, First, NodesOf, ClassesOf, pairIs, pairMarked, agreeOn};
+ghost use Rattle.constraints.specs.Posting.{newTieIn, newSubtypesIn, newNotesIn, note, tiesAfter, subtypesAfter, roomy, counted, notesPosted};
 ghost use Rattle.constraints.specs.Search.{Joined, Small, Queued, Visited, Expanded, Searched};
 use cells::at8;
 use cells::at16;
@@ -308,7 +308,7 @@ fn marks_agree(
     a: usize,
     b: usize,
 ) -> bool
-    ensures { λ r. ⌜ r ≡ pairIs (superIn (now (supers .entry))) (eqb (getD (now (tied .entry)) (getD (now (nodes .entry)) b 0) 0) 1) (eqb (getD (now (led .entry)) (getD (now (nodes .entry)) b 0) 0) 1) (getD (now (classes .entry)) a 0) (getD (now (classes .entry)) b 0) ⌝ }
+    ensures { λ r. ⌜ r ≡ pairMarked (superIn (now (supers .entry))) (now (nodes .entry)) (now (classes .entry)) (now (tied .entry)) (now (led .entry)) a b ⌝ }
 {
     let node = place(nodes, b);
     let is_tied = at8(tied, node) == 1;
@@ -522,8 +522,8 @@ pub fn add_subtypes(
     notes: &[u16],
     note_count: u16,
 ) -> Added
-    ensures { λ r. ⌜ r ≡ counted (roomy (now (subtypes .entry))) (count + length (newSubtypesIn (now (subtypes .entry)) count loader (rows (noteAt (now (notes .entry))) «note_count» 0))) ⌝ }
-    ensures { λ _. ⌜ now (subtypes .exit) ≡ notesPosted (now (subtypes .entry)) count (newSubtypesIn (now (subtypes .entry)) count loader (rows (noteAt (now (notes .entry))) «note_count» 0)) ⌝ }
+    ensures { λ r. ⌜ r ≡ counted (roomy (now (subtypes .entry))) (count + length (newNotesIn (now (subtypes .entry)) count loader (now (notes .entry)) «note_count»)) ⌝ }
+    ensures { λ _. ⌜ now (subtypes .exit) ≡ notesPosted (now (subtypes .entry)) count (newNotesIn (now (subtypes .entry)) count loader (now (notes .entry)) «note_count») ⌝ }
 {
     if subtypes.len() < 768 {
         return Added::Full;

@@ -1,9 +1,8 @@
 -- After i notes the table has the rows of what was new among them; one row more than 256 ends the posting.
-use Prim.Native.Nat.{_+_, _-_, _≤_}
+use Prim.Native.Nat.{_<_, _+_, _-_, _≤_}
 use native.Mathlib.Omega.{arith}
 use denote.Ref.{now}
 use borrow.Author.Needs.{needs}
-use Rattle.constraints.specs.Posting.{noteAt}
 use Rattle.constraints.proofs.Notes.{Adding, adding-none, adding-one, posted-short, posted-over, posted-full, posted-all}
 use Rattle.constraints.proofs.add_subtypes.Statement.{statement}
 use Rattle.constraints.proofs.add_subtypes.Tie as tie
@@ -16,16 +15,24 @@ abbrev μ-loop : tie.MeasureT-loop
 
 -- one note more
 module _ (c : tie.After-slice-known2 Inv-loop μ-loop) where
+  abbrev call : tie.After-add-subtype Inv-loop μ-loop
+  call = c .before .before
+
+  abbrev turn : tie.In-loop Inv-loop μ-loop
+  turn = call .before .before .before .before
+
   abbrev entry : tie.Start Inv-loop μ-loop
-  entry = c .before .before .before .before .before .before .before .before .before .before .before .before .before
+  entry = turn .before .before .before .before .before .before .before
 
   step :
-      Adding (now (entry .args .subtypes)) (entry .args .count) (entry .args .loader) (now (entry .args .notes)) (entry .args .note-count) (c .before .before .before .before .before .before .before .loop .i + 1)
-      (c .before .before .add-subtype .last .0) (c .before .before .add-subtype .result)
-  unfolding noteAt
+      Adding (now (entry .args .subtypes)) (entry .args .count) (entry .args .loader) (now (entry .args .notes)) (entry .args .note-count)
+      (turn .before .loop .i + 1) (call .add-subtype .last .0) (call .add-subtype .result)
   step =
-      let e = rw (c .before .before .before .before .at16 .ensures, c .before .before .before .at162 .ensures) at (c .before .before .add-subtype .ensures) in
-      adding-one _ _ _ _ _ (c .before .before .before .before .before .before .before .before .before .before .if1 .left) (omega (arith, c .before .before .before .before .before .before .before .before .wide16 .ensures .0, c .before .before .before .before .before .before .loop-test .taken)) (c .before .before .before .before .before .before .before .loop .inv .1) (c .before .before .before .before .before .before .before .loop .inv .0) _ _ (e .0) (e .1)
+      let new = call .add-subtype .ensures in
+      let inv = turn .before .loop .inv in
+      let more : turn .before .loop .i < entry .args .note-count = omega (arith, turn .before .before .wide16 .ensures .0, turn .loop-test .taken) in
+      adding-one _ _ _ _ _ (turn .before .before .before .before .if1 .left) more (inv .1) (inv .0) _ _ _ _
+      (call .before .before .at16 .ensures) (call .before .at162 .ensures) (new .0) (new .1)
 
 returns : tie.Need-returns Inv-loop μ-loop
 returns c = posted-short _ _ _ _ _ (c .if1 .taken)

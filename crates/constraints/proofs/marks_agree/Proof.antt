@@ -1,9 +1,11 @@
 -- The marks at a request's node say whether it is tied and whether it is led to.
 use borrow.Author.Needs.{needs}
+use Rattle.constraints.specs.Nodes.{pairMarked}
 use Rattle.constraints.proofs.marks_agree.Statement.{statement}
 use Rattle.constraints.proofs.marks_agree.Tie as tie
 
 returns : tie.Need-returns
+unfolding pairMarked
 returns c =
     let place2 = c .before .before .place2 in
     let at82 = c .before .before .before .at82 in
