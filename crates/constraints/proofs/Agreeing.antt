@@ -147,10 +147,13 @@ module _ (cache : List ℕ) (n : ℕ) (ties : List ℕ) (tied : ℕ) (subtypes :
   tie-link : (base : ℕ) → base ≤ noted → (d : Edge) → List·Memᴰ d theTies → Carried named noded places (linksFrom nodes n links base) d
   tie-link base l d m = go (of-tie (rows (tieAt ties) tied 0) d m)
     where
-      way : (i : ℕ) → i < tied → (d ≡ forward (tieAt ties i)) ⊎ (d ≡ turned (tieAt ties i)) → Carried named noded places (linksFrom nodes n links base) d
-      way i h (inl e) = link-of base (noted + i) d (omega arith) (omega arith) (ap (λ (x : Edge). x .from) e ∙ sym (one-at i h)) (ap (λ (x : Edge). x .to) e ∙ sym (two-at i h))
+      way : (i : ℕ) → i < tied → (d ≡ forward (tieAt ties i)) ⊎ (d ≡ turned (tieAt ties i))
+          → Carried named noded places (linksFrom nodes n links base) d
+      way i h (inl e) = link-of base (noted + i) d (omega arith) (omega arith) (ap (λ (x : Edge). x .from) e ∙ sym (one-at i h))
+          (ap (λ (x : Edge). x .to) e ∙ sym (two-at i h))
       way i h (inr e) =
-          link-of base (noted + tied + i) d (omega arith) (omega arith) (ap (λ (x : Edge). x .from) e ∙ sym (two-back i h)) (ap (λ (x : Edge). x .to) e ∙ sym (one-back i h))
+          link-of base (noted + tied + i) d (omega arith) (omega arith) (ap (λ (x : Edge). x .from) e ∙ sym (two-back i h))
+          (ap (λ (x : Edge). x .to) e ∙ sym (one-back i h))
 
       go : OfTie (rows (tieAt ties) tied 0) d → Carried named noded places (linksFrom nodes n links base) d
       go r = let p = rows-in (tieAt ties) tied 0 (r .tie) (r .there) in way (p .number) (omega arith) (rw (p .is) at (r .way))
@@ -159,10 +162,12 @@ module _ (cache : List ℕ) (n : ℕ) (ties : List ℕ) (tied : ℕ) (subtypes :
   subtype-link d m = go (of-subtype (rows (subtypeAt subtypes) noted 0) d m)
     where
       way : (i : ℕ) → i < noted → d ≡ upward (subtypeAt subtypes i) → Carried named noded places (linksFrom nodes n links 0) d
-      way i h e = link-of 0 i d (omega arith) (omega arith) (ap (λ (x : Edge). x .from) e ∙ sym (low-at i h)) (ap (λ (x : Edge). x .to) e ∙ sym (high-at i h))
+      way i h e = link-of 0 i d (omega arith) (omega arith) (ap (λ (x : Edge). x .from) e ∙ sym (low-at i h))
+          (ap (λ (x : Edge). x .to) e ∙ sym (high-at i h))
 
       go : OfSubtype (rows (subtypeAt subtypes) noted 0) d → Carried named noded places (linksFrom nodes n links 0) d
-      go r = let p = rows-in (subtypeAt subtypes) noted 0 (r .subtype) (r .there) in way (p .number) (omega arith) (r .is ∙ ap (λ (x : Subtype). upward x) (p .is))
+      go r = let p = rows-in (subtypeAt subtypes) noted 0 (r .subtype) (r .there) in way (p .number) (omega arith)
+          (r .is ∙ ap (λ (x : Subtype). upward x) (p .is))
 
   any-link : (d : Edge) → List·Memᴰ d (theTies ++ theSubtypes) → Carried named noded places (linksFrom nodes n links 0) d
   any-link d m = elim (List·Memᴰ·append-cases theTies m) [ inl a ↦ tie-link 0 (omega arith) d a | inr b ↦ subtype-link d b ]
@@ -188,7 +193,8 @@ module _ (cache : List ℕ) (n : ℕ) (ties : List ℕ) (tied : ℕ) (subtypes :
       go : (t : Bool) → ltb e noted ≡ t → List·Memᴰ (edge (named (n + e)) (named (n + links + e))) (theTies ++ theSubtypes)
       go true q =
           let k : e < noted = ltb-true e noted q in
-          Memᴰ·append-right theTies (edge-at (low-at e k) (high-at e k) (upward-in (in-rows (subtypeAt subtypes) noted 0 e (omega arith) (omega arith))))
+          Memᴰ·append-right theTies (edge-at (low-at e k) (high-at e k)
+          (upward-in (in-rows (subtypeAt subtypes) noted 0 e (omega arith) (omega arith))))
       go false q = Memᴰ·append-left theSubtypes (link-tie e (ltb-false e noted q) h)
 
   edge-of : (base : ℕ) (E : List Edge) → ((e : ℕ) → base ≤ e → e < links → List·Memᴰ (edge (named (n + e)) (named (n + links + e))) E)
@@ -210,7 +216,8 @@ module _ (cache : List ℕ) (n : ℕ) (ties : List ℕ) (tied : ℕ) (subtypes :
       → leads theTies (named a) (named b) ≡ leadsFrom nodes n links noted (getD nodes a 0) (getD nodes b 0)
   unfolding leadsFrom
   tied-same a b h k =
-      leads-same named noded places theTies (linksFrom nodes n links noted) same-node (tie-link noted (omega arith)) same-name (edge-of noted theTies link-tie) a b h k
+      leads-same named noded places theTies (linksFrom nodes n links noted) same-node (tie-link noted (omega arith)) same-name
+      (edge-of noted theTies link-tie) a b h k
 
   led-same : (a b : ℕ) → a < places → b < places
       → leads (theTies ++ theSubtypes) (named a) (named b) ≡ leadsFrom nodes n links 0 (getD nodes a 0) (getD nodes b 0)
@@ -234,7 +241,8 @@ module _ (cache : List ℕ) (n : ℕ) (ties : List ℕ) (tied : ℕ) (subtypes :
       let f = isNode i (omega arith) in
       let l : getD nodes i 0 ≤ i = node-low numbers places nodes isNode i (omega arith) in
       let k : getD nodes i 0 < n = omega arith in
-      let same : entryAt cache (getD nodes i 0) .request ≡ entryAt cache i .request = sym (cached-at (getD nodes i 0) k) ∙ ap (λ (x : ℕ). requestOf x) (f .here (omega arith)) ∙ cached-at i h in
+      let same : entryAt cache (getD nodes i 0) .request ≡ entryAt cache i .request = sym (cached-at (getD nodes i 0) k)
+      ∙ ap (λ (x : ℕ). requestOf x) (f .here (omega arith)) ∙ cached-at i h in
       find-at cache (entryAt cache i .request) n 0 (getD nodes i 0) (omega arith) (omega arith) same
       (λ j _ m q. f .none j m (number-eq (getD numbers j 0) (getD numbers i 0) (cached-at j (omega arith) ∙ q ∙ sym (cached-at i h))))
       ∙ ap (λ (x : ℕ). some x) (class-of i h)
@@ -243,7 +251,8 @@ module _ (cache : List ℕ) (n : ℕ) (ties : List ℕ) (tied : ℕ) (subtypes :
 
   row-same : (E : List Edge) (base : ℕ)
       → ((a b : ℕ) → a < places → b < places → leads E (named a) (named b) ≡ leadsFrom nodes n links base (getD nodes a 0) (getD nodes b 0))
-      → (a b : ℕ) → a < n → b < n → has (entryAt cache b .request) (reach E (entryAt cache a .request)) ≡ leadsFrom nodes n links base (getD nodes a 0) (getD nodes b 0)
+      → (a b : ℕ) → a < n → b < n → has (entryAt cache b .request) (reach E (entryAt cache a .request))
+      ≡ leadsFrom nodes n links base (getD nodes a 0) (getD nodes b 0)
   unfolding leads
   row-same E base f a b h k = rw (cached-at a h, cached-at b k) at (f a b (omega arith) (omega arith))
 
@@ -252,23 +261,27 @@ module _ (cache : List ℕ) (n : ℕ) (ties : List ℕ) (tied : ℕ) (subtypes :
     theCache = rows (entryAt cache) n 0
 
     pair-same : (a b : ℕ) → a < n → b < n
-        → pairAgrees sup theCache (getD classes a 0) (reach theTies (entryAt cache a .request)) (reach (theTies ++ theSubtypes) (entryAt cache a .request)) (entryAt cache b .request)
+        → pairAgrees sup theCache (getD classes a 0) (reach theTies (entryAt cache a .request))
+        (reach (theTies ++ theSubtypes) (entryAt cache a .request)) (entryAt cache b .request)
         ≡ pairOn sup nodes classes n links noted a b
     unfolding pairAgrees pairOn pairIs
     pair-same a b h k =
         rw (found b k, pairAgrees)
-        (ap (λ (t : Bool). pairIs sup t (has (entryAt cache b .request) (reach (theTies ++ theSubtypes) (entryAt cache a .request))) (getD classes a 0) (getD classes b 0))
+        (ap (λ (t : Bool). pairIs sup t (has (entryAt cache b .request) (reach (theTies ++ theSubtypes) (entryAt cache a .request)))
+        (getD classes a 0) (getD classes b 0))
         (row-same theTies noted tied-same a b h k)
         ∙ ap (λ (t : Bool). pairIs sup (leadsFrom nodes n links noted (getD nodes a 0) (getD nodes b 0)) t (getD classes a 0) (getD classes b 0))
         (row-same (theTies ++ theSubtypes) 0 led-same a b h k))
 
     class-same : (a : ℕ) → a < n
-        → rowAgrees sup theCache theTies (theTies ++ theSubtypes) (entryAt cache a .request) ≡ all (pairOn sup nodes classes n links noted a) (rows (λ i. i) n 0)
+        → rowAgrees sup theCache theTies (theTies ++ theSubtypes) (entryAt cache a .request)
+        ≡ all (pairOn sup nodes classes n links noted a) (rows (λ i. i) n 0)
     unfolding rowAgrees
     class-same a h =
         rw (found a h, rowAgrees)
         (all-same
-        (λ f. pairAgrees sup theCache (getD classes a 0) (reach theTies (entryAt cache a .request)) (reach (theTies ++ theSubtypes) (entryAt cache a .request)) (f .request))
+        (λ f. pairAgrees sup theCache (getD classes a 0) (reach theTies (entryAt cache a .request))
+        (reach (theTies ++ theSubtypes) (entryAt cache a .request)) (f .request))
         (entryAt cache) (pairOn sup nodes classes n links noted a) (λ i. i) n 0 (λ b _ k. pair-same a b h (omega arith)))
 
     pub agree-same : agreesOver sup theCache theTies (theTies ++ theSubtypes) ≡ agreeOn sup nodes classes n links noted
@@ -278,9 +291,12 @@ module _ (cache : List ℕ) (n : ℕ) (ties : List ℕ) (tied : ℕ) (subtypes :
         (λ a. all (pairOn sup nodes classes n links noted a) (rows (λ i. i) n 0)) (λ i. i) n 0 (λ a _ h. class-same a (omega arith))
 
 -- the same, where the counts are given by their values
-pub agree-counted : (sup : ℕ → Option ℕ) (cache ties subtypes : List ℕ) (n tied noted n′ tied′ noted′ : ℕ) (nodes classes : List ℕ) → n ≡ n′ → tied ≡ tied′ → noted ≡ noted′
-    → agreesOver sup (rows (entryAt cache) n 0) (tieEdges (rows (tieAt ties) tied 0)) (tieEdges (rows (tieAt ties) tied 0) ++ subtypeEdges (rows (subtypeAt subtypes) noted 0))
+pub agree-counted : (sup : ℕ → Option ℕ) (cache ties subtypes : List ℕ) (n tied noted n′ tied′ noted′ : ℕ) (nodes classes : List ℕ) → n ≡ n′
+    → tied ≡ tied′ → noted ≡ noted′
+    → agreesOver sup (rows (entryAt cache) n 0) (tieEdges (rows (tieAt ties) tied 0))
+    (tieEdges (rows (tieAt ties) tied 0) ++ subtypeEdges (rows (subtypeAt subtypes) noted 0))
     ≡ agreeOn sup nodes classes n (noted + tied + tied) noted
     → agreeOn sup nodes classes n (noted + tied + tied) noted
-    ≡ agreesOver sup (rows (entryAt cache) n′ 0) (tieEdges (rows (tieAt ties) tied′ 0)) (tieEdges (rows (tieAt ties) tied′ 0) ++ subtypeEdges (rows (subtypeAt subtypes) noted′ 0))
+    ≡ agreesOver sup (rows (entryAt cache) n′ 0) (tieEdges (rows (tieAt ties) tied′ 0))
+    (tieEdges (rows (tieAt ties) tied′ 0) ++ subtypeEdges (rows (subtypeAt subtypes) noted′ 0))
 agree-counted sup cache ties subtypes n tied noted n′ tied′ noted′ nodes classes p q r e = rw (sym p, sym q, sym r) (sym e)

@@ -86,6 +86,7 @@ find-at t r (suc k) i j l h e f = go (eq-or-lt-of-le l) (λ m. find-at t r k (su
     here : i ≡ j → sameRequest (entryAt t i .request) r ≡ true
     here q = rw (q, e) (same-refl r)
 
-    go : (i ≡ j) ⊎ (i < j) → (i < j → find (rows (entryAt t) k (suc i)) r ≡ some (entryAt t j .class)) → find (entryAt t i ∷ rows (entryAt t) k (suc i)) r ≡ some (entryAt t j .class)
+    go : (i ≡ j) ⊎ (i < j) → (i < j → find (rows (entryAt t) k (suc i)) r ≡ some (entryAt t j .class))
+        → find (entryAt t i ∷ rows (entryAt t) k (suc i)) r ≡ some (entryAt t j .class)
     go (inl q) g = rw (here q, find) (ap (λ (x : ℕ). some (entryAt t x .class)) q)
     go (inr m) g = rw (not-same (entryAt t i .request) r (f i (omega arith) m), find) (g m)

@@ -40,15 +40,18 @@ number-at l n x y p q h =
     λ i. record { loader = high i; name = low i }
 
 -- numbers stay where only later places are written
-numbers-on : (t : List ℕ) (loader name count : ℕ) (old new : List ℕ) (from k : ℕ) → from + count ≤ k → Kept old new k → Numbers t loader name count old from
+numbers-on : (t : List ℕ) (loader name count : ℕ) (old new : List ℕ) (from k : ℕ) → from + count ≤ k → Kept old new k
+    → Numbers t loader name count old from
     → Numbers t loader name count new from
 numbers-on t loader name count old new from k h kept f i l = ap (λ (x : ℕ). requestOf x) (kept (from + i) (omega arith)) ∙ f i l
 
 -- one end of each link, of subtype constraints, of ties, of ties turned round
 pub ends-put : {ties subtypes : List ℕ} {tied noted name near far from : ℕ} {a b c d : List ℕ} → Numbered subtypes 0 name noted a b from
-    → Numbered ties near 2 tied b c (from + noted) → Numbered ties far 2 tied c d (from + noted + tied) → EndsNumbered ties tied subtypes noted name near far a d from
+    → Numbered ties near 2 tied b c (from + noted) → Numbered ties far 2 tied c d (from + noted + tied)
+    → EndsNumbered ties tied subtypes noted name near far a d from
 ends-put {ties} {subtypes} {tied} {noted} {name} {near} {far} {from} {a} {b} {c} {d} p q r = record {
-  subtypesPut = numbers-on subtypes 0 name noted c d from (from + noted + tied) (omega arith) (r .kept) (numbers-on subtypes 0 name noted b c from (from + noted) (omega arith) (q .kept) (p .put));
+  subtypesPut = numbers-on subtypes 0 name noted c d from (from + noted + tied) (omega arith) (r .kept)
+      (numbers-on subtypes 0 name noted b c from (from + noted) (omega arith) (q .kept) (p .put));
   tiesPut = numbers-on ties near 2 tied c d (from + noted) (from + noted + tied) (omega arith) (r .kept) (q .put);
   turnedPut = r .put;
   kept = λ i l. r .kept i (omega arith) ∙ q .kept i (omega arith) ∙ p .kept i l;
@@ -60,7 +63,8 @@ pub all-put : {cache ties subtypes : List ℕ} {cached tied noted : ℕ} {a b c 
     → AllNumbered cache cached ties tied subtypes noted d
 all-put {cache} {ties} {subtypes} {cached} {tied} {noted} {a} {b} {c} {d} p q r =
     let half = cached + (noted + tied + tied) in record {
-      cachePut = numbers-on cache 0 1 cached c d 0 half (omega arith) (r .kept) (numbers-on cache 0 1 cached b c 0 cached (omega arith) (q .kept) (p .put));
+      cachePut = numbers-on cache 0 1 cached c d 0 half (omega arith) (r .kept)
+          (numbers-on cache 0 1 cached b c 0 cached (omega arith) (q .kept) (p .put));
       lowPut = numbers-on subtypes 0 1 noted c d cached half (omega arith) (r .kept) (q .subtypesPut);
       onePut = numbers-on ties 0 2 tied c d (cached + noted) half (omega arith) (r .kept) (q .tiesPut);
       twoPut = numbers-on ties 1 2 tied c d (cached + noted + tied) half (omega arith) (r .kept) (q .turnedPut);
@@ -75,17 +79,20 @@ pub joined-none : (nodes : List ℕ) (cached : ℕ) → Joined nodes cached 0 (r
 joined-none nodes cached = record {
   headsLong = length-replicate {A = ℕ} 1792 0;
   nextsLong = length-replicate {A = ℕ} 768 0;
-  head = λ x h. rw (getD-replicate {A = ℕ} 1792 x 0 0 h) (record { high = omega arith; here = λ e q. absurd (omega arith); none = λ e l m. absurd (omega arith) });
+  head = λ x h. rw (getD-replicate {A = ℕ} 1792 x 0 0 h)
+      (record { high = omega arith; here = λ e q. absurd (omega arith); none = λ e l m. absurd (omega arith) });
   next = λ e h. absurd (omega arith);
 }
 
-pub joined-more : (nodes : List ℕ) (cached e : ℕ) (heads nexts : List ℕ) (s : ℕ) → s ≡ startOf nodes cached e → s < 1792 → e < 768 → Joined nodes cached e heads nexts
+pub joined-more : (nodes : List ℕ) (cached e : ℕ) (heads nexts : List ℕ) (s : ℕ) → s ≡ startOf nodes cached e → s < 1792 → e < 768
+    → Joined nodes cached e heads nexts
     → Joined nodes cached (e + 1) (set heads s (e + 1)) (set nexts e (getD heads s 0))
 joined-more nodes cached e heads nexts s q h k j = record {
   headsLong = length-set heads s (e + 1) ∙ j .headsLong;
   nextsLong = length-set nexts e (getD heads s 0) ∙ j .nextsLong;
   head = λ x l. one x l (eqb x s) refl;
-  next = fill-more (λ p. p) (λ p v. Last nodes cached (startOf nodes cached p) p v) nexts e (getD heads s 0) (omega (arith, j .nextsLong)) (λ p m r. omega arith) (j .next)
+  next = fill-more (λ p. p) (λ p v. Last nodes cached (startOf nodes cached p) p v) nexts e (getD heads s 0) (omega (arith, j .nextsLong))
+      (λ p m r. omega arith) (j .next)
       (rw (sym q) (j .head s h));
 }
   where
@@ -100,7 +107,8 @@ joined-more nodes cached e heads nexts s q h k j = record {
     older x d n l (inr r) w z = j .head x w .none d l r z
 
     one : (x : ℕ) → x < 1792 → (t : Bool) → eqb x s ≡ t → Last nodes cached x (e + 1) (getD (set heads s (e + 1)) x 0)
-    one x l true r = rw (eqb-true x s r, getD-set-same heads s (e + 1) 0 (omega (arith, j .headsLong))) (record { high = omega arith; here = here; none = λ d a b. absurd (omega arith) })
+    one x l true r = rw (eqb-true x s r, getD-set-same heads s (e + 1) 0 (omega (arith, j .headsLong)))
+        (record { high = omega arith; here = here; none = λ d a b. absurd (omega arith) })
     one x l false r = rw (getD-set-other heads s x (e + 1) 0 (eqb-false x s r)) (record {
       high = omega (arith, j .head x l .high);
       here = j .head x l .here;

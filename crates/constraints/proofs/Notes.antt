@@ -30,7 +30,8 @@ pub record Adding (t₀ : List ℕ) (count l : ℕ) (notes : List ℕ) (n i : �
   pub totals : total ≡ count + length done
   pub few : total ≤ 257
   pub view : total ≤ 256 → rows (subtypeAt t) total 0 ≡ rows (subtypeAt t₀) count 0 ++ done
-  pub rest : newSubtypesIn t₀ count l (rows (noteAt notes) n 0) ≡ done ++ newSubtypes (rows (subtypeAt t₀) count 0 ++ done) l (rows (noteAt notes) (n - i) i)
+  pub rest : newSubtypesIn t₀ count l (rows (noteAt notes) n 0)
+      ≡ done ++ newSubtypes (rows (subtypeAt t₀) count 0 ++ done) l (rows (noteAt notes) (n - i) i)
   pub long : length t ≡ length t₀
 
 module _ (t₀ : List ℕ) (count l : ℕ) (notes : List ℕ) (n : ℕ) where
@@ -68,19 +69,23 @@ module _ (t₀ : List ℕ) (count l : ℕ) (notes : List ℕ) (n : ℕ) where
       totals = q ∙ s .totals;
       few = omega arith;
       view = λ _. rw (p, q) (s .view few);
-      rest = s .rest ∙ ap (λ (x : List Subtype). s .done ++ x) (ap (λ (ns : List Note). newSubtypes (old ++ s .done) l ns) first-row ∙ note-there (old ++ s .done) l it _ e);
+      rest = s .rest ∙ ap (λ (x : List Subtype). s .done ++ x)
+          (ap (λ (ns : List Note). newSubtypes (old ++ s .done) l ns) first-row ∙ note-there (old ++ s .done) l it _ e);
       long = ap length p ∙ s .long;
     }
 
-    fresh : any (subtypeIs l it) (old ++ s .done) ≡ false → u ≡ putSubtype t total (subtypeOf l it) → r ≡ total + 1 → Adding t₀ count l notes n (i + 1) u r
+    fresh : any (subtypeIs l it) (old ++ s .done) ≡ false → u ≡ putSubtype t total (subtypeOf l it) → r ≡ total + 1
+        → Adding t₀ count l notes n (i + 1) u r
     unfolding subtypesAfter putSubtype
     fresh e p q = record {
       done = s .done ++ (subtypeOf l it ∷ []);
       table = p ∙ rw (s .table, s .totals) (sym (rows-snoc subtype-rows (s .done) (subtypeOf l it) count t₀));
       totals = omega (arith, s .totals, length-append (s .done) (subtypeOf l it ∷ []));
       few = omega arith;
-      view = λ k. rw (p, one) (rows-after-last subtype-rows t total (subtypeOf l it) (omega (arith, s .long)) ∙ ap (λ (x : List Subtype). x ++ (subtypeOf l it ∷ [])) (s .view few) ∙ append-assoc old (s .done) (subtypeOf l it ∷ []));
-      rest = s .rest ∙ ap (λ (x : List Subtype). s .done ++ x) (ap (λ (ns : List Note). newSubtypes (old ++ s .done) l ns) first-row ∙ note-new (old ++ s .done) l it _ e)
+      view = λ k. rw (p, one) (rows-after-last subtype-rows t total (subtypeOf l it) (omega (arith, s .long))
+          ∙ ap (λ (x : List Subtype). x ++ (subtypeOf l it ∷ [])) (s .view few) ∙ append-assoc old (s .done) (subtypeOf l it ∷ []));
+      rest = s .rest ∙ ap (λ (x : List Subtype). s .done ++ x)
+          (ap (λ (ns : List Note). newSubtypes (old ++ s .done) l ns) first-row ∙ note-new (old ++ s .done) l it _ e)
           ∙ moved (rows (noteAt notes) (n - (i + 1)) (i + 1));
       long = ap length p ∙ subtype-rows .long t total (subtypeOf l it) ∙ s .long;
     }
@@ -96,7 +101,7 @@ module _ (t₀ : List ℕ) (count l : ℕ) (notes : List ℕ) (n : ℕ) where
             ∙ ap (λ (x : List Subtype). (s .done ++ (subtypeOf l it ∷ [])) ++ newSubtypes x l ns) (append-assoc old (s .done) (subtypeOf l it ∷ []))
 
     adding-it : r ≡ total + length (newSubtypesIn t total l (it ∷ [])) → u ≡ subtypesAfter t total (newSubtypesIn t total l (it ∷ []))
-      → Adding t₀ count l notes n (i + 1) u r
+        → Adding t₀ count l notes n (i + 1) u r
     unfolding newSubtypesIn subtypesAfter writeRows newSubtypes
     adding-it p q = go (any (subtypeIs l it) (old ++ s .done)) refl
       where
@@ -113,8 +118,9 @@ module _ (t₀ : List ℕ) (count l : ℕ) (notes : List ℕ) (n : ℕ) where
         go true e = there e (q ∙ ap (λ (x : List Subtype). subtypesAfter t total x) (none e)) (omega (arith, p, ap length (none e)))
         go false e = fresh e (q ∙ ap (λ (x : List Subtype). subtypesAfter t total x) (one e)) (omega (arith, p, ap length (one e)))
 
-    pub adding-one : (a b : ℕ) → a ≡ getD notes (i * 2) 0 → b ≡ getD notes (i * 2 + 1) 0 → r ≡ total + length (newSubtypesIn t total l (note a b ∷ []))
-      → u ≡ subtypesAfter t total (newSubtypesIn t total l (note a b ∷ [])) → Adding t₀ count l notes n (i + 1) u r
+    pub adding-one : (a b : ℕ) → a ≡ getD notes (i * 2) 0 → b ≡ getD notes (i * 2 + 1) 0
+        → r ≡ total + length (newSubtypesIn t total l (note a b ∷ []))
+        → u ≡ subtypesAfter t total (newSubtypesIn t total l (note a b ∷ [])) → Adding t₀ count l notes n (i + 1) u r
     unfolding noteAt
     adding-one a b e f p q = adding-it (rw (e, f) at p) (rw (e, f) at q)
 
@@ -150,8 +156,11 @@ module _ (t₀ : List ℕ) (count l : ℕ) (notes : List ℕ) (n : ℕ) where
 
     pub posted-full : 256 < total → Answered t Full
     unfolding notesPosted subtypesAfter
-    posted-full h =
-        (sym (counted-full (roomy t₀) (count + length new) (omega (arith, s .totals, ap length (s .rest), length-append (s .done) more))), rw (roomy-true, notesPosted) (s .table ∙ ap (λ (x : List Subtype). subtypesAfter t₀ count x) (sym front)))
+    posted-full h = (
+      sym (counted-full (roomy t₀) (count + length new) (omega (arith, s .totals, ap length (s .rest), length-append (s .done) more))),
+      rw
+          (roomy-true, notesPosted) (s .table ∙ ap (λ (x : List Subtype). subtypesAfter t₀ count x) (sym front)),
+    )
       where
         more : List Subtype
         more = newSubtypes (old ++ s .done) l (rows (noteAt notes) (n - i) i)
@@ -161,8 +170,11 @@ module _ (t₀ : List ℕ) (count l : ℕ) (notes : List ℕ) (n : ℕ) where
 
     pub posted-all : n ≤ i → total ≤ 256 → Answered t (Count total)
     unfolding notesPosted counted newSubtypes rows
-    posted-all e h =
-        (sym (ap (λ (k : ℕ). counted (roomy t₀) k) same ∙ fits), rw (roomy-true, notesPosted) (s .table ∙ ap (λ (x : List Subtype). subtypesAfter t₀ count x) (sym (take-all (257 - count) new (omega (arith, same)) ∙ all))))
+    posted-all e h = (
+      sym (ap (λ (k : ℕ). counted (roomy t₀) k) same ∙ fits),
+      rw (roomy-true, notesPosted)
+          (s .table ∙ ap (λ (x : List Subtype). subtypesAfter t₀ count x) (sym (take-all (257 - count) new (omega (arith, same)) ∙ all))),
+    )
       where
         fits : counted (roomy t₀) total ≡ Count total
         fits = rw (roomy-true, le-leb total 256 h, counted) refl

@@ -32,7 +32,8 @@ module _ (t : List ℕ) (i l m n : ℕ) where
   tie-turned h e = rw (eq-eqb (getD t (i * 3 + 2) 0) n h, e) refl
 
 module _ (t : List ℕ) (i l a b : ℕ) where
-  pub subtype-low : (eqb (getD t (i * 3) 0) l && eqb (getD t (i * 3 + 1) 0) a) ≡ true → subtypeIs l (note a b) (subtypeAt t i) ≡ eqb (getD t (i * 3 + 2) 0) b
+  pub subtype-low : (eqb (getD t (i * 3) 0) l && eqb (getD t (i * 3 + 1) 0) a) ≡ true
+      → subtypeIs l (note a b) (subtypeAt t i) ≡ eqb (getD t (i * 3 + 2) 0) b
   unfolding subtypeIs subtypeAt
   subtype-low e = rw e refl
 
@@ -59,7 +60,8 @@ module _ (t : List ℕ) (c l m n r : ℕ) where
   unfolding newTieIn newTie
   tie-int e = tie-same (go (eqb l m) (eqb n 1) (eq-eqb n 1 e))
     where
-      go : (a b : Bool) → b ≡ true → _≡_ {A = List Tie} (elim (a || b || any (tieIs l m n) (rows (tieAt t) c 0)) as (λ _. List Tie) [ true ↦ [] | false ↦ tie l m n ∷ [] ]) []
+      go : (a b : Bool) → b ≡ true → _≡_ {A = List Tie}
+          (elim (a || b || any (tieIs l m n) (rows (tieAt t) c 0)) as (λ _. List Tie) [ true ↦ [] | false ↦ tie l m n ∷ [] ]) []
       go true b h = refl
       go false b h = rw h refl
 
@@ -76,7 +78,8 @@ module _ (t : List ℕ) (c l m n r : ℕ) where
   unfolding newTieIn newTie tiesAfter writeRows putTie
   tie-new u p q e z w = rw (one (eqb l m) (eqb n 1) (any (tieIs l m n) (rows (tieAt t) c 0)) (ne-eqb l m p) (ne-eqb n 1 q) e) (omega arith, w)
     where
-      one : (a b d : Bool) → a ≡ false → b ≡ false → d ≡ false → _≡_ {A = List Tie} (elim (a || b || d) as (λ _. List Tie) [ true ↦ [] | false ↦ tie l m n ∷ [] ]) (tie l m n ∷ [])
+      one : (a b d : Bool) → a ≡ false → b ≡ false → d ≡ false
+          → _≡_ {A = List Tie} (elim (a || b || d) as (λ _. List Tie) [ true ↦ [] | false ↦ tie l m n ∷ [] ]) (tie l m n ∷ [])
       one a b d x y z = rw (x, y, z) refl
 
 -- A subtype constraint

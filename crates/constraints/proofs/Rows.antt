@@ -38,10 +38,12 @@ pub all-same : {A B : Type 0} (f : A → Bool) (g : ℕ → A) (p : B → Bool) 
     → all f (rows g k i) ≡ all p (rows h k i)
 unfolding rows all
 all-same f g p h zero i e = refl
-all-same f g p h (suc k) i e = rw (e i (omega arith) (omega arith)) (go (p (h i)) (all-same f g p h k (suc i) (λ j l m. e j (omega arith) (omega arith))))
+all-same f g p h (suc k) i e = rw (e i (omega arith) (omega arith))
+    (go (p (h i)) (all-same f g p h k (suc i) (λ j l m. e j (omega arith) (omega arith))))
   where
     go : (t : Bool) → all f (rows g k (suc i)) ≡ all p (rows h k (suc i))
-        → _≡_ {A = Bool} (elim t as (λ _. Bool) [ true ↦ all f (rows g k (suc i)) | false ↦ false ]) (elim t as (λ _. Bool) [ true ↦ all p (rows h k (suc i)) | false ↦ false ])
+        → _≡_ {A = Bool} (elim t as (λ _. Bool) [ true ↦ all f (rows g k (suc i)) | false ↦ false ])
+        (elim t as (λ _. Bool) [ true ↦ all p (rows h k (suc i)) | false ↦ false ])
     go true r = r
     go false r = refl
 

@@ -38,7 +38,8 @@ marked-set (x ∷ xs) zero h n = rw (ne-eqb x 1 n, marked) refl
 marked-set (x ∷ xs) (suc i) h n = go (eqb x 1) (marked-set xs i (omega arith) n)
   where
     go : (t : Bool) → marked (set xs i 1) ≡ suc (marked xs)
-        → _≡_ {A = ℕ} (elim t as (λ _. ℕ) [ true ↦ suc (marked (set xs i 1)) | false ↦ marked (set xs i 1) ]) (suc (elim t as (λ _. ℕ) [ true ↦ suc (marked xs) | false ↦ marked xs ]))
+        → _≡_ {A = ℕ} (elim t as (λ _. ℕ) [ true ↦ suc (marked (set xs i 1)) | false ↦ marked (set xs i 1) ])
+        (suc (elim t as (λ _. ℕ) [ true ↦ suc (marked xs) | false ↦ marked xs ]))
     go true e = ap suc e
     go false e = e
 
@@ -135,7 +136,8 @@ queue-low {marks} {queue} s p h = rw (s .marksLong) at (mark-low marks (getD que
 -- nothing is marked yet
 pub none-marked : (x : ℕ) → Marked (replicate 1792 0) x → ⊥
 none-marked x m =
-    let z : _≡_ {A = ℕ} 0 1 = sym (getD-replicate {A = ℕ} 1792 x 0 0 (omega (arith, mark-low (replicate 1792 0) x m, length-replicate {A = ℕ} 1792 0))) ∙ m in
+    let z : _≡_ {A = ℕ} 0 1 = sym (getD-replicate {A = ℕ} 1792 x 0 0
+    (omega (arith, mark-low (replicate 1792 0) x m, length-replicate {A = ℕ} 1792 0))) ∙ m in
     omega arith
 
 pub queued-none : Queued (replicate 1792 0) (replicate 1792 0) 0
@@ -150,7 +152,8 @@ queued-none = record {
 -- Visiting the ends of a node's links, the last link first
 
 -- the links from number f on were visited; f is 0, or one more than a link that starts at x
-pub record Expanding (nodes : List ℕ) (cached links base x f : ℕ) (marks queue : List ℕ) (tail : ℕ) (marks′ queue′ : List ℕ) (tail′ : ℕ) : Type 0 where
+pub record Expanding (nodes : List ℕ) (cached links base x f : ℕ) (marks queue : List ℕ) (tail : ℕ) (marks′ queue′ : List ℕ) (tail′ : ℕ)
+    : Type 0 where
   pub high : f ≤ links
   pub here : (e : ℕ) → f ≡ suc e → startOf nodes cached e ≡ x
   pub queued : Queued marks′ queue′ tail′
@@ -188,7 +191,8 @@ module _ (nodes : List ℕ) (cached links base x : ℕ) where
       between : (k : ℕ) → (ltb k e ≡ false) → (ltb e k ≡ false) → k ≡ e
       between k p r = omega (arith, ltb-false k e p, ltb-false e k r)
 
-      later : (y : ℕ) (l : Link nodes cached links base x y) (a : Bool) → ltb (l .number) e ≡ a → (c : Bool) → ltb e (l .number) ≡ c → g ≤ l .number → Marked m″ y
+      later : (y : ℕ) (l : Link nodes cached links base x y) (a : Bool) → ltb (l .number) e ≡ a → (c : Bool) → ltb e (l .number) ≡ c
+          → g ≤ l .number → Marked m″ y
       later y l true p c r h = absurd (last .none (l .number) h (ltb-true (l .number) e p) (l .start ∙ sym start))
       later y l false p true r h = v .grown .still y (s .all y l (omega (arith, ltb-true e (l .number) r)))
       later y l false p false r h = rw (sym (l .end), between (l .number) p r) (v .it)
@@ -225,7 +229,8 @@ module _ (nodes : List ℕ) (n links base a : ℕ) where
       edge-at (ap (λ (z : ℕ). at 0 z) (sym (l .start))) (ap (λ (z : ℕ). at 0 z) (sym (l .end)))
       (in-rows (linkOf nodes n links) (links - base) base (l .number) (l .low) (omega (arith, l .low, l .high)))
 
-  pub searching-start : {m q m′ q′ : List ℕ} {t t′ : ℕ} → ((x : ℕ) → Marked m x → ⊥) → Visited a m q t m′ q′ t′ → Searching nodes n links base a 0 m′ q′ t′
+  pub searching-start : {m q m′ q′ : List ℕ} {t t′ : ℕ} → ((x : ℕ) → Marked m x → ⊥) → Visited a m q t m′ q′ t′
+      → Searching nodes n links base a 0 m′ q′ t′
   searching-start {m} none v = record {
     high = omega arith;
     queued = v .queued;

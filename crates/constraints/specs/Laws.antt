@@ -37,7 +37,8 @@ pub agree-store : (w : World) (supers cache ties subtypes : List ℕ) (n tied no
 unfolding agrees edges
 agree-store w supers cache ties subtypes n tied noted s p q r h k l =
     rw (within 256 n h, within 256 tied k, within 256 noted l)
-    (rows-agree (superIn supers) (superOf (w .base)) (rows (entryAt cache) n 0) (w .base .cache) (rows (tieAt ties) tied 0) (w .ties) (rows (subtypeAt subtypes) noted 0) (w .subtypes) s p q r)
+    (rows-agree (superIn supers) (superOf (w .base)) (rows (entryAt cache) n 0) (w .base .cache) (rows (tieAt ties) tied 0) (w .ties)
+    (rows (subtypeAt subtypes) noted 0) (w .subtypes) s p q r)
 
 -- Ties
 
@@ -78,4 +79,5 @@ module _ (t : List ℕ) (room : 768 ≤ length t) where
 
   pub notes-written : (count : ℕ) (new : List Subtype) → count + length new ≤ 256 → notesPosted t count new ≡ subtypesAfter t count new
   unfolding notesPosted
-  notes-written count new h = rw (has-room, notesPosted) (ap (λ (xs : List Subtype). subtypesAfter t count xs) (take-all (257 - count) new (omega arith)))
+  notes-written count new h = rw (has-room, notesPosted)
+      (ap (λ (xs : List Subtype). subtypesAfter t count xs) (take-all (257 - count) new (omega arith)))

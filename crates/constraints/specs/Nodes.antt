@@ -98,7 +98,8 @@ pairMarked sup nodes classes tied led a b =
 -- the pair of places a and b
 unfoldable pub pairOn : (ℕ → Option ℕ) → List ℕ → List ℕ → ℕ → ℕ → ℕ → ℕ → ℕ → Bool
 pairOn sup nodes classes cached links noted a b =
-    pairIs sup (leadsFrom nodes cached links noted (getD nodes a 0) (getD nodes b 0)) (leadsFrom nodes cached links 0 (getD nodes a 0) (getD nodes b 0))
+    pairIs sup (leadsFrom nodes cached links noted (getD nodes a 0) (getD nodes b 0))
+    (leadsFrom nodes cached links 0 (getD nodes a 0) (getD nodes b 0))
     (getD classes a 0) (getD classes b 0)
 
 -- all pairs of cached requests; the links from `noted` on are ties

@@ -25,7 +25,8 @@ returns-2 c =
     let if1 = if1 in
     let subtype-known = subtype-known in
     let from16 = from16 in
-    subtype-new _ _ _ _ _ _ _ (sym (subtype-known .ensures) ∙ if1 .left) (from16 .ensures .0) (rw (wide16 .ensures .0, from8 .ensures .0) at (put-row .ensures))
+    subtype-new _ _ _ _ _ _ _ (sym (subtype-known .ensures) ∙ if1 .left) (from16 .ensures .0)
+    (rw (wide16 .ensures .0, from8 .ensures .0) at (put-row .ensures))
 
 pub add-subtype-spec : {M : Type 1} → statement M
 add-subtype-spec =

@@ -8,7 +8,8 @@ use Rattle.constraints.proofs.add_subtypes.Statement.{statement}
 use Rattle.constraints.proofs.add_subtypes.Tie as tie
 
 abbrev Inv-loop : tie.InvT-loop
-Inv-loop subtypes₀ count loader notes note-count n total₀ i₀ subtypes total i = Adding subtypes₀ count loader notes note-count i subtypes total × (total ≤ 256)
+Inv-loop subtypes₀ count loader notes note-count n total₀ i₀ subtypes total i = Adding subtypes₀ count loader notes note-count i subtypes total
+    × (total ≤ 256)
 
 abbrev μ-loop : tie.MeasureT-loop
 μ-loop subtypes₀ count loader notes note-count n total₀ i₀ subtypes total i = n - i
@@ -86,7 +87,8 @@ returns-4 c =
     let wide16 = wide16 in
     let if2 = if2 in
     let if1 = if1 in
-    posted-all _ _ _ _ _ (if1 .left) (if2 .left) (c .before .loop .inv .0) (omega (arith, wide16 .ensures .0, c .loop-test .left)) (c .before .loop .inv .1)
+    posted-all _ _ _ _ _ (if1 .left) (if2 .left) (c .before .loop .inv .0) (omega (arith, wide16 .ensures .0, c .loop-test .left))
+    (c .before .loop .inv .1)
 
 pub add-subtypes-spec : {M : Type 1} → statement M
 add-subtypes-spec =

@@ -40,7 +40,8 @@ returns-4 c =
     let if2 = if2 in
     let if1 = if1 in
     let from16 = from16 in
-    tie-new _ _ _ _ _ _ _ (if1 .left) (if2 .left) (sym (tie-known .ensures) ∙ if3 .left) (from16 .ensures .0) (rw (wide16 .ensures .0, from8 .ensures .0, from82 .ensures .0) at (put-row .ensures))
+    tie-new _ _ _ _ _ _ _ (if1 .left) (if2 .left) (sym (tie-known .ensures) ∙ if3 .left) (from16 .ensures .0)
+    (rw (wide16 .ensures .0, from8 .ensures .0, from82 .ensures .0) at (put-row .ensures))
 
 pub add-tie-spec : {M : Type 1} → statement M
 add-tie-spec =

@@ -17,6 +17,9 @@ module _ (c : tie.After-number-nodes) where
   abbrev places : tie.After-number-places
   places = c .before .before .before .before
 
+  abbrev entry : tie.Start
+  entry = places .before .before .before .before .before .before .before .before .before
+
   abbrev numbers : List ℕ
   numbers = places .number-places .last .1 .1 .1 .1 .1 .1 .0
 
@@ -50,18 +53,15 @@ pairs-agree-requires c κs =
 
 returns : tie.Need-returns
 returns c =
-    let list-classes = c .before .before .before .before .before .before .before .before .before .before .before .before .list-classes in
-    let number-nodes = c .before .before .before .before .before .before .before .before .before .before .before .before .before .before .before .before .number-nodes in
-    let number-places = c .before .before .before .before .before .before .before .before .before .before .before .before .before .before .before .before .before .before .before .before .number-places in
-    let at-most3 = c .before .before .before .before .before .before .before .before .before .before .before .before .before .before .before .before .before .before .before .before .before .before .at-most3 in
-    let at-most2 = c .before .before .before .before .before .before .before .before .before .before .before .before .before .before .before .before .before .before .before .before .before .before .before .at-most2 in
-    let at-most = c .before .before .before .before .before .before .before .before .before .before .before .before .before .before .before .before .before .before .before .before .before .before .before .before .at-most in
-    let args = c .before .before .before .before .before .before .before .before .before .before .before .before .before .before .before .before .before .before .before .before .before .before .before .before .before .before .before .before .before .args in
     let k = c .before .before .before .before .before .before .before .before .before .before .before .before .before .before .before .before in
+    let classes = c .before .before .before .before .before .before .before .before .before .before .before .before .list-classes in
+    let counts = places k .before .before in
+    let args = entry k .args in
     c .pairs-agree .ensures
-    ∙ agree-counted _ (now (args .cache)) (now (args .ties)) (now (args .subtypes)) _ _ _ _ _ _ _ _ (at-most .ensures .0) (at-most2 .ensures .0) (at-most3 .ensures .0)
-    (agree-same (now (args .cache)) (cached k) (now (args .ties)) (tied k) (now (args .subtypes)) (noted k) (numbers k) (nodes k) (list-classes .last .1 .1 .1 .0)
-    (number-places .ensures) (number-nodes .ensures) (list-classes .ensures) (superIn (now (args .supers))))
+    ∙ agree-counted _ (now (args .cache)) (now (args .ties)) (now (args .subtypes)) _ _ _ _ _ _ _ _
+    (counts .before .before .at-most .ensures .0) (counts .before .at-most2 .ensures .0) (counts .at-most3 .ensures .0)
+    (agree-same (now (args .cache)) (cached k) (now (args .ties)) (tied k) (now (args .subtypes)) (noted k) (numbers k) (nodes k)
+    (classes .last .1 .1 .1 .0) (places k .number-places .ensures) (k .number-nodes .ensures) (classes .ensures) (superIn (now (args .supers))))
 
 pub agree-spec : {M : Type 1} → statement M
 agree-spec =

@@ -25,8 +25,11 @@ visit-requires c κs =
     let test = c .before .before .before .loop-test in
     let loop = c .before .before .before .before .loop in
     let args = c .before .before .before .before .before .before .before .before .before .before .before .args in
-    let pre = c .before .before .before .before .before .before .before .before .before .before .before .pre in
-    (rw (place2 .ensures) (pre .1 .node (args .cached + args .links + (loop .follow - 1)) (omega (arith, loop .inv .high, test .taken))), loop .inv .queued)
+    let pre = c .before .before .before .before .before .before .before .before .before .before .before .pre in (
+      rw (place2 .ensures) (pre .1 .node (args .cached + args .links + (loop .follow - 1))
+          (omega (arith, loop .inv .high, test .taken))),
+      loop .inv .queued,
+    )
 
 loop-less : tie.Need-loop-less Inv-loop μ-loop
 loop-less c =

@@ -27,7 +27,8 @@ mul-heads c =
     let loop = c .before .before .before .before .loop in
     let args = c .before .before .before .before .before .before .before .before .args in
     let pre = c .before .before .before .before .before .before .before .before .pre in
-    let low : place .result < 1792 = rw (place .ensures) (pre .0 .node (args .cached + loop .e) (omega (arith, pre .0 .linksFit, test .taken))) in omega arith
+    let low : place .result < 1792 = rw (place .ensures) (pre .0 .node (args .cached + loop .e) (omega (arith, pre .0 .linksFit, test .taken)))
+    in omega arith
 
 slice-write-heads : tie.Need-slice-write-heads Inv-loop μ-loop
 slice-write-heads c =
@@ -36,7 +37,8 @@ slice-write-heads c =
     let loop = c .before .before .before .before .loop in
     let args = c .before .before .before .before .before .before .before .before .args in
     let pre = c .before .before .before .before .before .before .before .before .pre in
-    let low : place .result < 1792 = rw (place .ensures) (pre .0 .node (args .cached + loop .e) (omega (arith, pre .0 .linksFit, test .taken))) in omega (arith, loop .inv .1 .headsLong)
+    let low : place .result < 1792 = rw (place .ensures) (pre .0 .node (args .cached + loop .e) (omega (arith, pre .0 .linksFit, test .taken)))
+    in omega (arith, loop .inv .1 .headsLong)
 
 loop-again : tie.Need-loop-again Inv-loop μ-loop
 unfolding startOf

@@ -30,7 +30,9 @@ loop-again c =
     let loop = c .before .before .before .loop in
     let args = c .before .before .before .before .before .before .before .args in (
       omega arith,
-      fill-more (λ p. p) (λ p v. v ≡ getD (now (args .cache)) (getD (now (args .nodes)) p 0 * 3 + 2) 0) (loop .classes) (loop .p) (c .class-at .result) (omega (arith, loop .inv .2)) (λ p h q. omega arith) (loop .inv .1) (rw (c .before .place .ensures) at (c .class-at .ensures)),
+      fill-more (λ p. p) (λ p v. v ≡ getD (now (args .cache)) (getD (now (args .nodes)) p 0 * 3 + 2) 0) (loop .classes) (loop .p)
+          (c .class-at .result) (omega (arith, loop .inv .2)) (λ p h q. omega arith) (loop .inv .1)
+          (rw (c .before .place .ensures) at (c .class-at .ensures)),
       length-set (loop .classes) _ _ ∙ loop .inv .2,
     )
 

@@ -11,7 +11,8 @@ use Rattle.constraints.proofs.number_nodes.Statement.{statement}
 use Rattle.constraints.proofs.number_nodes.Tie as tie
 
 abbrev Inv-loop : tie.InvT-loop
-Inv-loop numbers n nodes₀ p₀ nodes p = (p ≤ n) × ((q : ℕ) → q < p → First numbers (getD numbers q 0) n (getD nodes q 0)) × (length nodes ≡ length nodes₀)
+Inv-loop numbers n nodes₀ p₀ nodes p = (p ≤ n) × ((q : ℕ) → q < p → First numbers (getD numbers q 0) n (getD nodes q 0))
+    × (length nodes ≡ length nodes₀)
 
 abbrev μ-loop : tie.MeasureT-loop
 μ-loop numbers n nodes₀ p₀ nodes p = n - p
@@ -24,7 +25,9 @@ loop-again c =
     let loop = c .before .before .before .loop in
     let args = c .before .before .before .before .before .before .args in (
       omega arith,
-      fill-more (λ q. q) (λ q v. First (now (args .numbers)) (getD (now (args .numbers)) q 0) (args .n) v) (loop .nodes) (loop .p) (c .first .result) (omega (arith, loop .inv .2)) (λ q h r. omega arith) (loop .inv .1) (rw (c .before .place .ensures) at (c .first .ensures)),
+      fill-more (λ q. q) (λ q v. First (now (args .numbers)) (getD (now (args .numbers)) q 0) (args .n) v) (loop .nodes) (loop .p)
+          (c .first .result) (omega (arith, loop .inv .2)) (λ q h r. omega arith) (loop .inv .1)
+          (rw (c .before .place .ensures) at (c .first .ensures)),
       length-set (loop .nodes) _ _ ∙ loop .inv .2,
     )
 

@@ -11,7 +11,8 @@ use Rattle.constraints.proofs.number_rows.Statement.{statement}
 use Rattle.constraints.proofs.number_rows.Tie as tie
 
 abbrev Inv-loop : tie.InvT-loop
-Inv-loop t loader name count numbers₀ from i₀ numbers i = (i ≤ count) × Numbers t loader name i numbers from × Kept numbers₀ numbers from × (length numbers ≡ length numbers₀)
+Inv-loop t loader name count numbers₀ from i₀ numbers i = (i ≤ count) × Numbers t loader name i numbers from × Kept numbers₀ numbers from
+    × (length numbers ≡ length numbers₀)
 
 abbrev μ-loop : tie.MeasureT-loop
 μ-loop t loader name count numbers₀ from i₀ numbers i = count - i
@@ -24,7 +25,8 @@ loop-again c =
     let loop = c .before .before .loop in
     let args = c .before .before .before .before .before .args in (
       omega arith,
-      fill-more (λ p. args .from + p) (λ p v. requestOf v ≡ requestIn (now (args .t)) (args .loader) (args .name) p) (loop .numbers) (loop .i) (c .row-number .result) (omega (arith, loop .inv .3)) (λ p h q. omega arith) (loop .inv .1) (c .row-number .ensures),
+      fill-more (λ p. args .from + p) (λ p v. requestOf v ≡ requestIn (now (args .t)) (args .loader) (args .name) p) (loop .numbers) (loop .i)
+          (c .row-number .result) (omega (arith, loop .inv .3)) (λ p h q. omega arith) (loop .inv .1) (c .row-number .ensures),
       kept-set (now (args .numbers)) (loop .numbers) _ _ _ (omega arith) (loop .inv .2),
       length-set (loop .numbers) _ _ ∙ loop .inv .3,
     )

@@ -11,7 +11,8 @@ returns c =
     let from8 = c .before .before .before .from8 in
     let at162 = c .before .before .before .before .at162 in
     let at16 = c .before .before .before .before .before .at16 in
-    rw (c .at163 .ensures) (sym (subtype-low _ _ _ _ _ (sym (rw (at16 .ensures, at162 .ensures, from8 .ensures .0) at (are .ensures)) ∙ c .before .if1 .taken)))
+    rw (c .at163 .ensures) (sym (subtype-low _ _ _ _ _
+    (sym (rw (at16 .ensures, at162 .ensures, from8 .ensures .0) at (are .ensures)) ∙ c .before .if1 .taken)))
 
 returns-2 : tie.Need-returns-2
 returns-2 c =

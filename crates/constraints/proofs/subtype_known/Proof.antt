@@ -13,7 +13,9 @@ use Rattle.constraints.proofs.subtype_known.Statement.{statement}
 use Rattle.constraints.proofs.subtype_known.Tie as tie
 
 abbrev Inv-loop : tie.InvT-loop
-Inv-loop subtypes count loader low high n i₀ i = (i ≤ n) × (any (subtypeIs loader (note low high)) (rows (subtypeAt subtypes) (n - i) i) ≡ any (subtypeIs loader (note low high)) (rows (subtypeAt subtypes) count 0))
+Inv-loop subtypes count loader low high n i₀ i = (i ≤ n)
+    × (any (subtypeIs loader (note low high)) (rows (subtypeAt subtypes) (n - i) i)
+    ≡ any (subtypeIs loader (note low high)) (rows (subtypeAt subtypes) count 0))
 
 abbrev μ-loop : tie.MeasureT-loop
 μ-loop subtypes count loader low high n i₀ i = n - i

@@ -16,7 +16,8 @@ returns-2 c =
     let from8 = c .before .before .before .before .before .from8 in
     let at162 = c .before .before .before .before .before .before .at162 in
     let at16 = c .before .before .before .before .before .before .before .at16 in
-    sym (tie-straight _ _ _ _ _ (sym (at163 .ensures) ∙ if1 .left) (sym (rw (at16 .ensures, at162 .ensures, from8 .ensures .0, from82 .ensures .0) at (c .before .are .ensures)) ∙ c .if2 .taken))
+    sym (tie-straight _ _ _ _ _ (sym (at163 .ensures) ∙ if1 .left)
+    (sym (rw (at16 .ensures, at162 .ensures, from8 .ensures .0, from82 .ensures .0) at (c .before .are .ensures)) ∙ c .if2 .taken))
 
 returns-3 : tie.Need-returns-3
 returns-3 c =
@@ -27,7 +28,9 @@ returns-3 c =
     let from8 = c .before .before .before .before .before .before .from8 in
     let at162 = c .before .before .before .before .before .before .before .at162 in
     let at16 = c .before .before .before .before .before .before .before .before .at16 in
-    (rw (at16 .ensures, at162 .ensures, from8 .ensures .0, from82 .ensures .0) at (c .are2 .ensures)) ∙ sym (tie-turned _ _ _ _ _ (sym (at163 .ensures) ∙ if1 .left) (sym (rw (at16 .ensures, at162 .ensures, from8 .ensures .0, from82 .ensures .0) at (are .ensures)) ∙ c .before .if2 .left))
+    (rw (at16 .ensures, at162 .ensures, from8 .ensures .0, from82 .ensures .0) at (c .are2 .ensures))
+    ∙ sym (tie-turned _ _ _ _ _ (sym (at163 .ensures) ∙ if1 .left)
+    (sym (rw (at16 .ensures, at162 .ensures, from8 .ensures .0, from82 .ensures .0) at (are .ensures)) ∙ c .before .if2 .left))
 
 pub tie-is-spec : {M : Type 1} → statement M
 tie-is-spec =

@@ -12,7 +12,8 @@ use Rattle.constraints.proofs.tie_known.Statement.{statement}
 use Rattle.constraints.proofs.tie_known.Tie as tie
 
 abbrev Inv-loop : tie.InvT-loop
-Inv-loop ties count one two name n i₀ i = (i ≤ n) × (any (tieIs one two name) (rows (tieAt ties) (n - i) i) ≡ any (tieIs one two name) (rows (tieAt ties) count 0))
+Inv-loop ties count one two name n i₀ i = (i ≤ n) ×
+    (any (tieIs one two name) (rows (tieAt ties) (n - i) i) ≡ any (tieIs one two name) (rows (tieAt ties) count 0))
 
 abbrev μ-loop : tie.MeasureT-loop
 μ-loop ties count one two name n i₀ i = n - i

@@ -16,19 +16,22 @@ mul-queue : tie.Need-mul-queue
 mul-queue c =
     let args = c .before .before .args in
     let pre = c .before .before .pre in
-    let room′ : args .tail < 1792 = room (args .node) (now (args .marks)) (now (args .queue)) (args .tail) (pre .1) (pre .0) (c .if1 .left) in omega arith
+    let room′ : args .tail < 1792 = room (args .node) (now (args .marks)) (now (args .queue)) (args .tail) (pre .1) (pre .0) (c .if1 .left)
+    in omega arith
 
 slice-write-queue : tie.Need-slice-write-queue
 slice-write-queue c =
     let args = c .before .before .args in
     let pre = c .before .before .pre in
-    let room′ : args .tail < 1792 = room (args .node) (now (args .marks)) (now (args .queue)) (args .tail) (pre .1) (pre .0) (c .if1 .left) in omega (arith, pre .1 .queueLong)
+    let room′ : args .tail < 1792 = room (args .node) (now (args .marks)) (now (args .queue)) (args .tail) (pre .1) (pre .0) (c .if1 .left)
+    in omega (arith, pre .1 .queueLong)
 
 add-result : tie.Need-add-result
 add-result c =
     let args = c .before .before .args in
     let pre = c .before .before .pre in
-    let room′ : args .tail < 1792 = room (args .node) (now (args .marks)) (now (args .queue)) (args .tail) (pre .1) (pre .0) (c .if1 .left) in omega arith
+    let room′ : args .tail < 1792 = room (args .node) (now (args .marks)) (now (args .queue)) (args .tail) (pre .1) (pre .0) (c .if1 .left)
+    in omega arith
 
 returns-2 : tie.Need-returns-2
 returns-2 c =
