@@ -5,21 +5,20 @@ use mathlib.Core.Bool.{Bool, true, false}
 use mathlib.Core.Option.{Option, none, some}
 use mathlib.Core.List.{List, _++_, List·Memᴰ, Memᴰ·append-left, Memᴰ·append-right, List·Memᴰ·append-cases}
 use mathlib.Core.Logic.{_⊎_, inl, inr}
-use Prim.Native.Nat.{ℕ, suc, _+_, _*_, _-_, _<_, _≤_, _/_, _%_}
+use Prim.Native.Nat.{ℕ, _+_, _*_, _-_, _<_, _≤_, _/_, _%_}
 use native.Mathlib.Nat.{add-zero}
 use native.Mathlib.Omega.{arith}
 use lib.ListN.{getD}
-use lib.Dec.{eqb, ltb}
+use lib.Dec.{ltb}
 use borrow.Author.Tests.{ltb-true, ltb-false}
 use Rattle.definition.specs.Lists.{rows, all}
 use Rattle.definition.specs.Requests.{Request, at, Edge, has, leads, reach}
-use Rattle.definition.specs.Superclasses.{below}
 use Rattle.definition.specs.Classes.{Entry, find}
-use Rattle.definition.specs.Constraints.{Tie, Subtype, tieEdges, subtypeEdges, pairAgrees, rowAgrees, agreesOver}
+use Rattle.definition.specs.Constraints.{Subtype, tieEdges, subtypeEdges, pairAgrees, rowAgrees, agreesOver}
 use Rattle.definition.specs.Tables.{entryAt, tieAt, subtypeAt}
 use Rattle.constraints.specs.Nodes.{requestOf, requestIn, AllNumbered, First, NodesOf, ClassesOf, startOf, endOf, linkOf, linksFrom, leadsFrom, pairIs, pairOn, agreeOn}
 use Rattle.constraints.specs.Search.{Small}
-use Rattle.constraints.proofs.Rows.{Place, in-rows, rows-in, all-same}
+use Rattle.constraints.proofs.Rows.{in-rows, rows-in, all-same}
 use Rattle.constraints.proofs.Renaming.{Carried, leads-same}
 use Rattle.constraints.proofs.Edges.{edge, edge-at, forward, turned, upward, forward-in, turned-in, upward-in, OfTie, of-tie, OfSubtype, of-subtype, find-at}
 

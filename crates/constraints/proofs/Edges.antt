@@ -1,15 +1,15 @@
 -- The edges of ties and of subtype constraints, and the row that a request is found in.
-use mathlib.Core.Path.{_≡_, refl, sym, ap, _∙_}
-use mathlib.Core.Bool.{Bool, true, false, false≢true}
-use mathlib.Core.Option.{Option, none, some}
-use mathlib.Core.List.{List, [], _∷_, _++_, List·Memᴰ, List·Memᴰ·head, List·Memᴰ·tail, List·Memᴰ·not-nil}
+use mathlib.Core.Path.{_≡_, refl, ap}
+use mathlib.Core.Bool.{Bool, true, false}
+use mathlib.Core.Option.{some}
+use mathlib.Core.List.{List, [], _∷_, List·Memᴰ, List·Memᴰ·head, List·Memᴰ·tail, List·Memᴰ·not-nil}
 use mathlib.Core.Logic.{_⊎_, inl, inr}
 use Prim.Native.Nat.{ℕ, zero, suc, _+_, _<_, _≤_}
 use native.Mathlib.Nat.{eq-or-lt-of-le}
 use native.Mathlib.Omega.{arith}
 use Rattle.definition.specs.Lists.{rows}
 use Rattle.definition.specs.Requests.{Request, at, Edge, sameRequest}
-use Rattle.definition.specs.Classes.{Entry, find}
+use Rattle.definition.specs.Classes.{find}
 use Rattle.definition.specs.Constraints.{Tie, Subtype, tieEdges, subtypeEdges}
 use Rattle.definition.specs.Tables.{entryAt}
 use Rattle.laws.specs.Chains.{same-eq, same-refl}

@@ -1,18 +1,17 @@
 -- Posting: when a constraint is there already, and what is written where one is added.
-use mathlib.Core.Path.{_≡_, refl, sym, ap, _∙_}
+use mathlib.Core.Path.{_≡_, refl}
 use mathlib.Core.Bool.{Bool, true, false, _&&_, _||_}
 use mathlib.Core.List.{List, [], _∷_, _++_}
-use Prim.Native.Nat.{ℕ, zero, suc, _+_, _*_, _-_, _<_, _≤_}
-use native.Mathlib.Nat.{add-zero}
+use Prim.Native.Nat.{ℕ, _+_, _*_}
 use native.Mathlib.Omega.{arith}
-use lib.ListN.{length, getD, set}
+use lib.ListN.{length, getD}
 use lib.Dec.{eqb}
 use borrow.Author.Tests.{eq-eqb, ne-eqb}
 use Rattle.definition.specs.Lists.{any, rows, writeRows}
 use Rattle.definition.specs.Constraints.{Tie, Subtype, tieIs, newTie}
 use Rattle.definition.specs.Loading.{subtypeIs, subtypeOf, newSubtypes}
 use Rattle.definition.specs.Verifier.{Note}
-use Rattle.definition.specs.Tables.{tie, subtype, tieAt, putTie, subtypeAt, putSubtype, putThree}
+use Rattle.definition.specs.Tables.{tie, tieAt, putTie, subtypeAt, putSubtype, putThree}
 use Rattle.constraints.specs.Posting.{newTieIn, note, newSubtypesIn, tiesAfter, subtypesAfter}
 
 -- A row is the constraint

@@ -1,6 +1,6 @@
 -- Chains carried from one naming of places to another: where the names of one are equal only if those of the other are, and each edge has
 -- its counterpart, what a place leads to is the same under both.
-use mathlib.Core.Path.{_≡_, refl, sym, ap, _∙_}
+use mathlib.Core.Path.{_≡_, refl, sym, _∙_}
 use mathlib.Core.Bool.{Bool, true, false}
 use mathlib.Core.List.{List, List·Memᴰ}
 use Prim.Native.Nat.{ℕ, _<_}

@@ -1,7 +1,7 @@
 -- The search: a node is marked and queued once; the links that start at a node are visited one after the other; and once each queued node's
 -- links were visited, the marks hold the start, hold only what it leads to and are closed, so they decide what it leads to.
 use mathlib.Core.Path.{_≡_, refl, sym, ap, _∙_}
-use mathlib.Core.Bool.{Bool, true, false, false≢true}
+use mathlib.Core.Bool.{Bool, true, false}
 use mathlib.Core.Option.{Option}
 use mathlib.Core.List.{List, [], _∷_, List·Memᴰ}
 use mathlib.Core.Logic.{_⊎_, inl, inr}
@@ -16,7 +16,7 @@ use Rattle.definition.specs.Requests.{Request, at, Edge, Chain, stay, hop, lead
 use Rattle.laws.specs.Chains.{leads-chain, chain-leads}
 use Rattle.constraints.specs.Nodes.{startOf, endOf, linkOf, linksFrom, leadsFrom, pairMarked, pairOn}
 use Rattle.constraints.specs.Search.{Last, marked, Marked, Queued, Grown, Visited, Link, Expanded, Searched}
-use Rattle.constraints.proofs.Rows.{Place, in-rows, rows-in}
+use Rattle.constraints.proofs.Rows.{in-rows, rows-in}
 use Rattle.constraints.proofs.Renaming.{same-truth}
 use Rattle.constraints.proofs.Edges.{edge, edge-at}
 

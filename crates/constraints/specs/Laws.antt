@@ -1,15 +1,15 @@
 -- Laws for callers: agreement of tables as agreement of a store's rows, and what posting leaves.
-use mathlib.Core.Path.{_≡_, refl, sym, ap, _∙_}
-use mathlib.Core.Bool.{Bool, true, false, _&&_, _||_}
+use mathlib.Core.Path.{_≡_, refl, ap}
+use mathlib.Core.Bool.{Bool, true, false, _||_}
 use mathlib.Core.Option.{Option}
 use mathlib.Core.List.{List, [], _∷_, _++_}
 use Prim.Native.Nat.{ℕ, _+_, _*_, _-_, _<_, _≤_}
 use native.Mathlib.Omega.{arith}
-use lib.ListN.{length, take}
+use lib.ListN.{length}
 use lib.Seq.{take-all}
-use lib.Dec.{eqb, leb}
+use lib.Dec.{eqb}
 use borrow.Author.Tests.{le-leb, lt-leb}
-use Rattle.definition.specs.Lists.{any, rows, writeRows}
+use Rattle.definition.specs.Lists.{any, rows}
 use Rattle.definition.specs.Classes.{Entry, superOf}
 use Rattle.definition.specs.Constraints.{Tie, Subtype, World, tieEdges, subtypeEdges, edges, agreesOver, agrees, tieIs, newTie}
 use Rattle.definition.specs.Tables.{entryAt, tieAt, subtypeAt}

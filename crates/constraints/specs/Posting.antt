@@ -1,6 +1,6 @@
 -- What posting writes: the new rows behind those that a table has, and the new count.
 use mathlib.Core.Bool.{Bool, true, false, _&&_}
-use mathlib.Core.List.{List, [], _∷_}
+use mathlib.Core.List.{List}
 use Prim.Native.Nat.{ℕ, _+_, _*_, _-_}
 use lib.ListN.{length, getD, take}
 use lib.Dec.{leb}

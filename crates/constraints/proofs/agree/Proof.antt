@@ -1,5 +1,5 @@
 -- The tables as nodes and links agree exactly if their rows do.
-use Prim.Native.Nat.{ℕ, _+_, _-_}
+use Prim.Native.Nat.{ℕ, _+_}
 use mathlib.Core.List.{List}
 use mathlib.Core.Path.{_∙_}
 use native.Mathlib.Omega.{arith}

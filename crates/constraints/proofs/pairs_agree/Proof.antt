@@ -1,6 +1,6 @@
 -- The pairs that were passed agree, so what is left of the test is the whole of it; a pair that does not agree decides it.
 use Prim.Native.Nat.{_-_, _≤_}
-use mathlib.Core.Bool.{true, false}
+use mathlib.Core.Bool.{true}
 use mathlib.Core.Path.{_≡_, refl, sym, _∙_}
 use native.Mathlib.Omega.{arith}
 use denote.Ref.{now}

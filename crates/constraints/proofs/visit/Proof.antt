@@ -1,5 +1,5 @@
 -- A node that is not marked yet has room in the queue, since no more nodes are queued than are marked.
-use Prim.Native.Nat.{_-_, _<_}
+use Prim.Native.Nat.{_<_}
 use native.Mathlib.Omega.{arith}
 use denote.Ref.{now}
 use borrow.Author.Needs.{needs}
