@@ -1,6 +1,9 @@
 //! Damaged stores: good ones with cells, counts, rows, files or lengths changed.
 
-use super::list::list;
+use super::blueprint::Blueprint;
+use super::build::Draft;
+use super::cases;
+use super::list::busy_list;
 use super::rng::Rng;
 use super::Call;
 use crate::store::{cell, count, frame_base, Store, FRAME_ROW, LIMITS, OBJECT_ROW, ROW};
@@ -14,8 +17,7 @@ const KINDS: [fn(&mut Rng, &mut Store); 16] = [
 /// A store from a boot with some damage, from one change to three.
 pub fn damaged(seed: u64) -> Store {
     let mut rng = Rng::new(seed ^ 0x64_61_6D_61);
-    let calls = rng.within(20, 90);
-    let mut store = list(seed, calls).store;
+    let mut store = good(seed, &mut rng);
     for _ in 0..rng.pick(&[1, 1, 2, 3]) {
         let kind = rng.below(KINDS.len());
         KINDS[kind](&mut rng, &mut store);
@@ -23,27 +25,44 @@ pub fn damaged(seed: u64) -> Store {
     store
 }
 
-/// One call of each kind to try on a store, with arguments that mostly make sense there.
+/// A store from a boot, mostly with frames.
+fn good(seed: u64, rng: &mut Rng) -> Store {
+    if rng.percent(80) {
+        return busy_list(seed, rng.within(20, 90)).store;
+    }
+    let code = [cases::reader(), cases::caller(), cases::null_reader()][rng.below(3)].clone();
+    let mut trial = cases::across(&code, rng.percent(50), rng.percent(50));
+    (0..rng.below(3)).for_each(|_| drop(trial.step()));
+    trial.store
+}
+
+/// Calls of each kind to try on a store, with arguments that mostly make sense there.
 pub fn probes(seed: u64, store: &Store) -> Vec<Call> {
     let mut rng = Rng::new(seed ^ 0x70_72_6F_62);
-    let mut name = || rng.within(2, 16) as u16;
-    let (first, second) = (name(), name());
-    let loader = rng.below(5) as u16;
-    let class = rng.below(6) as u16;
-    let blueprint = super::blueprint::Blueprint::new(&mut rng);
-    let own_name = store.classes.get(usize::from(class) * ROW + 2).filter(|&&size| size > 0).map(|_| class);
-    let same = own_name.filter(|_| !crate::broken(store)).filter(|&class| class < store.counts[0]);
-    let recorded = same.map_or(first, |class| store.name_of(class));
+    let blueprint = Blueprint::new(&mut rng);
+    let draft = blueprint.draft(&mut rng, 10 + seed as u16 % 7);
+    let [loader, name, class] = some_entry(&mut rng, store);
+    let other = rng.below(5) as u16;
+    let int = rng.next() as u32;
     vec![
         Call::Boot,
-        Call::Define { loader, file: blueprint.draft(&mut rng, second.max(10)).file() },
-        Call::Define { loader, file: super::build::Draft::new(rng.within(2, 30) as u16).file() },
-        Call::Record { loader, name: recorded, class },
-        Call::Start { task: rng.below(2) as u16, loader, name: first, method: 20, int: rng.next() as u32 },
+        Call::Define { loader: other, file: draft.file() },
+        Call::Define { loader, file: Draft::new(rng.within(2, 30) as u16).file() },
+        Call::Record { loader: other, name, class },
+        Call::Record { loader: rng.below(17) as u16, name: rng.below(16) as u16, class: rng.below(9) as u16 },
+        Call::Start { task: rng.below(2) as u16, loader, name, method: 20, int },
+        Call::Start { task: rng.below(3) as u16, loader: other, name: rng.below(16) as u16, method: 20, int },
         Call::Step,
-        Call::Run { n: rng.within(1, 40) as u16 },
-        Call::Drop { task: rng.below(2) as u16 },
+        Call::Run { n: rng.within(0, 40) as u16 },
+        Call::Drop { task: rng.below(3) as u16 },
     ]
+}
+
+/// Some row of the cache, used or not.
+fn some_entry(rng: &mut Rng, store: &Store) -> [u16; 3] {
+    let used = store.counts.get(count::CACHE).map_or(0, |&n| usize::from(n)).min(store.cache.len() / ROW);
+    let at = rng.below(used.max(1)) * ROW;
+    store.cache.get(at..at + ROW).map_or([1, 2, 0], |row| [row[0], row[1], row[2]])
 }
 
 /// A number that is small, near an edge, or anything.

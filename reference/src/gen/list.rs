@@ -8,14 +8,18 @@ use crate::store::{count, OBJECT};
 
 /// Makes a list of so many calls, or a few more.
 pub fn list(seed: u64, calls: usize) -> Trial {
-    let mut rng = Rng::new(seed);
-    let blueprint = Blueprint::new(&mut rng);
-    let loaders = if rng.percent(10) { 16 } else { rng.within(2, 5) as u16 };
-    let mut lister = Lister { rng, blueprint, loaders, trial: Trial::booted() };
-    if lister.rng.percent(80) {
-        (0..loaders).for_each(|loader| lister.load_object(loader));
-    }
+    let mut lister = Lister::new(seed);
     while lister.trial.calls.len() < calls {
+        lister.next();
+    }
+    lister.trial
+}
+
+/// The same, but goes on until some task has a frame, within reason.
+pub fn busy_list(seed: u64, calls: usize) -> Trial {
+    let mut lister = Lister::new(seed);
+    let busy = |trial: &Trial| trial.store.turn().is_some() || trial.calls.len() > calls + 60;
+    while lister.trial.calls.len() < calls || !busy(&lister.trial) {
         lister.next();
     }
     lister.trial
@@ -29,8 +33,21 @@ struct Lister {
 }
 
 impl Lister {
+    fn new(seed: u64) -> Lister {
+        let mut rng = Rng::new(seed);
+        let blueprint = Blueprint::new(&mut rng);
+        let loaders = if rng.percent(10) { 16 } else { rng.within(2, 5) as u16 };
+        let mut lister = Lister { rng, blueprint, loaders, trial: Trial::booted() };
+        if lister.rng.percent(80) {
+            (0..loaders).for_each(|loader| lister.load_object(loader));
+        }
+        lister
+    }
+
     fn next(&mut self) {
-        match self.rng.weighted(&[6, 2, 8, 24, 12, 2, 3]) {
+        let idle = self.trial.store.turn().is_none();
+        let weights = if idle { [6, 2, 24, 2, 1, 1, 3] } else { [5, 2, 3, 26, 14, 1, 3] };
+        match self.rng.weighted(&weights) {
             0 => self.load_something(),
             1 => self.record_something(),
             2 => self.start(),
