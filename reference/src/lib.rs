@@ -10,7 +10,6 @@ pub mod classes;
 pub mod code;
 pub mod file;
 pub mod gen;
-#[cfg(feature = "host")]
 pub mod host;
 pub mod load;
 pub mod placed;

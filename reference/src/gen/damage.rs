@@ -32,7 +32,9 @@ fn good(seed: u64, rng: &mut Rng) -> Store {
     }
     let code = [cases::reader(), cases::caller(), cases::null_reader()][rng.below(3)].clone();
     let mut trial = cases::across(&code, rng.percent(50), rng.percent(50));
-    (0..rng.below(3)).for_each(|_| drop(trial.step()));
+    for _ in 0..rng.below(3) {
+        trial.step();
+    }
     trial.store
 }
 
