@@ -8,6 +8,7 @@ pub mod files;
 pub mod limits;
 pub mod list;
 pub mod rng;
+pub mod scripts;
 pub mod stuck;
 pub mod walk;
 
