@@ -1,32 +1,13 @@
 //! Word 1, condition by condition, and what isn't broken though it is damaged.
 
 use reference::broken;
-use reference::gen::build::{Code, Draft};
-use reference::gen::cases::MAIN;
-use reference::gen::Trial;
+use reference::gen::build::Draft;
+use reference::gen::cases::whole;
 use reference::store::{Store, INT, LIMITS};
-
-/// Two loaders, a class below another with fields, objects, frames of both tasks, a tie and a subtype row.
-fn whole() -> Store {
-    let mut trial = Trial::ready([1, 2]);
-    let call = Code::new().object(11).aload(0).invoke(10, 21, 10, 10).pop().iload(1).ireturn();
-    let callee = Code::new().aload(1).getfield(10, 31, 10).areturn();
-    let ten = Draft::new(10).field(30, INT).field(31, 10).main(MAIN, &call).method(21, 10, 10, &callee);
-    trial.define(1, &ten);
-    trial.record(2, 10, 1);
-    trial.define(1, &Draft::new(11).under(10).field(32, 11));
-    trial.define(2, &Draft::new(11).under(10).method(21, 10, 10, &callee));
-    trial.start(0, 1, 10, MAIN, 1);
-    trial.start(1, 2, 11, MAIN, 2);
-    trial.run(4);
-    let counts = trial.store.counts.clone();
-    assert_eq!(counts[..1], [4]);
-    assert_eq!(counts[2..], [7, 1, 1, 3, 2, 1]);
-    trial.store
-}
 
 fn check(expected: bool, what: &str, change: impl FnOnce(&mut Store)) {
     let mut store = whole();
+    assert_eq!(store.counts[2..], [7, 1, 1, 3, 2, 1]);
     assert!(!broken(&store), "the store is whole");
     change(&mut store);
     assert_eq!(broken(&store), expected, "{what}");

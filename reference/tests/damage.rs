@@ -1,8 +1,10 @@
 //! Damaged stores: no call panics, a refused call changes nothing, and the words that only damage brings.
 
 use reference::answer::{Answer, Reply};
+use reference::gen::cases::whole;
 use reference::gen::damage::{damaged, probes};
 use reference::gen::stuck::stuck;
+use reference::gen::sweep::sweep;
 use reference::gen::Call;
 use reference::store::{Store, LENGTHS};
 use reference::tally::Tally;
@@ -74,6 +76,19 @@ fn damaged_stores() {
         assert!(missing.is_empty(), "{call}: not given on damaged stores: {missing:?}");
     }
     assert!(tally.run_ends[14] > 0 && whole > 1_000 && misplacing > 100);
+}
+
+#[test]
+fn one_cell_at_a_time() {
+    let mut tally = Tally::default();
+    let calls = [Call::Step, Call::Record { loader: 3, name: 11, class: 2 }];
+    sweep(&whole(), |store, label| {
+        for call in &calls {
+            try_call(store, call, label, &mut tally);
+        }
+    });
+    println!("a sweep\n{tally}");
+    assert!(tally.words[4][0] > 1_000 && tally.words[4][1] > 1_000 && tally.words[4][14] > 20);
 }
 
 #[test]

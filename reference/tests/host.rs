@@ -10,6 +10,7 @@ use reference::gen::limits::LIMITS;
 use reference::gen::list::list;
 use reference::gen::rng::Rng;
 use reference::gen::stuck::stuck;
+use reference::gen::sweep::sweep;
 use reference::gen::{cases, Call, Trial};
 use reference::{host, Store};
 
@@ -79,6 +80,15 @@ fn damage() {
             }
         }
     }
+}
+
+#[test]
+fn one_cell_at_a_time() {
+    let record = Call::Record { loader: 3, name: 11, class: 2 };
+    sweep(&cases::whole(), |store, label| {
+        compare(store, &Call::Step, label);
+        compare(store, &record, label);
+    });
 }
 
 #[test]

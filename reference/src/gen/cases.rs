@@ -3,7 +3,7 @@
 use super::build::{Code, Draft};
 use super::Trial;
 use crate::answer::Reply;
-use crate::store::INT;
+use crate::store::{Store, INT};
 
 pub const MAIN: u16 = 20;
 
@@ -89,6 +89,23 @@ pub fn caller() -> Code {
 /// The receiver is null.
 pub fn null_reader() -> Code {
     Code::new().null().getfield(11, 30, 12).pop().iload(1).ireturn()
+}
+
+/// A store with all kinds of rows in use: two loaders, four classes with fields and methods, three objects, frames
+/// of both tasks, one of which waits, a tie and a subtype constraint.
+pub fn whole() -> Store {
+    let mut trial = Trial::ready([1, 2]);
+    let call = Code::new().object(11).aload(0).invoke(10, 21, 10, 10).pop().iload(1).ireturn();
+    let callee = Code::new().aload(1).getfield(10, 31, 10).areturn();
+    let ten = Draft::new(10).field(30, INT).field(31, 10).main(MAIN, &call).method(21, 10, 10, &callee);
+    trial.define(1, &ten);
+    trial.record(2, 10, 1);
+    trial.define(1, &Draft::new(11).under(10).field(32, 11));
+    trial.define(2, &Draft::new(11).under(10).method(21, 10, 10, &callee));
+    trial.start(0, 1, 10, MAIN, 1);
+    trial.start(1, 2, 11, MAIN, 2);
+    trial.run(4);
+    trial.store
 }
 
 /// Every list here, run to its end.

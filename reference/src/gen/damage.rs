@@ -305,7 +305,7 @@ fn top_frame(rng: &mut Rng, store: &mut Store) {
     }
 }
 
-/// An operand count that isn't the verifier's; the operands are filled with ints or nulls.
+/// An operand count that isn't the verifier's; the operands are ints or nulls, but for one at times.
 fn operand_count(rng: &mut Rng, store: &mut Store) {
     let (kind, count) = (rng.pick(&[1, 2]), rng.pick(&[0, 1, 2, 15, 16, 16, 17]));
     let Some(frame) = top(store) else {
@@ -315,6 +315,10 @@ fn operand_count(rng: &mut Rng, store: &mut Store) {
     for operand in 0..16 {
         let at = cell::OPERAND_0 + 2 * operand;
         frame[at..at + 2].copy_from_slice(&[kind, 0]);
+    }
+    if rng.percent(30) {
+        let at = cell::OPERAND_0 + 2 * rng.below(16);
+        frame[at..at + 2].copy_from_slice(&rng.pick(&[[0, 0], [2, 1], [3, 999], [4, 0], [3, 0]]));
     }
 }
 

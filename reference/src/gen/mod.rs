@@ -10,6 +10,7 @@ pub mod list;
 pub mod rng;
 pub mod scripts;
 pub mod stuck;
+pub mod sweep;
 pub mod walk;
 
 use crate::answer::Reply;
