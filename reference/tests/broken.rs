@@ -15,12 +15,12 @@ fn check(expected: bool, what: &str, change: impl FnOnce(&mut Store)) {
 
 #[test]
 fn lengths() {
-    check(true, "counts short", |s| drop(s.counts.pop()));
+    check(true, "counts short", |s| s.counts.truncate(s.counts.len() - 1));
     check(true, "classes long", |s| s.classes.push(0));
     check(true, "kept empty", |s| s.kept.clear());
-    check(true, "cache short", |s| drop(s.cache.pop()));
+    check(true, "cache short", |s| s.cache.truncate(s.cache.len() - 1));
     check(true, "ties long", |s| s.ties.push(0));
-    check(true, "subtypes short", |s| drop(s.subtypes.pop()));
+    check(true, "subtypes short", |s| s.subtypes.truncate(s.subtypes.len() - 1));
     check(true, "objects long", |s| s.objects.push(0));
     check(true, "frames empty", |s| s.frames.clear());
 }

@@ -2,6 +2,7 @@
 
 use reference::check;
 use reference::gen::build::{Code, Draft};
+use reference::gen::codes::{rejected, taken};
 use reference::gen::files::{edge, file, of_length};
 use reference::gen::rng::Rng;
 use reference::gen::Trial;
@@ -92,63 +93,18 @@ fn lengths() {
     assert_eq!(check(&longer), 2);
 }
 
-/// A method of class 10 from `argument` to `result` with this code.
-fn verified(argument: u16, result: u16, code: Code) -> u8 {
-    check(&Draft::new(10).method(20, argument, result, &code).file())
-}
-
-fn main(code: Code) -> u8 {
-    verified(INT, INT, code)
-}
-
 #[test]
 fn the_verifier_rejects() {
-    let c = Code::new;
-    for opcode in (0..=255u8).filter(|opcode| !reference::code::op::ALL.contains(opcode)) {
-        assert_eq!(main(c().plain(opcode).end(INT)), 6, "opcode {opcode:02X}");
+    for (at, draft) in rejected().into_iter().enumerate() {
+        assert_eq!(check(&draft.file()), 6, "case {at}: {:02X?}", draft.methods);
     }
-    let rejected = [
-        c().iload(2).ireturn(), c().aload(2).pop().end(INT), c().iload(0).ireturn(), c().aload(1).pop().end(INT),
-        c().iload(8).ireturn(), c().int(0).istore(8).end(INT), c().null().astore(8).end(INT), c().aload(8).pop().end(INT),
-        c().ireturn(), c().pop().end(INT), c().dup().end(INT), c().int(0).iadd().ireturn(), c().int(0).isub().ireturn(),
-        c().int(0).null().iadd().ireturn(), c().null().int(0).iadd().ireturn(), c().null().istore(2).end(INT),
-        c().int(0).astore(2).end(INT), c().null().ireturn(), c().null().areturn(), c().int(0).areturn(),
-        c().int(0), c().int(0).ireturn().ireturn(), c().int(0).ireturn().pop(), c().int(0).pop(),
-        c().int(0).getfield(10, 30, INT).ireturn(), c().null().getfield(10, 30, 11).ireturn(),
-        c().null().null().putfield(10, 30, INT).end(INT), c().null().int(0).putfield(10, 30, 11).end(INT),
-        c().int(0).null().putfield(10, 30, 11).end(INT), c().null().putfield(10, 30, 11).end(INT),
-        c().null().null().invoke(10, 20, INT, INT).ireturn(), c().null().int(0).invoke(10, 20, 11, INT).ireturn(),
-        c().int(0).int(0).invoke(10, 20, INT, INT).ireturn(), c().null().int(0).invoke(10, 20, INT, 11).ireturn(),
-        c().object(0).pop().end(INT), c().object(1).pop().end(INT), c().null().getfield(1, 30, INT).ireturn(),
-        c().null().getfield(0, 30, INT).ireturn(), c().null().getfield(10, 0, INT).ireturn(),
-        c().null().getfield(10, 30, 0).pop().end(INT), c().null().null().putfield(10, 30, 0).end(INT),
-        c().null().int(0).invoke(10, 0, INT, INT).ireturn(), c().null().null().invoke(10, 20, 0, INT).ireturn(),
-        c().null().int(0).invoke(10, 20, INT, 0).pop().end(INT), c().null().int(0).invoke(1, 20, INT, INT).ireturn(),
-    ];
-    for (at, code) in rejected.into_iter().enumerate() {
-        assert_eq!(main(code.clone()), 6, "case {at}: {:02X?}", code.bytes);
-    }
-    assert_eq!(verified(INT, 11, c().end(INT)), 6);
-    assert_eq!(verified(11, INT, c().iload(1).ireturn()), 6);
-    assert_eq!(main((0..16).fold(c(), |code, _| code.null()).end(INT)), 6);
 }
 
 #[test]
 fn the_verifier_takes() {
-    let c = Code::new;
-    let taken = [
-        c().null().astore(2).aload(2).getfield(10, 1, INT).ireturn(),
-        c().null().int(0).invoke(2, 1, INT, 2).pop().end(INT),
-        c().null().null().null().end(INT),
-        c().int(3).istore(0).iload(0).ireturn(),
-        c().aload(0).astore(7).aload(7).null().putfield(11, 30, 2).end(INT),
-        (0..15).fold(c(), |code, _| code.null()).end(INT),
-        c().null().dup().putfield(10, 30, 10).end(INT),
-    ];
-    for (at, code) in taken.into_iter().enumerate() {
-        assert_eq!(main(code.clone()), 0, "case {at}: {:02X?}", code.bytes);
+    for (at, draft) in taken().into_iter().enumerate() {
+        assert_eq!(check(&draft.file()), 0, "case {at}: {:02X?}", draft.methods);
     }
-    assert_eq!(verified(11, 12, c().aload(1).areturn()), 0);
 }
 
 #[test]

@@ -4,6 +4,7 @@
 
 #![cfg(feature = "host")]
 
+use reference::gen::codes::{rejected, taken};
 use reference::gen::damage::{damaged, probes};
 use reference::gen::files::file;
 use reference::gen::limits::LIMITS;
@@ -104,5 +105,10 @@ fn files() {
     for seed in 0..50 * seeds() {
         let bytes = file(seed);
         assert_eq!(host::check(&bytes), reference::check(&bytes), "file {seed}: {bytes:02X?}");
+    }
+    for draft in rejected().iter().chain(&taken()) {
+        let bytes = draft.file();
+        assert_eq!(host::check(&bytes), reference::check(&bytes), "{:02X?}", draft.methods);
+        compare(&cases::whole(), &Call::Define { loader: 1, file: bytes }, "a method");
     }
 }

@@ -1,7 +1,7 @@
 //! The first word that applies, and places of document 01 that were read one way.
 
 use reference::gen::build::{Code, Draft};
-use reference::gen::cases::{across, caller, f, null_reader, reader, ready, subtype, tie, MAIN};
+use reference::gen::cases::{across, caller, f, null_reader, override_apart, overriding, reader, ready, subtype, tie, MAIN};
 use reference::gen::{Call, Trial};
 use reference::store::{count, Store, INT, LIMITS};
 use reference::{Answer, Refusal, Reply};
@@ -172,16 +172,14 @@ fn a_store_that_disagrees_is_no_clash_until_a_row_is_added() {
 
 #[test]
 fn overriding_writes_its_own_loader_first() {
-    let mut trial = ready();
-    let method = |draft: Draft| draft.method(21, 12, 13, &Code::new().end(13)).method(22, 13, 14, &Code::new().end(14));
-    trial.define(1, &method(Draft::new(10)));
-    trial.record(2, 10, 1);
-    trial.define(2, &method(Draft::new(11)).under(10));
-    assert_eq!(trial.store.tie_rows().collect::<Vec<_>>(), [[2, 1, 12], [2, 1, 13], [2, 1, 14]]);
-    // The nearest class above is loader 2's: no ties with loader 1, and with 2 only what is new.
-    trial.record(3, 11, 2);
-    trial.define(3, &Draft::new(15).under(11).method(21, 12, 13, &Code::new().end(13)));
-    assert_eq!(trial.store.tie_rows().skip(3).collect::<Vec<_>>(), [[3, 2, 12], [3, 2, 13]]);
+    let rows: Vec<[u16; 3]> = overriding().store.tie_rows().collect();
+    // For loader 3 the nearest class is loader 2's: there are no ties with loader 1.
+    assert_eq!(rows, [[2, 1, 12], [2, 1, 13], [2, 1, 14], [3, 2, 12], [3, 2, 13]]);
+}
+
+#[test]
+fn overriding_apart_clashes() {
+    assert_eq!(override_apart().replies[8], word(9));
 }
 
 #[test]

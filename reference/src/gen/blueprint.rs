@@ -41,15 +41,16 @@ impl Blueprint {
     fn sketch(&self, rng: &mut Rng, name: u16, names: &[u16]) -> Sketch {
         let superclass = match self.sketches.len() {
             0 => OBJECT,
-            _ if rng.percent(35) => OBJECT,
+            _ if rng.percent(25) => OBJECT,
             lower => self.sketches[rng.below(lower)].name,
         };
         let first = FIELD + 4 * (name - FIRST);
         let fields = (0..rng.within(0, 3) as u16).map(|i| (first + i, random_type(rng, names))).collect();
         let mut methods = vec![(MAIN, INT, INT)];
-        for _ in 0..rng.within(0, 3) {
-            let method = match self.find(superclass) {
-                Some(up) if rng.percent(50) => rng.pick(&up.methods),
+        let inherited: Vec<_> = self.upward(superclass).iter().flat_map(|up| up.methods.clone()).collect();
+        for _ in 0..rng.within(0, 4) {
+            let method = match inherited.len() {
+                1.. if rng.percent(60) => rng.pick(&inherited),
                 _ => (MAIN + rng.below(3) as u16, random_type(rng, names), random_type(rng, names)),
             };
             if !methods.contains(&method) {

@@ -91,6 +91,37 @@ pub fn null_reader() -> Code {
     Code::new().null().getfield(11, 30, 12).pop().iload(1).ireturn()
 }
 
+/// Loaders 1, 2 and 3 each override the method of the one before.
+pub fn overriding() -> Trial {
+    let mut trial = ready();
+    let end = |result: u16| Code::new().end(result);
+    let method = |draft: Draft| draft.method(21, 12, 13, &end(13)).method(22, 13, 14, &end(14));
+    trial.define(1, &method(Draft::new(10)));
+    trial.record(2, 10, 1);
+    trial.define(2, &method(Draft::new(11)).under(10));
+    trial.record(3, 11, 2);
+    trial.define(3, &Draft::new(15).under(11).method(21, 12, 13, &end(13)));
+    trial
+}
+
+/// Loader 2, with a 12 of its own, overrides a method of loader 1 that takes a 12. Were that accepted, loader 1
+/// could hand it a 12 of the other kind, as the calls after it try.
+pub fn override_apart() -> Trial {
+    let mut trial = ready();
+    let method = |draft: Draft| draft.method(21, 12, INT, &Code::new().end(INT));
+    trial.define(1, &Draft::new(12));
+    trial.define(1, &method(Draft::new(10)));
+    trial.define(2, &Draft::new(12));
+    trial.record(2, 10, 2);
+    trial.define(2, &method(Draft::new(11)).under(10));
+    trial.record(1, 11, 4);
+    let code = Code::new().object(11).object(12).invoke(10, 21, 12, INT).ireturn();
+    trial.define(1, &Draft::new(13).main(MAIN, &code));
+    trial.start(0, 1, 13, MAIN, 0);
+    trial.run(3);
+    trial
+}
+
 /// A store with all kinds of rows in use: two loaders, four classes with fields and methods, three objects, frames
 /// of both tasks, one of which waits, a tie and a subtype constraint.
 pub fn whole() -> Store {
@@ -110,7 +141,7 @@ pub fn whole() -> Store {
 
 /// Every list here, run to its end.
 pub fn cases() -> Vec<Trial> {
-    let mut all = vec![far_ends_of_ties(), subtype_then_tie()];
+    let mut all = vec![far_ends_of_ties(), subtype_then_tie(), overriding(), override_apart()];
     for code in [reader(), caller(), null_reader()] {
         for (first, second) in [(false, false), (false, true), (true, false), (true, true)] {
             let mut trial = across(&code, first, second);

@@ -36,7 +36,7 @@ impl Lister {
     fn new(seed: u64) -> Lister {
         let mut rng = Rng::new(seed);
         let blueprint = Blueprint::new(&mut rng);
-        let loaders = if rng.percent(10) { 16 } else { rng.within(2, 5) as u16 };
+        let loaders = rng.pick(&[2, 2, 2, 3, 3, 4, 5, 16]);
         let mut lister = Lister { rng, blueprint, loaders, trial: Trial::booted() };
         if lister.rng.percent(80) {
             (0..loaders).for_each(|loader| lister.load_object(loader));

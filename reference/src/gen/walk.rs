@@ -91,6 +91,7 @@ impl Walk<'_> {
         let lower = self.blueprint.downward(name);
         let meets = |of: Type| match of {
             Type::Class(stands) => stands == name || name == OBJECT || lower.contains(&stands),
+            Type::Null => true,
             _ => false,
         };
         let locals = self.locals_of(meets);
