@@ -85,8 +85,8 @@ fn amid_noise(seed: u64, trial: &Trial) {
     noisy.counts.iter_mut().chain(&mut noisy.classes).for_each(|cell| *cell = rng.word());
     noisy.cache.iter_mut().chain(&mut noisy.ties).for_each(|cell| *cell = rng.word());
     noisy.subtypes.iter_mut().for_each(|cell| *cell = rng.word());
-    noisy.kept.iter_mut().for_each(|cell| *cell = rng.next() as u8);
-    noisy.objects.iter_mut().chain(&mut noisy.frames).for_each(|cell| *cell = rng.next() as u32);
+    noisy.kept.iter_mut().for_each(|cell| *cell = rng.draw() as u8);
+    noisy.objects.iter_mut().chain(&mut noisy.frames).for_each(|cell| *cell = rng.draw() as u32);
     let noise = tables(&noisy);
     for (call, &reply) in trial.calls.iter().zip(&trial.replies) {
         assert_eq!(call.apply(&mut noisy), reply, "list {seed} amid noise");

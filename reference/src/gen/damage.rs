@@ -45,7 +45,7 @@ pub fn probes(seed: u64, store: &Store) -> Vec<Call> {
     let draft = blueprint.draft(&mut rng, 10 + seed as u16 % 7);
     let [loader, name, class] = some_entry(&mut rng, store);
     let other = rng.below(5) as u16;
-    let int = rng.next() as u32;
+    let int = rng.draw() as u32;
     vec![
         Call::Boot,
         Call::Define { loader: other, file: draft.file() },
@@ -70,7 +70,7 @@ fn some_entry(rng: &mut Rng, store: &Store) -> [u16; 3] {
 /// A number that is small, near an edge, or anything.
 fn number(rng: &mut Rng) -> u32 {
     match rng.below(5) {
-        0 => rng.next() as u32,
+        0 => rng.draw() as u32,
         1 => rng.pick(&[u32::MAX, 0x7FFF_FFFF, 0xFFFF, 0x1_0000, 255, 256, 257]),
         _ => rng.below(18) as u32,
     }
@@ -258,7 +258,7 @@ fn code_bytes(rng: &mut Rng, store: &mut Store) {
         };
         let at = rng.within(code.start, code.end - 1);
         store.kept[at] = match rng.below(4) {
-            0 => rng.next() as u8,
+            0 => rng.draw() as u8,
             1 => rng.below(16) as u8,
             _ => rng.pick(&crate::code::op::ALL),
         };
@@ -269,7 +269,7 @@ fn kept_byte(rng: &mut Rng, store: &mut Store) {
     let used = store.counts.get(count::KEPT).map_or(0, |&n| usize::from(n)).min(store.kept.len());
     if used > 0 {
         let at = rng.below(used);
-        store.kept[at] = rng.next() as u8;
+        store.kept[at] = rng.draw() as u8;
     }
 }
 
@@ -283,7 +283,7 @@ fn file_place(rng: &mut Rng, store: &mut Store) {
 }
 
 /// The cells of the top frame of the task at its turn.
-fn top<'a>(store: &'a mut Store) -> Option<&'a mut [u32]> {
+fn top(store: &mut Store) -> Option<&mut [u32]> {
     if !is_whole(store) {
         return None;
     }
@@ -325,7 +325,7 @@ fn operand_count(rng: &mut Rng, store: &mut Store) {
 /// A value of the top frame or of an object changed to another kind.
 fn a_value(rng: &mut Rng, store: &mut Store) {
     let objects = store.counts.get(count::OBJECTS).map_or(1, |&n| u32::from(n).max(1));
-    let object = rng.next() as u32 % objects;
+    let object = rng.draw() as u32 % objects;
     let pair = rng.pick(&[[0, 0], [1, 5], [2, 0], [3, object], [3, object], [3, objects], [2, 1], [4, 0], [0, 1]]);
     if rng.percent(40) && is_whole(store) {
         let at = Store::field_cell(object, rng.below(3));

@@ -34,11 +34,11 @@ fn mutated(rng: &mut Rng) -> Vec<u8> {
     for _ in 0..rng.within(1, 3) {
         let at = rng.below(bytes.len());
         match rng.below(6) {
-            0 => bytes[at] = rng.next() as u8,
+            0 => bytes[at] = rng.draw() as u8,
             1 => bytes[at] ^= 1 << rng.below(8),
             2 => bytes[at] = bytes[at].wrapping_add(1),
             3 => bytes[at] = 0,
-            4 => bytes.insert(at, rng.next() as u8),
+            4 => bytes.insert(at, rng.draw() as u8),
             _ => drop(bytes.remove(at)),
         }
         if bytes.len() < 4 {
@@ -94,7 +94,7 @@ pub fn edge(rng: &mut Rng) -> Vec<u8> {
 /// Code of exactly so many bytes, 5 or more, that returns an int.
 pub fn padded(length: usize) -> Code {
     let mut code = Code::new();
-    let ending = if length % 2 == 0 { 4 } else { 3 };
+    let ending = 4 - length % 2;
     while code.bytes.len() + ending < length {
         code = code.null().pop();
     }

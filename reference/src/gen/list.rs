@@ -126,7 +126,7 @@ impl Lister {
             (row[0], row[1])
         };
         let method = if self.rng.percent(95) { MAIN } else { MAIN + 7 };
-        let (task, int) = (self.task(), self.rng.next() as i32);
+        let (task, int) = (self.task(), self.rng.draw() as i32);
         if let Reply::Denied(Refusal::Wanted(loader, name)) = self.trial.start(task, loader, name, method, int) {
             self.load(u16::from(loader), name, 4);
         }
@@ -174,7 +174,7 @@ impl Lister {
         let call = match self.rng.below(12) {
             0 => Call::Boot,
             1 | 2 => Call::Record { loader: a, name: b, class: c },
-            3 | 4 => Call::Start { task: a % 3, loader: b, name: c, method: d, int: self.rng.next() as u32 },
+            3 | 4 => Call::Start { task: a % 3, loader: b, name: c, method: d, int: self.rng.draw() as u32 },
             5 => Call::Run { n: a % 2 },
             6 => Call::Drop { task: a },
             7..=9 => Call::Define { loader: a, file: self.some_file() },
@@ -184,6 +184,6 @@ impl Lister {
     }
 
     fn some_file(&mut self) -> Vec<u8> {
-        super::files::file(self.rng.next())
+        super::files::file(self.rng.draw())
     }
 }

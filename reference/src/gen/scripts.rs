@@ -58,7 +58,7 @@ fn odd_line(rng: &mut Rng, mut line: Vec<u8>) -> Vec<u8> {
     let at = rng.below(line.len());
     match rng.below(4) {
         0 => drop(line.remove(at)),
-        1 => line[at] = rng.next() as u8,
+        1 => line[at] = rng.draw() as u8,
         2 => line.insert(at, b' '),
         _ => line.push(rng.pick(b" 0\r-+A")),
     }

@@ -39,7 +39,7 @@ pub fn method(rng: &mut Rng, blueprint: &Blueprint, own: u16, argument: u16, res
 fn spoil(rng: &mut Rng, code: &mut Vec<u8>) {
     let at = rng.below(code.len());
     match rng.below(3) {
-        0 => code[at] = rng.next() as u8,
+        0 => code[at] = rng.draw() as u8,
         1 => code.truncate(at.max(1)),
         _ => code.insert(at, rng.pick(&op::ALL)),
     }
