@@ -114,15 +114,15 @@ impl fmt::Display for Tally {
     fn fmt(&self, f: &mut fmt::Formatter) -> fmt::Result {
         write!(f, "{:<14}", "")?;
         CALLS.iter().try_for_each(|name| write!(f, "{name:>9}"))?;
-        writeln!(f, "{:>9}", "run's end")?;
+        writeln!(f, "{:>11}", "run's end")?;
         for number in 0..15 {
             let name = if number == 0 { "accepted" } else { word::NAMES[number - 1] };
             write!(f, "{number:>2} {name:<11}")?;
             self.words.iter().try_for_each(|call| write!(f, "{:>9}", call[number]))?;
-            writeln!(f, "{:>9}", if number == 0 { 0 } else { self.run_ends[number] })?;
+            writeln!(f, "{:>11}", if number == 0 { 0 } else { self.run_ends[number] })?;
         }
         for (at, name) in [(IDLE, "idle"), (RAN, "ran"), (FINISHED, "finished")] {
-            writeln!(f, "   {name:<11}{:>45}{:>27}", self.steps[at], self.run_ends[at])?;
+            writeln!(f, "   {name:<11}{:>45}{:>29}", self.steps[at], self.run_ends[at])?;
         }
         for (opcode, name) in op::ALL.iter().zip(op::NAMES) {
             writeln!(f, "   {opcode:02X} {name:<14}{:>9}", self.opcodes[usize::from(*opcode)])?;
