@@ -194,7 +194,7 @@ pub data Call : Type 0 where
   callRun : ℕ → Call
   callDrop : ℕ → Call
 
--- the words that each call may refuse with, first that applies; a run's last answer may be any of a step's
+-- the words that each call may refuse with, in the order in which the definitions above test them; a run's last answer may be any of a step's
 unfoldable pub stepRefusals : List ℕ
 stepRefusals = 1 ∷ 14 ∷ 5 ∷ 7 ∷ 10 ∷ 9 ∷ 11 ∷ []
 

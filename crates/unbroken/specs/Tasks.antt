@@ -74,7 +74,7 @@ step-left w os f fs = then Left _ _ (λ n _. left w os f fs (n .theClass) (n .at
 -- On tables
 
 -- what holds of an accepted call's rows holds of what the tables then show
-shown : {A : Type 0} (deny : Refusal → A) (f : Rows → Result (Given A)) (P : A → Rows → Type 0) (t : Tables) → Keeps f → ((w : Refusal) → P (deny w) (view t))
+pub shown : {A : Type 0} (deny : Refusal → A) (f : Rows → Result (Given A)) (P : A → Rows → Type 0) (t : Tables) → Keeps f → ((w : Refusal) → P (deny w) (view t))
     → ((g : Given A) → f (view t) ≡ ok g → P (g .answer) (g .rows)) → P (wrap deny f t .answer) (view (wrap deny f t .tables))
 unfolding wrap
 shown {A} deny f P t k deny-holds ok-holds = go (broken t) refl
