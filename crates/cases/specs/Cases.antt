@@ -1,18 +1,18 @@
 -- P1 to P10: one table of calls and what the last of them answers, by number and values, and one statement.
-use mathlib.Core.Path.{_≡_, refl, sym, ap, _∙_}
+use mathlib.Core.Path.{_≡_}
 use mathlib.Core.Bool.{Bool, true, false, _&&_}
 use lib.Dec.{eqb}
-use mathlib.Core.Option.{Option, none, some, Option·none-ne-some, Option·some-injective}
+use mathlib.Core.Option.{some}
 use mathlib.Core.List.{List, [], _∷_, _++_, map}
-use Prim.Native.Nat.{ℕ, zero, suc}
-use lib.ListN.{length, getElem?}
-use lib.IntN.{ℤ, pos, negsuc}
+use Prim.Native.Nat.{ℕ}
+use lib.ListN.{getElem?}
+use lib.IntN.{pos, negsuc}
 use Rattle.definition.specs.declared.Reply.{Reply}
 use Rattle.definition.specs.Lists.{all}
 use Rattle.definition.specs.Answers.{Details, line, details, numberOf, endsIn}
 use Rattle.definition.specs.Constraints.{Tie, Subtype}
 use Rattle.definition.specs.Tables.{Tables, tie, subtype, view}
-use Rattle.definition.specs.Calls.{turn, boot, Call, callBoot, callDefine, callRecord, callStart, callStep, callRun, callDrop, perform, performAll}
+use Rattle.definition.specs.Calls.{turn, boot, Call, callDefine, callRecord, callStart, callStep, callRun, perform, performAll}
 use Rattle.definition.specs.Samples.{fileF, plain, coded, lifts, pushes, ready, tied12, tied123}
 
 -- case p: after a boot and the calls `before`, which are all accepted and leave these ties and subtype constraints, `last` answers `expect`, and

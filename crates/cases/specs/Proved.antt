@@ -1,14 +1,14 @@
 -- P1 to P10 hold from a boot of any tables that boot accepts, and so of zeros; and the paper's worked example answers as printed.
 use mathlib.Core.Path.{_≡_, refl, sym, ap, _∙_, subst}
-use mathlib.Core.Bool.{Bool, true, false, false≢true, not, _&&_, _||_}
-use mathlib.Core.Option.{Option, none, some, Option·none-ne-some, Option·some-injective}
-use mathlib.Core.List.{List, [], _∷_, _++_, map}
+use mathlib.Core.Bool.{Bool, true, false, false≢true}
+use mathlib.Core.Option.{some, Option·none-ne-some, Option·some-injective}
+use mathlib.Core.List.{List, [], _∷_, map}
 use Prim.Native.Nat.{ℕ, zero, suc}
 use native.Mathlib.Omega.{arith}
 use lib.ListN.{length, getElem?, replicate}
 use borrow.Author.Tests.{eqb-false}
 use Prim.Native.Nat.{_+_}
-use lib.IntN.{ℤ, pos, negsuc}
+use lib.IntN.{pos}
 use lib.Dec.{eqb}
 use Rattle.definition.specs.declared.Refusal.{Refusal}
 use Rattle.definition.specs.declared.Refusal.the-variants.{Word}
@@ -18,9 +18,9 @@ use Rattle.definition.specs.declared.Reply.the-variants.{Accepted, Defined, Ste
 use Rattle.definition.specs.declared.Answer.the-variants.{Idle, Ran, Finished, Refused}
 use mathlib.Core.Logic.{_⊎_, inl, inr}
 use Rattle.laws.specs.Refused.{refusal, refused-same}
-use Rattle.definition.specs.Answers.{endsIn, Details, line, details, stepDetails, refusalDetails, signed, number, numberOfStep, numberOf, _>>=_, need, take?, endsIn}
+use Rattle.definition.specs.Answers.{endsIn, Details, line, details, stepDetails, refusalDetails, signed, number, numberOfStep, numberOf, _>>=_, need, take?}
 use Rattle.definition.specs.Tables.{Tables, tables, shaped, Rows, view, fileAt, classAt}
-use Rattle.definition.specs.Calls.{turn, bootRows, boot, Call, callDefine, callRecord, callStart, callStep, callRun, callDrop, perform, performAll, defineRows, recordRows, startRows, dropRows, answerOf, stepTask, stepOn, stepRows, turnOf}
+use Rattle.definition.specs.Calls.{turn, bootRows, boot, Call, callDefine, callRecord, callStart, callStep, perform, performAll, defineRows, recordRows, startRows, dropRows, answerOf, stepTask, stepOn, stepRows, turnOf}
 use Rattle.definition.specs.OnRows.{settle, onRows, runRows, performRows, performAllRows}
 use Rattle.unbroken.specs.OnRows.{Same, Shows, same-booted, same-perform, OneStep, rows-same}
 use Rattle.definition.specs.Samples.{fileF, two, method, fileOf, plain, taker, coded, lifts, pushes, ready, tied12, tied123}
@@ -153,6 +153,10 @@ module _ (t : Tables) (h : shaped t ≡ true) (c : Case) where
   unfolding left
   did = same-perform (c .last) (beforeLast t c) (rowsBefore c) shows
 
+  before-rows : view (beforeLast t c) ≡ performAllRows (c .before) bootRows .rows
+  unfolding rowsBefore
+  before-rows = shows .rows
+
   prepared-same : preparedBy t c ≡ accepted (performAllRows (c .before) bootRows .answer)
   unfolding preparedBy
   prepared-same = ap accepted (same-booted (c .before) t h .0)
@@ -185,8 +189,8 @@ keeps t h c o (inr q) = rows-same (c .last) o (beforeLast t c) (rowsBefore c) (s
 pub cases : (t : Tables) → boot t .answer ≡ Accepted → Right t
 cases t a = record {
   prepared = map-same (preparedBy t) (λ c. accepted (performAllRows (c .before) bootRows .answer)) (prepared-same t h) table ∙ prepared-rows;
-  ties = map-same (λ c. view (beforeLast t c) .ties) (λ c. performAllRows (c .before) bootRows .rows .ties) (λ c. ap (λ (r : Rows). r .ties) (unfold rowsBefore in shows t h c .rows)) table ∙ ties-rows;
-  subtypes = map-same (λ c. view (beforeLast t c) .subtypes) (λ c. performAllRows (c .before) bootRows .rows .subtypes) (λ c. ap (λ (r : Rows). r .subtypes) (unfold rowsBefore in shows t h c .rows)) table ∙ subtypes-rows;
+  ties = map-same (λ c. view (beforeLast t c) .ties) (λ c. performAllRows (c .before) bootRows .rows .ties) (λ c. ap (λ (r : Rows). r .ties) (before-rows t h c)) table ∙ ties-rows;
+  subtypes = map-same (λ c. view (beforeLast t c) .subtypes) (λ c. performAllRows (c .before) bootRows .rows .subtypes) (λ c. ap (λ (r : Rows). r .subtypes) (before-rows t h c)) table ∙ subtypes-rows;
   answers = map-same (answered t) answeredRows (answered-rows t h) table ∙ on-rows;
   unchanged = λ i c e u. keeps t h c (all-at (λ c. OneStep (c .last)) table one-steps i c e) (all-at Stays table stays i c e .0 u);
   changed = λ i c e u q. eqb-false _ _ (all-at Stays table stays i c e .1 u) (ap size (sym (view-left t h c) ∙ ap view q ∙ shows t h c .rows));

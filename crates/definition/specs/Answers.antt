@@ -1,7 +1,7 @@
 -- Answers and refusals: this paper's number and values for each case, and calls as sequences of tests, the first that fails refusing.
 use mathlib.Core.Bool.{Bool, true, false}
 use mathlib.Core.Option.{Option, none, some}
-use Prim.Native.Nat.{ℕ, _+_, _-_}
+use Prim.Native.Nat.{ℕ, _-_}
 use lib.IntN.{ℤ, pos, negsuc}
 use lib.Dec.{ltb}
 use Rattle.definition.specs.Requests.{Request}

@@ -3,16 +3,16 @@ use mathlib.Core.Path.{_≡_}
 use mathlib.Core.Bool.{Bool, true, false}
 use mathlib.Core.Option.{Option, none, some}
 use mathlib.Core.List.{List, [], _∷_, reverse}
-use Prim.Native.Nat.{ℕ, zero, suc, _+_}
+use Prim.Native.Nat.{ℕ, _+_}
 use lib.ListN.{length, getElem?}
 use lib.Dec.{ltb}
 use Rattle.definition.specs.Lists.{Each}
 use Rattle.definition.specs.Maybe.{_>>=_, need}
 use Rattle.definition.specs.Requests.{at}
 use Rattle.definition.specs.Superclasses.{Below, below}
-use Rattle.definition.specs.Classes.{Class, find, superOf, loaderOf, slots}
+use Rattle.definition.specs.Classes.{find, superOf, loaderOf, slots}
 use Rattle.definition.specs.Constraints.{World}
-use Rattle.definition.specs.Verifier.{VerifierType, typeInt, typeNull, typeClass, TypeState, typeOfName, typesIn}
+use Rattle.definition.specs.Verifier.{VerifierType, typeInt, typeNull, typeClass, typeOfName, typesIn}
 use Rattle.definition.specs.Machine.{Value, unsetValue, intValue, nullValue, objectValue, unlistedValue, Object, Frame, existing}
 use Rattle.definition.specs.Tables.{Tables, Rows, worldOf, view}
 

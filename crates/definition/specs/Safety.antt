@@ -7,7 +7,7 @@ use Prim.Native.Nat.{ℕ}
 use lib.ListN.{getElem?}
 use Rattle.definition.specs.declared.Reply.{Reply}
 use Rattle.definition.specs.Answers.{numberOf, endsIn}
-use Rattle.definition.specs.Tables.{Tables, view}
+use Rattle.definition.specs.Tables.{view}
 use Rattle.definition.specs.Broken.{broken}
 use Rattle.definition.specs.Calls.{Done}
 use Rattle.definition.specs.Misplaced.{misplaced, AllPlaced}

@@ -2,13 +2,10 @@
 -- after exactly those steps.
 use mathlib.Core.Path.{_≡_, refl, sym, ap, _∙_}
 use mathlib.Core.Logic.{_⊎_, inl, inr}
-use Prim.Native.Nat.{ℕ, zero, suc, _+_, _<_, _≤_}
-use native.Mathlib.Nat.{add-suc}
+use Prim.Native.Nat.{ℕ, zero, suc, _+_, _<_}
 use native.Mathlib.Omega.{arith}
-use Rattle.definition.specs.declared.Refusal.{Refusal}
 use Rattle.definition.specs.declared.Answer.{Answer}
 use Rattle.definition.specs.declared.Answer.the-variants.{Idle, Ran, Finished, Refused}
-use Rattle.definition.specs.declared.Reply.{Reply}
 use Rattle.definition.specs.declared.Reply.the-variants.{RanFor}
 use Rattle.definition.specs.Tables.{Tables}
 use mathlib.Core.Bool.{true, false, _&&_}
@@ -98,6 +95,6 @@ module _ (one : Tables → Done Answer) where
 
 -- The call: on a store that isn't broken, for n from 1 to 65,535, it answers and leaves what its steps do
 pub run-steps : (n : ℕ) (t : Tables) → broken t ≡ false → leb 1 n && leb n 65535 ≡ true
-  → (k : ℕ) × (a : Answer) × (s : Tables) × (perform (callRun n) t ≡ done (RanFor k a) s) × Run stepTables n Idle t k a s
+    → (k : ℕ) × (a : Answer) × (s : Tables) × (perform (callRun n) t ≡ done (RanFor k a) s) × Run stepTables n Idle t k a s
 unfolding perform run
 run-steps n t h l = let r = run-is stepTables n 0 Idle t in (r .count, r .last, r .left, rw (h, run) (rw l (r .gives ∙ (let z : 0 + r .count ≡ r .count = omega arith in ap (λ (k : ℕ). done (RanFor k (r .last)) (r .left)) z))), r .steps)

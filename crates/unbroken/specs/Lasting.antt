@@ -1,9 +1,9 @@
 -- What lasts: no call but a boot changes a cache entry, a class's row or a kept byte.
-use mathlib.Core.Path.{_≡_, refl, subst}
+use mathlib.Core.Path.{_≡_, subst}
 use mathlib.Core.Logic.{_⊎_, inl, inr}
 use mathlib.Core.Bool.{Bool, true, false, _&&_}
-use mathlib.Core.Option.{Option, none, some}
-use mathlib.Core.List.{List, [], _∷_, _++_}
+use mathlib.Core.Option.{some}
+use mathlib.Core.List.{List, [], _∷_}
 use Prim.Native.Nat.{ℕ, zero, suc}
 use lib.ListN.{getElem?}
 use lib.Dec.{leb}
@@ -41,10 +41,11 @@ lasts-join a b = record { cache = λ q c h. b .cache q c (a .cache q c h); class
 
 define-lasts : (l : ℕ) (bs : List ℕ) (r : Rows) → Ok (defineRows l bs r) (λ g. Lasts r (g .rows))
 unfolding defineRows
-define-lasts l bs r = then L _ _ (λ _ _. then L _ _ (λ f _. then L _ _ (λ v e. let d = defined-is _ _ _ v e in record
-  { cache = λ q c h. subst (λ (w : World). find (w .base .cache) q ≡ some c) (d .is) (find-more (r .cache) _ q c h)
-  ; classes = λ c k h. nth-more (r .classes) _ c k h
-  ; kept = λ i b h. nth-more (r .kept) bs i b h })))
+define-lasts l bs r = then L _ _ (λ _ _. then L _ _ (λ f _. then L _ _ (λ v e. let d = defined-is _ _ _ v e in record {
+  cache = λ q c h. subst (λ (w : World). find (w .base .cache) q ≡ some c) (d .is) (find-more (r .cache) _ q c h);
+  classes = λ c k h. nth-more (r .classes) _ c k h;
+  kept = λ i b h. nth-more (r .kept) bs i b h;
+})))
   where
     L : Given Reply → Type 0
     L g = Lasts r (g .rows)
@@ -82,8 +83,10 @@ step-lasts r = go (r .quote) (r .report)
   where
     L : Given Answer → Type 0
     L g = Lasts r (g .rows)
+
     task : (k : ℕ) (f : Frame) (fs : List Frame) → Ok (stepTask k (worldOf r) f fs r) L
     task k f fs = unfold stepTask in then L _ _ (λ o _. progress-lasts k r o)
+
     go : (q p : List Frame) → Ok (stepOn q p (worldOf r) r) L
     go (f ∷ fs) p = unfold stepOn in task 0 f fs
     go [] (f ∷ fs) = unfold stepOn in task 1 f fs
@@ -103,6 +106,7 @@ runs-last (suc n) k a t = go (stepTables t .answer) (λ k a s. runs-last n k a s
   where
     s : Tables
     s = stepTables t .tables
+
     go : (x : Answer) → ((k : ℕ) (a : Answer) (t : Tables) → Lasts (view t) (view (runFrom stepTables n k a t .tables))) → Lasts (view t) (view (goOn (runFrom stepTables n) k x (stepTables t .tables) .tables))
     go Idle ih = one-lasts t
     go (Ran j) ih = lasts-join (one-lasts t) (ih (suc k) (Ran j) (stepTables t .tables))

@@ -1,9 +1,8 @@
 -- A record of what is there changes nothing.
 use mathlib.Core.Path.{_≡_, refl, sym, ap, _∙_}
-use mathlib.Core.Bool.{Bool, true, false}
-use mathlib.Core.Option.{Option, none, some}
+use mathlib.Core.Bool.{false}
+use mathlib.Core.Option.{some}
 use Prim.Native.Nat.{ℕ}
-use Rattle.definition.specs.declared.Refusal.{Refusal}
 use Rattle.definition.specs.declared.Reply.{Reply}
 use Rattle.definition.specs.declared.Reply.the-variants.{Accepted, Denied}
 use Rattle.definition.specs.Requests.{at}
@@ -12,7 +11,7 @@ use Rattle.definition.specs.Classes.{find}
 use Rattle.definition.specs.Constraints.{World}
 use Rattle.definition.specs.Loading.{recorded}
 use Rattle.definition.specs.Tables.{Tables, Rows, worldOf, view, put}
-use Rattle.definition.specs.Calls.{Given, addEntry, recordRows, Call, callRecord, perform}
+use Rattle.definition.specs.Calls.{Given, addEntry, recordRows, callRecord, perform}
 use Rattle.laws.specs.Results.{bind-ok, ok-inj}
 use Rattle.laws.specs.Wrapped.{wrapped, wrap-carried}
 use Rattle.layout.specs.View.{put-view}
@@ -48,7 +47,7 @@ unfolding recorded _>>=_ need take?
 there-ok l n c k w a b i e f = rw (lt-ltb l 16 a, le-leb 2 n b) (rw i (rw (eq-eqb (k .name) n e) (rw f (rw (eq-eqb c c refl) refl))))
 
 pub record-accepted : (l n c : ℕ) (k : Class) (t : Tables) → broken t ≡ false → l < 16 → 2 ≤ n → getElem? (worldOf (view t) .base .classes) c ≡ some k → k .name ≡ n
-  → find (view t .cache) (at l n) ≡ some c → perform (callRecord l n c) t .answer ≡ Accepted
+    → find (view t .cache) (at l n) ≡ some c → perform (callRecord l n c) t .answer ≡ Accepted
 unfolding perform recordRows carried _>>=_
 record-accepted l n c k t h a b i e f =
     ap (λ (d : Done Reply). d .answer) (wrap-carried Denied (recordRows l n c) t h)
