@@ -1,0 +1,2 @@
+-- What the verifier's code answers, by the definitions.
+pub mod Decoding
