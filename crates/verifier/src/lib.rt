@@ -1,9 +1,11 @@
 // Decoding of instructions, and the verifier over the methods of a class.
 ghost use mathlib.Core.Path.{_≡_};
+ghost use mathlib.Core.Option.{some};
 ghost use Prim.Native.Nat.{_+_, _*_, _<_, _≤_};
 ghost use lib.ListN.{length, getD, set};
 ghost use Rattle.definition.specs.Instructions.{opcodeOf, inlineLength, extend, instructionOf, sizedAs, decode};
 ghost use Rattle.verifier.specs.Decoding.{readingOf};
+use cells::short_at;
 use definition::Instruction;
 use definition::Opcode;
 
@@ -75,6 +77,41 @@ fn extended(n: u16) -> u32
     }
 }
 
+// The instructions with several names, which begin at place i.
+fn getfield_at(code: &[u8], i: usize) -> Instruction
+    requires { ⌜ i ≤ length (now code) ⌝ }
+    ensures { λ r. ⌜ some r ≡ instructionOf (now (code .entry)) i Opcode.OpGetfield ⌝ }
+{
+    Instruction::Getfield(
+        short_at(code, i),
+        short_at(code, i + 2),
+        short_at(code, i + 4),
+    )
+}
+
+fn putfield_at(code: &[u8], i: usize) -> Instruction
+    requires { ⌜ i ≤ length (now code) ⌝ }
+    ensures { λ r. ⌜ some r ≡ instructionOf (now (code .entry)) i Opcode.OpPutfield ⌝ }
+{
+    Instruction::Putfield(
+        short_at(code, i),
+        short_at(code, i + 2),
+        short_at(code, i + 4),
+    )
+}
+
+fn invokevirtual_at(code: &[u8], i: usize) -> Instruction
+    requires { ⌜ i ≤ length (now code) ⌝ }
+    ensures { λ r. ⌜ some r ≡ instructionOf (now (code .entry)) i Opcode.OpInvokevirtual ⌝ }
+{
+    Instruction::Invokevirtual(
+        short_at(code, i),
+        short_at(code, i + 2),
+        short_at(code, i + 4),
+        short_at(code, i + 6),
+    )
+}
+
 // The instruction of n bytes whose inline bytes begin at place i.
 fn instruction_of(code: &[u8], i: usize, o: Opcode, n: usize) -> Reading
     requires { ⌜ i ≤ length (now code) ⌝ }
@@ -82,7 +119,7 @@ fn instruction_of(code: &[u8], i: usize, o: Opcode, n: usize) -> Reading
 {
     match o {
         Opcode::OpAconstNull => Reading::At(Instruction::AconstNull, n),
-        Opcode::OpSipush => Reading::At(Instruction::Sipush(extended(cells::short_at(code, i))), n),
+        Opcode::OpSipush => Reading::At(Instruction::Sipush(extended(short_at(code, i))), n),
         Opcode::OpIload => Reading::At(Instruction::Iload(cells::at8(code, i)), n),
         Opcode::OpAload => Reading::At(Instruction::Aload(cells::at8(code, i)), n),
         Opcode::OpIstore => Reading::At(Instruction::Istore(cells::at8(code, i)), n),
@@ -91,32 +128,10 @@ fn instruction_of(code: &[u8], i: usize, o: Opcode, n: usize) -> Reading
         Opcode::OpDup => Reading::At(Instruction::Dup, n),
         Opcode::OpIadd => Reading::At(Instruction::Iadd, n),
         Opcode::OpIsub => Reading::At(Instruction::Isub, n),
-        Opcode::OpGetfield => Reading::At(
-            Instruction::Getfield(
-                cells::short_at(code, i),
-                cells::short_at(code, i + 2),
-                cells::short_at(code, i + 4),
-            ),
-            n,
-        ),
-        Opcode::OpPutfield => Reading::At(
-            Instruction::Putfield(
-                cells::short_at(code, i),
-                cells::short_at(code, i + 2),
-                cells::short_at(code, i + 4),
-            ),
-            n,
-        ),
-        Opcode::OpInvokevirtual => Reading::At(
-            Instruction::Invokevirtual(
-                cells::short_at(code, i),
-                cells::short_at(code, i + 2),
-                cells::short_at(code, i + 4),
-                cells::short_at(code, i + 6),
-            ),
-            n,
-        ),
-        Opcode::OpNew => Reading::At(Instruction::New(cells::short_at(code, i)), n),
+        Opcode::OpGetfield => Reading::At(getfield_at(code, i), n),
+        Opcode::OpPutfield => Reading::At(putfield_at(code, i), n),
+        Opcode::OpInvokevirtual => Reading::At(invokevirtual_at(code, i), n),
+        Opcode::OpNew => Reading::At(Instruction::New(short_at(code, i)), n),
         Opcode::OpIreturn => Reading::At(Instruction::Ireturn, n),
         Opcode::OpAreturn => Reading::At(Instruction::Areturn, n),
         Opcode::OpUnknown => Reading::Unreadable,
