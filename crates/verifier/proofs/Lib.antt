@@ -1,2 +1,4 @@
 -- Laws that the proofs of several functions cite.
-pub mod Decoding
+pub mod RowLaws
+pub mod DecodingLaws
+pub mod TypeLaws

@@ -1,2 +1,3 @@
 -- What the verifier's code answers, by the definitions.
 pub mod Decoding
+pub mod Types

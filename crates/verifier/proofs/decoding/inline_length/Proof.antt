@@ -1,8 +1,8 @@
 -- Each opcode's inline length is the definition's.
 use Rattle.definition.specs.Instructions.{inlineLength}
 use borrow.Author.Needs.{needs}
-use Rattle.verifier.proofs.inline_length.Statement.{statement}
-use Rattle.verifier.proofs.inline_length.Tie as tie
+use Rattle.verifier.proofs.decoding.inline_length.Statement.{statement}
+use Rattle.verifier.proofs.decoding.inline_length.Tie as tie
 
 pub inline-length-spec : {M : Type 1} → statement M
 inline-length-spec =

@@ -2,8 +2,8 @@
 use Rattle.definition.specs.Instructions.{instructionOf, sizedAs}
 use Rattle.verifier.specs.Decoding.{readingOf}
 use borrow.Author.Needs.{needs}
-use Rattle.verifier.proofs.instruction_of.Statement.{statement}
-use Rattle.verifier.proofs.instruction_of.Tie as tie
+use Rattle.verifier.proofs.decoding.instruction_of.Statement.{statement}
+use Rattle.verifier.proofs.decoding.instruction_of.Tie as tie
 
 pub instruction-of-spec : {M : Type 1} → statement M
 instruction-of-spec =

@@ -1,10 +1,10 @@
 -- 16 bits are extended by their sign.
 use mathlib.Core.Path.{sym, ap, _∙_}
 use Rattle.definition.specs.Instructions.{extend}
-use Rattle.verifier.proofs.Decoding.{extend-low, extend-high}
+use Rattle.verifier.proofs.DecodingLaws.{extend-low, extend-high}
 use borrow.Author.Needs.{needs}
-use Rattle.verifier.proofs.extended.Statement.{statement}
-use Rattle.verifier.proofs.extended.Tie as tie
+use Rattle.verifier.proofs.decoding.extended.Statement.{statement}
+use Rattle.verifier.proofs.decoding.extended.Tie as tie
 
 returns : tie.Need-returns
 returns c = sym (ap extend (sym (c .before .from16 .ensures .0)) ∙ extend-low _ (c .if1 .taken))

@@ -1,8 +1,8 @@
 -- Its names are the inline ones in order.
 use Rattle.definition.specs.Instructions.{instructionOf}
 use borrow.Author.Needs.{needs}
-use Rattle.verifier.proofs.invokevirtual_at.Statement.{statement}
-use Rattle.verifier.proofs.invokevirtual_at.Tie as tie
+use Rattle.verifier.proofs.decoding.invokevirtual_at.Statement.{statement}
+use Rattle.verifier.proofs.decoding.invokevirtual_at.Tie as tie
 
 returns : tie.Need-returns
 unfolding instructionOf

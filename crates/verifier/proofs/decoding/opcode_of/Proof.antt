@@ -1,8 +1,8 @@
 -- Each opcode byte is told from the others, and any other byte is unknown.
 use borrow.Author.Tests.{ne-eqb}
 use Rattle.definition.specs.Instructions.{pick, opcodeOf}
-use Rattle.verifier.proofs.opcode_of.Statement.{statement}
-use Rattle.verifier.proofs.opcode_of.Tie as tie
+use Rattle.verifier.proofs.decoding.opcode_of.Statement.{statement}
+use Rattle.verifier.proofs.decoding.opcode_of.Tie as tie
 
 returns-17 : tie.Need-returns-17
 unfolding opcodeOf pick

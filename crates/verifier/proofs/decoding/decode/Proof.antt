@@ -2,10 +2,10 @@
 use mathlib.Core.Path.{ap, _∙_}
 use Rattle.definition.specs.Instructions.{opcodeOf}
 use Rattle.verifier.specs.Decoding.{readingOf}
-use Rattle.verifier.proofs.Decoding.{decode-past, decode-cut, decode-whole}
+use Rattle.verifier.proofs.DecodingLaws.{decode-past, decode-cut, decode-whole}
 use borrow.Author.Needs.{needs}
-use Rattle.verifier.proofs.decode.Statement.{statement}
-use Rattle.verifier.proofs.decode.Tie as tie
+use Rattle.verifier.proofs.decoding.decode.Statement.{statement}
+use Rattle.verifier.proofs.decoding.decode.Tie as tie
 
 returns : tie.Need-returns
 unfolding readingOf
