@@ -2,3 +2,4 @@
 pub mod RowLaws
 pub mod DecodingLaws
 pub mod TypeLaws
+pub mod EffectLaws

@@ -1,19 +1,21 @@
 -- The types that numbers stand for.
-use mathlib.Core.Path.{_≡_, refl, _∙_}
+use mathlib.Core.Path.{_≡_, refl, sym, ap, _∙_}
 use mathlib.Core.Option.{Option, none, some}
 use mathlib.Core.List.{List, [], _∷_}
 use mathlib.Core.Logic.{_≢_}
 use mathlib.Core.Bool.{Bool, true, false}
 use Prim.Native.Nat.{ℕ, _%_, _-_, _<_, _≤_}
 use native.Mathlib.Omega.{arith}
-use lib.ListN.{getD}
+use lib.ListN.{getD, getElem?}
 use lib.Dec.{eqb}
 use borrow.Author.Tests.{eq-eqb, ne-eqb}
 use Rattle.definition.specs.Instructions.{pick}
 use Rattle.definition.specs.Lists.{stack, rows}
 use Rattle.definition.specs.Maybe.{_>>=_}
 use Rattle.definition.specs.Verifier.{VerifierType, typeInt, typeNull, typeClass, typeOfName, pop}
-use Rattle.verifier.specs.Types.{typeOf, localOf, localAt, localsOf, typesOf, entryOf, knownLocal}
+use Rattle.verifier.specs.declared.types.Popped.{Popped}
+use Rattle.verifier.specs.declared.types.Popped.the-variants.{Top, Empty}
+use Rattle.verifier.specs.Types.{typeOf, localOf, operandAt, localAt, localsOf, typesOf, entryOf, popped, knownLocal}
 use Rattle.verifier.proofs.RowLaws.{stack-top, rows-at, rows-past}
 
 -- A number's type
@@ -62,7 +64,38 @@ pub pop-top : (g : ℕ → VerifierType) (d : ℕ) → d ≢ 0 → pop (stack g 
 unfolding pop
 pop-top g d h = rw (stack-top g d h)
 
+-- popped and pushed again
+again : Option (record { top : VerifierType; more : List VerifierType }) → List VerifierType
+again none = []
+again (some r) = r .top ∷ r .more
+
+pub pop-whole :
+    (xs : List VerifierType) (t : VerifierType) (more : List VerifierType) → pop xs ≡ some (record { top = t; more = more }) → xs ≡ t ∷ more
+unfolding pop again
+pop-whole xs t more e = whole xs ∙ ap again e
+  where
+    whole : (l : List VerifierType) → l ≡ again (pop l)
+    whole [] = refl
+    whole (x ∷ l) = refl
+
+module _ (o : List ℕ) (r : Popped) (m : Option (record { top : VerifierType; more : List VerifierType })) (e : popped o r ≡ m) where
+  pub popped-empty : r ≡ Empty → m ≡ none
+  unfolding popped
+  popped-empty h = sym e ∙ ap (popped o) h
+
+  pub popped-top : {t d : ℕ} → r ≡ Top t d → m ≡ some (record { top = typeOf t; more = stack (operandAt o) d })
+  unfolding popped
+  popped-top h = sym e ∙ ap (popped o) h
+
 module _ (l : List ℕ) (i : ℕ) where
+  pub local-at : i < 8 → getElem? (localsOf l) i ≡ some (localAt l i)
+  unfolding localsOf
+  local-at h = rows-at (localAt l) 8 i h
+
+  pub local-past : 8 ≤ i → getElem? (localsOf l) i ≡ none
+  unfolding localsOf
+  local-past h = rows-past (localAt l) 8 i h
+
   pub known-at : i < 8 → knownLocal (localsOf l) i ≡ localOf (getD l i 0)
   unfolding knownLocal localsOf localAt _>>=_
   known-at h = rw (rows-at (localAt l) 8 i h)
