@@ -1,16 +1,19 @@
 -- Decoding by the bytes that are left at a point: none, too few for what stands inline, or enough.
-use mathlib.Core.Path.{_≡_, _∙_}
+use mathlib.Core.Path.{_≡_, refl, sym, ap, _∙_}
 use mathlib.Core.Bool.{Bool, true, false}
-use mathlib.Core.Option.{none}
+use mathlib.Core.Option.{Option, none, some}
 use mathlib.Core.List.{List}
 use Prim.Native.Nat.{ℕ, suc, _+_, _-_, _<_, _≤_}
 use native.Mathlib.Omega.{arith}
 use native.Mathlib.Numerals.{add-one}
 use lib.ListN.{length, getD}
 use lib.Dec.{leb, ltb}
-use borrow.Author.Tests.{le-leb, lt-leb, lt-ltb, le-ltb}
+use borrow.Author.Tests.{le-leb, lt-leb, lt-ltb, le-ltb, leb-true}
 use Rattle.definition.specs.declared.Opcode.{Opcode}
-use Rattle.definition.specs.Instructions.{opcodeOf, inlineLength, extend, instructionOf, sizedAs, decode}
+use Rattle.definition.specs.declared.Instruction.{Instruction}
+use Rattle.definition.specs.Instructions.{Decoded, opcodeOf, inlineLength, extend, instructionOf, sizedAs, decode}
+use Rattle.verifier.specs.declared.decoding.Reading.{Reading}
+use Rattle.verifier.specs.Decoding.{readingOf, decodedOf}
 
 module _ (code : List ℕ) (p : ℕ) where
   there : Opcode
@@ -36,6 +39,37 @@ module _ (code : List ℕ) (p : ℕ) where
     pub decode-whole : n < length code - p → decode code p ≡ sizedAs (n + 1) (instructionOf code (p + 1) o)
     unfolding there
     decode-whole k = by-room true (le-leb (p + suc (inlineLength there)) (length code) (omega (arith, length-there))) ∙ rw (length-there, add-one n, e)
+
+-- an instruction has as many bytes as it was sized
+bytes : Option Decoded → ℕ
+bytes none = 0
+bytes (some d) = d .size
+
+module _ (code : List ℕ) (p : ℕ) (d : Decoded) (e : decode code p ≡ some d) where
+  sized-as : (n : ℕ) (m : Option Instruction) → sizedAs n m ≡ some d → d .size ≡ n
+  unfolding sizedAs bytes
+  sized-as n none q = let z : _≡_ {A = ℕ} 0 1 = cc in absurd (omega arith)
+  sized-as n (some i) q = ap bytes (sym q)
+
+  -- it stands before the end, and has a byte or more
+  pub decode-within : (p + d .size ≤ length code) × (1 ≤ d .size)
+  decode-within = go (leb (p + suc (inlineLength (there code p))) (length code)) refl
+    where
+      go : (t : Bool) → leb (p + suc (inlineLength (there code p))) (length code) ≡ t → (p + d .size ≤ length code) × (1 ≤ d .size)
+      go true q =
+          let n : d .size ≡ suc (inlineLength (there code p)) = sized-as _ _ (sym (by-room code p true q) ∙ e) in
+          let l : p + suc (inlineLength (there code p)) ≤ length code = leb-true (p + suc (inlineLength (there code p))) (length code) q in
+          rw n (l, omega arith)
+      go false q = let f : _≡_ {A = Option Decoded} none (some d) = sym (by-room code p false q) ∙ e in let z : _≡_ {A = ℕ} 0 1 = cc in absurd (omega arith)
+
+-- what decoding answers, read back
+pub decode-is : (m : Option Decoded) (r : Reading) → r ≡ readingOf m → m ≡ decodedOf r
+unfolding readingOf decodedOf
+decode-is m r e = same m ∙ ap decodedOf (sym e)
+  where
+    same : (k : Option Decoded) → k ≡ decodedOf (readingOf k)
+    same none = refl
+    same (some d) = refl
 
 -- the sign of 16 bits
 module _ (n : ℕ) where

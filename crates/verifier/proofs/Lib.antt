@@ -3,3 +3,4 @@ pub mod RowLaws
 pub mod DecodingLaws
 pub mod TypeLaws
 pub mod EffectLaws
+pub mod TurnLaws

@@ -25,6 +25,11 @@ module _ {A : Type 0} where
   stack-top g zero h = absurd (h refl)
   stack-top g (suc k) h = let e : suc k - 1 ≡ k = omega arith in rw e
 
+  pub rows-length : (g : ℕ → A) (k i : ℕ) → length (rows g k i) ≡ k
+  unfolding rows
+  rows-length g zero i = refl
+  rows-length g (suc k) i = ap suc (rows-length g k (suc i))
+
   rows-from : (g : ℕ → A) (k i j : ℕ) → j < k → getElem? (rows g k i) j ≡ some (g (i + j))
   unfolding rows
   rows-from g zero i j l = absurd (omega arith)

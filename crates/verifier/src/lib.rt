@@ -2,6 +2,7 @@
 mod decoding; // decoding.rt: opcode bytes, and the instruction at a point
 mod types; // types.rt: the verifier's types as numbers, and its state at a point
 mod effects; // effects.rt: what each instruction does to the state
+mod turns; // turns.rt: one turn of the walk over the code
 
 pub use decoding::Reading;
 pub use decoding::decode;
