@@ -4,3 +4,5 @@ pub mod DecodingLaws
 pub mod TypeLaws
 pub mod EffectLaws
 pub mod TurnLaws
+pub mod NoteLaws
+pub mod TraceLaws

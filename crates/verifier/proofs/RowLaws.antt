@@ -1,12 +1,13 @@
--- Numbered places of a table as a stack and as a list: their lengths, their ends, and one place changed.
-use mathlib.Core.Path.{_≡_, refl, ap}
+-- Numbered places of a table as a stack and as a list: their lengths, their ends, one place changed, and lists written into a table.
+use mathlib.Core.Path.{_≡_, refl, ap, _∙_}
 use mathlib.Core.Option.{none, some}
-use mathlib.Core.List.{List, _∷_}
+use mathlib.Core.List.{List, [], _∷_, _++_}
 use mathlib.Core.Logic.{_≢_}
-use Prim.Native.Nat.{ℕ, zero, suc, _+_, _-_, _<_, _≤_}
+use Prim.Native.Nat.{ℕ, zero, suc, _+_, _*_, _-_, _<_, _≤_}
+use native.Mathlib.Nat.{mul-le-mul-right, le-trans}
 use native.Mathlib.Omega.{arith}
 use lib.ListN.{length, getElem?, set}
-use Rattle.definition.specs.Lists.{rows, stack}
+use Rattle.definition.specs.Lists.{rows, stack, writeRows}
 
 module _ {A : Type 0} where
   pub stack-length : (g : ℕ → A) (k : ℕ) → length (stack g k) ≡ k
@@ -65,3 +66,43 @@ module _ {A : Type 0} where
   -- rows of which at most one changed, that at place j
   pub rows-changed : (g h : ℕ → A) (k j : ℕ) → ((m : ℕ) → m ≢ j → h m ≡ g m) → rows h k 0 ≡ set (rows g k 0) j (h j)
   rows-changed g h k j e = let z : 0 + j ≡ j = omega arith in rw z at (changed-from g h k 0 j (λ m l. e m (rw z at l)))
+
+-- Lists written into a table, where what is written at two places may be written in either order
+module _ {A : Type 0} (p : List ℕ → ℕ → A → List ℕ) (either : (t : List ℕ) (i j : ℕ) (x y : A) → i ≢ j → p (p t j y) i x ≡ p (p t i x) j y) where
+  before-rows : (ys : List A) (t : List ℕ) (i j : ℕ) (x : A) → i < j → p (writeRows p ys j t) i x ≡ writeRows p ys j (p t i x)
+  unfolding writeRows
+  before-rows [] t i j x l = refl
+  before-rows (y ∷ ys) t i j x l = either (writeRows p ys (suc j) t) i j x y (λ e. omega arith) ∙ rw (before-rows ys t i (suc j) x (omega arith))
+
+  -- the first list, then the second after it
+  pub write-append : (xs ys : List A) (i : ℕ) (t : List ℕ) → writeRows p (xs ++ ys) i t ≡ writeRows p ys (i + length xs) (writeRows p xs i t)
+  unfolding writeRows
+  write-append [] ys i t = let e : i + 0 ≡ i = omega arith in rw e
+  write-append (x ∷ xs) ys i t =
+      let e : i + suc (length xs) ≡ suc i + length xs = omega arith in
+      rw (e, write-append xs ys (suc i) t) (before-rows ys (writeRows p xs (suc i) t) i (suc i + length xs) x (omega arith))
+
+-- Lists written into a table that keeps its length
+module _ {A : Type 0} (p : List ℕ → ℕ → A → List ℕ) (kept : (t : List ℕ) (i : ℕ) (x : A) → length (p t i x) ≡ length t) where
+  pub write-length : (xs : List A) (i : ℕ) (t : List ℕ) → length (writeRows p xs i t) ≡ length t
+  unfolding writeRows
+  write-length [] i t = refl
+  write-length (x ∷ xs) i t = kept (writeRows p xs (suc i) t) i x ∙ write-length xs (suc i) t
+
+  -- what was written is read back, where there is room for it
+  pub read-back :
+      (g : List ℕ → ℕ → A) (w : ℕ) →
+      ((t : List ℕ) (i : ℕ) (x : A) → (i + 1) * w ≤ length t → g (p t i x) i ≡ x) →
+      ((t : List ℕ) (i j : ℕ) (x : A) → i ≢ j → g (p t i x) j ≡ g t j) →
+      (xs : List A) (i : ℕ) (t : List ℕ) → (i + length xs) * w ≤ length t → rows (g (writeRows p xs i t)) (length xs) i ≡ xs
+  unfolding writeRows rows
+  read-back g w same other [] i t h = refl
+  read-back g w same other (x ∷ xs) i t h =
+      let e : i + suc (length xs) ≡ suc i + length xs = omega arith in
+      let fits : (suc i + length xs) * w ≤ length t = rw e at h in
+      let here : (i + 1) * w ≤ (suc i + length xs) * w = mul-le-mul-right w (omega arith) in
+      rw (
+        same (writeRows p xs (suc i) t) i x (rw (write-length xs (suc i) t) (le-trans here fits)),
+        rows-alike (g (p (writeRows p xs (suc i) t) i x)) (g (writeRows p xs (suc i) t)) (length xs) (suc i) (λ m l. other (writeRows p xs (suc i) t) i m x (λ q. omega arith)),
+        read-back g w same other xs (suc i) t fits,
+      )

@@ -1,4 +1,5 @@
 -- The walk over a method's code: the notes it makes before it ends, and whether it accepts.
+use mathlib.Core.Path.{_≡_}
 use mathlib.Core.Bool.{Bool, true, false}
 use mathlib.Core.Option.{Option, none, some}
 use mathlib.Core.List.{List, [], _∷_, _++_}
@@ -6,6 +7,7 @@ use Prim.Native.Nat.{ℕ, zero, suc, _+_, _*_}
 use lib.ListN.{length, set, getD}
 use lib.Dec.{eqb}
 use Rattle.definition.specs.Instructions.{Decoded, decode, pick}
+use Rattle.definition.specs.Lists.{writeRows}
 use Rattle.definition.specs.Maybe.{_>>=_}
 use Rattle.definition.specs.Verifier.{Note, TypeState, Flow}
 use Rattle.verifier.specs.declared.effects.Meeting.{Meeting}
@@ -13,7 +15,9 @@ use Rattle.verifier.specs.declared.effects.Meeting.the-variants.{Unmet, 
 use Rattle.verifier.specs.declared.turns.Step.{Step}
 use Rattle.verifier.specs.declared.turns.Step.the-variants.{Stop, End, Next}
 use Rattle.verifier.specs.declared.turns.Turn.{Turn}
-use Rattle.verifier.specs.Types.{typesOf}
+use Rattle.verifier.specs.declared.methods.Verified.{Verified}
+use Rattle.verifier.specs.declared.methods.Verified.the-variants.{Notes, Rejected}
+use Rattle.verifier.specs.Types.{typesOf, entryOf}
 use Rattle.verifier.specs.Effects.{notesIn, Outcome, rejected, goes, ends, outcome}
 
 -- where the walk goes: nowhere, to the method's end, or to a point with its types
@@ -61,6 +65,14 @@ module _ (code : List ℕ) (result : ℕ) where
   trace zero p s = record { notes = []; accepts = false }
   trace (suc k) p s = after (turned code result p s .notes) (onward (turned code result p s .next) (λ q u. trace k q u))
 
+-- the notes, where they are accepted
+unfoldable pub granted : Bool → List Note → Option (List Note)
+granted true ns = some ns
+granted false ns = none
+
+unfoldable pub acceptedNotes : Trace → Option (List Note)
+acceptedNotes t = granted (t .accepts) (t .notes)
+
 -- What the code's answers stand for
 
 unfoldable pub made : Meeting → List Note
@@ -79,3 +91,39 @@ nextOf (Next q) s = onto q s
 
 unfoldable pub turnOf : Turn → Turned
 turnOf t = record { notes = made (t .receiver) ++ made (t .value); next = nextOf (t .step) (typesOf (t .types)) }
+
+-- The table of notes: two cells a note, low and high
+
+abbrev pub note : ℕ → ℕ → Note
+note a b = record { low = a; high = b }
+
+unfoldable pub putNote : List ℕ → ℕ → Note → List ℕ
+putNote t i x = set (set t (i * 2) (x .low)) (i * 2 + 1) (x .high)
+
+unfoldable pub noteAt : List ℕ → ℕ → Note
+noteAt t i = note (getD t (i * 2) 0) (getD t (i * 2 + 1) 0)
+
+-- notes written from row i on, and how many
+pub record Wrote (ns : List Note) (i : ℕ) (t u : List ℕ) (n : ℕ) : Type 0 where
+  pub count : n ≡ length ns
+  pub table : u ≡ writeRows putNote ns i t
+
+-- the answer on a method, and the table that it leaves
+pub record Verification : Type 0 where
+  pub answer : Verified
+  pub table : List ℕ
+
+abbrev pub verification : Verified → List ℕ → Verification
+verification a t = record { answer = a; table = t }
+
+-- a walk that has made c notes before: it answers how many there are, and writes its own after those, the first at row i
+unfoldable pub recorded : ℕ → ℕ → Trace → List ℕ → Verification
+recorded i c w t = verification (pick (w .accepts) (Notes (c + length (w .notes))) Rejected) (writeRows putNote (w .notes) i t)
+
+-- the walk over the code of a method of the class of that name
+unfoldable pub methodTrace : ℕ → ℕ → ℕ → List ℕ → Trace
+methodTrace own argument result code = trace code result (length code) 0 (entryOf own argument)
+
+-- what verifying a method answers and writes, from row i on
+unfoldable pub verified : ℕ → Trace → List ℕ → Verification
+verified i w t = verification (pick (w .accepts) (Notes (length (w .notes))) Rejected) (writeRows putNote (w .notes) i t)
