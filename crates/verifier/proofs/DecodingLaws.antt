@@ -40,27 +40,53 @@ module _ (code : List ℕ) (p : ℕ) where
     unfolding there
     decode-whole k = by-room true (le-leb (p + suc (inlineLength there)) (length code) (omega (arith, length-there))) ∙ rw (length-there, add-one n, e)
 
--- an instruction has as many bytes as it was sized
+-- an instruction that was decoded: its size, and itself
 bytes : Option Decoded → ℕ
 bytes none = 0
 bytes (some d) = d .size
 
-module _ (code : List ℕ) (p : ℕ) (d : Decoded) (e : decode code p ≡ some d) where
-  sized-as : (n : ℕ) (m : Option Instruction) → sizedAs n m ≡ some d → d .size ≡ n
+itself : Option Decoded → Option Instruction
+itself none = none
+itself (some d) = some (d .instruction)
+
+module _ (d : Decoded) (n : ℕ) where
+  size-is : (m : Option Instruction) → sizedAs n m ≡ some d → d .size ≡ n
   unfolding sizedAs bytes
-  sized-as n none q = let z : _≡_ {A = ℕ} 0 1 = cc in absurd (omega arith)
-  sized-as n (some i) q = ap bytes (sym q)
+  size-is none q = let z : _≡_ {A = ℕ} 0 1 = cc in absurd (omega arith)
+  size-is (some i) q = ap bytes (sym q)
+
+  itself-is : (m : Option Instruction) → sizedAs n m ≡ some d → m ≡ some (d .instruction)
+  unfolding sizedAs itself
+  itself-is none q = let z : _≡_ {A = ℕ} 0 1 = cc in absurd (omega arith)
+  itself-is (some i) q = ap itself q
+
+module _ (code : List ℕ) (p : ℕ) (d : Decoded) (e : decode code p ≡ some d) where
+  -- there is room for its inline bytes
+  room : leb (p + suc (inlineLength (there code p))) (length code) ≡ true
+  room = go (leb (p + suc (inlineLength (there code p))) (length code)) refl
+    where
+      go : (t : Bool) → leb (p + suc (inlineLength (there code p))) (length code) ≡ t → t ≡ true
+      go true q = refl
+      go false q = let f : _≡_ {A = Option Decoded} none (some d) = sym (by-room code p false q) ∙ e in cc
+
+  decode-sized : sizedAs (suc (inlineLength (there code p))) (instructionOf code (p + 1) (there code p)) ≡ some d
+  decode-sized = sym (by-room code p true room) ∙ e
+
+  -- its size goes by its opcode
+  pub decode-size : d .size ≡ suc (inlineLength (opcodeOf (getD code p 0)))
+  unfolding there
+  decode-size = size-is d _ _ decode-sized
+
+  pub decode-instruction : instructionOf code (p + 1) (opcodeOf (getD code p 0)) ≡ some (d .instruction)
+  unfolding there
+  decode-instruction = itself-is d _ _ decode-sized
 
   -- it stands before the end, and has a byte or more
   pub decode-within : (p + d .size ≤ length code) × (1 ≤ d .size)
-  decode-within = go (leb (p + suc (inlineLength (there code p))) (length code)) refl
-    where
-      go : (t : Bool) → leb (p + suc (inlineLength (there code p))) (length code) ≡ t → (p + d .size ≤ length code) × (1 ≤ d .size)
-      go true q =
-          let n : d .size ≡ suc (inlineLength (there code p)) = sized-as _ _ (sym (by-room code p true q) ∙ e) in
-          let l : p + suc (inlineLength (there code p)) ≤ length code = leb-true (p + suc (inlineLength (there code p))) (length code) q in
-          rw n (l, omega arith)
-      go false q = let f : _≡_ {A = Option Decoded} none (some d) = sym (by-room code p false q) ∙ e in let z : _≡_ {A = ℕ} 0 1 = cc in absurd (omega arith)
+  unfolding there
+  decode-within =
+      let l : p + suc (inlineLength (there code p)) ≤ length code = leb-true (p + suc (inlineLength (there code p))) (length code) room in
+      rw decode-size (l, omega arith)
 
 -- what decoding answers, read back
 pub decode-is : (m : Option Decoded) (r : Reading) → r ≡ readingOf m → m ≡ decodedOf r

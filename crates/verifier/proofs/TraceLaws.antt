@@ -12,9 +12,10 @@ use Rattle.definition.specs.Instructions.{Decoded, decode, pick}
 use Rattle.definition.specs.Lists.{writeRows}
 use Rattle.definition.specs.Maybe.{_>>=_, need}
 use Rattle.definition.specs.Classes.{Class, Method}
-use Rattle.definition.specs.Verifier.{Note, TypeState, Flow, effect, returns, isReturn, verify, notesOfMethod}
+use Rattle.definition.specs.Verifier.{Note, TypeState, Flow, effect, returns, isReturn, verify, entryTypes, notesOfMethod}
 use Rattle.verifier.specs.declared.turns.Turn.{Turn}
 use Rattle.verifier.specs.declared.turns.Step.the-variants.{Stop, End, Next}
+use Rattle.verifier.specs.declared.methods.Verified.{Verified}
 use Rattle.verifier.specs.declared.methods.Verified.the-variants.{Notes, Rejected}
 use Rattle.verifier.specs.Types.{typesOf, entryOf}
 use Rattle.verifier.specs.Effects.{Outcome, rejected, goes, ends, going, ending, outcome}
@@ -127,3 +128,37 @@ module _
         recorded (from + c) c (trace code result left p s) t ≡ recorded (from + (c + n)) (c + n) (trace code result (left - 1) q (typesOf (r .types))) u
     unfolding next nextOf onward
     walk-goes q h = walked ∙ rw h
+
+-- For callers: what the verifier says of a method, by the answer and the table
+
+pub method-says : (k : Class) (m : Method) → notesOfMethod k m ≡ acceptedNotes (methodTrace (k .name) (m .argument) (m .result) (m .code))
+unfolding methodTrace entryOf
+method-says k m = says (m .code) (m .result) (length (m .code)) 0 (entryTypes k m)
+
+module _ (from : ℕ) (w : Trace) (t u : List ℕ) where
+  -- the notes are in the table, whatever the answer
+  pub table-says : (a : Verified) → verification a u ≡ verified from w t → u ≡ writeRows putNote (w .notes) from t
+  unfolding verified
+  table-says a e = ap (λ (v : Verification). v .table) e
+
+  by-answer : (a : Verified) → verification a u ≡ verified from w t → a ≡ pick (w .accepts) (Notes (length (w .notes))) Rejected
+  unfolding verified
+  by-answer a e = ap (λ (v : Verification). v .answer) e
+
+  -- an answer with n notes: they are the verifier's, and n is their number
+  pub accepted-says : (n : ℕ) → verification (Notes n) u ≡ verified from w t → (acceptedNotes w ≡ some (w .notes)) × (n ≡ length (w .notes))
+  unfolding acceptedNotes granted pick
+  accepted-says n e = go (w .accepts) (by-answer (Notes n) e)
+    where
+      go : (b : Bool) → Notes n ≡ pick b (Notes (length (w .notes))) Rejected → (granted b (w .notes) ≡ some (w .notes)) × (n ≡ length (w .notes))
+      go true q = (refl, cc)
+      go false q = let z : _≡_ {A = ℕ} 0 1 = cc in absurd (omega arith)
+
+  -- a rejection: the verifier has no notes
+  pub rejected-says : verification Rejected u ≡ verified from w t → acceptedNotes w ≡ none
+  unfolding acceptedNotes granted pick
+  rejected-says e = go (w .accepts) (by-answer Rejected e)
+    where
+      go : (b : Bool) → Rejected ≡ pick b (Notes (length (w .notes))) Rejected → granted b (w .notes) ≡ none
+      go true q = let z : _≡_ {A = ℕ} 0 1 = cc in absurd (omega arith)
+      go false q = refl
