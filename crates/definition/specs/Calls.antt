@@ -194,6 +194,19 @@ pub data Call : Type 0 where
   callRun : ℕ → Call
   callDrop : ℕ → Call
 
+-- the words that each call may refuse with, first that applies; a run's last answer may be any of a step's
+unfoldable pub stepRefusals : List ℕ
+stepRefusals = 1 ∷ 14 ∷ 5 ∷ 7 ∷ 10 ∷ 9 ∷ 11 ∷ []
+
+unfoldable pub refusalsOf : Call → List ℕ
+refusalsOf callBoot = 1 ∷ []
+refusalsOf (callDefine l bs) = 1 ∷ 3 ∷ 2 ∷ 6 ∷ 4 ∷ 5 ∷ 8 ∷ 10 ∷ 9 ∷ []
+refusalsOf (callRecord l n c) = 1 ∷ 3 ∷ 13 ∷ 4 ∷ 10 ∷ 9 ∷ []
+refusalsOf (callStart k l n m v) = 1 ∷ 3 ∷ 12 ∷ 5 ∷ 7 ∷ 10 ∷ []
+refusalsOf callStep = stepRefusals
+refusalsOf (callRun n) = 1 ∷ 3 ∷ []
+refusalsOf (callDrop k) = 1 ∷ 3 ∷ []
+
 abbrev pub ofStep : Done Answer → Done Reply
 ofStep d = done (Stepped (d .answer)) (d .tables)
 

@@ -5,6 +5,7 @@ use mathlib.Core.Option.{Option, none, some}
 use mathlib.Core.List.{List, [], _∷_}
 use Prim.Native.Nat.{ℕ, zero, suc, _+_}
 use lib.ListN.{getElem?}
+use Rattle.definition.specs.Lists.{Each}
 use Rattle.definition.specs.Maybe.{_>>=_}
 use Rattle.definition.specs.Requests.{at}
 use Rattle.definition.specs.Superclasses.{Below, below}
@@ -116,3 +117,23 @@ misplacedIn r =
 
 unfoldable pub misplaced : Tables → ℕ
 misplaced t = misplacedIn (view t)
+
+-- No value is misplaced, in words: each field of each object that exists, each operand and each set local of each frame is placed
+
+abbrev pub FieldsPlaced : World → List Object → Object → Type 0
+FieldsPlaced w os b = Each (λ s v. Placed w os (loaderOf (w .base) (s .owner)) (typeOfName (s .type)) v) (slots (w .base) (b .class)) (b .values)
+
+pub record FramePlaced (w : World) (os : List Object) (waits : Bool) (f : Frame) : Type 0 where
+  pub types : FrameTypes
+  pub has : typesOf w waits f ≡ some types
+  pub operands : Each (Placed w os (types .loader)) (types .operands) (f .operands)
+  pub locals : Each (PlacedLocal w os (types .loader)) (types .locals) (f .locals)
+
+abbrev pub FramesPlaced : World → List Object → Bool → List Frame → Type 0
+FramesPlaced w os waits [] = Unit {0}
+FramesPlaced w os waits (f ∷ fs) = FramePlaced w os waits f × FramesPlaced w os true fs
+
+pub record AllPlaced (r : Rows) : Type 0 where
+  pub fields : (o : ℕ) (b : Object) → existing (r .objects) o ≡ some b → FieldsPlaced (worldOf r) (r .objects) b
+  pub quote : FramesPlaced (worldOf r) (r .objects) false (r .quote)
+  pub report : FramesPlaced (worldOf r) (r .objects) false (r .report)

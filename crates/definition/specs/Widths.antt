@@ -5,24 +5,24 @@ use Rattle.definition.specs.Tables.{Tables}
 use Rattle.definition.specs.Calls.{Call, callBoot, callDefine, callRecord, callStart, callStep, callRun, callDrop}
 
 -- each number is below w
-abbrev pub Under : ℕ → List ℕ → Type 0
-Under w [] = Unit {0}
-Under w (x ∷ xs) = (x < w) × Under w xs
+abbrev pub EachBelow : ℕ → List ℕ → Type 0
+EachBelow w [] = Unit {0}
+EachBelow w (x ∷ xs) = (x < w) × EachBelow w xs
 
 pub record Widths (t : Tables) : Type 0 where
-  pub counts : Under 65536 (t .counts)
-  pub classes : Under 65536 (t .classes)
-  pub kept : Under 256 (t .kept)
-  pub cache : Under 65536 (t .cache)
-  pub ties : Under 65536 (t .ties)
-  pub subtypes : Under 65536 (t .subtypes)
-  pub objects : Under 4294967296 (t .objects)
-  pub frames : Under 4294967296 (t .frames)
+  pub counts : EachBelow 65536 (t .counts)
+  pub classes : EachBelow 65536 (t .classes)
+  pub kept : EachBelow 256 (t .kept)
+  pub cache : EachBelow 65536 (t .cache)
+  pub ties : EachBelow 65536 (t .ties)
+  pub subtypes : EachBelow 65536 (t .subtypes)
+  pub objects : EachBelow 4294967296 (t .objects)
+  pub frames : EachBelow 4294967296 (t .frames)
 
 -- a call's arguments have their widths: bytes in a file, 16-bit names, an int of 32 bits
 abbrev pub Fitting : Call → Type 0
 Fitting callBoot = Unit {0}
-Fitting (callDefine l bs) = Under 256 bs
+Fitting (callDefine l bs) = EachBelow 256 bs
 Fitting (callRecord l n c) = n < 65536
 Fitting (callStart k l n m v) = v < 4294967296
 Fitting callStep = Unit {0}

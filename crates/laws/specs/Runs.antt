@@ -1,0 +1,94 @@
+-- A run is its steps: each of the first k ran, and then the budget was spent or the next step answered something else; the store is the one
+-- after exactly those steps.
+use mathlib.Core.Path.{_≡_, refl, sym, ap, _∙_}
+use mathlib.Core.Logic.{_⊎_, inl, inr}
+use Prim.Native.Nat.{ℕ, zero, suc, _+_, _<_, _≤_}
+use native.Mathlib.Nat.{add-suc}
+use native.Mathlib.Omega.{arith}
+use Rattle.definition.specs.declared.Refusal.{Refusal}
+use Rattle.definition.specs.declared.Answer.{Answer}
+use Rattle.definition.specs.declared.Answer.the-variants.{Idle, Ran, Finished, Refused}
+use Rattle.definition.specs.declared.Reply.{Reply}
+use Rattle.definition.specs.declared.Reply.the-variants.{RanFor}
+use Rattle.definition.specs.Tables.{Tables}
+use Rattle.definition.specs.Calls.{Done, done, goOn, runFrom}
+
+module _ (one : Tables → Done Answer) where
+  -- the tables after k steps, and the answer of the last of them, `a` if there is none
+  unfoldable pub after : ℕ → Tables → Tables
+  after zero t = t
+  after (suc k) t = after k (one t .tables)
+
+  unfoldable pub lastOf : ℕ → Answer → Tables → Answer
+  lastOf zero a t = a
+  lastOf (suc k) a t = lastOf k (one t .answer) (one t .tables)
+
+  abbrev pub IsRan : Answer → Type 0
+  IsRan Idle = ⊥
+  IsRan (Ran k) = Unit {0}
+  IsRan (Finished k n) = ⊥
+  IsRan (Refused w) = ⊥
+
+  -- of n steps from t, k ran, the last answer is a, and s is left
+  pub record Run (n : ℕ) (a₀ : Answer) (t : Tables) (k : ℕ) (a : Answer) (s : Tables) : Type 0 where
+    pub ran : (i : ℕ) → i < k → IsRan (one (after i t) .answer)
+    pub ends : ((k ≡ n) × (a ≡ lastOf k a₀ t) × (s ≡ after k t)) ⊎ ((k < n) × (IsRan a → ⊥) × (a ≡ one (after k t) .answer) × (s ≡ one (after k t) .tables))
+
+  pub record IsRun (n k₀ : ℕ) (a₀ : Answer) (t : Tables) : Type 0 where
+    pub count : ℕ
+    pub last : Answer
+    pub left : Tables
+    pub gives : runFrom one n k₀ a₀ t ≡ done (RanFor (k₀ + count) last) left
+    pub steps : Run n a₀ t count last left
+
+  stopped : (n k₀ : ℕ) (a₀ a : Answer) (t s : Tables) → one t ≡ done a s → (IsRan a → ⊥) → goOn (runFrom one n) k₀ a s ≡ done (RanFor k₀ a) s → runFrom one (suc n) k₀ a₀ t ≡ goOn (runFrom one n) k₀ a s → IsRun (suc n) k₀ a₀ t
+  unfolding after
+  stopped n k₀ a₀ a t s e other go r = record {
+    count = 0;
+    last = a;
+    left = s;
+    gives = r ∙ go ∙ (let z : k₀ ≡ k₀ + 0 = omega arith in ap (λ (k : ℕ). done (RanFor k a) s) z);
+    steps = record { ran = λ i l. absurd (omega arith); ends = inr (omega arith, other, sym (ap (λ (d : Done Answer). d .answer) e), sym (ap (λ (d : Done Answer). d .tables) e)) };
+  }
+
+  went : (n k₀ j : ℕ) (a₀ : Answer) (t s : Tables) → one t ≡ done (Ran j) s → runFrom one (suc n) k₀ a₀ t ≡ runFrom one n (suc k₀) (Ran j) s → IsRun n (suc k₀) (Ran j) s → IsRun (suc n) k₀ a₀ t
+  unfolding after lastOf
+  went n k₀ j a₀ t s e r d = record {
+    count = suc (d .count);
+    last = d .last;
+    left = d .left;
+    gives = r ∙ d .gives ∙ (let z : suc k₀ + d .count ≡ k₀ + suc (d .count) = omega arith in ap (λ (k : ℕ). done (RanFor k (d .last)) (d .left)) z);
+    steps = record { ran = ran′; ends = ends′ (d .steps .ends) };
+  }
+    where
+      at : one t .tables ≡ s
+      at = ap (λ (x : Done Answer). x .tables) e
+
+      says : one t .answer ≡ Ran j
+      says = ap (λ (x : Done Answer). x .answer) e
+
+      ran′ : (i : ℕ) → i < suc (d .count) → IsRan (one (after i t) .answer)
+      ran′ zero l = rw says tt
+      ran′ (suc i) l = rw at (d .steps .ran i (omega arith))
+
+      ends′ : ((d .count ≡ n) × (d .last ≡ lastOf (d .count) (Ran j) s) × (d .left ≡ after (d .count) s)) ⊎ ((d .count < n) × (IsRan (d .last) → ⊥) × (d .last ≡ one (after (d .count) s) .answer) × (d .left ≡ one (after (d .count) s) .tables))
+          → ((suc (d .count) ≡ suc n) × (d .last ≡ lastOf (suc (d .count)) a₀ t) × (d .left ≡ after (suc (d .count)) t)) ⊎ ((suc (d .count) < suc n) × (IsRan (d .last) → ⊥) × (d .last ≡ one (after (suc (d .count)) t) .answer) × (d .left ≡ one (after (suc (d .count)) t) .tables))
+      ends′ (inl (p, q, r)) = inl (ap suc p, rw (says, at) q, rw at r)
+      ends′ (inr (p, q, r, x)) = inr (omega arith, q, rw at r, rw at x)
+
+  pub run-is : (n k₀ : ℕ) (a₀ : Answer) (t : Tables) → IsRun n k₀ a₀ t
+  unfolding runFrom
+  run-is zero k₀ a₀ t = record {
+    count = 0;
+    last = a₀;
+    left = t;
+    gives = (let z : k₀ ≡ k₀ + 0 = omega arith in ap (λ (k : ℕ). done (RanFor k a₀) t) z);
+    steps = record { ran = λ i l. absurd (omega arith); ends = inl (refl, unfold lastOf in refl, unfold after in refl) };
+  }
+  run-is (suc n) k₀ a₀ t = go (one t .answer) refl (λ k a s. run-is n k a s)
+    where
+      go : (a : Answer) → one t .answer ≡ a → ((k : ℕ) (a : Answer) (s : Tables) → IsRun n k a s) → IsRun (suc n) k₀ a₀ t
+      go Idle e ih = stopped n k₀ a₀ Idle t (one t .tables) (λ i. done (e i) (one t .tables)) (λ h. h) refl (ap (λ (x : Answer). goOn (runFrom one n) k₀ x (one t .tables)) e)
+      go (Ran j) e ih = went n k₀ j a₀ t (one t .tables) (λ i. done (e i) (one t .tables)) (ap (λ (x : Answer). goOn (runFrom one n) k₀ x (one t .tables)) e) (ih (suc k₀) (Ran j) (one t .tables))
+      go (Finished j m) e ih = stopped n k₀ a₀ (Finished j m) t (one t .tables) (λ i. done (e i) (one t .tables)) (λ h. h) refl (ap (λ (x : Answer). goOn (runFrom one n) k₀ x (one t .tables)) e)
+      go (Refused w) e ih = stopped n k₀ a₀ (Refused w) t (one t .tables) (λ i. done (e i) (one t .tables)) (λ h. h) refl (ap (λ (x : Answer). goOn (runFrom one n) k₀ x (one t .tables)) e)

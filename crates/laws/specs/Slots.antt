@@ -1,0 +1,69 @@
+-- Fields of an object: a superclass's come first.
+use mathlib.Core.Path.{_≡_, refl, sym, ap, _∙_}
+use mathlib.Core.Bool.{Bool, true, false, false≢true, true≢false, not, _&&_, _||_}
+use mathlib.Core.Option.{Option, none, some, Option·none-ne-some, Option·some-injective}
+use mathlib.Core.List.{List, [], _∷_, _++_, map, append-nil, append-assoc, List·Memᴰ, List·Memᴰ·head, List·Memᴰ·tail, Memᴰ·append-left, Memᴰ·append-right}
+use mathlib.Core.Logic.{_⊎_, inl, inr, _≢_}
+use Prim.Native.Nat.{ℕ, zero, suc, _+_, _-_, _≤_, _<_, _%_}
+use native.Mathlib.Omega.{arith}
+use lib.ListN.{length, getElem?, set}
+use lib.Dec.{eqb}
+use borrow.Author.Tests.{eqb-true, eq-eqb, eqb-false, ne-eqb}
+use Rattle.definition.specs.Classes.{Base, Slot, ownSlots, slots, slotsIn, superOf}
+use Rattle.definition.specs.Constraints.{Agrees, Tie, World, agreesAfter, edges, newTie, posted, subtypeEdges, tieEdges, tieIs}
+use Rattle.definition.specs.Lists.{any}
+use Rattle.definition.specs.Machine.{Object, Value, intValue, nullValue, objectValue, unsetValue, unlistedValue}
+use Rattle.definition.specs.Requests.{Chain, Edge, at, hop, stay}
+use Rattle.definition.specs.Superclasses.{Below, below, same, up}
+use Rattle.definition.specs.Verifier.{Note, VerifierType, meetClass, meetInt, meets, typeClass, typeInt, typeNull, typeOfName}
+use Rattle.laws.specs.Agreement.{agrees-true, super-falls}
+use Rattle.laws.specs.Tests.{and-true, any-true, or-true}
+use Rattle.laws.specs.Agreement.{nth-more}
+
+module _ (b : Base) where
+  slots-fuel : (j k c : ℕ) → c ≤ j → c ≤ k → slotsIn j b c ≡ slotsIn k b c
+  unfolding slotsIn
+  slots-fuel zero zero c l m = refl
+  slots-fuel zero (suc k) c l m = go (superOf b c) refl
+    where
+      go : (o : Option ℕ) → superOf b c ≡ o → _≡_ {A = List Slot} (ownSlots b c) (elim o as (λ _. List Slot) [ none ↦ ownSlots b c | some p ↦ slotsIn k b p ++ ownSlots b c ])
+      go none e = refl
+      go (some p) e = absurd (omega (arith, super-falls b c p e))
+  slots-fuel (suc j) zero c l m = go (superOf b c) refl
+    where
+      go : (o : Option ℕ) → superOf b c ≡ o → _≡_ {A = List Slot} (elim o as (λ _. List Slot) [ none ↦ ownSlots b c | some p ↦ slotsIn j b p ++ ownSlots b c ]) (ownSlots b c)
+      go none e = refl
+      go (some p) e = absurd (omega (arith, super-falls b c p e))
+  slots-fuel (suc j) (suc k) c l m = go (superOf b c) refl (λ p h. slots-fuel j k p (omega arith) (omega arith))
+    where
+      go : (o : Option ℕ) → superOf b c ≡ o → ((p : ℕ) → p < c → slotsIn j b p ≡ slotsIn k b p)
+          → _≡_ {A = List Slot} (elim o as (λ _. List Slot) [ none ↦ ownSlots b c | some p ↦ slotsIn j b p ++ ownSlots b c ]) (elim o as (λ _. List Slot) [ none ↦ ownSlots b c | some p ↦ slotsIn k b p ++ ownSlots b c ])
+      go none e f = refl
+      go (some p) e f = rw (f p (super-falls b c p e)) refl
+
+  slots-step : (n c p : ℕ) → c ≡ suc n → superOf b c ≡ some p → slotsIn (suc n) b c ≡ slots b p ++ ownSlots b c
+  unfolding slots slotsIn
+  slots-step n c p e s = rw (s, slotsIn) (rw (slots-fuel n p p (omega (arith, super-falls b c p s)) (omega arith)) refl)
+
+  pub slots-up : (c p : ℕ) → superOf b c ≡ some p → slots b c ≡ slots b p ++ ownSlots b c
+  unfolding slots
+  slots-up zero p s = absurd (omega (arith, super-falls b zero p s))
+  slots-up (suc n) p s = slots-step n (suc n) p refl s
+
+  bare : (c : ℕ) → superOf b c ≡ none → slots b c ≡ ownSlots b c
+  unfolding slots slotsIn
+  bare zero e = refl
+  bare (suc n) e = rw (e, slotsIn) refl
+
+  -- the class's own fields stand last
+  pub slots-own : (c : ℕ) → (pre : List Slot) × (slots b c ≡ pre ++ ownSlots b c)
+  slots-own c = go (superOf b c) refl
+    where
+      go : (o : Option ℕ) → superOf b c ≡ o → (pre : List Slot) × (slots b c ≡ pre ++ ownSlots b c)
+      go none e = ([], bare c e)
+      go (some p) e = (slots b p, slots-up c p e)
+
+  -- an object of a class below d has d's fields where d has them
+  pub slots-below : {c d : ℕ} → Below (superOf b) d c → (i : ℕ) (s : Slot) → getElem? (slots b d) i ≡ some s → getElem? (slots b c) i ≡ some s
+  slots-below (same q) i s h = rw q h
+  slots-below (up {c} {p} e z) i s h = rw (slots-up c p e) (nth-more (slots b p) (ownSlots b c) i s (slots-below z i s h))

@@ -1,0 +1,51 @@
+-- Tests on lists, and what they find.
+use mathlib.Core.Path.{_≡_, refl, sym, ap, _∙_}
+use mathlib.Core.Bool.{Bool, true, false, false≢true, not, _&&_, _||_}
+use mathlib.Core.Option.{Option, none, some, Option·none-ne-some, Option·some-injective}
+use mathlib.Core.List.{List, [], _∷_, _++_, map, List·Memᴰ, List·Memᴰ·head, List·Memᴰ·tail}
+use mathlib.Core.Logic.{_⊎_, inl, inr, _≢_}
+use Prim.Native.Nat.{ℕ, zero, suc, _+_, _-_, _≤_, _<_}
+use lib.ListN.{length, getElem?, set}
+use Rattle.definition.specs.Lists.{any, indexOf}
+
+pub and-true : (a b : Bool) → (a && b) ≡ true → (a ≡ true) × (b ≡ true)
+and-true true b h = (refl, h)
+and-true false b h = absurd (false≢true h)
+
+pub or-true : (a b : Bool) → (a || b) ≡ true → (a ≡ true) ⊎ (b ≡ true)
+or-true true b h = inl refl
+or-true false b h = inr h
+
+pub any-true : {A : Type 0} (f : A → Bool) (xs : List A) → any f xs ≡ true → (x : A) × List·Memᴰ x xs × (f x ≡ true)
+unfolding any
+any-true f [] h = absurd (false≢true h)
+any-true {A} f (x ∷ xs) h = go (f x) refl h (any-true f xs)
+  where
+    go : (t : Bool) → f x ≡ t → (elim t as (λ _. Bool) [ true ↦ true | false ↦ any f xs ]) ≡ true → (any f xs ≡ true → (y : A) × List·Memᴰ y xs × (f y ≡ true)) → (y : A) × List·Memᴰ y (x ∷ xs) × (f y ≡ true)
+    go true e r ih = (x, List·Memᴰ·head refl, e)
+    go false e r ih = let a = ih r in (a .0, List·Memᴰ·tail (a .1), a .2)
+
+pub any-right : {A : Type 0} (f : A → Bool) (xs ys : List A) → any f ys ≡ true → any f (xs ++ ys) ≡ true
+unfolding any
+any-right f [] ys h = h
+any-right f (x ∷ xs) ys h = go (f x) (any-right f xs ys h)
+  where
+    go : (t : Bool) → any f (xs ++ ys) ≡ true → (elim t as (λ _. Bool) [ true ↦ true | false ↦ any f (xs ++ ys) ]) ≡ true
+    go true r = refl
+    go false r = r
+
+pub record Found {A : Type 0} (f : A → Bool) (xs : List A) : Type 0 where
+  pub place : ℕ
+  pub item : A
+  pub index : indexOf f xs ≡ some place
+  pub there : getElem? xs place ≡ some item
+  pub passes : f item ≡ true
+
+pub any-found : {A : Type 0} (f : A → Bool) (xs : List A) → any f xs ≡ true → Found f xs
+unfolding any indexOf
+any-found f [] h = absurd (false≢true h)
+any-found {A} f (x ∷ xs) h = go (f x) refl h (any-found f xs)
+  where
+    go : (t : Bool) → f x ≡ t → (elim t as (λ _. Bool) [ true ↦ true | false ↦ any f xs ]) ≡ true → (any f xs ≡ true → Found f xs) → Found f (x ∷ xs)
+    go true e r ih = record { place = 0; item = x; index = rw (e, indexOf) refl; there = refl; passes = e }
+    go false e r ih = let a = ih r in record { place = suc (a .place); item = a .item; index = rw (e, indexOf) (rw (a .index) refl); there = a .there; passes = a .passes }

@@ -1,0 +1,56 @@
+-- A report's instruction runs only while no quote has a frame.
+use mathlib.Core.Path.{_≡_, refl, sym, ap, _∙_}
+use mathlib.Core.Option.{Option, none, some, Option·none-ne-some, Option·some-injective}
+use mathlib.Core.List.{List, [], _∷_}
+use Prim.Native.Nat.{ℕ, _<_}
+use native.Mathlib.Omega.{arith}
+use Rattle.definition.specs.declared.Refusal.{Refusal}
+use Rattle.definition.specs.declared.Answer.{Answer}
+use Rattle.definition.specs.declared.Answer.the-variants.{Idle, Ran, Finished, Refused}
+use Rattle.definition.specs.Answers.{Result, refused, ok, _>>=_}
+use Rattle.definition.specs.Constraints.{World}
+use Rattle.definition.specs.Machine.{Frame, step}
+use Rattle.definition.specs.Tables.{Tables, Rows, worldOf, view}
+use Rattle.definition.specs.Calls.{Given, answerOf, stepTask, stepOn, stepRows, stepTables}
+use Rattle.laws.specs.Results.{bind-ok}
+use Rattle.laws.specs.Wrapped.{wrapped}
+use Rattle.laws.specs.Runs.{after, IsRun, run-is}
+
+-- the task that a step's answer names
+abbrev pub taskOf : Answer → Option ℕ
+taskOf Idle = none
+taskOf (Ran k) = some k
+taskOf (Finished k n) = some k
+taskOf (Refused w) = none
+
+none-some : {A : Type 0} → Path (Option ℕ) none (some 1) → A
+none-some e = absurd (Option·none-ne-some 1 e)
+
+of-task : (k : ℕ) (o : Option ℕ) → taskOf (answerOf k o) ≡ some k
+unfolding answerOf
+of-task k none = refl
+of-task k (some n) = refl
+
+task-answer : (k : ℕ) (w : World) (f : Frame) (fs : List Frame) (r : Rows) (g : Given Answer) → stepTask k w f fs r ≡ ok g → taskOf (g .answer) ≡ some k
+unfolding stepTask
+task-answer k w f fs r g e =
+    let a = bind-ok _ _ e in
+    let z : answerOf k (a .0 .result) ≡ g .answer = cc (a .2) in
+    rw (sym z) (of-task k (a .0 .result))
+
+no-quote : (q p : List Frame) (w : World) (r : Rows) (g : Given Answer) → stepOn q p w r ≡ ok g → taskOf (g .answer) ≡ some 1 → q ≡ []
+unfolding stepOn
+no-quote (f ∷ fs) p w r g e h = let z : _≡_ {A = ℕ} 0 1 = Option·some-injective 0 1 (sym (task-answer 0 w f fs r g e) ∙ h) in absurd (omega arith)
+no-quote [] (f ∷ fs) w r g e h = refl
+no-quote [] [] w r g e h = refl
+
+-- a step that ran or finished with task 1 was taken with no frame of task 0, on any tables
+pub report-waits : (t : Tables) → taskOf (stepTables t .answer) ≡ some 1 → view t .quote ≡ []
+unfolding stepTables stepRows
+report-waits t =
+    wrapped Refused stepRows t (λ a _. taskOf a ≡ some 1 → view t .quote ≡ []) (λ _. none-some) (λ _ _. none-some)
+    (λ g e h. no-quote (view t .quote) (view t .report) (worldOf (view t)) (view t) g e h)
+
+-- and so was each step of a run: its i-th step is a step of the tables after i steps
+pub report-waits-in-run : (i : ℕ) (t : Tables) → taskOf (stepTables (after stepTables i t) .answer) ≡ some 1 → view (after stepTables i t) .quote ≡ []
+report-waits-in-run i t = report-waits (after stepTables i t)

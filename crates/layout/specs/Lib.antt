@@ -1,0 +1,8 @@
+-- Laws of the tables: reading what was written, writing what was read, and what 'broken' means.
+pub mod Tests
+pub mod Places
+pub mod Cells
+pub mod Whole
+pub mod Unbroken
+pub mod View
+pub mod Kinds

@@ -1,0 +1,314 @@
+-- What holds of rows that are no broken store: word 1's tests on rows and their meaning, both ways.
+use mathlib.Core.Path.{_≡_, refl}
+use mathlib.Core.Bool.{true, false≢true}
+use mathlib.Core.Option.{some}
+use mathlib.Core.List.{List, [], _∷_}
+use Prim.Native.Nat.{ℕ, zero, suc, _≤_, _<_}
+use native.Mathlib.Omega.{arith}
+use lib.ListN.{length}
+use borrow.Author.Tests.{eqb-true, eq-eqb, leb-true, le-leb, ltb-true, lt-ltb}
+use Rattle.definition.specs.Lists.{isSome}
+use Rattle.definition.specs.Classes.{Base, Entry, superOf}
+use Rattle.definition.specs.Constraints.{Tie, Subtype}
+use Rattle.definition.specs.Machine.{Value, unsetValue, intValue, nullValue, objectValue, unlistedValue, Object, Frame, existing}
+use Rattle.definition.specs.File.{File}
+use Rattle.definition.specs.Tables.{ClassRow, Rows, fileAt, sizeOf, worldOf}
+use Rattle.definition.specs.Broken.{isObject, classFits, classesFit, entryFits, tieFits, subtypeFits, valueFits, localFits, objectFits, frameFits, sound}
+pub use Rattle.layout.specs.Tests.{All, From}
+use Rattle.layout.specs.Tests.{all-all, all-test, all-more, from-all, all-from, every-true, true-every, is-some, some-is}
+
+-- Values, objects and frames, where there are n classes and m objects
+
+-- a local: alone it may be empty
+abbrev pub Local : ℕ → Value → Type 0
+Local m unsetValue = Unit {0}
+Local m (intValue n) = Unit {0}
+Local m nullValue = Unit {0}
+Local m (objectValue o) = o < m
+Local m (unlistedValue k b) = ⊥
+
+-- a field or an operand
+abbrev pub ValueSound : ℕ → Value → Type 0
+ValueSound m unsetValue = ⊥
+ValueSound m (intValue n) = Unit {0}
+ValueSound m nullValue = Unit {0}
+ValueSound m (objectValue o) = o < m
+ValueSound m (unlistedValue k b) = ⊥
+
+pub record ObjectSound (b : Base) (n m : ℕ) (o : Object) : Type 0 where
+  pub class : o .class < n
+  pub size : length (o .values) ≡ sizeOf b (o .class)
+  pub values : All (ValueSound m) (o .values)
+
+pub record Framed (n m : ℕ) (f : Frame) : Type 0 where
+  pub class : f .class < n
+  pub depth : length (f .operands) ≤ 16
+  pub operands : All (ValueSound m) (f .operands)
+  pub eight : length (f .locals) ≡ 8
+  pub locals : All (Local m) (f .locals)
+
+pub record Listed (n : ℕ) (e : Entry) : Type 0 where
+  pub loader : e .request .loader < 16
+  pub class : e .class < n
+
+pub record Between (t : Tie) : Type 0 where
+  pub one : t .one < 16
+  pub two : t .two < 16
+
+-- class 0 is Object, another class has a file, a superclass and at most 16 fields
+pub record First (k : ClassRow) : Type 0 where
+  pub loader : k .loader ≡ 0
+  pub start : k .start ≡ 0
+  pub size : k .size ≡ 0
+
+pub record ClassSound (b : Base) (bs : List ℕ) (c : ℕ) (k : ClassRow) : Type 0 where
+  pub loader : k .loader < 16
+  pub file : File
+  pub reads : fileAt bs k ≡ some file
+  pub super : ℕ
+  pub isSuper : superOf b c ≡ some super
+  pub size : sizeOf b c ≤ 16
+
+abbrev pub Classes : Base → List ℕ → List ClassRow → Type 0
+Classes b bs [] = Unit {0}
+Classes b bs (k ∷ ks) = First k × From (ClassSound b bs) 1 ks
+
+pub record Limits (r : Rows) : Type 0 where
+  pub classes : length (r .classes) ≤ 64
+  pub kept : length (r .kept) ≤ 16384
+  pub cache : length (r .cache) ≤ 256
+  pub ties : length (r .ties) ≤ 256
+  pub subtypes : length (r .subtypes) ≤ 256
+  pub objects : length (r .objects) ≤ 256
+  pub quote : length (r .quote) ≤ 32
+  pub report : length (r .report) ≤ 32
+
+pub record Whole (r : Rows) : Type 0 where
+  pub limits : Limits r
+  pub classes : Classes (worldOf r .base) (r .kept) (r .classes)
+  pub cache : All (Listed (length (r .classes))) (r .cache)
+  pub ties : All Between (r .ties)
+  pub subtypes : All (λ s. s .loader < 16) (r .subtypes)
+  pub objects : All (ObjectSound (worldOf r .base) (length (r .classes)) (length (r .objects))) (r .objects)
+  pub quote : All (Framed (length (r .classes)) (length (r .objects))) (r .quote)
+  pub report : All (Framed (length (r .classes)) (length (r .objects))) (r .report)
+
+-- The same but for limits, an object's number of fields and a frame's number of locals, which rows read off tables have by themselves
+
+pub record Objected (n m : ℕ) (o : Object) : Type 0 where
+  pub class : o .class < n
+  pub values : All (ValueSound m) (o .values)
+
+pub record Frames (n m : ℕ) (f : Frame) : Type 0 where
+  pub class : f .class < n
+  pub depth : length (f .operands) ≤ 16
+  pub operands : All (ValueSound m) (f .operands)
+  pub locals : All (Local m) (f .locals)
+
+pub record Sound (r : Rows) : Type 0 where
+  pub classes : Classes (worldOf r .base) (r .kept) (r .classes)
+  pub cache : All (Listed (length (r .classes))) (r .cache)
+  pub ties : All Between (r .ties)
+  pub subtypes : All (λ s. s .loader < 16) (r .subtypes)
+  pub objects : All (Objected (length (r .classes)) (length (r .objects))) (r .objects)
+  pub quote : All (Frames (length (r .classes)) (length (r .objects))) (r .quote)
+  pub report : All (Frames (length (r .classes)) (length (r .objects))) (r .report)
+
+pub whole-sound : (r : Rows) → Whole r → Sound r
+whole-sound r w = record {
+  classes = w .classes;
+  cache = w .cache;
+  ties = w .ties;
+  subtypes = w .subtypes;
+  objects = all-more (λ o h. record { class = h .class; values = h .values }) (r .objects) (w .objects);
+  quote = all-more (framed-frames _ _) (r .quote) (w .quote);
+  report = all-more (framed-frames _ _) (r .report) (w .report);
+}
+  where
+    framed-frames : (n m : ℕ) (f : Frame) → Framed n m f → Frames n m f
+    framed-frames n m f h = record { class = h .class; depth = h .depth; operands = h .operands; locals = h .locals }
+
+-- Tests and their meaning
+
+pub existing-some : (os : List Object) (o : ℕ) → o < length os → isSome (existing os o) ≡ true
+unfolding existing isSome
+existing-some [] o h = absurd (omega arith)
+existing-some (x ∷ os) zero h = refl
+existing-some (x ∷ os) (suc o) h = existing-some os o (omega arith)
+
+pub some-existing : (os : List Object) (o : ℕ) → isSome (existing os o) ≡ true → o < length os
+unfolding existing isSome
+some-existing [] o h = absurd (false≢true h)
+some-existing (x ∷ os) zero h = omega arith
+some-existing (x ∷ os) (suc o) h = let l = some-existing os o h in omega arith
+
+module _ (os : List Object) where
+  pub local-fits : (v : Value) → Local (length os) v → localFits os v ≡ true
+  unfolding localFits
+  local-fits unsetValue h = refl
+  local-fits (intValue n) h = refl
+  local-fits nullValue h = refl
+  local-fits (objectValue o) h = existing-some os o h
+  local-fits (unlistedValue k b) h = absurd h
+
+  pub fits-local : (v : Value) → localFits os v ≡ true → Local (length os) v
+  unfolding localFits
+  fits-local unsetValue h = tt
+  fits-local (intValue n) h = tt
+  fits-local nullValue h = tt
+  fits-local (objectValue o) h = some-existing os o h
+  fits-local (unlistedValue k b) h = absurd (false≢true h)
+
+  pub value-fits : (v : Value) → ValueSound (length os) v → valueFits os v ≡ true
+  unfolding valueFits
+  value-fits unsetValue h = absurd h
+  value-fits (intValue n) h = refl
+  value-fits nullValue h = refl
+  value-fits (objectValue o) h = existing-some os o h
+  value-fits (unlistedValue k b) h = absurd h
+
+  pub fits-value : (v : Value) → valueFits os v ≡ true → ValueSound (length os) v
+  unfolding valueFits
+  fits-value unsetValue h = absurd (false≢true h)
+  fits-value (intValue n) h = tt
+  fits-value nullValue h = tt
+  fits-value (objectValue o) h = some-existing os o h
+  fits-value (unlistedValue k b) h = absurd (false≢true h)
+
+  pub object-fits : (n : ℕ) (o : Object) → Objected n (length os) o → objectFits n os o ≡ true
+  unfolding objectFits
+  object-fits n o h = true-every _ (lt-ltb (o .class) n (h .class), (all-test (valueFits os) (ValueSound (length os)) value-fits (o .values) (h .values), tt))
+
+  pub fits-object : (n : ℕ) (o : Object) → objectFits n os o ≡ true → Objected n (length os) o
+  unfolding objectFits
+  fits-object n o h =
+      let p = every-true _ h in
+      record { class = ltb-true (o .class) n (p .0); values = all-all (valueFits os) (ValueSound (length os)) fits-value (o .values) (p .1 .0) }
+
+  pub frame-fits : (n : ℕ) (f : Frame) → Frames n (length os) f → frameFits n os f ≡ true
+  unfolding frameFits
+  frame-fits n f h =
+      true-every _ (
+        lt-ltb (f .class) n (h .class),
+        (
+          le-leb (length (f .operands)) 16 (h .depth),
+          (
+            all-test (valueFits os) (ValueSound (length os)) value-fits (f .operands) (h .operands),
+            (all-test (localFits os) (Local (length os)) local-fits (f .locals) (h .locals), tt),
+          ),
+        ),
+      )
+
+  pub fits-frame : (n : ℕ) (f : Frame) → frameFits n os f ≡ true → Frames n (length os) f
+  unfolding frameFits
+  fits-frame n f h =
+      let p = every-true _ h in
+      record {
+        class = ltb-true (f .class) n (p .0);
+        depth = leb-true (length (f .operands)) 16 (p .1 .0);
+        operands = all-all (valueFits os) (ValueSound (length os)) fits-value (f .operands) (p .1 .1 .0);
+        locals = all-all (localFits os) (Local (length os)) fits-local (f .locals) (p .1 .1 .1 .0);
+      }
+
+module _ (b : Base) (bs : List ℕ) where
+  pub fits-class : (c : ℕ) (k : ClassRow) → classFits b bs c k ≡ true → ClassSound b bs c k
+  unfolding classFits
+  fits-class c k h =
+      let p = every-true _ h in
+      let f = is-some _ (p .1 .0) in
+      let s = is-some _ (p .1 .1 .0) in
+      record { loader = ltb-true (k .loader) 16 (p .0); file = f .0; reads = f .1; super = s .0; isSuper = s .1; size = leb-true (sizeOf b c) 16 (p .1 .1 .1 .0) }
+
+  pub class-fits : (c : ℕ) (k : ClassRow) → ClassSound b bs c k → classFits b bs c k ≡ true
+  unfolding classFits
+  class-fits c k h =
+      true-every _ (lt-ltb (k .loader) 16 (h .loader), (some-is _ _ (h .reads), (some-is _ _ (h .isSuper), (le-leb (sizeOf b c) 16 (h .size), tt))))
+
+  pub fits-classes : (ks : List ClassRow) → classesFit b bs ks ≡ true → Classes b bs ks
+  unfolding classesFit isObject
+  fits-classes [] h = tt
+  fits-classes (k ∷ ks) h =
+      let p = every-true _ h in
+      let q = every-true _ (p .0) in (
+        record { loader = eqb-true (k .loader) 0 (q .0); start = eqb-true (k .start) 0 (q .1 .0); size = eqb-true (k .size) 0 (q .1 .1 .0) },
+        from-all (classFits b bs) (ClassSound b bs) fits-class 1 ks (p .1 .0),
+      )
+
+  pub classes-fit : (ks : List ClassRow) → Classes b bs ks → classesFit b bs ks ≡ true
+  unfolding classesFit isObject
+  classes-fit [] h = refl
+  classes-fit (k ∷ ks) h =
+      true-every _ (
+        true-every _ (eq-eqb (k .loader) 0 (h .0 .loader), (eq-eqb (k .start) 0 (h .0 .start), (eq-eqb (k .size) 0 (h .0 .size), tt))),
+        (all-from (classFits b bs) (ClassSound b bs) class-fits 1 ks (h .1), tt),
+      )
+
+pub fits-entry : (n : ℕ) (e : Entry) → entryFits n e ≡ true → Listed n e
+unfolding entryFits
+fits-entry n e h = let p = every-true _ h in record { loader = ltb-true (e .request .loader) 16 (p .0); class = ltb-true (e .class) n (p .1 .0) }
+
+pub entry-fits : (n : ℕ) (e : Entry) → Listed n e → entryFits n e ≡ true
+unfolding entryFits
+entry-fits n e h = true-every _ (lt-ltb (e .request .loader) 16 (h .loader), (lt-ltb (e .class) n (h .class), tt))
+
+pub fits-tie : (t : Tie) → tieFits t ≡ true → Between t
+unfolding tieFits
+fits-tie t h = let p = every-true _ h in record { one = ltb-true (t .one) 16 (p .0); two = ltb-true (t .two) 16 (p .1 .0) }
+
+pub tie-fits : (t : Tie) → Between t → tieFits t ≡ true
+unfolding tieFits
+tie-fits t h = true-every _ (lt-ltb (t .one) 16 (h .one), (lt-ltb (t .two) 16 (h .two), tt))
+
+pub fits-subtype : (s : Subtype) → subtypeFits s ≡ true → s .loader < 16
+unfolding subtypeFits
+fits-subtype s h = ltb-true (s .loader) 16 h
+
+pub subtype-fits : (s : Subtype) → s .loader < 16 → subtypeFits s ≡ true
+unfolding subtypeFits
+subtype-fits s h = lt-ltb (s .loader) 16 h
+
+-- `sound` says exactly this
+
+pub sound-true : (r : Rows) → sound r ≡ true → Sound r
+unfolding sound
+sound-true r h =
+    let p = every-true _ h in
+    let n = length (r .classes) in
+    let os = r .objects in
+    record {
+      classes = fits-classes _ _ _ (p .0);
+      cache = all-all _ (Listed n) (fits-entry n) (r .cache) (p .1 .0);
+      ties = all-all _ Between fits-tie (r .ties) (p .1 .1 .0);
+      subtypes = all-all _ (λ s. s .loader < 16) fits-subtype (r .subtypes) (p .1 .1 .1 .0);
+      objects = all-all _ (Objected n (length os)) (fits-object os n) os (p .1 .1 .1 .1 .0);
+      quote = all-all _ (Frames n (length os)) (fits-frame os n) (r .quote) (p .1 .1 .1 .1 .1 .0);
+      report = all-all _ (Frames n (length os)) (fits-frame os n) (r .report) (p .1 .1 .1 .1 .1 .1 .0);
+    }
+
+pub sound-is : (r : Rows) → Sound r → sound r ≡ true
+unfolding sound
+sound-is r s =
+    let n = length (r .classes) in
+    let os = r .objects in
+    true-every _ (
+      classes-fit _ _ _ (s .classes),
+      (
+        all-test _ (Listed n) (entry-fits n) (r .cache) (s .cache),
+        (
+          all-test _ Between tie-fits (r .ties) (s .ties),
+          (
+            all-test _ (λ s. s .loader < 16) subtype-fits (r .subtypes) (s .subtypes),
+            (
+              all-test _ (Objected n (length os)) (object-fits os n) os (s .objects),
+              (
+                all-test _ (Frames n (length os)) (frame-fits os n) (r .quote) (s .quote),
+                (all-test _ (Frames n (length os)) (frame-fits os n) (r .report) (s .report), tt),
+              ),
+            ),
+          ),
+        ),
+      ),
+    )
+
+pub true-sound : (r : Rows) → Whole r → sound r ≡ true
+true-sound r w = sound-is r (whole-sound r w)

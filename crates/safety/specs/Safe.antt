@@ -1,0 +1,156 @@
+-- The invariant is kept by loads, starts and steps.
+use mathlib.Core.Path.{_≡_, refl, sym, ap, _∙_}
+use mathlib.Core.Bool.{Bool, true, false, false≢true, not, _&&_, _||_}
+use mathlib.Core.Option.{Option, none, some, Option·none-ne-some, Option·some-ne-none, Option·some-injective}
+use mathlib.Core.List.{List, [], _∷_, _++_, map, List·Memᴰ, List·Memᴰ·head, List·Memᴰ·tail, List·Memᴰ·not-nil, List·Memᴰ·eq-of-singleton}
+use mathlib.Core.Logic.{_⊎_, inl, inr, _≢_}
+use Prim.Native.Nat.{ℕ, zero, suc, _+_, _≤_, _<_}
+use native.Mathlib.Omega.{arith}
+use lib.ListN.{length, getElem?}
+use lib.Dec.{eqb, leb, ltb}
+use borrow.Author.Tests.{eqb-true}
+use Rattle.definition.specs.Answers.{Result, _>>=_, need, ok, refused}
+use Rattle.definition.specs.Classes.{Class, Entry, alike, find, hasMethod, methodsOf, slots, superOf}
+use Rattle.definition.specs.Constraints.{World, agrees, edges, pairAgrees, rowAgrees, subtypeEdges, tieEdges, agreesOver}
+use Rattle.definition.specs.Lists.{all, indexOf, isNone}
+use Rattle.definition.specs.Loading.{define, recorded, started, withEntry}
+use Rattle.definition.specs.Machine.{Frame, Object, Progress, entryFrame, initialValue, intValue, newObject}
+use Rattle.definition.specs.Requests.{at, fires, grow, has, rest, sameRequest, reach}
+use Rattle.definition.specs.Superclasses.{nearest}
+use Rattle.definition.specs.Verifier.{entryTypes}
+use Rattle.definition.specs.declared.Refusal.the-variants.{Word}
+use Rattle.laws.specs.Agreement.{agrees-true, find-row, super-falls, super-is}
+use Rattle.laws.specs.Options.{nth-last}
+use Rattle.laws.specs.Results.{Wp, not-wanted, not-word, wp-need, wp-take}
+use Rattle.laws.specs.Upward.{nearest-below}
+use Rattle.safety.specs.Conform.{fits-own}
+use Rattle.safety.specs.Store.{Store, booted, inQuote, inReport, inWorld}
+use Rattle.safety.specs.Loads.{linked-class, linked-entry, ss, us}
+use Rattle.safety.specs.Steps.{Kept, as-int, heap-more, later-more, later-same, method-at, zeros-conform}
+use Rattle.safety.specs.Typing.{verified-here}
+use Rattle.safety.specs.Valid.{Heap, Later, Linked, Stack, later-stack, rooted}
+use Rattle.laws.specs.Growth.{Grows}
+use Rattle.laws.specs.Growth.{grows-class, grows-entry}
+use Rattle.safety.specs.Heap.{heap-grows}
+
+pub none-is : {A : Type 0} (o : Option A) → isNone o ≡ true → o ≡ none
+unfolding isNone
+none-is none h = refl
+none-is (some a) h = absurd (false≢true h)
+
+boot-agrees : agrees (booted .world) ≡ true
+unfolding agrees agreesOver reach all rowAgrees pairAgrees find edges tieEdges subtypeEdges has grow fires rest sameRequest
+boot-agrees = refl
+
+boot-own : find (booted .world .base .cache) (at 0 2) ≡ some 0
+unfolding find sameRequest
+boot-own = refl
+
+boot-class : (c : ℕ) (k : Class) → getElem? (booted .world .base .classes) c ≡ some k → (c ≡ 0) × (k ≡ record { loader = 0; name = 2; super = 0; fields = []; methods = [] })
+boot-class zero k h = (refl, sym (Option·some-injective _ _ h))
+boot-class (suc c) k h = absurd (Option·none-ne-some k h)
+
+boot-top : (x p : ℕ) → superOf (booted .world .base) x ≡ some p → ⊥
+boot-top x p h = let s = super-is (booted .world .base) x p h in omega (arith, s .less, boot-class x (s .theClass) (s .isClass) .0)
+
+pub record Valid (s : Store) : Type 0 where
+  pub linked : Linked (s .world)
+  pub heap : Heap (s .world) (s .objects)
+  pub quote : Stack (s .world) (s .objects) (s .quote)
+  pub report : Stack (s .world) (s .objects) (s .report)
+
+-- Loads
+pub record Loaded (v w : World) : Type 0 where
+  pub linked : Linked w
+  pub grows : Grows v w
+
+pub define-kept : (b : Bool) (k : Class) (v : World) → Linked v → Wp (define b k v) (Loaded v)
+unfolding define us ss
+define-kept b k v lk =
+    wp-take (Loaded v) _ _ _ (not-word 6 (omega arith)) (λ ns vn. wp-need (Loaded v) _ _ _ (not-word 4 (omega arith)) (λ fr.
+    wp-take (Loaded v) _ _ _ (not-wanted _) (λ p fp. wp-need (Loaded v) _ _ _ (not-word 8 (omega arith)) (λ _. wp-need (Loaded v) _ _ _ (not-word 10 (omega arith)) (λ _. wp-need (Loaded v) _ _ _ (not-word 9 (omega arith)) (λ g.
+    record { linked = linked-class v k ns p lk vn (none-is _ fr) fp (agrees-true _ g); grows = grows-class v k _ _ }))))))
+
+pub record-kept : (l n c : ℕ) (v : World) → Linked v → Wp (recorded l n c v) (Loaded v)
+unfolding recorded
+record-kept l n c v lk =
+    wp-need (Loaded v) _ _ _ (not-word 3 (omega arith)) (λ _. wp-take (Loaded v) _ _ _ (not-word 3 (omega arith)) (λ k ck. wp-need (Loaded v) _ _ _ (not-word 13 (omega arith)) (λ _. go k ck (find (v .base .cache) (at l n)))))
+  where
+    go : (k : Class) → getElem? (v .base .classes) c ≡ some k → (o : Option ℕ)
+        → Wp (elim o as (λ _. Result World) [ some d ↦ need (eqb d c) (Word 4) >>= λ _. ok v | none ↦ need (ltb (length (v .base .cache)) 256) (Word 10) >>= λ _. need (agrees (withEntry v (at l n) c)) (Word 9) >>= λ _. ok (withEntry v (at l n) c) ]) (Loaded v)
+    go k ck none = wp-need (Loaded v) _ _ _ (not-word 10 (omega arith)) (λ _. wp-need (Loaded v) _ _ _ (not-word 9 (omega arith)) (λ g. record { linked = linked-entry v (at l n) c k lk ck (agrees-true _ g); grows = grows-entry v (at l n) c }))
+    go k ck (some d) = wp-need (Loaded v) _ _ _ (not-word 4 (omega arith)) (λ _. record { linked = lk; grows = later-same v [] .grows })
+
+-- Starts
+pub start-kept : (l n m x : ℕ) (v : World) (os : List Object) (fs : List Frame) → Linked v → Heap v os → Wp (started l n m x v os fs) (Kept v os)
+unfolding started newObject
+start-kept l n m x v os fs lk hp =
+    wp-need (Kept v os) _ _ _ (not-word 3 (omega arith)) (λ _. wp-need (Kept v os) _ _ _ (not-word 12 (omega arith)) (λ _. wp-take (Kept v os) _ _ _ (not-wanted _) (λ c fc.
+    wp-take (Kept v os) _ _ _ (not-word 7 (omega arith)) (λ s fs. wp-take (Kept v os) _ _ _ (not-word 7 (omega arith)) (λ j ij.
+    wp-need (Kept v os) _ _ _ (not-word 10 (omega arith)) (λ _. begun c s j fc fs ij))))))
+  where
+    begun : (c s j : ℕ) → find (v .base .cache) (at l n) ≡ some c → nearest (superOf (v .base)) (hasMethod (v .base) m 1 1) c ≡ some s → indexOf (alike m 1 1) (methodsOf (v .base) s) ≡ some j
+        → Kept v os (record { world = v; objects = os ++ (record { class = c; values = map initialValue (slots (v .base) c) } ∷ []); frames = entryFrame s j (length os) (intValue x) ∷ []; result = none })
+    begun c s j fc fs ij =
+        let b : Object = record { class = c; values = map initialValue (slots (v .base) c) } in
+        let qs = os ++ (b ∷ []) in
+        let nb = nearest-below (superOf (v .base)) (super-falls (v .base)) (hasMethod (v .base) m 1 1) c s fs in
+        let ma = method-at (v .base) s m 1 1 (nb .1) in
+        let r = lk .real (at l n) c fc in
+        let ve = lk .verified s (ma .place) (ma .theClass) (ma .method) (ma .isClass) (ma .isMethod) in
+        let z : j ≡ ma .place = Option·some-injective _ _ (sym ij ∙ ma .index) in
+        record {
+          linked = lk;
+          later = later-more v os b;
+          heap = heap-more v os b hp (record { theClass = r .0; isClass = r .1; filled = zeros-conform v os (slots (v .base) c) });
+          stack = (
+            ma .theClass,
+            ma .method,
+            record {
+              τ = entryTypes (ma .theClass) (ma .method);
+              typed = record {
+                isClass = ma .isClass;
+                isMethod = rw z (ma .isMethod);
+                types = verified-here (ma .method .code) (ma .method .result) (length (ma .method .code)) 0 (entryTypes (ma .theClass) (ma .method)) (ve .notes) (ve .passes);
+              };
+              operands = tt;
+              locals = (
+                record { object = b; there = nth-last os b; fits = fits-own (lk .own s (ma .theClass) (ma .isClass)) (nb .0) },
+                (as-int v qs (ma .theClass .loader) (ma .method .argument) (intValue x) (ma .argument) tt, (tt, (tt, (tt, (tt, (tt, (tt, tt))))))),
+              );
+            },
+            ma .result,
+          );
+        }
+
+-- Calls
+
+pub valid-world : (s : Store) (r : Result World) → Valid s → Wp r (Loaded (s .world)) → Valid (inWorld s r)
+valid-world s (refused w) v h = v
+valid-world s (ok w) v h =
+    let z : Later (s .world) (s .objects) w (s .objects) = record { grows = h .grows; objects = λ o b e. (b, e, refl) } in
+    record { linked = h .linked; heap = heap-grows (s .world) w (rooted (v .linked)) (h .grows) (s .objects) (v .heap) z; quote = later-stack z (s .quote) (v .quote); report = later-stack z (s .report) (v .report) }
+
+pub valid-quote : (s : Store) (r : Result Progress) → Valid s → Wp r (Kept (s .world) (s .objects)) → Valid (inQuote s r)
+valid-quote s (refused w) v h = v
+valid-quote s (ok o) v h = record { linked = h .linked; heap = h .heap; quote = h .stack; report = later-stack (h .later) (s .report) (v .report) }
+
+pub valid-report : (s : Store) (r : Result Progress) → Valid s → Wp r (Kept (s .world) (s .objects)) → Valid (inReport s r)
+valid-report s (refused w) v h = v
+valid-report s (ok o) v h = record { linked = h .linked; heap = h .heap; report = h .stack; quote = later-stack (h .later) (s .quote) (v .quote) }
+
+pub valid-booted : Valid booted
+valid-booted = record {
+  linked = record {
+    agreed = agrees-true (booted .world) boot-agrees;
+    own = λ c k h. let z = boot-class c k h in rw (z .0, z .1) boot-own;
+    real = λ r c h. let z = find-row (booted .world .base .cache) r c h in (_, ap (getElem? (booted .world .base .classes)) (sym (z .3) ∙ ap (λ (e : Entry). e .class) (List·Memᴰ·eq-of-singleton (z .1))));
+    supers = λ c k h l. absurd (omega (arith, boot-class c k h .0));
+    verified = λ c j k m h e. absurd (Option·none-ne-some m (rw (boot-class c k h .1) at e));
+    overArg = λ n a r x p y h s. absurd (boot-top x p s);
+    overRes = λ n a r x p y h s. absurd (boot-top x p s);
+  };
+  heap = λ o b e. absurd (Option·none-ne-some b e);
+  quote = tt;
+  report = tt;
+}

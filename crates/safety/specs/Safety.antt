@@ -1,0 +1,257 @@
+-- Demand 3: from an accepted boot, whatever calls follow, nothing is misplaced, broken or stuck.
+use mathlib.Core.Path.{_≡_, refl, sym, ap, _∙_, subst}
+use mathlib.Core.Bool.{Bool, true, false, false≢true, _&&_}
+use mathlib.Core.Option.{Option, none, some, Option·none-ne-some, Option·some-injective}
+use mathlib.Core.List.{List, [], _∷_}
+use Prim.Native.Nat.{ℕ, zero, suc, _<_, _≤_}
+use native.Mathlib.Omega.{arith}
+use lib.ListN.{length, getElem?}
+use lib.Dec.{leb}
+use borrow.Author.Tests.{ltb-true}
+use Rattle.definition.specs.declared.Refusal.{Refusal}
+use Rattle.definition.specs.declared.Refusal.the-variants.{Wanted, Word}
+use Rattle.definition.specs.declared.Answer.{Answer}
+use Rattle.definition.specs.declared.Answer.the-variants.{Idle, Ran, Finished, Refused}
+use Rattle.definition.specs.declared.Reply.{Reply}
+use Rattle.definition.specs.declared.Reply.the-variants.{Accepted, Defined, Stepped, RanFor, Denied}
+use Rattle.definition.specs.Answers.{number, numberOf, numberOfStep, Result, refused, ok, _>>=_}
+use Rattle.definition.specs.Constraints.{World}
+use Rattle.definition.specs.File.{classOf}
+use Rattle.definition.specs.Machine.{Frame, Progress}
+use Rattle.definition.specs.Tables.{Tables, shaped, Rows, worldOf, view, put}
+use Rattle.definition.specs.Broken.{broken}
+use Rattle.definition.specs.Calls.{Given, bootRows, progressed, framesIn, withFrames, defineRows, recordRows, startRows, dropRows, answerOf, stepTask, stepOn, stepRows, Done, done, wrap, boot, stepTables, goOn, runFrom, run, Call, callBoot, callDefine, callRecord, callStart, callStep, callRun, callDrop, perform, performAll, ComesFromBoot}
+use Rattle.definition.specs.Misplaced.{misplaced, AllPlaced}
+use Rattle.definition.specs.Safety.{Safe}
+use Rattle.laws.specs.Results.{NotStuck, Wp, not-word, ok-inj, wp-need, wp-take}
+use Rattle.laws.specs.Wrapped.{wrapped, Ok, ok-at}
+use Rattle.layout.specs.Tests.{All}
+use Rattle.layout.specs.Whole.{Whole, Framed}
+use Rattle.layout.specs.Unbroken.{Lengths, shaped-true, true-shaped, view-put, true-whole, broken-false, object-class}
+use Rattle.unbroken.specs.Steps.{step-moves}
+use Rattle.unbroken.specs.Calls.{ready, start-moves, world-progressed, world-recorded, world-defined, define-whole, record-whole, start-whole, step-whole, drop-whole, boot-whole}
+use Rattle.safety.specs.Store.{Store, storeOf, booted}
+use Rattle.safety.specs.Valid.{Stack}
+use Rattle.safety.specs.Steps.{Kept, step-kept}
+use Rattle.safety.specs.Safe.{Valid, Loaded, define-kept, record-kept, start-kept, valid-world, valid-quote, valid-report, valid-booted}
+use Rattle.safety.specs.Misplaced.{valid-placed}
+use Rattle.safety.specs.Words.{placed-words}
+
+-- Answers that are not 'stuck', said by their number
+
+not-fourteen : (w : Refusal) → NotStuck w → number w ≡ 14 → ⊥
+unfolding number
+not-fourteen (Wanted l n) h e = absurd (omega arith)
+not-fourteen (Word n) h e = h (ap Word e)
+
+abbrev FineStep : Answer → Type 0
+FineStep a = numberOfStep a ≡ 14 → ⊥
+
+abbrev Fine : Reply → Type 0
+Fine a = numberOf a ≡ 14 → ⊥
+
+zero-fine : _≡_ {A = ℕ} 0 14 → ⊥
+zero-fine e = omega arith
+
+-- Every call on rows that are whole and valid
+
+wp-on : {A B : Type 0} (P : A → Type 0) (Q : B → Type 0) (o : Result A) (f : A → Result B) → Wp o P → ((a : A) → o ≡ ok a → P a → Wp (f a) Q) → Wp (o >>= f) Q
+unfolding _>>=_
+wp-on P Q (refused w) f h k = h
+wp-on P Q (ok a) f h k = k a refl h
+
+abbrev Good : Rows → Type 0
+Good r = Valid (storeOf r)
+
+-- a store with other classes, cache and constraints
+abbrev in-world : Store → World → Store
+in-world s w = record { world = w; objects = s .objects; quote = s .quote; report = s .report }
+
+module _ (r : Rows) (w : Whole r) (v : Good r) where
+  abbrev S : Store
+  S = storeOf r
+
+  abbrev Q : Given Reply → Type 0
+  Q g = Good (g .rows) × Fine (g .answer)
+
+  abbrev R : Given Answer → Type 0
+  R g = Good (g .rows) × FineStep (g .answer)
+
+  define-good : (l : ℕ) (bs : List ℕ) → Wp (defineRows l bs r) Q
+  unfolding defineRows numberOf
+  define-good l bs = wp-need Q _ _ _ (not-word 3 (omega arith)) (λ a. wp-take Q _ _ _ (not-word 2 (omega arith)) (λ f rf.
+      wp-on (Loaded (S .world)) Q _ _ (define-kept _ (classOf l f) (S .world) (v .linked)) (λ x e h.
+      (subst (λ (z : World). Valid (in-world S z)) (sym (world-defined r w l bs f x (ltb-true l 16 a) rf e)) (valid-world S (ok x) v h), zero-fine))))
+
+  record-good : (l n c : ℕ) → Wp (recordRows l n c r) Q
+  unfolding recordRows numberOf
+  record-good l n c = wp-on (Loaded (S .world)) Q _ _ (record-kept l n c (S .world) (v .linked)) (λ x e h.
+      (subst (λ (z : World). Valid (in-world S z)) (sym (world-recorded r w l n c x e)) (valid-world S (ok x) v h), zero-fine))
+
+  progress-good : (k : ℕ) (o : Progress) → worldOf (progressed k r o) ≡ o .world → Kept (S .world) (S .objects) o → Good (progressed k r o)
+  progress-good zero o q h = subst (λ (z : World). Valid (record { world = z; objects = o .objects; quote = o .frames; report = r .report })) (sym q) (valid-quote S (ok o) v h)
+  progress-good (suc k) o q h = subst (λ (z : World). Valid (record { world = z; objects = o .objects; quote = r .quote; report = o .frames })) (sym q) (valid-report S (ok o) v h)
+
+  start-good : (k l n m x : ℕ) → Wp (startRows k l n m x r) Q
+  unfolding startRows numberOf
+  start-good k l n m x = wp-need Q _ _ _ (not-word 3 (omega arith)) (λ _.
+      wp-on (Kept (S .world) (S .objects)) Q _ _ (start-kept l n m x (S .world) (S .objects) (framesIn k r) (v .linked) (v .heap)) (λ o e h.
+      (progress-good k o (world-progressed r w k o (ok-at _ _ (start-moves r w l n m x (framesIn k r)) o e)) h, zero-fine)))
+
+  fine-answer : (k : ℕ) (o : Option ℕ) → FineStep (answerOf k o)
+  unfolding answerOf numberOfStep
+  fine-answer k none = zero-fine
+  fine-answer k (some n) = zero-fine
+
+  task-good : (k : ℕ) (f : Frame) (fs : List Frame) → Stack (S .world) (S .objects) (f ∷ fs) → All (Framed (length (r .classes)) (length (r .objects))) (f ∷ fs) → length (f ∷ fs) ≤ 32 → Wp (stepTask k (worldOf r) f fs r) R
+  unfolding stepTask
+  task-good k f fs x a c = wp-on (Kept (S .world) (S .objects)) R _ _ (step-kept (S .world) (S .objects) f fs (v .linked) (v .heap) x) (λ o e h.
+      (progress-good k o (world-progressed r w k o (ok-at _ _ (step-moves (S .world) (length (r .classes)) (r .objects) (ready r w) f fs a c) o e)) h, fine-answer k (o .result)))
+
+  step-good : Wp (stepRows r) R
+  unfolding stepRows
+  step-good = go (r .quote) (r .report) (v .quote) (v .report) (w .quote) (w .report) (w .limits .quote) (w .limits .report)
+    where
+      go : (q p : List Frame) → Stack (S .world) (S .objects) q → Stack (S .world) (S .objects) p → All (Framed (length (r .classes)) (length (r .objects))) q → All (Framed (length (r .classes)) (length (r .objects))) p
+          → length q ≤ 32 → length p ≤ 32 → Wp (stepOn q p (worldOf r) r) R
+      go (f ∷ fs) p x y a b c d = unfold stepOn in task-good 0 f fs x a c
+      go [] (f ∷ fs) x y a b c d = unfold stepOn in task-good 1 f fs y b d
+      go [] [] x y a b c d = unfold stepOn numberOfStep in (v, zero-fine)
+
+  dropped-good : (k : ℕ) → Good (withFrames k r [])
+  dropped-good zero = record { linked = v .linked; heap = v .heap; quote = tt; report = v .report }
+  dropped-good (suc k) = record { linked = v .linked; heap = v .heap; quote = v .quote; report = tt }
+
+  drop-good : (k : ℕ) → Wp (dropRows k r) Q
+  unfolding dropRows numberOf
+  drop-good k = wp-need Q _ _ _ (not-word 3 (omega arith)) (λ _. (dropped-good k, zero-fine))
+
+boot-good : Good bootRows
+boot-good = subst Valid (sym same) valid-booted
+  where
+    same : storeOf bootRows ≡ booted
+    same = λ i. record {
+      world = record { base = record { classes = object-class [] (record { loader = 0; start = 0; size = 0 }) (record { loader = refl; start = refl; size = refl }) i ∷ []; cache = booted .world .base .cache }; ties = []; subtypes = [] };
+      objects = [];
+      quote = [];
+      report = [];
+    }
+
+-- Tables that come from a boot
+
+record Sane (t : Tables) : Type 0 where
+  unbroken : broken t ≡ false
+  valid : Good (view t)
+
+put-sane : (r : Rows) (t : Tables) → Lengths t → Whole r → Good r → Sane (put r t)
+put-sane r t l w v = record { unbroken = true-whole r t l w; valid = subst Good (sym (view-put r t l w)) v }
+
+wp-at : {A : Type 0} (Q : A → Type 0) (o : Result A) → Wp o Q → (a : A) → o ≡ ok a → Q a
+wp-at Q (refused w) h a e = absurd (let z : _≡_ {A = ℕ} 0 1 = cc in omega arith)
+wp-at Q (ok b) h a e = rw (ok-inj e) at h
+
+wp-refused : {A : Type 0} (Q : A → Type 0) (o : Result A) → Wp o Q → (w : Refusal) → o ≡ refused w → NotStuck w
+wp-refused Q (refused x) h w e = let z : x ≡ w = cc in rw z at h
+wp-refused Q (ok b) h w e = absurd (let z : _≡_ {A = ℕ} 0 1 = cc in omega arith)
+
+wrap-sane : {A : Type 0} (deny : Refusal → A) (F : A → Type 0) (f : Rows → Result (Given A)) (t : Tables) → Sane t → ((w : Refusal) → NotStuck w → F (deny w))
+    → ((r : Rows) → Whole r → Ok (f r) (λ g. Whole (g .rows))) → ((r : Rows) → Whole r → Good r → Wp (f r) (λ g. Good (g .rows) × F (g .answer))) → F (wrap deny f t .answer) × Sane (wrap deny f t .tables)
+wrap-sane deny F f t s n k j =
+    let u = broken-false t (s .unbroken) in
+    let h = j (view t) (u .1) (s .valid) in
+    wrapped deny f t (λ a z. F a × Sane z) (λ e. absurd (false≢true (sym (s .unbroken) ∙ e)))
+    (λ w e. (n w (wp-refused (λ g. Good (g .rows) × F (g .answer)) _ h w e), s))
+    (λ g e. let x = wp-at (λ g. Good (g .rows) × F (g .answer)) _ h g e in (x .1, put-sane (g .rows) t (u .0) (ok-at (λ g. Whole (g .rows)) _ (k (view t) (u .1)) g e) (x .0)))
+
+refused-fine : (w : Refusal) → NotStuck w → FineStep (Refused w)
+unfolding numberOfStep
+refused-fine w h = not-fourteen w h
+
+denied-fine : (w : Refusal) → NotStuck w → Fine (Denied w)
+unfolding numberOf
+denied-fine w h = not-fourteen w h
+
+step-sane : (t : Tables) → Sane t → FineStep (stepTables t .answer) × Sane (stepTables t .tables)
+unfolding stepTables
+step-sane t s = wrap-sane Refused FineStep stepRows t s refused-fine step-whole step-good
+
+runs-sane : (n k : ℕ) (a : Answer) (t : Tables) → FineStep a → Sane t → Fine (runFrom stepTables n k a t .answer) × Sane (runFrom stepTables n k a t .tables)
+unfolding runFrom numberOf
+runs-sane zero k a t f s = (f, s)
+runs-sane (suc n) k a t f s = let d = step-sane t s in go (stepTables t .answer) (stepTables t .tables) (d .0) (d .1) (λ k a t f s. runs-sane n k a t f s)
+  where
+    go : (x : Answer) (z : Tables) → FineStep x → Sane z → ((k : ℕ) (a : Answer) (t : Tables) → FineStep a → Sane t → Fine (runFrom stepTables n k a t .answer) × Sane (runFrom stepTables n k a t .tables))
+        → Fine (goOn (runFrom stepTables n) k x z .answer) × Sane (goOn (runFrom stepTables n) k x z .tables)
+    go Idle z p q ih = (p, q)
+    go (Ran j) z p q ih = ih (suc k) (Ran j) z p q
+    go (Finished j v) z p q ih = (p, q)
+    go (Refused w) z p q ih = (p, q)
+
+run-sane : (n : ℕ) (t : Tables) → Sane t → Fine (run n t .answer) × Sane (run n t .tables)
+unfolding run
+run-sane n t s = rw (s .unbroken, run) (go (leb 1 n && leb n 65535))
+  where
+    D : Bool → Done Reply
+    D b = elim b as (λ _. Done Reply) [ true ↦ runFrom stepTables n 0 Idle t | false ↦ done (Denied (Word 3)) t ]
+
+    go : (b : Bool) → Fine (D b .answer) × Sane (D b .tables)
+    go true = runs-sane n 0 Idle t (unfold numberOfStep in zero-fine) s
+    go false = (denied-fine (Word 3) (not-word 3 (omega arith)), s)
+
+boot-sane : (t : Tables) → shaped t ≡ true → Fine (boot t .answer) × Sane (boot t .tables)
+unfolding boot
+boot-sane t h = rw (h, boot) ((unfold numberOf in zero-fine), put-sane bootRows t (shaped-true t h) boot-whole boot-good)
+
+perform-sane : (c : Call) (t : Tables) → Sane t → Fine (perform c t .answer) × Sane (perform c t .tables)
+unfolding perform
+perform-sane callBoot t s = boot-sane t (true-shaped t (broken-false t (s .unbroken) .0))
+perform-sane (callDefine l bs) t s = wrap-sane Denied Fine (defineRows l bs) t s denied-fine (λ r w. define-whole r w l bs) (λ r w v. define-good r w v l bs)
+perform-sane (callRecord l n c) t s = wrap-sane Denied Fine (recordRows l n c) t s denied-fine (λ r w. record-whole r w l n c) (λ r w v. record-good r w v l n c)
+perform-sane (callStart k l n m x) t s = wrap-sane Denied Fine (startRows k l n m x) t s denied-fine (λ r w. start-whole r w k l n m x) (λ r w v. start-good r w v k l n m x)
+perform-sane callStep t s = unfold numberOf in step-sane t s
+perform-sane (callRun n) t s = run-sane n t s
+perform-sane (callDrop k) t s = wrap-sane Denied Fine (dropRows k) t s denied-fine (λ r w. drop-whole r w k) (λ r w v. drop-good r w v k)
+
+all-sane : (cs : List Call) (t : Tables) → Sane t → ((i : ℕ) (a : Reply) → getElem? (performAll cs t .answer) i ≡ some a → Fine a) × Sane (performAll cs t .tables)
+unfolding performAll
+all-sane [] t s = ((λ i a e. absurd (Option·none-ne-some a e)), s)
+all-sane (c ∷ cs) t s = let d = perform-sane c t s in let e = all-sane cs (perform c t .tables) (d .1) in (each (d .0) (e .0), e .1)
+  where
+    each : Fine (perform c t .answer) → ((i : ℕ) (a : Reply) → getElem? (performAll cs (perform c t .tables) .answer) i ≡ some a → Fine a)
+        → (i : ℕ) (a : Reply) → getElem? (perform c t .answer ∷ performAll cs (perform c t .tables) .answer) i ≡ some a → Fine a
+    each f g zero a q = subst Fine (Option·some-injective _ a q) f
+    each f g (suc i) a q = g i a q
+
+accepted-shaped : (t : Tables) → boot t .answer ≡ Accepted → shaped t ≡ true
+accepted-shaped t h = shapes (shaped t) refl
+  where
+    refuses : shaped t ≡ false → boot t .answer ≡ Denied (Word 1)
+    refuses e = unfold boot in rw (e, boot) refl
+
+    denied≢ : Path Reply (Denied (Word 1)) Accepted → ⊥
+    denied≢ e = let z : _≡_ {A = ℕ} 0 1 = cc in omega arith
+
+    shapes : (b : Bool) → shaped t ≡ b → shaped t ≡ true
+    shapes true e = e
+    shapes false e = absurd (denied≢ (sym (refuses e) ∙ h))
+
+-- for every tables that boot accepts and every list of calls
+pub safety : (t : Tables) → boot t .answer ≡ Accepted → (cs : List Call) → Safe (performAll cs (boot t .tables))
+unfolding misplaced
+safety t h cs =
+    let s = all-sane cs (boot t .tables) (boot-sane t (accepted-shaped t h) .1) in
+    let r = view (performAll cs (boot t .tables) .tables) in
+    let p = valid-placed r (s .1 .valid) in
+    record { placed = p; words = placed-words r p; unbroken = s .1 .unbroken; notStuck = s .0 }
+
+-- and so for every store that comes from a boot: nothing is misplaced or broken, and no further call is stuck
+pub safe-from-boot : (t : Tables) → ComesFromBoot t → (cs : List Call) → Safe (performAll cs t)
+safe-from-boot t b cs = subst (λ (z : Tables). Safe (performAll cs z)) (b .leaves) (later (b .before) (b .accepted) (b .calls))
+  where
+    later : (s : Tables) → boot s .answer ≡ Accepted → (ds : List Call) → Safe (performAll cs (performAll ds (boot s .tables) .tables))
+    later s h ds =
+        let u = all-sane ds (boot s .tables) (boot-sane s (accepted-shaped s h) .1) in
+        let v = all-sane cs (performAll ds (boot s .tables) .tables) (u .1) in
+        let r = view (performAll cs (performAll ds (boot s .tables) .tables) .tables) in
+        let p = valid-placed r (v .1 .valid) in
+        unfold misplaced in record { placed = p; words = placed-words r p; unbroken = v .1 .unbroken; notStuck = v .0 }

@@ -1,0 +1,180 @@
+-- The invariant: every value conforms to its place.
+use mathlib.Core.Path.{_≡_, refl, sym, ap, _∙_}
+use mathlib.Core.Bool.{Bool, true, false, false≢true, not, _&&_, _||_}
+use mathlib.Core.Option.{Option, none, some, Option·none-ne-some, Option·some-injective}
+use mathlib.Core.List.{List, [], _∷_, _++_, map, List·Memᴰ, Memᴰ·append-left, Memᴰ·append-right}
+use mathlib.Core.Logic.{_⊎_, inl, inr, _≢_}
+use Prim.Native.Nat.{ℕ, zero, suc, _+_, _-_, _≤_, _<_, _%_}
+use native.Mathlib.Omega.{arith}
+use lib.ListN.{length, getElem?, set}
+use Rattle.definition.specs.Classes.{Base, Class, Method, find, hasMethod, loaderOf, slots, superOf}
+use Rattle.definition.specs.Constraints.{Agrees, World, posted, subtypeEdges}
+use Rattle.definition.specs.Machine.{Frame, Object, Value, intValue, nullValue, objectValue, unsetValue, unlistedValue}
+use Rattle.definition.specs.Requests.{Request, at}
+use Rattle.definition.specs.Superclasses.{nearest}
+use Rattle.definition.specs.Verifier.{Note, TypeState, VerifierType, entryTypes, typeClass, typeInt, typeNull, typeOfName, typesAt, verify}
+use Rattle.laws.specs.Chains.{chain-more}
+use Rattle.laws.specs.Options.{each-more}
+use Rattle.safety.specs.Conform.{Fits, Tied, grows-fits}
+use Rattle.laws.specs.Growth.{Grows}
+use Rattle.laws.specs.Stable.{Rooted}
+use Rattle.definition.specs.Lists.{Each}
+
+pub record Holds (w : World) (os : List Object) (l n o : ℕ) : Type 0 where
+  pub object : Object
+  pub there : getElem? os o ≡ some object
+  pub fits : Fits w (object .class) (at l n)
+
+-- a value of a type under a loader
+abbrev pub Conforms : World → List Object → ℕ → VerifierType → Value → Type 0
+Conforms w os l typeInt unsetValue = ⊥
+Conforms w os l typeInt (unlistedValue α β) = ⊥
+Conforms w os l typeInt (intValue n) = Unit {0}
+Conforms w os l typeInt nullValue = ⊥
+Conforms w os l typeInt (objectValue o) = ⊥
+Conforms w os l typeNull unsetValue = ⊥
+Conforms w os l typeNull (unlistedValue α β) = ⊥
+Conforms w os l typeNull (intValue n) = ⊥
+Conforms w os l typeNull nullValue = Unit {0}
+Conforms w os l typeNull (objectValue o) = ⊥
+Conforms w os l (typeClass n) unsetValue = ⊥
+Conforms w os l (typeClass n) (unlistedValue α β) = ⊥
+Conforms w os l (typeClass n) (intValue m) = ⊥
+Conforms w os l (typeClass n) nullValue = Unit {0}
+Conforms w os l (typeClass n) (objectValue o) = Holds w os l n o
+
+-- a value that is a reference refers to an object
+abbrev pub Exists : List Object → Value → Type 0
+Exists os unsetValue = Unit {0}
+Exists os (unlistedValue α β) = Unit {0}
+Exists os (intValue n) = Unit {0}
+Exists os nullValue = Unit {0}
+Exists os (objectValue o) = (b : Object) × (getElem? os o ≡ some b)
+
+-- an unset local holds whatever was left there
+abbrev pub Local : World → List Object → ℕ → Option VerifierType → Value → Type 0
+Local w os l none v = Exists os v
+Local w os l (some t) v = Conforms w os l t v
+
+pub record ObjectSound (w : World) (os : List Object) (b : Object) : Type 0 where
+  pub theClass : Class
+  pub isClass : getElem? (w .base .classes) (b .class) ≡ some theClass
+  pub filled : Each (λ s v. Conforms w os (loaderOf (w .base) (s .owner)) (typeOfName (s .type)) v) (slots (w .base) (b .class)) (b .values)
+
+pub record Verified (w : World) (k : Class) (m : Method) : Type 0 where
+  pub notes : List Note
+  pub passes : verify (m .code) (m .result) (length (m .code)) 0 (entryTypes k m) ≡ some notes
+  pub posted : (n : Note) → List·Memᴰ n notes → List·Memᴰ (record { from = at (k .loader) (n .low); to = at (k .loader) (n .high) }) (subtypeEdges (w .subtypes))
+
+-- what holds of classes, cache and constraints
+pub record Linked (w : World) : Type 0 where
+  pub agreed : Agrees w
+  pub own : (c : ℕ) (k : Class) → getElem? (w .base .classes) c ≡ some k → find (w .base .cache) (at (k .loader) (k .name)) ≡ some c
+  pub real : (r : Request) (c : ℕ) → find (w .base .cache) r ≡ some c → (k : Class) × (getElem? (w .base .classes) c ≡ some k)
+  pub supers : (c : ℕ) (k : Class) → getElem? (w .base .classes) c ≡ some k → 0 < c → (p : ℕ) × (superOf (w .base) c ≡ some p)
+  pub verified : (c j : ℕ) (k : Class) (m : Method) → getElem? (w .base .classes) c ≡ some k → getElem? (k .methods) j ≡ some m → Verified w k m
+  pub overArg : (n a r x p y : ℕ) → hasMethod (w .base) n a r x ≡ true → superOf (w .base) x ≡ some p → nearest (superOf (w .base)) (hasMethod (w .base) n a r) p ≡ some y
+      → a ≢ 1 → Tied w (at (loaderOf (w .base) x) a) (at (loaderOf (w .base) y) a)
+  pub overRes : (n a r x p y : ℕ) → hasMethod (w .base) n a r x ≡ true → superOf (w .base) x ≡ some p → nearest (superOf (w .base)) (hasMethod (w .base) n a r) p ≡ some y
+      → r ≢ 1 → Tied w (at (loaderOf (w .base) x) r) (at (loaderOf (w .base) y) r)
+
+pub rooted : {w : World} → Linked w → Rooted (w .base)
+rooted lk = record { real = lk .real; supers = lk .supers }
+
+abbrev pub Heap : World → List Object → Type 0
+Heap w os = (o : ℕ) (b : Object) → getElem? os o ≡ some b → ObjectSound w os b
+
+-- a frame at a point with types τ
+pub record Typed (w : World) (f : Frame) (k : Class) (m : Method) (τ : TypeState) : Type 0 where
+  pub isClass : getElem? (w .base .classes) (f .class) ≡ some k
+  pub isMethod : getElem? (k .methods) (f .method) ≡ some m
+  pub types : typesAt (m .code) (m .result) (length (m .code)) 0 (entryTypes k m) (f .point) ≡ some τ
+
+-- the frame on top, and a frame that waits for a result of type r
+pub record Top (w : World) (os : List Object) (f : Frame) (k : Class) (m : Method) : Type 0 where
+  pub τ : TypeState
+  pub typed : Typed w f k m τ
+  pub operands : Each (Conforms w os (k .loader)) (τ .operands) (f .operands)
+  pub locals : Each (Local w os (k .loader)) (τ .locals) (f .locals)
+
+pub record Waits (w : World) (os : List Object) (f : Frame) (k : Class) (m : Method) (r : ℕ) : Type 0 where
+  pub τ : TypeState
+  pub others : List VerifierType
+  pub typed : Typed w f k m τ
+  pub split : τ .operands ≡ typeOfName r ∷ others
+  pub operands : Each (Conforms w os (k .loader)) others (f .operands)
+  pub locals : Each (Local w os (k .loader)) (τ .locals) (f .locals)
+
+-- the frames under one of loader l and result r
+abbrev pub Under : World → List Object → ℕ → ℕ → List Frame → Type 0
+Under w os l r [] = r ≡ 1
+Under w os l r (g ∷ gs) = (k : Class) × (m : Method) × Waits w os g k m r × (r ≢ 1 → Tied w (at l r) (at (k .loader) r)) × Under w os (k .loader) (m .result) gs
+
+abbrev pub Stack : World → List Object → List Frame → Type 0
+Stack w os [] = Unit {0}
+Stack w os (f ∷ fs) = (k : Class) × (m : Method) × Top w os f k m × Under w os (k .loader) (m .result) fs
+
+-- Later stores
+
+pub record Later (v : World) (os : List Object) (w : World) (qs : List Object) : Type 0 where
+  pub grows : Grows v w
+  pub objects : (o : ℕ) (b : Object) → getElem? os o ≡ some b → (d : Object) × (getElem? qs o ≡ some d) × (d .class ≡ b .class)
+
+module _ {v w : World} {os qs : List Object} (z : Later v os w qs) where
+  pub later-conforms : (l : ℕ) (t : VerifierType) (x : Value) → Conforms v os l t x → Conforms w qs l t x
+  later-conforms l typeInt unsetValue h = h
+  later-conforms l typeInt (unlistedValue α β) h = h
+  later-conforms l typeInt (intValue n) h = h
+  later-conforms l typeInt nullValue h = h
+  later-conforms l typeInt (objectValue o) h = h
+  later-conforms l typeNull unsetValue h = h
+  later-conforms l typeNull (unlistedValue α β) h = h
+  later-conforms l typeNull (intValue n) h = h
+  later-conforms l typeNull nullValue h = h
+  later-conforms l typeNull (objectValue o) h = h
+  later-conforms l (typeClass n) unsetValue h = h
+  later-conforms l (typeClass n) (unlistedValue α β) h = h
+  later-conforms l (typeClass n) (intValue m) h = h
+  later-conforms l (typeClass n) nullValue h = h
+  later-conforms l (typeClass n) (objectValue o) h = let d = z .objects o (h .object) (h .there) in record { object = d .0; there = d .1; fits = rw (d .2) (grows-fits (z .grows) (h .fits)) }
+
+  later-exists : (x : Value) → Exists os x → Exists qs x
+  later-exists unsetValue h = h
+  later-exists (unlistedValue α β) h = h
+  later-exists (intValue n) h = h
+  later-exists nullValue h = h
+  later-exists (objectValue o) h = let d = z .objects o (h .0) (h .1) in (d .0, d .1)
+
+  pub later-local : (l : ℕ) (t : Option VerifierType) (x : Value) → Local v os l t x → Local w qs l t x
+  later-local l none x h = later-exists x h
+  later-local l (some t) x h = later-conforms l t x h
+
+  pub later-ops : (l : ℕ) (ts : List VerifierType) (xs : List Value) → Each (Conforms v os l) ts xs → Each (Conforms w qs l) ts xs
+  later-ops l ts xs h = each-more (later-conforms l) ts xs h
+
+  pub later-typed : {f : Frame} {k : Class} {m : Method} {τ : TypeState} → Typed v f k m τ → Typed w f k m τ
+  later-typed {f} {k} t = record { isClass = z .grows .classes (f .class) k (t .isClass); isMethod = t .isMethod; types = t .types }
+
+  pub later-top : {f : Frame} {k : Class} {m : Method} → Top v os f k m → Top w qs f k m
+  later-top {f} {k} t = record { τ = t .τ; typed = later-typed (t .typed); operands = later-ops (k .loader) (t .τ .operands) (f .operands) (t .operands); locals = each-more (later-local (k .loader)) (t .τ .locals) (f .locals) (t .locals) }
+
+  pub later-waits : {f : Frame} {k : Class} {m : Method} {r : ℕ} → Waits v os f k m r → Waits w qs f k m r
+  later-waits {f} {k} t = record { τ = t .τ; others = t .others; typed = later-typed (t .typed); split = t .split; operands = later-ops (k .loader) (t .others) (f .operands) (t .operands); locals = each-more (later-local (k .loader)) (t .τ .locals) (f .locals) (t .locals) }
+
+  pub later-under : (l r : ℕ) (gs : List Frame) → Under v os l r gs → Under w qs l r gs
+  later-under l r [] h = h
+  later-under l r (g ∷ gs) (k, m, a, t, u) = (k, m, later-waits a, λ n. chain-more (z .grows .ties) (t n), later-under (k .loader) (m .result) gs u)
+
+  pub later-stack : (fs : List Frame) → Stack v os fs → Stack w qs fs
+  later-stack [] h = h
+  later-stack (f ∷ fs) (k, m, t, u) = (k, m, later-top t, later-under (k .loader) (m .result) fs u)
+
+-- each value in a place refers to an object that is there
+pub conforms-exists : (w : World) (os : List Object) (l : ℕ) (t : VerifierType) (v : Value) → Conforms w os l t v → Exists os v
+conforms-exists w os l t unsetValue h = tt
+conforms-exists w os l t (unlistedValue α β) h = tt
+conforms-exists w os l t (intValue n) h = tt
+conforms-exists w os l t nullValue h = tt
+conforms-exists w os l typeInt (objectValue o) h = absurd h
+conforms-exists w os l typeNull (objectValue o) h = absurd h
+conforms-exists w os l (typeClass n) (objectValue o) h = (h .object, h .there)

@@ -1,0 +1,1 @@
+// The safety of the machine: proofs only.

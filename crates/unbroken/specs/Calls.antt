@@ -1,0 +1,535 @@
+-- Every call on rows keeps whole rows whole, and the rows it leaves have the classes and constraints of the machine over classes.
+use mathlib.Core.Path.{_≡_, refl, sym, ap, _∙_, subst}
+use mathlib.Core.Bool.{Bool, true, false, false≢true, not, _&&_, _||_}
+use mathlib.Core.Option.{Option, none, some, Option·none-ne-some, Option·some-injective}
+use mathlib.Core.List.{List, [], _∷_, _++_, map, append-nil, List·Memᴰ, List·Memᴰ·head, List·Memᴰ·tail}
+use mathlib.Core.Logic.{_⊎_, inl, inr}
+use Prim.Native.Nat.{ℕ, zero, suc, _+_, _-_, _≤_, _<_}
+use native.Mathlib.Omega.{arith}
+use lib.ListN.{length, getElem?, take, drop, length-append, length-map, length-drop}
+use lib.Seq.{take-append-le, drop-append-le, take-at, drop-at, take-length}
+use lib.Dec.{eqb, leb, ltb}
+use borrow.Author.Tests.{eqb-true, leb-true, ltb-true, le-leb}
+use Rattle.definition.specs.Answers.{Result, _>>=_, need, ok, refused}
+use Rattle.definition.specs.Calls.{Given, addEntry, addFile, bootRows, defineRows, dropRows, recordRows, startRows, stepOn, stepRows, withFrames, stepTask, progressed, framesIn}
+use Rattle.definition.specs.Classes.{Base, Class, Entry, Method, find, hasMethod, loaderOf, ownSlots, slots, superOf}
+use Rattle.definition.specs.Constraints.{Subtype, Tie, World, agrees, newTie}
+use Rattle.definition.specs.File.{File, classOf, readFile}
+use Rattle.definition.specs.Lists.{any}
+use Rattle.definition.specs.Loading.{define, newSubtypes, overrideTie, overrideTies, recorded, started, subtypeIs, subtypeOf, withClass, withEntry}
+use Rattle.definition.specs.Machine.{Frame, Progress, intValue, newObject}
+use Rattle.definition.specs.Requests.{Request, at}
+use Rattle.definition.specs.Superclasses.{nearest}
+use Rattle.definition.specs.Tables.{ClassRow, Rows, baseOf, classAt, fileAt, sizeOf, worldOf}
+use Rattle.definition.specs.Verifier.{Note}
+use Rattle.definition.specs.declared.Refusal.the-variants.{Word}
+use Rattle.laws.specs.Agreement.{find-more, find-row, is-super, super-is}
+use Rattle.laws.specs.Growth.{Grows, grows-class, grows-entry, grows-super, nth-lt}
+use Rattle.laws.specs.Options.{bind-some, need-true, nth-last, some-bind}
+use Rattle.laws.specs.Results.{bind-ok, need-ok, ok-inj, take-ok}
+use Rattle.laws.specs.Slots.{slots-up}
+use Rattle.laws.specs.Stable.{own-is, slots-stable}
+use Rattle.laws.specs.Tests.{and-true}
+use Rattle.layout.specs.Tests.{All, all-both, all-more, every-true}
+use Rattle.layout.specs.Unbroken.{object-class}
+use Rattle.layout.specs.Whole.{Between, ClassSound, Classes, First, Framed, From, Listed, ObjectSound, Whole}
+use Rattle.unbroken.specs.Steps.{Moved, Ready, class-found, class-selected, entered-frame, grow-frame, loader-small, made-objects, new-between, step-moves}
+use Rattle.definition.specs.Maybe as Maybe
+use Rattle.laws.specs.Wrapped.{Ok, ok-at, then}
+
+-- Lists
+
+all-mem : {A : Type 0} (P : A → Type 0) {xs : List A} {x : A} → All P xs → List·Memᴰ x xs → P x
+all-mem P {xs = y ∷ ys} {x} h (List·Memᴰ·head e) = rw e (h .0)
+all-mem P {xs = y ∷ ys} {x} h (List·Memᴰ·tail m) = all-mem P (h .1) m
+
+nth-there : {A : Type 0} (xs : List A) (i : ℕ) → i < length xs → (x : A) × (getElem? xs i ≡ some x)
+nth-there [] i h = absurd (omega arith)
+nth-there (x ∷ xs) zero h = (x, refl)
+nth-there (x ∷ xs) (suc i) h = nth-there xs i (omega arith)
+
+nth-map : {A B : Type 0} (f : A → B) (xs : List A) (i : ℕ) (y : B) → getElem? (map f xs) i ≡ some y → (x : A) × (getElem? xs i ≡ some x) × (f x ≡ y)
+nth-map f [] i y h = absurd (Option·none-ne-some y h)
+nth-map f (x ∷ xs) zero y h = (x, refl, Option·some-injective (f x) y h)
+nth-map f (x ∷ xs) (suc i) y h = nth-map f xs i y h
+
+from-nth : {A : Type 0} (P : ℕ → A → Type 0) (j : ℕ) (xs : List A) → From P j xs → (i : ℕ) (x : A) → getElem? xs i ≡ some x → P (j + i) x
+from-nth P j [] h i x e = absurd (Option·none-ne-some x e)
+from-nth P j (y ∷ xs) h zero x e = let z : j + 0 ≡ j = omega arith in rw (z, sym (Option·some-injective y x e)) (h .0)
+from-nth P j (y ∷ xs) h (suc i) x e = let z : j + suc i ≡ suc j + i = omega arith in rw z (from-nth P (suc j) xs (h .1) i x e)
+
+from-more : {A : Type 0} (P Q : ℕ → A → Type 0) → ((c : ℕ) (x : A) → P c x → Q c x) → (j : ℕ) (xs : List A) → From P j xs → From Q j xs
+from-more P Q f j [] h = tt
+from-more P Q f j (x ∷ xs) h = (f j x (h .0), from-more P Q f (suc j) xs (h .1))
+
+from-last : {A : Type 0} (P : ℕ → A → Type 0) (j : ℕ) (xs : List A) (y : A) → From P j xs → P (j + length xs) y → From P j (xs ++ (y ∷ []))
+from-last P j [] y h p = let z : j + 0 ≡ j = omega arith in (rw z at p, tt)
+from-last P j (x ∷ xs) y h p = let z : j + suc (length xs) ≡ suc j + length xs = omega arith in (h .0, from-last P (suc j) xs y (h .1) (rw z at p))
+
+-- Rows that are whole, as a world
+
+class-at : (b : Base) (bs : List ℕ) (ks : List ClassRow) → Classes b bs ks → (c : ℕ) (k : ClassRow) → getElem? ks c ≡ some k → ((c ≡ 0) × First k) ⊎ ClassSound b bs c k
+class-at b bs [] h c k e = absurd (Option·none-ne-some k e)
+class-at b bs (x ∷ ks) h zero k e = inl (refl, rw (Option·some-injective x k e) at (h .0))
+class-at b bs (x ∷ ks) h (suc c) k e = let z : suc c ≡ 1 + c = omega arith in inr (rw z (from-nth (ClassSound b bs) 1 ks (h .1) c k e))
+
+cls-loader : (bs : List ℕ) (k : ClassRow) (f : File) → fileAt bs k ≡ some f → classAt bs k ≡ classOf (k .loader) f
+unfolding classAt
+cls-loader bs k f e = rw (e, classAt) refl
+
+module _ (r : Rows) (w : Whole r) where
+  abbrev W : World
+  W = worldOf r
+
+  abbrev N : ℕ
+  N = length (r .classes)
+
+  pub ready : Ready W N (r .objects)
+  ready = record {
+    number = length-map (r .classes) (classAt (r .kept));
+    rooted = record { real = real; supers = supers };
+    loaders = loaders;
+    ties = w .limits .ties;
+    between = w .ties;
+    objects = w .limits .objects;
+    each = w .objects;
+  }
+    where
+      real : (q : Request) (c : ℕ) → find (r .cache) q ≡ some c → (k : Class) × (getElem? (map (classAt (r .kept)) (r .classes)) c ≡ some k)
+      real q c e =
+          let x = find-row (r .cache) q c e in
+          nth-there (map (classAt (r .kept)) (r .classes)) c (omega (arith, length-map (r .classes) (classAt (r .kept)), all-mem (Listed N) (w .cache) (x .1) .class, x .3))
+
+      supers : (c : ℕ) (k : Class) → getElem? (map (classAt (r .kept)) (r .classes)) c ≡ some k → 0 < c → (p : ℕ) × (superOf (W .base) c ≡ some p)
+      supers c k e l =
+          let x = nth-map (classAt (r .kept)) (r .classes) c k e in
+          elim (class-at (W .base) (r .kept) (r .classes) (w .classes) c (x .0) (x .1)) [ inl z ↦ absurd (omega (arith, z .0)) | inr z ↦ (z .super, z .isSuper) ]
+
+      loaders : (c : ℕ) (k : Class) → getElem? (map (classAt (r .kept)) (r .classes)) c ≡ some k → k .loader < 16
+      loaders c k e =
+          let x = nth-map (classAt (r .kept)) (r .classes) c k e in
+          elim (class-at (W .base) (r .kept) (r .classes) (w .classes) c (x .0) (x .1)) [
+            | inl z ↦ rw (sym (x .2), object-class (r .kept) (x .0) (z .1)) (omega arith)
+            | inr z ↦ rw (sym (x .2), cls-loader (r .kept) (x .0) (z .file) (z .reads)) (z .loader)
+          ]
+
+  -- One task moves
+
+  pub whole-progressed : (k : ℕ) (o : Progress) → Moved W N (r .objects) o → Whole (progressed k r o)
+  whole-progressed zero o m = record {
+    limits = record {
+      classes = w .limits .classes;
+      kept = w .limits .kept;
+      cache = w .limits .cache;
+      ties = m .ties;
+      subtypes = w .limits .subtypes;
+      objects = m .objects;
+      quote = m .many;
+      report = w .limits .report;
+    };
+    classes = w .classes;
+    cache = w .cache;
+    ties = m .between;
+    subtypes = w .subtypes;
+    objects = m .each;
+    quote = m .frames;
+    report = all-more (grow-frame N (length (r .objects)) (length (o .objects)) (m .more)) (r .report) (w .report);
+  }
+  whole-progressed (suc k) o m = record {
+    limits = record {
+      classes = w .limits .classes;
+      kept = w .limits .kept;
+      cache = w .limits .cache;
+      ties = m .ties;
+      subtypes = w .limits .subtypes;
+      objects = m .objects;
+      quote = w .limits .quote;
+      report = m .many;
+    };
+    classes = w .classes;
+    cache = w .cache;
+    ties = m .between;
+    subtypes = w .subtypes;
+    objects = m .each;
+    report = m .frames;
+    quote = all-more (grow-frame N (length (r .objects)) (length (o .objects)) (m .more)) (r .quote) (w .quote);
+  }
+
+  -- the rows' classes and constraints are then those of the progress
+  pub world-progressed : (k : ℕ) (o : Progress) → Moved W N (r .objects) o → worldOf (progressed k r o) ≡ o .world
+  world-progressed zero o m = λ i. record { base = sym (m .base) i; ties = o .world .ties; subtypes = sym (m .subtypes) i }
+  world-progressed (suc k) o m = λ i. record { base = sym (m .base) i; ties = o .world .ties; subtypes = sym (m .subtypes) i }
+
+  pub start-moves : (l n m v : ℕ) (fs : List Frame) → Ok (started l n m v W (r .objects) fs) (Moved W N (r .objects))
+  unfolding started
+  start-moves l n m v fs = then Q _ _ (λ _ _. then Q _ _ (λ _ _. then Q _ _ (λ c fc. then Q _ _ (λ s es. then Q _ _ (λ j _. then Q _ _ (λ _ h.
+      let os = r .objects in
+      let e = length-append os (newObject (W .base) c ∷ []) in
+      let lc = class-found W N os ready (at l n) c (take-ok _ _ fc) in
+      record {
+        base = refl;
+        subtypes = refl;
+        ties = w .limits .ties;
+        between = w .ties;
+        more = omega (arith, e);
+        objects = omega (arith, e, ltb-true (length os) 256 (need-ok _ _ h));
+        each = made-objects (W .base) N os c lc (w .objects);
+        many = omega arith;
+        frames = (entered-frame N _ s j (length os) (intValue v) (class-selected W N os ready m 1 1 c s (take-ok _ _ es)) (omega (arith, e)) tt, tt);
+      }))))))
+    where
+      Q : Progress → Type 0
+      Q = Moved W N (r .objects)
+
+  -- A world grows
+
+  module _ (X : World) (gr : Grows W X) (bs : List ℕ) (more : (k : ClassRow) (f : File) → fileAt (r .kept) k ≡ some f → fileAt bs k ≡ some f) where
+    same-size : (c : ℕ) → c < N → sizeOf (X .base) c ≡ sizeOf (W .base) c
+    same-size c l = ap length (slots-stable W X (ready .rooted) gr c (nth-there (map (classAt (r .kept)) (r .classes)) c (omega (arith, length-map (r .classes) (classAt (r .kept))))))
+
+    grown-class : (c : ℕ) (k : ClassRow) → ClassSound (W .base) (r .kept) c k → ClassSound (X .base) bs c k
+    grown-class c k h =
+        let s = super-is (W .base) c (h .super) (h .isSuper) in
+        let lt : c < N = omega (arith, nth-lt (W .base .classes) c (s .theClass) (s .isClass), length-map (r .classes) (classAt (r .kept))) in
+        record { loader = h .loader; file = h .file; reads = more k (h .file) (h .reads); super = h .super; isSuper = grows-super gr c (h .super) (h .isSuper); size = omega (arith, same-size c lt, h .size) }
+
+    grown-objects : (n : ℕ) → N ≤ n → All (ObjectSound (X .base) n (length (r .objects))) (r .objects)
+    grown-objects n l = all-more (λ o h. record { class = omega (arith, h .class); size = h .size ∙ sym (same-size (o .class) (h .class)); values = h .values }) (r .objects) (w .objects)
+
+  grown-frames : (n : ℕ) → N ≤ n → (fs : List Frame) → All (Framed N (length (r .objects))) fs → All (Framed n (length (r .objects))) fs
+  grown-frames n l fs h = all-more (λ f x. record { class = omega (arith, x .class); depth = x .depth; operands = x .operands; eight = x .eight; locals = x .locals }) fs h
+
+  grown-cache : (n : ℕ) → N ≤ n → All (Listed n) (r .cache)
+  grown-cache n l = all-more (λ e x. record { loader = x .loader; class = omega (arith, x .class) }) (r .cache) (w .cache)
+
+-- A class's row in the kept files
+
+grown-classes : (b d : Base) (bs cs : List ℕ) (ks : List ClassRow) → ((c : ℕ) (k : ClassRow) → ClassSound b bs c k → ClassSound d cs c k) → Classes b bs ks → Classes d cs ks
+grown-classes b d bs cs [] f h = tt
+grown-classes b d bs cs (k ∷ ks) f h = (h .0, from-more (ClassSound b bs) (ClassSound d cs) f 1 ks (h .1))
+
+classes-last : (b d : Base) (bs cs : List ℕ) (ks : List ClassRow) (x : ClassRow) → 0 < length ks → ((c : ℕ) (k : ClassRow) → ClassSound b bs c k → ClassSound d cs c k) → ClassSound d cs (length ks) x → Classes b bs ks → Classes d cs (ks ++ (x ∷ []))
+classes-last b d bs cs [] x l f p h = absurd (omega arith)
+classes-last b d bs cs (k ∷ ks) x l f p h =
+    let z : suc (length ks) ≡ 1 + length ks = omega arith in
+    (h .0, from-last (ClassSound d cs) 1 ks x (from-more (ClassSound b bs) (ClassSound d cs) f 1 ks (h .1)) (rw z at p))
+
+file-more : (bs cs : List ℕ) (k : ClassRow) (f : File) → fileAt bs k ≡ some f → fileAt (bs ++ cs) k ≡ some f
+unfolding fileAt
+file-more bs cs k f e =
+    let a = bind-some _ _ e in
+    let l = leb-true (k .start + k .size) (length bs) (need-true _ (a .1)) in
+    let z : k .size ≤ length (drop (k .start) bs) = omega (arith, length-drop (k .start) bs) in
+    some-bind (Maybe.need (leb (k .start + k .size) (length (bs ++ cs)))) _ (needed _ (le-leb (k .start + k .size) (length (bs ++ cs)) (omega (arith, length-append bs cs))))
+    (rw (drop-append-le (k .start) bs cs (omega arith), take-append-le (k .size) (drop (k .start) bs) cs z) (a .2))
+  where
+    needed : (t : Bool) → t ≡ true → Maybe.need t ≡ some tt
+    needed t q = unfold Maybe.need in rw q refl
+
+file-last : (bs cs : List ℕ) (l : ℕ) → fileAt (bs ++ cs) (record { loader = l; start = length bs; size = length cs }) ≡ readFile cs
+unfolding fileAt Maybe._>>=_ Maybe.need
+file-last bs cs l = rw (drop-at bs cs (length bs) refl, take-length cs, le-leb (length bs + length cs) (length (bs ++ cs)) (omega (arith, length-append bs cs))) refl
+
+cls-more : (bs cs : List ℕ) (b : Base) (c : ℕ) (k : ClassRow) → ClassSound b bs c k → classAt (bs ++ cs) k ≡ classAt bs k
+cls-more bs cs b c k h = cls-loader (bs ++ cs) k (h .file) (file-more bs cs k (h .file) (h .reads)) ∙ sym (cls-loader bs k (h .file) (h .reads))
+
+from-cls : (bs cs : List ℕ) (b : Base) (j : ℕ) (ks : List ClassRow) → From (ClassSound b bs) j ks → map (classAt (bs ++ cs)) ks ≡ map (classAt bs) ks
+from-cls bs cs b j [] h = refl
+from-cls bs cs b j (k ∷ ks) h = rw (cls-more bs cs b j k (h .0), from-cls bs cs b (suc j) ks (h .1)) refl
+
+kept-same : (bs cs : List ℕ) (b : Base) (ks : List ClassRow) → Classes b bs ks → map (classAt (bs ++ cs)) ks ≡ map (classAt bs) ks
+kept-same bs cs b [] h = refl
+kept-same bs cs b (k ∷ ks) h = rw (object-class (bs ++ cs) k (h .0), object-class bs k (h .0), from-cls bs cs b 1 ks (h .1)) refl
+
+map-last : {A B : Type 0} (f : A → B) (xs : List A) (x : A) → map f (xs ++ (x ∷ [])) ≡ map f xs ++ (f x ∷ [])
+map-last f [] x = refl
+map-last {A} {B} f (y ∷ xs) x = ap {B = List B} (λ r. f y ∷ r) (map-last f xs x)
+
+-- What an accepted record and an accepted define did
+
+pub record Entered (l n c : ℕ) (w v : World) : Type 0 where
+  pub loader : l < 16
+  pub class : c < length (w .base .classes)
+  pub room : length (w .base .cache) < 256
+  pub is : withEntry w (at l n) c ≡ v
+
+pub recorded-is : (l n c : ℕ) (w v : World) → recorded l n c w ≡ ok v → (w ≡ v) ⊎ Entered l n c w v
+unfolding recorded
+recorded-is l n c w v e =
+    let a = bind-ok _ _ e in
+    let b = bind-ok _ _ (a .2) in
+    let d = bind-ok _ _ (b .2) in
+    go (ltb-true l 16 (and-true (ltb l 16) (leb 2 n) (need-ok _ _ (a .1)) .0)) (nth-lt (w .base .classes) c (b .0) (take-ok _ _ (b .1))) (find (w .base .cache) (at l n)) (d .2)
+  where
+    go : l < 16 → c < length (w .base .classes) → (o : Option ℕ)
+        → (elim o as (λ _. Result World) [ some d ↦ need (eqb d c) (Word 4) >>= λ _. ok w | none ↦ need (ltb (length (w .base .cache)) 256) (Word 10) >>= λ _. need (agrees (withEntry w (at l n) c)) (Word 9) >>= λ _. ok (withEntry w (at l n) c) ]) ≡ ok v
+        → (w ≡ v) ⊎ Entered l n c w v
+    go x y none h = let p = bind-ok _ _ h in let q = bind-ok _ _ (p .2) in inr (record { loader = x; class = y; room = ltb-true (length (w .base .cache)) 256 (need-ok _ _ (p .1)); is = ok-inj (q .2) })
+    go x y (some d) h = let p = bind-ok _ _ h in inl (ok-inj (p .2))
+
+pub record DefineAccepted (room : Bool) (k : Class) (w v : World) : Type 0 where
+  pub super : ℕ
+  pub cached : find (w .base .cache) (at (k .loader) (k .super)) ≡ some super
+  pub notes : List Note
+  pub kept : room ≡ true
+  pub classes : length (w .base .classes) < 64
+  pub cache : length (w .base .cache) < 256
+  pub ties : length (w .ties ++ overrideTies (w .base) (k .loader) super (w .ties) (k .methods)) ≤ 256
+  pub subtypes : length (w .subtypes ++ newSubtypes (w .subtypes) (k .loader) notes) ≤ 256
+  pub size : sizeOf (w .base) super + length (k .fields) ≤ 16
+  pub is : withClass w k (overrideTies (w .base) (k .loader) super (w .ties) (k .methods)) (newSubtypes (w .subtypes) (k .loader) notes) ≡ v
+
+pub defined-is : (room : Bool) (k : Class) (w v : World) → define room k w ≡ ok v → DefineAccepted room k w v
+unfolding define
+defined-is room k w v e =
+    let a = bind-ok _ _ e in
+    let b = bind-ok _ _ (a .2) in
+    let c = bind-ok _ _ (b .2) in
+    let d = bind-ok _ _ (c .2) in
+    let f = bind-ok _ _ (d .2) in
+    let g = bind-ok _ _ (f .2) in
+    let p = every-true _ (need-ok _ _ (f .1)) in
+    record {
+      super = c .0;
+      cached = take-ok _ _ (c .1);
+      notes = a .0;
+      kept = p .0;
+      classes = ltb-true _ _ (p .1 .0);
+      cache = ltb-true _ _ (p .1 .1 .0);
+      ties = leb-true _ _ (p .1 .1 .1 .0);
+      subtypes = leb-true _ _ (p .1 .1 .1 .1 .0);
+      size = leb-true _ _ (p .1 .1 .1 .1 .1 .0);
+      is = ok-inj (g .2);
+    }
+
+-- Constraints that a definition adds lie between loaders
+
+module _ (b : Base) (h : (c : ℕ) (k : Class) → getElem? (b .classes) c ≡ some k → k .loader < 16) (l : ℕ) (a : l < 16) where
+  over-between : (p : ℕ) (ts : List Tie) (m : Method) → All Between (overrideTie b l p ts m)
+  unfolding overrideTie
+  over-between p ts m = go (nearest (superOf b) (hasMethod b (m .name) (m .argument) (m .result)) p)
+    where
+      go : (o : Option ℕ) → All Between (elim o as (λ _. List Tie) [ none ↦ [] | some y ↦ let us = newTie ts l (loaderOf b y) (m .argument) in us ++ newTie (ts ++ us) l (loaderOf b y) (m .result) ])
+      go none = tt
+      go (some y) = all-both Between (newTie ts l (loaderOf b y) (m .argument)) _ (new-between ts l (loaderOf b y) (m .argument) a (loader-small b h y)) (new-between _ l (loaderOf b y) (m .result) a (loader-small b h y))
+
+  overs-between : (p : ℕ) (ts : List Tie) (ms : List Method) → All Between (overrideTies b l p ts ms)
+  unfolding overrideTies
+  overs-between p ts [] = tt
+  overs-between p ts (m ∷ ms) = all-both Between (overrideTie b l p ts m) _ (over-between p ts m) (overs-between p (ts ++ overrideTie b l p ts m) ms)
+
+subs-loader : (l : ℕ) → l < 16 → (ss : List Subtype) (ns : List Note) → All (λ (s : Subtype). s .loader < 16) (newSubtypes ss l ns)
+unfolding newSubtypes
+subs-loader l a ss [] = tt
+subs-loader l a ss (n ∷ ns) = go (any (subtypeIs l n) ss) (subs-loader l a ss ns) (subs-loader l a (ss ++ (subtypeOf l n ∷ [])) ns)
+  where
+    go : (t : Bool) → All (λ (s : Subtype). s .loader < 16) (newSubtypes ss l ns) → All (λ (s : Subtype). s .loader < 16) (newSubtypes (ss ++ (subtypeOf l n ∷ [])) l ns)
+        → All (λ (s : Subtype). s .loader < 16) (elim t as (λ _. List Subtype) [ true ↦ newSubtypes ss l ns | false ↦ subtypeOf l n ∷ newSubtypes (ss ++ (subtypeOf l n ∷ [])) l ns ])
+    go true x y = x
+    go false x y = (a, y)
+
+-- Loads
+
+module _ (r : Rows) (w : Whole r) where
+  whole-entry : (l n c : ℕ) → l < 16 → c < length (W r w .base .classes) → length (r .cache) < 256 → Whole (addEntry r (withEntry (W r w) (at l n) c))
+  whole-entry l n c a b d =
+      let e : Entry = record { request = at l n; class = c } in
+      let X = withEntry (W r w) (at l n) c in
+      let g : Grows (W r w) X = grows-entry (W r w) (at l n) c in
+      let f : (k : ClassRow) (f : File) → fileAt (r .kept) k ≡ some f → fileAt (r .kept) k ≡ some f = λ k f x. x in
+      record {
+        limits = record { classes = w .limits .classes; kept = w .limits .kept; cache = omega (arith, length-append (r .cache) (e ∷ [])); ties = w .limits .ties; subtypes = w .limits .subtypes; objects = w .limits .objects; quote = w .limits .quote; report = w .limits .report };
+        classes = grown-classes (W r w .base) (X .base) (r .kept) (r .kept) (r .classes) (grown-class r w X g (r .kept) f) (w .classes);
+        cache = all-both (Listed (N r w)) (r .cache) (e ∷ []) (w .cache) (record { loader = a; class = omega (arith, length-map (r .classes) (classAt (r .kept))) }, tt);
+        ties = w .ties;
+        subtypes = w .subtypes;
+        objects = grown-objects r w X g (r .kept) f (N r w) (omega arith);
+        quote = w .quote;
+        report = w .report;
+      }
+
+  pub whole-record : (l n c : ℕ) (v : World) → recorded l n c (W r w) ≡ ok v → Whole (addEntry r v)
+  whole-record l n c v e = elim (recorded-is l n c (W r w) v e) [
+    | inl q ↦ subst (λ (z : World). Whole (addEntry r z)) q w
+    | inr x ↦ subst (λ (z : World). Whole (addEntry r z)) (x .is) (whole-entry l n c (x .loader) (x .class) (x .room))
+  ]
+
+  pub world-recorded : (l n c : ℕ) (v : World) → recorded l n c (W r w) ≡ ok v → worldOf (addEntry r v) ≡ v
+  world-recorded l n c v e = elim (recorded-is l n c (W r w) v e) [
+    | inl q ↦ subst (λ (z : World). worldOf (addEntry r z) ≡ z) q refl
+    | inr x ↦ subst (λ (z : World). worldOf (addEntry r z) ≡ z) (x .is) refl
+  ]
+
+  module _ (l : ℕ) (bs : List ℕ) (f : File) (a : l < 16) (rf : readFile bs ≡ some f) (us : List Tie) (ss : List Subtype) where
+    abbrev K : Class
+    K = classOf l f
+
+    abbrev Y : World
+    Y = withClass (W r w) K us ss
+
+    abbrev row : ClassRow
+    row = record { loader = l; start = length (r .kept); size = length bs }
+
+    new-class : classAt (r .kept ++ bs) row ≡ K
+    new-class = cls-loader (r .kept ++ bs) row f (file-last (r .kept) bs l ∙ rf)
+
+    classes-more : map (classAt (r .kept ++ bs)) (r .classes ++ (row ∷ [])) ≡ W r w .base .classes ++ (K ∷ [])
+    classes-more = map-last (classAt (r .kept ++ bs)) (r .classes) row ∙ rw (new-class, kept-same (r .kept) bs (W r w .base) (r .classes) (w .classes)) refl
+
+    base-is : baseOf (r .classes ++ (row ∷ [])) (r .kept ++ bs) (Y .base .cache) ≡ Y .base
+    base-is = λ i. record { classes = classes-more i; cache = Y .base .cache }
+
+    world-class : worldOf (addFile l bs r Y) ≡ Y
+    world-class = λ i. record { base = base-is i; ties = Y .ties; subtypes = Y .subtypes }
+
+    module _ (p : ℕ) (fp : find (r .cache) (at l (f .super)) ≡ some p) (n64 : length (W r w .base .classes) < 64) (n256 : length (r .cache) < 256) (nk : length (r .kept) + length bs ≤ 16384)
+        (nt : length (r .ties ++ us) ≤ 256) (ns : length (r .subtypes ++ ss) ≤ 256) (sz : sizeOf (W r w .base) p + length (f .fields) ≤ 16) (bu : All Between us) (ks : All (λ (s : Subtype). s .loader < 16) ss) where
+      many : length (W r w .base .classes) ≡ N r w
+      many = length-map (r .classes) (classAt (r .kept))
+
+      plt : p < N r w
+      plt = class-found (W r w) (N r w) (r .objects) (ready r w) (at l (f .super)) p fp
+
+      grew : Grows (W r w) Y
+      grew = grows-class (W r w) K us ss
+
+      here : getElem? (Y .base .classes) (N r w) ≡ some K
+      here = rw (sym many) (nth-last (W r w .base .classes) K)
+
+      up : superOf (Y .base) (N r w) ≡ some p
+      up = is-super (Y .base) (N r w) p (record { theClass = K; isClass = here; cached = find-more (r .cache) _ _ p fp; less = plt })
+
+      new-size : sizeOf (Y .base) (N r w) ≤ 16
+      new-size =
+          let a : slots (Y .base) (N r w) ≡ slots (Y .base) p ++ ownSlots (Y .base) (N r w) = slots-up (Y .base) (N r w) p up in
+          let b = length-append (slots (Y .base) p) (ownSlots (Y .base) (N r w)) in
+          let c = same-size r w Y grew (r .kept) (λ k f x. x) p plt in
+          let d : length (ownSlots (Y .base) (N r w)) ≡ length (f .fields) = ap length (own-is (Y .base) (N r w) K here) ∙ length-map (f .fields) (λ x. record { owner = N r w; name = x .name; type = x .type }) in
+          omega (arith, ap length a, b, c, d, sz)
+
+      whole-class : Whole (addFile l bs r Y)
+      whole-class = record {
+        limits = record {
+          classes = omega (arith, length-append (r .classes) (row ∷ []), many, n64);
+          kept = omega (arith, length-append (r .kept) bs, nk);
+          cache = omega (arith, length-append (r .cache) (new ∷ []), n256);
+          ties = nt;
+          subtypes = ns;
+          objects = w .limits .objects;
+          quote = w .limits .quote;
+          report = w .limits .report;
+        };
+        classes = subst (λ (b : Base). Classes b (r .kept ++ bs) (r .classes ++ (row ∷ []))) (sym base-is)
+            (classes-last (W r w .base) (Y .base) (r .kept) (r .kept ++ bs) (r .classes) row (omega (arith, plt)) (grown-class r w Y grew (r .kept ++ bs) (file-more (r .kept) bs))
+            (record { loader = a; file = f; reads = file-last (r .kept) bs l ∙ rf; super = p; isSuper = up; size = new-size }) (w .classes));
+        cache = all-both (Listed (length (r .classes ++ (row ∷ [])))) (r .cache) (new ∷ []) (grown-cache r w _ bigger) (record { loader = a; class = omega (arith, length-append (r .classes) (row ∷ []), many) }, tt);
+        ties = all-both Between (r .ties) us (w .ties) bu;
+        subtypes = all-both (λ (s : Subtype). s .loader < 16) (r .subtypes) ss (w .subtypes) ks;
+        objects = subst (λ (b : Base). All (ObjectSound b (length (r .classes ++ (row ∷ []))) (length (r .objects))) (r .objects)) (sym base-is) (grown-objects r w Y grew (r .kept ++ bs) (file-more (r .kept) bs) _ bigger);
+        quote = grown-frames r w _ bigger (r .quote) (w .quote);
+        report = grown-frames r w _ bigger (r .report) (w .report);
+      }
+        where
+          new : Entry
+          new = record { request = at l (f .name); class = length (W r w .base .classes) }
+
+          bigger : N r w ≤ length (r .classes ++ (row ∷ []))
+          bigger = omega (arith, length-append (r .classes) (row ∷ []))
+
+  pub whole-define : (l : ℕ) (bs : List ℕ) (f : File) (v : World) → l < 16 → readFile bs ≡ some f → define (leb (length (r .kept) + length bs) 16384) (classOf l f) (W r w) ≡ ok v → Whole (addFile l bs r v)
+  whole-define l bs f v a rf e =
+      let d = defined-is _ (classOf l f) (W r w) v e in
+      subst (λ (z : World). Whole (addFile l bs r z)) (d .is)
+      (whole-class l bs f a rf _ _ (d .super) (d .cached) (d .classes) (d .cache) (leb-true _ _ (d .kept)) (d .ties) (d .subtypes) (d .size)
+      (overs-between (W r w .base) (ready r w .loaders) l a (d .super) (r .ties) (f .methods)) (subs-loader l a (r .subtypes) (d .notes)))
+
+  pub world-defined : (l : ℕ) (bs : List ℕ) (f : File) (v : World) → l < 16 → readFile bs ≡ some f → define (leb (length (r .kept) + length bs) 16384) (classOf l f) (W r w) ≡ ok v → worldOf (addFile l bs r v) ≡ v
+  world-defined l bs f v a rf e =
+      let d = defined-is _ (classOf l f) (W r w) v e in
+      subst (λ (z : World). worldOf (addFile l bs r z) ≡ z) (d .is) (world-class l bs f a rf _ _)
+
+  -- Every call keeps the rows whole
+
+  abbrev Stays : {A : Type 0} → Given A → Type 0
+  Stays g = Whole (g .rows)
+
+  pub define-whole : (l : ℕ) (bs : List ℕ) → Ok (defineRows l bs r) Stays
+  unfolding defineRows
+  define-whole l bs = then Stays _ _ (λ _ a. then Stays _ _ (λ f rf. then Stays _ _ (λ v e. whole-define l bs f v (ltb-true l 16 (need-ok _ _ a)) (take-ok _ _ rf) e)))
+
+  pub record-whole : (l n c : ℕ) → Ok (recordRows l n c r) Stays
+  unfolding recordRows
+  record-whole l n c = then Stays _ _ (λ v e. whole-record l n c v e)
+
+  pub start-whole : (k l n m v : ℕ) → Ok (startRows k l n m v r) Stays
+  unfolding startRows
+  start-whole k l n m v = then Stays _ _ (λ _ _. then Stays _ _ (λ o e. whole-progressed r w k o (ok-at _ _ (start-moves r w l n m v (framesIn k r)) o e)))
+
+  task-whole : (k : ℕ) (f : Frame) (fs : List Frame) → All (Framed (N r w) (length (r .objects))) (f ∷ fs) → length (f ∷ fs) ≤ 32 → Ok (stepTask k (worldOf r) f fs r) Stays
+  unfolding stepTask
+  task-whole k f fs a c = then Stays _ _ (λ o e. whole-progressed r w k o (ok-at _ _ (step-moves (W r w) (N r w) (r .objects) (ready r w) f fs a c) o e))
+
+  pub step-whole : Ok (stepRows r) Stays
+  unfolding stepRows
+  step-whole = go (r .quote) (r .report) (w .quote) (w .report) (w .limits .quote) (w .limits .report)
+    where
+      go : (q p : List Frame) → All (Framed (N r w) (length (r .objects))) q → All (Framed (N r w) (length (r .objects))) p → length q ≤ 32 → length p ≤ 32 → Ok (stepOn q p (worldOf r) r) Stays
+      go (f ∷ fs) p a b c d = unfold stepOn in task-whole 0 f fs a c
+      go [] (f ∷ fs) a b c d = unfold stepOn in task-whole 1 f fs b d
+      go [] [] a b c d = unfold stepOn in w
+
+  dropped-whole : (k : ℕ) → Whole (withFrames k r [])
+  dropped-whole zero = record {
+    limits = record {
+      classes = w .limits .classes;
+      kept = w .limits .kept;
+      cache = w .limits .cache;
+      ties = w .limits .ties;
+      subtypes = w .limits .subtypes;
+      objects = w .limits .objects;
+      quote = omega arith;
+      report = w .limits .report;
+    };
+    classes = w .classes;
+    cache = w .cache;
+    ties = w .ties;
+    subtypes = w .subtypes;
+    objects = w .objects;
+    quote = tt;
+    report = w .report;
+  }
+  dropped-whole (suc k) = record {
+    limits = record {
+      classes = w .limits .classes;
+      kept = w .limits .kept;
+      cache = w .limits .cache;
+      ties = w .limits .ties;
+      subtypes = w .limits .subtypes;
+      objects = w .limits .objects;
+      quote = w .limits .quote;
+      report = omega arith;
+    };
+    classes = w .classes;
+    cache = w .cache;
+    ties = w .ties;
+    subtypes = w .subtypes;
+    objects = w .objects;
+    quote = w .quote;
+    report = tt;
+  }
+
+  pub drop-whole : (k : ℕ) → Ok (dropRows k r) Stays
+  unfolding dropRows
+  drop-whole k = then Stays _ _ (λ _ _. dropped-whole k)
+
+pub boot-whole : Whole bootRows
+boot-whole = record {
+  limits = record { classes = omega arith; kept = omega arith; cache = omega arith; ties = omega arith; subtypes = omega arith; objects = omega arith; quote = omega arith; report = omega arith };
+  classes = (record { loader = refl; start = refl; size = refl }, tt);
+  cache = (record { loader = omega arith; class = omega arith }, tt);
+  ties = tt;
+  subtypes = tt;
+  objects = tt;
+  quote = tt;
+  report = tt;
+}

@@ -1,0 +1,7 @@
+-- Every call on a store that is not broken leaves one that is not broken.
+pub mod Steps
+pub mod Calls
+pub mod Unbroken
+pub mod OnRows
+pub mod Record
+pub mod Tasks

@@ -1,0 +1,1 @@
+// Every call keeps an unbroken store unbroken: proofs only.
