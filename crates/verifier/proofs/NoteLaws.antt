@@ -5,13 +5,14 @@ use mathlib.Core.Logic.{_≢_}
 use Prim.Native.Nat.{ℕ, suc, _+_, _*_, _<_, _≤_}
 use native.Mathlib.Omega.{arith}
 use lib.ListN.{length, getD, set, length-set, length-append}
-use lib.Seq.{set-comm, set-out, getD-set-same, getD-set-other}
-use Rattle.definition.specs.Lists.{rows, writeRows}
+use lib.Seq.{set-comm, set-out, set-getD, getD-set-same, getD-set-other}
+use Rattle.definition.specs.Lists.{writeRows}
 use Rattle.definition.specs.Verifier.{Note}
+use Rattle.layout.specs.Places.{writeRows-length}
+use Rattle.layout.specs.Cells.{RowLaws, rows-first}
 use Rattle.verifier.specs.declared.effects.Meeting.{Meeting}
 use Rattle.verifier.specs.declared.effects.Meeting.the-variants.{Unmet, Met, Noted}
 use Rattle.verifier.specs.Trace.{made, note, putNote, noteAt, Wrote}
-use Rattle.verifier.proofs.RowLaws as row
 
 pub note-length : (t : List ℕ) (i : ℕ) (x : Note) → length (putNote t i x) ≡ length t
 unfolding putNote
@@ -32,35 +33,37 @@ note-either t i j x y d =
     ap (λ u. set u b xh) (set-comm (set t c yl) e a yh xl (λ q. d (omega arith)) ∙ ap (λ u. set u e yh) (set-comm t c a yl xl (λ q. d (omega arith))))
     ∙ (set-comm (set (set t a xl) c yl) e b yh xh (λ q. d (omega arith)) ∙ ap (λ u. set u e yh) (set-comm (set t a xl) c b yl xh (λ q. d (omega arith))))
 
-pub note-same : (t : List ℕ) (i : ℕ) (x : Note) → (i + 1) * 2 ≤ length t → noteAt (putNote t i x) i ≡ x
+-- a note is a row of two cells
+pub note-rows : RowLaws noteAt putNote 2
 unfolding putNote noteAt
-note-same t i x h =
-    rw (
-      getD-set-other (set t (i * 2) (x .low)) (i * 2 + 1) (i * 2) (x .high) 0 (λ q. omega arith),
-      getD-set-same t (i * 2) (x .low) 0 (omega arith),
-      getD-set-same (set t (i * 2) (x .low)) (i * 2 + 1) (x .high) 0 (omega (arith, length-set t (i * 2) (x .low))),
-    )
+note-rows = record {
+  same = λ t i. rw (set-getD t (i * 2) 0) (set-getD t (i * 2 + 1) 0);
+  back = λ t i x h.
+      rw (getD-set-other (set t (i * 2) (x .low)) (i * 2 + 1) (i * 2) (x .high) 0 (λ q. omega arith)
+         , getD-set-same t (i * 2) (x .low) 0 (omega arith)
+         , getD-set-same (set t (i * 2) (x .low)) (i * 2 + 1) (x .high) 0 (omega (arith, length-set t (i * 2) (x .low))));
+  other = λ t j i x d.
+      let u : List ℕ = set t (i * 2) (x .low) in
+      rw (getD-set-other u (i * 2 + 1) (j * 2) (x .high) 0 (λ q. d (omega arith))
+         , getD-set-other t (i * 2) (j * 2) (x .low) 0 (λ q. d (omega arith))
+         , getD-set-other u (i * 2 + 1) (j * 2 + 1) (x .high) 0 (λ q. d (omega arith))
+         , getD-set-other t (i * 2) (j * 2 + 1) (x .low) 0 (λ q. d (omega arith)));
+  long = note-length;
+  commute = λ t i j x y l. note-either t i j x y (λ q. omega arith);
+}
 
-pub note-other : (t : List ℕ) (i j : ℕ) (x : Note) → i ≢ j → noteAt (putNote t i x) j ≡ noteAt t j
-unfolding putNote noteAt
-note-other t i j x d =
-    let u : List ℕ = set t (i * 2) (x .low) in
-    rw (
-      getD-set-other u (i * 2 + 1) (j * 2) (x .high) 0 (λ q. d (omega arith)),
-      getD-set-other t (i * 2) (j * 2) (x .low) 0 (λ q. d (omega arith)),
-      getD-set-other u (i * 2 + 1) (j * 2 + 1) (x .high) 0 (λ q. d (omega arith)),
-      getD-set-other t (i * 2) (j * 2 + 1) (x .low) 0 (λ q. d (omega arith)),
-    )
-
+-- notes are written in two parts
 pub notes-append : (xs ys : List Note) (i : ℕ) (t : List ℕ) → writeRows putNote (xs ++ ys) i t ≡ writeRows putNote ys (i + length xs) (writeRows putNote xs i t)
-notes-append xs ys i t = row.write-append putNote note-either xs ys i t
+unfolding writeRows
+notes-append [] ys i t = let e : i + 0 ≡ i = omega arith in rw e
+notes-append (x ∷ xs) ys i t =
+    let e : i + suc (length xs) ≡ suc i + length xs = omega arith in
+    rw e
+    (rows-first note-rows x (xs ++ ys) i t
+    ∙ (notes-append xs ys (suc i) (putNote t i x) ∙ ap (λ u. writeRows putNote ys (suc i + length xs) u) (sym (rows-first note-rows x xs i t))))
 
 pub notes-length : (xs : List Note) (i : ℕ) (t : List ℕ) → length (writeRows putNote xs i t) ≡ length t
-notes-length xs i t = row.write-length putNote note-length xs i t
-
--- the notes written from row i on are read back, where there is room for them
-pub notes-back : (xs : List Note) (i : ℕ) (t : List ℕ) → (i + length xs) * 2 ≤ length t → rows (noteAt (writeRows putNote xs i t)) (length xs) i ≡ xs
-notes-back xs i t h = row.read-back putNote note-length noteAt 2 note-same note-other xs i t h
+notes-length xs i t = writeRows-length putNote note-length xs i t
 
 -- What a meeting writes
 

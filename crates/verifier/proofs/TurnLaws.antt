@@ -16,6 +16,7 @@ use Rattle.definition.specs.Instructions.{decode, pick}
 use Rattle.definition.specs.Lists.{stack, rows, isSome}
 use Rattle.definition.specs.Maybe.{_>>=_, need}
 use Rattle.definition.specs.Verifier.{VerifierType, Note, TypeState, Flow, flow}
+use Rattle.layout.specs.Places.{stack-length, stack-cong, rows-length, rows-set}
 use Rattle.verifier.specs.declared.decoding.Reading.{Reading}
 use Rattle.verifier.specs.declared.decoding.Reading.the-variants.{At, Unreadable}
 use Rattle.verifier.specs.declared.types.Types.{Types}
@@ -27,7 +28,6 @@ use Rattle.verifier.specs.Types.{typeOf, localOf, operandAt, localAt, lo
 use Rattle.verifier.specs.Effects.{notesIn, rejected, going, ending, outcome, outcomeOf}
 use Rattle.verifier.specs.Trace.{halted, settle, turned, turnedBy, made, madeFlow}
 use Rattle.verifier.proofs.DecodingLaws.{decode-within, decode-is}
-use Rattle.verifier.proofs.RowLaws.{stack-length, stack-same, rows-length, rows-changed}
 
 -- At most 16 operands
 
@@ -129,7 +129,7 @@ module _ (o : List ℕ) (d t : ℕ) (full : length o ≡ 16) (h : d < 16) where
   stack-pushed =
       rw (
         getD-set-same o d t 0 (omega arith),
-        stack-same (λ i. typeOf (getD (set o d t) i 0)) (λ i. typeOf (getD o i 0)) d (λ i l. ap typeOf (getD-set-other o d i t 0 (λ q. omega arith))),
+        stack-cong (λ i. typeOf (getD (set o d t) i 0)) (λ i. typeOf (getD o i 0)) d (λ i l. ap typeOf (getD-set-other o d i t 0 (λ q. omega arith))),
       )
 
 module _ (types : Types) (d t : ℕ) (a b : Meeting) where
@@ -150,8 +150,9 @@ module _ (l : List ℕ) (i t : ℕ) where
   locals-set : length l ≡ 8 → i < 8 → localsOf (set l i t) ≡ set (localsOf l) i (localOf t)
   unfolding localsOf localAt
   locals-set full h =
-      rows-changed (localAt l) (localAt (set l i t)) 8 i (λ m q. ap localOf (getD-set-other l i m t 0 q))
-      ∙ ap (λ x. set (rows (localAt l) 8 0) i (localOf x)) (getD-set-same l i t 0 (omega arith))
+      let z : 0 + i ≡ i = omega arith in
+      rows-set (localAt l) (localAt (set l i t)) 8 0 i (localOf t)
+      (rw z (ap localOf (getD-set-same l i t 0 (omega arith)))) (λ m q. ap localOf (getD-set-other l i m t 0 (rw z at q)))
 
   locals-past : 8 ≤ i → set (localsOf l) i (localOf t) ≡ localsOf l
   unfolding localsOf
