@@ -6,3 +6,4 @@ pub mod TurnLaws
 pub mod NoteLaws
 pub mod TraceLaws
 pub mod CountLaws
+pub mod ClassLaws

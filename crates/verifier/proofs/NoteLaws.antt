@@ -39,15 +39,19 @@ unfolding putNote noteAt
 note-rows = record {
   same = λ t i. rw (set-getD t (i * 2) 0) (set-getD t (i * 2 + 1) 0);
   back = λ t i x h.
-      rw (getD-set-other (set t (i * 2) (x .low)) (i * 2 + 1) (i * 2) (x .high) 0 (λ q. omega arith)
-         , getD-set-same t (i * 2) (x .low) 0 (omega arith)
-         , getD-set-same (set t (i * 2) (x .low)) (i * 2 + 1) (x .high) 0 (omega (arith, length-set t (i * 2) (x .low))));
+      rw (
+        getD-set-other (set t (i * 2) (x .low)) (i * 2 + 1) (i * 2) (x .high) 0 (λ q. omega arith),
+        getD-set-same t (i * 2) (x .low) 0 (omega arith),
+        getD-set-same (set t (i * 2) (x .low)) (i * 2 + 1) (x .high) 0 (omega (arith, length-set t (i * 2) (x .low))),
+      );
   other = λ t j i x d.
       let u : List ℕ = set t (i * 2) (x .low) in
-      rw (getD-set-other u (i * 2 + 1) (j * 2) (x .high) 0 (λ q. d (omega arith))
-         , getD-set-other t (i * 2) (j * 2) (x .low) 0 (λ q. d (omega arith))
-         , getD-set-other u (i * 2 + 1) (j * 2 + 1) (x .high) 0 (λ q. d (omega arith))
-         , getD-set-other t (i * 2) (j * 2 + 1) (x .low) 0 (λ q. d (omega arith)));
+      rw (
+        getD-set-other u (i * 2 + 1) (j * 2) (x .high) 0 (λ q. d (omega arith)),
+        getD-set-other t (i * 2) (j * 2) (x .low) 0 (λ q. d (omega arith)),
+        getD-set-other u (i * 2 + 1) (j * 2 + 1) (x .high) 0 (λ q. d (omega arith)),
+        getD-set-other t (i * 2) (j * 2 + 1) (x .low) 0 (λ q. d (omega arith)),
+      );
   long = note-length;
   commute = λ t i j x y l. note-either t i j x y (λ q. omega arith);
 }

@@ -24,7 +24,7 @@ use Rattle.verifier.proofs.NoteLaws.{notes-append}
 
 -- The verifier says what the walk says
 
-granted-after : (ns : List Note) (t : Trace) → acceptedNotes (after ns t) ≡ (acceptedNotes t >>= λ ms. some (ns ++ ms))
+pub granted-after : (ns : List Note) (t : Trace) → acceptedNotes (after ns t) ≡ (acceptedNotes t >>= λ ms. some (ns ++ ms))
 unfolding acceptedNotes after granted _>>=_
 granted-after ns t = go (t .accepts)
   where
@@ -84,7 +84,7 @@ pub begins : (from : ℕ) (w : Trace) (t : List ℕ) → recorded (from + 0) 0 w
 unfolding recorded verified
 begins from w t = let e : from + 0 ≡ from = omega arith in let f : 0 + length (w .notes) ≡ length (w .notes) = omega arith in rw (e, f)
 
-recorded-after :
+pub recorded-after :
     (from c : ℕ) (ns : List Note) (w : Trace) (t : List ℕ) →
     recorded (from + c) c (after ns w) t ≡ recorded (from + (c + length ns)) (c + length ns) w (writeRows putNote ns (from + c) t)
 unfolding recorded after
@@ -145,20 +145,28 @@ module _ (from : ℕ) (w : Trace) (t u : List ℕ) where
   unfolding verified
   by-answer a e = ap (λ (v : Verification). v .answer) e
 
-  -- an answer with n notes: they are the verifier's, and n is their number
-  pub accepted-says : (n : ℕ) → verification (Notes n) u ≡ verified from w t → (acceptedNotes w ≡ some (w .notes)) × (n ≡ length (w .notes))
-  unfolding acceptedNotes granted pick
-  accepted-says n e = go (w .accepts) (by-answer (Notes n) e)
+  -- an answer with n notes: the walk accepts, its notes are the verifier's, and n is their number
+  pub accepted-walk : (n : ℕ) → verification (Notes n) u ≡ verified from w t → (w .accepts ≡ true) × (n ≡ length (w .notes))
+  unfolding pick
+  accepted-walk n e = go (w .accepts) (by-answer (Notes n) e)
     where
-      go : (b : Bool) → Notes n ≡ pick b (Notes (length (w .notes))) Rejected → (granted b (w .notes) ≡ some (w .notes)) × (n ≡ length (w .notes))
+      go : (b : Bool) → Notes n ≡ pick b (Notes (length (w .notes))) Rejected → (b ≡ true) × (n ≡ length (w .notes))
       go true q = (refl, cc)
       go false q = let z : _≡_ {A = ℕ} 0 1 = cc in absurd (omega arith)
 
+  pub accepted-says : (n : ℕ) → verification (Notes n) u ≡ verified from w t → acceptedNotes w ≡ some (w .notes)
+  unfolding acceptedNotes granted
+  accepted-says n e = ap (λ (b : Bool). granted b (w .notes)) (accepted-walk n e .0)
+
   -- a rejection: the verifier has no notes
-  pub rejected-says : verification Rejected u ≡ verified from w t → acceptedNotes w ≡ none
-  unfolding acceptedNotes granted pick
-  rejected-says e = go (w .accepts) (by-answer Rejected e)
+  pub rejected-walk : verification Rejected u ≡ verified from w t → w .accepts ≡ false
+  unfolding pick
+  rejected-walk e = go (w .accepts) (by-answer Rejected e)
     where
-      go : (b : Bool) → Rejected ≡ pick b (Notes (length (w .notes))) Rejected → granted b (w .notes) ≡ none
+      go : (b : Bool) → Rejected ≡ pick b (Notes (length (w .notes))) Rejected → b ≡ false
       go true q = let z : _≡_ {A = ℕ} 0 1 = cc in absurd (omega arith)
       go false q = refl
+
+  pub rejected-says : verification Rejected u ≡ verified from w t → acceptedNotes w ≡ none
+  unfolding acceptedNotes granted
+  rejected-says e = ap (λ (b : Bool). granted b (w .notes)) (rejected-walk e)

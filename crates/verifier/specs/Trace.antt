@@ -9,7 +9,9 @@ use lib.Dec.{eqb}
 use Rattle.definition.specs.Instructions.{Decoded, decode, pick}
 use Rattle.definition.specs.Lists.{writeRows}
 use Rattle.definition.specs.Maybe.{_>>=_}
+use Rattle.definition.specs.Classes.{Method}
 use Rattle.definition.specs.Verifier.{Note, TypeState, Flow}
+use Rattle.classfile.specs.Reading.{className, quickMethods}
 use Rattle.verifier.specs.declared.effects.Meeting.{Meeting}
 use Rattle.verifier.specs.declared.effects.Meeting.the-variants.{Unmet, Met, Noted}
 use Rattle.verifier.specs.declared.turns.Step.{Step}
@@ -127,3 +129,19 @@ methodTrace own argument result code = trace code result (length code) 0 (entryO
 -- what verifying a method answers and writes, from row i on
 unfoldable pub verified : ℕ → Trace → List ℕ → Verification
 verified i w t = verification (pick (w .accepts) (Notes (length (w .notes))) Rejected) (writeRows putNote (w .notes) i t)
+
+-- A class's methods in order: the first that is rejected ends the walk
+
+unfoldable pub traceOf : ℕ → Method → Trace
+traceOf own m = methodTrace own (m .argument) (m .result) (m .code)
+
+unfoldable pub followed : Trace → Trace → Trace
+followed w v = pick (w .accepts) (after (w .notes) v) w
+
+unfoldable pub methodsTrace : ℕ → List Method → Trace
+methodsTrace own [] = record { notes = []; accepts = true }
+methodsTrace own (m ∷ ms) = followed (traceOf own m) (methodsTrace own ms)
+
+-- the methods of a class file, by the quick reading
+unfoldable pub classTrace : List ℕ → Trace
+classTrace bs = methodsTrace (className bs) (quickMethods bs)

@@ -4,7 +4,9 @@ mod types; // types.rt: the verifier's types as numbers, and its state at a poin
 mod effects; // effects.rt: what each instruction does to the state
 mod turns; // turns.rt: one turn of the walk over the code
 mod methods; // methods.rt: the walk over a method, and the table of notes
+mod classes; // classes.rt: all methods of a class file
 
+pub use classes::verify_class;
 pub use decoding::Reading;
 pub use decoding::decode;
 pub use decoding::inline_length;
