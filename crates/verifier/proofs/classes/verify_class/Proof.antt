@@ -39,13 +39,33 @@ verify-numbered-requires : tie.Need-verify-numbered-requires Inv-loop μ-loop
 verify-numbered-requires c κs = there (c .before)
 
 returns : tie.Need-returns Inv-loop μ-loop
-returns c = sym (class-stops _ _ _ _ _ (there (c .before .before .before .before .before .before)) (rw (c .enum-told .given .1) at (c .before .before .before .before .verify-numbered .ensures))) ∙ c .before .before .before .before .before .before .before .loop .inv .3
+returns c =
+    sym
+    (class-stops _ _ _ _ _ (there (c .before .before .before .before .before .before))
+    (rw (c .enum-told .given .1) at (c .before .before .before .before .verify-numbered .ensures)))
+    ∙ c .before .before .before .before .before .before .before .loop .inv .3
 
 add-count : tie.Need-add-count Inv-loop μ-loop
-add-count c = omega (arith, few (c .before), c .before .before .before .before .before .before .before .before .loop .inv .0, c .before .before .before .before .before .before .before .before .loop .inv .1, c .before .before .before .before .before .before .before .before .before .method-count .ok)
+add-count c =
+    omega (
+      arith,
+      few (c .before),
+      c .before .before .before .before .before .before .before .before .loop .inv .0,
+      c .before .before .before .before .before .before .before .before .loop .inv .1,
+      c .before .before .before .before .before .before .before .before .before .method-count .ok,
+    )
 
 loop-again : tie.Need-loop-again Inv-loop μ-loop
-loop-again c = (omega arith, omega (arith, few (c .before), c .before .before .before .before .before .before .before .before .loop .inv .1), c .before .before .before .before .before .verify-numbered .kept .1 .1 .0 ∙ c .before .before .before .before .before .before .before .before .loop .inv .2, sym (class-goes _ _ _ _ _ _ (there (c .before .before .before .before .before .before .before)) (rw (c .before .more .given .1) at (c .before .before .before .before .before .verify-numbered .ensures))) ∙ c .before .before .before .before .before .before .before .before .loop .inv .3)
+loop-again c = (
+  omega arith,
+  omega (arith, few (c .before), c .before .before .before .before .before .before .before .before .loop .inv .1),
+  c .before .before .before .before .before .verify-numbered .kept .1 .1 .0
+      ∙ c .before .before .before .before .before .before .before .before .loop .inv .2,
+  sym
+      (class-goes _ _ _ _ _ _ (there (c .before .before .before .before .before .before .before))
+      (rw (c .before .more .given .1) at (c .before .before .before .before .before .verify-numbered .ensures)))
+      ∙ c .before .before .before .before .before .before .before .before .loop .inv .3,
+)
 
 returns-2 : tie.Need-returns-2 Inv-loop μ-loop
 returns-2 c = sym (class-ends _ _ _ _ (omega (arith, c .before .before .method-count .ensures, c .loop-test .left))) ∙ c .before .loop .inv .3

@@ -8,10 +8,22 @@ use Rattle.verifier.proofs.classes.verify_numbered.Statement.{statement
 use Rattle.verifier.proofs.classes.verify_numbered.Tie as tie
 
 returns : tie.Need-returns
-returns c = absurd (never-absent _ _ (c .before .before .before .before .before .pre) _ (c .before .before .method-place .ensures) (c .enum-told .given .1))
+returns c =
+    absurd (never-absent _ _ (c .before .before .before .before .before .pre) _ (c .before .before .method-place .ensures) (c .enum-told .given .1))
 
 returns-2 : tie.Need-returns-2
-returns-2 c = c .before .before .verify-method .ensures ∙ ap (λ w. verified (c .before .before .before .before .before .before .before .before .before .before .before .before .before .before .args .from) w (now (c .before .before .before .before .before .before .before .before .before .before .before .before .before .before .args .notes))) (trace-found _ _ _ _ _ _ _ (found-at _ _ (c .before .before .before .before .before .before .before .before .before .before .before .before .before .before .pre) _ (c .before .before .before .before .before .before .before .before .before .before .before .method-place .ensures) _ _ (c .before .before .before .before .before .before .before .before .before .place .given .1)) (c .before .before .before .before .before .before .before .class-name .ensures) (c .before .before .before .before .before .before .method-argument .ensures) (c .before .before .before .before .before .method-result .ensures) (c .before .before .before .before .code .ensures))
+returns-2 c =
+    c .before .before .verify-method .ensures
+    ∙ ap
+    (λ w. verified (c .before .before .before .before .before .before .before .before .before .before .before .before .before .before .args .from) w
+    (now (c .before .before .before .before .before .before .before .before .before .before .before .before .before .before .args .notes)))
+    (trace-found _ _ _ _ _ _ _
+    (found-at _ _ (c .before .before .before .before .before .before .before .before .before .before .before .before .before .before .pre) _
+    (c .before .before .before .before .before .before .before .before .before .before .before .method-place .ensures) _ _
+    (c .before .before .before .before .before .before .before .before .before .place .given .1))
+    (c .before .before .before .before .before .before .before .class-name .ensures)
+    (c .before .before .before .before .before .before .method-argument .ensures) (c .before .before .before .before .before .method-result .ensures)
+    (c .before .before .before .before .code .ensures))
 
 pub verify-numbered-spec : {M : Type 1} → statement M
 verify-numbered-spec =

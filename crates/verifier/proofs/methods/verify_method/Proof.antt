@@ -27,19 +27,57 @@ unfolding methodTrace
 loop-holds c = (omega arith, omega arith, refl, rw (c .entry-types .ensures) (begins _ _ _))
 
 write-notes-requires : tie.Need-write-notes-requires Inv-loop μ-loop
-write-notes-requires c κs = omega (arith, c .before .before .before .loop .inv .1, c .before .before .loop-test .taken, c .before .before .before .before .before .before .before .good)
+write-notes-requires c κs =
+    omega (
+      arith,
+      c .before .before .before .loop .inv .1,
+      c .before .before .loop-test .taken,
+      c .before .before .before .before .before .before .before .good,
+    )
 
 add-count : tie.Need-add-count Inv-loop μ-loop
-add-count c = omega (arith, few (c .before .before), c .before .before .before .before .before .before .loop .inv .1, c .before .before .before .before .before .loop-test .taken, c .before .before .before .before .before .before .before .before .before .before .good)
+add-count c =
+    omega (
+      arith,
+      few (c .before .before),
+      c .before .before .before .before .before .before .loop .inv .1,
+      c .before .before .before .before .before .loop-test .taken,
+      c .before .before .before .before .before .before .before .before .before .before .good,
+    )
 
 returns : tie.Need-returns Inv-loop μ-loop
-returns c = sym (walk-stops _ _ _ _ _ _ _ _ _ _ _ (c .before .before .before .before .before .before .before .loop-test .taken) (c .before .before .before .before .before .before .turn-at .ensures) (c .before .before .before .before .write-notes .ensures) (c .enum-told .given .1)) ∙ c .before .before .before .before .before .before .before .before .loop .inv .3
+returns c =
+    sym
+    (walk-stops _ _ _ _ _ _ _ _ _ _ _ (c .before .before .before .before .before .before .before .loop-test .taken)
+    (c .before .before .before .before .before .before .turn-at .ensures) (c .before .before .before .before .write-notes .ensures)
+    (c .enum-told .given .1))
+    ∙ c .before .before .before .before .before .before .before .before .loop .inv .3
 
 returns-2 : tie.Need-returns-2 Inv-loop μ-loop
-returns-2 c = sym (walk-ends _ _ _ _ _ _ _ _ _ _ _ (c .before .before .before .before .before .before .before .loop-test .taken) (c .before .before .before .before .before .before .turn-at .ensures) (c .before .before .before .before .write-notes .ensures) (c .enum-told2 .given .1)) ∙ c .before .before .before .before .before .before .before .before .loop .inv .3
+returns-2 c =
+    sym
+    (walk-ends _ _ _ _ _ _ _ _ _ _ _ (c .before .before .before .before .before .before .before .loop-test .taken)
+    (c .before .before .before .before .before .before .turn-at .ensures) (c .before .before .before .before .write-notes .ensures)
+    (c .enum-told2 .given .1))
+    ∙ c .before .before .before .before .before .before .before .before .loop .inv .3
 
 loop-again : tie.Need-loop-again Inv-loop μ-loop
-loop-again c = (omega arith, omega (arith, few (c .before .before .before .before .before .before), c .before .before .before .before .before .before .before .before .before .before .loop .inv .1, c .before .before .before .before .before .before .before .before .before .loop-test .taken), c .before .before .before .before .before .before .write-notes .kept .0 ∙ c .before .before .before .before .before .before .before .before .before .before .loop .inv .2, sym (walk-goes _ _ _ _ _ _ _ _ _ _ _ (c .before .before .before .before .before .before .before .before .before .loop-test .taken) (c .before .before .before .before .before .before .before .before .turn-at .ensures) (c .before .before .before .before .before .before .write-notes .ensures) _ (c .before .before .step .given .1)) ∙ c .before .before .before .before .before .before .before .before .before .before .loop .inv .3)
+loop-again c = (
+  omega arith,
+  omega (
+    arith,
+    few (c .before .before .before .before .before .before),
+    c .before .before .before .before .before .before .before .before .before .before .loop .inv .1,
+    c .before .before .before .before .before .before .before .before .before .loop-test .taken,
+  ),
+  c .before .before .before .before .before .before .write-notes .kept .0
+      ∙ c .before .before .before .before .before .before .before .before .before .before .loop .inv .2,
+  sym
+      (walk-goes _ _ _ _ _ _ _ _ _ _ _ (c .before .before .before .before .before .before .before .before .before .loop-test .taken)
+      (c .before .before .before .before .before .before .before .before .turn-at .ensures)
+      (c .before .before .before .before .before .before .write-notes .ensures) _ (c .before .before .step .given .1))
+      ∙ c .before .before .before .before .before .before .before .before .before .before .loop .inv .3,
+)
 
 returns-3 : tie.Need-returns-3 Inv-loop μ-loop
 returns-3 c = sym (out-of-turns _ _ _ _ _ _ _ _ (c .loop-test .left)) ∙ c .before .loop .inv .3

@@ -16,7 +16,8 @@ returns-2 c = rw (c .enum-told2 .given .1) (record { count = refl; table = refl 
 
 returns-3 : tie.Need-returns-3
 unfolding made writeRows
-returns-3 c = rw (c .before .before .before .before .before .m .given .1) (record { count = refl; table = c .before .before .put-note .ensures })
+returns-3 c =
+    rw (c .before .before .before .before .before .m .given .1) (record { count = refl; table = c .before .before .put-note .ensures })
 
 pub write-note-spec : {M : Type 1} → statement M
 write-note-spec =

@@ -6,13 +6,22 @@ use Rattle.verifier.proofs.methods.write_notes.Statement.{statement}
 use Rattle.verifier.proofs.methods.write_notes.Tie as tie
 
 add-write-note : tie.Need-add-write-note
-add-write-note c = omega (arith, c .before .before .before .write-note .ensures .count, made-few (c .before .before .before .before .before .before .args .receiver))
+add-write-note c =
+    omega (arith, c .before .before .before .write-note .ensures .count, made-few (c .before .before .before .before .before .before .args .receiver))
 
 add-result : tie.Need-add-result
-add-result c = omega (arith, c .before .before .before .before .before .before .write-note .ensures .count, made-few (c .before .before .before .before .before .before .before .before .before .args .receiver), c .before .before .write-note2 .ensures .count, made-few (c .before .before .before .before .before .before .before .before .before .args .value))
+add-result c =
+    omega (
+      arith,
+      c .before .before .before .before .before .before .write-note .ensures .count,
+      made-few (c .before .before .before .before .before .before .before .before .before .args .receiver),
+      c .before .before .write-note2 .ensures .count,
+      made-few (c .before .before .before .before .before .before .before .before .before .args .value),
+    )
 
 returns : tie.Need-returns
-returns c = wrote-both _ _ _ _ _ _ _ _ _ (c .before .before .before .before .before .before .write-note .ensures) (c .before .before .write-note2 .ensures)
+returns c =
+    wrote-both _ _ _ _ _ _ _ _ _ (c .before .before .before .before .before .before .write-note .ensures) (c .before .before .write-note2 .ensures)
 
 pub write-notes-spec : {M : Type 1} → statement M
 write-notes-spec =

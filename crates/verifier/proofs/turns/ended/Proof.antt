@@ -19,7 +19,12 @@ returns-2 c = rw (unmet-notes _ (sym (c .before .before .met .ensures) ∙ not-t
 
 returns-3 : tie.Need-returns-3
 unfolding outcomeOf settle ending turnOf nextOf pick
-returns-3 c = rw (not-false (c .before .before .before .args .last) (c .before .before .if1 .left), met-notes _ (sym (c .before .met .ensures) ∙ not-false _ (c .if2 .left)), made-alone (c .before .before .before .args .m))
+returns-3 c =
+    rw (
+      not-false (c .before .before .before .args .last) (c .before .before .if1 .left),
+      met-notes _ (sym (c .before .met .ensures) ∙ not-false _ (c .if2 .left)),
+      made-alone (c .before .before .before .args .m),
+    )
 
 pub ended-spec : {M : Type 1} → statement M
 ended-spec =

@@ -10,15 +10,20 @@ use Rattle.verifier.proofs.turns.go_on.Tie as tie
 
 returns : tie.Need-returns
 unfolding settle
-returns c = c .stop .ensures ∙ ap (settle _ _) (sym (unmet-first _ _ _ (sym (c .before .before .met .ensures) ∙ not-true _ (c .before .if1 .taken))))
+returns c =
+    c .stop .ensures ∙ ap (settle _ _) (sym (unmet-first _ _ _ (sym (c .before .before .met .ensures) ∙ not-true _ (c .before .if1 .taken))))
 
 returns-2 : tie.Need-returns-2
 unfolding settle
-returns-2 c = c .stop2 .ensures ∙ ap (settle _ _) (sym (unmet-second _ _ _ (sym (c .before .before .met2 .ensures) ∙ not-true _ (c .before .if2 .taken))))
+returns-2 c =
+    c .stop2 .ensures ∙ ap (settle _ _) (sym (unmet-second _ _ _ (sym (c .before .before .met2 .ensures) ∙ not-true _ (c .before .if2 .taken))))
 
 returns-3 : tie.Need-returns-3
 unfolding settle going turnOf nextOf
-returns-3 c = rw (met-both _ _ _ (sym (c .before .before .before .met .ensures) ∙ not-false _ (c .before .before .if1 .left)) (sym (c .before .met2 .ensures) ∙ not-false _ (c .if2 .left)))
+returns-3 c =
+    rw
+    (met-both _ _ _ (sym (c .before .before .before .met .ensures) ∙ not-false _ (c .before .before .if1 .left))
+    (sym (c .before .met2 .ensures) ∙ not-false _ (c .if2 .left)))
 
 pub go-on-spec : {M : Type 1} → statement M
 go-on-spec =

@@ -12,7 +12,10 @@ unfolding settle
 returns c = c .stop .ensures ∙ ap (settle _ _) (sym (pushed-full _ _ _ _ _ (c .before .if1 .taken)))
 
 returns-2 : tie.Need-returns-2
-returns-2 c = c .go-on .ensures ∙ ap (settle _ _) (sym (pushed-fits _ _ _ _ _ (let full : length (c .before .before .args .types .operands) ≡ 16 = search needs in full) (c .before .if1 .left)))
+returns-2 c =
+    c .go-on .ensures
+    ∙ ap (settle _ _)
+    (sym (pushed-fits _ _ _ _ _ (let full : length (c .before .before .args .types .operands) ≡ 16 = search needs in full) (c .before .if1 .left)))
 
 pub pushed-spec : {M : Type 1} → statement M
 pushed-spec =

@@ -15,7 +15,12 @@ returns-2 : tie.Need-returns-2
 returns-2 c = c .go-on .ensures ∙ ap (settle _ _) (sym (stored-past _ _ _ _ (c .before .before .if1 .left) (c .before .if2 .taken)))
 
 returns-3 : tie.Need-returns-3
-returns-3 c = c .go-on2 .ensures ∙ ap (settle _ _) (sym (stored-at _ _ _ _ (let full : length (c .before .before .before .args .types .locals) ≡ 8 = search needs in full) (c .before .before .if1 .left) (c .before .if2 .left)))
+returns-3 c =
+    c .go-on2 .ensures
+    ∙ ap (settle _ _)
+    (sym
+    (stored-at _ _ _ _ (let full : length (c .before .before .before .args .types .locals) ≡ 8 = search needs in full) (c .before .before .if1 .left)
+    (c .before .if2 .left)))
 
 pub stored-spec : {M : Type 1} → statement M
 stored-spec =
