@@ -1,0 +1,2 @@
+-- Classes and cache read off the tables at once, and the laws of their lookups.
+pub mod Quick
