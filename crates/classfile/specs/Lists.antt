@@ -17,7 +17,7 @@ unfoldable pub shift : ℕ → Option ℕ → Option ℕ
 shift i none = none
 shift i (some j) = some (i + j)
 
-shift-some : (o : Option ℕ) (i : ℕ) → isSome (shift i o) ≡ isSome o
+pub shift-some : (o : Option ℕ) (i : ℕ) → isSome (shift i o) ≡ isSome o
 unfolding isSome shift
 shift-some none i = refl
 shift-some (some j) i = refl
@@ -63,6 +63,11 @@ every-first t ts e = rw (e, every)
 pub every-fails : (t : Bool) (ts : List Bool) → t ≡ false → every (t ∷ ts) ≡ false
 unfolding every
 every-fails t ts e = rw (e, every)
+
+pub every-last : (t : Bool) → every (t ∷ []) ≡ t
+unfolding every
+every-last true = refl
+every-last false = refl
 
 every-two : (t : Bool) (ts : List Bool) → every (t ∷ ts) ≡ true → (t ≡ true) × (every ts ≡ true)
 unfolding every

@@ -16,7 +16,7 @@ use Rattle.definition.specs.File.{File, byte, readFile}
 use Rattle.definition.specs.Tables.{ClassRow, fileAt}
 use Rattle.classfile.specs.declared.FieldFound.{FieldFound}
 use Rattle.classfile.specs.declared.MethodFound.{MethodFound}
-use Rattle.classfile.specs.Lists.{length-rows, get-rows, no-row, any-index, index-found, any-map, index-map}
+use Rattle.classfile.specs.Lists.{shift, shift-some, get-rows, no-row, any-index, index-found, any-map, index-map}
 use Rattle.classfile.specs.Reading.{quickFields, methodCount, codeAt, methodAt, methodPlace, methodIn, quickMethods, fieldIs, fieldNamed, fieldFound, methodFound, numbered, partOf}
 use Rattle.classfile.specs.Laws.{methods-of}
 
@@ -159,6 +159,16 @@ any-some f xs j h = any-index f xs ∙ ap isSome h
 pub any-none : {A : Type 0} (f : A → Bool) (xs : List A) → indexOf f xs ≡ none → any f xs ≡ false
 unfolding isSome
 any-none f xs h = any-index f xs ∙ ap isSome h
+
+-- the same of a method that a search from number i on finds or does not find
+module _ (bs : List ℕ) (f : Method → Bool) (xs : List Method) (i : ℕ) where
+  pub method-later : (j p : ℕ) → methodFound bs (shift i (indexOf f xs)) ≡ MethodFound.At j p → any f xs ≡ true
+  unfolding isSome
+  method-later j p h = any-index f xs ∙ sym (shift-some (indexOf f xs) i) ∙ ap isSome (method-at bs (shift i (indexOf f xs)) j p h .0)
+
+  pub method-never : methodFound bs (shift i (indexOf f xs)) ≡ MethodFound.Absent → any f xs ≡ false
+  unfolding isSome
+  method-never h = any-index f xs ∙ sym (shift-some (indexOf f xs) i) ∙ ap isSome (method-absent bs (shift i (indexOf f xs)) h)
 
 -- A part of the kept bytes
 
