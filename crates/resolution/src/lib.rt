@@ -310,14 +310,13 @@ fn super_cell(counts: &[u16], classes: &[u16], kept: &[u8], cache: &[u16], c: u8
     (p + 1) as u8
 }
 
-// The cells of classes 0 to 63.
-pub fn fill_supers(supers: &mut [u8; 64], counts: &[u16], classes: &[u16], kept: &[u8], cache: &[u16])
-    ensures { λ _. ⌜ now (supers .exit) ≡ rows (superCell (quickBase (now (counts .entry)) (now (classes .entry)) (now (kept .entry)) (now (cache .entry)))) 64 0 ⌝ }
+// The cells of classes 0 to 63, written from place 0 on.
+pub fn fill_supers(supers: &mut [u8], counts: &[u16], classes: &[u16], kept: &[u8], cache: &[u16])
+    ensures { λ _. ⌜ now (supers .exit) ≡ writeRows set (rows (superCell (quickBase (now (counts .entry)) (now (classes .entry)) (now (kept .entry)) (now (cache .entry)))) 64 0) 0 (now (supers .entry)) ⌝ }
 {
-    let mut c: u8 = 0;
-    while c < 64 {
-        let cell = super_cell(counts, classes, kept, cache, c);
-        supers[cells::wide8(c)] = cell;
-        c += 1;
+    let mut i: u8 = 64;
+    while 0 < i {
+        i -= 1;
+        cells::put8(supers, cells::wide8(i), super_cell(counts, classes, kept, cache, i));
     }
 }
