@@ -16,10 +16,10 @@ use Rattle.definition.specs.Superclasses.{Falls, nearest, below}
 use Rattle.laws.specs.Slots.{slots-up}
 use Rattle.laws.specs.Upward.{nearest-here, nearest-up, nearest-none}
 use Rattle.layout.specs.Places.{rows-length, rows-step, rows-none, rows-last}
-use Rattle.classfile.specs.Reading.{quickFields}
+use Rattle.classfile.specs.Reading.{fieldCount, quickFields}
 use Rattle.classfile.specs.Searches.{slotOf}
 use Rattle.resolution.specs.Quick.{quickBase, fileIn, own-quick}
-use Rattle.resolution.specs.Slots.{slotType, fieldType, slots-none}
+use Rattle.resolution.specs.Slots.{slotType, fieldType, slots-none, size-none, size-some, own-size, own-within}
 
 -- Two requests: the loaders are compared first
 
@@ -83,6 +83,27 @@ write-next g i t h = write-last g i 0 t h ∙ ap (λ (j : ℕ). writeRows set (r
 pub write-end : (g : ℕ → ℕ) (i start : ℕ) (t : List ℕ) → i ≤ 0 → writeRows set (rows g i 0) start t ≡ t
 unfolding writeRows rows
 write-end g i start t h = let z : i ≡ 0 = omega arith in rw z
+
+-- Fields counted upward: of a class at which m fields are counted already, and its own are k
+
+module _ (counts classes kept cache : List ℕ) (c k m all : ℕ) (own : k ≡ fieldCount (fileIn counts classes kept c)) where
+  abbrev base : Base
+  base = quickBase counts classes kept cache
+
+  pub count-up : (p : ℕ) → superOf base c ≡ some p → m + length (slots base c) ≡ all → m + k + length (slots base p) ≡ all
+  count-up p e h = omega (arith, size-some base c p e, own-size counts classes kept cache c)
+
+  pub count-last : superOf base c ≡ none → m + length (slots base c) ≡ all → m + k ≡ all
+  count-last e h = omega (arith, size-none base c e, own-size counts classes kept cache c)
+
+  pub rest-up : (p : ℕ) → superOf base c ≡ some p → all ≡ length (slots base c) → all - k ≡ length (slots base p)
+  rest-up p e h = omega (arith, size-some base c p e, own-size counts classes kept cache c)
+
+  pub rest-last : superOf base c ≡ none → all ≡ length (slots base c) → all - k ≡ 0
+  rest-last e h = omega (arith, size-none base c e, own-size counts classes kept cache c)
+
+  pub rest-within : all ≡ length (slots base c) → k ≤ all
+  rest-within h = omega (arith, own-within base c, own-size counts classes kept cache c)
 
 -- The types of an object's fields: the class's own are written behind the inherited ones
 
