@@ -11,50 +11,16 @@ use Rattle.definition.specs.declared.Answer.the-variants.{Idle, Ran, Finished, 
 use Rattle.definition.specs.declared.Reply.{Reply}
 use Rattle.definition.specs.declared.Reply.the-variants.{Accepted, Stepped, RanFor, Denied}
 use Rattle.definition.specs.Answers.{Result, refused, ok}
-use Rattle.definition.specs.Tables.{Tables, shaped, Rows, view, put}
+use Rattle.definition.specs.Tables.{Tables, shaped, Rows, view, put, putTie}
 use Rattle.definition.specs.Broken.{broken}
 use Rattle.definition.specs.Calls.{Given, bootRows, defineRows, recordRows, startRows, dropRows, stepRows, Done, done, wrap, boot, stepTables, goOn, runFrom, run, Call, callBoot, callDefine, callRecord, callStart, callStep, callRun, callDrop, perform, performAll}
 use Rattle.laws.specs.Wrapped.{wrapped, Ok, ok-at}
 use Rattle.layout.specs.Whole.{Whole}
+use Rattle.layout.specs.View.{put-view}
 use Rattle.layout.specs.Unbroken.{Lengths, shaped-true, true-shaped, view-put, true-whole, broken-false}
 use Rattle.unbroken.specs.Calls.{define-whole, record-whole, start-whole, step-whole, drop-whole, boot-whole}
 use Rattle.unbroken.specs.Unbroken.{Keeps}
-
-abbrev pub givenRows : {A : Type 0} → A → Rows → Given A
-givenRows a r = record { answer = a; rows = r }
-
-unfoldable pub settle : {A : Type 0} → (Refusal → A) → Rows → Result (Given A) → Given A
-settle deny r (refused w) = givenRows (deny w) r
-settle deny r (ok g) = g
-
-unfoldable pub onRows : {A : Type 0} → (Refusal → A) → (Rows → Result (Given A)) → Rows → Given A
-onRows deny f r = settle deny r (f r)
-
-abbrev pub goOnRows : (ℕ → Answer → Rows → Given Reply) → ℕ → Answer → Rows → Given Reply
-goOnRows go k Idle r = givenRows (RanFor k Idle) r
-goOnRows go k (Ran j) r = go (suc k) (Ran j) r
-goOnRows go k (Finished j n) r = givenRows (RanFor k (Finished j n)) r
-goOnRows go k (Refused w) r = givenRows (RanFor k (Refused w)) r
-
-unfoldable pub runRows : ℕ → ℕ → Answer → Rows → Given Reply
-runRows zero k a r = givenRows (RanFor k a) r
-runRows (suc n) k a r = let d = onRows Refused stepRows r in goOnRows (runRows n) k (d .answer) (d .rows)
-
-abbrev pub ofStepRows : Given Answer → Given Reply
-ofStepRows g = givenRows (Stepped (g .answer)) (g .rows)
-
-unfoldable pub performRows : Call → Rows → Given Reply
-performRows callBoot r = givenRows Accepted bootRows
-performRows (callDefine l bs) r = onRows Denied (defineRows l bs) r
-performRows (callRecord l n c) r = onRows Denied (recordRows l n c) r
-performRows (callStart k l n m v) r = onRows Denied (startRows k l n m v) r
-performRows callStep r = ofStepRows (onRows Refused stepRows r)
-performRows (callRun n) r = elim (leb 1 n && leb n 65535) as (λ _. Given Reply) [ true ↦ runRows n 0 Idle r | false ↦ givenRows (Denied (Word 3)) r ]
-performRows (callDrop k) r = onRows Denied (dropRows k) r
-
-unfoldable pub performAllRows : List Call → Rows → Given (List Reply)
-performAllRows [] r = givenRows [] r
-performAllRows (c ∷ cs) r = let d = performRows c r in let e = performAllRows cs (d .rows) in givenRows (d .answer ∷ e .answer) (e .rows)
+use Rattle.definition.specs.OnRows.{givenRows, settle, onRows, goOnRows, runRows, performRows, performAllRows}
 
 -- Tables that show rows
 
@@ -69,7 +35,7 @@ module _ {A : Type 0} (deny : Refusal → A) (f : Rows → Result (Given A)) (k 
   same-wrap : (t : Tables) (r : Rows) → Shows t r → Same (wrap deny f t .answer) (wrap deny f t .tables) (onRows deny f r)
   unfolding onRows settle
   same-wrap t r s = subst (λ (x : Rows). Same (wrap deny f t .answer) (wrap deny f t .tables) (onRows deny f x)) (s .rows)
-    (wrapped deny f t (λ a z. Same a z (onRows deny f (view t))) (λ e. absurd (false≢true (sym (s .unbroken) ∙ e)))
+      (wrapped deny f t (λ a z. Same a z (onRows deny f (view t))) (λ e. absurd (false≢true (sym (s .unbroken) ∙ e)))
       (λ w e. rw (e, onRows) (refl, record { unbroken = s .unbroken; rows = refl }))
       (λ g e. let h = ok-at (λ g. Whole (g .rows)) _ (k (view t) (u .1)) g e in rw (e, onRows) (refl, record { unbroken = true-whole (g .rows) t (u .0) h; rows = view-put (g .rows) t (u .0) h })))
     where
@@ -93,8 +59,9 @@ same-runs (suc n) k a t r s =
   where
     G : (x y : Answer) (z : Tables) (q : Rows) → Type 0
     G x y z q = Same (goOn (runFrom stepTables n) k x z .answer) (goOn (runFrom stepTables n) k x z .tables) (goOnRows (runRows n) k y q)
+
     go : (x y : Answer) → x ≡ y → (z : Tables) (q : Rows) → Shows z q
-      → ((k : ℕ) (a : Answer) (t : Tables) (r : Rows) → Shows t r → Same (runFrom stepTables n k a t .answer) (runFrom stepTables n k a t .tables) (runRows n k a r)) → G x y z q
+        → ((k : ℕ) (a : Answer) (t : Tables) (r : Rows) → Shows t r → Same (runFrom stepTables n k a t .answer) (runFrom stepTables n k a t .tables) (runRows n k a r)) → G x y z q
     go x y e z q h ih = subst (λ (y : Answer). G x y z q) e (here x)
       where
         here : (x : Answer) → G x x z q
@@ -108,8 +75,8 @@ unfolding run performRows
 same-run n t r s = rw (s .unbroken, run) (go (leb 1 n && leb n 65535))
   where
     go : (b : Bool) → Same ((elim b as (λ _. Done Reply) [ true ↦ runFrom stepTables n 0 Idle t | false ↦ done (Denied (Word 3)) t ]) .answer)
-                           ((elim b as (λ _. Done Reply) [ true ↦ runFrom stepTables n 0 Idle t | false ↦ done (Denied (Word 3)) t ]) .tables)
-                           (elim b as (λ _. Given Reply) [ true ↦ runRows n 0 Idle r | false ↦ givenRows (Denied (Word 3)) r ])
+        ((elim b as (λ _. Done Reply) [ true ↦ runFrom stepTables n 0 Idle t | false ↦ done (Denied (Word 3)) t ]) .tables)
+        (elim b as (λ _. Given Reply) [ true ↦ runRows n 0 Idle r | false ↦ givenRows (Denied (Word 3)) r ])
     go true = same-runs n 0 Idle t r s
     go false = (refl, s)
 
@@ -134,3 +101,29 @@ same-all (c ∷ cs) t r s =
 -- after a boot of any tables of the published lengths
 pub same-booted : (cs : List Call) (t : Tables) → shaped t ≡ true → Same (performAll cs (boot t .tables) .answer) (performAll cs (boot t .tables) .tables) (performAllRows cs bootRows)
 same-booted cs t h = same-all cs (boot t .tables) bootRows (same-boot t h .1)
+
+-- A call that leaves the rows leaves the tables; a boot and a run apart, which write counts again or go by steps
+
+still : {A : Type 0} (deny : Refusal → A) (f : Rows → Result (Given A)) (t : Tables) → onRows deny f (view t) .rows ≡ view t → wrap deny f t .tables ≡ t
+unfolding onRows settle
+still deny f t q = wrapped deny f t (λ _ z. z ≡ t) (λ _. refl) (λ _ _. refl)
+    (λ g e. ap (λ (x : Rows). put x t) (sym (ap (λ (o : Result (Given _)). settle deny (view t) o .rows) e) ∙ q) ∙ put-view t)
+
+abbrev pub OneStep : Call → Type 0
+OneStep callBoot = ⊥
+OneStep (callDefine l bs) = Unit {0}
+OneStep (callRecord l n c) = Unit {0}
+OneStep (callStart k l n m v) = Unit {0}
+OneStep callStep = Unit {0}
+OneStep (callRun n) = ⊥
+OneStep (callDrop k) = Unit {0}
+
+pub rows-same : (c : Call) → OneStep c → (t : Tables) (r : Rows) → Shows t r → performRows c r .rows ≡ r → perform c t .tables ≡ t
+unfolding perform performRows
+rows-same callBoot h t r s q = absurd h
+rows-same (callDefine l bs) h t r s q = still Denied (defineRows l bs) t (subst (λ (x : Rows). onRows Denied (defineRows l bs) x .rows ≡ x) (sym (s .rows)) q)
+rows-same (callRecord l n c) h t r s q = still Denied (recordRows l n c) t (subst (λ (x : Rows). onRows Denied (recordRows l n c) x .rows ≡ x) (sym (s .rows)) q)
+rows-same (callStart k l n m v) h t r s q = still Denied (startRows k l n m v) t (subst (λ (x : Rows). onRows Denied (startRows k l n m v) x .rows ≡ x) (sym (s .rows)) q)
+rows-same callStep h t r s q = unfold stepTables in still Refused stepRows t (subst (λ (x : Rows). onRows Refused stepRows x .rows ≡ x) (sym (s .rows)) q)
+rows-same (callRun n) h t r s q = absurd h
+rows-same (callDrop k) h t r s q = still Denied (dropRows k) t (subst (λ (x : Rows). onRows Denied (dropRows k) x .rows ≡ x) (sym (s .rows)) q)
