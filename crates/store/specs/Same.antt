@@ -13,7 +13,7 @@ use Rattle.definition.specs.Lists.{every, all, isSome, rows, stack}
 use Rattle.definition.specs.Classes.{Base, superOf}
 use Rattle.definition.specs.Machine.{Value, unsetValue, intValue, nullValue, objectValue, unlistedValue, Object, Frame, existing}
 use Rattle.definition.specs.File.{File, readFile}
-use Rattle.definition.specs.Tables.{Tables, ClassRow, fileAt, sizeOf, classRowAt, objectAt, frameIn, classRowsOf, keptOf, cacheOf, viewBase, objectsOf, framesOf, viewOver, view}
+use Rattle.definition.specs.Tables.{Tables, shaped, ClassRow, fileAt, sizeOf, classRowAt, objectAt, frameIn, classRowsOf, keptOf, cacheOf, viewBase, objectsOf, framesOf, viewOver, view}
 use Rattle.definition.specs.Broken.{within, isObject, classesFit, entryFits, valueFits, localFits, objectFits, frameFits, sound, whole, broken}
 use Rattle.layout.specs.Tests.{All, From, every-true, true-every, all-all, all-test, is-some, some-is}
 use Rattle.layout.specs.Places.{rows-length, stack-length, all-rows, rows-all}
@@ -156,3 +156,90 @@ classes-said : (b : Base) (bs : List ℕ) (g : ℕ → ClassRow) (n : ℕ) → (
 unfolding rows
 classes-said b bs g zero f h = tt
 classes-said b bs g (suc n) f h = (f (omega arith), classes-from b bs g n 1 (λ c k l. h c (omega arith) (omega arith)))
+
+-- All together
+
+module _ (t : Tables) (bytes : getD (t .counts) 1 0 ≤ length (t .kept)) where
+  abbrev rowOf : ℕ → ClassRow
+  rowOf c = classRowAt (t .classes) c
+
+  abbrev few : ℕ
+  few = getD (t .counts) 0 0
+
+  -- files that fit are those that the definition reads
+  fit-sources : sourcesFit (getD (t .counts) 1 0) (t .kept) (rows rowOf few 0) ≡ true → Sources t
+  fit-sources h = record {
+    bytes = bytes;
+    first = sources-first (getD (t .counts) 1 0) (t .kept) rowOf few h;
+    others = λ c k l.
+        let f = sources-other (getD (t .counts) 1 0) (t .kept) rowOf few h c k l in
+        let bs = partOf (t .kept) (rowOf c .start) (rowOf c .size) in
+        (quickFile bs,
+        file-part (keptOf t) (rowOf c)
+        ∙ (ap readFile (part-same (t .kept) (getD (t .counts) 1 0) bytes (rowOf c .start) (rowOf c .size) (f .within)) ∙ reads-some bs (f .reads)));
+  }
+
+  -- and the definition's are files that fit
+  sources-fit : (c : ℕ) (b : Base) → ClassSound b (keptOf t) c (rowOf c) → FileSound (getD (t .counts) 1 0) (t .kept) (rowOf c)
+  sources-fit c b k = record {
+    loader = k .loader;
+    within = part-within (t .kept) (getD (t .counts) 1 0) bytes (rowOf c) (k .file) (k .reads);
+    reads = some-is _ _ (part-reads (t .kept) (getD (t .counts) 1 0) bytes (rowOf c) (k .file) (k .reads));
+  }
+
+enough : (t : Tables) → shaped t ≡ true → within (t .counts) ≡ true → getD (t .counts) 1 0 ≤ length (t .kept)
+enough t s w = omega (arith, shaped-true t s .kept, within-true (t .counts) w .kept)
+
+checks-sound : (t : Tables) → checks t ≡ true → whole t ≡ true
+unfolding checks whole sound view viewOver rowsFit
+checks-sound t h =
+    let p = every-true _ h in
+    let bytes = enough t (p .0) (p .1 .0) in
+    let s = fit-sources t bytes (p .1 .1 .0) in
+    let e = quick-view t s in
+    let r = every-true _ (p .1 .1 .1 .0) in
+    let n = getD (t .counts) 0 0 in
+    let b = viewBase t in
+    let classes : Classes b (keptOf t) (classRowsOf t) =
+    classes-said b (keptOf t) (classRowAt (t .classes)) n (s .first) (λ c k l.
+    let f = s .others c k l in
+    let q = links-said b n (ap (λ (d : Base). linksFit d n) (sym e) ∙ p .1 .1 .1 .1 .0) c k l in
+    let u = is-some _ (q .0) in
+    record { loader = sources-other (getD (t .counts) 1 0) (t .kept) (classRowAt (t .classes)) n (p .1 .1 .0) c k l .loader; file = f .0; reads = f .1; super = u .0; isSuper = u .1; size = q .1 }) in
+    true-every _
+    (p .0,
+    (p .1 .0,
+    (true-every _
+    (classes-fit _ _ _ classes,
+    (ap (λ (m : ℕ). all (entryFits m) (cacheOf t)) (classes-number t) ∙ r .0,
+    (r .1 .0,
+    (r .1 .1 .0,
+    (objects-same t b ∙ (ap (λ (d : Base). objectsFit d (t .counts) (t .objects)) (sym e) ∙ p .1 .1 .1 .1 .1 .0),
+    (frames-same t b 0 ∙ p .1 .1 .1 .1 .1 .1 .0, (frames-same t b 1 ∙ p .1 .1 .1 .1 .1 .1 .1 .0, tt))))))), tt)))
+
+sound-checks : (t : Tables) → whole t ≡ true → checks t ≡ true
+unfolding checks whole sound view viewOver rowsFit
+sound-checks t h =
+    let p = every-true _ h in
+    let q = every-true _ (p .1 .1 .0) in
+    let bytes = enough t (p .0) (p .1 .0) in
+    let n = getD (t .counts) 0 0 in
+    let g = classRowAt (t .classes) in
+    let b = viewBase t in
+    let k : Classes b (keptOf t) (classRowsOf t) = fits-classes _ _ _ (q .0) in
+    let files = said-sources (getD (t .counts) 1 0) (t .kept) g n (row-first b (keptOf t) g n k) (λ c i j. sources-fit t bytes c b (row-other b (keptOf t) g n k c i j)) in
+    let e = quick-view t (fit-sources t bytes files) in
+    let links = said-links b n (λ c i j. let s = row-other b (keptOf t) g n k c i j in (some-is _ _ (s .isSuper), s .size)) in
+    true-every _
+    (p .0,
+    (p .1 .0,
+    (files,
+    (true-every _ (ap (λ (m : ℕ). all (entryFits m) (cacheOf t)) (sym (classes-number t)) ∙ q .1 .0, (q .1 .1 .0, (q .1 .1 .1 .0, tt))),
+    (ap (λ (d : Base). linksFit d n) e ∙ links,
+    (ap (λ (d : Base). objectsFit d (t .counts) (t .objects)) e ∙ (sym (objects-same t b) ∙ q .1 .1 .1 .1 .0),
+    (sym (frames-same t b 0) ∙ q .1 .1 .1 .1 .1 .0, (sym (frames-same t b 1) ∙ q .1 .1 .1 .1 .1 .1 .0, tt))))))))
+
+-- the tests fail exactly if the tables are broken
+pub checks-broken : (t : Tables) → broken t ≡ not (checks t)
+unfolding broken
+checks-broken t = ap not (same-test (whole t) (checks t) (sound-checks t) (checks-sound t))
