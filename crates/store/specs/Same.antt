@@ -25,7 +25,7 @@ use Rattle.classfile.specs.Laws.{reads-some}
 use Rattle.classfile.specs.Searches.{file-part}
 use Rattle.resolution.specs.Quick.{quickOf}
 use Rattle.resolution.specs.Unbroken.{Sources, part-same, part-within, part-reads, quick-view, row-first, row-other}
-use Rattle.store.specs.Checks.{fileFits, sourcesFit, linked, linksFit, number, valueIn, localIn, objectIn, frameFit, rowsFit, objectsFit, framesFit, checks}
+use Rattle.store.specs.Checks.{fileFits, sourcesFit, linked, linksFit, number, valueIn, localIn, objectIn, frameFit, rowsFit, objectsFit, framesFit, valuesFit, checks}
 
 -- Values: an object exists exactly if its number is below the number of objects
 
@@ -191,19 +191,20 @@ enough : (t : Tables) → shaped t ≡ true → within (t .counts) ≡ true → 
 enough t s w = omega (arith, shaped-true t s .kept, within-true (t .counts) w .kept)
 
 checks-sound : (t : Tables) → checks t ≡ true → whole t ≡ true
-unfolding checks whole sound view viewOver rowsFit
+unfolding checks whole sound view viewOver rowsFit valuesFit
 checks-sound t h =
     let p = every-true _ h in
     let bytes = enough t (p .0) (p .1 .0) in
     let s = fit-sources t bytes (p .1 .1 .0) in
     let e = quick-view t s in
     let r = every-true _ (p .1 .1 .1 .0) in
+    let v = every-true _ (p .1 .1 .1 .1 .0) in
     let n = getD (t .counts) 0 0 in
     let b = viewBase t in
     let classes : Classes b (keptOf t) (classRowsOf t) =
     classes-said b (keptOf t) (classRowAt (t .classes)) n (s .first) (λ c k l.
     let f = s .others c k l in
-    let q = links-said b n (ap (λ (d : Base). linksFit d n) (sym e) ∙ p .1 .1 .1 .1 .0) c k l in
+    let q = links-said b n (ap (λ (d : Base). linksFit d n) (sym e) ∙ v .0) c k l in
     let u = is-some _ (q .0) in
     record { loader = sources-other (getD (t .counts) 1 0) (t .kept) (classRowAt (t .classes)) n (p .1 .1 .0) c k l .loader; file = f .0; reads = f .1; super = u .0; isSuper = u .1; size = q .1 }) in
     true-every _
@@ -214,11 +215,11 @@ checks-sound t h =
     (ap (λ (m : ℕ). all (entryFits m) (cacheOf t)) (classes-number t) ∙ r .0,
     (r .1 .0,
     (r .1 .1 .0,
-    (objects-same t b ∙ (ap (λ (d : Base). objectsFit d (t .counts) (t .objects)) (sym e) ∙ p .1 .1 .1 .1 .1 .0),
-    (frames-same t b 0 ∙ p .1 .1 .1 .1 .1 .1 .0, (frames-same t b 1 ∙ p .1 .1 .1 .1 .1 .1 .1 .0, tt))))))), tt)))
+    (objects-same t b ∙ (ap (λ (d : Base). objectsFit d (t .counts) (t .objects)) (sym e) ∙ v .1 .0),
+    (frames-same t b 0 ∙ v .1 .1 .0, (frames-same t b 1 ∙ v .1 .1 .1 .0, tt))))))), tt)))
 
 sound-checks : (t : Tables) → whole t ≡ true → checks t ≡ true
-unfolding checks whole sound view viewOver rowsFit
+unfolding checks whole sound view viewOver rowsFit valuesFit
 sound-checks t h =
     let p = every-true _ h in
     let q = every-true _ (p .1 .1 .0) in
@@ -235,9 +236,10 @@ sound-checks t h =
     (p .1 .0,
     (files,
     (true-every _ (ap (λ (m : ℕ). all (entryFits m) (cacheOf t)) (sym (classes-number t)) ∙ q .1 .0, (q .1 .1 .0, (q .1 .1 .1 .0, tt))),
+    (true-every _
     (ap (λ (d : Base). linksFit d n) e ∙ links,
     (ap (λ (d : Base). objectsFit d (t .counts) (t .objects)) e ∙ (sym (objects-same t b) ∙ q .1 .1 .1 .1 .0),
-    (sym (frames-same t b 0) ∙ q .1 .1 .1 .1 .1 .0, (sym (frames-same t b 1) ∙ q .1 .1 .1 .1 .1 .1 .0, tt))))))))
+    (sym (frames-same t b 0) ∙ q .1 .1 .1 .1 .1 .0, (sym (frames-same t b 1) ∙ q .1 .1 .1 .1 .1 .1 .0, tt)))), tt)))))
 
 -- the tests fail exactly if the tables are broken
 pub checks-broken : (t : Tables) → broken t ≡ not (checks t)
