@@ -111,7 +111,7 @@ module _ (n : ℕ) (kept : List ℕ) where
   said-file k f = true-every _ (lt-ltb (k .loader) 16 (f .loader), (le-leb (k .start + k .size) n (f .within), (f .reads, tt)))
 
   module _ (g : ℕ → ClassRow) where
-    sources-first : (m : ℕ) → sourcesFit n kept (rows g m 0) ≡ true → 0 < m → First (g 0)
+    pub sources-first : (m : ℕ) → sourcesFit n kept (rows g m 0) ≡ true → 0 < m → First (g 0)
     unfolding sourcesFit rows isObject
     sources-first zero h l = absurd (omega arith)
     sources-first (suc m) h l =
