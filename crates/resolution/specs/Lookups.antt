@@ -156,6 +156,7 @@ module _ (b : Base) (n a r c : ℕ) where
       last : (d : ℕ) → nearestOne ≡ some d → (o : Option ℕ) → place d ≡ o → picked d o ≡ Selected s j → (nearestOne ≡ some s) × (place s ≡ some j)
       last d e none f q = let z : _≡_ {A = ℕ} 0 1 = cc in absurd (omega arith)
       last d e (some i) f q = let same : d ≡ s = cc in (rw same at e, ap place (sym same) ∙ (f ∙ cc))
+
       go : (o : Option ℕ) → nearestOne ≡ o → (elim o as (λ _. Selection) [ none ↦ Unselected | some d ↦ picked d (place d) ]) ≡ Selected s j → (nearestOne ≡ some s) × (place s ≡ some j)
       go none e q = let z : _≡_ {A = ℕ} 0 1 = cc in absurd (omega arith)
       go (some d) e q = last d e (place d) refl q
@@ -166,6 +167,7 @@ module _ (b : Base) (n a r c : ℕ) where
       last : (d : ℕ) → nearestOne ≡ some d → (o : Option ℕ) → place d ≡ o → picked d o ≡ Unselected → nearestOne ≡ none
       last d e none f q = absurd (false≢true (sym (any-none (alike n a r) (methodsOf b d) f) ∙ declared b n a r d (nearest-below (superOf b) (super-falls b) (hasMethod b n a r) c d e .1)))
       last d e (some i) f q = let z : _≡_ {A = ℕ} 0 1 = cc in absurd (omega arith)
+
       go : (o : Option ℕ) → nearestOne ≡ o → (elim o as (λ _. Selection) [ none ↦ Unselected | some d ↦ picked d (place d) ]) ≡ Unselected → nearestOne ≡ none
       go none e q = e
       go (some d) e q = last d e (place d) refl q

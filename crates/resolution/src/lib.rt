@@ -377,7 +377,16 @@ pub fn method_index(
 }
 
 // The method selected upward of class c.
-pub fn select_method(counts: &[u16], classes: &[u16], kept: &[u8], cache: &[u16], c: u32, name: u16, argument: u16, result: u16) -> Selection
+pub fn select_method(
+    counts: &[u16],
+    classes: &[u16],
+    kept: &[u8],
+    cache: &[u16],
+    c: u32,
+    name: u16,
+    argument: u16,
+    result: u16,
+) -> Selection
     ensures { λ r. ⌜ r ≡ selection (quickBase (now (counts .entry)) (now (classes .entry)) (now (kept .entry)) (now (cache .entry))) name argument result c ⌝ }
 {
     let mut at = c;
