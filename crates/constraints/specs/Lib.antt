@@ -1,0 +1,4 @@
+-- Agreement over tables, the search behind it, and what posting writes.
+pub mod Agreement
+pub mod Nodes
+pub mod Search
