@@ -1,0 +1,1 @@
+-- Loading: what the decisions of define and record mean.
