@@ -68,11 +68,43 @@ module _ (bs : List ℕ) where
   asked-readable : Readable bs → Asked
   unfolding methodPlace fieldPlace
   asked-readable r =
-      let nine : 9 + 4 * fieldCount bs ≤ length bs = omega (arith, r .within) in
-      (r .size, (omega arith, (r .version, (omega arith, (omega (arith, length-drop 3 bs, r .rest), ((omega arith, r .name), ((omega arith, r .super),
-      ((omega arith, r .fewFields), ((λ i l b. (omega arith, r .fields i (omega arith))),
-      ((omega arith, r .fewMethods), ((λ j l b. r .methods j (omega arith)), (omega (arith, r .end),
-      (ap not (r .noFieldTwice), ap not (r .noMethodTwice))))))))))))))
+      let nine : 9 + 4 * fieldCount bs ≤ length bs = omega (arith, r .within) in (
+        r .size,
+        (
+          omega arith,
+          (
+            r .version,
+            (
+              omega arith,
+              (
+                omega (arith, length-drop 3 bs, r .rest),
+                (
+                  (omega arith, r .name),
+                  (
+                    (omega arith, r .super),
+                    (
+                      (omega arith, r .fewFields),
+                      (
+                        (λ i l b. (omega arith, r .fields i (omega arith))),
+                        (
+                          (omega arith, r .fewMethods),
+                          (
+                            (λ j l b. r .methods j (omega arith)),
+                            (
+                              omega (arith, r .end),
+                              (ap not (r .noFieldTwice), ap not (r .noMethodTwice)),
+                            ),
+                          ),
+                        ),
+                      ),
+                    ),
+                  ),
+                ),
+              ),
+            ),
+          ),
+        ),
+      )
 
   file-read : Outcome (readFile bs) (Readable bs) (quickFile bs)
   unfolding readFile quickFile quickFields quickMethods className superName fieldCount fieldPlace methodCount methodPlace

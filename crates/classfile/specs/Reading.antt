@@ -1,9 +1,10 @@
 -- A class file read at once, by fixed places. The reading is total: any bytes give a file, and bytes that read by the file rules
 -- give the same file as the rules do (`quick-file` of Laws).
+use mathlib.Core.Path.{_≡_}
 use mathlib.Core.Bool.{Bool, true, false, _&&_}
 use mathlib.Core.Option.{Option, none, some}
 use mathlib.Core.List.{List, []}
-use Prim.Native.Nat.{ℕ, zero, suc, _+_, _*_}
+use Prim.Native.Nat.{ℕ, zero, suc, _+_, _*_, _≤_}
 use lib.ListN.{length, getD, take, drop}
 use lib.Dec.{eqb, leb, ltb}
 use Rattle.definition.specs.Lists.{rows}
@@ -58,6 +59,11 @@ nextPlace bs p = p + 8 + codeLength bs p
 unfoldable pub methodPlace : List ℕ → ℕ → ℕ
 methodPlace bs zero = fieldPlace (fieldCount bs) + 1
 methodPlace bs (suc j) = nextPlace bs (methodPlace bs j)
+
+-- p is the place of method j, and so low that no place after it is larger than 32 bits can say
+pub record Placed (bs : List ℕ) (j p : ℕ) : Type 0 where
+  pub place : p ≡ methodPlace bs j
+  pub low : p ≤ 1029 + 65543 * j
 
 unfoldable pub methodIn : List ℕ → ℕ → Method
 methodIn bs j = methodAt bs (methodPlace bs j)

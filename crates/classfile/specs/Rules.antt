@@ -140,9 +140,10 @@ test-field bs i h = true-every _ (le-leb _ _ (h .name), (le-leb _ _ (h .type), t
 test-method : (bs : List ℕ) (p : ℕ) → WholeMethod bs p → wholeMethod bs p ≡ true
 unfolding wholeMethod namedMethod codedMethod
 test-method bs p h =
-    true-every _
-    (true-every _ (le-leb _ _ (h .name), (le-leb _ _ (h .argument), (le-leb _ _ (h .result), tt))),
-    (true-every _ (le-leb _ _ (h .some), (le-leb _ _ (h .few), (le-leb _ _ (h .within), tt))), tt))
+    true-every _ (
+      true-every _ (le-leb _ _ (h .name), (le-leb _ _ (h .argument), (le-leb _ _ (h .result), tt))),
+      (true-every _ (le-leb _ _ (h .some), (le-leb _ _ (h .few), (le-leb _ _ (h .within), tt))), tt),
+    )
 
 test-sizes : (bs : List ℕ) → Readable bs → sized bs ≡ true
 unfolding sized

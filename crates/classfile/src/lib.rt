@@ -7,7 +7,7 @@ ghost use Rattle.definition.specs.Lists.{any, doubled, every, indexOf, isSome, 
 ghost use Rattle.definition.specs.Classes.{alike};
 ghost use Rattle.definition.specs.File.{readFile, sameField, sameMethod};
 ghost use Rattle.classfile.specs.Lists.{shift};
-ghost use Rattle.classfile.specs.Reading.{className, superName, fieldCount, fieldPlace, fieldIn, quickFields, methodCount, codeLength, codeAt, methodAt, nextPlace, methodPlace, methodIn, quickMethods, fieldIs, fieldNamed, fieldFound, methodFound, numbered, partOf};
+ghost use Rattle.classfile.specs.Reading.{className, superName, fieldCount, fieldPlace, fieldIn, quickFields, methodCount, codeLength, codeAt, methodAt, nextPlace, methodPlace, Placed, methodIn, quickMethods, fieldIs, fieldNamed, fieldFound, methodFound, numbered, partOf};
 ghost use Rattle.classfile.specs.Rules.{sized, titled, namedField, namedFields, namedMethod, codedMethod, wholeMethod, wholeMethods};
 
 // A field by its number among the file's fields.
@@ -170,7 +170,7 @@ pub fn part<'a>(kept: &'a [u8], start: u16, size: u16) -> &'a [u8]
 
 // The place after the byte with the method count.
 fn first_place(bytes: &[u8]) -> u32
-    ensures { λ r. ⌜ (r ≡ methodPlace (now (bytes .entry)) 0) × (r ≤ 1029) ⌝ }
+    ensures { λ r. ⌜ Placed (now (bytes .entry)) 0 r ⌝ }
 {
     cells::from16(9 + 4 * cells::from8(field_count(bytes)))
 }
@@ -220,8 +220,15 @@ fn is_alike(bytes: &[u8], place: u32, name: u16, argument: u16, result: u16) -> 
 }
 
 // The first method alike in name and both types, from method `first` on, whose record begins at `start`.
-fn alike_from(bytes: &[u8], first: u8, start: u32, name: u16, argument: u16, result: u16) -> MethodFound
-    requires { ⌜ (start ≡ methodPlace (now bytes) first) × (start ≤ 1029 + 65543 * first) ⌝ }
+fn alike_from(
+    bytes: &[u8],
+    first: u8,
+    start: u32,
+    name: u16,
+    argument: u16,
+    result: u16,
+) -> MethodFound
+    requires { ⌜ Placed (now bytes) first start ⌝ }
     ensures { λ r. ⌜ r ≡ methodFound (now (bytes .entry)) (shift first (indexOf (alike name argument result) (rows (methodIn (now (bytes .entry))) (methodCount (now (bytes .entry)) - first) first))) ⌝ }
 {
     let n = method_count(bytes);
@@ -368,13 +375,20 @@ fn is_field_doubled(bytes: &[u8]) -> bool
 
 // A method alike to method j, whose record begins at `place`, comes later.
 fn is_repeated(bytes: &[u8], j: u8, place: u32) -> bool
-    requires { ⌜ (place ≡ methodPlace (now bytes) j) × (place ≤ 1029 + 65543 * j) × (j < methodCount (now bytes)) ⌝ }
+    requires { ⌜ Placed (now bytes) j place × (j < 255) ⌝ }
     ensures { λ r. ⌜ r ≡ any (sameMethod (methodIn (now (bytes .entry)) j)) (rows (methodIn (now (bytes .entry))) (methodCount (now (bytes .entry)) - (j + 1)) (j + 1)) ⌝ }
 {
     let name = method_name(bytes, place);
     let argument = method_argument(bytes, place);
     let result = method_result(bytes, place);
-    let later = alike_from(bytes, j + 1, next_place(bytes, place), name, argument, result);
+    let later = alike_from(
+        bytes,
+        j + 1,
+        next_place(bytes, place),
+        name,
+        argument,
+        result,
+    );
     match later {
         MethodFound::At(_, _) => true,
         MethodFound::Absent => false,

@@ -7,7 +7,7 @@ use Rattle.classfile.proofs.first_place.Tie as tie
 
 returns : tie.Need-returns
 unfolding methodPlace fieldPlace
-returns c = omega arith
+returns c = record { place = omega arith; low = omega arith }
 
 pub first-place-spec : {M : Type 1} → statement M
 first-place-spec = tie.close (tie.spec (λ c κs. search needs) (λ c κs. search needs) (λ c. search needs) (λ c. search needs) (λ c κs. search needs) returns)
