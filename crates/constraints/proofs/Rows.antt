@@ -6,7 +6,7 @@ use mathlib.Core.Logic.{_⊎_, inl, inr}
 use Prim.Native.Nat.{ℕ, zero, suc, _+_, _-_, _<_, _≤_}
 use native.Mathlib.Nat.{eq-or-lt-of-le}
 use native.Mathlib.Omega.{arith}
-use Rattle.definition.specs.Lists.{rows, all}
+use Rattle.definition.specs.Lists.{rows, all, any}
 use Rattle.constraints.specs.Nodes.{allPlaces}
 
 -- a place of the rows
@@ -64,3 +64,23 @@ module _ (p : ℕ → Bool) (n i : ℕ) where
 
 pub places-start : (p : ℕ → Bool) (n : ℕ) → allPlaces p (n - 0) 0 ≡ allPlaces p n 0
 places-start p n = let e : n - 0 ≡ n = omega arith in rw e
+
+-- a search of n rows, at row i
+module _ {A : Type 0} (f : A → Bool) (g : ℕ → A) (n i : ℕ) where
+  pub any-yes : i < n → f (g i) ≡ true → any f (rows g (n - i) i) ≡ true
+  unfolding rows any
+  any-yes h e = let one : n - i ≡ suc (n - (i + 1)) = omega arith in rw (one, e, any)
+
+  pub any-no : i < n → f (g i) ≡ false → any f (rows g (n - i) i) ≡ any f (rows g (n - (i + 1)) (i + 1))
+  unfolding rows any
+  any-no h e =
+      let one : n - i ≡ suc (n - (i + 1)) = omega arith in
+      let next : suc i ≡ i + 1 = omega arith in
+      rw (one, e, any) (rw next)
+
+  pub any-end : n ≤ i → any f (rows g (n - i) i) ≡ false
+  unfolding rows any
+  any-end h = let none : n - i ≡ 0 = omega arith in rw none
+
+pub any-start : {A : Type 0} (f : A → Bool) (g : ℕ → A) (n m : ℕ) → n ≡ m → any f (rows g (n - 0) 0) ≡ any f (rows g m 0)
+any-start f g n m e = let z : n - 0 ≡ m = omega arith in rw z

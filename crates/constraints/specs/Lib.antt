@@ -2,3 +2,4 @@
 pub mod Agreement
 pub mod Nodes
 pub mod Search
+pub mod Posting
