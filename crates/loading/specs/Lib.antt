@@ -1,1 +1,3 @@
 -- Loading: what the decisions of define and record mean.
+pub mod World
+pub mod Stages

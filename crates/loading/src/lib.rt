@@ -125,3 +125,10 @@ fn drop_frames(
     cells::put16(counts, 6 + cells::wide32(task), 0);
     Reply::Accepted
 }
+
+// record: what is decided of a new entry: refused, there already, or to be added with this loader, name and class.
+pub enum Recording {
+    Refuse(Refusal),
+    Keep,
+    Add(u16, u16, u16),
+}

@@ -1,0 +1,73 @@
+-- define and record in stages, each of which may refuse: what a function of its own decides.
+use mathlib.Core.Path.{_≡_, refl}
+use mathlib.Core.Bool.{Bool, true, false, not, _&&_}
+use mathlib.Core.Option.{Option, none, some}
+use mathlib.Core.List.{List, [], _∷_, _++_}
+use Prim.Native.Nat.{ℕ, _+_}
+use lib.ListN.{length, getElem?}
+use lib.Dec.{eqb, leb, ltb}
+use Rattle.definition.specs.Lists.{every, any, isNone}
+use Rattle.definition.specs.Requests.{at}
+use Rattle.definition.specs.Classes.{Base, Class, find, slots}
+use Rattle.definition.specs.Constraints.{World, Tie, Subtype, agrees}
+use Rattle.definition.specs.Verifier.{Note, notesOf}
+use Rattle.definition.specs.Answers.{Refusal, Word, wanted, Result, refused, ok, _>>=_, need, take?}
+use Rattle.definition.specs.Loading.{hides, overrideTies, newSubtypes, withClass, withEntry, define, recorded}
+use Rattle.loading.specs.declared.Recording.{Recording}
+use Rattle.loading.specs.declared.Recording.the-variants.{Refuse, Keep, Add}
+
+-- record: the entry of a request for a class that bears its name. Refusals: 4 10 9
+unfoldable pub entered : ℕ → ℕ → ℕ → World → Result World
+entered l n c w = elim (find (w .base .cache) (at l n)) [
+  | some d ↦ need (eqb d c) (Word 4) >>= λ _. ok w
+  | none ↦ need (ltb (length (w .base .cache)) 256) (Word 10) >>= λ _.
+      need (agrees (withEntry w (at l n) c)) (Word 9) >>= λ _. ok (withEntry w (at l n) c)
+]
+
+-- what a decision of record leaves
+unfoldable pub recordedBy : Recording → World → Result World
+recordedBy (Refuse r) w = refused r
+recordedBy Keep w = ok w
+recordedBy (Add l n c) w = ok (withEntry w (at l n) c)
+
+-- define: the direct superclass. Refusals: 4 5 8
+unfoldable pub superFor : Class → Base → Result ℕ
+superFor k b =
+    need (isNone (find (b .cache) (at (k .loader) (k .name)))) (Word 4) >>= λ _.
+    take? (find (b .cache) (at (k .loader) (k .super))) (wanted (at (k .loader) (k .super))) >>= λ p.
+    need (not (any (hides b p) (k .fields))) (Word 8) >>= λ _. ok p
+
+-- define: the constraints of a class below p, whose code has these notes. Refusals: 10 9
+unfoldable pub postedFor : Bool → Class → World → List Note → ℕ → Result World
+postedFor room k w ns p =
+    (let us = overrideTies (w .base) (k .loader) p (w .ties) (k .methods) in
+    let ss = newSubtypes (w .subtypes) (k .loader) ns in
+    need (every
+    (room
+    ∷ ltb (length (w .base .classes)) 64
+    ∷ ltb (length (w .base .cache)) 256
+    ∷ leb (length (w .ties ++ us)) 256
+    ∷ leb (length (w .subtypes ++ ss)) 256
+    ∷ leb (length (slots (w .base) p) + length (k .fields)) 16
+    ∷ [])) (Word 10) >>= λ _.
+    need (agrees (withClass w k us ss)) (Word 9) >>= λ _. ok (withClass w k us ss))
+
+pub define-stages : (room : Bool) (k : Class) (w : World)
+    → define room k w ≡ (take? (notesOf k (k .methods)) (Word 6) >>= λ ns. superFor k (w .base) >>= λ p. postedFor room k w ns p)
+unfolding define superFor postedFor _>>=_ need take?
+define-stages room k w = go (notesOf k (k .methods)) (isNone (find (w .base .cache) (at (k .loader) (k .name)))) (find (w .base .cache) (at (k .loader) (k .super)))
+  where
+
+    go : (o : Option (List Note)) (a : Bool) (q : Option ℕ)
+        → (take? o (Word 6) >>= λ ns. need a (Word 4) >>= λ _. take? q (wanted (at (k .loader) (k .super))) >>= λ p.
+        need (not (any (hides (w .base) p) (k .fields))) (Word 8) >>= λ _. postedFor room k w ns p)
+        ≡ (take? o (Word 6) >>= λ ns. (need a (Word 4) >>= λ _. take? q (wanted (at (k .loader) (k .super))) >>= λ p.
+        need (not (any (hides (w .base) p) (k .fields))) (Word 8) >>= λ _. ok p) >>= λ p. postedFor room k w ns p)
+    go none a q = refl
+    go (some ns) false q = refl
+    go (some ns) true none = refl
+    go (some ns) true (some p) = after (not (any (hides (w .base) p) (k .fields)))
+      where
+        after : (b : Bool) → (need b (Word 8) >>= λ _. postedFor room k w ns p) ≡ ((need b (Word 8) >>= λ _. ok p) >>= λ p. postedFor room k w ns p)
+        after true = refl
+        after false = refl
