@@ -11,7 +11,9 @@ use Rattle.definition.specs.Requests.{at}
 use Rattle.definition.specs.Classes.{Base, Class, find, slots}
 use Rattle.definition.specs.Constraints.{World, Tie, Subtype, agrees}
 use Rattle.definition.specs.Verifier.{Note, notesOf}
-use Rattle.definition.specs.Answers.{Refusal, Word, wanted, Result, refused, ok, _>>=_, need, take?}
+use Rattle.definition.specs.declared.Refusal.{Refusal}
+use Rattle.definition.specs.declared.Refusal.the-variants.{Word}
+use Rattle.definition.specs.Answers.{wanted, Result, refused, ok, _>>=_, need, take?}
 use Rattle.definition.specs.Loading.{hides, overrideTies, newSubtypes, withClass, withEntry, define, recorded}
 use Rattle.loading.specs.declared.Recording.{Recording}
 use Rattle.loading.specs.declared.Recording.the-variants.{Refuse, Keep, Add}
