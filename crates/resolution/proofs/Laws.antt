@@ -9,6 +9,8 @@ use borrow.Author.Tests.{eq-eqb, ne-eqb}
 use Rattle.definition.specs.Lists.{rows}
 use Rattle.definition.specs.Requests.{Request, at, sameRequest}
 use Rattle.definition.specs.Classes.{Entry, find}
+use Rattle.definition.specs.Superclasses.{Falls, nearest, below}
+use Rattle.laws.specs.Upward.{nearest-here, nearest-up, nearest-none}
 use Rattle.layout.specs.Places.{rows-step, rows-none}
 
 -- Two requests: the loaders are compared first
@@ -35,3 +37,18 @@ module _ (g : ℕ → Entry) (r : Request) (n i : ℕ) where
   pub cached-nowhere : n ≤ i → find (rows g (n - i) i) r ≡ none
   unfolding find
   cached-nowhere h = rw (rows-none g n i h)
+
+-- Upward from a class: it is the one, its superclass is next, or there is none
+
+module _ (sup : ℕ → Option ℕ) (falls : Falls sup) (c d : ℕ) where
+  pub below-same : c ≡ d → below sup c d ≡ true
+  unfolding below
+  below-same e = rw (nearest-here sup falls (λ x. eqb x d) c (eq-eqb c d e), below)
+
+  pub below-up : (p : ℕ) → (c ≡ d → ⊥) → sup c ≡ some p → below sup c d ≡ below sup p d
+  unfolding below
+  below-up p n e = rw (nearest-up sup falls (λ x. eqb x d) c p (ne-eqb c d n) e, below)
+
+  pub below-none : (c ≡ d → ⊥) → sup c ≡ none → below sup c d ≡ false
+  unfolding below
+  below-none n e = rw (nearest-none sup falls (λ x. eqb x d) c (ne-eqb c d n) e, below)
