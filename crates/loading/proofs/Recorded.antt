@@ -4,7 +4,7 @@ use mathlib.Core.Bool.{Bool, true, false, _&&_}
 use mathlib.Core.Option.{Option, none, some}
 use mathlib.Core.List.{List, [], _∷_, _++_}
 use Prim.Native.Nat.{ℕ, _+_, _≤_, _<_}
-use lib.ListN.{length, getElem?, set}
+use lib.ListN.{length, getElem?, getD, set}
 use lib.Dec.{eqb, leb, ltb}
 use borrow.Author.Tests.{eq-eqb, ne-eqb, lt-ltb, le-ltb, le-leb, lt-leb}
 use Rattle.definition.specs.declared.Refusal.{Refusal}
@@ -16,10 +16,12 @@ use Rattle.definition.specs.Classes.{Class, find}
 use Rattle.definition.specs.Constraints.{World, agrees}
 use Rattle.definition.specs.Answers.{Result, refused, ok, _>>=_, need, take?}
 use Rattle.definition.specs.Loading.{withEntry, recorded}
-use Rattle.definition.specs.Tables.{Tables, tables, putThree, Rows, worldOf, view, viewBase, put}
+use Rattle.definition.specs.Tables.{Tables, tables, putThree, classRowAt, Rows, worldOf, view, viewBase, put}
 use Rattle.definition.specs.Broken.{broken}
 use Rattle.definition.specs.Calls.{Given, Done, done, addEntry, recordRows, callRecord, perform}
 use Rattle.layout.specs.View.{countAt, put-view, entry-writes}
+use Rattle.resolution.specs.Quick.{quickClass}
+use Rattle.resolution.specs.Lookups.{nameIn}
 use Rattle.loading.specs.declared.Recording.{Recording}
 use Rattle.loading.specs.declared.Recording.the-variants.{Refuse, Keep, Add}
 use Rattle.loading.specs.Stages.{entered, recordedBy}
@@ -45,9 +47,9 @@ module _ (l n c : ℕ) (w : World) where
     unfolding recorded need take? _>>=_
     misnamed d = rw (lt-ltb l 16 h, le-leb 2 n j, e, ne-eqb (k .name) n d)
 
-    pub named : k .name ≡ n → entered l n c w ≡ recorded l n c w
+    pub named : (m : ℕ) → k .name ≡ m → m ≡ n → entered l m c w ≡ recorded l n c w
     unfolding recorded entered need take? _>>=_
-    named d = rw (lt-ltb l 16 h, le-leb 2 n j, e, eq-eqb (k .name) n d)
+    named m f g = let d : k .name ≡ n = f ∙ g in ap (λ (x : ℕ). entered l x c w) g ∙ rw (lt-ltb l 16 h, le-leb 2 n j, e, eq-eqb (k .name) n d)
 
 -- The entry
 
@@ -97,3 +99,8 @@ module _ (t : Tables) (l n c : ℕ) where
         wrap-given Denied (recordRows l n c) t sound Accepted (addEntry (view t) (withEntry (worldOf (view t)) (at i j) k))
         (tables (set (t .counts) 2 (countAt t 2 + 1)) (t .classes) (t .kept) (putThree (t .cache) (countAt t 2) i j k) (t .ties) (t .subtypes) (t .objects) (t .frames))
         (rw (sym decided, e)) (entry-writes (viewBase t) t i j k)
+
+-- the name that a class's row gives
+pub name-is : (counts classes kept : List ℕ) (c : ℕ) → c < getD counts 0 0 → nameIn counts classes kept c ≡ quickClass kept (classRowAt classes c) .name
+unfolding nameIn
+name-is counts classes kept c h = rw (lt-ltb c (getD counts 0 0) h, nameIn)

@@ -6,19 +6,23 @@ use mathlib.Core.List.{List, [], _∷_, _++_, append-nil}
 use Prim.Native.Nat.{ℕ, zero, suc, _+_, _*_, _≤_, _<_}
 use native.Mathlib.Omega.{arith}
 use native.Mathlib.Numerals.{add-one}
-use lib.ListN.{length, getD, set, take, drop, getElem?, drop-of-length-le, replicate}
+use lib.ListN.{length, getD, set, take, drop, getElem?, drop-of-length-le, List·getD-eq-default, length-append}
 use lib.Seq.{getD-set-same, getD-set-other}
-use lib.Dec.{leb}
-use borrow.Author.Tests.{le-leb}
+use lib.Dec.{eqb, leb, ltb}
+use borrow.Author.Tests.{le-leb, lt-ltb, ltb-true, ltb-false, eqb-true, eqb-false}
 use Rattle.definition.specs.Lists.{rows, writeRows}
 use Rattle.definition.specs.Requests.{at}
-use Rattle.definition.specs.Classes.{Base, Class, Entry, superOf, find}
+use Rattle.definition.specs.Classes.{Base, Class, Entry, superOf, find, lower}
 use Rattle.definition.specs.Constraints.{World, Tie, Subtype, tieEdges, subtypeEdges, edges, agreesOver, agrees}
 use Rattle.definition.specs.Loading.{withEntry, withClass}
-use Rattle.definition.specs.Tables.{Tables, putThree, entry, entryAt, putEntry, tieAt, subtypeAt}
+use Rattle.definition.specs.Tables.{Tables, putThree, entry, entryAt, putEntry, tieAt, subtypeAt, classRowAt}
+use Rattle.laws.specs.Agreement.{super-falls, find-more}
+use Rattle.layout.specs.Places.{rows-getD, rows-length}
 use Rattle.layout.specs.Cells.{entry-rows, rows-after-last, cells-block}
-use Rattle.resolution.specs.Quick.{quickBase, quickOf}
+use Rattle.resolution.specs.Quick.{quickClass, quickBase}
+use Rattle.resolution.specs.Lookups.{superCell, cell-none, cell-some}
 use Rattle.constraints.specs.Agreement.{atMost, superIn, agreeIn}
+use Rattle.loading.specs.World.{worldIn, Loadable}
 
 -- a table copied onto another of its length
 pub copied : (xs t : List ℕ) → length xs ≡ length t → writeRows set xs 0 t ≡ xs
@@ -63,3 +67,118 @@ agree-is w supers cache n ties m subtypes k s hn hm hk e t u =
 
     above : subtypeEdges (rows (subtypeAt subtypes) (atMost 256 k) 0) ≡ subtypeEdges (w .subtypes)
     above = ap subtypeEdges (ap (λ (z : ℕ). rows (subtypeAt subtypes) z 0) (at-most k hk) ∙ u)
+
+-- Direct superclasses by a table
+
+nth-past : {A : Type 0} (xs : List A) (i : ℕ) → length xs ≤ i → getElem? xs i ≡ none
+nth-past [] i h = refl
+nth-past (x ∷ xs) zero h = absurd (omega arith)
+nth-past (x ∷ xs) (suc i) h = nth-past xs i (omega arith)
+
+nth-before : {A : Type 0} (xs ys : List A) (i : ℕ) → i < length xs → getElem? (xs ++ ys) i ≡ getElem? xs i
+nth-before [] ys i h = absurd (omega arith)
+nth-before (x ∷ xs) ys zero h = refl
+nth-before (x ∷ xs) ys (suc i) h = nth-before xs ys i (omega arith)
+
+nth-at : {A : Type 0} (xs : List A) (x : A) → getElem? (xs ++ (x ∷ [])) (length xs) ≡ some x
+nth-at [] x = refl
+nth-at (y ∷ xs) x = nth-at xs x
+
+no-cell : (t : List ℕ) (c : ℕ) → getD t c 0 ≡ 0 → superIn t c ≡ none
+unfolding superIn
+no-cell t c e = rw (e, superIn)
+
+a-cell : (t : List ℕ) (c p : ℕ) → p < c → getD t c 0 ≡ p + 1 → superIn t c ≡ some p
+unfolding superIn lower
+a-cell t c p l e = rw (e ∙ add-one p, superIn) (rw (lt-ltb p c l, lower) refl)
+
+no-class : (b : Base) (c : ℕ) → getElem? (b .classes) c ≡ none → superOf b c ≡ none
+unfolding superOf
+no-class b c e = rw (e, superOf)
+
+-- a table of all 64
+pub supers-in : (b : Base) → length (b .classes) ≤ 64 → (c : ℕ) → superIn (rows (superCell b) 64 0) c ≡ superOf b c
+supers-in b h c = go (ltb c 64) refl
+  where
+    cell : c < 64 → getD (rows (superCell b) 64 0) c 0 ≡ superCell b c
+    cell l = let z : 0 + c ≡ c = omega arith in rw z at (rows-getD (superCell b) 64 0 c 0 l)
+
+    inside : c < 64 → (o : Option ℕ) → superOf b c ≡ o → superIn (rows (superCell b) 64 0) c ≡ o
+    inside l none e = no-cell (rows (superCell b) 64 0) c (cell l ∙ cell-none b c e)
+    inside l (some p) e = a-cell (rows (superCell b) 64 0) c p (super-falls b c p e) (cell l ∙ cell-some b c p e)
+
+    go : (t : Bool) → ltb c 64 ≡ t → superIn (rows (superCell b) 64 0) c ≡ superOf b c
+    go true e = inside (ltb-true c 64 e) (superOf b c) refl
+    go false e =
+        let l : 64 ≤ c = ltb-false c 64 e in
+        no-cell (rows (superCell b) 64 0) c (List·getD-eq-default (rows (superCell b) 64 0) 0 {n = c} (omega (arith, rows-length (superCell b) 64 0)))
+        ∙ sym (no-class b c (nth-past (b .classes) c (omega arith)))
+
+-- one class more
+pub supers-more : (ks : List Class) (es : List Entry) (k : Class) (p : ℕ) (t : List ℕ) → length ks < length t → p < length ks
+    → find es (at (k .loader) (k .super)) ≡ some p → ((c : ℕ) → superIn t c ≡ superOf (record { classes = ks; cache = es }) c)
+    → (c : ℕ) → superIn (set t (length ks) (p + 1)) c ≡ superOf (record { classes = ks ++ (k ∷ []); cache = es }) c
+unfolding superOf lower superIn
+supers-more ks es k p t long less e s c = go (eqb c (length ks)) refl
+  where
+    here : superIn (set t (length ks) (p + 1)) (length ks) ≡ superOf (record { classes = ks ++ (k ∷ []); cache = es }) (length ks)
+    here =
+        a-cell (set t (length ks) (p + 1)) (length ks) p less (getD-set-same t (length ks) (p + 1) 0 long)
+        ∙ sym (rw (nth-at ks k, superOf) (rw e (rw (lt-ltb p (length ks) less, lower) refl)))
+
+    base : Base
+    base = record { classes = ks ++ (k ∷ []); cache = es }
+
+    other : (c : ℕ) → (c ≡ length ks → ⊥) → superOf (record { classes = ks; cache = es }) c ≡ superOf base c
+    other c q = before (ltb c (length ks)) refl
+      where
+        before : (b : Bool) → ltb c (length ks) ≡ b → superOf (record { classes = ks; cache = es }) c ≡ superOf base c
+        before true l = rw (nth-before ks (k ∷ []) c (ltb-true c (length ks) l), superOf)
+        before false l =
+            let n : length ks ≤ c = ltb-false c (length ks) l in
+            no-class (record { classes = ks; cache = es }) c (nth-past ks c n)
+            ∙ sym (no-class base c (nth-past (ks ++ (k ∷ [])) c (omega (arith, length-append ks (k ∷ [])))))
+
+    go : (b : Bool) → eqb c (length ks) ≡ b → superIn (set t (length ks) (p + 1)) c ≡ superOf base c
+    go true q = rw (eqb-true c (length ks) q) here
+    go false q =
+        let n : c ≡ length ks → ⊥ = eqb-false c (length ks) q in
+        ap (λ (x : ℕ). elim x as (λ _. Option ℕ) [ zero ↦ none | suc p ↦ lower c p ]) (getD-set-other t (length ks) c (p + 1) 0 n) ∙ (s c ∙ other c n)
+
+-- A store with one more entry: the copies hold it, and the test of agreement is the definition's
+
+module _ (counts classes kept cache ties subtypes : List ℕ) (ld : Loadable counts classes kept cache ties subtypes) (room : getD counts 2 0 < 256)
+    (l m c : ℕ) (counted trial : List ℕ) (e : counted ≡ set counts 2 (getD counts 2 0 + 1)) (q : trial ≡ putThree cache (getD counts 2 0) l m c) where
+  abbrev w : World
+  w = worldIn counts classes kept cache ties subtypes
+
+  abbrev more : Base
+  more = record { classes = w .base .classes; cache = w .base .cache ++ (entry l m c ∷ []) }
+
+  base-more : quickBase counted classes kept trial ≡ more
+  base-more =
+      (λ i. quickBase (e i) classes kept (q i)) ∙ trial-base counts classes kept cache l m c (ld .countsLong) (omega (arith, ld .cacheLong))
+
+  pub entries-are : (n : ℕ) → n ≡ getD counted 2 0 → (n ≤ 256) × (rows (entryAt trial) n 0 ≡ more .cache)
+  unfolding quickBase
+  entries-are n h =
+      let z : n ≡ getD counts 2 0 + 1 = h ∙ (ap (λ (x : List ℕ). getD x 2 0) e ∙ getD-set-same counts 2 (getD counts 2 0 + 1) 0 (omega (arith, ld .countsLong))) in
+      (omega arith, (λ i. rows (entryAt (q i)) (z i) 0) ∙ entries-more cache (getD counts 2 0) l m c (omega (arith, ld .cacheLong)))
+
+  pub supers-are : (zeros supers : List ℕ) → length zeros ≡ 64 → supers ≡ writeRows set (rows (superCell (quickBase counted classes kept trial)) 64 0) 0 zeros
+      → (x : ℕ) → superIn supers x ≡ superOf more x
+  unfolding quickBase
+  supers-are zeros supers long h x =
+      let z : supers ≡ rows (superCell more) 64 0 =
+      h ∙ (copied (rows (superCell (quickBase counted classes kept trial)) 64 0) zeros (rows-length (superCell (quickBase counted classes kept trial)) 64 0 ∙ sym long)
+      ∙ ap (λ (b : Base). rows (superCell b) 64 0) base-more) in
+      ap (λ (s : List ℕ). superIn s x) z ∙ supers-in more (omega (arith, ld .classesFew, rows-length (λ c. quickClass kept (classRowAt classes c)) (getD counts 0 0) 0)) x
+
+  pub entry-agreed : (zeros supers : List ℕ) (n i j : ℕ) (r : Bool) → length zeros ≡ 64
+      → supers ≡ writeRows set (rows (superCell (quickBase counted classes kept trial)) 64 0) 0 zeros
+      → n ≡ getD counted 2 0 → i ≡ getD counts 3 0 → j ≡ getD counts 4 0 → r ≡ agreeIn supers trial n ties i subtypes j
+      → r ≡ agrees (withEntry w (at l m) c)
+  entry-agreed zeros supers n i j r long s en ei ej h =
+      let f = entries-are n en in
+      h ∙ agree-is (withEntry w (at l m) c) supers trial n ties i subtypes j (supers-are zeros supers long s) (f .0) (omega (arith, ld .tiesFew)) (omega (arith, ld .subtypesFew))
+      (f .1) (ap (λ (x : ℕ). rows (tieAt ties) x 0) ei) (ap (λ (x : ℕ). rows (subtypeAt subtypes) x 0) ej)

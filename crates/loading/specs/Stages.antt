@@ -4,8 +4,11 @@ use mathlib.Core.Bool.{Bool, true, false, not, _&&_}
 use mathlib.Core.Option.{Option, none, some}
 use mathlib.Core.List.{List, [], _∷_, _++_}
 use Prim.Native.Nat.{ℕ, _+_}
-use lib.ListN.{length, getElem?}
+use lib.ListN.{length, getElem?, getD, set}
 use lib.Dec.{eqb, leb, ltb}
+use Rattle.definition.specs.declared.Reply.{Reply}
+use Rattle.definition.specs.declared.Reply.the-variants.{Accepted, Denied}
+use Rattle.definition.specs.Tables.{putThree}
 use Rattle.definition.specs.Lists.{every, any, isNone}
 use Rattle.definition.specs.Requests.{at}
 use Rattle.definition.specs.Classes.{Base, Class, find, slots}
@@ -31,6 +34,21 @@ unfoldable pub recordedBy : Recording → World → Result World
 recordedBy (Refuse r) w = refused r
 recordedBy Keep w = ok w
 recordedBy (Add l n c) w = ok (withEntry w (at l n) c)
+
+-- what a decision of record answers and writes: the counts and the cache
+
+pub record EntryDone : Type 0 where
+  pub answer : Reply
+  pub counts : List ℕ
+  pub cache : List ℕ
+
+abbrev pub entryDone : Reply → List ℕ → List ℕ → EntryDone
+entryDone r n e = record { answer = r; counts = n; cache = e }
+
+unfoldable pub entryWritten : Recording → List ℕ → List ℕ → EntryDone
+entryWritten (Refuse r) n e = entryDone (Denied r) n e
+entryWritten Keep n e = entryDone Accepted n e
+entryWritten (Add l m c) n e = entryDone Accepted (set n 2 (getD n 2 0 + 1)) (putThree e (getD n 2 0) l m c)
 
 -- define: the direct superclass. Refusals: 4 5 8
 unfoldable pub superFor : Class → Base → Result ℕ

@@ -7,8 +7,14 @@ ghost use Rattle.definition.specs.Lists.{writeRows};
 ghost use Rattle.definition.specs.Tables.{tables, shaped, putThree};
 ghost use Rattle.definition.specs.Broken.{broken};
 ghost use Rattle.definition.specs.Calls.{done, callBoot, callDrop, perform};
+ghost use Rattle.definition.specs.Requests.{at};
+ghost use Rattle.definition.specs.Constraints.{agrees};
+ghost use Rattle.definition.specs.Loading.{withEntry, recorded};
+ghost use Rattle.loading.specs.World.{worldIn, Loadable};
+ghost use Rattle.loading.specs.Stages.{entered, recordedBy, entryDone, entryWritten};
 use definition::Refusal;
 use definition::Reply;
+use resolution::Found;
 
 // Cells.
 
@@ -126,9 +132,103 @@ fn drop_frames(
     Reply::Accepted
 }
 
-// record: what is decided of a new entry: refused, there already, or to be added with this loader, name and class.
+// record.
+
+// What is decided of an entry: it is refused, it is there already, or it is to be added with this loader, name and class.
 pub enum Recording {
     Refuse(Refusal),
     Keep,
     Add(u16, u16, u16),
+}
+
+// The counts and the cache with one more entry, on copies.
+fn enter(counts: &[u16], cache: &[u16], loader: u16, name: u16, class: u16, counted: &mut [u16], trial: &mut [u16])
+    requires { ⌜ (getD (now counts) 2 0 < 256) × (length (now counts) ≡ length (now counted)) × (length (now cache) ≡ length (now trial)) ⌝ }
+    ensures {
+        λ _. ⌜ (now (counted .exit) ≡ set (now (counts .entry)) 2 (getD (now (counts .entry)) 2 0 + 1)) × (now (trial .exit) ≡ putThree (now (cache .entry)) (getD (now (counts .entry)) 2 0) loader name class) ⌝
+    }
+{
+    write_cells(counted, 0, counts);
+    write_cells(trial, 0, cache);
+    let entries = cells::at16(counts, 2);
+    cells::put16(counted, 2, entries + 1);
+    put_three(trial, entries, loader, name, class);
+}
+
+// The store with one more entry agrees.
+fn entry_agrees(counts: &[u16], classes: &[u16], kept: &[u8], cache: &[u16], ties: &[u16], subtypes: &[u16], loader: u16, name: u16, class: u16) -> bool
+    requires { ⌜ Loadable (now counts) (now classes) (now kept) (now cache) (now ties) (now subtypes) × (getD (now counts) 2 0 < 256) ⌝ }
+    ensures {
+        λ r. ⌜ r ≡ agrees (withEntry (worldIn (now (counts .entry)) (now (classes .entry)) (now (kept .entry)) (now (cache .entry)) (now (ties .entry)) (now (subtypes .entry))) (at loader name) class) ⌝
+    }
+{
+    let mut counted = [0u16; 8];
+    let mut trial = [0u16; 768];
+    enter(counts, cache, loader, name, class, &mut counted, &mut trial);
+    let mut supers = [0u8; 64];
+    resolution::fill_supers(&mut supers, &counted, classes, kept, &trial);
+    constraints::agree(&supers, &trial, cells::at16(&counted, 2), ties, cells::at16(counts, 3), subtypes, cells::at16(counts, 4))
+}
+
+// The entry of a class that bears the name.
+fn decide_entry(counts: &[u16], classes: &[u16], kept: &[u8], cache: &[u16], ties: &[u16], subtypes: &[u16], loader: u16, name: u16, class: u16) -> Recording
+    requires { ⌜ Loadable (now counts) (now classes) (now kept) (now cache) (now ties) (now subtypes) ⌝ }
+    ensures {
+        λ r. ⌜ recordedBy r (worldIn (now (counts .entry)) (now (classes .entry)) (now (kept .entry)) (now (cache .entry)) (now (ties .entry)) (now (subtypes .entry))) ≡ entered loader name class (worldIn (now (counts .entry)) (now (classes .entry)) (now (kept .entry)) (now (cache .entry)) (now (ties .entry)) (now (subtypes .entry))) ⌝
+    }
+{
+    let found = resolution::find(counts, cache, loader, name);
+    if let Found::At(d) = found {
+        if d == cells::from16(class) {
+            return Recording::Keep;
+        }
+        return Recording::Refuse(Refusal::Word(4));
+    }
+    if 256 <= cells::at16(counts, 2) {
+        return Recording::Refuse(Refusal::Word(10));
+    }
+    if !entry_agrees(counts, classes, kept, cache, ties, subtypes, loader, name, class) {
+        return Recording::Refuse(Refusal::Word(9));
+    }
+    Recording::Add(loader, name, class)
+}
+
+// The decision, on tables that are only read.
+fn decide_record(counts: &[u16], classes: &[u16], kept: &[u8], cache: &[u16], ties: &[u16], subtypes: &[u16], loader: u32, name: u32, class: u32) -> Recording
+    requires { ⌜ Loadable (now counts) (now classes) (now kept) (now cache) (now ties) (now subtypes) ⌝ }
+    ensures {
+        λ r. ⌜ recordedBy r (worldIn (now (counts .entry)) (now (classes .entry)) (now (kept .entry)) (now (cache .entry)) (now (ties .entry)) (now (subtypes .entry))) ≡ recorded loader name class (worldIn (now (counts .entry)) (now (classes .entry)) (now (kept .entry)) (now (cache .entry)) (now (ties .entry)) (now (subtypes .entry))) ⌝
+    }
+{
+    if 16 <= loader {
+        return Recording::Refuse(Refusal::Word(3));
+    }
+    if name < 2 {
+        return Recording::Refuse(Refusal::Word(3));
+    }
+    if !resolution::is_class(counts, class) {
+        return Recording::Refuse(Refusal::Word(3));
+    }
+    let own = resolution::name_of(counts, classes, kept, class);
+    if cells::from16(own) != name {
+        return Recording::Refuse(Refusal::Word(13));
+    }
+    decide_entry(counts, classes, kept, cache, ties, subtypes, loader as u16, own, class as u16)
+}
+
+// The one place that writes: an entry and its count.
+fn carry_out(counts: &mut [u16], cache: &mut [u16], plan: Recording) -> Reply
+    requires { ⌜ getD (now counts) 2 0 ≤ 256 ⌝ }
+    ensures { λ r. ⌜ entryDone r (now (counts .exit)) (now (cache .exit)) ≡ entryWritten plan (now (counts .entry)) (now (cache .entry)) ⌝ }
+{
+    match plan {
+        Recording::Refuse(r) => Reply::Denied(r),
+        Recording::Keep => Reply::Accepted,
+        Recording::Add(loader, name, class) => {
+            let entries = cells::at16(counts, 2);
+            put_three(cache, entries, loader, name, class);
+            cells::put16(counts, 2, entries + 1);
+            Reply::Accepted
+        }
+    }
 }
