@@ -24,7 +24,8 @@ use Rattle.resolution.specs.Quick.{quickClass}
 use Rattle.resolution.specs.Lookups.{nameIn}
 use Rattle.loading.specs.declared.Recording.{Recording}
 use Rattle.loading.specs.declared.Recording.the-variants.{Refuse, Keep, Add}
-use Rattle.loading.specs.Stages.{entered, recordedBy}
+use Rattle.loading.specs.World.{quickWorld, quick-world}
+use Rattle.loading.specs.Stages.{entered, recordedBy, EntryDone, entryDone, entryWritten}
 use Rattle.loading.proofs.Laws.{wrap-broken, wrap-refused, wrap-given}
 
 -- Arguments
@@ -99,6 +100,23 @@ module _ (t : Tables) (l n c : ℕ) where
         wrap-given Denied (recordRows l n c) t sound Accepted (addEntry (view t) (withEntry (worldOf (view t)) (at i j) k))
         (tables (set (t .counts) 2 (countAt t 2 + 1)) (t .classes) (t .kept) (putThree (t .cache) (countAt t 2) i j k) (t .ties) (t .subtypes) (t .objects) (t .frames))
         (rw (sym decided, e)) (entry-writes (viewBase t) t i j k)
+
+  -- what was decided and carried out is the call
+  pub record-done : (sound : broken t ≡ false) (plan : Recording) → recordedBy plan (quickWorld t) ≡ recorded l n c (quickWorld t) → (r : Reply) (m e : List ℕ)
+      → entryDone r m e ≡ entryWritten plan (t .counts) (t .cache)
+      → done r (tables m (t .classes) (t .kept) e (t .ties) (t .subtypes) (t .objects) (t .frames)) ≡ perform (callRecord l n c) t
+  unfolding entryWritten
+  record-done sound plan decided r m e written =
+      ap (λ (d : EntryDone). done (d .answer) (tables (d .counts) (t .classes) (t .kept) (d .cache) (t .ties) (t .subtypes) (t .objects) (t .frames))) written
+      ∙ go plan (rw (quick-world t sound) at decided)
+    where
+      go : (p : Recording) → recordedBy p (worldOf (view t)) ≡ recorded l n c (worldOf (view t))
+          → done (entryWritten p (t .counts) (t .cache) .answer)
+          (tables (entryWritten p (t .counts) (t .cache) .counts) (t .classes) (t .kept) (entryWritten p (t .counts) (t .cache) .cache) (t .ties) (t .subtypes) (t .objects) (t .frames))
+          ≡ perform (callRecord l n c) t
+      go (Refuse w) h = record-refused sound (Refuse w) h w refl
+      go Keep h = record-kept sound Keep h refl
+      go (Add x y z) h = record-added sound (Add x y z) h x y z refl
 
 -- the name that a class's row gives
 pub name-is : (counts classes kept : List ℕ) (c : ℕ) → c < getD counts 0 0 → nameIn counts classes kept c ≡ quickClass kept (classRowAt classes c) .name

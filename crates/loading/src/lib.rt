@@ -6,7 +6,7 @@ ghost use lib.ListN.{length, getD, set};
 ghost use Rattle.definition.specs.Lists.{writeRows};
 ghost use Rattle.definition.specs.Tables.{tables, shaped, putThree};
 ghost use Rattle.definition.specs.Broken.{broken};
-ghost use Rattle.definition.specs.Calls.{done, callBoot, callDrop, perform};
+ghost use Rattle.definition.specs.Calls.{done, callBoot, callDrop, callRecord, perform};
 ghost use Rattle.definition.specs.Requests.{at};
 ghost use Rattle.definition.specs.Constraints.{agrees};
 ghost use Rattle.definition.specs.Loading.{withEntry, recorded};
@@ -231,4 +231,15 @@ fn carry_out(counts: &mut [u16], cache: &mut [u16], plan: Recording) -> Reply
             Reply::Accepted
         }
     }
+}
+
+// record, of a store that is not broken.
+fn record_entry(counts: &mut [u16], classes: &[u16], kept: &[u8], cache: &mut [u16], ties: &[u16], subtypes: &[u16], objects: &[u32], frames: &[u32], loader: u32, name: u32, class: u32) -> Reply
+    requires { ⌜ broken (tables (now counts) (now classes) (now kept) (now cache) (now ties) (now subtypes) (now objects) (now frames)) ≡ false ⌝ }
+    ensures {
+        λ r. ⌜ done r (tables (now (counts .exit)) (now (classes .entry)) (now (kept .entry)) (now (cache .exit)) (now (ties .entry)) (now (subtypes .entry)) (now (objects .entry)) (now (frames .entry))) ≡ perform (callRecord loader name class) (tables (now (counts .entry)) (now (classes .entry)) (now (kept .entry)) (now (cache .entry)) (now (ties .entry)) (now (subtypes .entry)) (now (objects .entry)) (now (frames .entry))) ⌝
+    }
+{
+    let plan = decide_record(counts, classes, kept, cache, ties, subtypes, loader, name, class);
+    carry_out(counts, cache, plan)
 }
