@@ -1,19 +1,18 @@
 -- Bytes read as a file exactly if they keep the rules by places, and then the quick reading gives that file.
-use mathlib.Core.Path.{_≡_, refl, sym, ap, _∙_}
-use mathlib.Core.Bool.{Bool, true, false, false≢true, not}
-use mathlib.Core.Option.{Option, none, some}
-use mathlib.Core.List.{List, [], _∷_}
+use mathlib.Core.Path.{_≡_, sym, ap, _∙_}
+use mathlib.Core.Bool.{true, false, false≢true, not}
+use mathlib.Core.Option.{none, some}
+use mathlib.Core.List.{List}
 use Prim.Native.Nat.{ℕ, zero, suc, _+_, _*_, _≤_, _<_}
 use native.Mathlib.Nat.{zero-add}
 use native.Mathlib.Omega.{arith}
-use lib.ListN.{length, getD, take, drop, length-drop}
+use lib.ListN.{length, getD, drop, length-drop}
 use borrow.Author.Tests.{not-true}
-use Rattle.definition.specs.Lists.{rows, doubled, isSome}
-use Rattle.definition.specs.Maybe.{_>>=_, need}
+use Rattle.definition.specs.Lists.{doubled, isSome}
 use Rattle.definition.specs.Instructions.{shortAt}
 use Rattle.definition.specs.File.{File, readFile, sameField, sameMethod}
-use Rattle.classfile.specs.Lists.{Each, same-test}
-use Rattle.classfile.specs.Reading.{className, superName, fieldCount, fieldPlace, fieldIn, quickFields, methodCount, methodPlace, methodIn, quickMethods, quickFile}
+use Rattle.classfile.specs.Lists.{_and_, Each, same-test}
+use Rattle.classfile.specs.Reading.{className, superName, fieldCount, fieldPlace, quickFields, methodCount, methodPlace, quickMethods, quickFile}
 use Rattle.classfile.specs.Rules.{Readable, readable, said, tested}
 use Rattle.classfile.specs.Stages.{Outcome, FieldRule, MethodRule, passes, fails, meant, then, made, moved, needs, needs-le, needs-eq, byte-at, short-at, name-at, count-at, fields-at, methods-at, ends-at}
 
@@ -68,43 +67,21 @@ module _ (bs : List ℕ) where
   asked-readable : Readable bs → Asked
   unfolding methodPlace fieldPlace
   asked-readable r =
-      let nine : 9 + 4 * fieldCount bs ≤ length bs = omega (arith, r .within) in (
-        r .size,
-        (
-          omega arith,
-          (
-            r .version,
-            (
-              omega arith,
-              (
-                omega (arith, length-drop 3 bs, r .rest),
-                (
-                  (omega arith, r .name),
-                  (
-                    (omega arith, r .super),
-                    (
-                      (omega arith, r .fewFields),
-                      (
-                        (λ i l b. (omega arith, r .fields i (omega arith))),
-                        (
-                          (omega arith, r .fewMethods),
-                          (
-                            (λ j l b. r .methods j (omega arith)),
-                            (
-                              omega (arith, r .end),
-                              (ap not (r .noFieldTwice), ap not (r .noMethodTwice)),
-                            ),
-                          ),
-                        ),
-                      ),
-                    ),
-                  ),
-                ),
-              ),
-            ),
-          ),
-        ),
-      )
+      let nine : 9 + 4 * fieldCount bs ≤ length bs = omega (arith, r .within) in
+      r .size
+      and (omega arith)
+      and r .version
+      and (omega arith)
+      and (omega (arith, length-drop 3 bs, r .rest))
+      and ((omega arith) and r .name)
+      and ((omega arith) and r .super)
+      and ((omega arith) and r .fewFields)
+      and (λ i l b. (omega arith) and r .fields i (omega arith))
+      and ((omega arith) and r .fewMethods)
+      and (λ j l b. r .methods j (omega arith))
+      and (omega (arith, r .end))
+      and ap not (r .noFieldTwice)
+      and ap not (r .noMethodTwice)
 
   file-read : Outcome (readFile bs) (Readable bs) (quickFile bs)
   unfolding readFile quickFile quickFields quickMethods className superName fieldCount fieldPlace methodCount methodPlace

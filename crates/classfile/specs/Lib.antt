@@ -5,3 +5,4 @@ pub mod Rules
 pub mod Stages
 pub mod Laws
 pub mod Searches
+pub mod Facts

@@ -1,17 +1,16 @@
 -- The file rules by places: as tests, and as what they say.
-use mathlib.Core.Path.{_≡_, refl, sym, ap, _∙_}
+use mathlib.Core.Path.{_≡_, ap}
 use mathlib.Core.Bool.{Bool, true, false, not}
 use mathlib.Core.List.{List, [], _∷_}
-use Prim.Native.Nat.{ℕ, zero, suc, _+_, _≤_, _<_}
+use Prim.Native.Nat.{ℕ, _+_, _≤_, _<_}
 use native.Mathlib.Omega.{arith}
 use lib.ListN.{length, getD}
 use lib.Dec.{eqb, leb}
 use borrow.Author.Tests.{leb-true, eqb-true, le-leb, eq-eqb, not-true}
 use Rattle.definition.specs.Lists.{every, rows, doubled}
-use Rattle.definition.specs.Classes.{Field}
 use Rattle.definition.specs.Instructions.{shortAt}
 use Rattle.definition.specs.File.{sameField, sameMethod}
-use Rattle.classfile.specs.Lists.{Truths, every-true, true-every, each-true, true-each}
+use Rattle.classfile.specs.Lists.{_and_, every-true, true-every, each-true, true-each}
 use Rattle.classfile.specs.Reading.{className, superName, fieldCount, fieldIn, quickFields, methodCount, codeLength, nextPlace, methodPlace, quickMethods}
 
 -- The tests
@@ -135,27 +134,34 @@ said bs h =
 
 test-field : (bs : List ℕ) (i : ℕ) → NamedField bs i → namedField bs i ≡ true
 unfolding namedField
-test-field bs i h = true-every _ (le-leb _ _ (h .name), (le-leb _ _ (h .type), tt))
+test-field bs i h = true-every _ (le-leb _ _ (h .name) and le-leb _ _ (h .type) and tt)
 
 test-method : (bs : List ℕ) (p : ℕ) → WholeMethod bs p → wholeMethod bs p ≡ true
 unfolding wholeMethod namedMethod codedMethod
 test-method bs p h =
-    true-every _ (
-      true-every _ (le-leb _ _ (h .name), (le-leb _ _ (h .argument), (le-leb _ _ (h .result), tt))),
-      (true-every _ (le-leb _ _ (h .some), (le-leb _ _ (h .few), (le-leb _ _ (h .within), tt))), tt),
-    )
+    true-every _
+    (true-every _ (le-leb _ _ (h .name) and le-leb _ _ (h .argument) and le-leb _ _ (h .result) and tt)
+    and true-every _ (le-leb _ _ (h .some) and le-leb _ _ (h .few) and le-leb _ _ (h .within) and tt)
+    and tt)
 
 test-sizes : (bs : List ℕ) → Readable bs → sized bs ≡ true
 unfolding sized
-test-sizes bs h = true-every _ (le-leb _ _ (h .size), (le-leb _ _ (h .within), (eq-eqb _ _ (h .version), (eq-eqb _ _ (h .rest), tt))))
+test-sizes bs h = true-every _ (le-leb _ _ (h .size) and le-leb _ _ (h .within) and eq-eqb _ _ (h .version) and eq-eqb _ _ (h .rest) and tt)
 
 test-names : (bs : List ℕ) → Readable bs → titled bs ≡ true
 unfolding titled
-test-names bs h = true-every _ (le-leb _ _ (h .name), (le-leb _ _ (h .super), (le-leb _ _ (h .fewFields), (le-leb _ _ (h .fewMethods), tt))))
+test-names bs h = true-every _ (le-leb _ _ (h .name) and le-leb _ _ (h .super) and le-leb _ _ (h .fewFields) and le-leb _ _ (h .fewMethods) and tt)
 
 pub tested : (bs : List ℕ) → Readable bs → readable bs ≡ true
 unfolding readable namedFields wholeMethods wholeMethodIn
 tested bs h =
     let fields = true-each (namedField bs) (fieldCount bs) 0 (λ i l m. test-field bs i (h .fields i (omega arith))) in
     let methods = true-each (λ j. wholeMethod bs (methodPlace bs j)) (methodCount bs) 0 (λ j l m. test-method bs _ (h .methods j (omega arith))) in
-    true-every _ (test-sizes bs h, (test-names bs h, (fields, (true-every _ (methods, (eq-eqb _ _ (h .end), tt)), (ap not (h .noFieldTwice), (ap not (h .noMethodTwice), tt))))))
+    true-every _
+    (test-sizes bs h
+    and test-names bs h
+    and fields
+    and true-every _ (methods and eq-eqb _ _ (h .end) and tt)
+    and ap not (h .noFieldTwice)
+    and ap not (h .noMethodTwice)
+    and tt)

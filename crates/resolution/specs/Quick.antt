@@ -72,7 +72,7 @@ unfoldable pub loaderIn : List ℕ → List ℕ → ℕ → ℕ
 loaderIn counts classes c = elim (ltb c (getD counts 0 0)) [ true ↦ classRowAt classes c .loader | false ↦ 0 ]
 
 -- a number that is below n, and one that is not
-either : {A : Type 0} (c n : ℕ) → (c < n → A) → (n ≤ c → A) → A
+pub either : {A : Type 0} (c n : ℕ) → (c < n → A) → (n ≤ c → A) → A
 either {A} c n f g = go (ltb c n) refl
   where
     go : (t : Bool) → ltb c n ≡ t → A

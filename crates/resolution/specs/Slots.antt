@@ -12,7 +12,7 @@ use borrow.Author.Tests.{ne-eqb}
 use Rattle.definition.specs.Lists.{any, indexOf, rows}
 use Rattle.definition.specs.Classes.{Base, Field, Slot, superOf, ownSlots, slots, slotsIn, slotIs}
 use Rattle.laws.specs.Agreement.{super-falls}
-use Rattle.laws.specs.Slots.{slots-up}
+use Rattle.laws.specs.Slots.{slots-up, slots-own}
 use Rattle.laws.specs.Tests.{any-right}
 use Rattle.layout.specs.Places.{rows-length}
 use Rattle.classfile.specs.Lists.{shift, index-append}
@@ -72,6 +72,9 @@ module _ (b : Base) where
 
   pub size-some : (c p : ℕ) → superOf b c ≡ some p → length (slots b c) ≡ length (slots b p) + length (ownSlots b c)
   size-some c p e = ap length (slots-up b c p e) ∙ length-append (slots b p) (ownSlots b c)
+
+  pub own-within : (c : ℕ) → length (ownSlots b c) ≤ length (slots b c)
+  own-within c = let s = slots-own b c in omega (arith, ap length (s .1), length-append (s .0) (ownSlots b c))
 
 -- The fields of a class among an object's: no superclass declares them
 

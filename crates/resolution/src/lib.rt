@@ -14,7 +14,6 @@ ghost use Rattle.classfile.specs.Reading.{fieldIs, fieldCount, quickFields, qui
 ghost use Rattle.resolution.specs.Quick.{found, quickBase, fileIn, loaderIn};
 ghost use Rattle.resolution.specs.Lookups.{nameIn, codeIn, superCell};
 ghost use Rattle.resolution.specs.Slots.{inheritedIn, slotNamed, fieldType, slotType};
-
 use classfile::FieldFound;
 use classfile::MethodFound;
 
@@ -71,7 +70,11 @@ pub fn is_class(counts: &[u16], c: u32) -> bool
 pub fn loader_of(counts: &[u16], classes: &[u16], c: u32) -> u16
     ensures { λ r. ⌜ r ≡ loaderIn (now (counts .entry)) (now (classes .entry)) c ⌝ }
 {
-    if is_class(counts, c) { row_cell(classes, c, 0) } else { 0 }
+    if is_class(counts, c) {
+        row_cell(classes, c, 0)
+    } else {
+        0
+    }
 }
 
 // The file of a class, as the part of the kept bytes that it is; no bytes if there is no such class.
@@ -130,18 +133,36 @@ pub fn is_below(counts: &[u16], classes: &[u16], kept: &[u8], cache: &[u16], c: 
 
 // Whether a class itself declares such a field, such a method.
 
-fn declares_field(counts: &[u16], classes: &[u16], kept: &[u8], c: u32, name: u16, type_name: u16) -> bool
+fn declares_field(
+    counts: &[u16],
+    classes: &[u16],
+    kept: &[u8],
+    c: u32,
+    name: u16,
+    type_name: u16,
+) -> bool
     ensures { λ r. ⌜ r ≡ any (fieldIs name «type_name») (quickFields (fileIn (now (counts .entry)) (now (classes .entry)) (now (kept .entry)) c)) ⌝ }
 {
-    let FieldFound::At(_) = classfile::find_field(file_of(counts, classes, kept, c), name, type_name) else {
+    let FieldFound::At(_) = classfile::find_field(
+        file_of(counts, classes, kept, c),
+        name,
+        type_name,
+    ) else {
         return false;
     };
     true
 }
 
-
 // The nearest class upward of c, c included, that declares a field of that name and type.
-pub fn nearest_field(counts: &[u16], classes: &[u16], kept: &[u8], cache: &[u16], c: u32, name: u16, type_name: u16) -> Found
+pub fn nearest_field(
+    counts: &[u16],
+    classes: &[u16],
+    kept: &[u8],
+    cache: &[u16],
+    c: u32,
+    name: u16,
+    type_name: u16,
+) -> Found
     ensures { λ r. ⌜ r ≡ found (nearest (superOf (quickBase (now (counts .entry)) (now (classes .entry)) (now (kept .entry)) (now (cache .entry)))) (hasField (quickBase (now (counts .entry)) (now (classes .entry)) (now (kept .entry)) (now (cache .entry))) name «type_name») c) ⌝ }
 {
     let mut at = c;
@@ -156,17 +177,39 @@ pub fn nearest_field(counts: &[u16], classes: &[u16], kept: &[u8], cache: &[u16]
     }
 }
 
-fn declares_method(counts: &[u16], classes: &[u16], kept: &[u8], c: u32, name: u16, argument: u16, result: u16) -> bool
+fn declares_method(
+    counts: &[u16],
+    classes: &[u16],
+    kept: &[u8],
+    c: u32,
+    name: u16,
+    argument: u16,
+    result: u16,
+) -> bool
     ensures { λ r. ⌜ r ≡ any (alike name argument result) (quickMethods (fileIn (now (counts .entry)) (now (classes .entry)) (now (kept .entry)) c)) ⌝ }
 {
-    let MethodFound::At(_, _) = classfile::find_method(file_of(counts, classes, kept, c), name, argument, result) else {
+    let MethodFound::At(_, _) = classfile::find_method(
+        file_of(counts, classes, kept, c),
+        name,
+        argument,
+        result,
+    ) else {
         return false;
     };
     true
 }
 
 // The nearest class upward of c, c included, that declares a method alike in name and both types.
-pub fn nearest_method(counts: &[u16], classes: &[u16], kept: &[u8], cache: &[u16], c: u32, name: u16, argument: u16, result: u16) -> Found
+pub fn nearest_method(
+    counts: &[u16],
+    classes: &[u16],
+    kept: &[u8],
+    cache: &[u16],
+    c: u32,
+    name: u16,
+    argument: u16,
+    result: u16,
+) -> Found
     ensures { λ r. ⌜ r ≡ found (nearest (superOf (quickBase (now (counts .entry)) (now (classes .entry)) (now (kept .entry)) (now (cache .entry)))) (hasMethod (quickBase (now (counts .entry)) (now (classes .entry)) (now (kept .entry)) (now (cache .entry))) name argument result) c) ⌝ }
 {
     let mut at = c;
@@ -219,17 +262,36 @@ pub fn inherited(counts: &[u16], classes: &[u16], kept: &[u8], cache: &[u16], c:
 }
 
 // The place of a field that class d declares, among the fields of an object.
-pub fn slot_of(counts: &[u16], classes: &[u16], kept: &[u8], cache: &[u16], d: u32, name: u16, type_name: u16) -> Found
+pub fn slot_of(
+    counts: &[u16],
+    classes: &[u16],
+    kept: &[u8],
+    cache: &[u16],
+    d: u32,
+    name: u16,
+    type_name: u16,
+) -> Found
     ensures { λ r. ⌜ r ≡ found (indexOf (slotIs d name «type_name») (slots (quickBase (now (counts .entry)) (now (classes .entry)) (now (kept .entry)) (now (cache .entry))) d)) ⌝ }
 {
-    let FieldFound::At(i) = classfile::find_field(file_of(counts, classes, kept, d), name, type_name) else {
+    let FieldFound::At(i) = classfile::find_field(
+        file_of(counts, classes, kept, d),
+        name,
+        type_name,
+    ) else {
         return Found::Absent;
     };
     Found::At(inherited(counts, classes, kept, cache, d) + cells::from16(cells::from8(i)))
 }
 
 // Whether an object of class c has a field of that name.
-pub fn has_slot(counts: &[u16], classes: &[u16], kept: &[u8], cache: &[u16], c: u32, name: u16) -> bool
+pub fn has_slot(
+    counts: &[u16],
+    classes: &[u16],
+    kept: &[u8],
+    cache: &[u16],
+    c: u32,
+    name: u16,
+) -> bool
     ensures { λ r. ⌜ r ≡ any (slotNamed name) (slots (quickBase (now (counts .entry)) (now (classes .entry)) (now (kept .entry)) (now (cache .entry))) c) ⌝ }
 {
     let mut at = c;
@@ -251,12 +313,23 @@ fn write_types(types: &mut [u16], start: u32, file: &[u8])
     let mut i = classfile::field_count(file);
     while 0 < i {
         i -= 1;
-        cells::put16(types, cells::wide32(start) + cells::wide8(i), classfile::field_type(file, i));
+        cells::put16(
+            types,
+            cells::wide32(start) + cells::wide8(i),
+            classfile::field_type(file, i),
+        );
     }
 }
 
 // The types of an object's fields, written from place 0 on. Answers how many they are.
-pub fn slot_types(types: &mut [u16], counts: &[u16], classes: &[u16], kept: &[u8], cache: &[u16], c: u32) -> u32
+pub fn slot_types(
+    types: &mut [u16],
+    counts: &[u16],
+    classes: &[u16],
+    kept: &[u8],
+    cache: &[u16],
+    c: u32,
+) -> u32
     ensures { λ r. ⌜ (r ≡ length (slots (quickBase (now (counts .entry)) (now (classes .entry)) (now (kept .entry)) (now (cache .entry))) c)) × (now (types .exit) ≡ writeRows set (map slotType (slots (quickBase (now (counts .entry)) (now (classes .entry)) (now (kept .entry)) (now (cache .entry))) c)) 0 (now (types .entry))) ⌝ }
 {
     let size = size_of(counts, classes, kept, cache, c);
@@ -275,10 +348,23 @@ pub fn slot_types(types: &mut [u16], counts: &[u16], classes: &[u16], kept: &[u8
 // Methods.
 
 // The place of the first method alike in name and both types among those that a class declares.
-pub fn method_index(counts: &[u16], classes: &[u16], kept: &[u8], c: u32, name: u16, argument: u16, result: u16) -> Found
+pub fn method_index(
+    counts: &[u16],
+    classes: &[u16],
+    kept: &[u8],
+    c: u32,
+    name: u16,
+    argument: u16,
+    result: u16,
+) -> Found
     ensures { λ r. ⌜ r ≡ found (indexOf (alike name argument result) (quickMethods (fileIn (now (counts .entry)) (now (classes .entry)) (now (kept .entry)) c))) ⌝ }
 {
-    let MethodFound::At(j, _) = classfile::find_method(file_of(counts, classes, kept, c), name, argument, result) else {
+    let MethodFound::At(j, _) = classfile::find_method(
+        file_of(counts, classes, kept, c),
+        name,
+        argument,
+        result,
+    ) else {
         return Found::Absent;
     };
     Found::At(cells::from16(cells::from8(j)))
@@ -310,14 +396,17 @@ fn super_cell(counts: &[u16], classes: &[u16], kept: &[u8], cache: &[u16], c: u8
     (p + 1) as u8
 }
 
-// The cells of classes 0 to 63.
-pub fn fill_supers(supers: &mut [u8; 64], counts: &[u16], classes: &[u16], kept: &[u8], cache: &[u16])
-    ensures { λ _. ⌜ now (supers .exit) ≡ rows (superCell (quickBase (now (counts .entry)) (now (classes .entry)) (now (kept .entry)) (now (cache .entry)))) 64 0 ⌝ }
+// The cells of classes 0 to 63, written from place 0 on.
+pub fn fill_supers(supers: &mut [u8], counts: &[u16], classes: &[u16], kept: &[u8], cache: &[u16])
+    ensures { λ _. ⌜ now (supers .exit) ≡ writeRows set (rows (superCell (quickBase (now (counts .entry)) (now (classes .entry)) (now (kept .entry)) (now (cache .entry)))) 64 0) 0 (now (supers .entry)) ⌝ }
 {
-    let mut c: u8 = 0;
-    while c < 64 {
-        let cell = super_cell(counts, classes, kept, cache, c);
-        supers[cells::wide8(c)] = cell;
-        c += 1;
+    let mut i: u8 = 64;
+    while 0 < i {
+        i -= 1;
+        cells::put8(
+            supers,
+            cells::wide8(i),
+            super_cell(counts, classes, kept, cache, i),
+        );
     }
 }

@@ -1,5 +1,4 @@
 -- Both ends of the part are clipped where the bytes end.
-use mathlib.Core.Path.{_≡_, refl, sym, ap, _∙_}
 use Prim.Native.Nat.{_+_}
 use denote.Ref.{now}
 use Rattle.classfile.proofs.Laws.{clipped}
@@ -10,7 +9,20 @@ use Rattle.classfile.proofs.code.Tie as tie
 
 returns : tie.Need-returns
 unfolding codeAt
-returns c = rw (c .before .least2 .ensures, c .before .before .before .before .least .ensures, c .before .before .wide16 .ensures .0, c .before .before .before .code-length .ensures, c .before .before .before .before .before .wide32 .ensures .0) (clipped (now (c .before .before .before .before .before .before .before .args .bytes)) (c .before .before .before .before .before .before .before .args .place + 8) (codeLength (now (c .before .before .before .before .before .before .before .args .bytes)) (c .before .before .before .before .before .before .before .args .place)))
+returns c =
+    let bytes = now (c .before .before .before .before .before .before .before .args .bytes) in
+    let place = c .before .before .before .before .before .before .before .args .place in
+    rw (
+      c .before .least2 .ensures,
+      c .before .before .before .before .least .ensures,
+      c .before .before .wide16 .ensures .0,
+      c .before .before .before .code-length .ensures,
+      c .before .before .before .before .before .wide32 .ensures .0,
+    )
+    (clipped bytes (place + 8) (codeLength bytes place))
 
 pub code-spec : {M : Type 1} → statement M
-code-spec = tie.close (tie.spec (λ c κs. search needs) (λ c. search needs) (λ c κs. search needs) (λ c κs. search needs) (λ c κs. search needs) (λ c. search needs) (λ c κs. search needs) (λ c. search needs) (λ c. search needs) (λ c. search needs) returns)
+code-spec =
+    tie.close
+    (tie.spec (λ c κs. search needs) (λ c. search needs) (λ c κs. search needs) (λ c κs. search needs) (λ c κs. search needs)
+    (λ c. search needs) (λ c κs. search needs) (λ c. search needs) (λ c. search needs) (λ c. search needs) returns)

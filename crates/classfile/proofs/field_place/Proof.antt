@@ -1,6 +1,6 @@
--- A field has four bytes, the first field begins at place 8.
-use Rattle.classfile.specs.Reading.{fieldPlace}
+-- A field has four bytes, and the first begins at place 8.
 use native.Mathlib.Omega.{arith}
+use Rattle.classfile.specs.Reading.{fieldPlace}
 use borrow.Author.Needs.{needs}
 use Rattle.classfile.proofs.field_place.Statement.{statement}
 use Rattle.classfile.proofs.field_place.Tie as tie

@@ -1,5 +1,5 @@
 -- The search from method 0 on.
-use mathlib.Core.Path.{_≡_, refl, sym, ap, _∙_}
+use mathlib.Core.Path.{ap, _∙_}
 use Rattle.classfile.specs.Lists.{find-start}
 use Rattle.classfile.specs.Reading.{quickMethods, methodFound}
 use borrow.Author.Needs.{needs}

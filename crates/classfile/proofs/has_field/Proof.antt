@@ -1,5 +1,5 @@
 -- The search for a name from field 0 on.
-use mathlib.Core.Path.{_≡_, refl, sym, ap, _∙_}
+use mathlib.Core.Path.{ap, _∙_}
 use Rattle.definition.specs.Lists.{any}
 use Rattle.classfile.specs.Lists.{rows-start}
 use Rattle.classfile.specs.Reading.{quickFields, fieldNamed}

@@ -1,4 +1,4 @@
--- The field's name and type are compared, one after the other.
+-- The name is compared, then the type.
 use borrow.Author.Tests.{eq-eqb, ne-eqb}
 use Rattle.classfile.specs.Reading.{fieldIs}
 use borrow.Author.Needs.{needs}

@@ -1,5 +1,4 @@
 -- A number that is too large is answered at once.
-use mathlib.Core.Path.{_≡_, refl, sym, ap, _∙_}
 use Rattle.classfile.specs.Reading.{methodFound}
 use Rattle.classfile.specs.Searches.{numbered-in, numbered-past}
 use borrow.Author.Needs.{needs}

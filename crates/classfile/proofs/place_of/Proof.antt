@@ -1,6 +1,6 @@
 -- Before record i is passed, its place is known.
-use Prim.Native.Nat.{ℕ, _+_, _*_, _-_, _≤_}
-use mathlib.Core.Path.{_≡_, refl, sym, ap, _∙_}
+use Prim.Native.Nat.{_-_, _≤_}
+use mathlib.Core.Path.{_≡_, ap, _∙_}
 use native.Mathlib.Omega.{arith}
 use Rattle.classfile.proofs.Laws.{placed-next}
 use Rattle.classfile.specs.Reading.{methodPlace, Placed}
@@ -18,7 +18,12 @@ loop-again : tie.Need-loop-again Inv-loop μ-loop
 loop-again c = (omega arith, placed-next _ _ _ _ (c .before .before .loop .inv .1) (c .next-place .ensures .0) (c .next-place .ensures .1))
 
 returns : tie.Need-returns Inv-loop μ-loop
-returns c = let last : c .before .loop .i ≡ c .before .before .before .before .args .j = omega arith in c .before .loop .inv .1 .place ∙ ap (methodPlace _) last
+returns c =
+    let last : c .before .loop .i ≡ c .before .before .before .before .args .j = omega arith in
+    c .before .loop .inv .1 .place ∙ ap (methodPlace _) last
 
 pub place-of-spec : {M : Type 1} → statement M
-place-of-spec = tie.close (tie.spec Inv-loop μ-loop (λ c κs. search needs) (λ c. search needs) (λ c κs. search needs) (λ c. search needs) (λ c. search needs) loop-again returns)
+place-of-spec =
+    tie.close
+    (tie.spec Inv-loop μ-loop (λ c κs. search needs) (λ c. search needs) (λ c κs. search needs) (λ c. search needs)
+    (λ c. search needs) loop-again returns)

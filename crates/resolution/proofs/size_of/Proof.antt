@@ -1,5 +1,4 @@
 -- A walk upward: the fields counted so far and those of the present class are those of c. A class declares at most 255, and there are at most 65,535 classes.
-use mathlib.Core.Option.{some}
 use mathlib.Core.Path.{_∙_, _≡_, ap, sym}
 use Prim.Native.Nat.{_*_, _+_, _-_, _<_, _≤_}
 use native.Mathlib.Nat.{zero-add}
@@ -8,10 +7,11 @@ use lib.ListN.{getD, length}
 use denote.Ref.{now}
 use borrow.Author.Needs.{needs}
 use borrow.Author.Tests.{ltb-false, ltb-true, not-false, not-true}
-use Rattle.definition.specs.Classes.{slots, superOf}
+use Rattle.definition.specs.Classes.{slots}
 use Rattle.laws.specs.Agreement.{super-falls}
+use Rattle.resolution.proofs.Laws.{count-last, count-up}
 use Rattle.resolution.specs.Quick.{found-absent, found-at, quickBase}
-use Rattle.resolution.specs.Slots.{own-size, size-none, size-some, slots-past}
+use Rattle.resolution.specs.Slots.{slots-past}
 use Rattle.resolution.proofs.size_of.Statement.{statement}
 use Rattle.resolution.proofs.size_of.Tie as tie
 
@@ -21,24 +21,20 @@ Inv-loop counts classes kept cache c at₀ total₀ at total = (at ≤ c) × (to
 abbrev μ-loop : tie.MeasureT-loop
 μ-loop counts classes kept cache c at₀ total₀ at total = at
 
--- the next class is the superclass
-above : (c : tie.After-known-told Inv-loop μ-loop) → superOf (quickBase (now (c .before .before .before .before .before .before .before .before .before .before .before .before .args .counts)) (now (c .before .before .before .before .before .before .before .before .before .before .before .before .args .classes)) (now (c .before .before .before .before .before .before .before .before .before .before .before .before .args .kept)) (now (c .before .before .before .before .before .before .before .before .before .before .before .before .args .cache))) (c .before .before .before .before .before .loop .at) ≡ some (c .before .p .given .0 .0)
-above c = found-at _ _ (sym (c .before .before .before .super-of .ensures) ∙ c .before .p .given .1)
-
 returns : tie.Need-returns Inv-loop μ-loop
-returns c = (ap length (sym (slots-past (now (c .before .before .before .before .before .before .args .counts)) (now (c .before .before .before .before .before .before .args .classes)) (now (c .before .before .before .before .before .before .args .kept)) (now (c .before .before .before .before .before .before .args .cache)) _ (ltb-false _ _ (sym (c .before .is-class .ensures) ∙ not-true _ (c .if1 .taken))))), omega arith)
+returns c = (ap length (sym (slots-past _ _ _ _ _ (ltb-false _ _ (sym (c .before .is-class .ensures) ∙ not-true _ (c .if1 .taken))))), omega arith)
 
 loop-holds : tie.Need-loop-holds Inv-loop μ-loop
 loop-holds c = let h : c .before .before .before .before .before .before .args .c < getD (now (c .before .before .before .before .before .before .args .counts)) 0 0 = ltb-true _ _ (sym (c .before .is-class .ensures) ∙ not-false _ (c .if1 .left)) in (omega arith, omega arith, zero-add _, omega (arith, h, c .before .before .before .before .before .shared-slice-known .given 0))
 
 returns-2 : tie.Need-returns-2 Inv-loop μ-loop
-returns-2 c = (omega (arith, c .before .before .before .own-size .ensures .0, own-size (now (c .before .before .before .before .before .before .before .before .before .before .before .args .counts)) (now (c .before .before .before .before .before .before .before .before .before .before .before .args .classes)) (now (c .before .before .before .before .before .before .before .before .before .before .before .args .kept)) (now (c .before .before .before .before .before .before .before .before .before .before .before .args .cache)) (c .before .before .before .before .loop .at), c .before .before .before .before .loop .inv .2, size-none (quickBase (now (c .before .before .before .before .before .before .before .before .before .before .before .args .counts)) (now (c .before .before .before .before .before .before .before .before .before .before .before .args .classes)) (now (c .before .before .before .before .before .before .before .before .before .before .before .args .kept)) (now (c .before .before .before .before .before .before .before .before .before .before .before .args .cache))) (c .before .before .before .before .loop .at) (found-absent _ (sym (c .before .before .super-of .ensures) ∙ c .enum-told .given .1))), omega (arith, c .before .before .before .own-size .ensures .1, c .before .before .before .before .loop .inv))
+returns-2 c = (count-last _ _ _ _ _ _ _ _ (c .before .before .before .own-size .ensures .0) (found-absent _ (sym (c .before .before .super-of .ensures) ∙ c .enum-told .given .1)) (c .before .before .before .before .loop .inv .2), omega (arith, c .before .before .before .own-size .ensures .1, c .before .before .before .before .loop .inv))
 
 loop-less : tie.Need-loop-less Inv-loop μ-loop
-loop-less c = super-falls (quickBase (now (c .before .before .before .before .before .before .before .before .before .before .before .before .args .counts)) (now (c .before .before .before .before .before .before .before .before .before .before .before .before .args .classes)) (now (c .before .before .before .before .before .before .before .before .before .before .before .before .args .kept)) (now (c .before .before .before .before .before .before .before .before .before .before .before .before .args .cache))) _ _ (above c)
+loop-less c = super-falls _ _ _ (found-at _ _ (sym (c .before .before .before .super-of .ensures) ∙ c .before .p .given .1))
 
 loop-again : tie.Need-loop-again Inv-loop μ-loop
-loop-again c = let l = super-falls (quickBase (now (c .before .before .before .before .before .before .before .before .before .before .before .before .args .counts)) (now (c .before .before .before .before .before .before .before .before .before .before .before .before .args .classes)) (now (c .before .before .before .before .before .before .before .before .before .before .before .before .args .kept)) (now (c .before .before .before .before .before .before .before .before .before .before .before .before .args .cache))) (c .before .before .before .before .before .loop .at) (c .before .p .given .0 .0) (above c) in (omega (arith, c .before .before .before .before .before .loop .inv .0, l), omega (arith, c .before .before .before .before .before .loop .inv .0, c .before .before .before .before .before .loop .inv .1, c .before .before .before .before .own-size .ensures .1, l), omega (arith, c .before .before .before .before .own-size .ensures .0, own-size (now (c .before .before .before .before .before .before .before .before .before .before .before .before .args .counts)) (now (c .before .before .before .before .before .before .before .before .before .before .before .before .args .classes)) (now (c .before .before .before .before .before .before .before .before .before .before .before .before .args .kept)) (now (c .before .before .before .before .before .before .before .before .before .before .before .before .args .cache)) (c .before .before .before .before .before .loop .at), c .before .before .before .before .before .loop .inv .2, size-some (quickBase (now (c .before .before .before .before .before .before .before .before .before .before .before .before .args .counts)) (now (c .before .before .before .before .before .before .before .before .before .before .before .before .args .classes)) (now (c .before .before .before .before .before .before .before .before .before .before .before .before .args .kept)) (now (c .before .before .before .before .before .before .before .before .before .before .before .before .args .cache))) (c .before .before .before .before .before .loop .at) (c .before .p .given .0 .0) (above c)), c .before .before .before .before .before .loop .inv .3)
+loop-again c = let l : c .before .p .given .0 .0 < c .before .before .before .before .before .loop .at = super-falls _ _ _ (found-at _ _ (sym (c .before .before .before .super-of .ensures) ∙ c .before .p .given .1)) in (omega (arith, c .before .before .before .before .before .loop .inv .0, l), omega (arith, c .before .before .before .before .before .loop .inv .0, c .before .before .before .before .before .loop .inv .1, c .before .before .before .before .own-size .ensures .1, l), count-up _ _ _ _ _ _ _ _ (c .before .before .before .before .own-size .ensures .0) _ (found-at _ _ (sym (c .before .before .before .super-of .ensures) ∙ c .before .p .given .1)) (c .before .before .before .before .before .loop .inv .2), c .before .before .before .before .before .loop .inv .3)
 
 pub size-of-spec : {M : Type 1} → statement M
 size-of-spec = tie.close (tie.spec Inv-loop μ-loop (λ c κs. search needs) returns loop-holds (λ c κs. search needs) (λ c. search needs) (λ c κs. search needs) (λ c. search needs) (λ c. search needs) returns-2 loop-less loop-again)
