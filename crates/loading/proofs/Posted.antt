@@ -14,7 +14,7 @@ use Rattle.definition.specs.Classes.{Base, Method, superOf, loaderOf, hasMethod
 use Rattle.definition.specs.Constraints.{Tie, newTie, tieIs}
 use Rattle.definition.specs.Loading.{overrideTie, overrideTies}
 use Rattle.definition.specs.Tables.{tieAt, putTie}
-use Rattle.layout.specs.Places.{rows-step, rows-none, rows-start}
+use Rattle.layout.specs.Places.{rows-step, rows-none, rows-start, writeRows-length}
 use Rattle.layout.specs.Cells.{RowLaws, rows-first, rows-after-more, tie-rows}
 use Rattle.constraints.specs.Posting.{newTieIn, tiesAfter}
 use Rattle.loading.specs.Posting.{TiesPosted, methodLike}
@@ -146,3 +146,18 @@ module _ (b : Base) (l p : ℕ) (g : ℕ → Method) (n : ℕ) where
   posts-end t X k j N h inv =
       let e : left t k j ≡ [] = ap (overrideTies b l p (rows (tieAt t) k 0)) (rows-none g n j h) in
       (omega (arith, inv .count, ap length e), sym (inv .cells ∙ ap (λ (x : List Tie). writeRows putTie x k t) e))
+
+-- a table has at most one tie more
+pub tie-few : (t : List ℕ) (k l m n : ℕ) → length (newTieIn t k l m n) ≤ 1
+unfolding newTieIn
+tie-few t k l m n = new-few (rows (tieAt t) k 0) l m n
+
+pub two-few : (t u : List ℕ) (k l m a r i j : ℕ) → i ≡ k + length (newTieIn t k l m a) → j ≡ i + length (newTieIn u i l m r) → j ≤ k + 2
+two-few t u k l m a r i j e q = omega (arith, tie-few t k l m a, tie-few u i l m r)
+
+-- what a method posts: at most two rows, and the table keeps its length
+pub posted-few : (b : Base) (l p : ℕ) (ts : List Tie) (m : Method) (t : List ℕ) (k : ℕ) (u : List ℕ) (j : ℕ) → TiesPosted (overrideTie b l p ts m) t k u j → j ≤ k + 2
+posted-few b l p ts m t k u j h = omega (arith, h .count, override-few b l p ts m)
+
+pub posted-long : (us : List Tie) (t : List ℕ) (k : ℕ) (u : List ℕ) (j : ℕ) → TiesPosted us t k u j → length u ≡ length t
+posted-long us t k u j h = ap length (h .cells) ∙ writeRows-length putTie (tie-rows .long) us k t

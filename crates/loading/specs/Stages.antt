@@ -18,6 +18,7 @@ use Rattle.definition.specs.declared.Refusal.{Refusal}
 use Rattle.definition.specs.declared.Refusal.the-variants.{Word}
 use Rattle.definition.specs.Answers.{wanted, Result, refused, ok, _>>=_, need, take?}
 use Rattle.definition.specs.Loading.{hides, overrideTies, newSubtypes, withClass, withEntry, define, recorded}
+use Rattle.loading.specs.declared.Above.{Above}
 use Rattle.loading.specs.declared.Recording.{Recording}
 use Rattle.loading.specs.declared.Recording.the-variants.{Refuse, Keep, Add}
 
@@ -56,6 +57,10 @@ superFor k b =
     need (isNone (find (b .cache) (at (k .loader) (k .name)))) (Word 4) >>= λ _.
     take? (find (b .cache) (at (k .loader) (k .super))) (wanted (at (k .loader) (k .super))) >>= λ p.
     need (not (any (hides b p) (k .fields))) (Word 8) >>= λ _. ok p
+
+unfoldable pub aboveOf : Above → Result ℕ
+aboveOf (Above.Class p) = ok p
+aboveOf (Above.Refuse r) = refused r
 
 -- define: the constraints of a class below p, whose code has these notes. Refusals: 10 9
 unfoldable pub postedFor : Bool → Class → World → List Note → ℕ → Result World

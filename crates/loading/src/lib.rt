@@ -1,17 +1,23 @@
 // Boot, define, record and drop: the calls that load classes and clear tasks.
 ghost use mathlib.Core.Path.{_≡_};
 ghost use mathlib.Core.Bool.{false};
-ghost use Prim.Native.Nat.{_+_, _*_, _<_, _≤_};
+ghost use Prim.Native.Nat.{ℕ, _+_, _*_, _<_, _≤_};
 ghost use lib.ListN.{length, getD, set};
-ghost use Rattle.definition.specs.Lists.{writeRows};
-ghost use Rattle.definition.specs.Tables.{tables, shaped, putThree};
+ghost use Rattle.definition.specs.Lists.{any, rows, writeRows};
+ghost use Rattle.definition.specs.Tables.{tables, shaped, putThree, tieAt};
 ghost use Rattle.definition.specs.Broken.{broken};
 ghost use Rattle.definition.specs.Calls.{done, callBoot, callDrop, callRecord, perform};
 ghost use Rattle.definition.specs.Requests.{at};
 ghost use Rattle.definition.specs.Constraints.{agrees};
-ghost use Rattle.definition.specs.Loading.{withEntry, recorded};
+ghost use Rattle.definition.specs.Loading.{withEntry, recorded, hides, overrideTie, overrideTies};
+ghost use Rattle.definition.specs.Classes.{loaderOf};
+ghost use Rattle.definition.specs.File.{classOf};
+ghost use Rattle.classfile.specs.Reading.{methodCount, methodIn, quickFields, quickMethods, quickFile};
+ghost use Rattle.resolution.specs.Quick.{quickBase};
 ghost use Rattle.loading.specs.World.{worldIn, Loadable};
-ghost use Rattle.loading.specs.Stages.{entered, recordedBy, entryDone, entryWritten};
+ghost use Rattle.loading.specs.Posting.{TiesPosted, methodLike};
+ghost use Rattle.loading.specs.Stages.{entered, recordedBy, entryDone, entryWritten, aboveOf, superFor};
+use classfile::MethodFound;
 use definition::Refusal;
 use definition::Reply;
 use resolution::Found;
@@ -242,4 +248,101 @@ fn record_entry(counts: &mut [u16], classes: &[u16], kept: &[u8], cache: &mut [u
 {
     let plan = decide_record(counts, classes, kept, cache, ties, subtypes, loader, name, class);
     carry_out(counts, cache, plan)
+}
+
+// define.
+
+// The direct superclass of a class that is to be defined, or why there is none.
+pub enum Above {
+    Class(u32),
+    Refuse(Refusal),
+}
+
+// A superclass, p or one upward of it, has a field of the same name as one of the file's.
+fn hides_any(counts: &[u16], classes: &[u16], kept: &[u8], cache: &[u16], file: &[u8], p: u32) -> bool
+    ensures { λ r. ⌜ r ≡ any (hides (quickBase (now (counts .entry)) (now (classes .entry)) (now (kept .entry)) (now (cache .entry))) p) (quickFields (now (file .entry))) ⌝ }
+{
+    let n = classfile::field_count(file);
+    let mut i: u8 = 0;
+    while i < n {
+        if resolution::has_slot(counts, classes, kept, cache, p, classfile::field_name(file, i)) {
+            return true;
+        }
+        i += 1;
+    }
+    false
+}
+
+// The class that the file's superclass name is cached as, under the file's loader.
+fn find_super(counts: &[u16], classes: &[u16], kept: &[u8], cache: &[u16], loader: u8, file: &[u8]) -> Above
+    ensures { λ r. ⌜ aboveOf r ≡ superFor (classOf loader (quickFile (now (file .entry)))) (quickBase (now (counts .entry)) (now (classes .entry)) (now (kept .entry)) (now (cache .entry))) ⌝ }
+{
+    let under = cells::from8(loader);
+    let own = resolution::find(counts, cache, under, classfile::class_name(file));
+    let Found::Absent = own else {
+        return Above::Refuse(Refusal::Word(4));
+    };
+    let name = classfile::super_name(file);
+    let Found::At(p) = resolution::find(counts, cache, under, name) else {
+        return Above::Refuse(Refusal::Wanted(loader, name));
+    };
+    if hides_any(counts, classes, kept, cache, file, p) {
+        return Above::Refuse(Refusal::Word(8));
+    }
+    Above::Class(p)
+}
+
+// Ties on argument and result between a loader and that of the nearest class, p or one upward, with a method alike, behind the first rows of a table.
+// Answers the new count.
+fn post_override(counts: &[u16], classes: &[u16], kept: &[u8], cache: &[u16], ties: &mut [u16], count: u16, loader: u8, p: u32, name: u16, argument: u16, result: u16) -> u16
+    requires {
+        ⌜ (count < 65534) × ((count + 2) * 3 ≤ length (now ties)) × ((c : ℕ) → loaderOf (quickBase (now counts) (now classes) (now kept) (now cache)) c < 16) ⌝
+    }
+    ensures {
+        λ r. ⌜ TiesPosted (overrideTie (quickBase (now (counts .entry)) (now (classes .entry)) (now (kept .entry)) (now (cache .entry))) loader p (rows (tieAt (now (ties .entry))) count 0) (methodLike name argument result)) (now (ties .entry)) count (now (ties .exit)) r ⌝
+    }
+{
+    let Found::At(y) = resolution::nearest_method(counts, classes, kept, cache, p, name, argument, result) else {
+        return count;
+    };
+    let other = resolution::loader_of(counts, classes, y) as u8;
+    let first = constraints::add_tie(ties, count, loader, other, argument) as u16;
+    constraints::add_tie(ties, first, loader, other, result) as u16
+}
+
+// The ties of the file's method number j.
+fn post_method(counts: &[u16], classes: &[u16], kept: &[u8], cache: &[u16], ties: &mut [u16], count: u16, loader: u8, p: u32, file: &[u8], j: u8) -> u16
+    requires {
+        ⌜ (j < methodCount (now file)) × (count < 65534) × ((count + 2) * 3 ≤ length (now ties)) × ((c : ℕ) → loaderOf (quickBase (now counts) (now classes) (now kept) (now cache)) c < 16) ⌝
+    }
+    ensures {
+        λ r. ⌜ TiesPosted (overrideTie (quickBase (now (counts .entry)) (now (classes .entry)) (now (kept .entry)) (now (cache .entry))) loader p (rows (tieAt (now (ties .entry))) count 0) (methodIn (now (file .entry)) j)) (now (ties .entry)) count (now (ties .exit)) r ⌝
+    }
+{
+    let MethodFound::At(_, place) = classfile::method_place(file, j) else {
+        return count;
+    };
+    let name = classfile::method_name(file, place);
+    let argument = classfile::method_argument(file, place);
+    let result = classfile::method_result(file, place);
+    post_override(counts, classes, kept, cache, ties, count, loader, p, name, argument, result)
+}
+
+// The ties of all the file's methods.
+fn post_methods(counts: &[u16], classes: &[u16], kept: &[u8], cache: &[u16], ties: &mut [u16], count: u16, loader: u8, p: u32, file: &[u8]) -> u16
+    requires {
+        ⌜ (methodCount (now file) ≤ 8) × (count ≤ 256) × (length (now ties) ≡ 816) × ((c : ℕ) → loaderOf (quickBase (now counts) (now classes) (now kept) (now cache)) c < 16) ⌝
+    }
+    ensures {
+        λ r. ⌜ TiesPosted (overrideTies (quickBase (now (counts .entry)) (now (classes .entry)) (now (kept .entry)) (now (cache .entry))) loader p (rows (tieAt (now (ties .entry))) count 0) (quickMethods (now (file .entry)))) (now (ties .entry)) count (now (ties .exit)) r ⌝
+    }
+{
+    let n = classfile::method_count(file);
+    let mut total = count;
+    let mut j: u8 = 0;
+    while j < n {
+        total = post_method(counts, classes, kept, cache, ties, total, loader, p, file, j);
+        j += 1;
+    }
+    total
 }
