@@ -22,7 +22,7 @@ use Rattle.layout.specs.Cells.{entry-rows, rows-after-last, cells-block}
 use Rattle.resolution.specs.Quick.{quickClass, quickBase}
 use Rattle.resolution.specs.Lookups.{superCell, cell-none, cell-some}
 use Rattle.constraints.specs.Agreement.{atMost, superIn, agreeIn}
-use Rattle.loading.specs.World.{worldIn, Loadable}
+use Rattle.loading.specs.World.{worldIn, baseWith, Searchable, Loadable}
 
 -- a table copied onto another of its length
 pub copied : (xs t : List ℕ) → length xs ≡ length t → writeRows set xs 0 t ≡ xs
@@ -147,38 +147,63 @@ supers-more ks es k p t long less e s c = go (eqb c (length ks)) refl
 
 -- A store with one more entry: the copies hold it, and the test of agreement is the definition's
 
-module _ (counts classes kept cache ties subtypes : List ℕ) (ld : Loadable counts classes kept cache ties subtypes) (room : getD counts 2 0 < 256)
+module _ (counts classes kept cache : List ℕ) (ready : Searchable counts classes kept cache) (room : getD counts 2 0 < 256)
     (l m c : ℕ) (counted trial : List ℕ) (e : counted ≡ set counts 2 (getD counts 2 0 + 1)) (q : trial ≡ putThree cache (getD counts 2 0) l m c) where
-  abbrev w : World
-  w = worldIn counts classes kept cache ties subtypes
+  abbrev b : Base
+  b = quickBase counts classes kept cache
 
   abbrev more : Base
-  more = record { classes = w .base .classes; cache = w .base .cache ++ (entry l m c ∷ []) }
+  more = record { classes = b .classes; cache = b .cache ++ (entry l m c ∷ []) }
 
   base-more : quickBase counted classes kept trial ≡ more
   base-more =
-      (λ i. quickBase (e i) classes kept (q i)) ∙ trial-base counts classes kept cache l m c (ld .countsLong) (omega (arith, ld .cacheLong))
+      (λ i. quickBase (e i) classes kept (q i)) ∙ trial-base counts classes kept cache l m c (ready .countsLong) (omega (arith, ready .cacheLong))
 
-  pub entries-are : (n : ℕ) → n ≡ getD counted 2 0 → (n ≤ 256) × (rows (entryAt trial) n 0 ≡ more .cache)
+  classes-few : length (b .classes) ≡ getD counts 0 0
+  unfolding quickBase
+  classes-few = rows-length (λ c. quickClass kept (classRowAt classes c)) (getD counts 0 0) 0
+
+  entries-are : (n : ℕ) → n ≡ getD counted 2 0 → (n ≤ 256) × (rows (entryAt trial) n 0 ≡ more .cache)
   unfolding quickBase
   entries-are n h =
-      let z : n ≡ getD counts 2 0 + 1 = h ∙ (ap (λ (x : List ℕ). getD x 2 0) e ∙ getD-set-same counts 2 (getD counts 2 0 + 1) 0 (omega (arith, ld .countsLong))) in
-      (omega arith, (λ i. rows (entryAt (q i)) (z i) 0) ∙ entries-more cache (getD counts 2 0) l m c (omega (arith, ld .cacheLong)))
+      let z : n ≡ getD counts 2 0 + 1 = h ∙ (ap (λ (x : List ℕ). getD x 2 0) e ∙ getD-set-same counts 2 (getD counts 2 0 + 1) 0 (omega (arith, ready .countsLong))) in
+      (omega arith, (λ i. rows (entryAt (q i)) (z i) 0) ∙ entries-more cache (getD counts 2 0) l m c (omega (arith, ready .cacheLong)))
 
-  pub supers-are : (zeros supers : List ℕ) → length zeros ≡ 64 → supers ≡ writeRows set (rows (superCell (quickBase counted classes kept trial)) 64 0) 0 zeros
-      → (x : ℕ) → superIn supers x ≡ superOf more x
-  unfolding quickBase
-  supers-are zeros supers long h x =
-      let z : supers ≡ rows (superCell more) 64 0 =
-      h ∙ (copied (rows (superCell (quickBase counted classes kept trial)) 64 0) zeros (rows-length (superCell (quickBase counted classes kept trial)) 64 0 ∙ sym long)
-      ∙ ap (λ (b : Base). rows (superCell b) 64 0) base-more) in
-      ap (λ (s : List ℕ). superIn s x) z ∙ supers-in more (omega (arith, ld .classesFew, rows-length (λ c. quickClass kept (classRowAt classes c)) (getD counts 0 0) 0)) x
+  module _ (zeros supers : List ℕ) (long : length zeros ≡ 64) (s : supers ≡ writeRows set (rows (superCell (quickBase counted classes kept trial)) 64 0) 0 zeros) where
+    supers-filled : supers ≡ rows (superCell more) 64 0
+    supers-filled =
+        s ∙ (copied (rows (superCell (quickBase counted classes kept trial)) 64 0) zeros (rows-length (superCell (quickBase counted classes kept trial)) 64 0 ∙ sym long)
+        ∙ ap (λ (x : Base). rows (superCell x) 64 0) base-more)
 
-  pub entry-agreed : (zeros supers : List ℕ) (n i j : ℕ) (r : Bool) → length zeros ≡ 64
-      → supers ≡ writeRows set (rows (superCell (quickBase counted classes kept trial)) 64 0) 0 zeros
-      → n ≡ getD counted 2 0 → i ≡ getD counts 3 0 → j ≡ getD counts 4 0 → r ≡ agreeIn supers trial n ties i subtypes j
-      → r ≡ agrees (withEntry w (at l m) c)
-  entry-agreed zeros supers n i j r long s en ei ej h =
-      let f = entries-are n en in
-      h ∙ agree-is (withEntry w (at l m) c) supers trial n ties i subtypes j (supers-are zeros supers long s) (f .0) (omega (arith, ld .tiesFew)) (omega (arith, ld .subtypesFew))
-      (f .1) (ap (λ (x : ℕ). rows (tieAt ties) x 0) ei) (ap (λ (x : ℕ). rows (subtypeAt subtypes) x 0) ej)
+    supers-are : (x : ℕ) → superIn supers x ≡ superOf more x
+    supers-are x = ap (λ (y : List ℕ). superIn y x) supers-filled ∙ supers-in more (omega (arith, ready .classesFew, classes-few)) x
+
+    -- record
+    pub entry-agreed : (ties subtypes : List ℕ) (n i j : ℕ) (r : Bool) → Loadable counts classes kept cache ties subtypes → n ≡ getD counted 2 0
+        → i ≡ getD counts 3 0 → j ≡ getD counts 4 0 → r ≡ agreeIn supers trial n ties i subtypes j
+        → r ≡ agrees (withEntry (worldIn counts classes kept cache ties subtypes) (at l m) c)
+    entry-agreed ties subtypes n i j r ld en ei ej h =
+        let f = entries-are n en in
+        h ∙ agree-is (withEntry (worldIn counts classes kept cache ties subtypes) (at l m) c) supers trial n ties i subtypes j supers-are (f .0) (omega (arith, ld .tiesFew))
+        (omega (arith, ld .subtypesFew)) (f .1) (ap (λ (x : ℕ). rows (tieAt ties) x 0) ei) (ap (λ (x : ℕ). rows (subtypeAt subtypes) x 0) ej)
+
+    -- define: a class k more, below p
+    pub class-agreed : (k : Class) (p o : ℕ) (above : List ℕ) (ties subtypes : List ℕ) (n i j : ℕ) (r : Bool) → getD counts 0 0 < 64
+        → l ≡ k .loader → m ≡ k .name → c ≡ getD counts 0 0 → o ≡ c → find (b .cache) (at (k .loader) (k .super)) ≡ some p → above ≡ set supers o (p + 1)
+        → i ≤ 256 → j ≤ 256 → n ≡ getD counted 2 0 → r ≡ agreeIn above trial n ties i subtypes j
+        → r ≡ agrees (record { base = baseWith b k; ties = rows (tieAt ties) i 0; subtypes = rows (subtypeAt subtypes) j 0 })
+    class-agreed k p o above ties subtypes n i j r few el em ec eo super ea hi hj en h =
+        let f = entries-are n en in
+        let z : c ≡ length (b .classes) = ec ∙ sym classes-few in
+        let row : _≡_ {A = Entry} (entry l m c) (entry (k .loader) (k .name) (length (b .classes))) = λ x. entry (el x) (em x) (z x) in
+        let es : more .cache ≡ baseWith b k .cache = ap (λ (x : Entry). b .cache ++ (x ∷ [])) row in
+        let t : above ≡ set supers (length (b .classes)) (p + 1) = ea ∙ ap (λ (x : ℕ). set supers x (p + 1)) (eo ∙ z) in
+        let less : p < length (b .classes) = omega (arith, ready .cached (at (k .loader) (k .super)) p super, classes-few) in
+        let long64 : length supers ≡ 64 = ap length supers-filled ∙ rows-length (superCell more) 64 0 in
+        let old : (x : ℕ) → superIn supers x ≡ superOf (record { classes = b .classes; cache = baseWith b k .cache }) x =
+        λ x. supers-are x ∙ ap (λ (y : List Entry). superOf (record { classes = b .classes; cache = y }) x) es in
+        h ∙ agree-is (record { base = baseWith b k; ties = rows (tieAt ties) i 0; subtypes = rows (subtypeAt subtypes) j 0 }) above trial n ties i subtypes j
+        (λ x. ap (λ (y : List ℕ). superIn y x) t
+        ∙ supers-more (b .classes) (baseWith b k .cache) k p supers (omega (arith, long64, classes-few)) less
+        (find-more (b .cache) (entry (k .loader) (k .name) (length (b .classes)) ∷ []) (at (k .loader) (k .super)) p super) old x)
+        (f .0) hi hj (f .1 ∙ es) refl refl

@@ -3,13 +3,13 @@
 use mathlib.Core.Path.{_≡_, refl, sym, ap, _∙_}
 use mathlib.Core.Bool.{Bool, true, false}
 use mathlib.Core.Option.{Option, none, some}
-use mathlib.Core.List.{List}
+use mathlib.Core.List.{List, [], _∷_, _++_}
 use Prim.Native.Nat.{ℕ, _≤_, _<_}
 use native.Mathlib.Omega.{arith}
 use lib.ListN.{length, getD}
 use Rattle.definition.specs.Lists.{rows}
-use Rattle.definition.specs.Requests.{Request}
-use Rattle.definition.specs.Classes.{Base, find, loaderOf}
+use Rattle.definition.specs.Requests.{Request, at}
+use Rattle.definition.specs.Classes.{Base, Class, find, loaderOf}
 use Rattle.definition.specs.Constraints.{World}
 use Rattle.definition.specs.Tables.{Tables, tieAt, subtypeAt, classRowsOf, worldOf, view, viewOver, viewBase}
 use Rattle.definition.specs.Broken.{broken}
@@ -27,6 +27,13 @@ worldIn counts classes kept cache ties subtypes = record {
   subtypes = rows (subtypeAt subtypes) (getD counts 4 0) 0;
 }
 
+-- one class more, cached under its own request
+abbrev pub baseWith : Base → Class → Base
+baseWith b k = record {
+  classes = b .classes ++ (k ∷ []);
+  cache = b .cache ++ (record { request = at (k .loader) (k .name); class = length (b .classes) } ∷ []);
+}
+
 abbrev pub quickWorld : Tables → World
 quickWorld t = worldIn (t .counts) (t .classes) (t .kept) (t .cache) (t .ties) (t .subtypes)
 
@@ -38,18 +45,21 @@ quick-world t h =
 
 -- What a decision asks of the tables that it reads: lengths, counts within their limits, loaders that are there, cached classes that are there
 
-pub record Loadable (counts classes kept cache ties subtypes : List ℕ) : Type 0 where
+pub record Searchable (counts classes kept cache : List ℕ) : Type 0 where
   pub countsLong : length counts ≡ 8
   pub cacheLong : length cache ≡ 768
-  pub tiesLong : length ties ≡ 768
-  pub subtypesLong : length subtypes ≡ 768
   pub classesFew : getD counts 0 0 ≤ 64
   pub keptFew : getD counts 1 0 ≤ 16384
   pub entriesFew : getD counts 2 0 ≤ 256
-  pub tiesFew : getD counts 3 0 ≤ 256
-  pub subtypesFew : getD counts 4 0 ≤ 256
   pub loaders : (c : ℕ) → loaderOf (quickBase counts classes kept cache) c < 16
   pub cached : (r : Request) (c : ℕ) → find (quickBase counts classes kept cache .cache) r ≡ some c → c < getD counts 0 0
+
+pub record Loadable (counts classes kept cache ties subtypes : List ℕ) : Type 0 where
+  pub base : Searchable counts classes kept cache
+  pub tiesLong : length ties ≡ 768
+  pub subtypesLong : length subtypes ≡ 768
+  pub tiesFew : getD counts 3 0 ≤ 256
+  pub subtypesFew : getD counts 4 0 ≤ 256
 
 module _ (t : Tables) (h : broken t ≡ false) where
   loader-few : (c : ℕ) → loaderOf (viewBase t) c < 16
@@ -66,15 +76,17 @@ module _ (t : Tables) (h : broken t ≡ false) where
   loadable =
       let u = unbroken t h in
       record {
-        countsLong = u .lengths .counts;
-        cacheLong = u .lengths .cache;
+        base = record {
+          countsLong = u .lengths .counts;
+          cacheLong = u .lengths .cache;
+          classesFew = u .counts .classes;
+          keptFew = u .counts .kept;
+          entriesFew = u .counts .cache;
+          loaders = λ c. rw (quick-base t h) (loader-few c);
+          cached = λ q c e. class-cached q c (rw (quick-base t h) at e);
+        };
         tiesLong = u .lengths .ties;
         subtypesLong = u .lengths .subtypes;
-        classesFew = u .counts .classes;
-        keptFew = u .counts .kept;
-        entriesFew = u .counts .cache;
         tiesFew = u .counts .ties;
         subtypesFew = u .counts .subtypes;
-        loaders = λ c. rw (quick-base t h) (loader-few c);
-        cached = λ q c e. class-cached q c (rw (quick-base t h) at e);
       }

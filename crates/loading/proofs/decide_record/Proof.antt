@@ -32,7 +32,7 @@ cast-decide-entry : tie.Need-cast-decide-entry
 cast-decide-entry c = omega (arith, c .before .before .before .before .before .before .if1 .left)
 
 cast-decide-entry-2 : tie.Need-cast-decide-entry-2
-cast-decide-entry-2 c = let h : c .before .before .before .before .before .before .before .before .before .before .before .before .before .args .class < getD (now (c .before .before .before .before .before .before .before .before .before .before .before .before .before .args .counts)) 0 0 = ltb-true _ _ (sym (c .before .before .before .before .is-class .ensures) ∙ not-false _ (c .before .before .before .if3 .left)) in omega (arith, c .before .before .before .before .before .before .before .before .before .before .before .before .before .pre .classesFew)
+cast-decide-entry-2 c = let h : c .before .before .before .before .before .before .before .before .before .before .before .before .before .args .class < getD (now (c .before .before .before .before .before .before .before .before .before .before .before .before .before .args .counts)) 0 0 = ltb-true _ _ (sym (c .before .before .before .before .is-class .ensures) ∙ not-false _ (c .before .before .before .if3 .left)) in omega (arith, c .before .before .before .before .before .before .before .before .before .before .before .before .before .pre .base .classesFew)
 
 returns-5 : tie.Need-returns-5
 returns-5 c = c .decide-entry .ensures ∙ named _ _ _ _ (c .before .before .before .before .before .before .before .if1 .left) (c .before .before .before .before .before .before .if2 .left) _ (class-there (now (c .before .before .before .before .before .before .before .before .before .before .before .before .before .before .args .counts)) (now (c .before .before .before .before .before .before .before .before .before .before .before .before .before .before .args .classes)) (now (c .before .before .before .before .before .before .before .before .before .before .before .before .before .before .args .kept)) (now (c .before .before .before .before .before .before .before .before .before .before .before .before .before .before .args .cache)) _ (ltb-true _ _ (sym (c .before .before .before .before .before .is-class .ensures) ∙ not-false _ (c .before .before .before .before .if3 .left)))) _ (sym (c .before .before .before .name-of .ensures ∙ name-is _ _ _ _ (ltb-true _ _ (sym (c .before .before .before .before .before .is-class .ensures) ∙ not-false _ (c .before .before .before .before .if3 .left))))) (sym (c .before .before .from16 .ensures .0) ∙ c .before .if4 .left)
