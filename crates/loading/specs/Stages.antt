@@ -3,13 +3,13 @@ use mathlib.Core.Path.{_≡_, refl}
 use mathlib.Core.Bool.{Bool, true, false, not, _&&_}
 use mathlib.Core.Option.{Option, none, some}
 use mathlib.Core.List.{List, [], _∷_, _++_}
-use Prim.Native.Nat.{ℕ, _+_}
-use lib.ListN.{length, getElem?, getD, set}
+use Prim.Native.Nat.{ℕ, _+_, _≤_}
+use lib.ListN.{length, getElem?, getD, set, take}
 use lib.Dec.{eqb, leb, ltb}
 use Rattle.definition.specs.declared.Reply.{Reply}
 use Rattle.definition.specs.declared.Reply.the-variants.{Accepted, Denied}
-use Rattle.definition.specs.Tables.{putThree}
-use Rattle.definition.specs.Lists.{every, any, isNone}
+use Rattle.definition.specs.Tables.{putThree, putTie, putSubtype}
+use Rattle.definition.specs.Lists.{every, any, isNone, writeRows}
 use Rattle.definition.specs.Requests.{at}
 use Rattle.definition.specs.Classes.{Base, Class, find, slots}
 use Rattle.definition.specs.Constraints.{World, Tie, Subtype, agrees}
@@ -18,7 +18,9 @@ use Rattle.definition.specs.declared.Refusal.{Refusal}
 use Rattle.definition.specs.declared.Refusal.the-variants.{Word}
 use Rattle.definition.specs.Answers.{wanted, Result, refused, ok, _>>=_, need, take?}
 use Rattle.definition.specs.Loading.{hides, overrideTies, newSubtypes, withClass, withEntry, define, recorded}
+use Rattle.classfile.specs.Reading.{fieldCount}
 use Rattle.loading.specs.declared.Above.{Above}
+use Rattle.loading.specs.declared.Defining.{Defining}
 use Rattle.loading.specs.declared.Recording.{Recording}
 use Rattle.loading.specs.declared.Recording.the-variants.{Refuse, Keep, Add}
 
@@ -77,6 +79,23 @@ postedFor room k w ns p =
     ∷ [])) (Word 10) >>= λ _.
     need (agrees (withClass w k us ss)) (Word 9) >>= λ _. ok (withClass w k us ss))
 
+-- room for the file's bytes, the class, its entry, so many ties in all, and the fields of its objects, by the counts n
+unfoldable pub roomFor : Base → List ℕ → List ℕ → ℕ → ℕ → Bool
+roomFor b n bs p tied = every
+    (leb (getD n 1 0 + length bs) 16384
+    ∷ ltb (getD n 0 0) 64
+    ∷ ltb (getD n 2 0) 256
+    ∷ leb tied 256
+    ∷ leb (length (slots b p) + fieldCount bs) 16
+    ∷ [])
+
+-- the constraints of a class below p that are new
+abbrev pub newTies : Class → World → ℕ → List Tie
+newTies k w p = overrideTies (w .base) (k .loader) p (w .ties) (k .methods)
+
+abbrev pub newNotes : Class → World → List Note → List Subtype
+newNotes k w ns = newSubtypes (w .subtypes) (k .loader) ns
+
 pub define-stages : (room : Bool) (k : Class) (w : World)
     → define room k w ≡ (take? (notesOf k (k .methods)) (Word 6) >>= λ ns. superFor k (w .base) >>= λ p. postedFor room k w ns p)
 unfolding define superFor postedFor _>>=_ need take?
@@ -96,3 +115,20 @@ define-stages room k w = go (notesOf k (k .methods)) (isNone (find (w .base .cac
         after : (b : Bool) → (need b (Word 8) >>= λ _. postedFor room k w ns p) ≡ ((need b (Word 8) >>= λ _. ok p) >>= λ p. postedFor room k w ns p)
         after true = refl
         after false = refl
+
+-- What a decision of define means, of tables n, t and s, where u and v hold its constraints: the whole is refused, or it is the store with the class
+-- and with the new ties and subtype constraints, so many in all
+
+pub record Adding (o : Result World) (w : World) (k : Class) (n t s u v : List ℕ) (i j : ℕ) : Type 0 where
+  pub ties : List Tie
+  pub subtypes : List Subtype
+  pub whole : ok (withClass w k ties subtypes) ≡ o
+  pub tied : i ≡ getD n 3 0 + length ties
+  pub noted : j ≡ getD n 4 0 + length subtypes
+  pub few : (i ≤ 256) × (j ≤ 256)
+  pub tieCells : take 768 u ≡ writeRows putTie ties (getD n 3 0) t
+  pub subtypeCells : v ≡ writeRows putSubtype subtypes (getD n 4 0) s
+
+abbrev pub Decided : Defining → Result World → List ℕ → List ℕ → List ℕ → List ℕ → List ℕ → World → Class → Type 0
+Decided (Defining.Refuse r) o n t s u v w k = refused r ≡ o
+Decided (Defining.Add i j) o n t s u v w k = Adding o w k n t s u v i j

@@ -10,7 +10,7 @@ use lib.ListN.{length, getD}
 use Rattle.definition.specs.Lists.{rows}
 use Rattle.definition.specs.Requests.{Request, at}
 use Rattle.definition.specs.Classes.{Base, Class, find, loaderOf}
-use Rattle.definition.specs.Constraints.{World}
+use Rattle.definition.specs.Constraints.{Tie, Subtype, World}
 use Rattle.definition.specs.Tables.{Tables, tieAt, subtypeAt, classRowsOf, worldOf, view, viewOver, viewBase}
 use Rattle.definition.specs.Broken.{broken}
 use Rattle.layout.specs.View.{class-count}
@@ -26,6 +26,9 @@ worldIn counts classes kept cache ties subtypes = record {
   ties = rows (tieAt ties) (getD counts 3 0) 0;
   subtypes = rows (subtypeAt subtypes) (getD counts 4 0) 0;
 }
+
+abbrev pub world : Base → List Tie → List Subtype → World
+world b ts ss = record { base = b; ties = ts; subtypes = ss }
 
 -- one class more, cached under its own request
 abbrev pub baseWith : Base → Class → Base
