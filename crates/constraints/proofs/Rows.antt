@@ -1,13 +1,13 @@
--- What stands in rows, and tests of each place of a table: that a loop over the places decides them.
-use mathlib.Core.Path.{_≡_, refl, sym, ap, _∙_}
+-- What stands in rows, and tests of rows.
+use mathlib.Core.Path.{_≡_, refl, sym, ap}
 use mathlib.Core.Bool.{Bool, true, false}
-use mathlib.Core.List.{List, [], _∷_, List·Memᴰ, List·Memᴰ·head, List·Memᴰ·tail, List·Memᴰ·not-nil}
+use mathlib.Core.List.{_∷_, List·Memᴰ, List·Memᴰ·head, List·Memᴰ·tail, List·Memᴰ·not-nil}
 use mathlib.Core.Logic.{_⊎_, inl, inr}
 use Prim.Native.Nat.{ℕ, zero, suc, _+_, _-_, _<_, _≤_}
 use native.Mathlib.Nat.{eq-or-lt-of-le}
 use native.Mathlib.Omega.{arith}
 use Rattle.definition.specs.Lists.{rows, all, any}
-use Rattle.constraints.specs.Nodes.{allPlaces}
+use Rattle.layout.specs.Places.{rows-start}
 
 -- a place of the rows
 pub record Place {A : Type 0} (g : ℕ → A) (k i : ℕ) (x : A) : Type 0 where
@@ -33,54 +33,23 @@ module _ {A : Type 0} (g : ℕ → A) where
   rows-in (suc k) i x (List·Memᴰ·tail m) =
       let r = rows-in k (suc i) x m in record { number = r .number; low = omega arith; high = omega arith; is = r .is }
 
--- a test of each row is a test of each place
-pub all-places : {A : Type 0} (f : A → Bool) (g : ℕ → A) (p : ℕ → Bool) (k i : ℕ) → ((j : ℕ) → i ≤ j → j < i + k → f (g j) ≡ p j)
-  → all f (rows g k i) ≡ allPlaces p k i
-unfolding rows all allPlaces
-all-places f g p zero i h = refl
-all-places f g p (suc k) i h = rw (h i (omega arith) (omega arith)) (go (p i) (all-places f g p k (suc i) (λ j l m. h j (omega arith) (omega arith))))
+-- a test of each row may be made of another list of rows, place by place
+pub all-same : {A B : Type 0} (f : A → Bool) (g : ℕ → A) (p : B → Bool) (h : ℕ → B) (k i : ℕ) → ((j : ℕ) → i ≤ j → j < i + k → f (g j) ≡ p (h j))
+    → all f (rows g k i) ≡ all p (rows h k i)
+unfolding rows all
+all-same f g p h zero i e = refl
+all-same f g p h (suc k) i e = rw (e i (omega arith) (omega arith))
+    (go (p (h i)) (all-same f g p h k (suc i) (λ j l m. e j (omega arith) (omega arith))))
   where
-    go : (t : Bool) → all f (rows g k (suc i)) ≡ allPlaces p k (suc i)
-      → _≡_ {A = Bool} (elim t as (λ _. Bool) [ true ↦ all f (rows g k (suc i)) | false ↦ false ]) (elim t as (λ _. Bool) [ true ↦ allPlaces p k (suc i) | false ↦ false ])
+    go : (t : Bool) → all f (rows g k (suc i)) ≡ all p (rows h k (suc i))
+        → _≡_ {A = Bool} (elim t as (λ _. Bool) [ true ↦ all f (rows g k (suc i)) | false ↦ false ])
+        (elim t as (λ _. Bool) [ true ↦ all p (rows h k (suc i)) | false ↦ false ])
     go true r = r
     go false r = refl
 
--- a loop over n places, at place i
-module _ (p : ℕ → Bool) (n i : ℕ) where
-  pub places-yes : i < n → p i ≡ true → allPlaces p (n - i) i ≡ allPlaces p (n - (i + 1)) (i + 1)
-  unfolding allPlaces
-  places-yes h e =
-      let one : n - i ≡ suc (n - (i + 1)) = omega arith in
-      let next : suc i ≡ i + 1 = omega arith in
-      rw (one, e, allPlaces) (rw next)
-
-  pub places-no : i < n → p i ≡ false → allPlaces p (n - i) i ≡ false
-  unfolding allPlaces
-  places-no h e = let one : n - i ≡ suc (n - (i + 1)) = omega arith in rw (one, e, allPlaces)
-
-  pub places-end : n ≤ i → allPlaces p (n - i) i ≡ true
-  unfolding allPlaces
-  places-end h = let none : n - i ≡ 0 = omega arith in rw none
-
-pub places-start : (p : ℕ → Bool) (n : ℕ) → allPlaces p (n - 0) 0 ≡ allPlaces p n 0
-places-start p n = let e : n - 0 ≡ n = omega arith in rw e
-
--- a search of n rows, at row i
-module _ {A : Type 0} (f : A → Bool) (g : ℕ → A) (n i : ℕ) where
-  pub any-yes : i < n → f (g i) ≡ true → any f (rows g (n - i) i) ≡ true
-  unfolding rows any
-  any-yes h e = let one : n - i ≡ suc (n - (i + 1)) = omega arith in rw (one, e, any)
-
-  pub any-no : i < n → f (g i) ≡ false → any f (rows g (n - i) i) ≡ any f (rows g (n - (i + 1)) (i + 1))
-  unfolding rows any
-  any-no h e =
-      let one : n - i ≡ suc (n - (i + 1)) = omega arith in
-      let next : suc i ≡ i + 1 = omega arith in
-      rw (one, e, any) (rw next)
-
-  pub any-end : n ≤ i → any f (rows g (n - i) i) ≡ false
-  unfolding rows any
-  any-end h = let none : n - i ≡ 0 = omega arith in rw none
+-- a test and a search of n rows begin
+pub all-start : {A : Type 0} (f : A → Bool) (g : ℕ → A) (n : ℕ) → all f (rows g (n - 0) 0) ≡ all f (rows g n 0)
+all-start f g n = rw (rows-start g n)
 
 pub any-start : {A : Type 0} (f : A → Bool) (g : ℕ → A) (n m : ℕ) → n ≡ m → any f (rows g (n - 0) 0) ≡ any f (rows g m 0)
 any-start f g n m e = let z : n - 0 ≡ m = omega arith in rw z

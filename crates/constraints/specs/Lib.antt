@@ -3,3 +3,4 @@ pub mod Agreement
 pub mod Nodes
 pub mod Search
 pub mod Posting
+pub mod Laws

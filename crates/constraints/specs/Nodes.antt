@@ -1,13 +1,13 @@
--- A store's requests as nodes. A table of nodes has first those of the cached requests, `rows` of them, then the nodes at which the links
+-- A store's requests as nodes. A table of nodes has first those of the cached requests, `cached` of them, then the nodes at which the links
 -- start, then the nodes at which they end; a link is a tie one way or a subtype constraint upward.
 use mathlib.Core.Path.{_≡_}
 use mathlib.Core.Bool.{Bool, true, false}
 use mathlib.Core.Option.{Option}
 use mathlib.Core.List.{List}
-use Prim.Native.Nat.{ℕ, zero, suc, _+_, _*_, _-_, _<_, _≤_, _/_, _%_}
+use Prim.Native.Nat.{ℕ, _+_, _*_, _-_, _<_, _≤_, _/_, _%_}
 use lib.ListN.{getD}
 use lib.Dec.{eqb}
-use Rattle.definition.specs.Lists.{rows}
+use Rattle.definition.specs.Lists.{rows, all}
 use Rattle.definition.specs.Requests.{Request, at, Edge, leads}
 use Rattle.definition.specs.Superclasses.{below}
 
@@ -40,14 +40,14 @@ pub record EndsNumbered (ties : List ℕ) (tied : ℕ) (subtypes : List ℕ) (no
   pub kept : Kept old new from
 
 -- all places: the cached requests, where links start, where they end
-pub record AllNumbered (cache : List ℕ) (rows : ℕ) (ties : List ℕ) (tied : ℕ) (subtypes : List ℕ) (noted : ℕ) (numbers : List ℕ) : Type 0 where
-  pub cachePut : Numbers cache 0 1 rows numbers 0
-  pub lowPut : Numbers subtypes 0 1 noted numbers rows
-  pub onePut : Numbers ties 0 2 tied numbers (rows + noted)
-  pub twoPut : Numbers ties 1 2 tied numbers (rows + noted + tied)
-  pub highPut : Numbers subtypes 0 2 noted numbers (rows + (noted + tied + tied))
-  pub twoAgain : Numbers ties 1 2 tied numbers (rows + (noted + tied + tied) + noted)
-  pub oneAgain : Numbers ties 0 2 tied numbers (rows + (noted + tied + tied) + noted + tied)
+pub record AllNumbered (cache : List ℕ) (cached : ℕ) (ties : List ℕ) (tied : ℕ) (subtypes : List ℕ) (noted : ℕ) (numbers : List ℕ) : Type 0 where
+  pub cachePut : Numbers cache 0 1 cached numbers 0
+  pub lowPut : Numbers subtypes 0 1 noted numbers cached
+  pub onePut : Numbers ties 0 2 tied numbers (cached + noted)
+  pub twoPut : Numbers ties 1 2 tied numbers (cached + noted + tied)
+  pub highPut : Numbers subtypes 0 2 noted numbers (cached + (noted + tied + tied))
+  pub twoAgain : Numbers ties 1 2 tied numbers (cached + (noted + tied + tied) + noted)
+  pub oneAgain : Numbers ties 0 2 tied numbers (cached + (noted + tied + tied) + noted + tied)
 
 -- Nodes
 
@@ -68,13 +68,13 @@ ClassesOf cache nodes n classes = (p : ℕ) → p < n → getD classes p 0 ≡ g
 -- Links
 
 unfoldable pub startOf : List ℕ → ℕ → ℕ → ℕ
-startOf nodes rows e = getD nodes (rows + e) 0
+startOf nodes cached e = getD nodes (cached + e) 0
 
 unfoldable pub endOf : List ℕ → ℕ → ℕ → ℕ → ℕ
-endOf nodes rows links e = getD nodes (rows + links + e) 0
+endOf nodes cached links e = getD nodes (cached + links + e) 0
 
 unfoldable pub linkOf : List ℕ → ℕ → ℕ → ℕ → Edge
-linkOf nodes rows links e = record { from = at 0 (startOf nodes rows e); to = at 0 (endOf nodes rows links e) }
+linkOf nodes cached links e = record { from = at 0 (startOf nodes cached e); to = at 0 (endOf nodes cached links e) }
 
 -- the links from number `base` on
 unfoldable pub linksFrom : List ℕ → ℕ → ℕ → ℕ → List Edge
@@ -82,7 +82,7 @@ linksFrom nodes n links base = rows (linkOf nodes n links) (links - base) base
 
 -- a chain of links, from number `base` on, goes from node a to node b
 unfoldable pub leadsFrom : List ℕ → ℕ → ℕ → ℕ → ℕ → ℕ → Bool
-leadsFrom nodes rows links base a b = leads (linksFrom nodes rows links base) (at 0 a) (at 0 b)
+leadsFrom nodes cached links base a b = leads (linksFrom nodes cached links base) (at 0 a) (at 0 b)
 
 -- Agreement
 
@@ -90,17 +90,18 @@ leadsFrom nodes rows links base a b = leads (linksFrom nodes rows links base) (a
 unfoldable pub pairIs : (ℕ → Option ℕ) → Bool → Bool → ℕ → ℕ → Bool
 pairIs sup tied led c d = elim tied [ true ↦ eqb c d | false ↦ elim led [ true ↦ below sup c d | false ↦ true ] ]
 
+-- the pair of places a and b, by marks of what a is tied to and of what it leads to
+unfoldable pub pairMarked : (ℕ → Option ℕ) → List ℕ → List ℕ → List ℕ → List ℕ → ℕ → ℕ → Bool
+pairMarked sup nodes classes tied led a b =
+    pairIs sup (eqb (getD tied (getD nodes b 0) 0) 1) (eqb (getD led (getD nodes b 0) 0) 1) (getD classes a 0) (getD classes b 0)
+
 -- the pair of places a and b
 unfoldable pub pairOn : (ℕ → Option ℕ) → List ℕ → List ℕ → ℕ → ℕ → ℕ → ℕ → ℕ → Bool
-pairOn sup nodes classes rows links noted a b =
-    pairIs sup (leadsFrom nodes rows links noted (getD nodes a 0) (getD nodes b 0)) (leadsFrom nodes rows links 0 (getD nodes a 0) (getD nodes b 0))
+pairOn sup nodes classes cached links noted a b =
+    pairIs sup (leadsFrom nodes cached links noted (getD nodes a 0) (getD nodes b 0))
+    (leadsFrom nodes cached links 0 (getD nodes a 0) (getD nodes b 0))
     (getD classes a 0) (getD classes b 0)
-
--- each of k places from place i on passes
-unfoldable pub allPlaces : (ℕ → Bool) → ℕ → ℕ → Bool
-allPlaces p zero i = true
-allPlaces p (suc k) i = elim (p i) [ true ↦ allPlaces p k (suc i) | false ↦ false ]
 
 -- all pairs of cached requests; the links from `noted` on are ties
 unfoldable pub agreeOn : (ℕ → Option ℕ) → List ℕ → List ℕ → ℕ → ℕ → ℕ → Bool
-agreeOn sup nodes classes rows links noted = allPlaces (λ a. allPlaces (pairOn sup nodes classes rows links noted a) rows 0) rows 0
+agreeOn sup nodes classes n links noted = all (λ a. all (pairOn sup nodes classes n links noted a) (rows (λ i. i) n 0)) (rows (λ i. i) n 0)

@@ -1,31 +1,31 @@
 -- The search from a node: links joined into lists by the node at which they start, marks, and a queue of the marked nodes.
 use mathlib.Core.Path.{_≡_}
-use mathlib.Core.Bool.{Bool, true, false}
+use mathlib.Core.Bool.{true, false}
 use mathlib.Core.List.{List, [], _∷_}
 use mathlib.Core.Logic.{_⊎_}
-use Prim.Native.Nat.{ℕ, suc, _+_, _-_, _<_, _≤_}
+use Prim.Native.Nat.{ℕ, suc, _+_, _<_, _≤_}
 use lib.ListN.{length, getD}
 use lib.Dec.{eqb}
 use Rattle.constraints.specs.Nodes.{startOf, endOf, leadsFrom}
 
 -- f is one more than the last of the first n links that starts at x, or 0
-pub record Last (nodes : List ℕ) (rows x n f : ℕ) : Type 0 where
+pub record Last (nodes : List ℕ) (cached x n f : ℕ) : Type 0 where
   pub high : f ≤ n
-  pub here : (e : ℕ) → f ≡ suc e → startOf nodes rows e ≡ x
-  pub none : (e : ℕ) → f ≤ e → e < n → startOf nodes rows e ≡ x → ⊥
+  pub here : (e : ℕ) → f ≡ suc e → startOf nodes cached e ≡ x
+  pub none : (e : ℕ) → f ≤ e → e < n → startOf nodes cached e ≡ x → ⊥
 
 -- the first n links are joined: `heads` has for each node its last link, `nexts` for each link the last before it with the same start
-pub record Joined (nodes : List ℕ) (rows n : ℕ) (heads nexts : List ℕ) : Type 0 where
+pub record Joined (nodes : List ℕ) (cached n : ℕ) (heads nexts : List ℕ) : Type 0 where
   pub headsLong : length heads ≡ 1792
   pub nextsLong : length nexts ≡ 768
-  pub head : (x : ℕ) → x < 1792 → Last nodes rows x n (getD heads x 0)
-  pub next : (e : ℕ) → e < n → Last nodes rows (startOf nodes rows e) e (getD nexts e 0)
+  pub head : (x : ℕ) → x < 1792 → Last nodes cached x n (getD heads x 0)
+  pub next : (e : ℕ) → e < n → Last nodes cached (startOf nodes cached e) e (getD nexts e 0)
 
 -- there is room for all places, and each has a node
-pub record Small (nodes : List ℕ) (rows links : ℕ) : Type 0 where
-  pub rowsFit : rows ≤ 256
+pub record Small (nodes : List ℕ) (cached links : ℕ) : Type 0 where
+  pub cachedFit : cached ≤ 256
   pub linksFit : links ≤ 768
-  pub node : (p : ℕ) → p < rows + links + links → getD nodes p 0 < 1792
+  pub node : (p : ℕ) → p < cached + links + links → getD nodes p 0 < 1792
 
 -- how many are marked
 unfoldable pub marked : List ℕ → ℕ
@@ -57,20 +57,20 @@ pub record Visited (x : ℕ) (marks queue : List ℕ) (tail : ℕ) (marks′ que
   pub only : (y : ℕ) → Marked marks′ y → Marked marks y ⊎ (y ≡ x)
 
 -- the links that start at x, from number `base` on
-pub record Link (nodes : List ℕ) (rows links base x y : ℕ) : Type 0 where
+pub record Link (nodes : List ℕ) (cached links base x y : ℕ) : Type 0 where
   pub number : ℕ
   pub low : base ≤ number
   pub high : number < links
-  pub start : startOf nodes rows number ≡ x
-  pub end : endOf nodes rows links number ≡ y
+  pub start : startOf nodes cached number ≡ x
+  pub end : endOf nodes cached links number ≡ y
 
 -- the ends of a node's links, from number `base` on, were visited
-pub record Expanded (nodes : List ℕ) (rows links base x : ℕ) (marks queue : List ℕ) (tail : ℕ) (marks′ queue′ : List ℕ) (tail′ : ℕ) : Type 0 where
+pub record Expanded (nodes : List ℕ) (cached links base x : ℕ) (marks queue : List ℕ) (tail : ℕ) (marks′ queue′ : List ℕ) (tail′ : ℕ) : Type 0 where
   pub queued : Queued marks′ queue′ tail′
   pub grown : Grown marks queue tail marks′ queue′ tail′
-  pub all : (y : ℕ) → Link nodes rows links base x y → Marked marks′ y
-  pub only : (y : ℕ) → Marked marks′ y → Marked marks y ⊎ Link nodes rows links base x y
+  pub all : (y : ℕ) → Link nodes cached links base x y → Marked marks′ y
+  pub only : (y : ℕ) → Marked marks′ y → Marked marks y ⊎ Link nodes cached links base x y
 
 -- the marks are those of the nodes that a leads to
 abbrev pub Searched : List ℕ → ℕ → ℕ → ℕ → ℕ → List ℕ → Type 0
-Searched nodes rows links base a marks = (b : ℕ) → eqb (getD marks b 0) 1 ≡ leadsFrom nodes rows links base a b
+Searched nodes cached links base a marks = (b : ℕ) → eqb (getD marks b 0) 1 ≡ leadsFrom nodes cached links base a b
