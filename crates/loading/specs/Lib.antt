@@ -2,3 +2,4 @@
 pub mod World
 pub mod Stages
 pub mod Posting
+pub mod Writing

@@ -17,6 +17,7 @@ use Rattle.definition.specs.Verifier.{Note, notesOf}
 use Rattle.definition.specs.declared.Refusal.{Refusal}
 use Rattle.definition.specs.declared.Refusal.the-variants.{Word}
 use Rattle.definition.specs.Answers.{wanted, Result, refused, ok, _>>=_, need, take?}
+use Rattle.definition.specs.File.{readFile, classOf}
 use Rattle.definition.specs.Loading.{hides, overrideTies, newSubtypes, withClass, withEntry, define, recorded}
 use Rattle.classfile.specs.Reading.{fieldCount}
 use Rattle.loading.specs.declared.Above.{Above}
@@ -116,10 +117,19 @@ define-stages room k w = go (notesOf k (k .methods)) (isNone (find (w .base .cac
         after true = refl
         after false = refl
 
+-- the superclass, then the constraints
+unfoldable pub placedFor : Bool → Class → World → List Note → Result World
+placedFor room k w ns = superFor k (w .base) >>= λ p. postedFor room k w ns p
+
+-- define as a whole, of the bytes of a file
+unfoldable pub definedFrom : ℕ → List ℕ → Bool → World → Result World
+definedFrom l bs room w = need (ltb l 16) (Word 3) >>= λ _. take? (readFile bs) (Word 2) >>= λ f. define room (classOf l f) w
+
 -- What a decision of define means, of tables n, t and s, where u and v hold its constraints: the whole is refused, or it is the store with the class
 -- and with the new ties and subtype constraints, so many in all
 
-pub record Adding (o : Result World) (w : World) (k : Class) (n t s u v : List ℕ) (i j : ℕ) : Type 0 where
+pub record Adding (o : Result World) (w : World) (k : Class) (n t s u v : List ℕ) (l i j : ℕ) : Type 0 where
+  pub loader : l ≡ k .loader
   pub ties : List Tie
   pub subtypes : List Subtype
   pub whole : ok (withClass w k ties subtypes) ≡ o
@@ -129,6 +139,6 @@ pub record Adding (o : Result World) (w : World) (k : Class) (n t s u v : List �
   pub tieCells : take 768 u ≡ writeRows putTie ties (getD n 3 0) t
   pub subtypeCells : v ≡ writeRows putSubtype subtypes (getD n 4 0) s
 
-abbrev pub Decided : Defining → Result World → List ℕ → List ℕ → List ℕ → List ℕ → List ℕ → World → Class → Type 0
+unfoldable pub Decided : Defining → Result World → List ℕ → List ℕ → List ℕ → List ℕ → List ℕ → World → Class → Type 0
 Decided (Defining.Refuse r) o n t s u v w k = refused r ≡ o
-Decided (Defining.Add i j) o n t s u v w k = Adding o w k n t s u v i j
+Decided (Defining.Add l i j) o n t s u v w k = Adding o w k n t s u v l i j

@@ -19,12 +19,14 @@ ghost use Rattle.resolution.specs.Quick.{quickBase};
 ghost use Rattle.constraints.specs.Posting.{noteAt};
 ghost use Rattle.loading.specs.World.{worldIn, world, baseWith, Searchable, Loadable};
 ghost use Rattle.loading.specs.Posting.{TiesPosted, methodLike};
-ghost use Rattle.loading.specs.Stages.{entered, recordedBy, entryDone, entryWritten, aboveOf, superFor, roomFor, postedFor, Decided};
+ghost use Rattle.loading.specs.Stages.{entered, recordedBy, entryDone, entryWritten, aboveOf, superFor, roomFor, postedFor, placedFor, definedFrom, Decided};
+ghost use Rattle.loading.specs.Writing.{putCounts, loadTables, classWritten};
 use classfile::MethodFound;
 use constraints::Added;
 use definition::Refusal;
 use definition::Reply;
 use resolution::Found;
+use verifier::Verified;
 
 // Cells.
 
@@ -391,10 +393,10 @@ fn class_agrees(counts: &[u16], classes: &[u16], kept: &[u8], cache: &[u16], loa
     constraints::agree(&supers, &trial, cells::at16(&counted, 2), ties, tied, subtypes, noted)
 }
 
-// What is decided of a class: it is refused, or it is to be added with so many ties and subtype constraints in all.
+// What is decided of a class: it is refused, or it is to be added with this loader and so many ties and subtype constraints in all.
 pub enum Defining {
     Refuse(Refusal),
-    Add(u16, u16),
+    Add(u8, u16, u16),
 }
 
 // The constraints of the file's class, below p, posted to copies: limits, then agreement.
@@ -419,5 +421,86 @@ fn decide_constraints(counts: &[u16], classes: &[u16], kept: &[u8], cache: &[u16
     if !class_agrees(counts, classes, kept, cache, loader, file, p, new_ties, tied, new_subtypes, noted) {
         return Defining::Refuse(Refusal::Word(9));
     }
-    Defining::Add(tied, noted)
+    Defining::Add(loader, tied, noted)
+}
+
+// The superclass, then the constraints, of a file that was read and verified.
+fn decide_class(counts: &[u16], classes: &[u16], kept: &[u8], cache: &[u16], ties: &[u16], subtypes: &[u16], loader: u8, file: &[u8], notes: &[u16], note_count: u16, new_ties: &mut [u16], new_subtypes: &mut [u16]) -> Defining
+    requires {
+        ⌜ Loadable (now counts) (now classes) (now kept) (now cache) (now ties) (now subtypes) × (length (now file) ≤ 4096) × (methodCount (now file) ≤ 8) × (length (now «new_ties») ≡ 816) × (length (now «new_subtypes») ≡ 768) ⌝
+    }
+    ensures {
+        λ r. ⌜ Decided r (placedFor (leb (getD (now (counts .entry)) 1 0 + length (now (file .entry))) 16384) (classOf loader (quickFile (now (file .entry)))) (worldIn (now (counts .entry)) (now (classes .entry)) (now (kept .entry)) (now (cache .entry)) (now (ties .entry)) (now (subtypes .entry))) (rows (noteAt (now (notes .entry))) «note_count» 0)) (now (counts .entry)) (now (ties .entry)) (now (subtypes .entry)) (now («new_ties» .exit)) (now («new_subtypes» .exit)) (worldIn (now (counts .entry)) (now (classes .entry)) (now (kept .entry)) (now (cache .entry)) (now (ties .entry)) (now (subtypes .entry))) (classOf loader (quickFile (now (file .entry)))) ⌝
+    }
+{
+    let above = find_super(counts, classes, kept, cache, loader, file);
+    match above {
+        Above::Refuse(r) => Defining::Refuse(r),
+        Above::Class(p) => decide_constraints(counts, classes, kept, cache, ties, subtypes, loader, file, p, notes, note_count, new_ties, new_subtypes),
+    }
+}
+
+// The decision, on tables that are only read, and on copies of the tables of constraints.
+fn decide_define(counts: &[u16], classes: &[u16], kept: &[u8], cache: &[u16], ties: &[u16], subtypes: &[u16], loader: u32, file: &[u8], new_ties: &mut [u16], new_subtypes: &mut [u16]) -> Defining
+    requires {
+        ⌜ Loadable (now counts) (now classes) (now kept) (now cache) (now ties) (now subtypes) × (length (now «new_ties») ≡ 816) × (length (now «new_subtypes») ≡ 768) ⌝
+    }
+    ensures { λ r. ⌜ Decided r (definedFrom loader (now (file .entry)) (leb (getD (now (counts .entry)) 1 0 + length (now (file .entry))) 16384) (worldIn (now (counts .entry)) (now (classes .entry)) (now (kept .entry)) (now (cache .entry)) (now (ties .entry)) (now (subtypes .entry)))) (now (counts .entry)) (now (ties .entry)) (now (subtypes .entry)) (now («new_ties» .exit)) (now («new_subtypes» .exit)) (worldIn (now (counts .entry)) (now (classes .entry)) (now (kept .entry)) (now (cache .entry)) (now (ties .entry)) (now (subtypes .entry))) (classOf loader (quickFile (now (file .entry)))) ⌝ }
+{
+    if 16 <= loader {
+        return Defining::Refuse(Refusal::Word(3));
+    }
+    if !classfile::reads(file) {
+        return Defining::Refuse(Refusal::Word(2));
+    }
+    let mut notes = [0u16; 8192];
+    let Verified::Notes(n) = verifier::verify_class(file, &mut notes) else {
+        return Defining::Refuse(Refusal::Word(6));
+    };
+    decide_class(counts, classes, kept, cache, ties, subtypes, loader as u8, file, &notes, n as u16, new_ties, new_subtypes)
+}
+
+// Bytes written one after another from a place on; past the end nothing is written.
+fn write_bytes(t: &mut [u8], from: u16, bytes: &[u8])
+    ensures { λ _. ⌜ now (t .exit) ≡ writeRows set (now (bytes .entry)) from (now (t .entry)) ⌝ }
+{
+    let start = cells::wide16(from);
+    let mut i = 0;
+    while i < bytes.len() {
+        cells::put8(t, start + i, bytes[i]);
+        i += 1;
+    }
+}
+
+// The counts of classes, kept bytes, entries, ties and subtype constraints.
+fn put_counts(counts: &mut [u16], classes: u16, kept: u16, entries: u16, ties: u16, subtypes: u16)
+    ensures { λ _. ⌜ now (counts .exit) ≡ putCounts (now (counts .entry)) classes kept entries ties subtypes ⌝ }
+{
+    cells::put16(counts, 0, classes);
+    cells::put16(counts, 1, kept);
+    cells::put16(counts, 2, entries);
+    cells::put16(counts, 3, ties);
+    cells::put16(counts, 4, subtypes);
+}
+
+// The one place that writes: a class row, the file's bytes, an entry, the tables of constraints, and the counts.
+fn add_class(counts: &mut [u16], classes: &mut [u16], kept: &mut [u8], cache: &mut [u16], ties: &mut [u16], subtypes: &mut [u16], loader: u8, file: &[u8], new_ties: &[u16], tied: u16, new_subtypes: &[u16], noted: u16)
+    requires {
+        ⌜ (getD (now counts) 0 0 ≤ 64) × (getD (now counts) 1 0 ≤ 16384) × (getD (now counts) 2 0 ≤ 256) × (length (now file) ≤ 4096) × (length (now «new_ties») ≡ 816) ⌝
+    }
+    ensures {
+        λ _. ⌜ loadTables (now (counts .exit)) (now (classes .exit)) (now (kept .exit)) (now (cache .exit)) (now (ties .exit)) (now (subtypes .exit)) ≡ classWritten (loadTables (now (counts .entry)) (now (classes .entry)) (now (kept .entry)) (now (cache .entry)) (now (ties .entry)) (now (subtypes .entry))) loader (now (file .entry)) (now («new_ties» .entry)) tied (now («new_subtypes» .entry)) noted ⌝
+    }
+{
+    let class = cells::at16(counts, 0);
+    let start = cells::at16(counts, 1);
+    let entries = cells::at16(counts, 2);
+    let size = file.len() as u16;
+    let under = cells::from8(loader);
+    put_three(classes, class, under, start, size);
+    write_bytes(kept, start, file);
+    put_three(cache, entries, under, classfile::class_name(file), class);
+    write_cells(ties, 0, &new_ties[0..768]);
+    write_cells(subtypes, 0, new_subtypes);
+    put_counts(counts, class + 1, start + size, entries + 1, tied, noted);
 }
