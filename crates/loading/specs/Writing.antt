@@ -1,10 +1,14 @@
 -- What define writes.
 use mathlib.Core.List.{List}
-use Prim.Native.Nat.{ℕ, _+_}
+use Prim.Native.Nat.{ℕ, _+_, _≤_}
 use lib.ListN.{length, getD, set, take}
 use Rattle.definition.specs.Lists.{writeRows}
 use Rattle.definition.specs.Tables.{putThree}
+use Rattle.definition.specs.declared.Reply.{Reply}
+use Rattle.definition.specs.declared.Reply.the-variants.{Defined, Denied}
 use Rattle.classfile.specs.Reading.{className}
+use Rattle.loading.specs.declared.Defining.{Defining}
+use Rattle.loading.specs.declared.Defining.the-variants.{Refuse, Add}
 
 -- the tables that loads write
 pub record LoadTables : Type 0 where
@@ -31,3 +35,21 @@ classWritten x l bs u i v j =
     (putThree (x .cache) (getD n 2 0) l (className bs) (getD n 0 0))
     (writeRows set (take 768 u) 0 (x .ties))
     (writeRows set v 0 (x .subtypes))
+
+-- what define answers, with the tables that it leaves
+
+pub record LoadDone : Type 0 where
+  pub answer : Reply
+  pub tables : LoadTables
+
+abbrev pub loadDone : Reply → LoadTables → LoadDone
+loadDone r x = record { answer = r; tables = x }
+
+unfoldable pub carriedOut : Defining → LoadTables → List ℕ → List ℕ → List ℕ → LoadDone
+carriedOut (Refuse r) x bs u v = loadDone (Denied r) x
+carriedOut (Add l i j) x bs u v = loadDone (Defined (getD (x .counts) 0 0)) (classWritten x l bs u i v j)
+
+-- a file that is to be kept has at most 4,096 bytes
+unfoldable pub FileFits : Defining → List ℕ → Type 0
+FileFits (Refuse r) bs = Unit {0}
+FileFits (Add l i j) bs = length bs ≤ 4096

@@ -8,7 +8,7 @@ ghost use lib.Dec.{leb};
 ghost use Rattle.definition.specs.Lists.{any, rows, writeRows};
 ghost use Rattle.definition.specs.Tables.{tables, shaped, putThree, tieAt, subtypeAt};
 ghost use Rattle.definition.specs.Broken.{broken};
-ghost use Rattle.definition.specs.Calls.{done, callBoot, callDrop, callRecord, perform};
+ghost use Rattle.definition.specs.Calls.{done, callBoot, callDefine, callDrop, callRecord, perform};
 ghost use Rattle.definition.specs.Requests.{at};
 ghost use Rattle.definition.specs.Constraints.{agrees};
 ghost use Rattle.definition.specs.Loading.{withEntry, recorded, hides, overrideTie, overrideTies};
@@ -20,7 +20,7 @@ ghost use Rattle.constraints.specs.Posting.{noteAt};
 ghost use Rattle.loading.specs.World.{worldIn, world, baseWith, Searchable, Loadable};
 ghost use Rattle.loading.specs.Posting.{TiesPosted, methodLike};
 ghost use Rattle.loading.specs.Stages.{entered, recordedBy, entryDone, entryWritten, aboveOf, superFor, roomFor, postedFor, placedFor, definedFrom, Decided};
-ghost use Rattle.loading.specs.Writing.{putCounts, loadTables, classWritten};
+ghost use Rattle.loading.specs.Writing.{putCounts, loadTables, classWritten, loadDone, FileFits, carriedOut};
 use classfile::MethodFound;
 use constraints::Added;
 use definition::Refusal;
@@ -503,4 +503,36 @@ fn add_class(counts: &mut [u16], classes: &mut [u16], kept: &mut [u8], cache: &m
     write_cells(ties, 0, &new_ties[0..768]);
     write_cells(subtypes, 0, new_subtypes);
     put_counts(counts, class + 1, start + size, entries + 1, tied, noted);
+}
+
+// What was decided is carried out.
+fn carry_class(counts: &mut [u16], classes: &mut [u16], kept: &mut [u8], cache: &mut [u16], ties: &mut [u16], subtypes: &mut [u16], plan: Defining, file: &[u8], new_ties: &[u16], new_subtypes: &[u16]) -> Reply
+    requires {
+        ⌜ (getD (now counts) 0 0 ≤ 64) × (getD (now counts) 1 0 ≤ 16384) × (getD (now counts) 2 0 ≤ 256) × FileFits plan (now file) × (length (now «new_ties») ≡ 816) ⌝
+    }
+    ensures {
+        λ r. ⌜ loadDone r (loadTables (now (counts .exit)) (now (classes .exit)) (now (kept .exit)) (now (cache .exit)) (now (ties .exit)) (now (subtypes .exit))) ≡ carriedOut plan (loadTables (now (counts .entry)) (now (classes .entry)) (now (kept .entry)) (now (cache .entry)) (now (ties .entry)) (now (subtypes .entry))) (now (file .entry)) (now («new_ties» .entry)) (now («new_subtypes» .entry)) ⌝
+    }
+{
+    match plan {
+        Defining::Refuse(r) => Reply::Denied(r),
+        Defining::Add(loader, tied, noted) => {
+            let class = cells::at16(counts, 0);
+            add_class(counts, classes, kept, cache, ties, subtypes, loader, file, new_ties, tied, new_subtypes, noted);
+            Reply::Defined(class as u8)
+        }
+    }
+}
+
+// define, of a store that is not broken.
+fn define_class(counts: &mut [u16], classes: &mut [u16], kept: &mut [u8], cache: &mut [u16], ties: &mut [u16], subtypes: &mut [u16], objects: &[u32], frames: &[u32], loader: u32, file: &[u8]) -> Reply
+    requires { ⌜ broken (tables (now counts) (now classes) (now kept) (now cache) (now ties) (now subtypes) (now objects) (now frames)) ≡ false ⌝ }
+    ensures {
+        λ r. ⌜ done r (tables (now (counts .exit)) (now (classes .exit)) (now (kept .exit)) (now (cache .exit)) (now (ties .exit)) (now (subtypes .exit)) (now (objects .entry)) (now (frames .entry))) ≡ perform (callDefine loader (now (file .entry))) (tables (now (counts .entry)) (now (classes .entry)) (now (kept .entry)) (now (cache .entry)) (now (ties .entry)) (now (subtypes .entry)) (now (objects .entry)) (now (frames .entry))) ⌝
+    }
+{
+    let mut new_ties = [0u16; 816];
+    let mut new_subtypes = [0u16; 768];
+    let plan = decide_define(counts, classes, kept, cache, ties, subtypes, loader, file, &mut new_ties, &mut new_subtypes);
+    carry_class(counts, classes, kept, cache, ties, subtypes, plan, file, &new_ties, &new_subtypes)
 }
