@@ -20,6 +20,9 @@ pub enum Line {
 
 /// Reads one line, without its end.
 pub fn read_line(line: &[u8]) -> Option<Line> {
+    if line.len() > 65_536 {
+        return None;
+    }
     let mut fields = line.split(|&byte| byte == b' ');
     let letter = fields.next()?;
     let mut field = || fields.next();

@@ -111,7 +111,7 @@ module _ (n : ℕ) (kept : List ℕ) where
   said-file k f = true-every _ (lt-ltb (k .loader) 16 (f .loader), (le-leb (k .start + k .size) n (f .within), (f .reads, tt)))
 
   module _ (g : ℕ → ClassRow) where
-    sources-first : (m : ℕ) → sourcesFit n kept (rows g m 0) ≡ true → 0 < m → First (g 0)
+    pub sources-first : (m : ℕ) → sourcesFit n kept (rows g m 0) ≡ true → 0 < m → First (g 0)
     unfolding sourcesFit rows isObject
     sources-first zero h l = absurd (omega arith)
     sources-first (suc m) h l =
@@ -131,9 +131,10 @@ module _ (n : ℕ) (kept : List ℕ) where
     said-sources (suc m) f h =
         let e : suc m - 1 ≡ m = omega arith in
         let first = f (omega arith) in
-        true-every _
-        (true-every _ (eq-eqb (g 0 .loader) 0 (first .loader), (eq-eqb (g 0 .start) 0 (first .start), (eq-eqb (g 0 .size) 0 (first .size), tt))),
-        (rw e at (said-rest (fileFits n kept) g (suc m) (λ c k l. said-file (g c) (h c k l))), tt))
+        true-every _ (
+          true-every _ (eq-eqb (g 0 .loader) 0 (first .loader), (eq-eqb (g 0 .start) 0 (first .start), (eq-eqb (g 0 .size) 0 (first .size), tt))),
+          (rw e at (said-rest (fileFits n kept) g (suc m) (λ c k l. said-file (g c) (h c k l))), tt),
+        )
 
 -- Superclasses and sizes
 
@@ -173,10 +174,11 @@ module _ (t : Tables) (bytes : getD (t .counts) 1 0 ≤ length (t .kept)) where
     first = sources-first (getD (t .counts) 1 0) (t .kept) rowOf few h;
     others = λ c k l.
         let f = sources-other (getD (t .counts) 1 0) (t .kept) rowOf few h c k l in
-        let bs = partOf (t .kept) (rowOf c .start) (rowOf c .size) in
-        (quickFile bs,
-        file-part (keptOf t) (rowOf c)
-        ∙ (ap readFile (part-same (t .kept) (getD (t .counts) 1 0) bytes (rowOf c .start) (rowOf c .size) (f .within)) ∙ reads-some bs (f .reads)));
+        let bs = partOf (t .kept) (rowOf c .start) (rowOf c .size) in (
+          quickFile bs,
+          file-part (keptOf t) (rowOf c)
+              ∙ (ap readFile (part-same (t .kept) (getD (t .counts) 1 0) bytes (rowOf c .start) (rowOf c .size) (f .within)) ∙ reads-some bs (f .reads)),
+        );
   }
 
   -- and the definition's are files that fit
@@ -207,16 +209,31 @@ checks-sound t h =
     let q = links-said b n (ap (λ (d : Base). linksFit d n) (sym e) ∙ v .0) c k l in
     let u = is-some _ (q .0) in
     record { loader = sources-other (getD (t .counts) 1 0) (t .kept) (classRowAt (t .classes)) n (p .1 .1 .0) c k l .loader; file = f .0; reads = f .1; super = u .0; isSuper = u .1; size = q .1 }) in
-    true-every _
-    (p .0,
-    (p .1 .0,
-    (true-every _
-    (classes-fit _ _ _ classes,
-    (ap (λ (m : ℕ). all (entryFits m) (cacheOf t)) (classes-number t) ∙ r .0,
-    (r .1 .0,
-    (r .1 .1 .0,
-    (objects-same t b ∙ (ap (λ (d : Base). objectsFit d (t .counts) (t .objects)) (sym e) ∙ v .1 .0),
-    (frames-same t b 0 ∙ v .1 .1 .0, (frames-same t b 1 ∙ v .1 .1 .1 .0, tt))))))), tt)))
+    true-every _ (
+      p .0,
+      (
+        p .1 .0,
+        (
+          true-every _ (
+            classes-fit _ _ _ classes,
+            (
+              ap (λ (m : ℕ). all (entryFits m) (cacheOf t)) (classes-number t) ∙ r .0,
+              (
+                r .1 .0,
+                (
+                  r .1 .1 .0,
+                  (
+                    objects-same t b ∙ (ap (λ (d : Base). objectsFit d (t .counts) (t .objects)) (sym e) ∙ v .1 .0),
+                    (frames-same t b 0 ∙ v .1 .1 .0, (frames-same t b 1 ∙ v .1 .1 .1 .0, tt)),
+                  ),
+                ),
+              ),
+            ),
+          ),
+          tt,
+        ),
+      ),
+    )
 
 sound-checks : (t : Tables) → whole t ≡ true → checks t ≡ true
 unfolding checks whole sound view viewOver rowsFit valuesFit
@@ -231,15 +248,28 @@ sound-checks t h =
     let files = said-sources (getD (t .counts) 1 0) (t .kept) g n (row-first b (keptOf t) g n k) (λ c i j. sources-fit t bytes c b (row-other b (keptOf t) g n k c i j)) in
     let e = quick-view t (fit-sources t bytes files) in
     let links = said-links b n (λ c i j. let s = row-other b (keptOf t) g n k c i j in (some-is _ _ (s .isSuper), s .size)) in
-    true-every _
-    (p .0,
-    (p .1 .0,
-    (files,
-    (true-every _ (ap (λ (m : ℕ). all (entryFits m) (cacheOf t)) (sym (classes-number t)) ∙ q .1 .0, (q .1 .1 .0, (q .1 .1 .1 .0, tt))),
-    (true-every _
-    (ap (λ (d : Base). linksFit d n) e ∙ links,
-    (ap (λ (d : Base). objectsFit d (t .counts) (t .objects)) e ∙ (sym (objects-same t b) ∙ q .1 .1 .1 .1 .0),
-    (sym (frames-same t b 0) ∙ q .1 .1 .1 .1 .1 .0, (sym (frames-same t b 1) ∙ q .1 .1 .1 .1 .1 .1 .0, tt)))), tt)))))
+    true-every _ (
+      p .0,
+      (
+        p .1 .0,
+        (
+          files,
+          (
+            true-every _ (ap (λ (m : ℕ). all (entryFits m) (cacheOf t)) (sym (classes-number t)) ∙ q .1 .0, (q .1 .1 .0, (q .1 .1 .1 .0, tt))),
+            (
+              true-every _ (
+                ap (λ (d : Base). linksFit d n) e ∙ links,
+                (
+                  ap (λ (d : Base). objectsFit d (t .counts) (t .objects)) e ∙ (sym (objects-same t b) ∙ q .1 .1 .1 .1 .0),
+                  (sym (frames-same t b 0) ∙ q .1 .1 .1 .1 .1 .0, (sym (frames-same t b 1) ∙ q .1 .1 .1 .1 .1 .1 .0, tt)),
+                ),
+              ),
+              tt,
+            ),
+          ),
+        ),
+      ),
+    )
 
 -- the tests fail exactly if the tables are broken
 pub checks-broken : (t : Tables) → broken t ≡ not (checks t)

@@ -10,7 +10,6 @@ ghost use Rattle.definition.specs.Tables.{tables, shaped, sizeOf, classRowAt, e
 ghost use Rattle.definition.specs.Broken.{within, isObject, entryFits, tieFits, subtypeFits, broken};
 ghost use Rattle.resolution.specs.Quick.{quickBase};
 ghost use Rattle.store.specs.Checks.{fileFits, sourcesFit, linkedSize, linksFit, Sized, objectSized, valueIn, localIn, objectIn, frameFit, rowsFit, objectsFit, framesFit, valuesFit};
-
 use resolution::Found;
 
 // The number of fields of a class that has a superclass and at most 16 fields.
@@ -21,7 +20,16 @@ pub enum Fields {
 
 // Lengths and counts.
 
-fn is_shaped(counts: &[u16], classes: &[u16], kept: &[u8], cache: &[u16], ties: &[u16], subtypes: &[u16], objects: &[u32], frames: &[u32]) -> bool
+fn is_shaped(
+    counts: &[u16],
+    classes: &[u16],
+    kept: &[u8],
+    cache: &[u16],
+    ties: &[u16],
+    subtypes: &[u16],
+    objects: &[u32],
+    frames: &[u32],
+) -> bool
     ensures { λ r. ⌜ r ≡ shaped (tables (now (counts .entry)) (now (classes .entry)) (now (kept .entry)) (now (cache .entry)) (now (ties .entry)) (now (subtypes .entry)) (now (objects .entry)) (now (frames .entry))) ⌝ }
 {
     if counts.len() != 8 {
@@ -250,7 +258,11 @@ fn fields_fit(objects: &[u32], o: u16, size: u8, made: u32) -> bool
     let mut i: u8 = 0;
     while i < size {
         let place = first + (1 + 2 * cells::wide8(i));
-        if !value_fits(cells::at32(objects, place), cells::at32(objects, place + 1), made) {
+        if !value_fits(
+            cells::at32(objects, place),
+            cells::at32(objects, place + 1),
+            made,
+        ) {
             return false;
         }
         i += 1;
@@ -294,7 +306,11 @@ fn operands_fit(frames: &[u32], b: u32, depth: u32, made: u32) -> bool
     let mut i = depth;
     while 0 < i {
         let place = cells::wide32(b) + (20 + 2 * cells::wide32(i - 1));
-        if !value_fits(cells::at32(frames, place), cells::at32(frames, place + 1), made) {
+        if !value_fits(
+            cells::at32(frames, place),
+            cells::at32(frames, place + 1),
+            made,
+        ) {
             return false;
         }
         i -= 1;
@@ -308,7 +324,11 @@ fn locals_fit(frames: &[u32], b: u32, made: u32) -> bool
     let mut i: u8 = 0;
     while i < 8 {
         let place = cells::wide32(b) + (4 + 2 * cells::wide8(i));
-        if !local_fits(cells::at32(frames, place), cells::at32(frames, place + 1), made) {
+        if !local_fits(
+            cells::at32(frames, place),
+            cells::at32(frames, place + 1),
+            made,
+        ) {
             return false;
         }
         i += 1;
@@ -352,7 +372,14 @@ fn frames_fit(counts: &[u16], frames: &[u32], task: u8) -> bool
 // Superclasses and sizes.
 
 // The size of class c, where `sizes` has those of the classes below it.
-fn linked_size(sizes: &[u8], counts: &[u16], classes: &[u16], kept: &[u8], cache: &[u16], c: u16) -> Fields
+fn linked_size(
+    sizes: &[u8],
+    counts: &[u16],
+    classes: &[u16],
+    kept: &[u8],
+    cache: &[u16],
+    c: u16,
+) -> Fields
     requires { ⌜ Sized (quickBase (now counts) (now classes) (now kept) (now cache)) c (now sizes) ⌝ }
     ensures { λ r. ⌜ r ≡ linkedSize (quickBase (now (counts .entry)) (now (classes .entry)) (now (kept .entry)) (now (cache .entry))) c ⌝ }
 {
@@ -386,7 +413,14 @@ fn links_fit(sizes: &mut [u8], counts: &[u16], classes: &[u16], kept: &[u8], cac
     true
 }
 
-fn values_fit(counts: &[u16], classes: &[u16], kept: &[u8], cache: &[u16], objects: &[u32], frames: &[u32]) -> bool
+fn values_fit(
+    counts: &[u16],
+    classes: &[u16],
+    kept: &[u8],
+    cache: &[u16],
+    objects: &[u32],
+    frames: &[u32],
+) -> bool
     requires { ⌜ (getD (now counts) 0 0 ≤ 64) × (sizeOf (quickBase (now counts) (now classes) (now kept) (now cache)) 0 ≡ 0) ⌝ }
     ensures { λ r. ⌜ r ≡ valuesFit (quickBase (now (counts .entry)) (now (classes .entry)) (now (kept .entry)) (now (cache .entry))) (now (counts .entry)) (now (objects .entry)) (now (frames .entry)) ⌝ }
 {
@@ -404,10 +438,28 @@ fn values_fit(counts: &[u16], classes: &[u16], kept: &[u8], cache: &[u16], objec
 }
 
 // Whether the tables are broken.
-pub fn is_broken(counts: &[u16], classes: &[u16], kept: &[u8], cache: &[u16], ties: &[u16], subtypes: &[u16], objects: &[u32], frames: &[u32]) -> bool
+pub fn is_broken(
+    counts: &[u16],
+    classes: &[u16],
+    kept: &[u8],
+    cache: &[u16],
+    ties: &[u16],
+    subtypes: &[u16],
+    objects: &[u32],
+    frames: &[u32],
+) -> bool
     ensures { λ r. ⌜ r ≡ broken (tables (now (counts .entry)) (now (classes .entry)) (now (kept .entry)) (now (cache .entry)) (now (ties .entry)) (now (subtypes .entry)) (now (objects .entry)) (now (frames .entry))) ⌝ }
 {
-    if !is_shaped(counts, classes, kept, cache, ties, subtypes, objects, frames) {
+    if !is_shaped(
+        counts,
+        classes,
+        kept,
+        cache,
+        ties,
+        subtypes,
+        objects,
+        frames,
+    ) {
         return true;
     }
     if !are_within(counts) {
