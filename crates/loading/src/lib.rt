@@ -122,21 +122,15 @@ pub fn boot(
     Reply::Accepted
 }
 
-// drop, of a store that is not broken.
-fn drop_frames(
-    counts: &mut [u16],
-    classes: &[u16],
-    kept: &[u8],
-    cache: &[u16],
-    ties: &[u16],
-    subtypes: &[u16],
-    objects: &[u32],
-    frames: &[u32],
-    task: u32,
-) -> Reply
-    requires { ⌜ broken (tables (now counts) (now classes) (now kept) (now cache) (now ties) (now subtypes) (now objects) (now frames)) ≡ false ⌝ }
-    ensures { λ r. ⌜ done r (tables (now (counts .exit)) (now (classes .entry)) (now (kept .entry)) (now (cache .entry)) (now (ties .entry)) (now (subtypes .entry)) (now (objects .entry)) (now (frames .entry))) ≡ perform (callDrop task) (tables (now (counts .entry)) (now (classes .entry)) (now (kept .entry)) (now (cache .entry)) (now (ties .entry)) (now (subtypes .entry)) (now (objects .entry)) (now (frames .entry))) ⌝ }
+// The task's frames are cleared. Refusals: 1 3
+pub fn drop_task(counts: &mut [u16], classes: &[u16], kept: &[u8], cache: &[u16], ties: &[u16], subtypes: &[u16], objects: &[u32], frames: &[u32], task: u32) -> Reply
+    ensures {
+        λ r. ⌜ done r (tables (now (counts .exit)) (now (classes .entry)) (now (kept .entry)) (now (cache .entry)) (now (ties .entry)) (now (subtypes .entry)) (now (objects .entry)) (now (frames .entry))) ≡ perform (callDrop task) (tables (now (counts .entry)) (now (classes .entry)) (now (kept .entry)) (now (cache .entry)) (now (ties .entry)) (now (subtypes .entry)) (now (objects .entry)) (now (frames .entry))) ⌝
+    }
 {
+    if store::is_broken(counts, classes, kept, cache, ties, subtypes, objects, frames) {
+        return Reply::Denied(Refusal::Word(1));
+    }
     if 2 <= task {
         return Reply::Denied(Refusal::Word(3));
     }
@@ -245,13 +239,16 @@ fn carry_out(counts: &mut [u16], cache: &mut [u16], plan: Recording) -> Reply
     }
 }
 
-// record, of a store that is not broken.
-fn record_entry(counts: &mut [u16], classes: &[u16], kept: &[u8], cache: &mut [u16], ties: &[u16], subtypes: &[u16], objects: &[u32], frames: &[u32], loader: u32, name: u32, class: u32) -> Reply
-    requires { ⌜ broken (tables (now counts) (now classes) (now kept) (now cache) (now ties) (now subtypes) (now objects) (now frames)) ≡ false ⌝ }
+// A cache entry is added: the answer of a loader that delegated. One that is there with the same class is accepted and changes nothing.
+// Refusals: 1 3 13 4 10 9
+pub fn record(counts: &mut [u16], classes: &[u16], kept: &[u8], cache: &mut [u16], ties: &[u16], subtypes: &[u16], objects: &[u32], frames: &[u32], loader: u32, name: u32, class: u32) -> Reply
     ensures {
         λ r. ⌜ done r (tables (now (counts .exit)) (now (classes .entry)) (now (kept .entry)) (now (cache .exit)) (now (ties .entry)) (now (subtypes .entry)) (now (objects .entry)) (now (frames .entry))) ≡ perform (callRecord loader name class) (tables (now (counts .entry)) (now (classes .entry)) (now (kept .entry)) (now (cache .entry)) (now (ties .entry)) (now (subtypes .entry)) (now (objects .entry)) (now (frames .entry))) ⌝
     }
 {
+    if store::is_broken(counts, classes, kept, cache, ties, subtypes, objects, frames) {
+        return Reply::Denied(Refusal::Word(1));
+    }
     let plan = decide_record(counts, classes, kept, cache, ties, subtypes, loader, name, class);
     carry_out(counts, cache, plan)
 }
@@ -524,13 +521,16 @@ fn carry_class(counts: &mut [u16], classes: &mut [u16], kept: &mut [u8], cache: 
     }
 }
 
-// define, of a store that is not broken.
-fn define_class(counts: &mut [u16], classes: &mut [u16], kept: &mut [u8], cache: &mut [u16], ties: &mut [u16], subtypes: &mut [u16], objects: &[u32], frames: &[u32], loader: u32, file: &[u8]) -> Reply
-    requires { ⌜ broken (tables (now counts) (now classes) (now kept) (now cache) (now ties) (now subtypes) (now objects) (now frames)) ≡ false ⌝ }
+// A class is added, with its defining loader, from its file, and cached under its own request. Answers its number.
+// Refusals: 1 3 2 6 4 5 8 10 9
+pub fn define(counts: &mut [u16], classes: &mut [u16], kept: &mut [u8], cache: &mut [u16], ties: &mut [u16], subtypes: &mut [u16], objects: &[u32], frames: &[u32], loader: u32, file: &[u8]) -> Reply
     ensures {
         λ r. ⌜ done r (tables (now (counts .exit)) (now (classes .exit)) (now (kept .exit)) (now (cache .exit)) (now (ties .exit)) (now (subtypes .exit)) (now (objects .entry)) (now (frames .entry))) ≡ perform (callDefine loader (now (file .entry))) (tables (now (counts .entry)) (now (classes .entry)) (now (kept .entry)) (now (cache .entry)) (now (ties .entry)) (now (subtypes .entry)) (now (objects .entry)) (now (frames .entry))) ⌝
     }
 {
+    if store::is_broken(counts, classes, kept, cache, ties, subtypes, objects, frames) {
+        return Reply::Denied(Refusal::Word(1));
+    }
     let mut new_ties = [0u16; 816];
     let mut new_subtypes = [0u16; 768];
     let plan = decide_define(counts, classes, kept, cache, ties, subtypes, loader, file, &mut new_ties, &mut new_subtypes);
