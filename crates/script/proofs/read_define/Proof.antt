@@ -1,0 +1,42 @@
+-- A loader and a file. The table is written only if the whole line reads.
+use mathlib.Core.Path.{_≡_, sym, ap, _∙_}
+use mathlib.Core.Bool.{true, false}
+use denote.Ref.{now}
+use lib.ListN.{length, length-drop}
+use borrow.Author.Tests.{not-true, not-false}
+use Rattle.definition.specs.Maybe.{_>>=_, need}
+use Rattle.script.specs.Commands.{said, decoded, commandOf, fileOnto}
+use Rattle.script.specs.Files.{quickPairs, pairs-length, file-quick, file-none}
+use Rattle.script.specs.Calls.{withHead, defineLine}
+use borrow.Author.Needs.{needs}
+use native.Mathlib.Omega.{arith}
+use Rattle.script.proofs.read_define.Statement.{statement}
+use Rattle.script.proofs.read_define.Tie as tie
+
+returns : tie.Need-returns
+unfolding defineLine withHead said decoded _>>=_ commandOf fileOnto
+returns c =
+    record { command = rw (sym (c .before .before .first-field .ensures) ∙ c .enum-told .given .1); table = rw (sym (c .before .before .first-field .ensures) ∙ c .enum-told .given .1) }
+
+returns-2 : tie.Need-returns-2
+unfolding defineLine withHead said decoded _>>=_ commandOf fileOnto
+returns-2 c =
+    record { command = rw (sym (c .before .before .before .before .before .before .first-field .ensures) ∙ c .before .before .before .before .loader .given .1, ← c .before .before .after .ensures, file-none _ (sym (c .before .is-file .ensures) ∙ not-true _ (c .if1 .taken))); table = rw (sym (c .before .before .before .before .before .before .first-field .ensures) ∙ c .before .before .before .before .loader .given .1, ← c .before .before .after .ensures, file-none _ (sym (c .before .is-file .ensures) ∙ not-true _ (c .if1 .taken))) }
+
+cast-t14 : tie.Need-cast-t14
+cast-t14 c =
+    omega (arith, ap length (c .before .before .before .before .before .before .after .ensures), length-drop (c .before .before .before .before .before .before .before .before .loader .given .0 .1 .0) (now (c .before .before .before .before .before .before .before .before .before .before .before .before .before .args .s)), c .before .before .before .before .before .before .before .before .before .before .before .before .before .pre)
+
+returns-3 : tie.Need-returns-3
+unfolding defineLine withHead said decoded _>>=_ commandOf fileOnto
+returns-3 c =
+    record {
+  command = rw (sym (c .before .before .before .before .before .before .before .before .before .before .first-field .ensures) ∙ c .before .before .before .before .before .before .before .before .loader .given .1, ← c .before .before .before .before .before .before .after .ensures, file-quick _ (sym (c .before .before .before .before .before .is-file .ensures) ∙ not-false _ (c .before .before .before .before .if1 .left)), pairs-length);
+  table = rw (sym (c .before .before .before .before .before .before .before .before .before .before .first-field .ensures) ∙ c .before .before .before .before .before .before .before .before .loader .given .1, ← c .before .before .before .before .before .before .after .ensures, file-quick _ (sym (c .before .before .before .before .before .is-file .ensures) ∙ not-false _ (c .before .before .before .before .if1 .left))) (c .before .before .decode .ensures);
+}
+
+pub read-define-spec : {M : Type 1} → statement M
+read-define-spec =
+    tie.close
+    (tie.spec (λ c κs. search needs) (λ c. search needs) (λ c. search needs) returns (λ c κs. search needs) (λ c κs. search needs)
+    returns-2 (λ c κs. search needs) cast-t14 (λ c. search needs) returns-3)

@@ -1,0 +1,35 @@
+-- A loader, a name and a class, field by field.
+use mathlib.Core.Path.{sym, _∙_}
+use Rattle.definition.specs.Maybe.{_>>=_, need}
+use Rattle.script.specs.Commands.{said, commandOf}
+use Rattle.script.specs.Parts.{short-none, short-some}
+use Rattle.script.specs.Calls.{withHead, recordLine}
+use borrow.Author.Needs.{needs}
+use Rattle.script.proofs.read_record.Statement.{statement}
+use Rattle.script.proofs.read_record.Tie as tie
+
+returns : tie.Need-returns
+unfolding recordLine withHead said _>>=_ commandOf
+returns c = rw (sym (c .before .before .first-field .ensures) ∙ c .enum-told .given .1)
+
+returns-2 : tie.Need-returns-2
+unfolding recordLine withHead said _>>=_ commandOf
+returns-2 c =
+    rw (sym (c .before .before .before .before .before .before .before .first-field .ensures) ∙ c .before .before .before .before .before .loader .given .1, ← c .before .before .before .after .ensures, sym (c .before .before .first-field2 .ensures) ∙ c .enum-told2 .given .1)
+
+returns-3 : tie.Need-returns-3
+unfolding recordLine withHead said _>>=_ commandOf
+returns-3 c =
+    rw (sym (c .before .before .before .before .before .before .before .before .before .before .before .before .first-field .ensures) ∙ c .before .before .before .before .before .before .before .before .before .before .loader .given .1, ← c .before .before .before .before .before .before .before .before .after .ensures, sym (c .before .before .before .before .before .before .before .first-field2 .ensures) ∙ c .before .before .before .before .before .name .given .1, ← c .before .before .before .after2 .ensures, short-none _ (sym (c .before .before .short-number .ensures) ∙ c .enum-told3 .given .1))
+
+returns-4 : tie.Need-returns-4
+unfolding recordLine withHead said _>>=_ commandOf
+returns-4 c =
+    rw (sym (c .before .before .before .before .before .before .before .before .before .before .before .before .before .first-field .ensures) ∙ c .before .before .before .before .before .before .before .before .before .before .before .loader .given .1, ← c .before .before .before .before .before .before .before .before .before .after .ensures, sym (c .before .before .before .before .before .before .before .before .first-field2 .ensures) ∙ c .before .before .before .before .before .before .name .given .1, ← c .before .before .before .before .after2 .ensures, short-some _ _ (sym (c .before .before .before .short-number .ensures) ∙ c .before .class .given .1))
+
+pub read-record-spec : {M : Type 1} → statement M
+read-record-spec =
+    tie.close
+    (tie.spec (λ c κs. search needs) (λ c. search needs) (λ c. search needs) returns (λ c κs. search needs) (λ c κs. search needs)
+    (λ c. search needs) (λ c. search needs) returns-2 (λ c κs. search needs) (λ c κs. search needs) (λ c. search needs)
+    (λ c. search needs) returns-3 returns-4)
