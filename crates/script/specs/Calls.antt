@@ -1,9 +1,9 @@
 -- A line's call read field by field, from what follows its letter and the space. It is the call that the line's fields give.
-use mathlib.Core.Path.{_≡_, refl, sym, ap, subst, _∙_}
+use mathlib.Core.Path.{_≡_, refl, sym, subst, _∙_}
 use mathlib.Core.Bool.{Bool, true, false}
 use mathlib.Core.Option.{Option, none, some}
 use mathlib.Core.List.{List, [], _∷_}
-use Prim.Native.Nat.{ℕ, zero, suc, _+_, _-_, _*_, _%_}
+use Prim.Native.Nat.{ℕ, suc, _+_, _-_, _*_, _%_}
 use native.Mathlib.Omega.{arith}
 use native.Mathlib.Numerals.{add-one}
 use lib.ListN.{take, drop}
@@ -12,9 +12,9 @@ use borrow.Author.Tests.{eqb-true}
 use Rattle.definition.specs.Lists.{all}
 use Rattle.definition.specs.Maybe.{_>>=_, need}
 use Rattle.definition.specs.Calls.{callDefine, callRecord, callStart, callStep, callDrop}
-use Rattle.definition.specs.Script.{Line, line, digit, digits, decimal, upTo, short, int, hexDigit, hexPairs, file, fields, grow, command}
+use Rattle.definition.specs.Script.{Line, line, digit, digits, decimal, upTo, short, int, hexDigit, file, fields, grow, command}
 use Rattle.script.specs.Commands.{decoded, fileOnto}
-use Rattle.script.specs.Parts.{Space, At, Nowhere, spaceFrom, Short, shortIs, Head, Field, NoField, headRead, headIn, headOf, space-cut, space-none}
+use Rattle.script.specs.Parts.{Space, At, Nowhere, spaceFrom, shortIs, Head, Field, NoField, headRead, headIn, headOf, space-cut, space-none}
 use Rattle.script.specs.Numbers.{bind-none}
 use Rattle.script.specs.Files.{isHex, hexValue, valueIn, pairs-bad}
 

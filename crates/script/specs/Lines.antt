@@ -1,17 +1,16 @@
 -- A line by its first two bytes: a letter alone, a letter and a space before the fields of its call, or no line.
-use mathlib.Core.Path.{_≡_, refl, sym, ap, subst, _∙_}
+use mathlib.Core.Path.{_≡_, refl, sym, _∙_}
 use mathlib.Core.Bool.{Bool, true, false}
-use mathlib.Core.Option.{Option, none, some}
+use mathlib.Core.Option.{none}
 use mathlib.Core.List.{List, [], _∷_}
 use mathlib.Core.Logic.{_≢_}
-use Prim.Native.Nat.{ℕ, _+_, _≤_, _<_}
+use Prim.Native.Nat.{ℕ, _≤_, _<_}
 use native.Mathlib.Omega.{arith}
 use lib.ListN.{length, getD, drop}
 use lib.Dec.{eqb, leb}
 use borrow.Author.Tests.{eqb-true, eqb-false, le-leb, lt-leb}
 use Rattle.definition.specs.Maybe.{_>>=_, need}
-use Rattle.definition.specs.Calls.{callStep}
-use Rattle.definition.specs.Script.{Line, fields, grow, command, commandOf, readLine}
+use Rattle.definition.specs.Script.{fields, grow, command, commandOf, readLine}
 use Rattle.script.specs.Parts.{fields-space, fields-other}
 use Rattle.script.specs.Calls.{singleLine, no-line, fields-some}
 use Rattle.script.specs.Numbers.{bind-none}

@@ -1,14 +1,22 @@
 // Lines of boxscript: a line of bytes read as a command, and an answer printed as a line.
 ghost use mathlib.Core.Path.{_≡_};
+ghost use mathlib.Core.List.{_∷_};
 ghost use Prim.Native.Nat.{_+_, _≤_, _<_};
 ghost use lib.ListN.{length, set, take, drop};
+ghost use lib.IntN.{pos};
+ghost use Rattle.definition.specs.Answers.{signed};
 ghost use Rattle.definition.specs.Lists.{isSome, writeRows};
-ghost use Rattle.definition.specs.Script.{upTo, short, int, file, hexDigit, fields, command, readLine};
+ghost use Rattle.definition.specs.Script.{upTo, short, int, file, fields, command, readLine, printed, printedInt};
 ghost use Rattle.script.specs.Commands.{Read, said};
 ghost use Rattle.script.specs.Parts.{spaceFrom, shortIs, headOf};
 ghost use Rattle.script.specs.Numbers.{numberIs, extended, negated};
 ghost use Rattle.script.specs.Files.{hexValue, pairValue, quickPairs};
 ghost use Rattle.script.specs.Calls.{recordLine, startLine, dropLine, defineLine, singleLine};
+ghost use Rattle.script.specs.Details.{refusalNumbers, stepNumbers, Detailed};
+ghost use Rattle.script.specs.Printing.{lineOf, Printed, Wrote};
+use definition::Answer;
+use definition::Refusal;
+use definition::Reply;
 
 // The call that a line asks for. A define has its file's length; the file's bytes are in the table that was lent.
 pub enum Command {
@@ -326,4 +334,135 @@ pub fn read_line(line: &[u8], file: &mut [u8]) -> Command
         return Command::Unreadable;
     }
     read_call(letter, after(line, 2), file)
+}
+
+// A printed line's numbers: the refusal's, then three details. An int is its 32 bits.
+pub struct Details {
+    pub refusal: u8,
+    pub one: u32,
+    pub two: u32,
+    pub three: u32,
+}
+
+fn refusal_details(task: u8, refusal: Refusal) -> Details
+    ensures { λ r. ⌜ r ≡ refusalNumbers task refusal ⌝ }
+{
+    match refusal {
+        Refusal::Wanted(loader, name) => Details {
+            refusal: 5,
+            one: cells::from16(cells::from8(loader)),
+            two: cells::from16(name),
+            three: cells::from16(cells::from8(task)),
+        },
+        Refusal::Word(number) => Details {
+            refusal: number,
+            one: 0,
+            two: 0,
+            three: 0,
+        },
+    }
+}
+
+fn step_details(turn: u8, answer: Answer) -> Details
+    ensures { λ r. ⌜ r ≡ stepNumbers turn answer ⌝ }
+{
+    match answer {
+        Answer::Idle => Details {
+            refusal: 0,
+            one: 0,
+            two: 0,
+            three: 0,
+        },
+        Answer::Ran(task) => Details {
+            refusal: 0,
+            one: 1,
+            two: cells::from16(cells::from8(task)),
+            three: 0,
+        },
+        Answer::Finished(task, int) => Details {
+            refusal: 0,
+            one: 2,
+            two: cells::from16(cells::from8(task)),
+            three: int,
+        },
+        Answer::Refused(refusal) => refusal_details(turn, refusal),
+    }
+}
+
+// The numbers of a call's answer. `turn` is the task whose turn it was.
+pub fn details_of(turn: u8, reply: Reply) -> Details
+    ensures { λ r. ⌜ Detailed turn reply r ⌝ }
+{
+    match reply {
+        Reply::Accepted => Details {
+            refusal: 0,
+            one: 0,
+            two: 0,
+            three: 0,
+        },
+        Reply::Defined(class) => Details {
+            refusal: 0,
+            one: cells::from16(cells::from8(class)),
+            two: 0,
+            three: 0,
+        },
+        Reply::Stepped(answer) => step_details(turn, answer),
+        Reply::RanFor(_, answer) => step_details(turn, answer),
+        Reply::Denied(refusal) => refusal_details(0, refusal),
+    }
+}
+
+// Printing. Each function writes from a place on and answers the place after what it wrote; past the table's end nothing is written.
+
+// Decimal digits, at most `more` of them before the last.
+fn put_digits(out: &mut [u8], at: usize, more: u8, n: u32) -> usize
+    requires { ⌜ at ≤ 64 ⌝ }
+    ensures { λ r. ⌜ Wrote (printed more n) at r (now (out .entry)) (now (out .exit)) ⌝ }
+{
+    if more == 0 {
+        cells::put8(out, at, (48 + n % 10) as u8);
+        return at + 1;
+    }
+    if n < 10 {
+        cells::put8(out, at, (48 + n) as u8);
+        return at + 1;
+    }
+    let next = put_digits(out, at, more - 1, n / 10);
+    cells::put8(out, next, (48 + n % 10) as u8);
+    next + 1
+}
+
+// A space and a number.
+fn put_number(out: &mut [u8], at: usize, n: u32) -> usize
+    requires { ⌜ at < 64 ⌝ }
+    ensures { λ r. ⌜ Wrote (32 ∷ printedInt (pos n)) at r (now (out .entry)) (now (out .exit)) ⌝ }
+{
+    cells::put8(out, at, 32);
+    put_digits(out, at + 1, 9, n)
+}
+
+// A space and an int.
+fn put_int(out: &mut [u8], at: usize, bits: u32) -> usize
+    requires { ⌜ at < 63 ⌝ }
+    ensures { λ r. ⌜ Wrote (32 ∷ printedInt (signed bits)) at r (now (out .entry)) (now (out .exit)) ⌝ }
+{
+    if bits < 2147483648 {
+        return put_number(out, at, bits);
+    }
+    cells::put8(out, at, 32);
+    cells::put8(out, at + 1, 45);
+    put_digits(out, at + 2, 9, 4294967295 - bits + 1)
+}
+
+// A letter, a refusal's number, three details and the line's end, written at the table's front. The third detail may be an int.
+pub fn print_line(out: &mut [u8], letter: u8, refusal: u8, one: u32, two: u32, three: u32) -> usize
+    ensures { λ r. ⌜ Printed (lineOf letter refusal one two three) r (now (out .entry)) (now (out .exit)) ⌝ }
+{
+    cells::put8(out, 0, letter);
+    let a = put_number(out, 1, cells::from16(cells::from8(refusal)));
+    let b = put_number(out, a, one);
+    let c = put_number(out, b, two);
+    let d = put_int(out, c, three);
+    cells::put8(out, d, 10);
+    d + 1
 }

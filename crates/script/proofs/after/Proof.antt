@@ -1,5 +1,4 @@
 -- What follows the first n bytes of a line: nothing where it is shorter.
-use mathlib.Core.Path.{_≡_, sym, _∙_}
 use Prim.Native.Nat.{_-_, _≤_}
 use native.Mathlib.Nat.{le-of-lt, le-refl}
 use denote.Ref.{now}

@@ -1,5 +1,4 @@
 -- Two digits, the higher first.
-use Prim.Native.Nat.{_+_, _*_, _%_}
 use Rattle.script.specs.Files.{pairValue, pairOf}
 use borrow.Author.Needs.{needs}
 use Rattle.script.proofs.byte_at.Statement.{statement}

@@ -1,5 +1,5 @@
 -- Pair by pair: the bytes of the pairs before place i are written.
-use mathlib.Core.Path.{_≡_, refl, sym, ap, _∙_}
+use mathlib.Core.Path.{_≡_, refl, _∙_}
 use Prim.Native.Nat.{_-_, _≤_}
 use lib.ListN.{length, set, take}
 use Rattle.definition.specs.Lists.{writeRows}

@@ -1,6 +1,4 @@
 -- A byte that is a digit, and a number that stays at most `most`.
-use mathlib.Core.Path.{sym, ap}
-use Prim.Native.Nat.{_+_, _*_}
 use Rattle.script.specs.Numbers.{numberIs, extended-under, extended-above, extended-past, extended-is}
 use borrow.Author.Needs.{needs}
 use native.Mathlib.Omega.{arith}

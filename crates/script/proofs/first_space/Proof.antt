@@ -1,5 +1,5 @@
 -- The bytes are searched from the first on: the first space from place i on is the first space of all.
-use mathlib.Core.Path.{_≡_, refl, sym, ap, _∙_}
+use mathlib.Core.Path.{_≡_, refl, sym, _∙_}
 use Prim.Native.Nat.{_-_, _≤_}
 use lib.ListN.{length, drop}
 use Rattle.script.specs.Parts.{spaceFrom, space-here, space-later, space-end}

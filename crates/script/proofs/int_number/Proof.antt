@@ -1,6 +1,6 @@
 -- An int by its first byte, a minus or not.
 use mathlib.Core.Path.{sym, _∙_}
-use Rattle.script.specs.Numbers.{numberIs, negated, int-minus, int-plain}
+use Rattle.script.specs.Numbers.{int-minus, int-plain}
 use borrow.Author.Needs.{needs}
 use Rattle.script.proofs.int_number.Statement.{statement}
 use Rattle.script.proofs.int_number.Tie as tie

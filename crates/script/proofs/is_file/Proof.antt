@@ -1,8 +1,7 @@
 -- Digits, an even number of them and not none. The digits from place i on are all digits exactly if all are.
-use mathlib.Core.Path.{_≡_, refl, sym, ap, _∙_}
-use mathlib.Core.Option.{none, some}
+use mathlib.Core.Path.{_≡_, refl, sym, _∙_}
 use Prim.Native.Nat.{_-_, _≤_}
-use lib.ListN.{length, drop}
+use lib.ListN.{drop}
 use Rattle.definition.specs.Lists.{all, isSome}
 use Rattle.script.specs.Files.{isHex, hexes-bad, hexes-later, hexes-end, file-empty, file-odd, file-bad, file-all}
 use borrow.Author.Needs.{needs}

@@ -2,7 +2,7 @@
 use mathlib.Core.Path.{sym}
 use denote.Ref.{now}
 use borrow.Author.Tests.{ne-eqb}
-use Rattle.script.specs.Commands.{said, decoded, commandOf, fileOnto}
+use Rattle.script.specs.Commands.{said, decoded}
 use Rattle.script.specs.Calls.{drop-line, define-line, record-line, start-line, no-line, drop-keeps, record-keeps, start-keeps}
 use borrow.Author.Needs.{needs}
 use Rattle.script.proofs.read_call.Statement.{statement}

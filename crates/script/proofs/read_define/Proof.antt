@@ -1,12 +1,11 @@
 -- A loader and a file. The table is written only if the whole line reads.
-use mathlib.Core.Path.{_≡_, sym, ap, _∙_}
-use mathlib.Core.Bool.{true, false}
+use mathlib.Core.Path.{sym, ap, _∙_}
 use denote.Ref.{now}
 use lib.ListN.{length, length-drop}
 use borrow.Author.Tests.{not-true, not-false}
-use Rattle.definition.specs.Maybe.{_>>=_, need}
+use Rattle.definition.specs.Maybe.{_>>=_}
 use Rattle.script.specs.Commands.{said, decoded, commandOf, fileOnto}
-use Rattle.script.specs.Files.{quickPairs, pairs-length, file-quick, file-none}
+use Rattle.script.specs.Files.{pairs-length, file-quick, file-none}
 use Rattle.script.specs.Calls.{withHead, defineLine}
 use borrow.Author.Needs.{needs}
 use native.Mathlib.Omega.{arith}
@@ -31,9 +30,9 @@ returns-3 : tie.Need-returns-3
 unfolding defineLine withHead said decoded _>>=_ commandOf fileOnto
 returns-3 c =
     record {
-  command = rw (sym (c .before .before .before .before .before .before .before .before .before .before .first-field .ensures) ∙ c .before .before .before .before .before .before .before .before .loader .given .1, ← c .before .before .before .before .before .before .after .ensures, file-quick _ (sym (c .before .before .before .before .before .is-file .ensures) ∙ not-false _ (c .before .before .before .before .if1 .left)), pairs-length);
-  table = rw (sym (c .before .before .before .before .before .before .before .before .before .before .first-field .ensures) ∙ c .before .before .before .before .before .before .before .before .loader .given .1, ← c .before .before .before .before .before .before .after .ensures, file-quick _ (sym (c .before .before .before .before .before .is-file .ensures) ∙ not-false _ (c .before .before .before .before .if1 .left))) (c .before .before .decode .ensures);
-}
+      command = rw (sym (c .before .before .before .before .before .before .before .before .before .before .first-field .ensures) ∙ c .before .before .before .before .before .before .before .before .loader .given .1, ← c .before .before .before .before .before .before .after .ensures, file-quick _ (sym (c .before .before .before .before .before .is-file .ensures) ∙ not-false _ (c .before .before .before .before .if1 .left)), pairs-length);
+      table = rw (sym (c .before .before .before .before .before .before .before .before .before .before .first-field .ensures) ∙ c .before .before .before .before .before .before .before .before .loader .given .1, ← c .before .before .before .before .before .before .after .ensures, file-quick _ (sym (c .before .before .before .before .before .is-file .ensures) ∙ not-false _ (c .before .before .before .before .if1 .left))) (c .before .before .decode .ensures);
+    }
 
 pub read-define-spec : {M : Type 1} → statement M
 read-define-spec =

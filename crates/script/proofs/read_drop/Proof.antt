@@ -1,6 +1,6 @@
 -- A task.
 use mathlib.Core.Path.{sym, _∙_}
-use Rattle.definition.specs.Maybe.{_>>=_, need}
+use Rattle.definition.specs.Maybe.{_>>=_}
 use Rattle.script.specs.Commands.{said, commandOf}
 use Rattle.script.specs.Parts.{short-none, short-some}
 use Rattle.script.specs.Calls.{dropLine}

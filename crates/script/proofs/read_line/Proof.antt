@@ -1,5 +1,5 @@
 -- A line by its first two bytes.
-use mathlib.Core.Path.{_≡_, refl, sym, ap, _∙_}
+use mathlib.Core.Path.{sym, ap, _∙_}
 use denote.Ref.{now}
 use lib.ListN.{length, length-drop}
 use Rattle.script.specs.Commands.{said, decoded}

@@ -1,6 +1,6 @@
 -- A task, a loader, a class, a method and an int, field by field.
 use mathlib.Core.Path.{sym, _∙_}
-use Rattle.definition.specs.Maybe.{_>>=_, need}
+use Rattle.definition.specs.Maybe.{_>>=_}
 use Rattle.script.specs.Commands.{said, commandOf}
 use Rattle.script.specs.Numbers.{number-none, number-some}
 use Rattle.script.specs.Calls.{withHead, startLine}

@@ -1,5 +1,5 @@
 -- Digit by digit: the number so far is at most `most`, and with the digits that are left it is the whole number.
-use mathlib.Core.Path.{_≡_, refl, sym, ap, _∙_}
+use mathlib.Core.Path.{_≡_, sym, _∙_}
 use Prim.Native.Nat.{_-_, _≤_}
 use lib.ListN.{length, drop}
 use Rattle.definition.specs.Script.{upTo}
