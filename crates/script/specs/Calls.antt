@@ -32,10 +32,12 @@ unfoldable pub recordLine : List ℕ → Option Line
 recordLine s =
     withHead (headOf s) s λ l t. withHead (headOf t) t λ n u. short u >>= λ c. line 82 (callRecord l n c)
 
+-- a start's class, method and int, after its task and loader
+unfoldable pub methodLine : ℕ → ℕ → List ℕ → Option Line
+methodLine k l s = withHead (headOf s) s λ n t. withHead (headOf t) t λ m u. int u >>= λ i. line 83 (callStart k l n m i)
+
 unfoldable pub startLine : List ℕ → Option Line
-startLine s =
-    withHead (headOf s) s λ k t. withHead (headOf t) t λ l u. withHead (headOf u) u λ n v.
-    withHead (headOf v) v λ m w. int w >>= λ i. line 83 (callStart k l n m i)
+startLine s = withHead (headOf s) s λ k t. withHead (headOf t) t λ l u. methodLine k l u
 
 -- a line of one byte
 unfoldable pub singleLine : ℕ → Option Line
@@ -275,7 +277,7 @@ record-line s =
     ∙ withHead-same (headOf t) t _ _ (λ n u. number-last (λ c. line 82 (callRecord l n c)) u))
 
 pub start-line : (s : List ℕ) → command 83 (fields s) ≡ startLine s
-unfolding startLine _>>=_
+unfolding startLine methodLine _>>=_
 start-line s =
     command-start (fields s) ∙ five-headed (λ k y z u v. short y >>= λ l. short z >>= λ n. short u >>= λ m. int v >>= λ i. line 83 (callStart k l n m i)) s
     ∙ withHead-same (headOf s) s _ _ (λ k t. four-headed (λ l z u v. short z >>= λ n. short u >>= λ m. int v >>= λ i. line 83 (callStart k l n m i)) t
@@ -324,6 +326,6 @@ unfolding recordLine decoded fileOnto
 record-keeps s = head-keeps (headOf s) s _ (λ l u. head-keeps (headOf u) u _ (λ n v. then-keeps (short v) _ (λ c t. refl)))
 
 pub start-keeps : (s : List ℕ) → Keeps (startLine s)
-unfolding startLine decoded fileOnto
+unfolding startLine methodLine decoded fileOnto
 start-keeps s =
     head-keeps (headOf s) s _ (λ k u. head-keeps (headOf u) u _ (λ l v. head-keeps (headOf v) v _ (λ n w. head-keeps (headOf w) w _ (λ m x. then-keeps (int x) _ (λ i t. refl)))))

@@ -11,7 +11,7 @@ ghost use Rattle.script.specs.Commands.{Read, said};
 ghost use Rattle.script.specs.Parts.{spaceFrom, shortIs, headOf};
 ghost use Rattle.script.specs.Numbers.{numberIs, extended, negated};
 ghost use Rattle.script.specs.Files.{hexValue, pairValue, quickPairs};
-ghost use Rattle.script.specs.Calls.{recordLine, startLine, dropLine, defineLine, singleLine};
+ghost use Rattle.script.specs.Calls.{recordLine, methodLine, startLine, dropLine, defineLine, singleLine};
 ghost use Rattle.script.specs.Details.{refusalNumbers, stepNumbers, Detailed};
 ghost use Rattle.script.specs.Printing.{lineOf, Printed, Wrote};
 use definition::Answer;
@@ -254,6 +254,23 @@ fn read_drop(s: &[u8]) -> Command
     Command::Drop(task)
 }
 
+// A start's class, method and int.
+fn read_method(task: u16, loader: u16, s: &[u8]) -> Command
+    ensures { λ r. ⌜ r ≡ said (methodLine task loader (now (s .entry))) ⌝ }
+{
+    let Head::Field(name, a) = first_field(s) else {
+        return Command::Unreadable;
+    };
+    let t = after(s, a);
+    let Head::Field(method, b) = first_field(t) else {
+        return Command::Unreadable;
+    };
+    let Number::Value(int) = int_number(after(t, b)) else {
+        return Command::Unreadable;
+    };
+    Command::Start(task, loader, name, method, int)
+}
+
 fn read_start(s: &[u8]) -> Command
     ensures { λ r. ⌜ r ≡ said (startLine (now (s .entry))) ⌝ }
 {
@@ -264,18 +281,7 @@ fn read_start(s: &[u8]) -> Command
     let Head::Field(loader, b) = first_field(t) else {
         return Command::Unreadable;
     };
-    let u = after(t, b);
-    let Head::Field(name, c) = first_field(u) else {
-        return Command::Unreadable;
-    };
-    let v = after(u, c);
-    let Head::Field(method, d) = first_field(v) else {
-        return Command::Unreadable;
-    };
-    let Number::Value(int) = int_number(after(v, d)) else {
-        return Command::Unreadable;
-    };
-    Command::Start(task, loader, name, method, int)
+    read_method(task, loader, after(t, b))
 }
 
 // The whole line is checked before a byte is written.

@@ -21,7 +21,10 @@ loop-holds c = (omega arith, refl, refl)
 
 loop-again : tie.Need-loop-again Inv-loop μ-loop
 loop-again c =
-    (omega arith, rw (c .before .before .put8 .ensures, c .before .before .before .byte-at .ensures, c .before .before .before .before .before .before .loop .inv .1) (pair-written _ _ _ (c .before .before .before .before .before .loop-test .taken)), c .before .before .put8 .kept .0 ∙ c .before .before .before .before .before .before .loop .inv .2)
+    let at1 = c .before .before .before in
+    let at2 = at1 .before .before in
+    let at3 = at2 .before in
+    (omega arith, rw (c .before .before .put8 .ensures, at1 .byte-at .ensures, at3 .loop .inv .1) (pair-written _ _ _ (at2 .loop-test .taken)), c .before .before .put8 .kept .0 ∙ at3 .loop .inv .2)
 
 same-length : tie.Need-same-length Inv-loop μ-loop
 same-length c = c .before .loop .inv .2

@@ -12,7 +12,9 @@ returns c = detailed (c .before .before .args .turn) (omega arith) _ _ (rw (c .e
 returns-2 : tie.Need-returns-2
 unfolding replyNumbers
 returns-2 c =
-    detailed (c .before .before .before .before .before .args .turn) (omega arith) _ _ (rw (c .before .before .before .reply .given .1, c .from16 .ensures .0, c .before .from8 .ensures .0))
+    let at1 = c .before .before .before in
+    let at2 = at1 .before .before in
+    detailed (at2 .args .turn) (omega arith) _ _ (rw (at1 .reply .given .1, c .from16 .ensures .0, c .before .from8 .ensures .0))
 
 returns-3 : tie.Need-returns-3
 unfolding replyNumbers

@@ -16,12 +16,19 @@ returns-2 c = rw (extended-above _ _ _ (c .before .if1 .left) (c .if2 .taken))
 returns-3 : tie.Need-returns-3
 unfolding numberIs
 returns-3 c =
-    rw (extended-past (c .before .before .before .before .before .before .args .most) (c .before .before .before .before .before .before .args .n) (c .before .before .before .before .before .before .args .digit) (c .before .before .before .before .before .if1 .left) (c .before .before .before .before .if2 .left) (omega (arith, c .if3 .taken)))
+    let at1 = c .before .before .before .before in
+    let at2 = at1 .before in
+    let at3 = at2 .before in
+    rw (extended-past (at3 .args .most) (at3 .args .n) (at3 .args .digit) (at2 .if1 .left) (at1 .if2 .left) (omega (arith, c .if3 .taken)))
 
 returns-4 : tie.Need-returns-4
 unfolding numberIs
 returns-4 c =
-    rw (extended-is (c .before .before .before .before .before .before .args .most) (c .before .before .before .before .before .before .args .n) (c .before .before .before .before .before .before .args .digit) (c .before .before .before .before .before .if1 .left) (c .before .before .before .before .if2 .left) (omega (arith, c .if3 .left)), ← c .before .before .before .wide32 .ensures .0, ← c .before .before .wide8 .ensures .0)
+    let at1 = c .before .before .before in
+    let at2 = at1 .before in
+    let at3 = at2 .before in
+    let at4 = at3 .before in
+    rw (extended-is (at4 .args .most) (at4 .args .n) (at4 .args .digit) (at3 .if1 .left) (at2 .if2 .left) (omega (arith, c .if3 .left)), ← at1 .wide32 .ensures .0, ← c .before .before .wide8 .ensures .0)
 
 pub extend-spec : {M : Type 1} → statement M
 extend-spec =

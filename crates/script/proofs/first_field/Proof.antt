@@ -14,16 +14,26 @@ returns c = rw (sym (c .before .before .first-space .ensures) ∙ c .enum-told .
 returns-2 : tie.Need-returns-2
 unfolding headOf headIn headRead
 returns-2 c =
-    rw (sym (c .before .before .before .before .before .before .before .first-space .ensures) ∙ c .before .before .before .before .before .i .given .1, ← c .before .before .before .before2 .ensures, sym (c .before .before .short-number .ensures) ∙ c .enum-told2 .given .1)
+    let at1 = c .before .before .before in
+    let at2 = at1 .before .before in
+    let at3 = at2 .before .before in
+    rw (sym (at3 .first-space .ensures) ∙ at2 .i .given .1, ← at1 .before2 .ensures, sym (c .before .before .short-number .ensures) ∙ c .enum-told2 .given .1)
 
 add-t7 : tie.Need-add-t7
 add-t7 c =
-    omega (arith, space-inside (now (c .before .before .before .before .before .before .before .before .before .before .args .s)) 0 (c .before .before .before .before .before .before .i .given .0 .0) (sym (c .before .before .before .before .before .before .before .before .first-space .ensures) ∙ c .before .before .before .before .before .before .i .given .1), c .before .before .before .before .before .before .before .before .before .before .good)
+    let at1 = c .before .before .before .before .before .before in
+    let at2 = at1 .before .before in
+    let at3 = at2 .before .before in
+    omega (arith, space-inside (now (at3 .args .s)) 0 (at1 .i .given .0 .0) (sym (at2 .first-space .ensures) ∙ at1 .i .given .1), at3 .good)
 
 returns-3 : tie.Need-returns-3
 unfolding headOf headIn headRead
 returns-3 c =
-    rw (sym (c .before .before .before .before .before .before .before .before .first-space .ensures) ∙ c .before .before .before .before .before .before .i .given .1, ← c .before .before .before .before .before2 .ensures, sym (c .before .before .before .short-number .ensures) ∙ c .before .n .given .1)
+    let at1 = c .before .before .before in
+    let at2 = at1 .before in
+    let at3 = at2 .before .before in
+    let at4 = at3 .before .before in
+    rw (sym (at4 .first-space .ensures) ∙ at3 .i .given .1, ← at2 .before2 .ensures, sym (at1 .short-number .ensures) ∙ c .before .n .given .1)
 
 pub first-field-spec : {M : Type 1} → statement M
 first-field-spec =

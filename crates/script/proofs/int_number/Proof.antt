@@ -7,7 +7,9 @@ use Rattle.script.proofs.int_number.Tie as tie
 
 returns : tie.Need-returns
 returns c =
-    rw (int-minus _ (sym (c .before .before .before .before .at8 .ensures) ∙ c .before .before .before .if1 .taken), ← c .before .before .after .ensures, ← c .before .up-to .ensures) (c .negative .ensures)
+    let at1 = c .before .before .before in
+    let at2 = at1 .before in
+    rw (int-minus _ (sym (at2 .at8 .ensures) ∙ at1 .if1 .taken), ← c .before .before .after .ensures, ← c .before .up-to .ensures) (c .negative .ensures)
 
 returns-2 : tie.Need-returns-2
 returns-2 c = rw (int-plain _ (λ e. c .before .if1 .left (c .before .before .at8 .ensures ∙ e))) (c .up-to2 .ensures)

@@ -29,11 +29,15 @@ loop-holds c = (omega arith, refl)
 returns-3 : tie.Need-returns-3 Inv-loop μ-loop
 unfolding isSome
 returns-3 c =
-    rw (file-bad _ (sym (c .before .before .before .before .loop .inv .1) ∙ hexes-bad _ _ (c .before .before .before .loop-test .taken) (rw (← c .before .hex-value .ensures) (c .if3 .taken))))
+    let at1 = c .before .before .before in
+    let at2 = at1 .before in
+    rw (file-bad _ (sym (at2 .loop .inv .1) ∙ hexes-bad _ _ (at1 .loop-test .taken) (rw (← c .before .hex-value .ensures) (c .if3 .taken))))
 
 loop-again : tie.Need-loop-again Inv-loop μ-loop
 loop-again c =
-    (omega arith, sym (hexes-later _ _ (c .before .before .before .loop-test .taken) (rw (← c .before .hex-value .ensures) (c .if3 .left))) ∙ c .before .before .before .before .loop .inv .1)
+    let at1 = c .before .before .before in
+    let at2 = at1 .before in
+    (omega arith, sym (hexes-later _ _ (at1 .loop-test .taken) (rw (← c .before .hex-value .ensures) (c .if3 .left))) ∙ at2 .loop .inv .1)
 
 returns-4 : tie.Need-returns-4 Inv-loop μ-loop
 unfolding isSome

@@ -43,12 +43,24 @@ add-result c = omega (arith, last-end (c .before .before .before .before .before
 
 same-length : tie.Need-same-length
 same-length c =
-    c .before .before .put82 .kept .0 ∙ (c .before .before .before .before .before .before .put-int .kept .0 ∙ (c .before .before .before .before .before .before .before .before .before .before .put-number3 .kept .0 ∙ (c .before .before .before .before .before .before .before .before .before .before .before .before .before .before .put-number2 .kept .0 ∙ (c .before .before .before .before .before .before .before .before .before .before .before .before .before .before .before .before .before .before .put-number .kept .0 ∙ c .before .before .before .before .before .before .before .before .before .before .before .before .before .before .before .before .before .before .before .before .before .before .before .before .put8 .kept .0))))
+    let at1 = c .before .before .before .before .before .before in
+    let at2 = at1 .before .before .before .before in
+    let at3 = at2 .before .before .before .before in
+    let at4 = at3 .before .before .before .before in
+    let at5 = at4 .before .before .before .before .before .before in
+    c .before .before .put82 .kept .0 ∙ (at1 .put-int .kept .0 ∙ (at2 .put-number3 .kept .0 ∙ (at3 .put-number2 .kept .0 ∙ (at4 .put-number .kept .0 ∙ at5 .put8 .kept .0))))
 
 returns : tie.Need-returns
 returns c =
-    line-wrote _ _ _ _ _ _ _ _ _ _ _ _ _ _ _ _ (c .before .before .before .before .before .before .before .before .before .before .before .before .before .before .before .before .before .before .before .before .before .before .before .before .put8 .ensures) (rw (c .before .before .before .before .before .before .before .before .before .before .before .before .before .before .before .before .before .before .before .from16 .ensures .0, c .before .before .before .before .before .before .before .before .before .before .before .before .before .before .before .before .before .before .before .before .from8 .ensures .0) at (c .before .before .before .before .before .before .before .before .before .before .before .before .before .before .before .before .before .before .put-number .ensures))
-    (c .before .before .before .before .before .before .before .before .before .before .before .before .before .before .put-number2 .ensures) (c .before .before .before .before .before .before .before .before .before .before .put-number3 .ensures) (c .before .before .before .before .before .before .put-int .ensures) (c .before .before .put82 .ensures)
+    let at1 = c .before .before .before .before .before .before in
+    let at2 = at1 .before .before .before .before in
+    let at3 = at2 .before .before .before .before in
+    let at4 = at3 .before .before .before .before in
+    let at5 = at4 .before in
+    let at6 = at5 .before in
+    let at7 = at6 .before .before .before .before in
+    line-wrote _ _ _ _ _ _ _ _ _ _ _ _ _ _ _ _ (at7 .put8 .ensures) (rw (at5 .from16 .ensures .0, at6 .from8 .ensures .0) at (at4 .put-number .ensures))
+    (at3 .put-number2 .ensures) (at2 .put-number3 .ensures) (at1 .put-int .ensures) (c .before .before .put82 .ensures)
 
 pub print-line-spec : {M : Type 1} → statement M
 print-line-spec =

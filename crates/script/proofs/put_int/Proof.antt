@@ -11,11 +11,16 @@ returns c = rw (signed-small _ (c .before .before .before .before .if1 .taken)) 
 
 same-length-2 : tie.Need-same-length-2
 same-length-2 c =
-    c .before .before .put-digits .kept .0 ∙ (c .before .before .before .before .before .before .put82 .kept .0 ∙ c .before .before .before .before .before .before .before .before .before .before .put8 .kept .0)
+    let at1 = c .before .before .before .before .before .before in
+    let at2 = at1 .before .before .before .before in
+    c .before .before .put-digits .kept .0 ∙ (at1 .put82 .kept .0 ∙ at2 .put8 .kept .0)
 
 returns-2 : tie.Need-returns-2
 returns-2 c =
-    minus-wrote _ _ _ _ _ (c .before .before .before .before .before .before .before .before .before .before .put8 .ensures) _ _ (c .before .before .before .before .before .before .before .before .before .before .before .before .if1 .left) (c .before .before .before .before .before .before .put82 .ensures) (c .before .before .put-digits .ensures)
+    let at1 = c .before .before .before .before .before .before in
+    let at2 = at1 .before .before .before .before in
+    let at3 = at2 .before .before in
+    minus-wrote _ _ _ _ _ (at2 .put8 .ensures) _ _ (at3 .if1 .left) (at1 .put82 .ensures) (c .before .before .put-digits .ensures)
 
 pub put-int-spec : {M : Type 1} → statement M
 put-int-spec =

@@ -26,7 +26,8 @@ returns-4 c =
 returns-5 : tie.Need-returns-5
 unfolding said decoded
 returns-5 c =
-    let other = no-line (c .before .before .before .args .letter) (now (c .before .before .before .args .s)) (ne-eqb _ _ (c .match .rest .0 .0 .0 .1)) (ne-eqb _ _ (c .match .rest .0 .0 .1)) (ne-eqb _ _ (c .match .rest .0 .1)) (ne-eqb _ _ (c .match .rest .1)) in
+    let at = c .before .before .before in
+    let other = no-line (at .args .letter) (now (at .args .s)) (ne-eqb _ _ (c .match .rest .0 .0 .0 .1)) (ne-eqb _ _ (c .match .rest .0 .0 .1)) (ne-eqb _ _ (c .match .rest .0 .1)) (ne-eqb _ _ (c .match .rest .1)) in
     record { command = rw other; table = rw other }
 
 pub read-call-spec : {M : Type 1} → statement M

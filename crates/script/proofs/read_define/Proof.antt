@@ -20,18 +20,28 @@ returns c =
 returns-2 : tie.Need-returns-2
 unfolding defineLine withHead said decoded _>>=_ commandOf fileOnto
 returns-2 c =
-    record { command = rw (sym (c .before .before .before .before .before .before .first-field .ensures) ∙ c .before .before .before .before .loader .given .1, ← c .before .before .after .ensures, file-none _ (sym (c .before .is-file .ensures) ∙ not-true _ (c .if1 .taken))); table = rw (sym (c .before .before .before .before .before .before .first-field .ensures) ∙ c .before .before .before .before .loader .given .1, ← c .before .before .after .ensures, file-none _ (sym (c .before .is-file .ensures) ∙ not-true _ (c .if1 .taken))) }
+    let at1 = c .before .before .before .before in
+    let at2 = at1 .before .before in
+    record { command = rw (sym (at2 .first-field .ensures) ∙ at1 .loader .given .1, ← c .before .before .after .ensures, file-none _ (sym (c .before .is-file .ensures) ∙ not-true _ (c .if1 .taken))); table = rw (sym (at2 .first-field .ensures) ∙ at1 .loader .given .1, ← c .before .before .after .ensures, file-none _ (sym (c .before .is-file .ensures) ∙ not-true _ (c .if1 .taken))) }
 
 cast-t14 : tie.Need-cast-t14
 cast-t14 c =
-    omega (arith, ap length (c .before .before .before .before .before .before .after .ensures), length-drop (c .before .before .before .before .before .before .before .before .loader .given .0 .1 .0) (now (c .before .before .before .before .before .before .before .before .before .before .before .before .before .args .s)), c .before .before .before .before .before .before .before .before .before .before .before .before .before .pre)
+    let at1 = c .before .before .before .before .before .before in
+    let at2 = at1 .before .before in
+    let at3 = at2 .before .before .before .before .before in
+    omega (arith, ap length (at1 .after .ensures), length-drop (at2 .loader .given .0 .1 .0) (now (at3 .args .s)), at3 .pre)
 
 returns-3 : tie.Need-returns-3
 unfolding defineLine withHead said decoded _>>=_ commandOf fileOnto
 returns-3 c =
+    let at1 = c .before .before .before .before in
+    let at2 = at1 .before in
+    let at3 = at2 .before in
+    let at4 = at3 .before .before in
+    let at5 = at4 .before .before in
     record {
-      command = rw (sym (c .before .before .before .before .before .before .before .before .before .before .first-field .ensures) ∙ c .before .before .before .before .before .before .before .before .loader .given .1, ← c .before .before .before .before .before .before .after .ensures, file-quick _ (sym (c .before .before .before .before .before .is-file .ensures) ∙ not-false _ (c .before .before .before .before .if1 .left)), pairs-length);
-      table = rw (sym (c .before .before .before .before .before .before .before .before .before .before .first-field .ensures) ∙ c .before .before .before .before .before .before .before .before .loader .given .1, ← c .before .before .before .before .before .before .after .ensures, file-quick _ (sym (c .before .before .before .before .before .is-file .ensures) ∙ not-false _ (c .before .before .before .before .if1 .left))) (c .before .before .decode .ensures);
+      command = rw (sym (at5 .first-field .ensures) ∙ at4 .loader .given .1, ← at3 .after .ensures, file-quick _ (sym (at2 .is-file .ensures) ∙ not-false _ (at1 .if1 .left)), pairs-length);
+      table = rw (sym (at5 .first-field .ensures) ∙ at4 .loader .given .1, ← at3 .after .ensures, file-quick _ (sym (at2 .is-file .ensures) ∙ not-false _ (at1 .if1 .left))) (c .before .before .decode .ensures);
     }
 
 pub read-define-spec : {M : Type 1} → statement M

@@ -21,15 +21,24 @@ returns-2 c =
 returns-3 : tie.Need-returns-3
 unfolding said decoded
 returns-3 c =
-    let joined = line-joined (now (c .before .before .before .before .before .before .before .args .line)) (c .before .before .if2 .left) (λ e. c .if3 .taken (c .before .at82 .ensures ∙ e)) in record { command = rw joined; table = rw joined }
+    let at = c .before .before .before .before .before .before .before in
+    let joined = line-joined (now (at .args .line)) (c .before .before .if2 .left) (λ e. c .if3 .taken (c .before .at82 .ensures ∙ e)) in record { command = rw joined; table = rw joined }
 
 read-call-requires : tie.Need-read-call-requires
 read-call-requires c κs =
-    omega (arith, ap length (c .before .after .ensures), length-drop 2 (now (c .before .before .before .before .before .before .before .before .before .args .line)), c .before .before .before .before .before .before .if1 .left)
+    let at1 = c .before .before .before .before .before .before in
+    let at2 = at1 .before .before .before in
+    omega (arith, ap length (c .before .after .ensures), length-drop 2 (now (at2 .args .line)), at1 .if1 .left)
 
 returns-4 : tie.Need-returns-4
 returns-4 c =
-    rw (line-call _ (c .before .before .before .before .before .before .before .before .before .if1 .left) (c .before .before .before .before .before .before .before .if2 .left) (sym (c .before .before .before .before .before .before .at82 .ensures) ∙ c .before .before .before .before .before .if3 .left), ← c .before .before .before .before .before .before .before .before .at8 .ensures, ← c .before .before .before .before .after .ensures) (c .before .before .read-call .ensures)
+    let at1 = c .before .before .before .before in
+    let at2 = at1 .before in
+    let at3 = at2 .before in
+    let at4 = at3 .before in
+    let at5 = at4 .before in
+    let at6 = at5 .before in
+    rw (line-call _ (at6 .if1 .left) (at4 .if2 .left) (sym (at3 .at82 .ensures) ∙ at2 .if3 .left), ← at5 .at8 .ensures, ← at1 .after .ensures) (c .before .before .read-call .ensures)
 
 pub read-line-spec : {M : Type 1} → statement M
 read-line-spec =

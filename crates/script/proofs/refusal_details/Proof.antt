@@ -7,7 +7,10 @@ use Rattle.script.proofs.refusal_details.Tie as tie
 returns : tie.Need-returns
 unfolding refusalNumbers
 returns c =
-    rw (c .before .before .before .before .before .before .refusal .given .1, c .before .before .before .from16 .ensures .0, c .before .before .before .before .from8 .ensures .0, c .before .before .from162 .ensures .0, c .from163 .ensures .0, c .before .from82 .ensures .0)
+    let at1 = c .before .before .before in
+    let at2 = at1 .before in
+    let at3 = at2 .before .before in
+    rw (at3 .refusal .given .1, at1 .from16 .ensures .0, at2 .from8 .ensures .0, c .before .before .from162 .ensures .0, c .from163 .ensures .0, c .before .from82 .ensures .0)
 
 returns-2 : tie.Need-returns-2
 unfolding refusalNumbers

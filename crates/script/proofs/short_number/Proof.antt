@@ -14,7 +14,9 @@ returns c = rw (number-none _ (sym (c .before .before .up-to .ensures) ∙ c .en
 
 cast-t4 : tie.Need-cast-t4
 cast-t4 c =
-    omega (arith, upTo-low 65535 (now (c .before .before .before .before .before .args .s)) (c .before .n .given .0 .0) (number-some _ _ (sym (c .before .before .before .up-to .ensures) ∙ c .before .n .given .1)))
+    let at1 = c .before .before .before in
+    let at2 = at1 .before .before in
+    omega (arith, upTo-low 65535 (now (at2 .args .s)) (c .before .n .given .0 .0) (number-some _ _ (sym (at1 .up-to .ensures) ∙ c .before .n .given .1)))
 
 returns-2 : tie.Need-returns-2
 unfolding shortIs

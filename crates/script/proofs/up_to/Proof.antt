@@ -26,12 +26,17 @@ loop-holds c = (omega arith, omega arith, bounded-start _ _ (c .if1 .left))
 returns-2 : tie.Need-returns-2 Inv-loop μ-loop
 unfolding numberIs
 returns-2 c =
-    rw (← c .before .before .before .before .before .loop .inv .2, next-byte _ _ (c .before .before .before .before .loop-test .taken), bounded-over _ _ _ _ (number-none _ (sym (c .before .before .extend .ensures) ∙ c .enum-told .given .1)))
+    let at1 = c .before .before .before .before in
+    let at2 = at1 .before in
+    rw (← at2 .loop .inv .2, next-byte _ _ (at1 .loop-test .taken), bounded-over _ _ _ _ (number-none _ (sym (c .before .before .extend .ensures) ∙ c .enum-told .given .1)))
 
 loop-again : tie.Need-loop-again Inv-loop μ-loop
 loop-again c =
-    let e = number-some _ _ (sym (c .before .before .before .extend .ensures) ∙ c .before .next .given .1) in
-    (omega arith, bounded-low _ _ _ _ e, sym (bounded-more _ _ _ _ _ e) ∙ rw (← next-byte _ _ (c .before .before .before .before .before .loop-test .taken)) (c .before .before .before .before .before .before .loop .inv .2))
+    let at1 = c .before .before .before in
+    let at2 = at1 .before .before in
+    let at3 = at2 .before in
+    let e = number-some _ _ (sym (at1 .extend .ensures) ∙ c .before .next .given .1) in
+    (omega arith, bounded-low _ _ _ _ e, sym (bounded-more _ _ _ _ _ e) ∙ rw (← next-byte _ _ (at2 .loop-test .taken)) (at3 .loop .inv .2))
 
 returns-3 : tie.Need-returns-3 Inv-loop μ-loop
 unfolding numberIs
