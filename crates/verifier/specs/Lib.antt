@@ -1,0 +1,5 @@
+-- What the verifier's code answers, by the definitions.
+pub mod Decoding
+pub mod Types
+pub mod Effects
+pub mod Trace
