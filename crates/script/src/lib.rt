@@ -12,7 +12,7 @@ ghost use Rattle.script.specs.Parts.{spaceFrom, shortIs, headOf};
 ghost use Rattle.script.specs.Numbers.{numberIs, extended, negated};
 ghost use Rattle.script.specs.Files.{hexValue, pairValue, quickPairs};
 ghost use Rattle.script.specs.Calls.{recordLine, methodLine, startLine, dropLine, defineLine, singleLine};
-ghost use Rattle.script.specs.Details.{refusalNumbers, stepNumbers, Detailed};
+ghost use Rattle.script.specs.Details.{refusalNumbers, stepNumbers, Detailed, turnIn};
 ghost use Rattle.script.specs.Printing.{lineOf, Printed, Wrote};
 use definition::Answer;
 use definition::Refusal;
@@ -416,6 +416,13 @@ pub fn details_of(turn: u8, reply: Reply) -> Details
         Reply::RanFor(_, answer) => step_details(turn, answer),
         Reply::Denied(refusal) => refusal_details(0, refusal),
     }
+}
+
+// The task whose turn it is: the quote if it has a frame, else the report.
+pub fn turn_of(counts: &[u16]) -> u8
+    ensures { λ r. ⌜ r ≡ turnIn (now (counts .entry)) ⌝ }
+{
+    if cells::at16(counts, 6) == 0 { 1 } else { 0 }
 }
 
 // Printing. Each function writes from a place on and answers the place after what it wrote; past the table's end nothing is written.
