@@ -5,5 +5,6 @@ pub mod Numbers
 pub mod Files
 pub mod Calls
 pub mod Lines
+pub mod Facts
 pub mod Details
 pub mod Printing
