@@ -7,22 +7,21 @@ use mathlib.Core.List.{List, [], _∷_, _++_}
 use Prim.Native.Nat.{ℕ, zero, suc, _+_, _*_, _-_, _<_, _≤_}
 use native.Mathlib.Nat.{le-trans, min-le-left}
 use native.Mathlib.Omega.{arith}
-use lib.ListN.{length, getD, take, drop, length-append, length-take}
+use lib.ListN.{length, getD, drop, length-append, length-take}
 use Rattle.definition.specs.Instructions.{shortAt, pick}
 use Rattle.definition.specs.Lists.{rows, writeRows}
 use Rattle.definition.specs.Maybe.{_>>=_}
 use Rattle.definition.specs.Classes.{Class, Method}
 use Rattle.definition.specs.File.{File, readFile, classOf}
-use Rattle.definition.specs.Verifier.{Note, notesOfMethod, notesOf}
+use Rattle.definition.specs.Verifier.{notesOf}
 use Rattle.layout.specs.Places.{rows-step, rows-none, rows-start}
 use Rattle.classfile.specs.declared.MethodFound.{MethodFound}
 use Rattle.classfile.specs.declared.MethodFound.the-variants.{At, Absent}
 use Rattle.classfile.specs.Reading.{className, methodCount, codeLength, codeAt, methodAt, nextPlace, methodPlace, methodIn, quickMethods, methodsFrom, methodFound, numbered}
 use Rattle.classfile.specs.Searches.{numbered-in, method-at, method-absent}
 use Rattle.classfile.specs.Laws.{file-readable, name-of, methods-of}
-use Rattle.verifier.specs.declared.methods.Verified.{Verified}
 use Rattle.verifier.specs.declared.methods.Verified.the-variants.{Notes, Rejected}
-use Rattle.verifier.specs.Trace.{Trace, after, acceptedNotes, granted, putNote, Verification, verification, recorded, methodTrace, verified, traceOf, followed, methodsTrace, classTrace}
+use Rattle.verifier.specs.Trace.{Trace, after, acceptedNotes, granted, verification, recorded, methodTrace, verified, traceOf, followed, methodsTrace, classTrace}
 use Rattle.verifier.proofs.TraceLaws.{granted-after, begins, recorded-after, method-says, table-says, accepted-walk, rejected-walk}
 use Rattle.verifier.proofs.CountLaws.{notes-few}
 

@@ -1,9 +1,9 @@
 -- A method makes no more notes than its code has bytes: an instruction makes at most as many as it has bytes.
-use mathlib.Core.Path.{_≡_, refl, sym, ap, subst, _∙_}
+use mathlib.Core.Path.{_≡_, refl, sym, subst}
 use mathlib.Core.Bool.{Bool, true, false}
 use mathlib.Core.Option.{Option, none, some}
-use mathlib.Core.List.{List, [], _∷_, _++_}
-use Prim.Native.Nat.{ℕ, zero, suc, _+_, _-_, _<_, _≤_}
+use mathlib.Core.List.{List, []}
+use Prim.Native.Nat.{ℕ, zero, suc, _+_, _-_, _≤_}
 use native.Mathlib.Omega.{arith}
 use lib.ListN.{length, getD, length-append}
 use lib.Dec.{eqb}
@@ -12,9 +12,9 @@ use Rattle.definition.specs.declared.Opcode.the-variants.{OpAconstNull, OpSipus
 use Rattle.definition.specs.declared.Instruction.{Instruction}
 use Rattle.definition.specs.declared.Instruction.the-variants.{Areturn}
 use Rattle.definition.specs.Instructions.{Decoded, opcodeOf, inlineLength, instructionOf, decode, pick}
-use Rattle.definition.specs.Maybe.{_>>=_, need}
-use Rattle.definition.specs.Verifier.{VerifierType, typeInt, typeNull, typeClass, Note, TypeState, Flow, flow, meetClass, meetInt, meets, effect, returns, isReturn}
-use Rattle.verifier.specs.Effects.{Outcome, rejected, goes, ends, going, ending, outcome}
+use Rattle.definition.specs.Maybe.{_>>=_}
+use Rattle.definition.specs.Verifier.{VerifierType, typeInt, typeNull, typeClass, Note, TypeState, Flow, meetClass, meetInt, meets, effect, returns, isReturn}
+use Rattle.verifier.specs.Effects.{ends, going, ending, outcome}
 use Rattle.verifier.specs.Types.{entryOf}
 use Rattle.verifier.specs.Trace.{Turned, settle, turnedBy, turned, Trace, after, onward, trace, methodTrace}
 use Rattle.verifier.proofs.DecodingLaws.{decode-size, decode-instruction, decode-within}

@@ -12,7 +12,6 @@ use borrow.Author.Tests.{eq-eqb, ne-eqb, eqb-true, eqb-false, lt-leb, le-leb}
 use Rattle.definition.specs.Instructions.{pick}
 use Rattle.definition.specs.Lists.{stack}
 use Rattle.definition.specs.Maybe.{_>>=_}
-use Rattle.definition.specs.declared.Instruction.{Instruction}
 use Rattle.definition.specs.declared.Instruction.the-variants.{AconstNull, Sipush, Iload, Aload, Areturn}
 use Rattle.definition.specs.Verifier.{VerifierType, typeInt, typeNull, typeClass, Note, TypeState, Flow, flow, meetClass, meetInt, meets, asReference, pop, effect, returns}
 use Rattle.verifier.specs.declared.types.Types.{Types}

@@ -1,10 +1,10 @@
 -- The table of notes: rows are written in any order, keep the table's length, and are read back.
-use mathlib.Core.Path.{_≡_, refl, sym, ap, _∙_}
+use mathlib.Core.Path.{_≡_, sym, ap, _∙_}
 use mathlib.Core.List.{List, [], _∷_, _++_}
 use mathlib.Core.Logic.{_≢_}
-use Prim.Native.Nat.{ℕ, suc, _+_, _*_, _<_, _≤_}
+use Prim.Native.Nat.{ℕ, suc, _+_, _*_, _≤_}
 use native.Mathlib.Omega.{arith}
-use lib.ListN.{length, getD, set, length-set, length-append}
+use lib.ListN.{length, set, length-set, length-append}
 use lib.Seq.{set-comm, set-out, set-getD, getD-set-same, getD-set-other}
 use Rattle.definition.specs.Lists.{writeRows}
 use Rattle.definition.specs.Verifier.{Note}
@@ -12,7 +12,7 @@ use Rattle.layout.specs.Places.{writeRows-length}
 use Rattle.layout.specs.Cells.{RowLaws, rows-first}
 use Rattle.verifier.specs.declared.effects.Meeting.{Meeting}
 use Rattle.verifier.specs.declared.effects.Meeting.the-variants.{Unmet, Met, Noted}
-use Rattle.verifier.specs.Trace.{made, note, putNote, noteAt, Wrote}
+use Rattle.verifier.specs.Trace.{made, putNote, noteAt, Wrote}
 
 pub note-length : (t : List ℕ) (i : ℕ) (x : Note) → length (putNote t i x) ≡ length t
 unfolding putNote

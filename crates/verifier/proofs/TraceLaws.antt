@@ -2,12 +2,11 @@
 use mathlib.Core.Path.{_≡_, refl, sym, ap, _∙_}
 use mathlib.Core.Bool.{Bool, true, false}
 use mathlib.Core.Option.{Option, none, some}
-use mathlib.Core.List.{List, [], _∷_, _++_, append-nil}
-use Prim.Native.Nat.{ℕ, zero, suc, _+_, _*_, _-_, _<_, _≤_}
+use mathlib.Core.List.{List, _++_, append-nil}
+use Prim.Native.Nat.{ℕ, zero, suc, _+_, _-_, _<_, _≤_}
 use native.Mathlib.Omega.{arith}
 use lib.ListN.{length, length-append}
 use lib.Dec.{eqb}
-use Rattle.definition.specs.declared.Instruction.{Instruction}
 use Rattle.definition.specs.Instructions.{Decoded, decode, pick}
 use Rattle.definition.specs.Lists.{writeRows}
 use Rattle.definition.specs.Maybe.{_>>=_, need}
@@ -18,7 +17,7 @@ use Rattle.verifier.specs.declared.turns.Step.the-variants.{Stop, End, N
 use Rattle.verifier.specs.declared.methods.Verified.{Verified}
 use Rattle.verifier.specs.declared.methods.Verified.the-variants.{Notes, Rejected}
 use Rattle.verifier.specs.Types.{typesOf, entryOf}
-use Rattle.verifier.specs.Effects.{Outcome, rejected, goes, ends, going, ending, outcome}
+use Rattle.verifier.specs.Effects.{going, ending, outcome}
 use Rattle.verifier.specs.Trace.{Turned, halted, settle, turnedBy, turned, Trace, after, onward, trace, made, nextOf, turnOf, putNote, Wrote, Verification, verification, recorded, methodTrace, verified, acceptedNotes, granted}
 use Rattle.verifier.proofs.NoteLaws.{notes-append}
 

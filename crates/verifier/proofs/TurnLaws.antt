@@ -1,9 +1,8 @@
 -- An effect carried out: at most 16 operands, a type pushed, a local set, and meetings that are met.
 use mathlib.Core.Path.{_≡_, refl, sym, ap, _∙_, fun-ext}
-use mathlib.Core.Bool.{Bool, true, false}
+use mathlib.Core.Bool.{true, false}
 use mathlib.Core.Option.{Option, none, some}
 use mathlib.Core.List.{List, [], _∷_, _++_}
-use mathlib.Core.Logic.{_≢_}
 use Prim.Native.Nat.{ℕ, suc, _+_, _<_, _≤_}
 use native.Mathlib.Omega.{arith}
 use native.Mathlib.Numerals.{add-one}
@@ -22,7 +21,7 @@ use Rattle.verifier.specs.declared.decoding.Reading.the-variants.{At, Un
 use Rattle.verifier.specs.declared.types.Types.{Types}
 use Rattle.verifier.specs.declared.effects.Meeting.{Meeting}
 use Rattle.verifier.specs.declared.effects.Meeting.the-variants.{Unmet, Met, Noted}
-use Rattle.verifier.specs.declared.effects.Effect.the-variants.{Kept, Pushed, Stored, Ended}
+use Rattle.verifier.specs.declared.effects.Effect.the-variants.{Kept, Pushed, Stored}
 use Rattle.verifier.specs.Decoding.{readingOf, decodedOf}
 use Rattle.verifier.specs.Types.{typeOf, localOf, operandAt, localAt, localsOf, typesOf}
 use Rattle.verifier.specs.Effects.{notesIn, rejected, going, ending, outcome, outcomeOf}

@@ -6,8 +6,6 @@ use crate::types::entry_types;
 ghost use mathlib.Core.Path.{_≡_};
 ghost use mathlib.Core.List.{_++_};
 ghost use Prim.Native.Nat.{_+_, _<_};
-ghost use lib.ListN.{length};
-ghost use Rattle.definition.specs.Lists.{writeRows};
 ghost use Rattle.verifier.specs.Trace.{made, note, putNote, Wrote, verification, methodTrace, verified};
 
 // The verifier's answer: how many notes it made, or that it rejects.

@@ -6,9 +6,6 @@ use crate::effects::Meeting;
 use crate::effects::effect_of;
 use crate::types::Types;
 ghost use mathlib.Core.Path.{_≡_};
-ghost use mathlib.Core.Option.{some};
-ghost use mathlib.Core.List.{_++_};
-ghost use lib.Dec.{eqb};
 ghost use Rattle.definition.specs.Lists.{isSome};
 ghost use Rattle.verifier.specs.Types.{typesOf};
 ghost use Rattle.verifier.specs.Effects.{notesIn, going, outcomeOf};
@@ -149,7 +146,7 @@ fn carried_out(types: Types, e: Effect, end: usize, last: bool) -> Turn
 }
 
 // The instruction at point p of a method with that result type.
-pub fn turn_at(code: &[u8], p: usize, result: u16, types: Types) -> Turn
+pub(crate) fn turn_at(code: &[u8], p: usize, result: u16, types: Types) -> Turn
     ensures { λ r. ⌜ turnOf r ≡ turned (now (code .entry)) result p (typesOf types) ⌝ }
 {
     let Reading::At(i, size) = decode(code, p) else {
