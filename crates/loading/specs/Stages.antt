@@ -102,7 +102,6 @@ pub define-stages : (room : Bool) (k : Class) (w : World)
 unfolding define superFor postedFor _>>=_ need take?
 define-stages room k w = go (notesOf k (k .methods)) (isNone (find (w .base .cache) (at (k .loader) (k .name)))) (find (w .base .cache) (at (k .loader) (k .super)))
   where
-
     go : (o : Option (List Note)) (a : Bool) (q : Option ℕ)
         → (take? o (Word 6) >>= λ ns. need a (Word 4) >>= λ _. take? q (wanted (at (k .loader) (k .super))) >>= λ p.
         need (not (any (hides (w .base) p) (k .fields))) (Word 8) >>= λ _. postedFor room k w ns p)

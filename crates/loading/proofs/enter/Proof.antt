@@ -10,8 +10,8 @@ use Rattle.loading.proofs.enter.Tie as tie
 
 returns : tie.Need-returns
 returns c = (
-    c .before .before .before .before .before .before .put16 .ensures ∙ (λ i. set ((c .before .before .before .before .before .before .before .before .before .before .before .before .before .before .before .write-cells .ensures ∙ copied _ _ (c .before .before .before .before .before .before .before .before .before .before .before .before .before .before .before .before .before .before .before .before .before .pre .1)) i) 2 (c .before .before .before .before .before .before .before .before .at16 .ensures i + 1)),
-    c .before .before .put-three .ensures ∙ (λ i. putThree ((c .before .before .before .before .before .before .before .before .before .before .before .write-cells2 .ensures ∙ copied _ _ (c .before .before .before .before .before .before .before .before .before .before .before .before .before .before .before .before .before .before .before .before .before .pre .2)) i) (c .before .before .before .before .before .before .before .before .at16 .ensures i) (c .before .before .before .before .before .before .before .before .before .before .before .before .before .before .before .before .before .before .before .before .before .args .loader) (c .before .before .before .before .before .before .before .before .before .before .before .before .before .before .before .before .before .before .before .before .before .args .name) (c .before .before .before .before .before .before .before .before .before .before .before .before .before .before .before .before .before .before .before .before .before .args .class)),
+  c .before .before .before .before .before .before .put16 .ensures ∙ (λ i. set ((c .before .before .before .before .before .before .before .before .before .before .before .before .before .before .before .write-cells .ensures ∙ copied _ _ (c .before .before .before .before .before .before .before .before .before .before .before .before .before .before .before .before .before .before .before .before .before .pre .1)) i) 2 (c .before .before .before .before .before .before .before .before .at16 .ensures i + 1)),
+  c .before .before .put-three .ensures ∙ (λ i. putThree ((c .before .before .before .before .before .before .before .before .before .before .before .write-cells2 .ensures ∙ copied _ _ (c .before .before .before .before .before .before .before .before .before .before .before .before .before .before .before .before .before .before .before .before .before .pre .2)) i) (c .before .before .before .before .before .before .before .before .at16 .ensures i) (c .before .before .before .before .before .before .before .before .before .before .before .before .before .before .before .before .before .before .before .before .before .args .loader) (c .before .before .before .before .before .before .before .before .before .before .before .before .before .before .before .before .before .before .before .before .before .args .name) (c .before .before .before .before .before .before .before .before .before .before .before .before .before .before .before .before .before .before .before .before .before .args .class)),
 )
 
 pub enter-spec : {M : Type 1} → statement M
