@@ -1,0 +1,2 @@
+-- Laws that the proof of `tariff_check` cites.
+pub mod Laws

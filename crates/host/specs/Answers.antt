@@ -1,0 +1,82 @@
+-- What a host is told of a call: the answer table's six cells, and the number that the call returns.
+use mathlib.Core.Path.{_≡_, refl, sym, ap, subst}
+use mathlib.Core.List.{List, [], _∷_}
+use Prim.Native.Nat.{ℕ}
+use lib.ListN.{set}
+use Rattle.definition.specs.Lists.{writeRows}
+use Rattle.definition.specs.Answers.{number, numberOfStep, numberOf, countOf}
+use Rattle.definition.specs.declared.Refusal.{Refusal}
+use Rattle.definition.specs.declared.Refusal.the-variants.{Wanted, Word}
+use Rattle.definition.specs.declared.Answer.{Answer}
+use Rattle.definition.specs.declared.Answer.the-variants.{Idle, Ran, Finished, Refused}
+use Rattle.definition.specs.declared.Reply.{Reply}
+use Rattle.definition.specs.declared.Reply.the-variants.{Accepted, Defined, Stepped, RanFor, Denied}
+use Rattle.definition.specs.Tables.{Tables}
+use Rattle.definition.specs.Calls.{Call, Done, perform}
+use Rattle.layout.specs.Cells.{cells-sets}
+use Rattle.script.specs.Details.{refusalNumbers, stepNumbers, replyNumbers, turnIn}
+
+unfoldable pub kindOf : Reply → ℕ
+kindOf Accepted = 0
+kindOf (Defined c) = 1
+kindOf (Stepped a) = 2
+kindOf (RanFor n a) = 3
+kindOf (Denied r) = 4
+
+-- kind, refusal's number, three details, steps that ran
+unfoldable pub answerCells : ℕ → Reply → List ℕ
+answerCells turn r =
+    let d = replyNumbers turn r in
+    kindOf r ∷ d .refusal ∷ d .one ∷ d .two ∷ d .three ∷ countOf r ∷ []
+
+-- the answer table before and after, and the number returned
+pub record Reported (turn : ℕ) (reply : Reply) (before after : List ℕ) (r : ℕ) : Type 0 where
+  pub answer : after ≡ writeRows set (answerCells turn reply) 0 before
+  pub number : r ≡ numberOf reply
+
+-- a call on the tables t leaves the tables u, and its reply is reported
+pub record Called (c : Call) (t u : Tables) (before after : List ℕ) (r : ℕ) : Type 0 where
+  pub tables : u ≡ perform c t .tables
+  pub reported : Reported (turnIn (t .counts)) (perform c t .answer) before after r
+
+-- Laws
+
+refusal-number : (k : ℕ) (r : Refusal) → refusalNumbers k r .refusal ≡ number r
+unfolding refusalNumbers number
+refusal-number k (Wanted l n) = refl
+refusal-number k (Word n) = refl
+
+step-number : (k : ℕ) (a : Answer) → stepNumbers k a .refusal ≡ numberOfStep a
+unfolding stepNumbers numberOfStep
+step-number k Idle = refl
+step-number k (Ran j) = refl
+step-number k (Finished j n) = refl
+step-number k (Refused r) = refusal-number k r
+
+-- a run is accepted, whatever its last answer; else the number among the details is the reply's
+unfoldable pub numberGiven : Reply → ℕ → ℕ
+numberGiven Accepted k = k
+numberGiven (Defined c) k = k
+numberGiven (Stepped a) k = k
+numberGiven (RanFor n a) k = 0
+numberGiven (Denied r) k = k
+
+pub reply-number : (k : ℕ) (r : Reply) → numberGiven r (replyNumbers k r .refusal) ≡ numberOf r
+unfolding numberGiven replyNumbers numberOf
+reply-number k Accepted = refl
+reply-number k (Defined c) = refl
+reply-number k (Stepped a) = step-number k a
+reply-number k (RanFor n a) = refl
+reply-number k (Denied r) = refusal-number 0 r
+
+-- six cells written one after another
+pub cells-written : (a b c d e f : ℕ) (t : List ℕ)
+    → set (set (set (set (set (set t 0 a) 1 b) 2 c) 3 d) 4 e) 5 f ≡ writeRows set (a ∷ b ∷ c ∷ d ∷ e ∷ f ∷ []) 0 t
+cells-written a b c d e f t = sym (cells-sets (a ∷ b ∷ c ∷ d ∷ e ∷ f ∷ []) 0 t)
+
+pub called : (c : Call) (t u : Tables) (before after : List ℕ) (reply : Reply) (r : ℕ) → record { answer = reply; tables = u } ≡ perform c t
+    → Reported (turnIn (t .counts)) reply before after r → Called c t u before after r
+called c t u before after reply r e p = record {
+  tables = ap (λ (d : Done Reply). d .tables) e;
+  reported = subst (λ (a : Reply). Reported (turnIn (t .counts)) a before after r) (ap (λ (d : Done Reply). d .answer) e) p;
+}

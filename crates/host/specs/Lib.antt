@@ -1,0 +1,2 @@
+-- What a host is told of a call.
+pub mod Answers

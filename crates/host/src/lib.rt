@@ -1,0 +1,189 @@
+// The calls of the machine for a host program in C. Each takes the eight tables, the call's numbers or file, and a table of six cells
+// for the answer: the kind of the reply, the refusal's number, three details as a script's line prints them, and the count of steps that ran.
+use definition::Reply;
+ghost use mathlib.Core.Path.{_≡_};
+ghost use Rattle.definition.specs.Answers.{countOf};
+ghost use Rattle.definition.specs.Tables.{tables};
+ghost use Rattle.definition.specs.Calls.{callBoot, callDefine, callRecord, callStart, callStep, callRun, callDrop};
+ghost use Rattle.host.specs.Answers.{kindOf, numberGiven, Reported, Called};
+
+// 0 accepted, 1 defined, 2 stepped, 3 ran, 4 denied.
+fn kind_of(reply: Reply) -> u32
+    ensures { λ r. ⌜ r ≡ kindOf reply ⌝ }
+{
+    match reply {
+        Reply::Accepted => 0,
+        Reply::Defined(_) => 1,
+        Reply::Stepped(_) => 2,
+        Reply::RanFor(_, _) => 3,
+        Reply::Denied(_) => 4,
+    }
+}
+
+fn count_of(reply: Reply) -> u32
+    ensures { λ r. ⌜ r ≡ countOf reply ⌝ }
+{
+    match reply {
+        Reply::Accepted => 0,
+        Reply::Defined(_) => 0,
+        Reply::Stepped(_) => 0,
+        Reply::RanFor(count, _) => cells::from16(count),
+        Reply::Denied(_) => 0,
+    }
+}
+
+// The number of a reply whose details have that refusal's number: a run is accepted, whatever its last answer is.
+fn number_of(reply: Reply, refusal: u8) -> u8
+    ensures { λ r. ⌜ r ≡ numberGiven reply refusal ⌝ }
+{
+    match reply {
+        Reply::Accepted => refusal,
+        Reply::Defined(_) => refusal,
+        Reply::Stepped(_) => refusal,
+        Reply::RanFor(_, _) => 0,
+        Reply::Denied(_) => refusal,
+    }
+}
+
+// A reply written into the answer table, as much of it as the table has room for; answers the reply's number.
+fn report(answer: &mut [u32], turn: u8, reply: Reply) -> u8
+    ensures { λ r. ⌜ Reported turn reply (now (answer .entry)) (now (answer .exit)) r ⌝ }
+{
+    let details = script::details_of(turn, reply);
+    let refusal = details.refusal;
+    cells::put32(answer, 0, kind_of(reply));
+    cells::put32(answer, 1, cells::from16(cells::from8(refusal)));
+    cells::put32(answer, 2, details.one);
+    cells::put32(answer, 3, details.two);
+    cells::put32(answer, 4, details.three);
+    cells::put32(answer, 5, count_of(reply));
+    number_of(reply, refusal)
+}
+
+// boot: class 0 is Object, the cache holds only (0, 2), all other rows are emptied.
+#[no_mangle]
+pub extern "C" fn tariff_boot(
+    counts: &mut [u16],
+    classes: &mut [u16],
+    kept: &[u8],
+    cache: &mut [u16],
+    ties: &[u16],
+    subtypes: &[u16],
+    objects: &[u32],
+    frames: &[u32],
+    answer: &mut [u32],
+) -> u8
+    ensures { λ r. ⌜ Called callBoot (tables (now (counts .entry)) (now (classes .entry)) (now (kept .entry)) (now (cache .entry)) (now (ties .entry)) (now (subtypes .entry)) (now (objects .entry)) (now (frames .entry))) (tables (now (counts .exit)) (now (classes .exit)) (now (kept .entry)) (now (cache .exit)) (now (ties .entry)) (now (subtypes .entry)) (now (objects .entry)) (now (frames .entry))) (now (answer .entry)) (now (answer .exit)) r ⌝ }
+{
+    let turn = script::turn_of(counts);
+    let reply = loading::boot(
+        counts,
+        classes,
+        kept,
+        cache,
+        ties,
+        subtypes,
+        objects,
+        frames,
+    );
+    report(answer, turn, reply)
+}
+
+// define: a class from its file.
+#[no_mangle]
+pub extern "C" fn tariff_define(
+    counts: &mut [u16],
+    classes: &mut [u16],
+    kept: &mut [u8],
+    cache: &mut [u16],
+    ties: &mut [u16],
+    subtypes: &mut [u16],
+    objects: &[u32],
+    frames: &[u32],
+    loader: u32,
+    file: &[u8],
+    answer: &mut [u32],
+) -> u8
+    ensures { λ r. ⌜ Called (callDefine loader (now (file .entry))) (tables (now (counts .entry)) (now (classes .entry)) (now (kept .entry)) (now (cache .entry)) (now (ties .entry)) (now (subtypes .entry)) (now (objects .entry)) (now (frames .entry))) (tables (now (counts .exit)) (now (classes .exit)) (now (kept .exit)) (now (cache .exit)) (now (ties .exit)) (now (subtypes .exit)) (now (objects .entry)) (now (frames .entry))) (now (answer .entry)) (now (answer .exit)) r ⌝ }
+{
+    let turn = script::turn_of(counts);
+    let reply = loading::define(
+        counts,
+        classes,
+        kept,
+        cache,
+        ties,
+        subtypes,
+        objects,
+        frames,
+        loader,
+        file,
+    );
+    report(answer, turn, reply)
+}
+
+// record: the answer of a loader that delegated.
+#[no_mangle]
+pub extern "C" fn tariff_record(
+    counts: &mut [u16],
+    classes: &[u16],
+    kept: &[u8],
+    cache: &mut [u16],
+    ties: &[u16],
+    subtypes: &[u16],
+    objects: &[u32],
+    frames: &[u32],
+    loader: u32,
+    name: u32,
+    class: u32,
+    answer: &mut [u32],
+) -> u8
+    ensures { λ r. ⌜ Called (callRecord loader name class) (tables (now (counts .entry)) (now (classes .entry)) (now (kept .entry)) (now (cache .entry)) (now (ties .entry)) (now (subtypes .entry)) (now (objects .entry)) (now (frames .entry))) (tables (now (counts .exit)) (now (classes .entry)) (now (kept .entry)) (now (cache .exit)) (now (ties .entry)) (now (subtypes .entry)) (now (objects .entry)) (now (frames .entry))) (now (answer .entry)) (now (answer .exit)) r ⌝ }
+{
+    let turn = script::turn_of(counts);
+    let reply = loading::record(
+        counts,
+        classes,
+        kept,
+        cache,
+        ties,
+        subtypes,
+        objects,
+        frames,
+        loader,
+        name,
+        class,
+    );
+    report(answer, turn, reply)
+}
+
+// drop: the task's frames are cleared.
+#[no_mangle]
+pub extern "C" fn tariff_drop(
+    counts: &mut [u16],
+    classes: &[u16],
+    kept: &[u8],
+    cache: &[u16],
+    ties: &[u16],
+    subtypes: &[u16],
+    objects: &[u32],
+    frames: &[u32],
+    task: u32,
+    answer: &mut [u32],
+) -> u8
+    ensures { λ r. ⌜ Called (callDrop task) (tables (now (counts .entry)) (now (classes .entry)) (now (kept .entry)) (now (cache .entry)) (now (ties .entry)) (now (subtypes .entry)) (now (objects .entry)) (now (frames .entry))) (tables (now (counts .exit)) (now (classes .entry)) (now (kept .entry)) (now (cache .entry)) (now (ties .entry)) (now (subtypes .entry)) (now (objects .entry)) (now (frames .entry))) (now (answer .entry)) (now (answer .exit)) r ⌝ }
+{
+    let turn = script::turn_of(counts);
+    let reply = loading::drop_task(
+        counts,
+        classes,
+        kept,
+        cache,
+        ties,
+        subtypes,
+        objects,
+        frames,
+        task,
+    );
+    report(answer, turn, reply)
+}

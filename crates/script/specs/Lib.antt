@@ -1,0 +1,10 @@
+-- Lines read and printed: what a command says, reading by parts, the details as numbers, and their laws.
+pub mod Commands
+pub mod Parts
+pub mod Numbers
+pub mod Files
+pub mod Calls
+pub mod Lines
+pub mod Facts
+pub mod Details
+pub mod Printing
