@@ -2,12 +2,13 @@
 -- where it fits, and leaves every other row as it is.
 use mathlib.Core.Path.{_≡_, refl, sym, ap, _∙_}
 use mathlib.Core.Bool.{Bool, true, false}
+use mathlib.Core.Option.{none, some}
 use mathlib.Core.List.{List, [], _∷_, _++_}
 use mathlib.Core.Logic.{_≢_}
 use Prim.Native.Nat.{ℕ, zero, suc, _+_, _*_, _<_, _≤_}
 use native.Mathlib.Nat.{suc-mul, mul-le-mul-right}
 use native.Mathlib.Omega.{arith}
-use lib.ListN.{length, getD, set, length-set}
+use lib.ListN.{length, getElem?, getD, set, length-set}
 use lib.Seq.{set-getD, set-out, set-comm, getD-set-same, getD-set-other}
 use lib.Dec.{eqb, leb}
 use borrow.Author.Tests.{eqb-true, leb-true, le-leb}
@@ -18,7 +19,7 @@ use Rattle.definition.specs.Instructions.{pick}
 use Rattle.definition.specs.Machine.{Value, unsetValue, intValue, nullValue, objectValue, unlistedValue, Object, Frame}
 use Rattle.definition.specs.Tables.{ClassRow, threeAt, putThree, classRow, entry, tie, subtype, classRowAt, putClassRow, entryAt, putEntry, tieAt, putTie, subtypeAt, putSubtype, valueOf, kindOf, bitsOf, valueAt, putCells, putValue, fieldAt, putField, sizeOf, usedFields, objectAt, putObject, localAt, putLocal, operandAt, putOperand, frame, frameOf, frameAt, putHead, putFrame, frameBase, frameIn, putFrameIn}
 use Rattle.layout.specs.Tests.{All, all-each}
-use Rattle.layout.specs.Places.{rows-length, rows-cong, rows-set, rows-last, writeRows-append, stack-length, stack-cong, writeRows-same, writeStack-same, writeStack-above, writeStack-two, writeRows-put, writeRows-replace, writeRows-last, writeRows-keeps, writeStack-keeps, writeRows-length, writeStack-length, rows-written, stack-written}
+use Rattle.layout.specs.Places.{rows-length, rows-cong, rows-set, rows-last, rows-there, rows-past, writeRows-append, stack-length, stack-cong, writeRows-same, writeStack-same, writeStack-above, writeStack-two, writeRows-put, writeRows-replace, writeRows-last, writeRows-keeps, writeStack-keeps, writeRows-length, writeStack-length, rows-written, stack-written}
 
 -- Rows of w cells that hold anything
 
@@ -29,7 +30,7 @@ pub record RowLaws {A : Type 0} (at : List ℕ → ℕ → A) (put : List ℕ �
   pub long : (t : List ℕ) (i : ℕ) (x : A) → length (put t i x) ≡ length t
   pub commute : (t : List ℕ) (i j : ℕ) (x y : A) → i < j → put (put t j y) i x ≡ put (put t i x) j y
 
-module _ {A : Type 0} (at : List ℕ → ℕ → A) (put : List ℕ → ℕ → A → List ℕ) (w : ℕ) (laws : RowLaws at put w) where
+module _ {A : Type 0} {at : List ℕ → ℕ → A} {put : List ℕ → ℕ → A → List ℕ} {w : ℕ} (laws : RowLaws at put w) where
   -- rows that were written are read back
   pub rows-back : (xs : List A) (t : List ℕ) → length xs * w ≤ length t → rows (at (writeRows put xs 0 t)) (length xs) 0 ≡ xs
   rows-back xs t l =
@@ -332,6 +333,9 @@ module _ (b c : ℕ) where
 
 -- Objects: a class and values
 
+abbrev pub withField : Object → ℕ → Value → Object
+withField x j v = record { class = x .class; values = set (x .values) j v }
+
 pub field-same : (t : List ℕ) (o i : ℕ) → putField o t i (fieldAt t o i) ≡ t
 unfolding putField fieldAt
 field-same t o i = place-same (o * 33) 1 t i
@@ -401,25 +405,33 @@ module _ (b : Base) where
       let v : rows (placeAt (o * 33) 1 u) (length (x .values)) 0 ≡ x .values = places-back (o * 33) 1 (x .values) h (rw (length-set t (o * 33) (x .class)) (omega arith)) proper in
       rw (c, ← n, v)
 
+  -- its values, as the machine reads them
+  pub object-size : (t : List ℕ) (o : ℕ) → length (objectAt b t o .values) ≡ usedFields b (objectAt b t o .class)
+  unfolding objectAt
+  object-size t o = rows-length (fieldAt t o) (usedFields b (getD t (o * 33) 0)) 0
+
+  pub object-value : (t : List ℕ) (o j : ℕ) → j < usedFields b (objectAt b t o .class) → getElem? (objectAt b t o .values) j ≡ some (fieldAt t o j)
+  unfolding objectAt
+  object-value t o j l = rows-there (fieldAt t o) (usedFields b (getD t (o * 33) 0)) j l
+
+  pub object-no-value : (t : List ℕ) (o j : ℕ) → usedFields b (objectAt b t o .class) ≤ j → getElem? (objectAt b t o .values) j ≡ none
+  unfolding objectAt
+  object-no-value t o j l = rows-past (fieldAt t o) (usedFields b (getD t (o * 33) 0)) 0 j l
+
   -- one field set: two cells written
-  pub object-field : (t : List ℕ) (o j : ℕ) (v : Value) → j < usedFields b (getD t (o * 33) 0)
-      → putObject t o (record { class = getD t (o * 33) 0; values = set (objectAt b t o .values) j v }) ≡ putField o t j v
+  pub object-field : (t : List ℕ) (o j : ℕ) (v : Value) → j < usedFields b (objectAt b t o .class) → putObject t o (withField (objectAt b t o) j v) ≡ putField o t j v
   unfolding putObject objectAt fieldAt putField
   object-field t o j v l = rw (set-getD t (o * 33) 0) (place-set (o * 33) 1 t (usedFields b (getD t (o * 33) 0)) j v l)
 
   -- a field that isn't there: nothing
-  pub object-field-past : (t : List ℕ) (o j : ℕ) (v : Value) → usedFields b (getD t (o * 33) 0) ≤ j
-      → putObject t o (record { class = getD t (o * 33) 0; values = set (objectAt b t o .values) j v }) ≡ t
-  unfolding objectAt
-  object-field-past t o j v l =
-      rw (set-out (rows (fieldAt t o) (usedFields b (getD t (o * 33) 0)) 0) j v (rw (rows-length (fieldAt t o) (usedFields b (getD t (o * 33) 0)) 0) l)) (unfold objectAt in object-same b t o)
+  pub object-field-past : (t : List ℕ) (o j : ℕ) (v : Value) → usedFields b (objectAt b t o .class) ≤ j → withField (objectAt b t o) j v ≡ objectAt b t o
+  object-field-past t o j v l = rw (set-out (objectAt b t o .values) j v (rw (object-size t o) l))
 
   -- The objects of a table: one field of one set, an object made
 
-  pub objects-field : (t : List ℕ) (n o j : ℕ) (v : Value) → o < n → j < usedFields b (getD t (o * 33) 0)
-      → writeRows putObject (set (rows (objectAt b t) n 0) o (record { class = getD t (o * 33) 0; values = set (objectAt b t o .values) j v })) 0 t ≡ putField o t j v
-  objects-field t n o j v l h =
-      writeRows-replace putObject (objectAt b) (object-same b) object-below t n o (record { class = getD t (o * 33) 0; values = set (objectAt b t o .values) j v }) l ∙ object-field t o j v h
+  pub objects-field : (t : List ℕ) (n o j : ℕ) (v : Value) → o < n → j < usedFields b (objectAt b t o .class)
+      → writeRows putObject (set (rows (objectAt b t) n 0) o (withField (objectAt b t o) j v)) 0 t ≡ putField o t j v
+  objects-field t n o j v l h = writeRows-replace putObject (objectAt b) (object-same b) object-below t n o (withField (objectAt b t o) j v) l ∙ object-field t o j v h
 
   pub objects-made : (t : List ℕ) (n : ℕ) (x : Object) → writeRows putObject (rows (objectAt b t) n 0 ++ (x ∷ [])) 0 t ≡ putObject t n x
   objects-made t n x = writeRows-last putObject (objectAt b) (object-same b) object-below t n x

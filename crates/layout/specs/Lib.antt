@@ -4,3 +4,4 @@ pub mod Places
 pub mod Cells
 pub mod Whole
 pub mod Unbroken
+pub mod View

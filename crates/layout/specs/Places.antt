@@ -8,6 +8,7 @@ use Prim.Native.Nat.{ℕ, zero, suc, _+_, _-_, _<_, _≤_}
 use native.Mathlib.Omega.{arith}
 use native.Mathlib.Numerals.{add-one}
 use lib.ListN.{length, getElem?, getD, set, take, drop}
+use lib.Seq.{set-set, set-comm}
 use lib.Dec.{eqb}
 use borrow.Author.Tests.{eqb-true, eqb-false}
 use Rattle.definition.specs.Lists.{all, any, allFrom, rows, writeRows, stack, writeStack}
@@ -38,6 +39,9 @@ module _ {A : Type 0} (g : ℕ → A) where
   rows-getD zero i j d l = absurd (omega arith)
   rows-getD (suc k) i zero d l = let e : i + 0 ≡ i = omega arith in rw e
   rows-getD (suc k) i (suc j) d l = let e : i + suc j ≡ suc i + j = omega arith in rw e (rows-getD k (suc i) j d (omega arith))
+
+  pub rows-there : (k j : ℕ) → j < k → getElem? (rows g k 0) j ≡ some (g j)
+  rows-there k j l = let e : 0 + j ≡ j = omega arith in rw e at (rows-at k 0 j l)
 
   -- a scan's step: the rows from place i on, of n in all
   pub rows-step : (n i : ℕ) → i < n → rows g (n - i) i ≡ g i ∷ rows g (n - (i + 1)) (i + 1)
@@ -118,6 +122,10 @@ rows-set g h (suc k) i zero x e o =
 rows-set g h (suc k) i (suc j) x e o =
     let z : i + suc j ≡ suc i + j = omega arith in
     rw (o i (λ q. omega arith), rows-set g h k (suc i) j x (rw z at e) (λ m q. o m (λ r. q (r ∙ z))))
+
+-- a row set to what it is
+pub set-there : {A : Type 0} (g : ℕ → A) (k j : ℕ) → set (rows g k 0) j (g j) ≡ rows g k 0
+set-there g k j = sym (rows-set g g k 0 j (g j) (let e : 0 + j ≡ j = omega arith in rw e) (λ m q. refl))
 
 -- a list is the rows of its cells
 pub rows-take : (t : List ℕ) (n : ℕ) → n ≤ length t → rows (λ i. getD t i 0) n 0 ≡ take n t
@@ -298,6 +306,21 @@ module _ {A : Type 0} (p : List ℕ → ℕ → A → List ℕ) (comm : (t : Lis
   writeRows-snoc (y ∷ xs) x i t =
       let e : i + suc (length xs) ≡ suc i + length xs = omega arith in
       rw (e, writeRows-snoc xs x (suc i) t) (comm (writeRows p xs (suc i) t) i (suc i + length xs) y x (omega arith))
+
+-- the first of two lists, then the second behind it
+pub writeRows-both : {A : Type 0} (p : List ℕ → ℕ → A → List ℕ) (xs ys : List A) (i : ℕ) (t : List ℕ) → writeRows p (xs ++ ys) i t ≡ writeRows p xs i (writeRows p ys (i + length xs) t)
+unfolding writeRows
+writeRows-both p [] ys i t = let e : i + 0 ≡ i = omega arith in rw e
+writeRows-both p (x ∷ xs) ys i t = let e : i + suc (length xs) ≡ suc i + length xs = omega arith in rw (e, writeRows-both p xs ys (suc i) t)
+
+-- single cells: one of the list set is one cell set
+pub written-set : (xs : List ℕ) (i j x : ℕ) (t : List ℕ) → j < length xs → writeRows set (set xs j x) i t ≡ set (writeRows set xs i t) (i + j) x
+unfolding writeRows
+written-set [] i j x t l = absurd (omega arith)
+written-set (y ∷ xs) i zero x t l = let e : i + 0 ≡ i = omega arith in rw e (sym (set-set (writeRows set xs (suc i) t) i y x))
+written-set (y ∷ xs) i (suc j) x t l =
+    let e : i + suc j ≡ suc i + j = omega arith in
+    rw (e, written-set xs (suc i) j x t (omega arith)) (set-comm (writeRows set xs (suc i) t) (suc i + j) i x y (λ q. omega arith))
 
 -- Reading what was written
 

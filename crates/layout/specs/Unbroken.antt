@@ -147,7 +147,7 @@ unfolding countsOf
 counts-put r c e =
     let u : List ℕ = writeRows set (countsOf r) 0 c in
     let n : length u ≡ 8 = writeRows-length set length-set (countsOf r) 0 c ∙ e in
-    sym (take-all 8 u (omega arith)) ∙ (sym (rows-take u 8 (omega arith)) ∙ rows-back (λ s i. getD s i 0) set 1 cell-rows (countsOf r) c (omega arith))
+    sym (take-all 8 u (omega arith)) ∙ (sym (rows-take u 8 (omega arith)) ∙ rows-back cell-rows (countsOf r) c (omega arith))
 
 objects-put : (b : Base) (n m : ℕ) (os : List Object) (t : List ℕ) → length t ≡ 8448 → length os ≤ 256 → ((c : ℕ) → c < n → sizeOf b c ≤ 16) → All (ObjectSound b n m) os
     → rows (objectAt b (writeRows putObject os 0 t)) (length os) 0 ≡ os
@@ -191,19 +191,19 @@ module _ (r : Rows) (t : Tables) (l : Lengths t) (w : Whole r) where
   counted = counts-put r (t .counts) (l .counts)
 
   classes-read : rows (classRowAt (writeRows putClassRow (r .classes) 0 (t .classes))) (length (r .classes)) 0 ≡ r .classes
-  classes-read = rows-back classRowAt putClassRow 3 class-rows (r .classes) (t .classes) (omega (arith, w .limits .classes, l .classes))
+  classes-read = rows-back class-rows (r .classes) (t .classes) (omega (arith, w .limits .classes, l .classes))
 
   kept-read : rows (λ i. getD (writeRows set (r .kept) 0 (t .kept)) i 0) (length (r .kept)) 0 ≡ r .kept
-  kept-read = rows-back (λ s i. getD s i 0) set 1 cell-rows (r .kept) (t .kept) (omega (arith, w .limits .kept, l .kept))
+  kept-read = rows-back cell-rows (r .kept) (t .kept) (omega (arith, w .limits .kept, l .kept))
 
   cache-read : rows (entryAt (writeRows putEntry (r .cache) 0 (t .cache))) (length (r .cache)) 0 ≡ r .cache
-  cache-read = rows-back entryAt putEntry 3 entry-rows (r .cache) (t .cache) (omega (arith, w .limits .cache, l .cache))
+  cache-read = rows-back entry-rows (r .cache) (t .cache) (omega (arith, w .limits .cache, l .cache))
 
   ties-read : rows (tieAt (writeRows putTie (r .ties) 0 (t .ties))) (length (r .ties)) 0 ≡ r .ties
-  ties-read = rows-back tieAt putTie 3 tie-rows (r .ties) (t .ties) (omega (arith, w .limits .ties, l .ties))
+  ties-read = rows-back tie-rows (r .ties) (t .ties) (omega (arith, w .limits .ties, l .ties))
 
   subtypes-read : rows (subtypeAt (writeRows putSubtype (r .subtypes) 0 (t .subtypes))) (length (r .subtypes)) 0 ≡ r .subtypes
-  subtypes-read = rows-back subtypeAt putSubtype 3 subtype-rows (r .subtypes) (t .subtypes) (omega (arith, w .limits .subtypes, l .subtypes))
+  subtypes-read = rows-back subtype-rows (r .subtypes) (t .subtypes) (omega (arith, w .limits .subtypes, l .subtypes))
 
   objects-read : rows (objectAt (worldOf r .base) (writeRows putObject (r .objects) 0 (t .objects))) (length (r .objects)) 0 ≡ r .objects
   objects-read =
