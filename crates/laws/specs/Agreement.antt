@@ -41,7 +41,7 @@ find-row [] a c h = absurd (Option·none-ne-some c h)
 find-row (e ∷ es) a c h = go (sameRequest (e .request) a) refl h (find-row es a c)
   where
     go : (t : Bool) → sameRequest (e .request) a ≡ t → (elim t as (λ _. Option ℕ) [ true ↦ some (e .class) | false ↦ find es a ]) ≡ some c
-      → (find es a ≡ some c → (e : Entry) × List·Memᴰ e es × (e .request ≡ a) × (e .class ≡ c)) → (d : Entry) × List·Memᴰ d (e ∷ es) × (d .request ≡ a) × (d .class ≡ c)
+        → (find es a ≡ some c → (e : Entry) × List·Memᴰ e es × (e .request ≡ a) × (e .class ≡ c)) → (d : Entry) × List·Memᴰ d (e ∷ es) × (d .request ≡ a) × (d .class ≡ c)
     go true q r f = (e, List·Memᴰ·head refl, same-eq (e .request) a q, Option·some-injective (e .class) c r)
     go false q r f = let g = f r in (g .0, List·Memᴰ·tail (g .1), g .2, g .3)
 
@@ -51,7 +51,7 @@ find-more [] fs a c h = absurd (Option·none-ne-some c h)
 find-more (e ∷ es) fs a c h = go (sameRequest (e .request) a) h (find-more es fs a c)
   where
     go : (t : Bool) → (elim t as (λ _. Option ℕ) [ true ↦ some (e .class) | false ↦ find es a ]) ≡ some c → (find es a ≡ some c → find (es ++ fs) a ≡ some c)
-      → (elim t as (λ _. Option ℕ) [ true ↦ some (e .class) | false ↦ find (es ++ fs) a ]) ≡ some c
+        → (elim t as (λ _. Option ℕ) [ true ↦ some (e .class) | false ↦ find (es ++ fs) a ]) ≡ some c
     go true r f = r
     go false r f = f r
 
@@ -72,15 +72,17 @@ unfolding superOf lower
 super-is w c p h = go (getElem? (w .classes) c) refl h
   where
     last : (k : Class) → getElem? (w .classes) c ≡ some k → (q : ℕ) → find (w .cache) (at (k .loader) (k .super)) ≡ some q → (t : Bool) → ltb q c ≡ t
-      → (elim t as (λ _. Option ℕ) [ true ↦ some q | false ↦ none ]) ≡ some p → Super w c p
+        → (elim t as (λ _. Option ℕ) [ true ↦ some q | false ↦ none ]) ≡ some p → Super w c p
     last k e q f true l r = let z = Option·some-injective q p r in record { theClass = k; isClass = e; cached = rw z at f; less = rw z at (ltb-true q c l) }
     last k e q f false l r = absurd (Option·none-ne-some p r)
+
     mid : (k : Class) → getElem? (w .classes) c ≡ some k → (o : Option ℕ) → find (w .cache) (at (k .loader) (k .super)) ≡ o
-      → (elim o as (λ _. Option ℕ) [ none ↦ none | some q ↦ lower c q ]) ≡ some p → Super w c p
+        → (elim o as (λ _. Option ℕ) [ none ↦ none | some q ↦ lower c q ]) ≡ some p → Super w c p
     mid k e none f r = absurd (Option·none-ne-some p r)
     mid k e (some q) f r = last k e q f (ltb q c) refl r
+
     go : (o : Option Class) → getElem? (w .classes) c ≡ o
-      → (elim o as (λ _. Option ℕ) [ none ↦ none | some k ↦ elim (find (w .cache) (at (k .loader) (k .super))) as (λ _. Option ℕ) [ none ↦ none | some q ↦ lower c q ] ]) ≡ some p → Super w c p
+        → (elim o as (λ _. Option ℕ) [ none ↦ none | some k ↦ elim (find (w .cache) (at (k .loader) (k .super))) as (λ _. Option ℕ) [ none ↦ none | some q ↦ lower c q ] ]) ≡ some p → Super w c p
     go none e r = absurd (Option·none-ne-some p r)
     go (some k) e r = mid k e (find (w .cache) (at (k .loader) (k .super))) refl r
 
@@ -98,7 +100,7 @@ unfolding agrees agreesOver
 row-at w a c h p = let r = find-row (w .base .cache) a c p in rw (r .2) at (all-at (λ e. rowAgrees (superOf (w .base)) (w .base .cache) (tieEdges (w .ties)) (edges w) (e .request)) h (r .1))
 
 pair-at : (w : World) (ts es : List Edge) (a b : Request) (c d : ℕ) → rowAgrees (superOf (w .base)) (w .base .cache) ts es a ≡ true → find (w .base .cache) a ≡ some c → find (w .base .cache) b ≡ some d
-  → pairAgrees (superOf (w .base)) (w .base .cache) c (reach ts a) (reach es a) b ≡ true
+    → pairAgrees (superOf (w .base)) (w .base .cache) c (reach ts a) (reach es a) b ≡ true
 unfolding rowAgrees reach
 pair-at w ts es a b c d h p q =
     let r = find-row (w .base .cache) b d q in
@@ -111,10 +113,13 @@ agrees-true w h = record { tied = tied′; led = led′ }
   where
     ts : List Edge
     ts = tieEdges (w .ties)
+
     es : List Edge
     es = edges w
+
     tied′ : {a b : Request} {c d : ℕ} → find (w .base .cache) a ≡ some c → find (w .base .cache) b ≡ some d → Chain ts a b → c ≡ d
     tied′ {a} {b} {c} {d} p q k = eqb-true c d (rw (q, chain-leads ts a b k, pairAgrees) at (pair-at w ts es a b c d (row-at w a c h p) p q))
+
     led′ : {a b : Request} {c d : ℕ} → find (w .base .cache) a ≡ some c → find (w .base .cache) b ≡ some d → Chain es a b → Below (superOf (w .base)) d c
     led′ {a} {b} {c} {d} p q k = go (has b (reach ts a)) (has b (reach es a)) (chain-leads es a b k) (rw (q, pairAgrees) at (pair-at w ts es a b c d (row-at w a c h p) p q))
       where
@@ -129,20 +134,25 @@ true-agrees w g = all-of (λ e. rowAgrees (superOf (w .base)) (w .base .cache) t
   where
     ts : List Edge
     ts = tieEdges (w .ties)
+
     es : List Edge
     es = edges w
+
     lead : (a b : Request) (c d : ℕ) → find (w .base .cache) a ≡ some c → find (w .base .cache) b ≡ some d → (t : Bool) → leads es a b ≡ t
-      → (elim t as (λ _. Bool) [ true ↦ below (superOf (w .base)) c d | false ↦ true ]) ≡ true
+        → (elim t as (λ _. Bool) [ true ↦ below (superOf (w .base)) c d | false ↦ true ]) ≡ true
     lead a b c d p q true l = true-below (superOf (w .base)) (super-falls (w .base)) c d (g .led p q (leads-chain es a b l))
     lead a b c d p q false l = refl
+
     tie : (a b : Request) (c d : ℕ) → find (w .base .cache) a ≡ some c → find (w .base .cache) b ≡ some d → (t : Bool) → leads ts a b ≡ t
-      → (elim t as (λ _. Bool) [ true ↦ eqb c d | false ↦ elim (has b (reach es a)) as (λ _. Bool) [ true ↦ below (superOf (w .base)) c d | false ↦ true ] ]) ≡ true
+        → (elim t as (λ _. Bool) [ true ↦ eqb c d | false ↦ elim (has b (reach es a)) as (λ _. Bool) [ true ↦ below (superOf (w .base)) c d | false ↦ true ] ]) ≡ true
     tie a b c d p q true l = eq-eqb c d (g .tied p q (leads-chain ts a b l))
     tie a b c d p q false l = lead a b c d p q (leads es a b) refl
+
     pair : (a b : Request) (c : ℕ) → find (w .base .cache) a ≡ some c → (o : Option ℕ) → find (w .base .cache) b ≡ o
-      → (elim o as (λ _. Bool) [ none ↦ true | some d ↦ elim (has b (reach ts a)) as (λ _. Bool) [ true ↦ eqb c d | false ↦ elim (has b (reach es a)) as (λ _. Bool) [ true ↦ below (superOf (w .base)) c d | false ↦ true ] ] ]) ≡ true
+        → (elim o as (λ _. Bool) [ none ↦ true | some d ↦ elim (has b (reach ts a)) as (λ _. Bool) [ true ↦ eqb c d | false ↦ elim (has b (reach es a)) as (λ _. Bool) [ true ↦ below (superOf (w .base)) c d | false ↦ true ] ] ]) ≡ true
     pair a b c p none q = refl
     pair a b c p (some d) q = tie a b c d p q (leads ts a b) refl
+
     row : (a : Request) (o : Option ℕ) → find (w .base .cache) a ≡ o → (elim o as (λ _. Bool) [ none ↦ true | some c ↦ all (λ f. pairAgrees (superOf (w .base)) (w .base .cache) c (reach ts a) (reach es a) (f .request)) (w .base .cache) ]) ≡ true
     row a none p = refl
     row a (some c) p = all-of (λ f. pairAgrees (superOf (w .base)) (w .base .cache) c (reach ts a) (reach es a) (f .request)) (w .base .cache) (λ f _. pair a (f .request) c p (find (w .base .cache) (f .request)) refl)

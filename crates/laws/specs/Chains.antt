@@ -58,9 +58,10 @@ has-right x (y ∷ R) S h = has-tail x y (R ++ S) (has-right x R S h)
 
 pub has-append : (x : Request) (R S : List Request) → has x (R ++ S) ≡ true → (has x R ≡ true) ⊎ (has x S ≡ true)
 has-append x [] S h = inr h
-has-append x (y ∷ R) S h = elim (has-cases x y (R ++ S) h)
-  [ inl e ↦ inl (has-head x y R e)
-  | inr q ↦ elim (has-append x R S q) [ inl p ↦ inl (has-tail x y R p) | inr p ↦ inr p ] ]
+has-append x (y ∷ R) S h = elim (has-cases x y (R ++ S) h) [
+  | inl e ↦ inl (has-head x y R e)
+  | inr q ↦ elim (has-append x R S q) [ inl p ↦ inl (has-tail x y R p) | inr p ↦ inr p ]
+]
 
 -- Facts on a round
 
@@ -80,8 +81,10 @@ fires-from R (d ∷ E) x h = go (has (d .from) R) refl h (λ q. fires-from R E x
   where
     Found : List Edge → Type 0
     Found D = (e : Edge) × List·Memᴰ e D × (has (e .from) R ≡ true) × (x ≡ e .to)
+
     later : Found E → Found (d ∷ E)
     later f = (f .0, List·Memᴰ·tail (f .1), f .2, f .3)
+
     go : (t : Bool) → has (d .from) R ≡ t → has x (elim t as (λ _. List Request) [ true ↦ d .to ∷ fires R E | false ↦ fires R E ]) ≡ true → (has x (fires R E) ≡ true → Found E) → Found (d ∷ E)
     go true e q f = elim (has-cases x (d .to) (fires R E) q) [ inl p ↦ (d, List·Memᴰ·head refl, e, p) | inr p ↦ later (f p) ]
     go false e q f = later (f q)
@@ -117,18 +120,19 @@ round-length R (d ∷ E) = go (has (d .from) R) (round-length R E)
 -- All that is reached is led to
 
 pub grow-sound : (E₀ : List Edge) (a : Request) (k : ℕ) (R : List Request) (E : List Edge) → ((e : Edge) → List·Memᴰ e E → List·Memᴰ e E₀)
-  → ((x : Request) → has x R ≡ true → Chain E₀ a x) → (x : Request) → has x (grow k R E) ≡ true → Chain E₀ a x
+    → ((x : Request) → has x R ≡ true → Chain E₀ a x) → (x : Request) → has x (grow k R E) ≡ true → Chain E₀ a x
 unfolding grow
 grow-sound E₀ a zero R E sub all x h = all x h
 grow-sound E₀ a (suc k) R E sub all x h = go (fires R E) refl h (λ S new. grow-sound E₀ a k S (rest R E) (λ e m. sub e (rest-from R E e m)) new x)
   where
     go : (f : List Request) → fires R E ≡ f → has x (elim f as (λ _. List Request) [ [] ↦ R | y ∷ ys ↦ grow k ((y ∷ ys) ++ R) (rest R E) ]) ≡ true
-      → ((S : List Request) → ((z : Request) → has z S ≡ true → Chain E₀ a z) → has x (grow k S (rest R E)) ≡ true → Chain E₀ a x) → Chain E₀ a x
+        → ((S : List Request) → ((z : Request) → has z S ≡ true → Chain E₀ a z) → has x (grow k S (rest R E)) ≡ true → Chain E₀ a x) → Chain E₀ a x
     go [] e q f = all x q
     go (y ∷ ys) e q f = f ((y ∷ ys) ++ R) (λ z p. new z (has-append z (y ∷ ys) R p)) q
       where
         hit : (z : Request) → (d : Edge) × List·Memᴰ d E × (has (d .from) R ≡ true) × (z ≡ d .to) → Chain E₀ a z
         hit z r = rw (r .3) (hop (all (r .0 .from) (r .2)) (sub (r .0) (r .1)))
+
         new : (z : Request) → (has z (y ∷ ys) ≡ true) ⊎ (has z R ≡ true) → Chain E₀ a z
         new z (inl p) = hit z (fires-from R E z (rw e p))
         new z (inr p) = all z p
@@ -159,8 +163,9 @@ grow-closed E₀ (suc k) R E le op e m h = go (fires R E) refl (λ S l o. grow-c
   where
     Grown : List Request → List Request
     Grown f = elim f as (λ _. List Request) [ [] ↦ R | y ∷ ys ↦ grow k ((y ∷ ys) ++ R) (rest R E) ]
+
     go : (f : List Request) → fires R E ≡ f → ((S : List Request) → length (rest R E) ≤ k → Open E₀ S (rest R E) → has (e .from) (grow k S (rest R E)) ≡ true → has (e .to) (grow k S (rest R E)) ≡ true)
-      → has (e .from) (Grown f) ≡ true → has (e .to) (Grown f) ≡ true
+        → has (e .from) (Grown f) ≡ true → has (e .to) (Grown f) ≡ true
     go [] q f h = elim (op e m) [ inl p ↦ p | inr p ↦ absurd (false≢true (unfold has in rw q at (fires-hit R E e p h))) ]
     go (y ∷ ys) q f h = f ((y ∷ ys) ++ R) (omega (arith, round-length R E, ap length q)) (λ d n. next d (op d n) (has (d .from) R) refl) h
       where

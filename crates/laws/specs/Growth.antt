@@ -25,20 +25,23 @@ pub record Grows (v w : World) : Type 0 where
 
 pub grows-super : {v w : World} → Grows v w → (c p : ℕ) → superOf (v .base) c ≡ some p → superOf (w .base) c ≡ some p
 grows-super {v} {w} g c p h = let s = super-is (v .base) c p h in
-  is-super (w .base) c p (record { theClass = s .theClass; isClass = g .classes c (s .theClass) (s .isClass); cached = g .cache (at (s .theClass .loader) (s .theClass .super)) p (s .cached); less = s .less })
+    is-super (w .base) c p (record { theClass = s .theClass; isClass = g .classes c (s .theClass) (s .isClass); cached = g .cache (at (s .theClass .loader) (s .theClass .super)) p (s .cached); less = s .less })
 
 pub grows-edges : {v w : World} → Grows v w → (e : Edge) → List·Memᴰ e (edges v) → List·Memᴰ e (edges w)
 unfolding edges
 grows-edges {v} {w} g e m = elim (List·Memᴰ·append-cases (tieEdges (v .ties)) m)
-  [ inl p ↦ Memᴰ·append-left (subtypeEdges (w .subtypes)) (g .ties e p) | inr p ↦ Memᴰ·append-right (tieEdges (w .ties)) (g .subtypes e p) ]
+    [ inl p ↦ Memᴰ·append-left (subtypeEdges (w .subtypes)) (g .ties e p) | inr p ↦ Memᴰ·append-right (tieEdges (w .ties)) (g .subtypes e p) ]
 
 pub grows-self : (w : World) → Grows w w
 grows-self w = record { classes = λ c k h. h; cache = λ r c h. h; ties = λ e m. m; subtypes = λ e m. m }
 
 pub grows-join : {u v w : World} → Grows u v → Grows v w → Grows u w
-grows-join g h = record
-  { classes = λ c k p. h .classes c k (g .classes c k p); cache = λ r c p. h .cache r c (g .cache r c p)
-  ; ties = λ e m. h .ties e (g .ties e m); subtypes = λ e m. h .subtypes e (g .subtypes e m) }
+grows-join g h = record {
+  classes = λ c k p. h .classes c k (g .classes c k p);
+  cache = λ r c p. h .cache r c (g .cache r c p);
+  ties = λ e m. h .ties e (g .ties e m);
+  subtypes = λ e m. h .subtypes e (g .subtypes e m);
+}
 
 pub tie-edges-more : (ts us : List Tie) → tieEdges (ts ++ us) ≡ tieEdges ts ++ tieEdges us
 unfolding tieEdges
@@ -54,11 +57,12 @@ abbrev pub added : World → List Class → List Entry → List Tie → List Sub
 added w ks es ts ss = record { base = record { classes = w .base .classes ++ ks; cache = w .base .cache ++ es }; ties = w .ties ++ ts; subtypes = w .subtypes ++ ss }
 
 pub grows-added : (w : World) (ks : List Class) (es : List Entry) (ts : List Tie) (ss : List Subtype) → Grows w (added w ks es ts ss)
-grows-added w ks es ts ss = record
-  { classes = λ c k h. nth-more (w .base .classes) ks c k h
-  ; cache = λ r c h. find-more (w .base .cache) es r c h
-  ; ties = λ e m. rw (tie-edges-more (w .ties) ts) (Memᴰ·append-left (tieEdges ts) m)
-  ; subtypes = λ e m. rw (sub-edges-more (w .subtypes) ss) (Memᴰ·append-left (subtypeEdges ss) m) }
+grows-added w ks es ts ss = record {
+  classes = λ c k h. nth-more (w .base .classes) ks c k h;
+  cache = λ r c h. find-more (w .base .cache) es r c h;
+  ties = λ e m. rw (tie-edges-more (w .ties) ts) (Memᴰ·append-left (tieEdges ts) m);
+  subtypes = λ e m. rw (sub-edges-more (w .subtypes) ss) (Memᴰ·append-left (subtypeEdges ss) m);
+}
 
 pub nth-lt : {A : Type 0} (xs : List A) (i : ℕ) (x : A) → getElem? xs i ≡ some x → i < length xs
 nth-lt [] i x h = absurd (Option·none-ne-some x h)
@@ -69,6 +73,9 @@ pub grows-entry : (v : World) (r : Request) (c : ℕ) → Grows v (withEntry v r
 grows-entry v r c = record { classes = λ x k h. h; cache = λ q x h. find-more (v .base .cache) _ q x h; ties = λ e m. m; subtypes = λ e m. m }
 
 pub grows-class : (v : World) (k : Class) (us : List Tie) (ss : List Subtype) → Grows v (withClass v k us ss)
-grows-class v k us ss = record
-  { classes = λ x y h. nth-more (v .base .classes) (k ∷ []) x y h; cache = λ q x h. find-more (v .base .cache) _ q x h
-  ; ties = λ e m. rw (tie-edges-more (v .ties) us) (Memᴰ·append-left (tieEdges us) m); subtypes = λ e m. rw (sub-edges-more (v .subtypes) ss) (Memᴰ·append-left (subtypeEdges ss) m) }
+grows-class v k us ss = record {
+  classes = λ x y h. nth-more (v .base .classes) (k ∷ []) x y h;
+  cache = λ q x h. find-more (v .base .cache) _ q x h;
+  ties = λ e m. rw (tie-edges-more (v .ties) us) (Memᴰ·append-left (tieEdges us) m);
+  subtypes = λ e m. rw (sub-edges-more (v .subtypes) ss) (Memᴰ·append-left (subtypeEdges ss) m);
+}

@@ -179,6 +179,7 @@ step-refusals r = go (r .quote) (r .report)
   where
     task : (k : ℕ) (f : Frame) (fs : List Frame) → Among S (stepTask k (worldOf r) f fs r)
     task k f fs = unfold stepTask in among-bind S (step (worldOf r) (r .objects) f fs) _ (step-among (worldOf r) (r .objects) f fs) (λ _. tt)
+
     go : (q p : List Frame) → Among S (stepOn q p (worldOf r) r)
     go (f ∷ fs) p = unfold stepOn in task 0 f fs
     go [] (f ∷ fs) = unfold stepOn in task 1 f fs
@@ -189,7 +190,7 @@ unfolding defineRows define refusalsOf any number
 define-refusals l bs r =
     let N : List ℕ = refusalsOf (callDefine l bs) in
     among-need N _ _ _ refl (λ _. among-take N _ _ _ refl (λ f. among-bind N _ _
-      (among-take N _ _ _ refl (λ _. among-need N _ _ _ refl (λ _. among-take N _ _ _ refl (λ _. among-need N _ _ _ refl (λ _. among-need N _ _ _ refl (λ _. among-need N _ _ _ refl (λ _. tt))))))) (λ _. tt)))
+    (among-take N _ _ _ refl (λ _. among-need N _ _ _ refl (λ _. among-take N _ _ _ refl (λ _. among-need N _ _ _ refl (λ _. among-need N _ _ _ refl (λ _. among-need N _ _ _ refl (λ _. tt))))))) (λ _. tt)))
 
 pub record-refusals : (l n c : ℕ) (r : Rows) → Among (refusalsOf (callRecord l n c)) (recordRows l n c r)
 unfolding recordRows recorded refusalsOf any number
@@ -198,9 +199,11 @@ record-refusals l n c r =
   where
     N : List ℕ
     N = refusalsOf (callRecord l n c)
-    go : (o : Option ℕ) → Among {A = World} N (elim o as (λ _. Result World)
-      [ some d ↦ need (eqb d c) (Word 4) >>= λ _. ok (worldOf r)
-      | none ↦ need (ltb (length (r .cache)) 256) (Word 10) >>= λ _. need (agrees (withEntry (worldOf r) (at l n) c)) (Word 9) >>= λ _. ok (withEntry (worldOf r) (at l n) c) ])
+
+    go : (o : Option ℕ) → Among {A = World} N (elim o as (λ _. Result World) [
+      | some d ↦ need (eqb d c) (Word 4) >>= λ _. ok (worldOf r)
+      | none ↦ need (ltb (length (r .cache)) 256) (Word 10) >>= λ _. need (agrees (withEntry (worldOf r) (at l n) c)) (Word 9) >>= λ _. ok (withEntry (worldOf r) (at l n) c)
+    ])
     go none = among-need N _ _ _ refl (λ _. among-need N _ _ _ refl (λ _. tt))
     go (some d) = among-need N _ _ _ refl (λ _. tt)
 
@@ -209,7 +212,7 @@ unfolding startRows started refusalsOf any number
 start-refusals k l n m v r =
     let N : List ℕ = refusalsOf (callStart k l n m v) in
     among-need N _ _ _ refl (λ _. among-bind N _ _
-      (among-need N _ _ _ refl (λ _. among-need N _ _ _ refl (λ _. among-take N _ _ _ refl (λ _. among-take N _ _ _ refl (λ _. among-take N _ _ _ refl (λ _. among-need N _ _ _ refl (λ _. tt))))))) (λ _. tt))
+    (among-need N _ _ _ refl (λ _. among-need N _ _ _ refl (λ _. among-take N _ _ _ refl (λ _. among-take N _ _ _ refl (λ _. among-take N _ _ _ refl (λ _. among-need N _ _ _ refl (λ _. tt))))))) (λ _. tt))
 
 pub drop-refusals : (k : ℕ) (r : Rows) → Among (refusalsOf (callDrop k)) (dropRows k r)
 unfolding dropRows refusalsOf any number

@@ -93,12 +93,12 @@ among-at ns (refused v) h w e = let z : v ≡ w = cc in rw (sym z) h
 among-at ns (ok a) h w e = absurd (let z : _≡_ {A = ℕ} 0 1 = cc in omega arith)
 
 module _ {A : Type 0} (ns : List ℕ) (one : any (eqb (number (Word 1))) ns ≡ true) (deny : Refusal → A) (says : A → Option Refusal) (is : (w : Refusal) → says (deny w) ≡ some w)
-         (f : Rows → Result (Given A)) (taken : (r : Rows) → Ok (f r) (λ g. says (g .answer) ≡ none)) (among : (r : Rows) → Among ns (f r)) where
+    (f : Rows → Result (Given A)) (taken : (r : Rows) → Ok (f r) (λ g. says (g .answer) ≡ none)) (among : (r : Rows) → Among ns (f r)) where
   wrap-refusing : (t : Tables) (w : Refusal) → says (wrap deny f t .answer) ≡ some w → Refusing ns t (wrap deny f t .tables) w
   wrap-refusing t w = wrapped deny f t (λ a z. says a ≡ some w → Refusing ns t z w)
-    (λ _ q. record { same = refl; listed = rw (sym (some-inj (Word 1) w (sym (is (Word 1)) ∙ q))) one })
-    (λ v e q. record { same = refl; listed = rw (sym (some-inj v w (sym (is v) ∙ q))) (among-at ns (f (view t)) (among (view t)) v e) })
-    (λ g e q. never w _ (ok-at (λ g. says (g .answer) ≡ none) _ (taken (view t)) g e) q)
+      (λ _ q. record { same = refl; listed = rw (sym (some-inj (Word 1) w (sym (is (Word 1)) ∙ q))) one })
+      (λ v e q. record { same = refl; listed = rw (sym (some-inj v w (sym (is v) ∙ q))) (among-at ns (f (view t)) (among (view t)) v e) })
+      (λ g e q. never w _ (ok-at (λ g. says (g .answer) ≡ none) _ (taken (view t)) g e) q)
 
 boot-refusing : (t : Tables) (w : Refusal) → refusal (boot t .answer) ≡ some w → Refusing (refusalsOf callBoot) t (boot t .tables) w
 unfolding boot refusalsOf any number
@@ -106,6 +106,7 @@ boot-refusing t w = go (shaped t)
   where
     D : Bool → Done Reply
     D b = elim b as (λ _. Done Reply) [ true ↦ done Accepted (put bootRows t) | false ↦ done (Denied (Word 1)) t ]
+
     go : (b : Bool) → refusal (D b .answer) ≡ some w → Refusing (refusalsOf callBoot) t (D b .tables) w
     go true q = never w none refl q
     go false q = record { same = refl; listed = rw (sym (some-inj (Word 1) w q)) refl }
@@ -127,6 +128,7 @@ run-refusing n t w = go (broken t) (leb 1 n && leb n 65535)
   where
     D : Bool → Bool → Done Reply
     D b c = elim b as (λ _. Done Reply) [ true ↦ done (Denied (Word 1)) t | false ↦ elim c as (λ _. Done Reply) [ true ↦ runFrom stepTables n 0 Idle t | false ↦ done (Denied (Word 3)) t ] ]
+
     go : (b c : Bool) → refusal (D b c .answer) ≡ some w → Refusing (refusalsOf (callRun n)) t (D b c .tables) w
     go true c q = record { same = refl; listed = rw (sym (some-inj (Word 1) w q)) refl }
     go false true q = never w _ (runs-taken n 0 Idle t) q

@@ -43,34 +43,48 @@ module _ (one : Tables → Done Answer) where
 
   stopped : (n k₀ : ℕ) (a₀ a : Answer) (t s : Tables) → one t ≡ done a s → (IsRan a → ⊥) → goOn (runFrom one n) k₀ a s ≡ done (RanFor k₀ a) s → runFrom one (suc n) k₀ a₀ t ≡ goOn (runFrom one n) k₀ a s → IsRun (suc n) k₀ a₀ t
   unfolding after
-  stopped n k₀ a₀ a t s e other go r = record
-    { count = 0; last = a; left = s; gives = r ∙ go ∙ (let z : k₀ ≡ k₀ + 0 = omega arith in ap (λ (k : ℕ). done (RanFor k a) s) z)
-    ; steps = record { ran = λ i l. absurd (omega arith); ends = inr (omega arith, other, sym (ap (λ (d : Done Answer). d .answer) e), sym (ap (λ (d : Done Answer). d .tables) e)) } }
+  stopped n k₀ a₀ a t s e other go r = record {
+    count = 0;
+    last = a;
+    left = s;
+    gives = r ∙ go ∙ (let z : k₀ ≡ k₀ + 0 = omega arith in ap (λ (k : ℕ). done (RanFor k a) s) z);
+    steps = record { ran = λ i l. absurd (omega arith); ends = inr (omega arith, other, sym (ap (λ (d : Done Answer). d .answer) e), sym (ap (λ (d : Done Answer). d .tables) e)) };
+  }
 
   went : (n k₀ j : ℕ) (a₀ : Answer) (t s : Tables) → one t ≡ done (Ran j) s → runFrom one (suc n) k₀ a₀ t ≡ runFrom one n (suc k₀) (Ran j) s → IsRun n (suc k₀) (Ran j) s → IsRun (suc n) k₀ a₀ t
   unfolding after lastOf
-  went n k₀ j a₀ t s e r d = record
-    { count = suc (d .count); last = d .last; left = d .left
-    ; gives = r ∙ d .gives ∙ (let z : suc k₀ + d .count ≡ k₀ + suc (d .count) = omega arith in ap (λ (k : ℕ). done (RanFor k (d .last)) (d .left)) z)
-    ; steps = record { ran = ran′; ends = ends′ (d .steps .ends) } }
+  went n k₀ j a₀ t s e r d = record {
+    count = suc (d .count);
+    last = d .last;
+    left = d .left;
+    gives = r ∙ d .gives ∙ (let z : suc k₀ + d .count ≡ k₀ + suc (d .count) = omega arith in ap (λ (k : ℕ). done (RanFor k (d .last)) (d .left)) z);
+    steps = record { ran = ran′; ends = ends′ (d .steps .ends) };
+  }
     where
       at : one t .tables ≡ s
       at = ap (λ (x : Done Answer). x .tables) e
+
       says : one t .answer ≡ Ran j
       says = ap (λ (x : Done Answer). x .answer) e
+
       ran′ : (i : ℕ) → i < suc (d .count) → IsRan (one (after i t) .answer)
       ran′ zero l = rw says tt
       ran′ (suc i) l = rw at (d .steps .ran i (omega arith))
+
       ends′ : ((d .count ≡ n) × (d .last ≡ lastOf (d .count) (Ran j) s) × (d .left ≡ after (d .count) s)) ⊎ ((d .count < n) × (IsRan (d .last) → ⊥) × (d .last ≡ one (after (d .count) s) .answer) × (d .left ≡ one (after (d .count) s) .tables))
-        → ((suc (d .count) ≡ suc n) × (d .last ≡ lastOf (suc (d .count)) a₀ t) × (d .left ≡ after (suc (d .count)) t)) ⊎ ((suc (d .count) < suc n) × (IsRan (d .last) → ⊥) × (d .last ≡ one (after (suc (d .count)) t) .answer) × (d .left ≡ one (after (suc (d .count)) t) .tables))
+          → ((suc (d .count) ≡ suc n) × (d .last ≡ lastOf (suc (d .count)) a₀ t) × (d .left ≡ after (suc (d .count)) t)) ⊎ ((suc (d .count) < suc n) × (IsRan (d .last) → ⊥) × (d .last ≡ one (after (suc (d .count)) t) .answer) × (d .left ≡ one (after (suc (d .count)) t) .tables))
       ends′ (inl (p, q, r)) = inl (ap suc p, rw (says, at) q, rw at r)
       ends′ (inr (p, q, r, x)) = inr (omega arith, q, rw at r, rw at x)
 
   pub run-is : (n k₀ : ℕ) (a₀ : Answer) (t : Tables) → IsRun n k₀ a₀ t
   unfolding runFrom
-  run-is zero k₀ a₀ t = record
-    { count = 0; last = a₀; left = t; gives = (let z : k₀ ≡ k₀ + 0 = omega arith in ap (λ (k : ℕ). done (RanFor k a₀) t) z)
-    ; steps = record { ran = λ i l. absurd (omega arith); ends = inl (refl, unfold lastOf in refl, unfold after in refl) } }
+  run-is zero k₀ a₀ t = record {
+    count = 0;
+    last = a₀;
+    left = t;
+    gives = (let z : k₀ ≡ k₀ + 0 = omega arith in ap (λ (k : ℕ). done (RanFor k a₀) t) z);
+    steps = record { ran = λ i l. absurd (omega arith); ends = inl (refl, unfold lastOf in refl, unfold after in refl) };
+  }
   run-is (suc n) k₀ a₀ t = go (one t .answer) refl (λ k a s. run-is n k a s)
     where
       go : (a : Answer) → one t .answer ≡ a → ((k : ℕ) (a : Answer) (s : Tables) → IsRun n k a s) → IsRun (suc n) k₀ a₀ t

@@ -37,7 +37,7 @@ module _ (b : Base) where
   slots-fuel (suc j) (suc k) c l m = go (superOf b c) refl (λ p h. slots-fuel j k p (omega arith) (omega arith))
     where
       go : (o : Option ℕ) → superOf b c ≡ o → ((p : ℕ) → p < c → slotsIn j b p ≡ slotsIn k b p)
-        → _≡_ {A = List Slot} (elim o as (λ _. List Slot) [ none ↦ ownSlots b c | some p ↦ slotsIn j b p ++ ownSlots b c ]) (elim o as (λ _. List Slot) [ none ↦ ownSlots b c | some p ↦ slotsIn k b p ++ ownSlots b c ])
+          → _≡_ {A = List Slot} (elim o as (λ _. List Slot) [ none ↦ ownSlots b c | some p ↦ slotsIn j b p ++ ownSlots b c ]) (elim o as (λ _. List Slot) [ none ↦ ownSlots b c | some p ↦ slotsIn k b p ++ ownSlots b c ])
       go none e f = refl
       go (some p) e f = rw (f p (super-falls b c p e)) refl
 

@@ -31,7 +31,7 @@ find-last [] e h = rw (same-refl (e .request), find) refl
 find-last (d ∷ es) e h = go (sameRequest (d .request) (e .request)) h (find-last es e)
   where
     go : (t : Bool) → _≡_ {A = Option ℕ} (elim t as (λ _. Option ℕ) [ true ↦ some (d .class) | false ↦ find es (e .request) ]) none → (find es (e .request) ≡ none → find (es ++ (e ∷ [])) (e .request) ≡ some (e .class))
-      → (elim t as (λ _. Option ℕ) [ true ↦ some (d .class) | false ↦ find (es ++ (e ∷ [])) (e .request) ]) ≡ some (e .class)
+        → (elim t as (λ _. Option ℕ) [ true ↦ some (d .class) | false ↦ find (es ++ (e ∷ [])) (e .request) ]) ≡ some (e .class)
     go true q f = absurd (Option·some-ne-none (d .class) q)
     go false q f = f q
 
@@ -45,7 +45,7 @@ find-snoc [] e r c h = go (sameRequest (e .request) r) h
 find-snoc (d ∷ es) e r c h = go (sameRequest (d .request) r) h (find-snoc es e r c)
   where
     go : (t : Bool) → (elim t as (λ _. Option ℕ) [ true ↦ some (d .class) | false ↦ find (es ++ (e ∷ [])) r ]) ≡ some c → (find (es ++ (e ∷ [])) r ≡ some c → (find es r ≡ some c) ⊎ (c ≡ e .class))
-      → ((elim t as (λ _. Option ℕ) [ true ↦ some (d .class) | false ↦ find es r ]) ≡ some c) ⊎ (c ≡ e .class)
+        → ((elim t as (λ _. Option ℕ) [ true ↦ some (d .class) | false ↦ find es r ]) ≡ some c) ⊎ (c ≡ e .class)
     go true q f = inl q
     go false q f = f q
 
@@ -107,8 +107,9 @@ module _ (v w : World) (lk : Rooted (v .base)) (gr : Grows v w) where
     where
       F : Bool → Option ℕ → (ℕ → Option ℕ) → Option ℕ
       F x o g = elim x as (λ _. Option ℕ) [ true ↦ some c | false ↦ elim o as (λ _. Option ℕ) [ none ↦ none | some p ↦ g p ] ]
+
       go : (x : Bool) (o : Option ℕ) → superOf (v .base) c ≡ o → ((p : ℕ) → Real p → seek (superOf (w .base)) u j p ≡ seek (superOf (v .base)) t j p)
-        → F x o (seek (superOf (w .base)) u j) ≡ F x o (seek (superOf (v .base)) t j)
+          → F x o (seek (superOf (w .base)) u j) ≡ F x o (seek (superOf (v .base)) t j)
       go true o e f = refl
       go false none e f = refl
       go false (some p) e f = f p (real-super c p e)
@@ -133,10 +134,12 @@ module _ (v w : World) (lk : Rooted (v .base)) (gr : Grows v w) where
     where
       slotsInW : ℕ → ℕ → List Slot
       slotsInW j p = slotsIn j (w .base) p
+
       F : Option ℕ → (ℕ → List Slot) → List Slot → List Slot
       F o g s = elim o as (λ _. List Slot) [ none ↦ s | some p ↦ g p ++ s ]
+
       go : (o : Option ℕ) → superOf (v .base) c ≡ o → ((p : ℕ) → Real p → slotsIn j (w .base) p ≡ slotsIn j (v .base) p)
-        → F o (λ p. slotsIn j (w .base) p) (ownSlots (w .base) c) ≡ F o (λ p. slotsIn j (v .base) p) (ownSlots (v .base) c)
+          → F o (λ p. slotsIn j (w .base) p) (ownSlots (w .base) c) ≡ F o (λ p. slotsIn j (v .base) p) (ownSlots (v .base) c)
       go none e f = own-stable c q
       go (some p) e f = rw (f p (real-super c p e), own-stable c q) refl
 
@@ -154,6 +157,6 @@ module _ (v w : World) (lk : Rooted (v .base)) (gr : Grows v w) where
   slot-real (suc j) c q s m = go (superOf (v .base) c) refl m (λ p r. slot-real j p r s)
     where
       go : (o : Option ℕ) → superOf (v .base) c ≡ o → List·Memᴰ s (elim o as (λ _. List Slot) [ none ↦ ownSlots (v .base) c | some p ↦ slotsIn j (v .base) p ++ ownSlots (v .base) c ])
-        → ((p : ℕ) → Real p → List·Memᴰ s (slotsIn j (v .base) p) → Real (s .owner)) → Real (s .owner)
+          → ((p : ℕ) → Real p → List·Memᴰ s (slotsIn j (v .base) p) → Real (s .owner)) → Real (s .owner)
       go none e m f = own-real c q s m
       go (some p) e m f = elim (List·Memᴰ·append-cases (slotsIn j (v .base) p) m) [ inl x ↦ f p (real-super c p e) x | inr x ↦ own-real c q s x ]

@@ -22,7 +22,7 @@ module _ (sup : ℕ → Option ℕ) (falls : Falls sup) (test : ℕ → Bool) wh
   seek-fuel (suc j) (suc k) c l m = go (test c) (sup c) refl (λ p h. seek-fuel j k p (omega arith) (omega arith))
     where
       go : (t : Bool) (o : Option ℕ) → sup c ≡ o → ((p : ℕ) → p < c → seek sup test j p ≡ seek sup test k p)
-        → _≡_ {A = Option ℕ} (elim t as (λ _. Option ℕ) [ true ↦ some c | false ↦ elim o as (λ _. Option ℕ) [ none ↦ none | some p ↦ seek sup test j p ] ])
+          → _≡_ {A = Option ℕ} (elim t as (λ _. Option ℕ) [ true ↦ some c | false ↦ elim o as (λ _. Option ℕ) [ none ↦ none | some p ↦ seek sup test j p ] ])
           (elim t as (λ _. Option ℕ) [ true ↦ some c | false ↦ elim o as (λ _. Option ℕ) [ none ↦ none | some p ↦ seek sup test k p ] ])
       go true o e f = refl
       go false none e f = refl
@@ -47,8 +47,8 @@ module _ (sup : ℕ → Option ℕ) (falls : Falls sup) (test : ℕ → Bool) wh
   seek-below (suc k) c d h = go (test c) refl (sup c) refl h (λ p. seek-below k p d)
     where
       go : (t : Bool) → test c ≡ t → (o : Option ℕ) → sup c ≡ o
-        → (elim t as (λ _. Option ℕ) [ true ↦ some c | false ↦ elim o as (λ _. Option ℕ) [ none ↦ none | some p ↦ seek sup test k p ] ]) ≡ some d
-        → ((p : ℕ) → seek sup test k p ≡ some d → Below sup d p × (test d ≡ true)) → Below sup d c × (test d ≡ true)
+          → (elim t as (λ _. Option ℕ) [ true ↦ some c | false ↦ elim o as (λ _. Option ℕ) [ none ↦ none | some p ↦ seek sup test k p ] ]) ≡ some d
+          → ((p : ℕ) → seek sup test k p ≡ some d → Below sup d p × (test d ≡ true)) → Below sup d c × (test d ≡ true)
       go true e o s q f = (same (Option·some-injective c d q), rw (Option·some-injective c d q) at e)
       go false e none s q f = absurd (Option·none-ne-some d q)
       go false e (some p) s q f = (up s (f p q .0), f p q .1)

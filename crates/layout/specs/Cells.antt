@@ -5,21 +5,20 @@ use mathlib.Core.Bool.{Bool, true, false}
 use mathlib.Core.Option.{none, some}
 use mathlib.Core.List.{List, [], _∷_, _++_}
 use mathlib.Core.Logic.{_≢_}
-use Prim.Native.Nat.{ℕ, zero, suc, _+_, _*_, _<_, _≤_}
+use Prim.Native.Nat.{ℕ, suc, _+_, _*_, _<_, _≤_}
 use native.Mathlib.Nat.{suc-mul, mul-le-mul-right}
 use native.Mathlib.Omega.{arith}
-use lib.ListN.{length, getElem?, getD, set, length-set}
-use lib.Seq.{set-getD, set-out, set-comm, getD-set-same, getD-set-other}
+use lib.ListN.{length, getElem?, getD, set, take, drop, replicate, length-set}
+use lib.Seq.{sets, sets-eq, set-getD, set-out, set-comm, getD-set-same, getD-set-other}
 use lib.Dec.{eqb, leb}
 use borrow.Author.Tests.{eqb-true, leb-true, le-leb}
 use Rattle.definition.specs.Lists.{rows, writeRows, stack, writeStack}
-use Rattle.definition.specs.Classes.{Base, Entry}
-use Rattle.definition.specs.Constraints.{Tie, Subtype}
+use Rattle.definition.specs.Classes.{Base}
 use Rattle.definition.specs.Instructions.{pick}
-use Rattle.definition.specs.Machine.{Value, unsetValue, intValue, nullValue, objectValue, unlistedValue, Object, Frame}
-use Rattle.definition.specs.Tables.{ClassRow, threeAt, putThree, classRow, entry, tie, subtype, classRowAt, putClassRow, entryAt, putEntry, tieAt, putTie, subtypeAt, putSubtype, valueOf, kindOf, bitsOf, valueAt, putCells, putValue, fieldAt, putField, sizeOf, usedFields, objectAt, putObject, localAt, putLocal, operandAt, putOperand, frame, frameOf, frameAt, putHead, putFrame, frameBase, frameIn, putFrameIn}
+use Rattle.definition.specs.Machine.{Value, unsetValue, intValue, nullValue, objectValue, unlistedValue, Object, Frame, entryFrame}
+use Rattle.definition.specs.Tables.{threeAt, putThree, classRow, entry, tie, subtype, classRowAt, putClassRow, entryAt, putEntry, tieAt, putTie, subtypeAt, putSubtype, valueOf, kindOf, bitsOf, valueAt, putCells, putValue, fieldAt, putField, sizeOf, usedFields, objectAt, putObject, localAt, putLocal, operandAt, putOperand, frame, frameOf, frameAt, putHead, putFrame, frameBase, frameIn, putFrameIn}
 use Rattle.layout.specs.Tests.{All, all-each}
-use Rattle.layout.specs.Places.{rows-length, rows-cong, rows-set, rows-last, rows-there, rows-past, writeRows-append, stack-length, stack-cong, writeRows-same, writeStack-same, writeStack-above, writeStack-two, writeRows-put, writeRows-replace, writeRows-last, writeRows-keeps, writeStack-keeps, writeRows-length, writeStack-length, rows-written, stack-written}
+use Rattle.layout.specs.Places.{rows-length, rows-cong, rows-set, rows-last, rows-both, rows-there, rows-past, writeRows-append, writeRows-below, writeRows-first, writeRows-snoc, writeRows-copy, stack-length, stack-cong, writeRows-same, writeStack-same, writeStack-above, writeStack-two, writeRows-replace, writeRows-last, writeRows-length, rows-written, stack-written}
 
 -- Rows of w cells that hold anything
 
@@ -54,6 +53,17 @@ module _ {A : Type 0} {at : List ℕ → ℕ → A} {put : List ℕ → ℕ → 
   pub row-replaced : (t : List ℕ) (n j : ℕ) (x : A) → j < n → writeRows put (set (rows (at t) n 0) j x) 0 t ≡ put t j x
   row-replaced t n j x l = writeRows-replace put at (laws .same) below t n j x l
 
+  -- rows written from the first on, as a loop writes them
+  pub rows-first : (x : A) (xs : List A) (i : ℕ) (t : List ℕ) → writeRows put (x ∷ xs) i t ≡ writeRows put xs (suc i) (put t i x)
+  rows-first x xs i t = writeRows-first put (laws .commute) x xs i t
+
+  pub rows-snoc : (xs : List A) (x : A) (i : ℕ) (t : List ℕ) → writeRows put (xs ++ (x ∷ [])) i t ≡ put (writeRows put xs i t) (i + length xs) x
+  rows-snoc xs x i t = writeRows-snoc put (laws .commute) xs x i t
+
+  pub rows-copy : (xs : List A) (d : A) (i j : ℕ) (t : List ℕ) → j < length xs → writeRows put (take (suc j) xs) i t
+      ≡ put (writeRows put (take j xs) i t) (i + j) (getD xs j d)
+  rows-copy xs d i j t l = writeRows-copy put (laws .commute) xs d i j t l
+
   -- what is read after a row is written
   pub rows-after : (t : List ℕ) (n j : ℕ) (x : A) → j < n → n * w ≤ length t → rows (at (put t j x)) n 0 ≡ set (rows (at t) n 0) j x
   rows-after t n j x l h =
@@ -65,6 +75,21 @@ module _ {A : Type 0} {at : List ℕ → ℕ → A} {put : List ℕ → ℕ → 
       let e : 0 + n ≡ n = omega arith in
       rows-last (at (put t n x)) n 0
       ∙ rw (e, laws .back t n x (omega (arith, suc-mul n w)), rows-cong (at (put t n x)) (at t) n 0 (λ m a k. laws .other t m n x (λ r. omega arith)))
+
+-- what is read after rows were written behind the first n
+pub rows-after-more : {A : Type 0} {at : List ℕ → ℕ → A} {put : List ℕ → ℕ → A → List ℕ} {w : ℕ} (laws : RowLaws at put w) (xs : List A) (t : List ℕ) (n : ℕ)
+    → (n + length xs) * w ≤ length t
+    → rows (at (writeRows put xs n t)) (n + length xs) 0 ≡ rows (at t) n 0 ++ xs
+rows-after-more {at = at} {put = put} {w = w} laws xs t n h =
+    let z : 0 + n ≡ n = omega arith in
+    rows-both (at (writeRows put xs n t)) n (length xs) 0
+    ∙ rw (
+      z,
+      rows-cong (at (writeRows put xs n t)) (at t) n 0 (λ m a k. writeRows-below put at (laws .same) (λ s i j x l. laws .other s i j x (λ e. omega arith)) xs m n t (omega arith)),
+      rows-written put (laws .long) at (λ _. Unit {0}) (length t) (n + length xs)
+          (λ s i x e k p. laws .back s i x (omega (arith, mul-le-mul-right w k, suc-mul i w))) (λ s i j x k p. laws .other s i j x (λ e. omega arith)) xs n (omega arith)
+          (all-each (λ _. Unit {0}) (λ x. tt) xs) t refl,
+    )
 
 module _ (t : List ℕ) where
   three-same : (i : ℕ) → putThree t i (getD t (i * 3) 0) (getD t (i * 3 + 1) 0) (getD t (i * 3 + 2) 0) ≡ t
@@ -145,6 +170,15 @@ cell-rows = record {
   long = λ t i x. length-set t i x;
   commute = λ t i j x y l. set-comm t j i y x (λ e. omega arith);
 }
+
+-- cells written from the first on, and as a block
+pub cells-sets : (xs : List ℕ) (i : ℕ) (t : List ℕ) → writeRows set xs i t ≡ sets t i xs
+unfolding writeRows
+cells-sets [] i t = refl
+cells-sets (x ∷ xs) i t = rows-first cell-rows x xs i t ∙ cells-sets xs (suc i) (set t i x)
+
+pub cells-block : (xs : List ℕ) (i : ℕ) (t : List ℕ) → i + length xs ≤ length t → writeRows set xs i t ≡ take i t ++ xs ++ drop (i + length xs) t
+cells-block xs i t l = cells-sets xs i t ∙ sets-eq xs t i l
 
 -- Values
 
@@ -230,6 +264,18 @@ pub putValue-cells : (t : List ℕ) (i k b : ℕ) → putValue t i (valueOf k b)
 unfolding putValue
 putValue-cells t i k b = rw (kind-value k b, bits-value k b)
 
+pub putField-cells : (o : ℕ) (t : List ℕ) (i k b : ℕ) → putField o t i (valueOf k b) ≡ putCells t (o * 33 + (1 + 2 * i)) k b
+unfolding putField
+putField-cells o t i k b = putValue-cells t (o * 33 + (1 + 2 * i)) k b
+
+pub putLocal-cells : (c : ℕ) (t : List ℕ) (i k b : ℕ) → putLocal c t i (valueOf k b) ≡ putCells t (c + (4 + 2 * i)) k b
+unfolding putLocal
+putLocal-cells c t i k b = putValue-cells t (c + (4 + 2 * i)) k b
+
+pub putOperand-cells : (c : ℕ) (t : List ℕ) (i k b : ℕ) → putOperand c t i (valueOf k b) ≡ putCells t (c + (20 + 2 * i)) k b
+unfolding putOperand
+putOperand-cells c t i k b = putValue-cells t (c + (20 + 2 * i)) k b
+
 pub putValue-same : (t : List ℕ) (i : ℕ) → putValue t i (valueAt t i) ≡ t
 unfolding valueAt
 putValue-same t i = putValue-cells t i (getD t i 0) (getD t (i + 1) 0) ∙ rw (set-getD t i 0) (set-getD t (i + 1) 0)
@@ -278,7 +324,8 @@ Unread r lo hi = (t : List ℕ) (m v : ℕ) → lo ≤ m → m < hi → r (set t
 pub unread-cell : (c lo hi : ℕ) → ((m : ℕ) → lo ≤ m → m < hi → c ≢ m) → Unread (λ t. getD t c 0) lo hi
 unread-cell c lo hi apart = λ t m v a b. getD-set-other t m c v 0 (apart m a b)
 
-unread-value : {B : Type 0} (r : List ℕ → B) (lo hi : ℕ) → Unread r lo hi → (t : List ℕ) (i : ℕ) (v : Value) → lo ≤ i → i + 1 < hi → r (putValue t i v) ≡ r t
+pub unread-value : {B : Type 0} (r : List ℕ → B) (lo hi : ℕ) → Unread r lo hi → (t : List ℕ) (i : ℕ) (v : Value) → lo ≤ i → i + 1 < hi → r (putValue t i v)
+    ≡ r t
 unfolding putValue
 unread-value r lo hi un t i v a b = un (set t i (kindOf v)) (i + 1) (bitsOf v) (omega arith) (omega arith) ∙ un t i (kindOf v) (omega arith) (omega arith)
 
@@ -303,17 +350,20 @@ module _ (b c : ℕ) where
   place-back : (t : List ℕ) (i : ℕ) (v : Value) → b + (c + 2 * i) + 1 < length t → Proper v → placeAt (putPlace t i v) i ≡ v
   place-back t i v l h = valueAt-back t (b + (c + 2 * i)) v l h
 
-  pub places-back : (vs : List Value) (t : List ℕ) → b + (c + 2 * length vs) ≤ length t → All Proper vs → rows (placeAt (writeRows putPlace vs 0 t)) (length vs) 0 ≡ vs
+  pub places-back : (vs : List Value) (t : List ℕ) → b + (c + 2 * length vs) ≤ length t → All Proper vs
+      → rows (placeAt (writeRows putPlace vs 0 t)) (length vs) 0 ≡ vs
   places-back vs t l h =
       rows-written putPlace place-length placeAt Proper (length t) (length vs)
       (λ s i v e k p. place-back s i v (omega arith) p) (λ s i j v k p. place-other s i j v (λ e. omega arith)) vs 0 (omega arith) h t refl
 
-  pub stacked-back : (vs : List Value) (t : List ℕ) → b + (c + 2 * length vs) ≤ length t → All Proper vs → stack (placeAt (writeStack putPlace vs t)) (length vs) ≡ vs
+  pub stacked-back : (vs : List Value) (t : List ℕ) → b + (c + 2 * length vs) ≤ length t → All Proper vs
+      → stack (placeAt (writeStack putPlace vs t)) (length vs) ≡ vs
   stacked-back vs t l h =
       stack-written putPlace place-length placeAt Proper (length t) (length vs)
       (λ s i v e k p. place-back s i v (omega arith) p) (λ s i j v k p q. place-other s i j v (λ e. omega arith)) vs (omega arith) h t refl
 
-  unread-places : {B : Type 0} (r : List ℕ → B) (lo hi : ℕ) → Unread r lo hi → (vs : List Value) (i : ℕ) (t : List ℕ) → lo ≤ b + c → b + (c + 2 * (i + length vs)) ≤ hi
+  unread-places : {B : Type 0} (r : List ℕ → B) (lo hi : ℕ) → Unread r lo hi → (vs : List Value) (i : ℕ) (t : List ℕ) → lo ≤ b + c
+      → b + (c + 2 * (i + length vs)) ≤ hi
       → r (writeRows putPlace vs i t) ≡ r t
   unfolding writeRows
   unread-places r lo hi un [] i t a h = refl
@@ -330,6 +380,20 @@ module _ (b c : ℕ) where
   -- one of n places set
   pub place-set : (t : List ℕ) (n j : ℕ) (v : Value) → j < n → writeRows putPlace (set (rows (placeAt t) n 0) j v) 0 t ≡ putPlace t j v
   place-set t n j v l = writeRows-replace putPlace placeAt place-same (λ s i k w h. place-other s i k w (λ e. omega arith)) t n j v l
+
+-- values side by side are cells side by side
+unfoldable pub valueCells : List Value → List ℕ
+valueCells [] = []
+valueCells (v ∷ vs) = kindOf v ∷ bitsOf v ∷ valueCells vs
+
+pub places-cells : (b c : ℕ) (vs : List Value) (i : ℕ) (t : List ℕ) → writeRows (putPlace b c) vs i t ≡ writeRows set (valueCells vs) (b + (c + 2 * i)) t
+unfolding writeRows valueCells putValue
+places-cells b c [] i t = refl
+places-cells b c (v ∷ vs) i t =
+    let a : ℕ = b + (c + 2 * i) in
+    let e : b + (c + 2 * suc i) ≡ suc (suc (b + (c + 2 * i))) = omega arith in
+    let f : b + (c + 2 * i) + 1 ≡ suc (b + (c + 2 * i)) = omega arith in
+    rw (f, places-cells b c vs (suc i) t, e) (set-comm (writeRows set (valueCells vs) (suc (suc a)) t) a (suc a) (kindOf v) (bitsOf v) (λ q. omega arith))
 
 -- Objects: a class and values
 
@@ -373,9 +437,19 @@ module _ (b : Base) where
       two : (c : ℕ) → c + 1 < 33 → valueOf (getD u (o * 33 + c) 0) (getD u (o * 33 + c + 1) 0) ≡ valueOf (getD t (o * 33 + c) 0) (getD t (o * 33 + c + 1) 0)
       two c h = let a : o * 33 + c + 1 ≡ o * 33 + (c + 1) = omega arith in rw (a, e c (omega arith), e (c + 1) h)
 
-pub unread-object : {B : Type 0} (r : List ℕ → B) (o hi : ℕ) → Unread r (o * 33) hi → (x : Object) → o * 33 + (1 + 2 * length (x .values)) ≤ hi → (t : List ℕ) → r (putObject t o x) ≡ r t
+pub unread-object : {B : Type 0} (r : List ℕ → B) (o hi : ℕ) → Unread r (o * 33) hi → (x : Object) → o * 33 + (1 + 2 * length (x .values)) ≤ hi → (t : List ℕ)
+    → r (putObject t o x) ≡ r t
 unfolding putObject putField
-unread-object r o hi un x l t = unread-places (o * 33) 1 r (o * 33) hi un (x .values) 0 (set t (o * 33) (x .class)) (omega arith) (omega arith) ∙ un t (o * 33) (x .class) (omega arith) (omega arith)
+unread-object r o hi un x l t =
+    unread-places (o * 33) 1 r (o * 33) hi un (x .values) 0 (set t (o * 33) (x .class)) (omega arith) (omega arith)
+    ∙ un t (o * 33) (x .class) (omega arith) (omega arith)
+
+-- an object put is its cells written, from its class on
+pub object-row : (t : List ℕ) (o : ℕ) (x : Object) → putObject t o x ≡ writeRows set (x .class ∷ valueCells (x .values)) (o * 33) t
+unfolding putObject putField
+object-row t o x =
+    let e : o * 33 + (1 + 2 * 0) ≡ suc (o * 33) = omega arith in
+    places-cells (o * 33) 1 (x .values) 0 (set t (o * 33) (x .class)) ∙ rw e (sym (rows-first cell-rows (x .class) (valueCells (x .values)) (o * 33) t))
 
 pub putObject-length : (t : List ℕ) (o : ℕ) (x : Object) → length (putObject t o x) ≡ length t
 putObject-length t o x = unread-object length o (o * 33 + (1 + 2 * length (x .values))) (λ s m v a k. length-set s m v) x (omega arith) t
@@ -385,7 +459,8 @@ module _ (b : Base) where
   pub object-below : (t : List ℕ) (i o : ℕ) (x : Object) → i < o → objectAt b (putObject t o x) i ≡ objectAt b t i
   object-below t i o x l =
       object-cells b t (putObject t o x) i (λ c h.
-      unread-object (λ s. getD s (i * 33 + c) 0) o (o * 33 + (1 + 2 * length (x .values))) (unread-cell (i * 33 + c) (o * 33) (o * 33 + (1 + 2 * length (x .values))) (λ m j k e. omega arith)) x (omega arith) t)
+      unread-object (λ s. getD s (i * 33 + c) 0) o (o * 33 + (1 + 2 * length (x .values)))
+      (unread-cell (i * 33 + c) (o * 33) (o * 33 + (1 + 2 * length (x .values))) (λ m j k e. omega arith)) x (omega arith) t)
 
   pub object-other : (t : List ℕ) (i o : ℕ) (x : Object) → i ≢ o → length (x .values) ≤ 16 → objectAt b (putObject t o x) i ≡ objectAt b t i
   object-other t i o x n l =
@@ -400,9 +475,11 @@ module _ (b : Base) where
       let u : List ℕ = writeRows (putPlace (o * 33) 1) (x .values) 0 h in
       let few : length (x .values) ≤ 16 = omega (arith, used-few b (x .class)) in
       let c : getD u (o * 33) 0 ≡ x .class =
-      unread-places (o * 33) 1 (λ s. getD s (o * 33) 0) (o * 33 + 1) (o * 33 + 33) (unread-cell (o * 33) (o * 33 + 1) (o * 33 + 33) (λ m j k e. omega arith)) (x .values) 0 h (omega arith) (omega arith)
+      unread-places (o * 33) 1 (λ s. getD s (o * 33) 0) (o * 33 + 1) (o * 33 + 33)
+      (unread-cell (o * 33) (o * 33 + 1) (o * 33 + 33) (λ m j k e. omega arith)) (x .values) 0 h (omega arith) (omega arith)
       ∙ getD-set-same t (o * 33) (x .class) 0 (omega arith) in
-      let v : rows (placeAt (o * 33) 1 u) (length (x .values)) 0 ≡ x .values = places-back (o * 33) 1 (x .values) h (rw (length-set t (o * 33) (x .class)) (omega arith)) proper in
+      let v : rows (placeAt (o * 33) 1 u) (length (x .values)) 0 ≡ x .values =
+      places-back (o * 33) 1 (x .values) h (rw (length-set t (o * 33) (x .class)) (omega arith)) proper in
       rw (c, ← n, v)
 
   -- its values, as the machine reads them
@@ -419,7 +496,8 @@ module _ (b : Base) where
   object-no-value t o j l = rows-past (fieldAt t o) (usedFields b (getD t (o * 33) 0)) 0 j l
 
   -- one field set: two cells written
-  pub object-field : (t : List ℕ) (o j : ℕ) (v : Value) → j < usedFields b (objectAt b t o .class) → putObject t o (withField (objectAt b t o) j v) ≡ putField o t j v
+  pub object-field : (t : List ℕ) (o j : ℕ) (v : Value) → j < usedFields b (objectAt b t o .class) → putObject t o (withField (objectAt b t o) j v)
+      ≡ putField o t j v
   unfolding putObject objectAt fieldAt putField
   object-field t o j v l = rw (set-getD t (o * 33) 0) (place-set (o * 33) 1 t (usedFields b (getD t (o * 33) 0)) j v l)
 
@@ -445,6 +523,10 @@ moved t b p d = set (set t (b + 2) p) (b + 3) d
 -- the same class and method with other operands and locals
 abbrev pub frameWith : List ℕ → ℕ → ℕ → List Value → List Value → Frame
 frameWith t b p o l = frame (getD t b 0) (getD t (b + 1) 0) p o l
+
+-- a frame with a value above its operands
+abbrev pub withValue : Frame → Value → Frame
+withValue f v = frame (f .class) (f .method) (f .point) (v ∷ f .operands) (f .locals)
 
 pub local-same : (t : List ℕ) (b i : ℕ) → putLocal b t i (localAt t b i) ≡ t
 unfolding putLocal localAt
@@ -493,14 +575,16 @@ module _ (t : List ℕ) (b p k : ℕ) where
       (writeStack-above (putPlace b 20) (placeAt b 20 (moved t b p (suc k))) (moved t b p (suc k)) (place-same b 20 (moved t b p (suc k))) k v)
 
   -- and two values above them
-  pub frame-two : (v w : Value) → putFrame t b (frameWith t b p (w ∷ v ∷ stack (operandAt t b) k) (rows (localAt t b) 8 0)) ≡ putOperand b (putOperand b (moved t b p (suc (suc k))) k v) (suc k) w
+  pub frame-two : (v w : Value) → putFrame t b (frameWith t b p (w ∷ v ∷ stack (operandAt t b) k) (rows (localAt t b) 8 0))
+      ≡ putOperand b (putOperand b (moved t b p (suc (suc k))) k v) (suc k) w
   unfolding putFrame putOperand operandAt putLocal localAt
   frame-two v w =
       rw (stack-length (placeAt b 20 t) k, head-moved t b p (suc (suc k)), locals-kept (suc (suc k)), operands-moved (suc (suc k)))
       (writeStack-two (putPlace b 20) (placeAt b 20 (moved t b p (suc (suc k)))) (moved t b p (suc (suc k))) (place-same b 20 (moved t b p (suc (suc k)))) k v w)
 
   -- the lowest k operands kept and a local set
-  pub frame-local : (j : ℕ) (v : Value) → j < 8 → putFrame t b (frameWith t b p (stack (operandAt t b) k) (set (rows (localAt t b) 8 0) j v)) ≡ putLocal b (moved t b p k) j v
+  pub frame-local : (j : ℕ) (v : Value) → j < 8 → putFrame t b (frameWith t b p (stack (operandAt t b) k) (set (rows (localAt t b) 8 0) j v))
+      ≡ putLocal b (moved t b p k) j v
   unfolding putFrame putOperand operandAt putLocal localAt
   frame-local j v h =
       let u : List ℕ = moved t b p k in
@@ -521,7 +605,7 @@ frame-same t b = frame-kept t b (getD t (b + 2) 0) (getD t (b + 3) 0) ∙ rw (se
 
 -- a value given to a waiting frame: its operand count and two cells
 pub frame-given : (t : List ℕ) (b d : ℕ) (v : Value) → d ≡ getD t (b + 3) 0
-    → putFrame t b (frame (frameAt t b .class) (frameAt t b .method) (frameAt t b .point) (v ∷ frameAt t b .operands) (frameAt t b .locals)) ≡ putOperand b (set t (b + 3) (suc d)) d v
+    → putFrame t b (withValue (frameAt t b) v) ≡ putOperand b (set t (b + 3) (suc d)) d v
 unfolding frameAt frameOf
 frame-given t b d v e = rw (← e, frame-above t b (getD t (b + 2) 0) d v, set-getD t (b + 2) 0)
 
@@ -551,7 +635,8 @@ pub frame-unread : (b lo hi : ℕ) → hi ≤ b → Unread (λ s. frameAt s b) l
 frame-unread b lo hi h = λ t m v a k. frame-cells t (set t m v) b (λ c l. getD-set-other t m (b + c) v 0 (λ e. omega arith))
 
 -- what is read elsewhere stays where a frame is put
-pub unread-frame : {B : Type 0} (r : List ℕ → B) (b hi : ℕ) → Unread r b hi → (f : Frame) → b + 4 ≤ hi → b + (4 + 2 * length (f .locals)) ≤ hi → b + (20 + 2 * length (f .operands)) ≤ hi
+pub unread-frame : {B : Type 0} (r : List ℕ → B) (b hi : ℕ) → Unread r b hi → (f : Frame) → b + 4 ≤ hi → b + (4 + 2 * length (f .locals)) ≤ hi
+    → b + (20 + 2 * length (f .operands)) ≤ hi
     → (t : List ℕ) → r (putFrame t b f) ≡ r t
 unfolding putFrame putOperand putLocal
 unread-frame r b hi un f l m n t =
@@ -588,8 +673,10 @@ module _ (t : List ℕ) (b : ℕ) (f : Frame) (room : b + 52 ≤ length t) (fits
   head-cell : (c : ℕ) → c < 4 → getD (putFrame t b f) (b + c) 0 ≡ getD head (b + c) 0
   unfolding putFrame putOperand putLocal
   head-cell c l =
-      unread-stacked b 20 (λ s. getD s (b + c) 0) (b + 4) (b + 52) (unread-cell (b + c) (b + 4) (b + 52) (λ m j k e. omega arith)) (f .operands) located (omega arith) (omega (arith, fits .few))
-      ∙ unread-places b 4 (λ s. getD s (b + c) 0) (b + 4) (b + 52) (unread-cell (b + c) (b + 4) (b + 52) (λ m j k e. omega arith)) (f .locals) 0 head (omega arith) (omega (arith, fits .eight))
+      unread-stacked b 20 (λ s. getD s (b + c) 0) (b + 4) (b + 52) (unread-cell (b + c) (b + 4) (b + 52) (λ m j k e. omega arith))
+      (f .operands) located (omega arith) (omega (arith, fits .few))
+      ∙ unread-places b 4 (λ s. getD s (b + c) 0) (b + 4) (b + 52) (unread-cell (b + c) (b + 4) (b + 52) (λ m j k e. omega arith))
+      (f .locals) 0 head (omega arith) (omega (arith, fits .eight))
 
   head-length : length head ≡ length t
   head-length = simp length-set
@@ -625,7 +712,8 @@ module _ (t : List ℕ) (b : ℕ) (f : Frame) (room : b + 52 ≤ length t) (fits
   unfolding putFrame localAt putLocal putOperand
   locals-back =
       rows-cong (localAt (putFrame t b f) b) (placeAt b 4 located) 8 0 (λ i h l.
-      unread-stacked b 20 (λ s. placeAt b 4 s i) (b + 20) (b + 52) (λ s m v j k. valueAt-set s (b + (4 + 2 * i)) m v (λ e. omega arith) (λ e. omega arith)) (f .operands) located (omega arith) (omega (arith, fits .few)))
+      unread-stacked b 20 (λ s. placeAt b 4 s i) (b + 20) (b + 52)
+      (λ s m v j k. valueAt-set s (b + (4 + 2 * i)) m v (λ e. omega arith) (λ e. omega arith)) (f .operands) located (omega arith) (omega (arith, fits .few)))
       ∙ (rw (fits .eight) at (places-back b 4 (f .locals) head (omega (arith, head-length, fits .eight)) (fits .locals)))
 
   -- a frame that was put is read back
@@ -635,3 +723,26 @@ module _ (t : List ℕ) (b : ℕ) (f : Frame) (room : b + 52 ≤ length t) (fits
       let z : b + 0 ≡ b = omega arith in
       let c0 : getD (putFrame t b f) b 0 ≡ f .class = (rw z at (head-cell 0 (omega arith))) ∙ head-class in
       rw (c0, head-cell 1 (omega arith) ∙ head-method, head-cell 2 (omega arith) ∙ head-point, head-cell 3 (omega arith) ∙ head-depth, operands-back, locals-back)
+
+-- two pairs of cells, then the rest
+pairs-first : (x y z w : ℕ) (xs : List ℕ) (i : ℕ) (t : List ℕ) → writeRows set (x ∷ y ∷ z ∷ w ∷ xs) i t
+    ≡ writeRows set xs (i + 4) (putCells (putCells t i x y) (i + 2) z w)
+pairs-first x y z w xs i t =
+    let a : i + 1 ≡ suc i = omega arith in
+    let b : i + 2 ≡ suc (suc i) = omega arith in
+    let c : i + 2 + 1 ≡ suc (suc (suc i)) = omega arith in
+    let d : i + 4 ≡ suc (suc (suc (suc i))) = omega arith in
+    rows-first cell-rows x (y ∷ z ∷ w ∷ xs) i t
+    ∙ (rows-first cell-rows y (z ∷ w ∷ xs) (suc i) (set t i x)
+    ∙ (rows-first cell-rows z (w ∷ xs) (suc (suc i)) (set (set t i x) (suc i) y)
+    ∙ (rows-first cell-rows w xs (suc (suc (suc i))) (set (set (set t i x) (suc i) y) (suc (suc i)) z) ∙ rw (c, a, b, d))))
+
+-- a frame entered: its first 20 cells, the 12 of six empty locals last
+pub frame-entered : (t : List ℕ) (b c m o : ℕ) (v : Value)
+    → putFrame t b (entryFrame c m o v) ≡ writeRows set (replicate 12 0) (b + 8) (putCells (putCells (putHead t b c m 0 0) (b + 4) 3 o) (b + 6) (kindOf v) (bitsOf v))
+unfolding putFrame putLocal writeStack valueCells kindOf bitsOf
+frame-entered t b c m o v =
+    let e : b + (4 + 2 * 0) + 4 ≡ b + 8 = omega arith in
+    let f : b + (4 + 2 * 0) + 2 ≡ b + 6 = omega arith in
+    places-cells b 4 (entryFrame c m o v .locals) 0 (putHead t b c m 0 0)
+    ∙ (pairs-first 3 o (kindOf v) (bitsOf v) (replicate 12 0) (b + (4 + 2 * 0)) (putHead t b c m 0 0) ∙ rw (e, f))

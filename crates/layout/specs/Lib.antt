@@ -5,3 +5,4 @@ pub mod Cells
 pub mod Whole
 pub mod Unbroken
 pub mod View
+pub mod Kinds

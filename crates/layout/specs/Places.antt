@@ -1,14 +1,14 @@
 -- Numbered places of a table: what is read there as a list, and a list written there. Every table's laws come from these.
 use mathlib.Core.Path.{_≡_, refl, sym, ap, _∙_}
 use mathlib.Core.Bool.{Bool, true, false}
-use mathlib.Core.Option.{Option, none, some}
+use mathlib.Core.Option.{none, some}
 use mathlib.Core.List.{List, [], _∷_, _++_, map}
 use mathlib.Core.Logic.{_≢_}
 use Prim.Native.Nat.{ℕ, zero, suc, _+_, _-_, _<_, _≤_}
 use native.Mathlib.Omega.{arith}
 use native.Mathlib.Numerals.{add-one}
-use lib.ListN.{length, getElem?, getD, set, take, drop}
-use lib.Seq.{set-set, set-comm}
+use lib.ListN.{length, getElem?, getD, set, take, drop, replicate}
+use lib.Seq.{set-set, set-comm, take-suc, length-take-le}
 use lib.Dec.{eqb}
 use borrow.Author.Tests.{eqb-true, eqb-false}
 use Rattle.definition.specs.Lists.{all, any, allFrom, rows, writeRows, stack, writeStack}
@@ -207,6 +207,18 @@ module _ {A : Type 0} (f : A → Bool) (g : ℕ → A) where
   unfolding all stack
   stack-end i h = let z : i ≡ 0 = omega arith in rw z
 
+  pub any-stack-hit : (i : ℕ) → 0 < i → f (g (i - 1)) ≡ true → any f (stack g i) ≡ true
+  unfolding any
+  any-stack-hit i h e = rw (stack-top g i h, e, any)
+
+  pub any-stack-on : (i : ℕ) → 0 < i → f (g (i - 1)) ≡ false → any f (stack g i) ≡ any f (stack g (i - 1))
+  unfolding any
+  any-stack-on i h e = ap (any f) (stack-top g i h) ∙ rw e
+
+  pub any-stack-end : (i : ℕ) → i ≤ 0 → any f (stack g i) ≡ false
+  unfolding any stack
+  any-stack-end i h = let z : i ≡ 0 = omega arith in rw z
+
 -- each with its place
 module _ {A : Type 0} (f : ℕ → A → Bool) (g : ℕ → A) where
   pub from-hit : (n i : ℕ) → i < n → f i (g i) ≡ false → allFrom f i (rows g (n - i) i) ≡ false
@@ -245,7 +257,8 @@ module _ {A : Type 0} (p : List ℕ → ℕ → A → List ℕ) (g : ℕ → A) 
   writeRows-same (suc k) i = rw (writeRows-same k (suc i)) (same i)
 
   -- one of the rows replaced: one place written, if rows below it are then still there
-  pub writeRows-set : (k i j : ℕ) (x : A) → j < k → ((m : ℕ) → m < i + j → p (p t (i + j) x) m (g m) ≡ p t (i + j) x) → writeRows p (set (rows g k i) j x) i t ≡ p t (i + j) x
+  pub writeRows-set : (k i j : ℕ) (x : A) → j < k → ((m : ℕ) → m < i + j → p (p t (i + j) x) m (g m) ≡ p t (i + j) x) → writeRows p (set (rows g k i) j x) i t
+      ≡ p t (i + j) x
   unfolding writeRows rows
   writeRows-set zero i j x l other = absurd (omega arith)
   writeRows-set (suc k) i zero x l other = let e : i + 0 ≡ i = omega arith in rw (writeRows-same k (suc i), e)
@@ -307,8 +320,23 @@ module _ {A : Type 0} (p : List ℕ → ℕ → A → List ℕ) (comm : (t : Lis
       let e : i + suc (length xs) ≡ suc i + length xs = omega arith in
       rw (e, writeRows-snoc xs x (suc i) t) (comm (writeRows p xs (suc i) t) i (suc i + length xs) y x (omega arith))
 
+  -- a list copied element by element: the next is written behind those that are there
+  pub writeRows-copy : (xs : List A) (d : A) (i j : ℕ) (t : List ℕ) → j < length xs → writeRows p (take (suc j) xs) i t
+      ≡ p (writeRows p (take j xs) i t) (i + j) (getD xs j d)
+  writeRows-copy xs d i j t l =
+      let e : length (take j xs) ≡ j = length-take-le j xs (omega arith) in
+      rw (take-suc xs j d l, writeRows-snoc (take j xs) (getD xs j d) i t, e)
+
+  pub writeRows-replicate : (x : A) (n i : ℕ) (t : List ℕ) → writeRows p (replicate (suc n) x) i t ≡ p (writeRows p (replicate n x) i t) (i + n) x
+  unfolding writeRows
+  writeRows-replicate x zero i t = let e : i + 0 ≡ i = omega arith in rw e
+  writeRows-replicate x (suc n) i t =
+      let e : i + suc n ≡ suc i + n = omega arith in
+      rw e (ap (λ (s : List ℕ). p s i x) (writeRows-replicate x n (suc i) t) ∙ comm (writeRows p (replicate n x) (suc i) t) i (suc i + n) x x (omega arith))
+
 -- the first of two lists, then the second behind it
-pub writeRows-both : {A : Type 0} (p : List ℕ → ℕ → A → List ℕ) (xs ys : List A) (i : ℕ) (t : List ℕ) → writeRows p (xs ++ ys) i t ≡ writeRows p xs i (writeRows p ys (i + length xs) t)
+pub writeRows-both : {A : Type 0} (p : List ℕ → ℕ → A → List ℕ) (xs ys : List A) (i : ℕ) (t : List ℕ) → writeRows p (xs ++ ys) i t
+    ≡ writeRows p xs i (writeRows p ys (i + length xs) t)
 unfolding writeRows
 writeRows-both p [] ys i t = let e : i + 0 ≡ i = omega arith in rw e
 writeRows-both p (x ∷ xs) ys i t = let e : i + suc (length xs) ≡ suc i + length xs = omega arith in rw (e, writeRows-both p xs ys (suc i) t)

@@ -49,16 +49,19 @@ unfolding all
 all-test f P g [] h = refl
 all-test f P g (x ∷ xs) h = rw (g x (h .0), all) (all-test f P g xs (h .1))
 
-pub from-all : {A : Type 0} (f : ℕ → A → Bool) (P : ℕ → A → Type 0) → ((c : ℕ) (x : A) → f c x ≡ true → P c x) → (c : ℕ) (xs : List A) → allFrom f c xs ≡ true → From P c xs
+pub from-all : {A : Type 0} (f : ℕ → A → Bool) (P : ℕ → A → Type 0) → ((c : ℕ) (x : A) → f c x ≡ true → P c x) → (c : ℕ) (xs : List A) → allFrom f c xs ≡ true
+    → From P c xs
 unfolding allFrom
 from-all f P g c [] h = tt
 from-all f P g c (x ∷ xs) h = go (f c x) refl h (from-all f P g (suc c) xs)
   where
-    go : (t : Bool) → f c x ≡ t → (elim t as (λ _. Bool) [ true ↦ allFrom f (suc c) xs | false ↦ false ]) ≡ true → (allFrom f (suc c) xs ≡ true → From P (suc c) xs) → P c x × From P (suc c) xs
+    go : (t : Bool) → f c x ≡ t → (elim t as (λ _. Bool) [ true ↦ allFrom f (suc c) xs | false ↦ false ]) ≡ true
+        → (allFrom f (suc c) xs ≡ true → From P (suc c) xs) → P c x × From P (suc c) xs
     go true e r ih = (g c x e, ih r)
     go false e r ih = absurd (false≢true r)
 
-pub all-from : {A : Type 0} (f : ℕ → A → Bool) (P : ℕ → A → Type 0) → ((c : ℕ) (x : A) → P c x → f c x ≡ true) → (c : ℕ) (xs : List A) → From P c xs → allFrom f c xs ≡ true
+pub all-from : {A : Type 0} (f : ℕ → A → Bool) (P : ℕ → A → Type 0) → ((c : ℕ) (x : A) → P c x → f c x ≡ true) → (c : ℕ) (xs : List A) → From P c xs
+    → allFrom f c xs ≡ true
 unfolding allFrom
 all-from f P g c [] h = refl
 all-from f P g c (x ∷ xs) h = rw (g c x (h .0), allFrom) (all-from f P g (suc c) xs (h .1))

@@ -2,14 +2,13 @@
 -- read back as they are, so what a call puts is not broken.
 use mathlib.Core.Path.{_≡_, refl, sym, ap, _∙_}
 use mathlib.Core.Bool.{Bool, true, false, not}
-use mathlib.Core.Option.{Option, none, some}
+use mathlib.Core.Option.{Option, none}
 use mathlib.Core.List.{List, [], _∷_}
-use mathlib.Core.Logic.{_≢_}
 use Prim.Native.Nat.{ℕ, zero, suc, _+_, _*_, _≤_, _<_}
 use native.Mathlib.Omega.{arith}
-use lib.ListN.{length, take, drop, getD, set, length-set}
+use lib.ListN.{length, getD, set, length-set}
 use lib.Seq.{take-all}
-use lib.Dec.{eqb, leb}
+use lib.Dec.{leb}
 use borrow.Author.Tests.{eqb-true, eq-eqb, leb-true, le-leb, not-false}
 use Rattle.definition.specs.Lists.{rows, writeRows, stack, writeStack}
 use Rattle.definition.specs.Maybe.{_>>=_, need}
@@ -17,11 +16,11 @@ use Rattle.definition.specs.Classes.{Base, Entry, slots, slotsIn, ownSlots}
 use Rattle.definition.specs.Machine.{Value, unsetValue, intValue, nullValue, objectValue, unlistedValue, Object, Frame}
 use Rattle.definition.specs.File.{File, byte, readFile, objectClass}
 use Rattle.definition.specs.Tables.{Tables, shaped, ClassRow, Rows, fileAt, classAt, baseOf, worldOf, sizeOf, usedFields, classRowAt, putClassRow, entryAt, putEntry, tieAt, putTie, subtypeAt, putSubtype, objectAt, putObject, localAt, operandAt, fieldAt, frameOf, frameAt, putFrame, frameBase, frameIn, putFrameIn, classRowsOf, keptOf, cacheOf, viewBase, objectsOf, framesOf, viewOver, view, countsOf, put}
-use Rattle.definition.specs.Broken.{within, sound, whole, broken}
-use Rattle.layout.specs.Tests.{All, From, every-true, true-every, all-more, all-each}
-use Rattle.layout.specs.Places.{rows-length, rows-cong, rows-take, stack-length, stack-cong, all-rows, rows-all, all-stack, stack-all, writeRows-length, writeStack-length, writeStack-keeps, rows-written, stack-written}
-use Rattle.layout.specs.Cells.{rows-back, class-rows, entry-rows, tie-rows, subtype-rows, cell-rows, Proper, proper-unset, proper-int, proper-null, proper-object, Unread, unread-cell, used-all, putObject-length, object-other, object-back, frame-cells, putFrame-length, FrameProper, unread-row, frame-back}
-use Rattle.layout.specs.Whole.{Local, ValueSound, ObjectSound, Framed, Objected, Frames, First, ClassSound, Classes, Limits, Whole, Sound, sound-true, sound-is, whole-sound, true-sound}
+use Rattle.definition.specs.Broken.{within, whole, broken}
+use Rattle.layout.specs.Tests.{All, From, every-true, true-every, all-more}
+use Rattle.layout.specs.Places.{rows-length, rows-take, stack-length, stack-cong, all-stack, writeRows-length, writeStack-length, writeStack-keeps, rows-written, stack-written}
+use Rattle.layout.specs.Cells.{rows-back, class-rows, entry-rows, tie-rows, subtype-rows, cell-rows, Proper, proper-unset, proper-int, proper-null, proper-object, unread-cell, used-all, putObject-length, object-other, object-back, frame-cells, putFrame-length, FrameProper, unread-row, frame-back}
+use Rattle.layout.specs.Whole.{Local, ValueSound, ObjectSound, Framed, Objected, Frames, First, ClassSound, Classes, Limits, Whole, Sound, sound-true, sound-is, whole-sound}
 
 -- The published lengths
 
@@ -110,7 +109,8 @@ size-zero : (es : List Entry) (bs : List ℕ) (k : ClassRow) (ks : List ClassRow
 unfolding slots slotsIn ownSlots
 size-zero es bs k ks h = rw (object-class bs k h) refl
 
-pub size-small : (es : List Entry) (bs : List ℕ) (ks : List ClassRow) → Classes (baseOf ks bs es) bs ks → (c : ℕ) → c < length ks → sizeOf (baseOf ks bs es) c ≤ 16
+pub size-small : (es : List Entry) (bs : List ℕ) (ks : List ClassRow) → Classes (baseOf ks bs es) bs ks → (c : ℕ) → c < length ks
+    → sizeOf (baseOf ks bs es) c ≤ 16
 size-small es bs [] h c l = absurd (omega arith)
 size-small es bs (k ∷ ks) h zero l = omega (arith, size-zero es bs k ks (h .0))
 size-small es bs (k ∷ ks) h (suc c) l = let e : suc c ≡ 1 + c = omega arith in rw e (from-at (baseOf (k ∷ ks) bs es) bs 1 ks (h .1) c (omega arith))
@@ -149,7 +149,8 @@ counts-put r c e =
     let n : length u ≡ 8 = writeRows-length set length-set (countsOf r) 0 c ∙ e in
     sym (take-all 8 u (omega arith)) ∙ (sym (rows-take u 8 (omega arith)) ∙ rows-back cell-rows (countsOf r) c (omega arith))
 
-objects-put : (b : Base) (n m : ℕ) (os : List Object) (t : List ℕ) → length t ≡ 8448 → length os ≤ 256 → ((c : ℕ) → c < n → sizeOf b c ≤ 16) → All (ObjectSound b n m) os
+objects-put : (b : Base) (n m : ℕ) (os : List Object) (t : List ℕ) → length t ≡ 8448 → length os ≤ 256 → ((c : ℕ) → c < n → sizeOf b c ≤ 16)
+    → All (ObjectSound b n m) os
     → rows (objectAt b (writeRows putObject os 0 t)) (length os) 0 ≡ os
 objects-put b n m os t e l small h =
     rows-written putObject putObject-length (objectAt b) (ObjectSound b n m) 8448 256
@@ -159,14 +160,16 @@ objects-put b n m os t e l small h =
 
 -- a task's frames
 
-frame-under : (k : ℕ) (t : List ℕ) (i j : ℕ) (f : Frame) → i < j → FrameProper f → FrameProper (frameIn t k i) → frameIn (putFrameIn k t j f) k i ≡ frameIn t k i
+frame-under : (k : ℕ) (t : List ℕ) (i j : ℕ) (f : Frame) → i < j → FrameProper f → FrameProper (frameIn t k i) → frameIn (putFrameIn k t j f) k i
+    ≡ frameIn t k i
 unfolding frameIn putFrameIn frameAt frameOf
 frame-under k t i j f l p q =
     let d : getD t (frameBase k i + 3) 0 ≤ 16 = rw (stack-length (operandAt t (frameBase k i)) (getD t (frameBase k i + 3) 0)) at (q .few) in
     frame-cells t (putFrame t (frameBase k j) f) (frameBase k i) (λ c h.
     unread-row (λ s. getD s (frameBase k i + c) 0) (frameBase k j) (unread-cell (frameBase k i + c) (frameBase k j) (frameBase k j + 52) (λ m a b e. omega arith)) f p t)
 
-frames-put : (k : ℕ) (fs : List Frame) (t : List ℕ) → k < 2 → length t ≡ 3328 → length fs ≤ 32 → All FrameProper fs → stack (frameIn (writeStack (putFrameIn k) fs t) k) (length fs) ≡ fs
+frames-put : (k : ℕ) (fs : List Frame) (t : List ℕ) → k < 2 → length t ≡ 3328 → length fs ≤ 32 → All FrameProper fs
+    → stack (frameIn (writeStack (putFrameIn k) fs t) k) (length fs) ≡ fs
 unfolding frameIn putFrameIn
 frames-put k fs t two e l h =
     stack-written (putFrameIn k) (λ s i f. putFrame-length s (frameBase k i) f) (λ s i. frameIn s k i) FrameProper 3328 32
@@ -183,7 +186,8 @@ frames-behind n gs t l m h q =
     let d : getD t (frameBase 0 i + 3) 0 ≤ 16 = rw (stack-length (operandAt t (frameBase 0 i)) (getD t (frameBase 0 i + 3) 0)) at (p .few) in
     frame-cells t u (frameBase 0 i) (λ c z.
     writeStack-keeps (putFrameIn 1) (λ s. getD s (frameBase 0 i + c) 0) FrameProper 32
-    (λ s j f b r. unread-row (λ s. getD s (frameBase 0 i + c) 0) (frameBase 1 j) (unread-cell (frameBase 0 i + c) (frameBase 1 j) (frameBase 1 j + 52) (λ x a y e. omega arith)) f r s)
+    (λ s j f b r. unread-row (λ s. getD s (frameBase 0 i + c) 0) (frameBase 1 j)
+    (unread-cell (frameBase 0 i + c) (frameBase 1 j) (frameBase 1 j + 52) (λ x a y e. omega arith)) f r s)
     gs m h t))
 
 module _ (r : Rows) (t : Tables) (l : Lengths t) (w : Whole r) where
@@ -234,7 +238,10 @@ module _ (r : Rows) (t : Tables) (l : Lengths t) (w : Whole r) where
   base-read : viewBase (put r t) ≡ worldOf r .base
   unfolding put countsOf
   base-read =
-      (λ i. baseOf (rows (classRowAt (put r t .classes)) (getD (counted i) 0 0) 0) (rows (λ j. getD (put r t .kept) j 0) (getD (counted i) 1 0) 0) (rows (entryAt (put r t .cache)) (getD (counted i) 2 0) 0))
+      (λ i. baseOf
+      (rows (classRowAt (put r t .classes)) (getD (counted i) 0 0) 0)
+      (rows (λ j. getD (put r t .kept) j 0) (getD (counted i) 1 0) 0)
+      (rows (entryAt (put r t .cache)) (getD (counted i) 2 0) 0))
       ∙ (λ i. baseOf (classes-read i) (kept-read i) (cache-read i))
 
   -- what was put is read back
@@ -353,7 +360,8 @@ limits-view t m = record {
 
 -- objects that are read have their class's number of fields, frames that are read have 8 locals
 
-sized-objects : (b : Base) (n m : ℕ) (t : List ℕ) (k i : ℕ) → ((c : ℕ) → c < n → sizeOf b c ≤ 16) → All (Objected n m) (rows (objectAt b t) k i) → All (ObjectSound b n m) (rows (objectAt b t) k i)
+sized-objects : (b : Base) (n m : ℕ) (t : List ℕ) (k i : ℕ) → ((c : ℕ) → c < n → sizeOf b c ≤ 16) → All (Objected n m) (rows (objectAt b t) k i)
+    → All (ObjectSound b n m) (rows (objectAt b t) k i)
 unfolding rows objectAt
 sized-objects b n m t zero i small h = tt
 sized-objects b n m t (suc k) i small h =
@@ -384,7 +392,9 @@ view-whole t c s = record {
   cache = s .cache;
   ties = s .ties;
   subtypes = s .subtypes;
-  objects = sized-objects (viewBase t) (length (classRowsOf t)) (length (objectsOf (viewBase t) t)) (t .objects) (getD (t .counts) 5 0) 0 (size-small (cacheOf t) (keptOf t) (classRowsOf t) (s .classes)) (s .objects);
+  objects =
+      sized-objects (viewBase t) (length (classRowsOf t)) (length (objectsOf (viewBase t) t)) (t .objects) (getD (t .counts) 5 0) 0
+      (size-small (cacheOf t) (keptOf t) (classRowsOf t) (s .classes)) (s .objects);
   quote = eight-locals (length (classRowsOf t)) (length (objectsOf (viewBase t) t)) (t .frames) 0 (getD (t .counts) 6 0) (s .quote);
   report = eight-locals (length (classRowsOf t)) (length (objectsOf (viewBase t) t)) (t .frames) 1 (getD (t .counts) 7 0) (s .report);
 }

@@ -1,21 +1,26 @@
 -- What a change of rows writes. Rows read off tables and put back change nothing; rows that were appended, replaced or dropped write their own
 -- cells and their count. The classes' fields may be read off any base: the laws ask nothing of it.
 use mathlib.Core.Path.{_≡_, refl, sym, ap, _∙_}
-use mathlib.Core.List.{List, [], _∷_, _++_, map}
+use mathlib.Core.Option.{Option, none, some}
+use mathlib.Core.List.{List, [], _∷_, _++_, map, append-nil}
 use Prim.Native.Nat.{ℕ, zero, suc, _+_, _*_, _<_, _≤_}
 use native.Mathlib.Omega.{arith}
-use lib.ListN.{length, getD, set, length-append, length-map, length-set}
-use lib.Seq.{set-getD}
+use lib.ListN.{length, getElem?, getD, set, take, drop, length-append, length-map, length-set}
+use lib.Seq.{sets, set-getD, take-length}
 use Rattle.definition.specs.Lists.{rows, writeRows, stack, writeStack}
 use Rattle.definition.specs.Requests.{at}
-use Rattle.definition.specs.Classes.{Base, Class, Entry}
-use Rattle.definition.specs.Constraints.{Tie, Subtype, World}
-use Rattle.definition.specs.Machine.{Value, Object, Frame, Progress}
+use Rattle.definition.specs.Classes.{Base, Class}
+use Rattle.definition.specs.Constraints.{Tie, Subtype}
+use Rattle.definition.specs.Machine.{Value, Object, Frame, Progress, existing}
 use Rattle.definition.specs.Loading.{withClass, withEntry}
-use Rattle.definition.specs.Tables.{Tables, tables, ClassRow, Rows, classAt, worldOf, putThree, classRowAt, putClassRow, entryAt, putEntry, tieAt, putTie, subtypeAt, putSubtype, usedFields, objectAt, putObject, putField, localAt, putLocal, operandAt, putOperand, frame, frameOf, frameAt, putFrame, frameBase, frameIn, putFrameIn, classRowsOf, keptOf, cacheOf, tiesOf, subtypesOf, viewBase, objectsOf, framesOf, viewOver, view, countsOf, put}
-use Rattle.definition.specs.Calls.{addFile, addEntry, progressed, withFrames}
-use Rattle.layout.specs.Places.{rows-length, set-there, writeRows-same, stack-length, stack-cong, writeStack-same, writeStack-above, writeStack-two, written-set}
-use Rattle.layout.specs.Cells.{RowLaws, rows-kept, rows-more, row-more, class-rows, entry-rows, tie-rows, subtype-rows, cell-rows, Unread, withField, object-same, object-below, object-field-past, objects-field, objects-made, moved, frameWith, frame-kept, frame-above, frame-two, frame-local, frame-given, frameIn-same, frame-unread, unread-frame}
+use Rattle.definition.specs.Tables.{Tables, tables, Rows, classAt, worldOf, putThree, classRowAt, putClassRow, putEntry, putTie, putSubtype, usedFields, objectAt, putObject, putField, localAt, putLocal, operandAt, putOperand, frameOf, putFrame, frameBase, frameIn, putFrameIn, classRowsOf, keptOf, cacheOf, tiesOf, subtypesOf, viewBase, objectsOf, framesOf, viewOver, view, countsOf, put}
+use Rattle.definition.specs.Calls.{bootRows, addFile, addEntry, progressed, withFrames}
+use Rattle.layout.specs.Places.{rows-length, rows-map, rows-there, rows-past, rows-take, rows-part, set-there, writeRows-same, stack-length, stack-cong, writeStack-same, writeStack-above, writeStack-two, written-set}
+use Rattle.layout.specs.Cells.{RowLaws, rows-kept, rows-more, row-more, class-rows, entry-rows, tie-rows, subtype-rows, cell-rows, cells-sets, Unread, withField, object-same, object-field-past, objects-field, objects-made, moved, frameWith, withValue, frame-kept, frame-above, frame-local, frame-given, frameIn-same, frame-unread, unread-value, unread-frame}
+
+-- the count in cell i
+abbrev pub countAt : Tables → ℕ → ℕ
+countAt t i = getD (t .counts) i 0
 
 -- A list of rows, n of them, that leaves the table u when it is written into t
 
@@ -30,35 +35,26 @@ pub record FillsFrames (qs rs : List Frame) (t : List ℕ) (m n : ℕ) (u : List
   pub report : length rs ≡ n
   pub cells : writeStack (putFrameIn 1) rs (writeStack (putFrameIn 0) qs t) ≡ u
 
--- the tables that rows leave, part by part
-pub put-fills : (r : Rows) (t : Tables) {n0 n1 n2 n3 n4 n5 n6 n7 : ℕ} {c k e i s o f : List ℕ}
+-- the tables that rows leave, part by part, the counts last
+pub put-fills : (r : Rows) (t : Tables) {n0 n1 n2 n3 n4 n5 n6 n7 : ℕ} {n c k e i s o f : List ℕ}
     → Fills putClassRow (r .classes) (t .classes) n0 c → Fills set (r .kept) (t .kept) n1 k → Fills putEntry (r .cache) (t .cache) n2 e
     → Fills putTie (r .ties) (t .ties) n3 i → Fills putSubtype (r .subtypes) (t .subtypes) n4 s → Fills putObject (r .objects) (t .objects) n5 o
     → FillsFrames (r .quote) (r .report) (t .frames) n6 n7 f
-    → put r t ≡ tables (writeRows set (n0 ∷ n1 ∷ n2 ∷ n3 ∷ n4 ∷ n5 ∷ n6 ∷ n7 ∷ []) 0 (t .counts)) c k e i s o f
+    → Fills set (n0 ∷ n1 ∷ n2 ∷ n3 ∷ n4 ∷ n5 ∷ n6 ∷ n7 ∷ []) (t .counts) 8 n
+    → put r t ≡ tables n c k e i s o f
 unfolding put countsOf
-put-fills r t a b c d e f g = λ j. record {
-  counts = writeRows set (a .count j ∷ b .count j ∷ c .count j ∷ d .count j ∷ e .count j ∷ f .count j ∷ g .quote j ∷ g .report j ∷ []) 0 (t .counts);
-  classes = a .cells j;
-  kept = b .cells j;
-  cache = c .cells j;
-  ties = d .cells j;
-  subtypes = e .cells j;
-  objects = f .cells j;
-  frames = g .cells j;
-}
-
--- Counts: the eight as they are, and one of them set
-
-abbrev pub countsRead : List ℕ → List ℕ
-countsRead c = getD c 0 0 ∷ getD c 1 0 ∷ getD c 2 0 ∷ getD c 3 0 ∷ getD c 4 0 ∷ getD c 5 0 ∷ getD c 6 0 ∷ getD c 7 0 ∷ []
-
-pub counts-kept : (c : List ℕ) → writeRows set (countsRead c) 0 c ≡ c
-unfolding rows
-counts-kept c = rows-kept cell-rows c 8
-
-pub count-set : (xs : List ℕ) (j x : ℕ) (c : List ℕ) → j < length xs → writeRows set (set xs j x) 0 c ≡ set (writeRows set xs 0 c) j x
-count-set xs j x c l = let e : 0 + j ≡ j = omega arith in rw e at (written-set xs 0 j x c l)
+put-fills r t a b c d e f g n =
+    (λ j. record {
+      counts = writeRows set (a .count j ∷ b .count j ∷ c .count j ∷ d .count j ∷ e .count j ∷ f .count j ∷ g .quote j ∷ g .report j ∷ []) 0 (t .counts);
+      classes = a .cells j;
+      kept = b .cells j;
+      cache = c .cells j;
+      ties = d .cells j;
+      subtypes = e .cells j;
+      objects = f .cells j;
+      frames = g .cells j;
+    })
+    ∙ rw (n .cells)
 
 -- Rows as they were read, and with others behind them
 
@@ -72,68 +68,85 @@ module _ {A : Type 0} {at : List ℕ → ℕ → A} {p : List ℕ → ℕ → A 
   pub fill-last : (x : A) → Fills p (rows (at t) n 0 ++ (x ∷ [])) t (n + 1) (p t n x)
   fill-last x = record { count = length-append (rows (at t) n 0) (x ∷ []) ∙ rw (rows-length (at t) n 0); cells = row-more laws t n x }
 
+-- one of the eight counts set
+pub count-set : {xs c d : List ℕ} (j x : ℕ) → j < 8 → Fills set xs c 8 d → Fills set (set xs j x) c 8 (set d j x)
+count-set {xs} {c} {d} j x l h =
+    let e : 0 + j ≡ j = omega arith in
+    record {
+      count = length-set xs j x ∙ h .count;
+      cells = (rw e at (written-set xs 0 j x c (omega (arith, h .count)))) ∙ ap (λ (z : List ℕ). set z j x) (h .cells);
+    }
+
 module _ (t : Tables) where
-  pub classes-fill : Fills putClassRow (classRowsOf t) (t .classes) (getD (t .counts) 0 0) (t .classes)
-  classes-fill = fill-kept class-rows (t .classes) (getD (t .counts) 0 0)
+  abbrev pub countsOn : List ℕ
+  countsOn = countAt t 0 ∷ countAt t 1 ∷ countAt t 2 ∷ countAt t 3 ∷ countAt t 4 ∷ countAt t 5 ∷ countAt t 6 ∷ countAt t 7 ∷ []
 
-  pub kept-fill : Fills set (keptOf t) (t .kept) (getD (t .counts) 1 0) (t .kept)
-  kept-fill = fill-kept cell-rows (t .kept) (getD (t .counts) 1 0)
+  pub counts-fill : Fills set countsOn (t .counts) 8 (t .counts)
+  unfolding rows
+  counts-fill = fill-kept cell-rows (t .counts) 8
 
-  pub cache-fill : Fills putEntry (cacheOf t) (t .cache) (getD (t .counts) 2 0) (t .cache)
-  cache-fill = fill-kept entry-rows (t .cache) (getD (t .counts) 2 0)
+  pub classes-fill : Fills putClassRow (classRowsOf t) (t .classes) (countAt t 0) (t .classes)
+  classes-fill = fill-kept class-rows (t .classes) (countAt t 0)
 
-  pub ties-fill : Fills putTie (tiesOf t) (t .ties) (getD (t .counts) 3 0) (t .ties)
-  ties-fill = fill-kept tie-rows (t .ties) (getD (t .counts) 3 0)
+  pub kept-fill : Fills set (keptOf t) (t .kept) (countAt t 1) (t .kept)
+  kept-fill = fill-kept cell-rows (t .kept) (countAt t 1)
 
-  pub ties-more : (us : List Tie) → Fills putTie (tiesOf t ++ us) (t .ties) (getD (t .counts) 3 0 + length us) (writeRows putTie us (getD (t .counts) 3 0) (t .ties))
-  ties-more us = fill-more tie-rows (t .ties) (getD (t .counts) 3 0) us
+  pub cache-fill : Fills putEntry (cacheOf t) (t .cache) (countAt t 2) (t .cache)
+  cache-fill = fill-kept entry-rows (t .cache) (countAt t 2)
 
-  pub subtypes-fill : Fills putSubtype (subtypesOf t) (t .subtypes) (getD (t .counts) 4 0) (t .subtypes)
-  subtypes-fill = fill-kept subtype-rows (t .subtypes) (getD (t .counts) 4 0)
+  pub ties-fill : Fills putTie (tiesOf t) (t .ties) (countAt t 3) (t .ties)
+  ties-fill = fill-kept tie-rows (t .ties) (countAt t 3)
 
-  pub subtypes-more : (ss : List Subtype) → Fills putSubtype (subtypesOf t ++ ss) (t .subtypes) (getD (t .counts) 4 0 + length ss) (writeRows putSubtype ss (getD (t .counts) 4 0) (t .subtypes))
-  subtypes-more ss = fill-more subtype-rows (t .subtypes) (getD (t .counts) 4 0) ss
+  pub ties-more : (us : List Tie) → Fills putTie (tiesOf t ++ us) (t .ties) (countAt t 3 + length us) (writeRows putTie us (countAt t 3) (t .ties))
+  ties-more us = fill-more tie-rows (t .ties) (countAt t 3) us
+
+  pub subtypes-fill : Fills putSubtype (subtypesOf t) (t .subtypes) (countAt t 4) (t .subtypes)
+  subtypes-fill = fill-kept subtype-rows (t .subtypes) (countAt t 4)
+
+  pub subtypes-more : (ss : List Subtype)
+      → Fills putSubtype (subtypesOf t ++ ss) (t .subtypes) (countAt t 4 + length ss) (writeRows putSubtype ss (countAt t 4) (t .subtypes))
+  subtypes-more ss = fill-more subtype-rows (t .subtypes) (countAt t 4) ss
 
   -- objects, where b gives the classes' fields: as they are, one made, a field of one set
   module _ (b : Base) where
-    pub objects-fill : Fills putObject (objectsOf b t) (t .objects) (getD (t .counts) 5 0) (t .objects)
+    pub objects-fill : Fills putObject (objectsOf b t) (t .objects) (countAt t 5) (t .objects)
     unfolding objectsOf
     objects-fill = record {
-      count = rows-length (objectAt b (t .objects)) (getD (t .counts) 5 0) 0;
-      cells = writeRows-same putObject (objectAt b (t .objects)) (t .objects) (object-same b (t .objects)) (getD (t .counts) 5 0) 0;
+      count = rows-length (objectAt b (t .objects)) (countAt t 5) 0;
+      cells = writeRows-same putObject (objectAt b (t .objects)) (t .objects) (object-same b (t .objects)) (countAt t 5) 0;
     }
 
-    pub object-made : (x : Object) → Fills putObject (objectsOf b t ++ (x ∷ [])) (t .objects) (getD (t .counts) 5 0 + 1) (putObject (t .objects) (getD (t .counts) 5 0) x)
+    pub object-made : (x : Object) → Fills putObject (objectsOf b t ++ (x ∷ [])) (t .objects) (countAt t 5 + 1) (putObject (t .objects) (countAt t 5) x)
     unfolding objectsOf
     object-made x = record {
-      count = length-append (objectsOf b t) (x ∷ []) ∙ rw (rows-length (objectAt b (t .objects)) (getD (t .counts) 5 0) 0);
-      cells = objects-made b (t .objects) (getD (t .counts) 5 0) x;
+      count = length-append (objectsOf b t) (x ∷ []) ∙ rw (rows-length (objectAt b (t .objects)) (countAt t 5) 0);
+      cells = objects-made b (t .objects) (countAt t 5) x;
     }
 
-    pub object-set : (o j : ℕ) (v : Value) → o < getD (t .counts) 5 0 → j < usedFields b (objectAt b (t .objects) o .class)
-        → Fills putObject (set (objectsOf b t) o (withField (objectAt b (t .objects) o) j v)) (t .objects) (getD (t .counts) 5 0) (putField o (t .objects) j v)
+    pub object-set : (o j : ℕ) (v : Value) → o < countAt t 5 → j < usedFields b (objectAt b (t .objects) o .class)
+        → Fills putObject (set (objectsOf b t) o (withField (objectAt b (t .objects) o) j v)) (t .objects) (countAt t 5) (putField o (t .objects) j v)
     unfolding objectsOf
     object-set o j v l h = record {
-      count = length-set (objectsOf b t) o (withField (objectAt b (t .objects) o) j v) ∙ rows-length (objectAt b (t .objects)) (getD (t .counts) 5 0) 0;
-      cells = objects-field b (t .objects) (getD (t .counts) 5 0) o j v l h;
+      count = length-set (objectsOf b t) o (withField (objectAt b (t .objects) o) j v) ∙ rows-length (objectAt b (t .objects)) (countAt t 5) 0;
+      cells = objects-field b (t .objects) (countAt t 5) o j v l h;
     }
 
     -- a field that isn't there
     pub object-set-past : (o j : ℕ) (v : Value) → usedFields b (objectAt b (t .objects) o .class) ≤ j
-        → Fills putObject (set (objectsOf b t) o (withField (objectAt b (t .objects) o) j v)) (t .objects) (getD (t .counts) 5 0) (t .objects)
+        → Fills putObject (set (objectsOf b t) o (withField (objectAt b (t .objects) o) j v)) (t .objects) (countAt t 5) (t .objects)
     unfolding objectsOf
     object-set-past o j v h =
-        rw (object-field-past b (t .objects) o j v h, set-there (objectAt b (t .objects)) (getD (t .counts) 5 0) o) objects-fill
+        rw (object-field-past b (t .objects) o j v h, set-there (objectAt b (t .objects)) (countAt t 5) o) objects-fill
 
   -- frames as they are
-  pub frames-fill : FillsFrames (framesOf t 0) (framesOf t 1) (t .frames) (getD (t .counts) 6 0) (getD (t .counts) 7 0) (t .frames)
+  pub frames-fill : FillsFrames (framesOf t 0) (framesOf t 1) (t .frames) (countAt t 6) (countAt t 7) (t .frames)
   unfolding framesOf
   frames-fill = record {
-    quote = stack-length (frameIn (t .frames) 0) (getD (t .counts) 6 0);
-    report = stack-length (frameIn (t .frames) 1) (getD (t .counts) 7 0);
+    quote = stack-length (frameIn (t .frames) 0) (countAt t 6);
+    report = stack-length (frameIn (t .frames) 1) (countAt t 7);
     cells =
-        ap (writeStack (putFrameIn 1) (framesOf t 1)) (writeStack-same (putFrameIn 0) (frameIn (t .frames) 0) (t .frames) (frameIn-same (t .frames) 0) (getD (t .counts) 6 0))
-        ∙ writeStack-same (putFrameIn 1) (frameIn (t .frames) 1) (t .frames) (frameIn-same (t .frames) 1) (getD (t .counts) 7 0);
+        ap (writeStack (putFrameIn 1) (framesOf t 1)) (writeStack-same (putFrameIn 0) (frameIn (t .frames) 0) (t .frames) (frameIn-same (t .frames) 0) (countAt t 6))
+        ∙ writeStack-same (putFrameIn 1) (frameIn (t .frames) 1) (t .frames) (frameIn-same (t .frames) 1) (countAt t 7);
   }
 
 -- What was read and is put back changes nothing
@@ -141,9 +154,329 @@ module _ (t : Tables) where
 pub put-over : (b : Base) (t : Tables) → put (viewOver b t) t ≡ t
 unfolding viewOver
 put-over b t =
-    put-fills (viewOver b t) t (classes-fill t) (kept-fill t) (cache-fill t) (ties-fill t) (subtypes-fill t) (objects-fill t b) (frames-fill t)
-    ∙ rw (counts-kept (t .counts))
+    put-fills (viewOver b t) t (classes-fill t) (kept-fill t) (cache-fill t) (ties-fill t) (subtypes-fill t) (objects-fill t b) (frames-fill t) (counts-fill t)
 
 pub put-view : (t : Tables) → put (view t) t ≡ t
 unfolding view
 put-view t = put-over (viewBase t) t
+
+-- The frames of task k replaced, n of them, that leave u where they are written. The report's rows lie behind the quote's: frames put for the quote must
+-- not reach them.
+
+pub record FillsTask (k : ℕ) (fs : List Frame) (t : Tables) (n : ℕ) (u : List ℕ) : Type 0 where
+  pub count : length fs ≡ n
+  pub cells : writeStack (putFrameIn k) fs (t .frames) ≡ u
+  pub apart : k ≡ 0 → stack (frameIn u 1) (countAt t 7) ≡ stack (frameIn (t .frames) 1) (countAt t 7)
+
+module _ (t : Tables) (fs : List Frame) (n : ℕ) (u : List ℕ) where
+  quote-fill : FillsTask 0 fs t n u → FillsFrames fs (framesOf t 1) (t .frames) n (countAt t 7) u
+  unfolding framesOf
+  quote-fill h = record {
+    quote = h .count;
+    report = stack-length (frameIn (t .frames) 1) (countAt t 7);
+    cells =
+        (λ i. writeStack (putFrameIn 1) (sym (h .apart refl) i) (h .cells i))
+        ∙ writeStack-same (putFrameIn 1) (frameIn u 1) u (frameIn-same u 1) (countAt t 7);
+  }
+
+  report-fill : FillsTask 1 fs t n u → FillsFrames (framesOf t 0) fs (t .frames) (countAt t 6) n u
+  unfolding framesOf
+  report-fill h = record {
+    quote = stack-length (frameIn (t .frames) 0) (countAt t 6);
+    report = h .count;
+    cells =
+        ap (writeStack (putFrameIn 1) fs) (writeStack-same (putFrameIn 0) (frameIn (t .frames) 0) (t .frames) (frameIn-same (t .frames) 0) (countAt t 6))
+        ∙ h .cells;
+  }
+
+-- What the calls put
+
+-- boot: the eight counts, class 0 and the one entry
+pub boot-writes : (t : Tables)
+    → put bootRows t
+    ≡ tables (sets (t .counts) 0 (1 ∷ 0 ∷ 1 ∷ 0 ∷ 0 ∷ 0 ∷ 0 ∷ 0 ∷ [])) (putThree (t .classes) 0 0 0 0) (t .kept) (putThree (t .cache) 0 0 2 0) (t .ties)
+    (t .subtypes) (t .objects) (t .frames)
+unfolding put writeRows writeStack countsOf putClassRow putEntry
+boot-writes t = rw (cells-sets (1 ∷ 0 ∷ 1 ∷ 0 ∷ 0 ∷ 0 ∷ 0 ∷ 0 ∷ []) 0 (t .counts))
+
+module _ (b : Base) (t : Tables) where
+  -- a task's frames alone
+  pub frames-writes : (k : ℕ) (fs : List Frame) (n : ℕ) (u : List ℕ) → k < 2 → FillsTask k fs t n u
+      → put (withFrames k (viewOver b t) fs) t
+      ≡ tables (set (t .counts) (6 + k) n) (t .classes) (t .kept) (t .cache) (t .ties) (t .subtypes) (t .objects) u
+  unfolding viewOver
+  frames-writes zero fs n u two h =
+      put-fills (withFrames 0 (viewOver b t) fs) t (classes-fill t) (kept-fill t) (cache-fill t) (ties-fill t) (subtypes-fill t) (objects-fill t b)
+      (quote-fill t fs n u h) (count-set 6 n (omega arith) (counts-fill t))
+  frames-writes (suc zero) fs n u two h =
+      put-fills (withFrames 1 (viewOver b t) fs) t (classes-fill t) (kept-fill t) (cache-fill t) (ties-fill t) (subtypes-fill t) (objects-fill t b)
+      (report-fill t fs n u h) (count-set 7 n (omega arith) (counts-fill t))
+  frames-writes (suc (suc k)) fs n u two h = absurd (omega arith)
+
+  -- drop: one count
+  pub drop-writes : (k : ℕ) → k < 2
+      → put (withFrames k (viewOver b t) []) t
+      ≡ tables (set (t .counts) (6 + k) 0) (t .classes) (t .kept) (t .cache) (t .ties) (t .subtypes) (t .objects) (t .frames)
+  unfolding writeStack
+  drop-writes k two = frames-writes k [] 0 (t .frames) two (record { count = refl; cells = refl; apart = λ e. refl })
+
+  -- record: one entry and one count
+  pub entry-writes : (l n c : ℕ)
+      → put (addEntry (viewOver b t) (withEntry (worldOf (viewOver b t)) (at l n) c)) t
+      ≡ tables (set (t .counts) 2 (countAt t 2 + 1)) (t .classes) (t .kept) (putThree (t .cache) (countAt t 2) l n c) (t .ties) (t .subtypes) (t .objects) (t .frames)
+  unfolding viewOver putEntry
+  entry-writes l n c =
+      put-fills (addEntry (viewOver b t) (withEntry (worldOf (viewOver b t)) (at l n) c)) t (classes-fill t) (kept-fill t)
+      (fill-last entry-rows (t .cache) (countAt t 2) (record { request = at l n; class = c })) (ties-fill t) (subtypes-fill t) (objects-fill t b)
+      (frames-fill t) (count-set 2 (countAt t 2 + 1) (omega arith) (counts-fill t))
+
+  -- define: a class row, the file's bytes, an entry, ties, subtype constraints, and their five counts
+  pub class-writes : (l : ℕ) (bs : List ℕ) (k : Class) (us : List Tie) (ss : List Subtype)
+      → put (addFile l bs (viewOver b t) (withClass (worldOf (viewOver b t)) k us ss)) t
+      ≡ tables
+      (set (set (set (set (set (t .counts) 0 (countAt t 0 + 1)) 1 (countAt t 1 + length bs)) 2 (countAt t 2 + 1)) 3 (countAt t 3 + length us)) 4 (countAt t 4 + length ss))
+      (putThree (t .classes) (countAt t 0) l (countAt t 1) (length bs))
+      (writeRows set bs (countAt t 1) (t .kept))
+      (putThree (t .cache) (countAt t 2) (k .loader) (k .name) (countAt t 0))
+      (writeRows putTie us (countAt t 3) (t .ties))
+      (writeRows putSubtype ss (countAt t 4) (t .subtypes))
+      (t .objects)
+      (t .frames)
+  unfolding viewOver putEntry putClassRow
+  class-writes l bs k us ss =
+      let n : length (keptOf t) ≡ countAt t 1 = kept-fill t .count in
+      let m : length (map (classAt (keptOf t)) (classRowsOf t)) ≡ countAt t 0 = length-map (classRowsOf t) (classAt (keptOf t)) ∙ classes-fill t .count in
+      put-fills (addFile l bs (viewOver b t) (withClass (worldOf (viewOver b t)) k us ss)) t
+      (fill-last class-rows (t .classes) (countAt t 0) (record { loader = l; start = length (keptOf t); size = length bs }))
+      (fill-more cell-rows (t .kept) (countAt t 1) bs)
+      (fill-last entry-rows (t .cache) (countAt t 2) (record { request = at (k .loader) (k .name); class = length (map (classAt (keptOf t)) (classRowsOf t)) }))
+      (ties-more t us) (subtypes-more t ss) (objects-fill t b) (frames-fill t)
+      (count-set 4 (countAt t 4 + length ss) (omega arith) (count-set 3 (countAt t 3 + length us) (omega arith)
+      (count-set 2 (countAt t 2 + 1) (omega arith) (count-set 1 (countAt t 1 + length bs) (omega arith) (count-set 0 (countAt t 0 + 1) (omega arith) (counts-fill t))))))
+      ∙ rw (n, m)
+
+  -- a task's progress: the ties that it posted, the objects and the task's frames that it leaves, and their three counts
+  pub progress-writes : (k : ℕ) (p : Progress) (us : List Tie) (m n : ℕ) (o u : List ℕ) → k < 2 → p .world .ties ≡ tiesOf t ++ us
+      → Fills putObject (p .objects) (t .objects) m o → FillsTask k (p .frames) t n u
+      → put (progressed k (viewOver b t) p) t
+      ≡ tables (set (set (set (t .counts) 3 (countAt t 3 + length us)) 5 m) (6 + k) n) (t .classes) (t .kept) (t .cache)
+      (writeRows putTie us (countAt t 3) (t .ties)) (t .subtypes) o u
+  unfolding viewOver
+  progress-writes k p us m n o u two e g h = go k two h
+    where
+      posted : Fills putTie (p .world .ties) (t .ties) (countAt t 3 + length us) (writeRows putTie us (countAt t 3) (t .ties))
+      posted = rw e (ties-more t us)
+
+      counts : Fills set (set (set (countsOn t) 3 (countAt t 3 + length us)) 5 m) (t .counts) 8 (set (set (t .counts) 3 (countAt t 3 + length us)) 5 m)
+      counts = count-set 5 m (omega arith) (count-set 3 (countAt t 3 + length us) (omega arith) (counts-fill t))
+
+      go : (k : ℕ) → k < 2 → FillsTask k (p .frames) t n u
+          → put (progressed k (viewOver b t) p) t
+          ≡ tables (set (set (set (t .counts) 3 (countAt t 3 + length us)) 5 m) (6 + k) n) (t .classes) (t .kept) (t .cache)
+          (writeRows putTie us (countAt t 3) (t .ties)) (t .subtypes) o u
+      go zero two h =
+          put-fills (progressed 0 (viewOver b t) p) t (classes-fill t) (kept-fill t) (cache-fill t) posted (subtypes-fill t) g
+          (quote-fill t (p .frames) n u h) (count-set 6 n (omega arith) counts)
+      go (suc zero) two h =
+          put-fills (progressed 1 (viewOver b t) p) t (classes-fill t) (kept-fill t) (cache-fill t) posted (subtypes-fill t) g
+          (report-fill t (p .frames) n u h) (count-set 7 n (omega arith) counts)
+      go (suc (suc k)) two h = absurd (omega arith)
+
+  -- the same where it posted no tie
+  pub quiet-writes : (k : ℕ) (p : Progress) (m n : ℕ) (o u : List ℕ) → k < 2 → p .world .ties ≡ tiesOf t
+      → Fills putObject (p .objects) (t .objects) m o → FillsTask k (p .frames) t n u
+      → put (progressed k (viewOver b t) p) t ≡ tables (set (set (t .counts) 5 m) (6 + k) n) (t .classes) (t .kept) (t .cache) (t .ties) (t .subtypes) o u
+  unfolding writeRows
+  quiet-writes k p m n o u two e g h =
+      let z : countAt t 3 + 0 ≡ countAt t 3 = omega arith in
+      progress-writes k p [] m n o u two (e ∙ sym (append-nil (tiesOf t))) g h ∙ rw (z, set-getD (t .counts) 3 0)
+
+  -- frames alone, by a step: no tie, no object
+  pub task-writes : (k : ℕ) (fs : List Frame) (x : Option ℕ) (n : ℕ) (u : List ℕ) → k < 2 → FillsTask k fs t n u
+      → put (progressed k (viewOver b t) (record { world = worldOf (viewOver b t); objects = objectsOf b t; frames = fs; result = x })) t
+      ≡ tables (set (t .counts) (6 + k) n) (t .classes) (t .kept) (t .cache) (t .ties) (t .subtypes) (t .objects) u
+  unfolding viewOver
+  task-writes zero fs x n u two h = frames-writes 0 fs n u two h
+  task-writes (suc k) fs x n u two h = frames-writes (suc k) fs n u two h
+
+  -- as many frames as before: no count
+  pub top-writes : (k : ℕ) (fs : List Frame) (x : Option ℕ) (u : List ℕ) → k < 2 → FillsTask k fs t (countAt t (6 + k)) u
+      → put (progressed k (viewOver b t) (record { world = worldOf (viewOver b t); objects = objectsOf b t; frames = fs; result = x })) t
+      ≡ tables (t .counts) (t .classes) (t .kept) (t .cache) (t .ties) (t .subtypes) (t .objects) u
+  top-writes k fs x u two h = task-writes k fs x (countAt t (6 + k)) u two h ∙ rw (set-getD (t .counts) (6 + k) 0)
+
+-- What a task's frames write
+
+-- the report's frames, where cells of the quote's rows are written
+report-unread : (n lo : ℕ) → Unread (λ s. stack (frameIn s 1) n) lo 1664
+unfolding frameIn
+report-unread n lo =
+    λ t m v a h. stack-cong (frameIn (set t m v) 1) (frameIn t 1) n (λ i l. frame-unread (frameBase 1 i) lo 1664 (omega arith) t m v a h)
+
+-- no frame
+pub none-left : (t : Tables) (k : ℕ) → FillsTask k [] t 0 (t .frames)
+unfolding writeStack
+none-left t k = record { count = refl; cells = refl; apart = λ e. refl }
+
+-- m frames of task k stay under the one that changes, in row m
+module _ (t : Tables) (k m : ℕ) (room : m < 32) where
+  abbrev row : ℕ
+  row = frameBase k m
+
+  abbrev under : List Frame
+  under = stack (frameIn (t .frames) k) m
+
+  abbrev reported : List ℕ → List Frame
+  reported s = stack (frameIn s 1) (countAt t 7)
+
+  abbrev unreported : Unread reported 0 1664
+  unreported = report-unread (countAt t 7) 0
+
+  moved-apart : (p d : ℕ) → k ≡ 0 → reported (moved (t .frames) row p d) ≡ reported (t .frames)
+  moved-apart p d e = unreported (set (t .frames) (row + 2) p) (row + 3) d (omega arith) (omega arith) ∙ unreported (t .frames) (row + 2) p (omega arith) (omega arith)
+
+  frame-apart : (s : List ℕ) (f : Frame) → length (f .operands) ≤ 16 → length (f .locals) ≤ 8 → k ≡ 0 → reported (putFrame s row f) ≡ reported s
+  frame-apart s f a c e = unread-frame reported row 1664 (report-unread (countAt t 7) row) f (omega arith) (omega arith) (omega arith) s
+
+  under-count : length under ≡ m
+  under-count = stack-length (frameIn (t .frames) k) m
+
+  -- any frame that fits its row
+  pub top-fill : (f : Frame) → length (f .operands) ≤ 16 → length (f .locals) ≤ 8 → FillsTask k (f ∷ under) t (suc m) (putFrame (t .frames) row f)
+  unfolding putFrameIn
+  top-fill f a c = record {
+    count = ap suc under-count;
+    cells = writeStack-above (putFrameIn k) (frameIn (t .frames) k) (t .frames) (frameIn-same (t .frames) k) m f;
+    apart = frame-apart (t .frames) f a c;
+  }
+
+  -- the frame moved to point p with its lowest d operands
+  pub top-kept : (p d : ℕ) → FillsTask k (frameOf (t .frames) row p d ∷ under) t (suc m) (moved (t .frames) row p d)
+  unfolding putFrameIn
+  top-kept p d = record {
+    count = ap suc under-count;
+    cells =
+        writeStack-above (putFrameIn k) (frameIn (t .frames) k) (t .frames) (frameIn-same (t .frames) k) m (frameOf (t .frames) row p d)
+        ∙ frame-kept (t .frames) row p d;
+    apart = moved-apart p d;
+  }
+
+  -- and a value above them
+  pub top-above : (p d : ℕ) (v : Value) → d < 16
+      → FillsTask k (frameWith (t .frames) row p (v ∷ stack (operandAt (t .frames) row) d) (rows (localAt (t .frames) row) 8 0) ∷ under) t (suc m)
+      (putOperand row (moved (t .frames) row p (d + 1)) d v)
+  unfolding putFrameIn putOperand
+  top-above p d v l =
+      let e : d + 1 ≡ suc d = omega arith in
+      rw e (record {
+        count = ap suc under-count;
+        cells =
+            writeStack-above (putFrameIn k) (frameIn (t .frames) k) (t .frames) (frameIn-same (t .frames) k) m
+            (frameWith (t .frames) row p (v ∷ stack (operandAt (t .frames) row) d) (rows (localAt (t .frames) row) 8 0))
+            ∙ frame-above (t .frames) row p d v;
+        apart = λ z. unread-value reported 0 1664 unreported (moved (t .frames) row p (suc d)) (row + (20 + 2 * d)) v (omega arith) (omega arith) ∙ moved-apart p (suc d) z;
+      })
+
+  -- the frame moved, with its lowest d operands and a local set
+  pub top-local : (p d j : ℕ) (v : Value) → j < 8
+      → FillsTask k (frameWith (t .frames) row p (stack (operandAt (t .frames) row) d) (set (rows (localAt (t .frames) row) 8 0) j v) ∷ under) t (suc m)
+      (putLocal row (moved (t .frames) row p d) j v)
+  unfolding putFrameIn putLocal
+  top-local p d j v l = record {
+    count = ap suc under-count;
+    cells =
+        writeStack-above (putFrameIn k) (frameIn (t .frames) k) (t .frames) (frameIn-same (t .frames) k) m
+        (frameWith (t .frames) row p (stack (operandAt (t .frames) row) d) (set (rows (localAt (t .frames) row) 8 0) j v))
+        ∙ frame-local (t .frames) row p d j v l;
+    apart = λ z. unread-value reported 0 1664 unreported (moved (t .frames) row p d) (row + (4 + 2 * j)) v (omega arith) (omega arith) ∙ moved-apart p d z;
+  }
+
+  -- a waiting frame is given a value: it had d operands
+  pub top-given : (d : ℕ) (v : Value) → d ≡ getD (t .frames) (row + 3) 0 → d < 16
+      → FillsTask k (withValue (frameIn (t .frames) k m) v ∷ under)
+      t (suc m) (putOperand row (set (t .frames) (row + 3) (d + 1)) d v)
+  unfolding putFrameIn frameIn putOperand
+  top-given d v q l =
+      let e : d + 1 ≡ suc d = omega arith in
+      rw e (record {
+        count = ap suc under-count;
+        cells =
+            writeStack-above (putFrameIn k) (frameIn (t .frames) k) (t .frames) (frameIn-same (t .frames) k) m
+            (withValue (frameIn (t .frames) k m) v)
+            ∙ frame-given (t .frames) row d v q;
+        apart = λ z.
+            unread-value reported 0 1664 unreported (set (t .frames) (row + 3) (suc d)) (row + (20 + 2 * d)) v (omega arith) (omega arith)
+            ∙ unreported (t .frames) (row + 3) (suc d) (omega arith) (omega arith);
+      })
+
+  -- a frame entered above the one that moved on
+  pub top-entered : (p d : ℕ) (f : Frame) → suc m < 32 → length (f .operands) ≤ 16 → length (f .locals) ≤ 8
+      → FillsTask k (f ∷ frameOf (t .frames) row p d ∷ under) t (suc (suc m)) (putFrame (moved (t .frames) row p d) (frameBase k (suc m)) f)
+  unfolding putFrameIn
+  top-entered p d f l a c = record {
+    count = ap (λ (z : ℕ). suc (suc z)) under-count;
+    cells =
+        writeStack-two (putFrameIn k) (frameIn (t .frames) k) (t .frames) (frameIn-same (t .frames) k) m (frameOf (t .frames) row p d) f
+        ∙ ap (λ (s : List ℕ). putFrame s (frameBase k (suc m)) f) (frame-kept (t .frames) row p d);
+    apart = λ z.
+        unread-frame reported (frameBase k (suc m)) 1664 (report-unread (countAt t 7) (frameBase k (suc m))) f (omega arith) (omega arith) (omega arith)
+        (moved (t .frames) row p d)
+        ∙ moved-apart p d z;
+  }
+
+-- a first frame
+pub first-entered : (t : Tables) (k : ℕ) (f : Frame) → length (f .operands) ≤ 16 → length (f .locals) ≤ 8
+    → FillsTask k (f ∷ []) t 1 (putFrame (t .frames) (frameBase k 0) f)
+unfolding stack
+first-entered t k f a c = top-fill t k 0 (omega arith) f a c
+
+-- start: an object, a first frame, two counts
+pub start-writes : (b : Base) (t : Tables) (k : ℕ) (x : Object) (f : Frame) (y : Option ℕ) → k < 2 → length (f .operands) ≤ 16 → length (f .locals) ≤ 8
+    → put (progressed k (viewOver b t) (record { world = worldOf (viewOver b t); objects = objectsOf b t ++ (x ∷ []); frames = f ∷ []; result = y })) t
+    ≡ tables (set (set (t .counts) 5 (countAt t 5 + 1)) (6 + k) 1) (t .classes) (t .kept) (t .cache) (t .ties) (t .subtypes)
+    (putObject (t .objects) (countAt t 5) x) (putFrame (t .frames) (frameBase k 0) f)
+unfolding viewOver
+start-writes b t k x f y two a c =
+    quiet-writes b t k (record { world = worldOf (viewOver b t); objects = objectsOf b t ++ (x ∷ []); frames = f ∷ []; result = y })
+    (countAt t 5 + 1) 1 (putObject (t .objects) (countAt t 5) x) (putFrame (t .frames) (frameBase k 0) f) two refl (object-made t b x) (first-entered t k f a c)
+
+-- What the calls read
+
+module _ (t : Tables) where
+  pub class-there : (c : ℕ) → c < countAt t 0 → getElem? (viewBase t .classes) c ≡ some (classAt (keptOf t) (classRowAt (t .classes) c))
+  class-there c l =
+      rw (rows-map (classAt (keptOf t)) (classRowAt (t .classes)) (countAt t 0) 0) (rows-there (λ i. classAt (keptOf t) (classRowAt (t .classes) i)) (countAt t 0) c l)
+
+  pub class-past : (c : ℕ) → countAt t 0 ≤ c → getElem? (viewBase t .classes) c ≡ none
+  class-past c l =
+      rw (rows-map (classAt (keptOf t)) (classRowAt (t .classes)) (countAt t 0) 0) (rows-past (λ i. classAt (keptOf t) (classRowAt (t .classes) i)) (countAt t 0) 0 c l)
+
+  pub class-count : length (viewBase t .classes) ≡ countAt t 0
+  class-count = length-map (classRowsOf t) (classAt (keptOf t)) ∙ classes-fill t .count
+
+  pub object-there : (b : Base) (o : ℕ) → o < countAt t 5 → existing (objectsOf b t) o ≡ some (objectAt b (t .objects) o)
+  unfolding existing objectsOf
+  object-there b o l = rows-there (objectAt b (t .objects)) (countAt t 5) o l
+
+  pub object-past : (b : Base) (o : ℕ) → countAt t 5 ≤ o → existing (objectsOf b t) o ≡ none
+  unfolding existing objectsOf
+  object-past b o l = rows-past (objectAt b (t .objects)) (countAt t 5) 0 o l
+
+  -- a task's frames: none, or the top frame and those under it
+  pub frames-none : (k : ℕ) → countAt t (6 + k) ≡ 0 → framesOf t k ≡ []
+  unfolding framesOf stack
+  frames-none k e = rw e
+
+  pub frames-top : (k m : ℕ) → countAt t (6 + k) ≡ suc m → framesOf t k ≡ frameIn (t .frames) k m ∷ stack (frameIn (t .frames) k) m
+  unfolding framesOf stack
+  frames-top k m e = rw e
+
+  -- the kept bytes are the front of their table, and a file's bytes a part of it
+  pub kept-front : countAt t 1 ≤ length (t .kept) → keptOf t ≡ take (countAt t 1) (t .kept)
+  kept-front l = rows-take (t .kept) (countAt t 1) l
+
+  pub kept-part : (s n : ℕ) → s + n ≤ countAt t 1 → countAt t 1 ≤ length (t .kept) → take n (drop s (keptOf t)) ≡ take n (drop s (t .kept))
+  kept-part s n h l =
+      let a : 0 + s ≡ s = omega arith in
+      rows-part (λ i. getD (t .kept) i 0) (countAt t 1) s n 0 h
+      ∙ (sym (rows-part (λ i. getD (t .kept) i 0) (length (t .kept)) s n 0 (omega arith)) ∙ rw (rows-take (t .kept) (length (t .kept)) (omega arith), take-length (t .kept)))

@@ -62,15 +62,17 @@ fits-tied {w} f k = fits-on f (tied-leads w k)
 -- passes the test is tied to what is found from its superclass. `R` says what is tied: argument or result, under the class's loader.
 
 pub override : (w : World) (R : ℕ → Request) (test : ℕ → Bool) {c d e f : ℕ}
-  → ((x p y : ℕ) → test x ≡ true → superOf (w .base) x ≡ some p → nearest (superOf (w .base)) test p ≡ some y → Tied w (R x) (R y))
-  → Below (superOf (w .base)) d c → nearest (superOf (w .base)) test c ≡ some e → nearest (superOf (w .base)) test d ≡ some f → Tied w (R e) (R f)
+    → ((x p y : ℕ) → test x ≡ true → superOf (w .base) x ≡ some p → nearest (superOf (w .base)) test p ≡ some y → Tied w (R x) (R y))
+    → Below (superOf (w .base)) d c → nearest (superOf (w .base)) test c ≡ some e → nearest (superOf (w .base)) test d ≡ some f → Tied w (R e) (R f)
 override w R test {c} {d} {e} {f} ties (same q) he hf = stay (ap R (Option·some-injective e f (sym he ∙ rw (sym q) at hf)))
 override w R test {c} {d} {e} {f} ties (up {p} s b) he hf = go (test c) refl (λ y hy. override w R test ties b hy hf)
   where
     sup : ℕ → Option ℕ
     sup = superOf (w .base)
+
     found : (y : ℕ) × (nearest sup test p ≡ some y) × Below sup f y
     found = let r = nearest-below sup (super-falls (w .base)) test d f hf in nearest-finds sup (super-falls (w .base)) test (below-trans b (r .0)) (r .1)
+
     go : (t : Bool) → test c ≡ t → ((y : ℕ) → nearest sup test p ≡ some y → Tied w (R y) (R f)) → Tied w (R e) (R f)
     go true t ih =
         let z = Option·some-injective c e (sym (nearest-here sup (super-falls (w .base)) test c t) ∙ he) in
@@ -79,8 +81,8 @@ override w R test {c} {d} {e} {f} ties (up {p} s b) he hf = go (test c) refl (λ
 
 -- Lemma 8 of the loading paper: what is found from a class is found from each class below it, if no class that passes has one above it that passes
 pub unhidden : (sup : ℕ → Option ℕ) → Falls sup → (test : ℕ → Bool) {c d f : ℕ}
-  → ((x p y : ℕ) → test x ≡ true → sup x ≡ some p → nearest sup test p ≡ some y → ⊥)
-  → Below sup d c → nearest sup test d ≡ some f → nearest sup test c ≡ some f
+    → ((x p y : ℕ) → test x ≡ true → sup x ≡ some p → nearest sup test p ≡ some y → ⊥)
+    → Below sup d c → nearest sup test d ≡ some f → nearest sup test c ≡ some f
 unhidden sup falls test {c} {d} {f} alone (same q) h = rw q h
 unhidden sup falls test {c} {d} {f} alone (up {p} s b) h = go (test c) refl (unhidden sup falls test alone b h)
   where

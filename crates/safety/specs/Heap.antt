@@ -17,6 +17,9 @@ unfolding slots
 heap-grows v w lk gr os hp z o b e =
     let x = hp o b e in
     let q : (k : Class) × (getElem? (v .base .classes) (b .class) ≡ some k) = (x .theClass, x .isClass) in
-    record { theClass = x .theClass; isClass = gr .classes (b .class) (x .theClass) (x .isClass)
-           ; filled = rw (slots-stable v w lk gr (b .class) q) (each-more-in (slots (v .base) (b .class)) (b .values)
-               (λ s u m h. rw (loader-stable v w lk gr (s .owner) (slot-real v w lk gr (b .class) (b .class) q s m)) (later-conforms z (loaderOf (v .base) (s .owner)) (typeOfName (s .type)) u h)) (x .filled)) }
+    record {
+      theClass = x .theClass;
+      isClass = gr .classes (b .class) (x .theClass) (x .isClass);
+      filled = rw (slots-stable v w lk gr (b .class) q) (each-more-in (slots (v .base) (b .class)) (b .values)
+          (λ s u m h. rw (loader-stable v w lk gr (s .owner) (slot-real v w lk gr (b .class) (b .class) q s m)) (later-conforms z (loaderOf (v .base) (s .owner)) (typeOfName (s .type)) u h)) (x .filled));
+    }

@@ -62,6 +62,7 @@ subs-there ss l (x ∷ ns) n m = go (any (subtypeIs l x) ss) refl m (λ rs k. su
   where
     New : Bool → List Subtype
     New t = elim t as (λ _. List Subtype) [ true ↦ newSubtypes ss l ns | false ↦ subtypeOf l x ∷ newSubtypes (ss ++ (subtypeOf l x ∷ [])) l ns ]
+
     go : (t : Bool) → any (subtypeIs l x) ss ≡ t → List·Memᴰ n (x ∷ ns) → ((rs : List Subtype) → List·Memᴰ n ns → SubThere (rs ++ newSubtypes rs l ns) l n) → SubThere (ss ++ New t) l n
     go true e (List·Memᴰ·head q) f = let a = any-true (subtypeIs l x) ss e in rw q (subs-wider ss (newSubtypes ss l ns) l x (sub-is ss l x (a .0) (a .1) (a .2)))
     go true e (List·Memᴰ·tail k) f = f ss k
@@ -74,9 +75,10 @@ record OverThere (b : Base) (l p : ℕ) (ts : List Tie) (m : Method) : Type 0 wh
 
 over-one : (b : Base) (l p : ℕ) (ts : List Tie) (m : Method) → OverThere b l p (ts ++ overrideTie b l p ts m) m
 unfolding overrideTie
-over-one b l p ts m = record
-  { argument = λ y h z. rw (h, overrideTie) (call-arg ts l (loaderOf b y) (m .argument) (m .result) z)
-  ; result = λ y h z. rw (h, overrideTie) (call-res ts l (loaderOf b y) (m .argument) (m .result) z) }
+over-one b l p ts m = record {
+  argument = λ y h z. rw (h, overrideTie) (call-arg ts l (loaderOf b y) (m .argument) (m .result) z);
+  result = λ y h z. rw (h, overrideTie) (call-res ts l (loaderOf b y) (m .argument) (m .result) z);
+}
 
 over-wider : (b : Base) (l p : ℕ) (ts us : List Tie) (m : Method) → OverThere b l p ts m → OverThere b l p (ts ++ us) m
 over-wider b l p ts us m o = record { argument = λ y h z. wide (o .argument y h z); result = λ y h z. wide (o .result y h z) }
@@ -91,7 +93,7 @@ over-there b l p ts (x ∷ ms) m (List·Memᴰ·tail k) = rw append-assoc at (ov
 
 -- each method's notes are among a class's
 notes-at : (k : Class) (ms : List Method) (ns : List Note) → notesOf k ms ≡ some ns → (j : ℕ) (m : Method) → getElem? ms j ≡ some m
-  → (xs : List Note) × (verify (m .code) (m .result) (length (m .code)) 0 (entryTypes k m) ≡ some xs) × ((n : Note) → List·Memᴰ n xs → List·Memᴰ n ns)
+    → (xs : List Note) × (verify (m .code) (m .result) (length (m .code)) 0 (entryTypes k m) ≡ some xs) × ((n : Note) → List·Memᴰ n xs → List·Memᴰ n ns)
 unfolding notesOf
 notes-at k [] ns h j m e = absurd (Option·none-ne-some m e)
 notes-at k (x ∷ ms) ns h zero m e =
@@ -111,8 +113,8 @@ notes-at k (x ∷ ms) ns h (suc j) m e =
 
 module _ (v w : World) (lk : Linked v) (gr : Grows v w) where
   over-old : (t n a r x p y : ℕ) → (k : Class) × (getElem? (v .base .classes) x ≡ some k)
-    → (hasMethod (v .base) n a r x ≡ true → superOf (v .base) x ≡ some p → nearest (superOf (v .base)) (hasMethod (v .base) n a r) p ≡ some y → Tied v (at (loaderOf (v .base) x) t) (at (loaderOf (v .base) y) t))
-    → hasMethod (w .base) n a r x ≡ true → superOf (w .base) x ≡ some p → nearest (superOf (w .base)) (hasMethod (w .base) n a r) p ≡ some y → Tied w (at (loaderOf (w .base) x) t) (at (loaderOf (w .base) y) t)
+      → (hasMethod (v .base) n a r x ≡ true → superOf (v .base) x ≡ some p → nearest (superOf (v .base)) (hasMethod (v .base) n a r) p ≡ some y → Tied v (at (loaderOf (v .base) x) t) (at (loaderOf (v .base) y) t))
+      → hasMethod (w .base) n a r x ≡ true → superOf (w .base) x ≡ some p → nearest (superOf (w .base)) (hasMethod (w .base) n a r) p ≡ some y → Tied w (at (loaderOf (w .base) x) t) (at (loaderOf (w .base) y) t)
   over-old t n a r x p y rx f h s q =
       let h′ = sym (has-stable v w (rooted lk) gr n a r x rx) ∙ h in
       let s′ = sym (super-stable v w (rooted lk) gr x rx) ∙ s in
@@ -126,24 +128,26 @@ module _ (v w : World) (lk : Linked v) (gr : Grows v w) where
 -- a cache entry more
 
 pub linked-entry : (v : World) (r : Request) (c : ℕ) (k : Class) → Linked v → getElem? (v .base .classes) c ≡ some k → Agrees (withEntry v r c) → Linked (withEntry v r c)
-linked-entry v r c k lk ck g = record
-  { agreed = g
-  ; own = λ x y h. find-more (v .base .cache) _ _ x (lk .own x y h)
-  ; real = λ q d h. elim (find-snoc (v .base .cache) (record { request = r; class = c }) q d h) [ inl x ↦ lk .real q d x | inr x ↦ (k, ap (getElem? (v .base .classes)) x ∙ ck) ]
-  ; supers = λ x y h l. let s = lk .supers x y h l in (s .0, grows-super gr x (s .0) (s .1))
-  ; verified = λ x j y m a b. verified-old v w lk gr y m (lk .verified x j y m a b)
-  ; overArg = λ n a r′ x p y h s q z. over-old v w lk gr a n a r′ x p y (has-class (w .base) n a r′ x h) (λ h s q. lk .overArg n a r′ x p y h s q z) h s q
-  ; overRes = λ n a r′ x p y h s q z. over-old v w lk gr r′ n a r′ x p y (has-class (w .base) n a r′ x h) (λ h s q. lk .overRes n a r′ x p y h s q z) h s q }
+linked-entry v r c k lk ck g = record {
+  agreed = g;
+  own = λ x y h. find-more (v .base .cache) _ _ x (lk .own x y h);
+  real = λ q d h. elim (find-snoc (v .base .cache) (record { request = r; class = c }) q d h) [ inl x ↦ lk .real q d x | inr x ↦ (k, ap (getElem? (v .base .classes)) x ∙ ck) ];
+  supers = λ x y h l. let s = lk .supers x y h l in (s .0, grows-super gr x (s .0) (s .1));
+  verified = λ x j y m a b. verified-old v w lk gr y m (lk .verified x j y m a b);
+  overArg = λ n a r′ x p y h s q z. over-old v w lk gr a n a r′ x p y (has-class (w .base) n a r′ x h) (λ h s q. lk .overArg n a r′ x p y h s q z) h s q;
+  overRes = λ n a r′ x p y h s q z. over-old v w lk gr r′ n a r′ x p y (has-class (w .base) n a r′ x h) (λ h s q. lk .overRes n a r′ x p y h s q z) h s q;
+}
   where
     w : World
     w = withEntry v r c
+
     gr : Grows v w
     gr = grows-entry v r c
 
 -- a class more
 
 module _ (v : World) (k : Class) (ns : List Note) (p : ℕ) (lk : Linked v) (vn : notesOf k (k .methods) ≡ some ns)
-         (fr : find (v .base .cache) (at (k .loader) (k .name)) ≡ none) (fp : find (v .base .cache) (at (k .loader) (k .super)) ≡ some p) where
+    (fr : find (v .base .cache) (at (k .loader) (k .name)) ≡ none) (fp : find (v .base .cache) (at (k .loader) (k .super)) ≡ some p) where
   unfoldable pub us : List Tie
   us = overrideTies (v .base) (k .loader) p (v .ties) (k .methods)
 
@@ -152,61 +156,75 @@ module _ (v : World) (k : Class) (ns : List Note) (p : ℕ) (lk : Linked v) (vn 
 
   pub linked-class : Agrees (withClass v k us ss) → Linked (withClass v k us ss)
   unfolding us ss alike
-  linked-class g = record
-    { agreed = g
-    ; own = λ c x h. own′ c x (nth-snoc (v .base .classes) k c x h)
-    ; real = λ q d h. elim (find-snoc (v .base .cache) new q d h) [ inl x ↦ let r = lk .real q d x in (r .0, gr .classes d (r .0) (r .1)) | inr x ↦ (k, ap (getElem? (v .base .classes ++ (k ∷ []))) x ∙ here) ]
-    ; supers = λ c x h l. supers′ c x (nth-snoc (v .base .classes) k c x h) l
-    ; verified = λ c j x m h e. verified′ c j x m (nth-snoc (v .base .classes) k c x h) e
-    ; overArg = λ n a r x q y h e f z. over′ a n a r x q y (let c = has-class (W .base) n a r x h in nth-snoc (v .base .classes) k x (c .0) (c .1)) (λ i j o. lk .overArg n a r x q y i j o z) (λ o. o .0 z) h e f
-    ; overRes = λ n a r x q y h e f z. over′ r n a r x q y (let c = has-class (W .base) n a r x h in nth-snoc (v .base .classes) k x (c .0) (c .1)) (λ i j o. lk .overRes n a r x q y i j o z) (λ o. o .1 z) h e f }
+  linked-class g = record {
+    agreed = g;
+    own = λ c x h. own′ c x (nth-snoc (v .base .classes) k c x h);
+    real = λ q d h. elim (find-snoc (v .base .cache) new q d h) [ inl x ↦ let r = lk .real q d x in (r .0, gr .classes d (r .0) (r .1)) | inr x ↦ (k, ap (getElem? (v .base .classes ++ (k ∷ []))) x ∙ here) ];
+    supers = λ c x h l. supers′ c x (nth-snoc (v .base .classes) k c x h) l;
+    verified = λ c j x m h e. verified′ c j x m (nth-snoc (v .base .classes) k c x h) e;
+    overArg = λ n a r x q y h e f z. over′ a n a r x q y (let c = has-class (W .base) n a r x h in nth-snoc (v .base .classes) k x (c .0) (c .1)) (λ i j o. lk .overArg n a r x q y i j o z) (λ o. o .0 z) h e f;
+    overRes = λ n a r x q y h e f z. over′ r n a r x q y (let c = has-class (W .base) n a r x h in nth-snoc (v .base .classes) k x (c .0) (c .1)) (λ i j o. lk .overRes n a r x q y i j o z) (λ o. o .1 z) h e f;
+  }
     where
       W : World
       W = withClass v k us ss
+
       gr : Grows v W
       gr = grows-class v k us ss
+
       N : ℕ
       N = length (v .base .classes)
+
       new : Entry
       new = record { request = at (k .loader) (k .name); class = N }
+
       here : getElem? (v .base .classes ++ (k ∷ [])) N ≡ some k
       here = nth-last (v .base .classes) k
+
       up : superOf (W .base) N ≡ some p
       up = is-super (W .base) N p (record { theClass = k; isClass = here; cached = find-more (v .base .cache) _ _ p fp; less = let r = lk .real _ p fp in nth-lt (v .base .classes) p (r .0) (r .1) })
+
       own′ : (c : ℕ) (x : Class) → (getElem? (v .base .classes) c ≡ some x) ⊎ ((c ≡ N) × (x ≡ k)) → find (v .base .cache ++ (new ∷ [])) (at (x .loader) (x .name)) ≡ some c
       own′ c x (inl h) = find-more (v .base .cache) _ _ c (lk .own c x h)
       own′ c x (inr h) = rw (h .0, h .1) (find-last (v .base .cache) new fr)
+
       supers′ : (c : ℕ) (x : Class) → (getElem? (v .base .classes) c ≡ some x) ⊎ ((c ≡ N) × (x ≡ k)) → 0 < c → (q : ℕ) × (superOf (W .base) c ≡ some q)
       supers′ c x (inl h) l = let s = lk .supers c x h l in (s .0, grows-super gr c (s .0) (s .1))
       supers′ c x (inr h) l = (p, rw (h .0) up)
+
       verified′ : (c j : ℕ) (x : Class) (m : Method) → (getElem? (v .base .classes) c ≡ some x) ⊎ ((c ≡ N) × (x ≡ k)) → getElem? (x .methods) j ≡ some m → Verified W x m
       verified′ c j x m (inl h) e = verified-old v W lk gr x m (lk .verified c j x m h e)
       verified′ c j x m (inr h) e =
           let r = notes-at k (k .methods) ns vn j m (rw (h .1) at e) in
           rw (h .1) (record { notes = r .0; passes = r .1; posted = λ n i. subs-there (v .subtypes) (k .loader) ns n (r .2 n i) })
+
       Ties : ℕ → ℕ → ℕ → Type 0
       Ties a r y = (a ≢ 1 → Tied W (at (k .loader) a) (at (loaderOf (v .base) y) a)) × (r ≢ 1 → Tied W (at (k .loader) r) (at (loaderOf (v .base) y) r))
+
       tied : (n a r y : ℕ) → nearest (superOf (v .base)) (hasMethod (v .base) n a r) p ≡ some y → (m : Method) → List·Memᴰ m (k .methods) → (m .name ≡ n) × (m .argument ≡ a) × (m .result ≡ r) → Ties a r y
       tied n a r y h m i (en, ea, er) =
           let o = over-there (v .base) (k .loader) p (v .ties) (k .methods) m i in
           let h′ : nearest (superOf (v .base)) (hasMethod (v .base) (m .name) (m .argument) (m .result)) p ≡ some y = rw (en, ea, er) h in
           (rw (sym ea) (o .argument y h′), rw (sym er) (o .result y h′))
+
       alike-is : (n a r : ℕ) (m : Method) → alike n a r m ≡ true → (m .name ≡ n) × (m .argument ≡ a) × (m .result ≡ r)
       alike-is n a r m h =
           let x = and-true (eqb (m .name) n && eqb (m .argument) a) (eqb (m .result) r) h in
           let y = and-true (eqb (m .name) n) (eqb (m .argument) a) (x .0) in
           (eqb-true (m .name) n (y .0), eqb-true (m .argument) a (y .1), eqb-true (m .result) r (x .1))
+
       fresh′ : (t n a r y : ℕ) → (Ties a r y → Tied W (at (k .loader) t) (at (loaderOf (v .base) y) t)) → hasMethod (W .base) n a r N ≡ true → nearest (superOf (W .base)) (hasMethod (W .base) n a r) p ≡ some y
-        → Tied W (at (loaderOf (W .base) N) t) (at (loaderOf (W .base) y) t)
+          → Tied W (at (loaderOf (W .base) N) t) (at (loaderOf (W .base) y) t)
       fresh′ t n a r y pick h f =
           let f′ = sym (nearest-stable v W (rooted lk) gr n a r p (lk .real _ p fp)) ∙ f in
           let ry = has-class (v .base) n a r y (nearest-below (superOf (v .base)) (super-falls (v .base)) (hasMethod (v .base) n a r) p y f′ .1) in
           let am = any-true (alike n a r) (k .methods) (sym (has-is (W .base) n a r N k here) ∙ h) in
           rw (loader-is (W .base) N k here, loader-stable v W (rooted lk) gr y ry) (pick (tied n a r y f′ (am .0) (am .1) (alike-is n a r (am .0) (am .2))))
+
       over′ : (t n a r x q y : ℕ) {c : Class} → (getElem? (v .base .classes) x ≡ some c) ⊎ ((x ≡ N) × (c ≡ k))
-        → (hasMethod (v .base) n a r x ≡ true → superOf (v .base) x ≡ some q → nearest (superOf (v .base)) (hasMethod (v .base) n a r) q ≡ some y → Tied v (at (loaderOf (v .base) x) t) (at (loaderOf (v .base) y) t))
-        → (Ties a r y → Tied W (at (k .loader) t) (at (loaderOf (v .base) y) t))
-        → hasMethod (W .base) n a r x ≡ true → superOf (W .base) x ≡ some q → nearest (superOf (W .base)) (hasMethod (W .base) n a r) q ≡ some y → Tied W (at (loaderOf (W .base) x) t) (at (loaderOf (W .base) y) t)
+          → (hasMethod (v .base) n a r x ≡ true → superOf (v .base) x ≡ some q → nearest (superOf (v .base)) (hasMethod (v .base) n a r) q ≡ some y → Tied v (at (loaderOf (v .base) x) t) (at (loaderOf (v .base) y) t))
+          → (Ties a r y → Tied W (at (k .loader) t) (at (loaderOf (v .base) y) t))
+          → hasMethod (W .base) n a r x ≡ true → superOf (W .base) x ≡ some q → nearest (superOf (W .base)) (hasMethod (W .base) n a r) q ≡ some y → Tied W (at (loaderOf (W .base) x) t) (at (loaderOf (W .base) y) t)
       over′ t n a r x q y {c} (inl e) old pick h s f = over-old v W lk gr t n a r x q y (c, e) old h s f
       over′ t n a r x q y {c} (inr e) old pick h s f =
           let z : q ≡ p = Option·some-injective q p (sym s ∙ ap (superOf (W .base)) (e .0) ∙ up) in

@@ -69,11 +69,13 @@ module _ (w : World) (os : List Object) (lk : Linked w) where
   objects-placed (b ∷ bs) h = rw (none-bad _ (λ s v. placed w os (loaderOf (w .base) (s .owner)) (typeOfName (s .type)) v) (λ s v c. conforms-placed w os (lk .agreed) _ _ v c) (slots (w .base) (b .class)) (b .values) (h 0 b refl), objects-placed bs (λ o. h (suc o))) refl
 
   frame-placed : (waits : Bool) (f : Frame) (k : Class) (m : Method) (τ : TypeState) (ts : List VerifierType) → Typed w f k m τ → waitingTypes waits (τ .operands) ≡ some ts
-    → Each (Conforms w os (k .loader)) ts (f .operands) → Each (Local w os (k .loader)) (τ .locals) (f .locals) → misplacedInFrame w os waits f ≡ 0
+      → Each (Conforms w os (k .loader)) ts (f .operands) → Each (Local w os (k .loader)) (τ .locals) (f .locals) → misplacedInFrame w os waits f ≡ 0
   unfolding misplacedInFrame
   frame-placed waits f k m τ ts t e a b = rw (types-are, misplacedInFrame)
-      (rw (none-bad _ (placed w os (k .loader)) (conforms-placed w os (lk .agreed) (k .loader)) ts (f .operands) a
-          , none-bad _ (placedLocal w os (k .loader)) (local-placed w os (lk .agreed) (k .loader)) (τ .locals) (f .locals) b) refl)
+      (rw (
+        none-bad _ (placed w os (k .loader)) (conforms-placed w os (lk .agreed) (k .loader)) ts (f .operands) a,
+        none-bad _ (placedLocal w os (k .loader)) (local-placed w os (lk .agreed) (k .loader)) (τ .locals) (f .locals) b,
+      ) refl)
     where
       types-are : typesOf w waits f ≡ some (record { loader = k .loader; operands = ts; locals = τ .locals })
       types-are = unfold typesOf in some-bind _ _ (t .isClass) (some-bind _ _ (t .isMethod) (some-bind _ _ (t .types) (some-bind _ _ e refl)))
@@ -93,5 +95,8 @@ module _ (w : World) (os : List Object) (lk : Linked w) where
 pub valid-placed : (r : Rows) → Valid (storeOf r) → misplacedIn r ≡ 0
 unfolding misplacedIn
 valid-placed r v =
-    rw (objects-placed (worldOf r) (r .objects) (v .linked) (r .objects) (λ o b e. v .heap o b e .filled)
-       , stack-placed (worldOf r) (r .objects) (v .linked) (r .quote) (v .quote), stack-placed (worldOf r) (r .objects) (v .linked) (r .report) (v .report)) refl
+    rw (
+      objects-placed (worldOf r) (r .objects) (v .linked) (r .objects) (λ o b e. v .heap o b e .filled),
+      stack-placed (worldOf r) (r .objects) (v .linked) (r .quote) (v .quote),
+      stack-placed (worldOf r) (r .objects) (v .linked) (r .report) (v .report),
+    ) refl

@@ -96,9 +96,10 @@ unfolding tieIs
 tie-chain ts l m n t i h = go (and-true (eqb (t .name) n) _ h)
   where
     go : (eqb (t .name) n ≡ true) × (((eqb (t .one) l && eqb (t .two) m) || (eqb (t .one) m && eqb (t .two) l)) ≡ true) → Chain (tieEdges ts) (at l n) (at m n)
-    go (a, b) = elim (or-true (eqb (t .one) l && eqb (t .two) m) (eqb (t .one) m && eqb (t .two) l) b)
-      [ inl x ↦ let y = and-true (eqb (t .one) l) (eqb (t .two) m) x in rw (sym (eqb-true (t .name) n a), sym (eqb-true (t .one) l (y .0)), sym (eqb-true (t .two) m (y .1))) (hop (stay refl) (tie-edge ts t i))
-      | inr x ↦ let y = and-true (eqb (t .one) m) (eqb (t .two) l) x in rw (sym (eqb-true (t .name) n a), sym (eqb-true (t .one) m (y .0)), sym (eqb-true (t .two) l (y .1))) (hop (stay refl) (tie-turned ts _ (tie-edge ts t i))) ]
+    go (a, b) = elim (or-true (eqb (t .one) l && eqb (t .two) m) (eqb (t .one) m && eqb (t .two) l) b) [
+      | inl x ↦ let y = and-true (eqb (t .one) l) (eqb (t .two) m) x in rw (sym (eqb-true (t .name) n a), sym (eqb-true (t .one) l (y .0)), sym (eqb-true (t .two) m (y .1))) (hop (stay refl) (tie-edge ts t i))
+      | inr x ↦ let y = and-true (eqb (t .one) m) (eqb (t .two) l) x in rw (sym (eqb-true (t .name) n a), sym (eqb-true (t .one) m (y .0)), sym (eqb-true (t .two) l (y .1))) (hop (stay refl) (tie-turned ts _ (tie-edge ts t i)))
+    ]
 
 pub tie-there : (ts : List Tie) (l m n : ℕ) → n ≢ 1 → Chain (tieEdges (ts ++ newTie ts l m n)) (at l n) (at m n)
 unfolding newTie
@@ -106,12 +107,15 @@ tie-there ts l m n h = go (eqb l m || eqb n 1 || any (tieIs l m n) ts) refl
   where
     Ts : Bool → List Tie
     Ts t = ts ++ (elim t as (λ _. List Tie) [ true ↦ [] | false ↦ record { one = l; two = m; name = n } ∷ [] ])
+
     old : Chain (tieEdges ts) (at l n) (at m n) → Chain (tieEdges (ts ++ [])) (at l n) (at m n)
     old c = rw append-nil c
+
     go : (t : Bool) → (eqb l m || eqb n 1 || any (tieIs l m n) ts) ≡ t → Chain (tieEdges (Ts t)) (at l n) (at m n)
-    go true e = elim (or-true (eqb l m || eqb n 1) (any (tieIs l m n) ts) e)
-      [ inl x ↦ elim (or-true (eqb l m) (eqb n 1) x) [ inl y ↦ stay (ap (λ (z : ℕ). at z n) (eqb-true l m y)) | inr y ↦ absurd (h (eqb-true n 1 y)) ]
-      | inr x ↦ let y = any-true (tieIs l m n) ts x in old (tie-chain ts l m n (y .0) (y .1) (y .2)) ]
+    go true e = elim (or-true (eqb l m || eqb n 1) (any (tieIs l m n) ts) e) [
+      | inl x ↦ elim (or-true (eqb l m) (eqb n 1) x) [ inl y ↦ stay (ap (λ (z : ℕ). at z n) (eqb-true l m y)) | inr y ↦ absurd (h (eqb-true n 1 y)) ]
+      | inr x ↦ let y = any-true (tieIs l m n) ts x in old (tie-chain ts l m n (y .0) (y .1) (y .2))
+    ]
     go false e = hop (stay refl) (tie-edge _ _ (Memᴰ·append-right ts (List·Memᴰ·head refl)))
 
 -- agreement after posting

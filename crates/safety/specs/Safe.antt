@@ -68,8 +68,8 @@ pub define-kept : (b : Bool) (k : Class) (v : World) → Linked v → Wp (define
 unfolding define us ss
 define-kept b k v lk =
     wp-take (Loaded v) _ _ _ (not-word 6 (omega arith)) (λ ns vn. wp-need (Loaded v) _ _ _ (not-word 4 (omega arith)) (λ fr.
-      wp-take (Loaded v) _ _ _ (not-wanted _) (λ p fp. wp-need (Loaded v) _ _ _ (not-word 8 (omega arith)) (λ _. wp-need (Loaded v) _ _ _ (not-word 10 (omega arith)) (λ _. wp-need (Loaded v) _ _ _ (not-word 9 (omega arith)) (λ g.
-        record { linked = linked-class v k ns p lk vn (none-is _ fr) fp (agrees-true _ g); grows = grows-class v k _ _ }))))))
+    wp-take (Loaded v) _ _ _ (not-wanted _) (λ p fp. wp-need (Loaded v) _ _ _ (not-word 8 (omega arith)) (λ _. wp-need (Loaded v) _ _ _ (not-word 10 (omega arith)) (λ _. wp-need (Loaded v) _ _ _ (not-word 9 (omega arith)) (λ g.
+    record { linked = linked-class v k ns p lk vn (none-is _ fr) fp (agrees-true _ g); grows = grows-class v k _ _ }))))))
 
 pub record-kept : (l n c : ℕ) (v : World) → Linked v → Wp (recorded l n c v) (Loaded v)
 unfolding recorded
@@ -77,7 +77,7 @@ record-kept l n c v lk =
     wp-need (Loaded v) _ _ _ (not-word 3 (omega arith)) (λ _. wp-take (Loaded v) _ _ _ (not-word 3 (omega arith)) (λ k ck. wp-need (Loaded v) _ _ _ (not-word 13 (omega arith)) (λ _. go k ck (find (v .base .cache) (at l n)))))
   where
     go : (k : Class) → getElem? (v .base .classes) c ≡ some k → (o : Option ℕ)
-      → Wp (elim o as (λ _. Result World) [ some d ↦ need (eqb d c) (Word 4) >>= λ _. ok v | none ↦ need (ltb (length (v .base .cache)) 256) (Word 10) >>= λ _. need (agrees (withEntry v (at l n) c)) (Word 9) >>= λ _. ok (withEntry v (at l n) c) ]) (Loaded v)
+        → Wp (elim o as (λ _. Result World) [ some d ↦ need (eqb d c) (Word 4) >>= λ _. ok v | none ↦ need (ltb (length (v .base .cache)) 256) (Word 10) >>= λ _. need (agrees (withEntry v (at l n) c)) (Word 9) >>= λ _. ok (withEntry v (at l n) c) ]) (Loaded v)
     go k ck none = wp-need (Loaded v) _ _ _ (not-word 10 (omega arith)) (λ _. wp-need (Loaded v) _ _ _ (not-word 9 (omega arith)) (λ g. record { linked = linked-entry v (at l n) c k lk ck (agrees-true _ g); grows = grows-entry v (at l n) c }))
     go k ck (some d) = wp-need (Loaded v) _ _ _ (not-word 4 (omega arith)) (λ _. record { linked = lk; grows = later-same v [] .grows })
 
@@ -86,11 +86,11 @@ pub start-kept : (l n m x : ℕ) (v : World) (os : List Object) (fs : List Frame
 unfolding started newObject
 start-kept l n m x v os fs lk hp =
     wp-need (Kept v os) _ _ _ (not-word 3 (omega arith)) (λ _. wp-need (Kept v os) _ _ _ (not-word 12 (omega arith)) (λ _. wp-take (Kept v os) _ _ _ (not-wanted _) (λ c fc.
-      wp-take (Kept v os) _ _ _ (not-word 7 (omega arith)) (λ s fs. wp-take (Kept v os) _ _ _ (not-word 7 (omega arith)) (λ j ij.
-        wp-need (Kept v os) _ _ _ (not-word 10 (omega arith)) (λ _. begun c s j fc fs ij))))))
+    wp-take (Kept v os) _ _ _ (not-word 7 (omega arith)) (λ s fs. wp-take (Kept v os) _ _ _ (not-word 7 (omega arith)) (λ j ij.
+    wp-need (Kept v os) _ _ _ (not-word 10 (omega arith)) (λ _. begun c s j fc fs ij))))))
   where
     begun : (c s j : ℕ) → find (v .base .cache) (at l n) ≡ some c → nearest (superOf (v .base)) (hasMethod (v .base) m 1 1) c ≡ some s → indexOf (alike m 1 1) (methodsOf (v .base) s) ≡ some j
-      → Kept v os (record { world = v; objects = os ++ (record { class = c; values = map initialValue (slots (v .base) c) } ∷ []); frames = entryFrame s j (length os) (intValue x) ∷ []; result = none })
+        → Kept v os (record { world = v; objects = os ++ (record { class = c; values = map initialValue (slots (v .base) c) } ∷ []); frames = entryFrame s j (length os) (intValue x) ∷ []; result = none })
     begun c s j fc fs ij =
         let b : Object = record { class = c; values = map initialValue (slots (v .base) c) } in
         let qs = os ++ (b ∷ []) in
@@ -99,14 +99,29 @@ start-kept l n m x v os fs lk hp =
         let r = lk .real (at l n) c fc in
         let ve = lk .verified s (ma .place) (ma .theClass) (ma .method) (ma .isClass) (ma .isMethod) in
         let z : j ≡ ma .place = Option·some-injective _ _ (sym ij ∙ ma .index) in
-        record { linked = lk; later = later-more v os b
-          ; heap = heap-more v os b hp (record { theClass = r .0; isClass = r .1; filled = zeros-conform v os (slots (v .base) c) })
-          ; stack = (ma .theClass, ma .method, record { τ = entryTypes (ma .theClass) (ma .method)
-              ; typed = record { isClass = ma .isClass; isMethod = rw z (ma .isMethod)
-                  ; types = verified-here (ma .method .code) (ma .method .result) (length (ma .method .code)) 0 (entryTypes (ma .theClass) (ma .method)) (ve .notes) (ve .passes) }
-              ; operands = tt
-              ; locals = (record { object = b; there = nth-last os b; fits = fits-own (lk .own s (ma .theClass) (ma .isClass)) (nb .0) }
-                         , (as-int v qs (ma .theClass .loader) (ma .method .argument) (intValue x) (ma .argument) tt, (tt, (tt, (tt, (tt, (tt, (tt, tt)))))))) }, ma .result) }
+        record {
+          linked = lk;
+          later = later-more v os b;
+          heap = heap-more v os b hp (record { theClass = r .0; isClass = r .1; filled = zeros-conform v os (slots (v .base) c) });
+          stack = (
+            ma .theClass,
+            ma .method,
+            record {
+              τ = entryTypes (ma .theClass) (ma .method);
+              typed = record {
+                isClass = ma .isClass;
+                isMethod = rw z (ma .isMethod);
+                types = verified-here (ma .method .code) (ma .method .result) (length (ma .method .code)) 0 (entryTypes (ma .theClass) (ma .method)) (ve .notes) (ve .passes);
+              };
+              operands = tt;
+              locals = (
+                record { object = b; there = nth-last os b; fits = fits-own (lk .own s (ma .theClass) (ma .isClass)) (nb .0) },
+                (as-int v qs (ma .theClass .loader) (ma .method .argument) (intValue x) (ma .argument) tt, (tt, (tt, (tt, (tt, (tt, (tt, tt))))))),
+              );
+            },
+            ma .result,
+          );
+        }
 
 -- Calls
 
@@ -125,13 +140,17 @@ valid-report s (refused w) v h = v
 valid-report s (ok o) v h = record { linked = h .linked; heap = h .heap; report = h .stack; quote = later-stack (h .later) (s .quote) (v .quote) }
 
 pub valid-booted : Valid booted
-valid-booted = record
-  { linked = record
-    { agreed = agrees-true (booted .world) boot-agrees
-    ; own = λ c k h. let z = boot-class c k h in rw (z .0, z .1) boot-own
-    ; real = λ r c h. let z = find-row (booted .world .base .cache) r c h in (_, ap (getElem? (booted .world .base .classes)) (sym (z .3) ∙ ap (λ (e : Entry). e .class) (List·Memᴰ·eq-of-singleton (z .1))))
-    ; supers = λ c k h l. absurd (omega (arith, boot-class c k h .0))
-    ; verified = λ c j k m h e. absurd (Option·none-ne-some m (rw (boot-class c k h .1) at e))
-    ; overArg = λ n a r x p y h s. absurd (boot-top x p s)
-    ; overRes = λ n a r x p y h s. absurd (boot-top x p s) }
-  ; heap = λ o b e. absurd (Option·none-ne-some b e); quote = tt; report = tt }
+valid-booted = record {
+  linked = record {
+    agreed = agrees-true (booted .world) boot-agrees;
+    own = λ c k h. let z = boot-class c k h in rw (z .0, z .1) boot-own;
+    real = λ r c h. let z = find-row (booted .world .base .cache) r c h in (_, ap (getElem? (booted .world .base .classes)) (sym (z .3) ∙ ap (λ (e : Entry). e .class) (List·Memᴰ·eq-of-singleton (z .1))));
+    supers = λ c k h l. absurd (omega (arith, boot-class c k h .0));
+    verified = λ c j k m h e. absurd (Option·none-ne-some m (rw (boot-class c k h .1) at e));
+    overArg = λ n a r x p y h s. absurd (boot-top x p s);
+    overRes = λ n a r x p y h s. absurd (boot-top x p s);
+  };
+  heap = λ o b e. absurd (Option·none-ne-some b e);
+  quote = tt;
+  report = tt;
+}

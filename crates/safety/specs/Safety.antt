@@ -80,13 +80,13 @@ module _ (r : Rows) (w : Whole r) (v : Good r) where
   define-good : (l : ℕ) (bs : List ℕ) → Wp (defineRows l bs r) Q
   unfolding defineRows numberOf
   define-good l bs = wp-need Q _ _ _ (not-word 3 (omega arith)) (λ a. wp-take Q _ _ _ (not-word 2 (omega arith)) (λ f rf.
-    wp-on (Loaded (S .world)) Q _ _ (define-kept _ (classOf l f) (S .world) (v .linked)) (λ x e h.
+      wp-on (Loaded (S .world)) Q _ _ (define-kept _ (classOf l f) (S .world) (v .linked)) (λ x e h.
       (subst (λ (z : World). Valid (in-world S z)) (sym (world-defined r w l bs f x (ltb-true l 16 a) rf e)) (valid-world S (ok x) v h), zero-fine))))
 
   record-good : (l n c : ℕ) → Wp (recordRows l n c r) Q
   unfolding recordRows numberOf
   record-good l n c = wp-on (Loaded (S .world)) Q _ _ (record-kept l n c (S .world) (v .linked)) (λ x e h.
-    (subst (λ (z : World). Valid (in-world S z)) (sym (world-recorded r w l n c x e)) (valid-world S (ok x) v h), zero-fine))
+      (subst (λ (z : World). Valid (in-world S z)) (sym (world-recorded r w l n c x e)) (valid-world S (ok x) v h), zero-fine))
 
   progress-good : (k : ℕ) (o : Progress) → worldOf (progressed k r o) ≡ o .world → Kept (S .world) (S .objects) o → Good (progressed k r o)
   progress-good zero o q h = subst (λ (z : World). Valid (record { world = z; objects = o .objects; quote = o .frames; report = r .report })) (sym q) (valid-quote S (ok o) v h)
@@ -95,7 +95,7 @@ module _ (r : Rows) (w : Whole r) (v : Good r) where
   start-good : (k l n m x : ℕ) → Wp (startRows k l n m x r) Q
   unfolding startRows numberOf
   start-good k l n m x = wp-need Q _ _ _ (not-word 3 (omega arith)) (λ _.
-    wp-on (Kept (S .world) (S .objects)) Q _ _ (start-kept l n m x (S .world) (S .objects) (framesIn k r) (v .linked) (v .heap)) (λ o e h.
+      wp-on (Kept (S .world) (S .objects)) Q _ _ (start-kept l n m x (S .world) (S .objects) (framesIn k r) (v .linked) (v .heap)) (λ o e h.
       (progress-good k o (world-progressed r w k o (ok-at _ _ (start-moves r w l n m x (framesIn k r)) o e)) h, zero-fine)))
 
   fine-answer : (k : ℕ) (o : Option ℕ) → FineStep (answerOf k o)
@@ -106,14 +106,14 @@ module _ (r : Rows) (w : Whole r) (v : Good r) where
   task-good : (k : ℕ) (f : Frame) (fs : List Frame) → Stack (S .world) (S .objects) (f ∷ fs) → All (Framed (length (r .classes)) (length (r .objects))) (f ∷ fs) → length (f ∷ fs) ≤ 32 → Wp (stepTask k (worldOf r) f fs r) R
   unfolding stepTask
   task-good k f fs x a c = wp-on (Kept (S .world) (S .objects)) R _ _ (step-kept (S .world) (S .objects) f fs (v .linked) (v .heap) x) (λ o e h.
-    (progress-good k o (world-progressed r w k o (ok-at _ _ (step-moves (S .world) (length (r .classes)) (r .objects) (ready r w) f fs a c) o e)) h, fine-answer k (o .result)))
+      (progress-good k o (world-progressed r w k o (ok-at _ _ (step-moves (S .world) (length (r .classes)) (r .objects) (ready r w) f fs a c) o e)) h, fine-answer k (o .result)))
 
   step-good : Wp (stepRows r) R
   unfolding stepRows
   step-good = go (r .quote) (r .report) (v .quote) (v .report) (w .quote) (w .report) (w .limits .quote) (w .limits .report)
     where
       go : (q p : List Frame) → Stack (S .world) (S .objects) q → Stack (S .world) (S .objects) p → All (Framed (length (r .classes)) (length (r .objects))) q → All (Framed (length (r .classes)) (length (r .objects))) p
-        → length q ≤ 32 → length p ≤ 32 → Wp (stepOn q p (worldOf r) r) R
+          → length q ≤ 32 → length p ≤ 32 → Wp (stepOn q p (worldOf r) r) R
       go (f ∷ fs) p x y a b c d = unfold stepOn in task-good 0 f fs x a c
       go [] (f ∷ fs) x y a b c d = unfold stepOn in task-good 1 f fs y b d
       go [] [] x y a b c d = unfold stepOn numberOfStep in (v, zero-fine)
@@ -130,9 +130,12 @@ boot-good : Good bootRows
 boot-good = subst Valid (sym same) valid-booted
   where
     same : storeOf bootRows ≡ booted
-    same = λ i. record
-      { world = record { base = record { classes = object-class [] (record { loader = 0; start = 0; size = 0 }) (record { loader = refl; start = refl; size = refl }) i ∷ []; cache = booted .world .base .cache }; ties = []; subtypes = [] }
-      ; objects = []; quote = []; report = [] }
+    same = λ i. record {
+      world = record { base = record { classes = object-class [] (record { loader = 0; start = 0; size = 0 }) (record { loader = refl; start = refl; size = refl }) i ∷ []; cache = booted .world .base .cache }; ties = []; subtypes = [] };
+      objects = [];
+      quote = [];
+      report = [];
+    }
 
 -- Tables that come from a boot
 
@@ -152,13 +155,13 @@ wp-refused Q (refused x) h w e = let z : x ≡ w = cc in rw z at h
 wp-refused Q (ok b) h w e = absurd (let z : _≡_ {A = ℕ} 0 1 = cc in omega arith)
 
 wrap-sane : {A : Type 0} (deny : Refusal → A) (F : A → Type 0) (f : Rows → Result (Given A)) (t : Tables) → Sane t → ((w : Refusal) → NotStuck w → F (deny w))
-  → ((r : Rows) → Whole r → Ok (f r) (λ g. Whole (g .rows))) → ((r : Rows) → Whole r → Good r → Wp (f r) (λ g. Good (g .rows) × F (g .answer))) → F (wrap deny f t .answer) × Sane (wrap deny f t .tables)
+    → ((r : Rows) → Whole r → Ok (f r) (λ g. Whole (g .rows))) → ((r : Rows) → Whole r → Good r → Wp (f r) (λ g. Good (g .rows) × F (g .answer))) → F (wrap deny f t .answer) × Sane (wrap deny f t .tables)
 wrap-sane deny F f t s n k j =
     let u = broken-false t (s .unbroken) in
     let h = j (view t) (u .1) (s .valid) in
     wrapped deny f t (λ a z. F a × Sane z) (λ e. absurd (false≢true (sym (s .unbroken) ∙ e)))
-      (λ w e. (n w (wp-refused (λ g. Good (g .rows) × F (g .answer)) _ h w e), s))
-      (λ g e. let x = wp-at (λ g. Good (g .rows) × F (g .answer)) _ h g e in (x .1, put-sane (g .rows) t (u .0) (ok-at (λ g. Whole (g .rows)) _ (k (view t) (u .1)) g e) (x .0)))
+    (λ w e. (n w (wp-refused (λ g. Good (g .rows) × F (g .answer)) _ h w e), s))
+    (λ g e. let x = wp-at (λ g. Good (g .rows) × F (g .answer)) _ h g e in (x .1, put-sane (g .rows) t (u .0) (ok-at (λ g. Whole (g .rows)) _ (k (view t) (u .1)) g e) (x .0)))
 
 refused-fine : (w : Refusal) → NotStuck w → FineStep (Refused w)
 unfolding numberOfStep
@@ -178,7 +181,7 @@ runs-sane zero k a t f s = (f, s)
 runs-sane (suc n) k a t f s = let d = step-sane t s in go (stepTables t .answer) (stepTables t .tables) (d .0) (d .1) (λ k a t f s. runs-sane n k a t f s)
   where
     go : (x : Answer) (z : Tables) → FineStep x → Sane z → ((k : ℕ) (a : Answer) (t : Tables) → FineStep a → Sane t → Fine (runFrom stepTables n k a t .answer) × Sane (runFrom stepTables n k a t .tables))
-      → Fine (goOn (runFrom stepTables n) k x z .answer) × Sane (goOn (runFrom stepTables n) k x z .tables)
+        → Fine (goOn (runFrom stepTables n) k x z .answer) × Sane (goOn (runFrom stepTables n) k x z .tables)
     go Idle z p q ih = (p, q)
     go (Ran j) z p q ih = ih (suc k) (Ran j) z p q
     go (Finished j v) z p q ih = (p, q)
@@ -190,6 +193,7 @@ run-sane n t s = rw (s .unbroken, run) (go (leb 1 n && leb n 65535))
   where
     D : Bool → Done Reply
     D b = elim b as (λ _. Done Reply) [ true ↦ runFrom stepTables n 0 Idle t | false ↦ done (Denied (Word 3)) t ]
+
     go : (b : Bool) → Fine (D b .answer) × Sane (D b .tables)
     go true = runs-sane n 0 Idle t (unfold numberOfStep in zero-fine) s
     go false = (denied-fine (Word 3) (not-word 3 (omega arith)), s)
@@ -214,7 +218,7 @@ all-sane [] t s = ((λ i a e. absurd (Option·none-ne-some a e)), s)
 all-sane (c ∷ cs) t s = let d = perform-sane c t s in let e = all-sane cs (perform c t .tables) (d .1) in (each (d .0) (e .0), e .1)
   where
     each : Fine (perform c t .answer) → ((i : ℕ) (a : Reply) → getElem? (performAll cs (perform c t .tables) .answer) i ≡ some a → Fine a)
-      → (i : ℕ) (a : Reply) → getElem? (perform c t .answer ∷ performAll cs (perform c t .tables) .answer) i ≡ some a → Fine a
+        → (i : ℕ) (a : Reply) → getElem? (perform c t .answer ∷ performAll cs (perform c t .tables) .answer) i ≡ some a → Fine a
     each f g zero a q = subst Fine (Option·some-injective _ a q) f
     each f g (suc i) a q = g i a q
 
@@ -223,8 +227,10 @@ accepted-shaped t h = shapes (shaped t) refl
   where
     refuses : shaped t ≡ false → boot t .answer ≡ Denied (Word 1)
     refuses e = unfold boot in rw (e, boot) refl
+
     denied≢ : Path Reply (Denied (Word 1)) Accepted → ⊥
     denied≢ e = let z : _≡_ {A = ℕ} 0 1 = cc in omega arith
+
     shapes : (b : Bool) → shaped t ≡ b → shaped t ≡ true
     shapes true e = e
     shapes false e = absurd (denied≢ (sym (refuses e) ∙ h))

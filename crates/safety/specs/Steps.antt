@@ -42,7 +42,7 @@ abbrev Popped : Type 0
 Popped = record { top : Value; more : List Value }
 
 each-pop : (R : VerifierType → Value → Type 0) (ts : List VerifierType) (vs : List Value) (t : VerifierType) (us : List VerifierType) → pop ts ≡ some (record { top = t; more = us }) → Each R ts vs
-  → (q : Popped) × (pop! vs ≡ ok q) × R t (q .top) × Each R us (q .more)
+    → (q : Popped) × (pop! vs ≡ ok q) × R t (q .top) × Each R us (q .more)
 unfolding pop pop! take?
 each-pop R [] vs t us e h = absurd (Option·none-ne-some _ e)
 each-pop R (x ∷ xs) [] t us e h = absurd h
@@ -114,7 +114,7 @@ grows-posted w us = record { classes = λ c k h. h; cache = λ r c h. h; ties = 
 
 -- the object behind a receiver
 wp-object : (w : World) (os : List Object) (l c e : ℕ) (v : Value) (Q : record { number : ℕ; object : Object } → Type 0) → Agrees w → find (w .base .cache) (at l c) ≡ some e → Conforms w os l (typeClass c) v
-  → ((o : ℕ) (b : Object) → getElem? os o ≡ some b → Below (superOf (w .base)) e (b .class) → v ≡ objectValue o → Q (record { number = o; object = b })) → Wp (object! (w .base) os e v) Q
+    → ((o : ℕ) (b : Object) → getElem? os o ≡ some b → Below (superOf (w .base)) e (b .class) → v ≡ objectValue o → Q (record { number = o; object = b })) → Wp (object! (w .base) os e v) Q
 unfolding object! existing
 wp-object w os l c e unsetValue Q g f h q = absurd h
 wp-object w os l c e (unlistedValue α β) Q g f h q = absurd h
@@ -147,8 +147,17 @@ field-at w os b d n t h bl ob =
     let pb = and-true (eqb (s .owner) d) (eqb (s .name) n) (pa .0) in
     let is = slots-below (w .base) bl (fo .place) s (fo .there) in
     let x = each-at (λ s v. Conforms w os (loaderOf (w .base) (s .owner)) (typeOfName (s .type)) v) (slots (w .base) (b .class)) (b .values) (ob .filled) (fo .place) s is in
-    record { place = fo .place; slot = s; value = x .0; index = fo .index; isSlot = is; there = x .1; owner = eqb-true (s .owner) d (pb .0); type = eqb-true (s .type) t (pa .1)
-           ; conforms = rw (eqb-true (s .owner) d (pb .0), eqb-true (s .type) t (pa .1)) at (x .2) }
+    record {
+      place = fo .place;
+      slot = s;
+      value = x .0;
+      index = fo .index;
+      isSlot = is;
+      there = x .1;
+      owner = eqb-true (s .owner) d (pb .0);
+      type = eqb-true (s .type) t (pa .1);
+      conforms = rw (eqb-true (s .owner) d (pb .0), eqb-true (s .type) t (pa .1)) at (x .2);
+    }
 
 -- the method that class s declares
 pub record MethodAt (b : Base) (s n t r : ℕ) : Type 0 where
@@ -168,14 +177,24 @@ method-at b s n t r h = go (getElem? (b .classes) s) refl h
   where
     Ms : Option Class → List Method
     Ms o = elim o as (λ _. List Method) [ none ↦ [] | some k ↦ k .methods ]
+
     go : (o : Option Class) → getElem? (b .classes) s ≡ o → any (alike n t r) (Ms o) ≡ true → MethodAt b s n t r
     go none e q = absurd (List·Memᴰ·not-nil (any-true (alike n t r) [] q .1))
     go (some k) e q =
         let fo = any-found (alike n t r) (k .methods) q in
         let x = fo .item in
         let pa = and-true (eqb (x .name) n && eqb (x .argument) t) (eqb (x .result) r) (fo .passes) in
-        record { place = fo .place; theClass = k; method = x; index = rw (e, methodsOf) (fo .index); isClass = e; isMethod = fo .there
-               ; argument = eqb-true (x .argument) t (and-true (eqb (x .name) n) (eqb (x .argument) t) (pa .0) .1); result = eqb-true (x .result) r (pa .1); loader = rw (e, loaderOf) refl }
+        record {
+          place = fo .place;
+          theClass = k;
+          method = x;
+          index = rw (e, methodsOf) (fo .index);
+          isClass = e;
+          isMethod = fo .there;
+          argument = eqb-true (x .argument) t (and-true (eqb (x .name) n) (eqb (x .argument) t) (pa .0) .1);
+          result = eqb-true (x .result) r (pa .1);
+          loader = rw (e, loaderOf) refl;
+        }
 
 -- the two ties of a call
 abbrev pub ties2 : List Tie → ℕ → ℕ → ℕ → ℕ → List Tie
@@ -183,7 +202,7 @@ ties2 ts l m a r = newTie ts l m a ++ newTie (ts ++ newTie ts l m a) l m r
 
 pub call-arg : (ts : List Tie) (l m a r : ℕ) → a ≢ 1 → Chain (tieEdges (ts ++ ties2 ts l m a r)) (at l a) (at m a)
 call-arg ts l m a r h = rw (sym (append-assoc ts (newTie ts l m a) (newTie (ts ++ newTie ts l m a) l m r)), tie-edges-more (ts ++ newTie ts l m a) (newTie (ts ++ newTie ts l m a) l m r))
-  (chain-more (λ e i. Memᴰ·append-left (tieEdges (newTie (ts ++ newTie ts l m a) l m r)) i) (tie-there ts l m a h))
+    (chain-more (λ e i. Memᴰ·append-left (tieEdges (newTie (ts ++ newTie ts l m a) l m r)) i) (tie-there ts l m a h))
 
 pub call-res : (ts : List Tie) (l m a r : ℕ) → r ≢ 1 → Chain (tieEdges (ts ++ ties2 ts l m a r)) (at l r) (at m r)
 call-res ts l m a r h = rw (sym (append-assoc ts (newTie ts l m a) (newTie (ts ++ newTie ts l m a) l m r))) (tie-there (ts ++ newTie ts l m a) l m r h)
@@ -204,11 +223,15 @@ heap-posted : (w : World) (os : List Object) (us : List Tie) → Heap w os → H
 heap-posted w os us h o b e = let x = h o b e in record { theClass = x .theClass; isClass = x .isClass; filled = each-more (λ s v. later-conforms (later-posted w os us) (loaderOf (w .base) (s .owner)) (typeOfName (s .type)) v) (slots (w .base) (b .class)) (b .values) (x .filled) }
 
 linked-posted : (w : World) (us : List Tie) → Linked w → Agrees (posted w us) → Linked (posted w us)
-linked-posted w us k g = record
-  { agreed = g; own = k .own; real = k .real; supers = k .supers
-  ; verified = λ c j x m a b. let v = k .verified c j x m a b in record { notes = v .notes; passes = v .passes; posted = v .posted }
-  ; overArg = λ n a r x p y h s q z. chain-more (ties-more w us) (k .overArg n a r x p y h s q z)
-  ; overRes = λ n a r x p y h s q z. chain-more (ties-more w us) (k .overRes n a r x p y h s q z) }
+linked-posted w us k g = record {
+  agreed = g;
+  own = k .own;
+  real = k .real;
+  supers = k .supers;
+  verified = λ c j x m a b. let v = k .verified c j x m a b in record { notes = v .notes; passes = v .passes; posted = v .posted };
+  overArg = λ n a r x p y h s q z. chain-more (ties-more w us) (k .overArg n a r x p y h s q z);
+  overRes = λ n a r x p y h s q z. chain-more (ties-more w us) (k .overRes n a r x p y h s q z);
+}
 
 -- an object with one value changed
 abbrev changed : List Object → ℕ → Object → List Value → List Object
@@ -218,7 +241,7 @@ later-changed : (w : World) (os : List Object) (o : ℕ) (b : Object) (vs : List
 later-changed w os o b vs h = record { grows = grows-self w; objects = λ x y e. go x y e (nth-set os o (record { class = b .class; values = vs }) x y e) }
   where
     go : (x : ℕ) (y : Object) → getElem? os x ≡ some y → (d : Object) × (getElem? (changed os o b vs) x ≡ some d) × ((d ≡ y) ⊎ ((x ≡ o) × (d ≡ record { class = b .class; values = vs })))
-      → (d : Object) × (getElem? (changed os o b vs) x ≡ some d) × (d .class ≡ y .class)
+        → (d : Object) × (getElem? (changed os o b vs) x ≡ some d) × (d .class ≡ y .class)
     go x y e (d, a, inl z) = (d, a, ap (λ (q : Object). q .class) z)
     go x y e (d, a, inr z) = let s : b ≡ y = Option·some-injective b y (sym h ∙ sym (ap (getElem? os) (z .0)) ∙ e) in (d, a, ap (λ (q : Object). q .class) (z .1) ∙ ap (λ (q : Object). q .class) s)
 
@@ -226,16 +249,19 @@ pub later-join : {u v w : World} {os ps qs : List Object} → Later u os v ps �
 later-join y z = record { grows = grows-join (y .grows) (z .grows); objects = λ o b h. let c = y .objects o b h in let d = z .objects o (c .0) (c .1) in (d .0, d .1, d .2 ∙ c .2) }
 
 pub object-later : {w : World} {os qs : List Object} → Later w os w qs → (b : Object) → ObjectSound w os b → ObjectSound w qs b
-object-later {w} z b x = record
-  { theClass = x .theClass; isClass = x .isClass
-  ; filled = each-more (λ s u. later-conforms z (loaderOf (w .base) (s .owner)) (typeOfName (s .type)) u) (slots (w .base) (b .class)) (b .values) (x .filled) }
+object-later {w} z b x = record {
+  theClass = x .theClass;
+  isClass = x .isClass;
+  filled = each-more (λ s u. later-conforms z (loaderOf (w .base) (s .owner)) (typeOfName (s .type)) u) (slots (w .base) (b .class)) (b .values) (x .filled);
+}
 
 heap-changed : (w : World) (os : List Object) (o : ℕ) (b : Object) (vs : List Value) → getElem? os o ≡ some b → Heap w os
-  → Each (λ s v. Conforms w os (loaderOf (w .base) (s .owner)) (typeOfName (s .type)) v) (slots (w .base) (b .class)) vs → Heap w (changed os o b vs)
+    → Each (λ s v. Conforms w os (loaderOf (w .base) (s .owner)) (typeOfName (s .type)) v) (slots (w .base) (b .class)) vs → Heap w (changed os o b vs)
 heap-changed w os o b vs h hp ea x y e = go (set-nth os o (record { class = b .class; values = vs }) x y e)
   where
     z : Later w os w (changed os o b vs)
     z = later-changed w os o b vs h
+
     go : (getElem? os x ≡ some y) ⊎ ((x ≡ o) × (y ≡ record { class = b .class; values = vs })) → ObjectSound w (changed os o b vs) y
     go (inl q) = object-later z y (hp x y q)
     go (inr q) = rw (q .1) (object-later z (record { class = b .class; values = vs }) (record { theClass = hp o b h .theClass; isClass = hp o b h .isClass; filled = ea }))
@@ -246,7 +272,7 @@ later-more w os b = record { grows = grows-self w; objects = λ x y e. (y, nth-m
 
 pub heap-more : (w : World) (os : List Object) (b : Object) → Heap w os → ObjectSound w os b → Heap w (os ++ (b ∷ []))
 heap-more w os b hp ob x y e = elim (nth-snoc os b x y e)
-  [ inl q ↦ object-later (later-more w os b) y (hp x y q) | inr q ↦ object-later (later-more w os b) y (rw (q .1) ob) ]
+    [ inl q ↦ object-later (later-more w os b) y (hp x y q) | inr q ↦ object-later (later-more w os b) y (rw (q .1) ob) ]
 
 -- a new object holds zeros and nulls
 pub zeros-conform : (w : World) (os : List Object) (ss : List Slot) → Each (λ s v. Conforms w os (loaderOf (w .base) (s .owner)) (typeOfName (s .type)) v) ss (map initialValue ss)
@@ -264,9 +290,22 @@ unfolding give
 give-kept w os [] l r v lk hp un cv =
     let n = int-of w os l typeInt v {ns = []} (unfold meetInt in refl) (rw (un, of-int) at cv) in
     wp-known (Kept w os) _ _ (n .1) (record { linked = lk; heap = hp; stack = tt; later = later-same w os })
-give-kept w os (g ∷ gs) l r v lk hp (k, m, wt, ti, un) cv = record { linked = lk; heap = hp; later = later-same w os; stack = (k, m, record
-    { τ = wt .τ; typed = record { isClass = wt .typed .isClass; isMethod = wt .typed .isMethod; types = wt .typed .types }
-    ; operands = rw (wt .split) (carry w os l (k .loader) r v ti cv, wt .operands); locals = wt .locals }, un) }
+give-kept w os (g ∷ gs) l r v lk hp (k, m, wt, ti, un) cv = record {
+  linked = lk;
+  heap = hp;
+  later = later-same w os;
+  stack = (
+    k,
+    m,
+    record {
+      τ = wt .τ;
+      typed = record { isClass = wt .typed .isClass; isMethod = wt .typed .isMethod; types = wt .typed .types };
+      operands = rw (wt .split) (carry w os l (k .loader) r v ti cv, wt .operands);
+      locals = wt .locals;
+    },
+    un,
+  );
+}
 
 wp-under : {B : Type 0} (Q : B → Type 0) (fs : List Frame) (f : Unit {0} → Result B) → Wp (f tt) Q → Wp (under! fs >>= f) Q
 unfolding under! _>>=_
@@ -274,24 +313,37 @@ wp-under Q [] f h = h
 wp-under Q (g ∷ gs) f h = wp-room Q (g .operands) f h
 
 module _ (w : World) (os : List Object) (f : Frame) (fs : List Frame) (k : Class) (m : Method)
-         (lk : Linked w) (hp : Heap w os) (tp : Top w os f k m) (un : Under w os (k .loader) (m .result) fs) where
+    (lk : Linked w) (hp : Heap w os) (tp : Top w os f k m) (un : Under w os (k .loader) (m .result) fs) where
   module _ (i : Decoded) (fl : Flow)
-           (nx : typesAt (m .code) (m .result) (length (m .code)) 0 (entryTypes k m) (f .point + i .size) ≡ some (fl .types))
-           (nt : Noted w (k .loader) (fl .notes)) where
+      (nx : typesAt (m .code) (m .result) (length (m .code)) 0 (entryTypes k m) (f .point + i .size) ≡ some (fl .types))
+      (nt : Noted w (k .loader) (fl .notes)) where
     -- the frame moves on, in a later store
     moved : (v : World) (qs : List Object) → Later w os v qs → Linked v → Heap v qs → (ts : List VerifierType) (ls : List (Option VerifierType)) (ns : List Note) → flow ts ls ns ≡ some fl
-      → (o l : List Value) → Each (Conforms v qs (k .loader)) ts o → Each (Local v qs (k .loader)) ls l
-      → Kept w os (record { world = v; objects = qs; frames = past f i o l ∷ fs; result = none })
+        → (o l : List Value) → Each (Conforms v qs (k .loader)) ts o → Each (Local v qs (k .loader)) ls l
+        → Kept w os (record { world = v; objects = qs; frames = past f i o l ∷ fs; result = none })
     moved v qs z lv hv ts ls ns e o l a b =
         let q = flow-is ts ls ns fl e in
-        record { linked = lv; heap = hv; later = z; stack = (k, m, record { τ = fl .types
-          ; typed = record { isClass = z .grows .classes (f .class) k (tp .typed .isClass); isMethod = tp .typed .isMethod; types = nx }
-          ; operands = rw (sym q) a; locals = rw (sym q) b }, later-under z (k .loader) (m .result) fs un) }
+        record {
+          linked = lv;
+          heap = hv;
+          later = z;
+          stack = (
+            k,
+            m,
+            record {
+              τ = fl .types;
+              typed = record { isClass = z .grows .classes (f .class) k (tp .typed .isClass); isMethod = tp .typed .isMethod; types = nx };
+              operands = rw (sym q) a;
+              locals = rw (sym q) b;
+            },
+            later-under z (k .loader) (m .result) fs un,
+          );
+        }
 
     -- the store stays
     stays : (ts : List VerifierType) (ls : List (Option VerifierType)) (ns : List Note) → flow ts ls ns ≡ some fl
-      → (o l : List Value) → Each (Conforms w os (k .loader)) ts o → Each (Local w os (k .loader)) ls l
-      → Kept w os (record { world = w; objects = os; frames = past f i o l ∷ fs; result = none })
+        → (o l : List Value) → Each (Conforms w os (k .loader)) ts o → Each (Local w os (k .loader)) ls l
+        → Kept w os (record { world = w; objects = os; frames = past f i o l ∷ fs; result = none })
     stays = moved w os (later-same w os) lk hp
 
     Q : Progress → Type 0
@@ -338,8 +390,8 @@ module _ (w : World) (os : List Object) (f : Frame) (fs : List Frame) (k : Class
         let q = popped (a .1) in
         let y = each-at (Local w os (k .loader)) (tp .τ .locals) (f .locals) (tp .locals) j (c .0) (c .1) in
         wp-known (Kept w os) _ _ (q .1) (wp-known (Kept w os) _ _ (int-of w os (k .loader) (a .0 .top) (q .0 .top) (b .1) (q .2) .1) (wp-there (Kept w os) _ _ _ (y .1)
-          (stays (a .0 .more) (set (tp .τ .locals) j (some (a .0 .top))) [] (c .2) (q .0 .more) (set (f .locals) j (q .0 .top)) (q .3)
-            (each-both (Local w os (k .loader)) (tp .τ .locals) (f .locals) (tp .locals) j (some (a .0 .top)) (q .0 .top) (q .2)))))
+        (stays (a .0 .more) (set (tp .τ .locals) j (some (a .0 .top))) [] (c .2) (q .0 .more) (set (f .locals) j (q .0 .top)) (q .3)
+        (each-both (Local w os (k .loader)) (tp .τ .locals) (f .locals) (tp .locals) j (some (a .0 .top)) (q .0 .top) (q .2)))))
 
     ex-astore : (j : ℕ) → effect (Astore j) (tp .τ) ≡ some fl → Wp (execute w os f fs k i (Astore j)) Q
     unfolding execute effect Q
@@ -350,8 +402,8 @@ module _ (w : World) (os : List Object) (f : Frame) (fs : List Frame) (k : Class
         let q = popped (a .1) in
         let y = each-at (Local w os (k .loader)) (tp .τ .locals) (f .locals) (tp .locals) j (c .0) (c .1) in
         wp-known (Kept w os) _ _ (q .1) (wp-known (Kept w os) _ _ (ref-of w os (k .loader) (a .0 .top) (q .0 .top) (b .1) (q .2)) (wp-there (Kept w os) _ _ _ (y .1)
-          (stays (a .0 .more) (set (tp .τ .locals) j (some (a .0 .top))) [] (c .2) (q .0 .more) (set (f .locals) j (q .0 .top)) (q .3)
-            (each-both (Local w os (k .loader)) (tp .τ .locals) (f .locals) (tp .locals) j (some (a .0 .top)) (q .0 .top) (q .2)))))
+        (stays (a .0 .more) (set (tp .τ .locals) j (some (a .0 .top))) [] (c .2) (q .0 .more) (set (f .locals) j (q .0 .top)) (q .3)
+        (each-both (Local w os (k .loader)) (tp .τ .locals) (f .locals) (tp .locals) j (some (a .0 .top)) (q .0 .top) (q .2)))))
 
     ex-pop : effect Pop (tp .τ) ≡ some fl → Wp (execute w os f fs k i Pop) Q
     unfolding execute effect Q
@@ -369,15 +421,15 @@ module _ (w : World) (os : List Object) (f : Frame) (fs : List Frame) (k : Class
 
     -- the two operands of a sum
     ints : {p q : record { top : VerifierType; more : List VerifierType }} {a b : List Note} → pop (tp .τ .operands) ≡ some p → pop (p .more) ≡ some q → meetInt (p .top) ≡ some a → meetInt (q .top) ≡ some b
-      → (g : (b a : ℕ) → ℕ) → flow (typeInt ∷ q .more) (tp .τ .locals) [] ≡ some fl
-      → Wp (pop! (f .operands) >>= λ p. pop! (p .more) >>= λ q. int! (p .top) >>= λ b. int! (q .top) >>= λ a. ok (record { world = w; objects = os; frames = past f i (intValue (g b a) ∷ q .more) (f .locals) ∷ fs; result = none })) (Kept w os)
+        → (g : (b a : ℕ) → ℕ) → flow (typeInt ∷ q .more) (tp .τ .locals) [] ≡ some fl
+        → Wp (pop! (f .operands) >>= λ p. pop! (p .more) >>= λ q. int! (p .top) >>= λ b. int! (q .top) >>= λ a. ok (record { world = w; objects = os; frames = past f i (intValue (g b a) ∷ q .more) (f .locals) ∷ fs; result = none })) (Kept w os)
     ints {p} {q} e₁ e₂ m₁ m₂ g e =
         let x = popped e₁ in
         let y = each-pop (Conforms w os (k .loader)) (p .more) (x .0 .more) (q .top) (q .more) e₂ (x .3) in
         let b = int-of w os (k .loader) (p .top) (x .0 .top) m₁ (x .2) in
         let a = int-of w os (k .loader) (q .top) (y .0 .top) m₂ (y .2) in
         wp-known (Kept w os) _ _ (x .1) (wp-known (Kept w os) _ _ (y .1) (wp-known (Kept w os) _ _ (b .1) (wp-known (Kept w os) _ _ (a .1)
-          (stays (typeInt ∷ q .more) (tp .τ .locals) [] e (intValue (g (b .0) (a .0)) ∷ y .0 .more) (f .locals) (tt, y .3) (tp .locals)))))
+        (stays (typeInt ∷ q .more) (tp .τ .locals) [] e (intValue (g (b .0) (a .0)) ∷ y .0 .more) (f .locals) (tt, y .3) (tp .locals)))))
 
     ex-iadd : effect Iadd (tp .τ) ≡ some fl → Wp (execute w os f fs k i Iadd) Q
     unfolding execute effect Q
@@ -403,29 +455,30 @@ module _ (w : World) (os : List Object) (f : Frame) (fs : List Frame) (k : Class
 
     -- the place of a field that class d declares, in an object of a class below d
     do-getf : (c n t : ℕ) {p : record { top : VerifierType; more : List VerifierType }} {ns : List Note} → pop (tp .τ .operands) ≡ some p → meetClass c (p .top) ≡ some ns
-      → flow (typeOfName t ∷ p .more) (tp .τ .locals) ns ≡ some fl → Wp (execute w os f fs k i (Getfield c n t)) Q
+        → flow (typeOfName t ∷ p .more) (tp .τ .locals) ns ≡ some fl → Wp (execute w os f fs k i (Getfield c n t)) Q
     unfolding execute Q
     do-getf c n t {p} {ns} e₁ e₂ e =
         let q = popped e₁ in
         let cf : Conforms w os (k .loader) (typeClass c) (q .0 .top) = meet-class w os (k .loader) c (p .top) (q .0 .top) ns e₂ (noted (typeOfName t ∷ p .more) (tp .τ .locals) ns e) (q .2) in
         wp-take (Kept w os) _ _ _ (not-wanted _) (λ x fx. wp-take (Kept w os) _ _ _ (not-word 7 (omega arith)) (λ d fd.
-          let us = newTie (w .ties) (loaderOf (w .base) d) (k .loader) t in
-          wp-bind (Kept w os) _ _ (wp-post w true us _ (lk .agreed) (λ g.
-            wp-known (Kept w os) _ _ (q .1) (wp-bind (Kept w os) _ _ (wp-object w os (k .loader) c x (q .0 .top) _ (lk .agreed) fx cf (λ o z th bl ve.
-              let nb = nearest-below (superOf (w .base)) (super-falls (w .base)) (hasField (w .base) n t) x d fd in
-              let fa = field-at w os z d n t (nb .1) (below-trans bl (nb .0)) (hp o z th) in
-              wp-there (Kept w os) _ _ _ (fa .index) (wp-there (Kept w os) _ _ _ (fa .there)
-                (moved (posted w us) os (later-posted w os us) (linked-posted w us lk g) (heap-posted w os us hp) (typeOfName t ∷ p .more) (tp .τ .locals) ns e (fa .value ∷ q .0 .more) (f .locals)
-                  (carry (posted w us) os (loaderOf (w .base) d) (k .loader) t (fa .value) (λ h. tie-there (w .ties) (loaderOf (w .base) d) (k .loader) t h) (later-conforms (later-posted w os us) (loaderOf (w .base) d) (typeOfName t) (fa .value) (fa .conforms))
-                  , later-ops (later-posted w os us) (k .loader) (p .more) (q .0 .more) (q .3))
-                  (each-more (later-local (later-posted w os us) (k .loader)) (tp .τ .locals) (f .locals) (tp .locals)))))))))))
+        let us = newTie (w .ties) (loaderOf (w .base) d) (k .loader) t in
+        wp-bind (Kept w os) _ _ (wp-post w true us _ (lk .agreed) (λ g.
+        wp-known (Kept w os) _ _ (q .1) (wp-bind (Kept w os) _ _ (wp-object w os (k .loader) c x (q .0 .top) _ (lk .agreed) fx cf (λ o z th bl ve.
+        let nb = nearest-below (superOf (w .base)) (super-falls (w .base)) (hasField (w .base) n t) x d fd in
+        let fa = field-at w os z d n t (nb .1) (below-trans bl (nb .0)) (hp o z th) in
+        wp-there (Kept w os) _ _ _ (fa .index) (wp-there (Kept w os) _ _ _ (fa .there)
+        (moved (posted w us) os (later-posted w os us) (linked-posted w us lk g) (heap-posted w os us hp) (typeOfName t ∷ p .more) (tp .τ .locals) ns e (fa .value ∷ q .0 .more) (f .locals) (
+          carry (posted w us) os (loaderOf (w .base) d) (k .loader) t (fa .value) (λ h. tie-there (w .ties) (loaderOf (w .base) d) (k .loader) t h) (later-conforms (later-posted w os us) (loaderOf (w .base) d) (typeOfName t) (fa .value) (fa .conforms)),
+          later-ops (later-posted w os us) (k .loader) (p .more) (q .0 .more) (q .3),
+        )
+        (each-more (later-local (later-posted w os us) (k .loader)) (tp .τ .locals) (f .locals) (tp .locals)))))))))))
 
     ex-getf : (c n t : ℕ) → effect (Getfield c n t) (tp .τ) ≡ some fl → Wp (execute w os f fs k i (Getfield c n t)) Q
     unfolding effect
     ex-getf c n t e = let a = bind-some _ _ (bind-some _ _ e .2) in let b = bind-some _ _ (a .2) in do-getf c n t (a .1) (b .1) (b .2)
 
     do-putf : (c n t : ℕ) {p q : record { top : VerifierType; more : List VerifierType }} {ns ms : List Note} → pop (tp .τ .operands) ≡ some p → pop (p .more) ≡ some q → meetClass c (q .top) ≡ some ns → meets (p .top) t ≡ some ms
-      → flow (q .more) (tp .τ .locals) (ns ++ ms) ≡ some fl → Wp (execute w os f fs k i (Putfield c n t)) Q
+        → flow (q .more) (tp .τ .locals) (ns ++ ms) ≡ some fl → Wp (execute w os f fs k i (Putfield c n t)) Q
     unfolding execute Q
     do-putf c n t {p} {q} {ns} {ms} e₁ e₂ e₃ e₄ e =
         let x = popped e₁ in
@@ -434,16 +487,16 @@ module _ (w : World) (os : List Object) (f : Frame) (fs : List Frame) (k : Class
         let cf : Conforms w os (k .loader) (typeClass c) (y .0 .top) = meet-class w os (k .loader) c (q .top) (y .0 .top) ns e₃ (λ a h. nd a (Memᴰ·append-left ms h)) (y .2) in
         let cv : Conforms w os (k .loader) (typeOfName t) (x .0 .top) = meet-name w os (k .loader) t (p .top) (x .0 .top) ms e₄ (λ a h. nd a (Memᴰ·append-right ns h)) (x .2) in
         wp-take (Kept w os) _ _ _ (not-wanted _) (λ r fr. wp-take (Kept w os) _ _ _ (not-word 7 (omega arith)) (λ d fd.
-          let us = newTie (w .ties) (loaderOf (w .base) d) (k .loader) t in
-          wp-bind (Kept w os) _ _ (wp-post w true us _ (lk .agreed) (λ g.
-            wp-known (Kept w os) _ _ (x .1) (wp-known (Kept w os) _ _ (y .1) (wp-known (Kept w os) _ _ (kind-of w os (k .loader) t (x .0 .top) cv) (wp-bind (Kept w os) _ _ (wp-object w os (k .loader) c r (y .0 .top) _ (lk .agreed) fr cf (λ o z th bl ve.
-              let nb = nearest-below (superOf (w .base)) (super-falls (w .base)) (hasField (w .base) n t) r d fd in
-              let fa = field-at w os z d n t (nb .1) (below-trans bl (nb .0)) (hp o z th) in
-              wp-there (Kept w os) _ _ _ (fa .index) (put us d g (λ h. tie-there (w .ties) (loaderOf (w .base) d) (k .loader) t h) o z th (q .more) (ns ++ ms) e (x .0 .top) (y .0 .more) cv (y .3) fa))))))))))
+        let us = newTie (w .ties) (loaderOf (w .base) d) (k .loader) t in
+        wp-bind (Kept w os) _ _ (wp-post w true us _ (lk .agreed) (λ g.
+        wp-known (Kept w os) _ _ (x .1) (wp-known (Kept w os) _ _ (y .1) (wp-known (Kept w os) _ _ (kind-of w os (k .loader) t (x .0 .top) cv) (wp-bind (Kept w os) _ _ (wp-object w os (k .loader) c r (y .0 .top) _ (lk .agreed) fr cf (λ o z th bl ve.
+        let nb = nearest-below (superOf (w .base)) (super-falls (w .base)) (hasField (w .base) n t) r d fd in
+        let fa = field-at w os z d n t (nb .1) (below-trans bl (nb .0)) (hp o z th) in
+        wp-there (Kept w os) _ _ _ (fa .index) (put us d g (λ h. tie-there (w .ties) (loaderOf (w .base) d) (k .loader) t h) o z th (q .more) (ns ++ ms) e (x .0 .top) (y .0 .more) cv (y .3) fa))))))))))
       where
         put : (us : List Tie) (d : ℕ) → Agrees (posted w us) → (t ≢ 1 → Tied (posted w us) (at (loaderOf (w .base) d) t) (at (k .loader) t)) → (o : ℕ) (z : Object) → getElem? os o ≡ some z → (ts : List VerifierType) (rs : List Note) → flow ts (tp .τ .locals) rs ≡ some fl → (v : Value) (vs : List Value)
-          → Conforms w os (k .loader) (typeOfName t) v → Each (Conforms w os (k .loader)) ts vs → (fa : FieldAt w os z d n t)
-          → Kept w os (record { world = posted w us; objects = changed os o z (set (z .values) (fa .place) v); frames = past f i vs (f .locals) ∷ fs; result = none })
+            → Conforms w os (k .loader) (typeOfName t) v → Each (Conforms w os (k .loader)) ts vs → (fa : FieldAt w os z d n t)
+            → Kept w os (record { world = posted w us; objects = changed os o z (set (z .values) (fa .place) v); frames = past f i vs (f .locals) ∷ fs; result = none })
         put us d g ti o z th ts rs fe v vs cv ev fa =
             let u = posted w us in
             let y = later-posted w os us in
@@ -453,7 +506,7 @@ module _ (w : World) (os : List Object) (f : Frame) (fs : List Frame) (k : Class
             let ea = each-set (λ s v. Conforms u os (loaderOf (w .base) (s .owner)) (typeOfName (s .type)) v) (slots (w .base) (z .class)) (z .values) (hu o z th .filled) (fa .place) (fa .slot) v (fa .isSlot) (rw (fa .owner, fa .type) c′) in
             let x = later-join y (later-changed u os o z (set (z .values) (fa .place) v) th) in
             moved u qs x (linked-posted w us lk g) (heap-changed u os o z (set (z .values) (fa .place) v) th hu ea) ts (tp .τ .locals) rs fe vs (f .locals)
-              (later-ops x (k .loader) ts vs ev) (each-more (later-local x (k .loader)) (tp .τ .locals) (f .locals) (tp .locals))
+            (later-ops x (k .loader) ts vs ev) (each-more (later-local x (k .loader)) (tp .τ .locals) (f .locals) (tp .locals))
 
     ex-putf : (c n t : ℕ) → effect (Putfield c n t) (tp .τ) ≡ some fl → Wp (execute w os f fs k i (Putfield c n t)) Q
     unfolding effect
@@ -471,34 +524,53 @@ module _ (w : World) (os : List Object) (f : Frame) (fs : List Frame) (k : Class
         let r = lk .real (at (k .loader) c) x fx in
         let z = later-more w os b in
         moved w (os ++ (b ∷ [])) z lk (heap-more w os b hp (record { theClass = r .0; isClass = r .1; filled = zeros-conform w os (slots (w .base) x) })) (typeClass c ∷ tp .τ .operands) (tp .τ .locals) [] (bind-some _ _ e .2) (objectValue (length os) ∷ f .operands) (f .locals)
-          (record { object = b; there = nth-last os b; fits = fits-own fx (same refl) }, later-ops z (k .loader) (tp .τ .operands) (f .operands) (tp .operands))
-          (each-more (later-local z (k .loader)) (tp .τ .locals) (f .locals) (tp .locals))))
+        (record { object = b; there = nth-last os b; fits = fits-own fx (same refl) }, later-ops z (k .loader) (tp .τ .operands) (f .operands) (tp .operands))
+        (each-more (later-local z (k .loader)) (tp .τ .locals) (f .locals) (tp .locals))))
 
     -- a frame is entered, and this one waits
     enter : (u : World) → Later w os u os → Linked u → Heap u os → (s n t r : ℕ) (ma : MethodAt (u .base) s n t r) (o : ℕ) (z : Object) → getElem? os o ≡ some z → Below (superOf (u .base)) s (z .class)
-      → (v : Value) → Conforms u os (loaderOf (u .base) s) (typeOfName t) v → (r ≢ 1 → Tied u (at (loaderOf (u .base) s) r) (at (k .loader) r))
-      → (ts : List VerifierType) (ns : List Note) → flow (typeOfName r ∷ ts) (tp .τ .locals) ns ≡ some fl → (vs : List Value) → Each (Conforms w os (k .loader)) ts vs
-      → Kept w os (record { world = u; objects = os; frames = entryFrame s (ma .place) o v ∷ past f i vs (f .locals) ∷ fs; result = none })
+        → (v : Value) → Conforms u os (loaderOf (u .base) s) (typeOfName t) v → (r ≢ 1 → Tied u (at (loaderOf (u .base) s) r) (at (k .loader) r))
+        → (ts : List VerifierType) (ns : List Note) → flow (typeOfName r ∷ ts) (tp .τ .locals) ns ≡ some fl → (vs : List Value) → Each (Conforms w os (k .loader)) ts vs
+        → Kept w os (record { world = u; objects = os; frames = entryFrame s (ma .place) o v ∷ past f i vs (f .locals) ∷ fs; result = none })
     enter u y lu hu s n t r ma o z th bl v cv tr ts ns e vs ev =
         let q = flow-is (typeOfName r ∷ ts) (tp .τ .locals) ns fl e in
         let ve = lu .verified s (ma .place) (ma .theClass) (ma .method) (ma .isClass) (ma .isMethod) in
-        record { linked = lu; heap = hu; later = y; stack = (ma .theClass, ma .method
-          , record { τ = entryTypes (ma .theClass) (ma .method)
-              ; typed = record { isClass = ma .isClass; isMethod = ma .isMethod
-                  ; types = verified-here (ma .method .code) (ma .method .result) (length (ma .method .code)) 0 (entryTypes (ma .theClass) (ma .method)) (ve .notes) (ve .passes) }
-              ; operands = tt
-              ; locals = (record { object = z; there = th; fits = fits-own (lu .own s (ma .theClass) (ma .isClass)) bl }, (rw (ma .argument, sym (ma .loader)) cv, (tt, (tt, (tt, (tt, (tt, (tt, tt)))))))) }
-          , (k, m
-            , record { τ = fl .types; others = ts
-                ; typed = record { isClass = y .grows .classes (f .class) k (tp .typed .isClass); isMethod = tp .typed .isMethod; types = nx }
-                ; split = rw (ma .result, sym q) refl
-                ; operands = later-ops y (k .loader) ts vs ev
-                ; locals = rw (sym q) (each-more (later-local y (k .loader)) (tp .τ .locals) (f .locals) (tp .locals)) }
-            , rw (ma .result, sym (ma .loader)) tr
-            , later-under y (k .loader) (m .result) fs un)) }
+        record {
+          linked = lu;
+          heap = hu;
+          later = y;
+          stack = (
+            ma .theClass,
+            ma .method,
+            record {
+              τ = entryTypes (ma .theClass) (ma .method);
+              typed = record {
+                isClass = ma .isClass;
+                isMethod = ma .isMethod;
+                types = verified-here (ma .method .code) (ma .method .result) (length (ma .method .code)) 0 (entryTypes (ma .theClass) (ma .method)) (ve .notes) (ve .passes);
+              };
+              operands = tt;
+              locals = (record { object = z; there = th; fits = fits-own (lu .own s (ma .theClass) (ma .isClass)) bl }, (rw (ma .argument, sym (ma .loader)) cv, (tt, (tt, (tt, (tt, (tt, (tt, tt))))))));
+            },
+            (
+              k,
+              m,
+              record {
+                τ = fl .types;
+                others = ts;
+                typed = record { isClass = y .grows .classes (f .class) k (tp .typed .isClass); isMethod = tp .typed .isMethod; types = nx };
+                split = rw (ma .result, sym q) refl;
+                operands = later-ops y (k .loader) ts vs ev;
+                locals = rw (sym q) (each-more (later-local y (k .loader)) (tp .τ .locals) (f .locals) (tp .locals));
+              },
+              rw (ma .result, sym (ma .loader)) tr,
+              later-under y (k .loader) (m .result) fs un,
+            ),
+          );
+        }
 
     do-call : (c n t r : ℕ) {p q : record { top : VerifierType; more : List VerifierType }} {ns ms : List Note} → pop (tp .τ .operands) ≡ some p → pop (p .more) ≡ some q → meetClass c (q .top) ≡ some ns → meets (p .top) t ≡ some ms
-      → flow (typeOfName r ∷ q .more) (tp .τ .locals) (ns ++ ms) ≡ some fl → Wp (execute w os f fs k i (Invokevirtual c n t r)) Q
+        → flow (typeOfName r ∷ q .more) (tp .τ .locals) (ns ++ ms) ≡ some fl → Wp (execute w os f fs k i (Invokevirtual c n t r)) Q
     unfolding execute Q
     do-call c n t r {p} {q} {ns} {ms} e₁ e₂ e₃ e₄ e =
         let x = popped e₁ in
@@ -507,20 +579,20 @@ module _ (w : World) (os : List Object) (f : Frame) (fs : List Frame) (k : Class
         let cf : Conforms w os (k .loader) (typeClass c) (y .0 .top) = meet-class w os (k .loader) c (q .top) (y .0 .top) ns e₃ (λ a h. nd a (Memᴰ·append-left ms h)) (y .2) in
         let cv : Conforms w os (k .loader) (typeOfName t) (x .0 .top) = meet-name w os (k .loader) t (p .top) (x .0 .top) ms e₄ (λ a h. nd a (Memᴰ·append-right ns h)) (x .2) in
         wp-take (Kept w os) _ _ _ (not-wanted _) (λ b fb. wp-take (Kept w os) _ _ _ (not-word 7 (omega arith)) (λ d fd.
-          wp-bind (Kept w os) _ _ (wp-post w (ltb (suc (length fs)) 32) (ties2 (w .ties) (loaderOf (w .base) d) (k .loader) t r) _ (lk .agreed) (λ g.
-            wp-known (Kept w os) _ _ (x .1) (wp-known (Kept w os) _ _ (y .1) (wp-known (Kept w os) _ _ (kind-of w os (k .loader) t (x .0 .top) cv) (wp-bind (Kept w os) _ _ (wp-object w os (k .loader) c b (y .0 .top) _ (lk .agreed) fb cf (λ o z th bl ve.
-              let nb = nearest-below (superOf (w .base)) (super-falls (w .base)) (hasMethod (w .base) n t r) b d fd in
-              let nf = nearest-finds (superOf (w .base)) (super-falls (w .base)) (hasMethod (w .base) n t r) (below-trans bl (nb .0)) (nb .1) in
-              let ns = nearest-below (superOf (w .base)) (super-falls (w .base)) (hasMethod (w .base) n t r) (z .class) (nf .0) (nf .1) in
-              let ma = method-at (w .base) (nf .0) n t r (ns .1) in
-              wp-there (Kept w os) _ _ _ (nf .1) (wp-there (Kept w os) _ _ _ (ma .index)
-                (into d b (nf .0) g o z th bl (nf .1) fd (ns .0) ma (x .0 .top) cv (q .more) _ e (y .0 .more) (y .3))))))))))))
+        wp-bind (Kept w os) _ _ (wp-post w (ltb (suc (length fs)) 32) (ties2 (w .ties) (loaderOf (w .base) d) (k .loader) t r) _ (lk .agreed) (λ g.
+        wp-known (Kept w os) _ _ (x .1) (wp-known (Kept w os) _ _ (y .1) (wp-known (Kept w os) _ _ (kind-of w os (k .loader) t (x .0 .top) cv) (wp-bind (Kept w os) _ _ (wp-object w os (k .loader) c b (y .0 .top) _ (lk .agreed) fb cf (λ o z th bl ve.
+        let nb = nearest-below (superOf (w .base)) (super-falls (w .base)) (hasMethod (w .base) n t r) b d fd in
+        let nf = nearest-finds (superOf (w .base)) (super-falls (w .base)) (hasMethod (w .base) n t r) (below-trans bl (nb .0)) (nb .1) in
+        let ns = nearest-below (superOf (w .base)) (super-falls (w .base)) (hasMethod (w .base) n t r) (z .class) (nf .0) (nf .1) in
+        let ma = method-at (w .base) (nf .0) n t r (ns .1) in
+        wp-there (Kept w os) _ _ _ (nf .1) (wp-there (Kept w os) _ _ _ (ma .index)
+        (into d b (nf .0) g o z th bl (nf .1) fd (ns .0) ma (x .0 .top) cv (q .more) _ e (y .0 .more) (y .3))))))))))))
       where
         into : (d b s : ℕ) → Agrees (posted w (ties2 (w .ties) (loaderOf (w .base) d) (k .loader) t r)) → (o : ℕ) (z : Object) → getElem? os o ≡ some z → Below (superOf (w .base)) b (z .class)
-          → nearest (superOf (w .base)) (hasMethod (w .base) n t r) (z .class) ≡ some s → nearest (superOf (w .base)) (hasMethod (w .base) n t r) b ≡ some d → Below (superOf (w .base)) s (z .class)
-          → (ma : MethodAt (w .base) s n t r) (v : Value) → Conforms w os (k .loader) (typeOfName t) v
-          → (ts : List VerifierType) (rs : List Note) → flow (typeOfName r ∷ ts) (tp .τ .locals) rs ≡ some fl → (vs : List Value) → Each (Conforms w os (k .loader)) ts vs
-          → Kept w os (record { world = posted w (ties2 (w .ties) (loaderOf (w .base) d) (k .loader) t r); objects = os; frames = entryFrame s (ma .place) o v ∷ past f i vs (f .locals) ∷ fs; result = none })
+            → nearest (superOf (w .base)) (hasMethod (w .base) n t r) (z .class) ≡ some s → nearest (superOf (w .base)) (hasMethod (w .base) n t r) b ≡ some d → Below (superOf (w .base)) s (z .class)
+            → (ma : MethodAt (w .base) s n t r) (v : Value) → Conforms w os (k .loader) (typeOfName t) v
+            → (ts : List VerifierType) (rs : List Note) → flow (typeOfName r ∷ ts) (tp .τ .locals) rs ≡ some fl → (vs : List Value) → Each (Conforms w os (k .loader)) ts vs
+            → Kept w os (record { world = posted w (ties2 (w .ties) (loaderOf (w .base) d) (k .loader) t r); objects = os; frames = entryFrame s (ma .place) o v ∷ past f i vs (f .locals) ∷ fs; result = none })
         into d b s g o z th bl fs′ fd bs ma v cv ts rs fe vs ev =
             let us = ties2 (w .ties) (loaderOf (w .base) d) (k .loader) t r in
             let u = posted w us in
@@ -528,8 +600,8 @@ module _ (w : World) (os : List Object) (f : Frame) (fs : List Frame) (k : Class
             let oa : t ≢ 1 → Tied u (at (loaderOf (w .base) s) t) (at (loaderOf (w .base) d) t) = λ h. chain-more (ties-more w us) (override w (λ x. at (loaderOf (w .base) x) t) (hasMethod (w .base) n t r) (λ x p y hx sx qx. lk .overArg n t r x p y hx sx qx h) bl fs′ fd) in
             let or : r ≢ 1 → Tied u (at (loaderOf (w .base) s) r) (at (loaderOf (w .base) d) r) = λ h. chain-more (ties-more w us) (override w (λ x. at (loaderOf (w .base) x) r) (hasMethod (w .base) n t r) (λ x p y hx sx qx. lk .overRes n t r x p y hx sx qx h) bl fs′ fd) in
             enter u yy (linked-posted w us lk g) (heap-posted w os us hp) s n t r ma o z th bs v
-              (carry u os (k .loader) (loaderOf (w .base) s) t v (λ h. tied-turn u (chain-join (oa h) (call-arg (w .ties) (loaderOf (w .base) d) (k .loader) t r h))) (later-conforms yy (k .loader) (typeOfName t) v cv))
-              (λ h. chain-join (or h) (call-res (w .ties) (loaderOf (w .base) d) (k .loader) t r h)) ts rs fe vs ev
+            (carry u os (k .loader) (loaderOf (w .base) s) t v (λ h. tied-turn u (chain-join (oa h) (call-arg (w .ties) (loaderOf (w .base) d) (k .loader) t r h))) (later-conforms yy (k .loader) (typeOfName t) v cv))
+            (λ h. chain-join (or h) (call-res (w .ties) (loaderOf (w .base) d) (k .loader) t r h)) ts rs fe vs ev
 
     ex-call : (c n t r : ℕ) → effect (Invokevirtual c n t r) (tp .τ) ≡ some fl → Wp (execute w os f fs k i (Invokevirtual c n t r)) Q
     unfolding effect
@@ -582,7 +654,7 @@ module _ (w : World) (os : List Object) (f : Frame) (fs : List Frame) (k : Class
             let x = each-pop (Conforms w os (k .loader)) (tp .τ .operands) (f .operands) (b .0 .top) (b .0 .more) (b .1) (tp .operands) in
             let cv = meet-class w os (k .loader) (m .result) (b .0 .top) (x .0 .top) made (b .2) nt (x .2) in
             wp-under (Kept w os) fs _ (wp-known (Kept w os) _ _ (x .1) (wp-known (Kept w os) _ _ (ref-of w os (k .loader) (typeClass (m .result)) (x .0 .top) {u = typeClass (m .result)} (unfold asReference in refl) cv)
-              (give-kept w os fs (k .loader) (m .result) (x .0 .top) lk hp un (rw (of-class (m .result) (eqb-false (m .result) 1 q)) cv))))
+            (give-kept w os fs (k .loader) (m .result) (x .0 .top) lk hp un (rw (of-class (m .result) (eqb-false (m .result) 1 q)) cv))))
 
     each-ret : (j : Instruction) → returns j (m .result) (tp .τ) ≡ some made → Wp (execute w os f fs k i j) (Kept w os)
     unfolding returns
@@ -612,9 +684,10 @@ module _ (w : World) (os : List Object) (f : Frame) (fs : List Frame) (k : Class
       wp-bind (Kept w os) _ _ (wp-there _ _ _ _ (t .isClass) (wp-there _ _ _ _ (t .isMethod) (wp-there _ _ _ _ (kn .reads) (go ve kn))))
     where
       go : (ve : Verified w k m) (kn : Known (m .code) (m .result) (length (m .code)) 0 (entryTypes k m) (ve .notes) (f .point) (tp .τ)) → Wp (execute w os f fs k (kn .at) (kn .at .instruction)) (Kept w os)
-      go ve kn = elim (kn .way)
-        [ inl a ↦ each-ret (kn .at) (a .1 .made) (λ n x. ve .posted n (a .1 .posted n x)) (kn .at .instruction) (a .1 .does)
-        | inr a ↦ each-ins (kn .at) (a .1 .flows) (a .1 .next) (λ n x. ve .posted n (a .1 .posted n x)) (kn .at .instruction) (a .1 .does) ]
+      go ve kn = elim (kn .way) [
+        | inl a ↦ each-ret (kn .at) (a .1 .made) (λ n x. ve .posted n (a .1 .posted n x)) (kn .at .instruction) (a .1 .does)
+        | inr a ↦ each-ins (kn .at) (a .1 .flows) (a .1 .next) (λ n x. ve .posted n (a .1 .posted n x)) (kn .at .instruction) (a .1 .does)
+      ]
 
 -- Theorem 1 and 3 of the loading paper, for a step
 pub step-kept : (w : World) (os : List Object) (f : Frame) (fs : List Frame) → Linked w → Heap w os → Stack w os (f ∷ fs) → Wp (step w os f fs) (Kept w os)

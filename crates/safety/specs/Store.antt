@@ -16,11 +16,16 @@ abbrev pub storeOf : Rows → Store
 storeOf r = record { world = worldOf r; objects = r .objects; quote = r .quote; report = r .report }
 
 abbrev pub booted : Store
-booted = record
-  { world = record
-      { base = record { classes = record { loader = 0; name = 2; super = 0; fields = []; methods = [] } ∷ []; cache = record { request = at 0 2; class = 0 } ∷ [] }
-      ; ties = []; subtypes = [] }
-  ; objects = []; quote = []; report = [] }
+booted = record {
+  world = record {
+    base = record { classes = record { loader = 0; name = 2; super = 0; fields = []; methods = [] } ∷ []; cache = record { request = at 0 2; class = 0 } ∷ [] };
+    ties = [];
+    subtypes = [];
+  };
+  objects = [];
+  quote = [];
+  report = [];
+}
 
 -- the store after an answer: unchanged if it is a refusal
 abbrev pub inWorld : Store → Result World → Store

@@ -48,7 +48,7 @@ module _ (code : List ℕ) (result : ℕ) where
   shape-cases k p s q τ h = go (eqb p q) refl h
     where
       go : (t : Bool) → eqb p q ≡ t → (elim t as (λ _. Option TypeState) [ true ↦ some s | false ↦ decode code p >>= λ i. effect (i .instruction) s >>= λ f. typesAt code result k (p + i .size) (f .types) q ]) ≡ some τ
-        → ((p ≡ q) × (s ≡ τ)) ⊎ On k p s q τ
+          → ((p ≡ q) × (s ≡ τ)) ⊎ On k p s q τ
       go true e r = inl (eqb-true p q e, Option·some-injective s τ r)
       go false e r =
           let a = bind-some _ _ r in
@@ -66,7 +66,7 @@ module _ (code : List ℕ) (result : ℕ) where
   shape-le : (k p : ℕ) (s : TypeState) (q : ℕ) (τ : TypeState) → typesAt code result k p s q ≡ some τ → p ≤ q
   shape-le zero p s q τ h = absurd (Option·none-ne-some τ (unfold typesAt in h))
   shape-le (suc k) p s q τ h = elim (shape-cases k p s q τ h)
-    [ inl e ↦ omega (arith, e .0) | inr o ↦ omega (arith, shape-le k (p + o .i .size) (o .f .types) q τ (o .after)) ]
+      [ inl e ↦ omega (arith, e .0) | inr o ↦ omega (arith, shape-le k (p + o .i .size) (o .f .types) q τ (o .after)) ]
 
   record Went (k p : ℕ) (s : TypeState) (ns : List Note) (i : Decoded) : Type 0 where
     f : Flow
@@ -76,13 +76,13 @@ module _ (code : List ℕ) (result : ℕ) where
     joined : f .notes ++ more ≡ ns
 
   verify-cases : (k p : ℕ) (s : TypeState) (ns : List Note) → verify code result (suc k) p s ≡ some ns
-    → (i : Decoded) × (decode code p ≡ some i) × ((isReturn (i .instruction) ≡ true × (returns (i .instruction) result s ≡ some ns)) ⊎ (isReturn (i .instruction) ≡ false × Went k p s ns i))
+      → (i : Decoded) × (decode code p ≡ some i) × ((isReturn (i .instruction) ≡ true × (returns (i .instruction) result s ≡ some ns)) ⊎ (isReturn (i .instruction) ≡ false × Went k p s ns i))
   unfolding verify
   verify-cases k p s ns h = let a = bind-some _ _ h in (a .0, a .1, go (a .0) (isReturn (a .0 .instruction)) refl (a .2))
     where
       go : (i : Decoded) (t : Bool) → isReturn (i .instruction) ≡ t
-        → (elim t as (λ _. Option (List Note)) [ true ↦ need (eqb (p + i .size) (length code)) >>= λ _. returns (i .instruction) result s | false ↦ effect (i .instruction) s >>= λ f. verify code result k (p + i .size) (f .types) >>= λ m. some (f .notes ++ m) ]) ≡ some ns
-        → ((isReturn (i .instruction) ≡ true × (returns (i .instruction) result s ≡ some ns)) ⊎ (isReturn (i .instruction) ≡ false × Went k p s ns i))
+          → (elim t as (λ _. Option (List Note)) [ true ↦ need (eqb (p + i .size) (length code)) >>= λ _. returns (i .instruction) result s | false ↦ effect (i .instruction) s >>= λ f. verify code result k (p + i .size) (f .types) >>= λ m. some (f .notes ++ m) ]) ≡ some ns
+          → ((isReturn (i .instruction) ≡ true × (returns (i .instruction) result s ≡ some ns)) ⊎ (isReturn (i .instruction) ≡ false × Went k p s ns i))
       go i true e r = inl (e, bind-some _ _ r .2)
       go i false e r =
           let a = bind-some _ _ r in
@@ -117,32 +117,45 @@ module _ (code : List ℕ) (result : ℕ) where
     known-here k p s ns v = let a = verify-cases k p s ns v in record { at = a .0; reads = a .1; way = go (a .0) (a .1) (a .2) }
       where
         go : (i : Decoded) → decode code p ≡ some i → ((isReturn (i .instruction) ≡ true × (returns (i .instruction) result s ≡ some ns)) ⊎ (isReturn (i .instruction) ≡ false × Went k p s ns i))
-          → (isReturn (i .instruction) ≡ true × Last ns s i) ⊎ (isReturn (i .instruction) ≡ false × Step (suc k) p s ns p s i)
+            → (isReturn (i .instruction) ≡ true × Last ns s i) ⊎ (isReturn (i .instruction) ≡ false × Step (suc k) p s ns p s i)
         go i r (inl e) = inl (e .0, record { made = ns; does = e .1; posted = λ n m. m })
-        go i r (inr e) = let w = e .1 in inr (e .0, record
-          { flows = w .f; does = w .does; posted = λ n m. rw (w .joined) at (Memᴰ·append-left (w .more) m)
-          ; next = shape-on k p s (p + i .size) (w .f .types) (omega (arith, sized code p i r)) (record { i = i; f = w .f; reads = r; does = w .does; after = verified-here k (p + i .size) (w .f .types) (w .more) (w .after) }) })
+        go i r (inr e) = let w = e .1 in inr (
+          e .0,
+          record {
+            flows = w .f;
+            does = w .does;
+            posted = λ n m. rw (w .joined) at (Memᴰ·append-left (w .more) m);
+            next = shape-on k p s (p + i .size) (w .f .types) (omega (arith, sized code p i r)) (record { i = i; f = w .f; reads = r; does = w .does; after = verified-here k (p + i .size) (w .f .types) (w .more) (w .after) });
+          },
+        )
 
     known-on : (k p : ℕ) (s : TypeState) (ns : List Note) (q : ℕ) (τ : TypeState) (i : Decoded) → decode code p ≡ some i → (w : Went k p s ns i)
-      → typesAt code result k (p + i .size) (w .f .types) q ≡ some τ → Known k (p + i .size) (w .f .types) (w .more) q τ → Known (suc k) p s ns q τ
+        → typesAt code result k (p + i .size) (w .f .types) q ≡ some τ → Known k (p + i .size) (w .f .types) (w .more) q τ → Known (suc k) p s ns q τ
     known-on k p s ns q τ i r w h d = record { at = d .at; reads = d .reads; way = go (d .way) }
       where
         wider : (n : Note) → List·Memᴰ n (w .more) → List·Memᴰ n ns
         wider n m = rw (w .joined) at (Memᴰ·append-right (w .f .notes) m)
+
         go : (isReturn (d .at .instruction) ≡ true × Last (w .more) τ (d .at)) ⊎ (isReturn (d .at .instruction) ≡ false × Step k (p + i .size) (w .f .types) (w .more) q τ (d .at))
-          → (isReturn (d .at .instruction) ≡ true × Last ns τ (d .at)) ⊎ (isReturn (d .at .instruction) ≡ false × Step (suc k) p s ns q τ (d .at))
+            → (isReturn (d .at .instruction) ≡ true × Last ns τ (d .at)) ⊎ (isReturn (d .at .instruction) ≡ false × Step (suc k) p s ns q τ (d .at))
         go (inl e) = inl (e .0, record { made = e .1 .made; does = e .1 .does; posted = λ n m. wider n (e .1 .posted n m) })
-        go (inr e) = let t = e .1 in inr (e .0, record
-          { flows = t .flows; does = t .does; posted = λ n m. wider n (t .posted n m)
-          ; next = shape-on k p s (q + d .at .size) (t .flows .types) (omega (arith, sized code q (d .at) (d .reads), shape-le k (p + i .size) (w .f .types) q τ h)) (record { i = i; f = w .f; reads = r; does = w .does; after = t .next }) })
+        go (inr e) = let t = e .1 in inr (
+          e .0,
+          record {
+            flows = t .flows;
+            does = t .does;
+            posted = λ n m. wider n (t .posted n m);
+            next = shape-on k p s (q + d .at .size) (t .flows .types) (omega (arith, sized code q (d .at) (d .reads), shape-le k (p + i .size) (w .f .types) q τ h)) (record { i = i; f = w .f; reads = r; does = w .does; after = t .next });
+          },
+        )
 
     pub known : (k p : ℕ) (s : TypeState) (ns : List Note) (q : ℕ) (τ : TypeState) → verify code result k p s ≡ some ns → typesAt code result k p s q ≡ some τ → Known k p s ns q τ
     known zero p s ns q τ v h = absurd (Option·none-ne-some τ (unfold typesAt in h))
     known (suc k) p s ns q τ v h = go (shape-cases k p s q τ h) (verify-cases k p s ns v) (λ p′ s′ m. known k p′ s′ m q τ)
       where
         go : ((p ≡ q) × (s ≡ τ)) ⊎ On k p s q τ
-          → (i : Decoded) × (decode code p ≡ some i) × ((isReturn (i .instruction) ≡ true × (returns (i .instruction) result s ≡ some ns)) ⊎ (isReturn (i .instruction) ≡ false × Went k p s ns i))
-          → ((p′ : ℕ) (s′ : TypeState) (m : List Note) → verify code result k p′ s′ ≡ some m → typesAt code result k p′ s′ q ≡ some τ → Known k p′ s′ m q τ) → Known (suc k) p s ns q τ
+            → (i : Decoded) × (decode code p ≡ some i) × ((isReturn (i .instruction) ≡ true × (returns (i .instruction) result s ≡ some ns)) ⊎ (isReturn (i .instruction) ≡ false × Went k p s ns i))
+            → ((p′ : ℕ) (s′ : TypeState) (m : List Note) → verify code result k p′ s′ ≡ some m → typesAt code result k p′ s′ q ≡ some τ → Known k p′ s′ m q τ) → Known (suc k) p s ns q τ
         go (inl e) a ih = subst₂ (λ x y. Known (suc k) p s ns x y) (e .0) (e .1) (known-here k p s ns v)
         go (inr o) (i, r, inl e) ih = let z : _≡_ {A = Option Flow} none (some (o .f)) = cc (return-none (i .instruction) s (e .0)) in absurd (Option·none-ne-some (o .f) z)
         go (inr o) (i, r, inr e) ih =

@@ -74,9 +74,9 @@ pub record Linked (w : World) : Type 0 where
   pub supers : (c : ℕ) (k : Class) → getElem? (w .base .classes) c ≡ some k → 0 < c → (p : ℕ) × (superOf (w .base) c ≡ some p)
   pub verified : (c j : ℕ) (k : Class) (m : Method) → getElem? (w .base .classes) c ≡ some k → getElem? (k .methods) j ≡ some m → Verified w k m
   pub overArg : (n a r x p y : ℕ) → hasMethod (w .base) n a r x ≡ true → superOf (w .base) x ≡ some p → nearest (superOf (w .base)) (hasMethod (w .base) n a r) p ≡ some y
-    → a ≢ 1 → Tied w (at (loaderOf (w .base) x) a) (at (loaderOf (w .base) y) a)
+      → a ≢ 1 → Tied w (at (loaderOf (w .base) x) a) (at (loaderOf (w .base) y) a)
   pub overRes : (n a r x p y : ℕ) → hasMethod (w .base) n a r x ≡ true → superOf (w .base) x ≡ some p → nearest (superOf (w .base)) (hasMethod (w .base) n a r) p ≡ some y
-    → r ≢ 1 → Tied w (at (loaderOf (w .base) x) r) (at (loaderOf (w .base) y) r)
+      → r ≢ 1 → Tied w (at (loaderOf (w .base) x) r) (at (loaderOf (w .base) y) r)
 
 pub rooted : {w : World} → Linked w → Rooted (w .base)
 rooted lk = record { real = lk .real; supers = lk .supers }

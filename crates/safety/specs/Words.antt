@@ -37,7 +37,7 @@ module _ (w : World) (os : List Object) (l : ℕ) where
   is-loaded b (some c) h = true-below (superOf (w .base)) (super-falls (w .base)) (b .class) c (h c refl)
 
   object-is : (n o : ℕ) (x : Option Object) → existing os o ≡ x → (elim x as (λ _. Bool) [ none ↦ false | some b ↦ Loaded b (find (w .base .cache) (at l n)) ]) ≡ true
-    → Placed w os l (typeClass n) (objectValue o)
+      → Placed w os l (typeClass n) (objectValue o)
   object-is n o none e q = absurd (false≢true q)
   object-is n o (some b) e q = (b, e, loaded-is b (find (w .base .cache) (at l n)) q)
 
@@ -97,7 +97,7 @@ bad-none f (x ∷ xs) [] h = absurd (omega arith)
 bad-none f (x ∷ xs) (y ∷ ys) h = go (f x y) refl h (bad-none f xs ys)
   where
     go : (t : Bool) → f x y ≡ t → _≡_ {A = ℕ} (elim t as (λ _. ℕ) [ true ↦ failures f xs ys | false ↦ 1 + failures f xs ys ]) 0
-      → (failures f xs ys ≡ 0 → Each (λ x y. f x y ≡ true) xs ys) → (f x y ≡ true) × Each (λ x y. f x y ≡ true) xs ys
+        → (failures f xs ys ≡ 0 → Each (λ x y. f x y ≡ true) xs ys) → (f x y ≡ true) × Each (λ x y. f x y ≡ true) xs ys
     go true e q ih = (e, ih q)
     go false e q ih = absurd (omega arith)
 
@@ -122,9 +122,11 @@ module _ (w : World) (os : List Object) where
   unfolding misplacedFields
   words-fields [] h = refl
   words-fields (c ∷ bs) h =
-      rw (none-bad _ (λ s v. placed w os (loaderOf (w .base) (s .owner)) (typeOfName (s .type)) v)
-            (λ s v. is-placed w os (loaderOf (w .base) (s .owner)) (typeOfName (s .type)) v) (slots (w .base) (c .class)) (c .values) (h 0 c refl)
-         , words-fields bs (λ o. h (suc o))) refl
+      rw (
+        none-bad _ (λ s v. placed w os (loaderOf (w .base) (s .owner)) (typeOfName (s .type)) v)
+            (λ s v. is-placed w os (loaderOf (w .base) (s .owner)) (typeOfName (s .type)) v) (slots (w .base) (c .class)) (c .values) (h 0 c refl),
+        words-fields bs (λ o. h (suc o)),
+      ) refl
 
   -- Frames
 
@@ -133,18 +135,23 @@ module _ (w : World) (os : List Object) where
   frame-words waits f h = go (typesOf w waits f) refl h
     where
       go : (x : Option FrameTypes) → typesOf w waits f ≡ x
-        → _≡_ {A = ℕ} (elim x as (λ _. ℕ) [ none ↦ 1 | some y ↦ failures (placed w os (y .loader)) (y .operands) (f .operands) + failures (placedLocal w os (y .loader)) (y .locals) (f .locals) ]) 0
-        → FramePlaced w os waits f
+          → _≡_ {A = ℕ} (elim x as (λ _. ℕ) [ none ↦ 1 | some y ↦ failures (placed w os (y .loader)) (y .operands) (f .operands) + failures (placedLocal w os (y .loader)) (y .locals) (f .locals) ]) 0
+          → FramePlaced w os waits f
       go none e q = absurd (omega arith)
-      go (some y) e q = let z = sum-zero _ _ q in record
-        { types = y; has = e; operands = failing _ _ (placed-is w os (y .loader)) (y .operands) (f .operands) (z .0)
-        ; locals = failing _ _ (local-is w os (y .loader)) (y .locals) (f .locals) (z .1) }
+      go (some y) e q = let z = sum-zero _ _ q in record {
+        types = y;
+        has = e;
+        operands = failing _ _ (placed-is w os (y .loader)) (y .operands) (f .operands) (z .0);
+        locals = failing _ _ (local-is w os (y .loader)) (y .locals) (f .locals) (z .1);
+      }
 
   words-frame : (waits : Bool) (f : Frame) → FramePlaced w os waits f → misplacedInFrame w os waits f ≡ 0
   unfolding misplacedInFrame
   words-frame waits f h = let y = h .types in rw (h .has, misplacedInFrame)
-      (rw (none-bad _ (placed w os (y .loader)) (is-placed w os (y .loader)) (y .operands) (f .operands) (h .operands)
-          , none-bad _ (placedLocal w os (y .loader)) (is-local w os (y .loader)) (y .locals) (f .locals) (h .locals)) refl)
+      (rw (
+        none-bad _ (placed w os (y .loader)) (is-placed w os (y .loader)) (y .operands) (f .operands) (h .operands),
+        none-bad _ (placedLocal w os (y .loader)) (is-local w os (y .loader)) (y .locals) (f .locals) (h .locals),
+      ) refl)
 
   frames-words : (waits : Bool) (fs : List Frame) → misplacedInFrames w os waits fs ≡ 0 → FramesPlaced w os waits fs
   unfolding misplacedInFrames
@@ -163,11 +170,17 @@ unfolding misplacedIn existing
 placed-words r h =
     let a = sum-zero _ _ h in
     let b = sum-zero _ _ (a .0) in
-    record { fields = fields-words (worldOf r) (r .objects) (r .objects) (b .0); quote = frames-words (worldOf r) (r .objects) false (r .quote) (b .1)
-           ; report = frames-words (worldOf r) (r .objects) false (r .report) (a .1) }
+    record {
+      fields = fields-words (worldOf r) (r .objects) (r .objects) (b .0);
+      quote = frames-words (worldOf r) (r .objects) false (r .quote) (b .1);
+      report = frames-words (worldOf r) (r .objects) false (r .report) (a .1);
+    }
 
 pub words-placed : (r : Rows) → AllPlaced r → misplacedIn r ≡ 0
 unfolding misplacedIn existing
 words-placed r h =
-    rw (words-fields (worldOf r) (r .objects) (r .objects) (h .fields), words-frames (worldOf r) (r .objects) false (r .quote) (h .quote)
-       , words-frames (worldOf r) (r .objects) false (r .report) (h .report)) refl
+    rw (
+      words-fields (worldOf r) (r .objects) (r .objects) (h .fields),
+      words-frames (worldOf r) (r .objects) false (r .quote) (h .quote),
+      words-frames (worldOf r) (r .objects) false (r .report) (h .report),
+    ) refl

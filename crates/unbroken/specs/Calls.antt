@@ -85,42 +85,75 @@ module _ (r : Rows) (w : Whole r) where
   N = length (r .classes)
 
   pub ready : Ready W N (r .objects)
-  ready = record
-    { number = length-map (r .classes) (classAt (r .kept))
-    ; rooted = record { real = real; supers = supers }
-    ; loaders = loaders
-    ; ties = w .limits .ties; between = w .ties; objects = w .limits .objects; each = w .objects }
+  ready = record {
+    number = length-map (r .classes) (classAt (r .kept));
+    rooted = record { real = real; supers = supers };
+    loaders = loaders;
+    ties = w .limits .ties;
+    between = w .ties;
+    objects = w .limits .objects;
+    each = w .objects;
+  }
     where
       real : (q : Request) (c : ℕ) → find (r .cache) q ≡ some c → (k : Class) × (getElem? (map (classAt (r .kept)) (r .classes)) c ≡ some k)
       real q c e =
           let x = find-row (r .cache) q c e in
           nth-there (map (classAt (r .kept)) (r .classes)) c (omega (arith, length-map (r .classes) (classAt (r .kept)), all-mem (Listed N) (w .cache) (x .1) .class, x .3))
+
       supers : (c : ℕ) (k : Class) → getElem? (map (classAt (r .kept)) (r .classes)) c ≡ some k → 0 < c → (p : ℕ) × (superOf (W .base) c ≡ some p)
       supers c k e l =
           let x = nth-map (classAt (r .kept)) (r .classes) c k e in
           elim (class-at (W .base) (r .kept) (r .classes) (w .classes) c (x .0) (x .1)) [ inl z ↦ absurd (omega (arith, z .0)) | inr z ↦ (z .super, z .isSuper) ]
+
       loaders : (c : ℕ) (k : Class) → getElem? (map (classAt (r .kept)) (r .classes)) c ≡ some k → k .loader < 16
       loaders c k e =
           let x = nth-map (classAt (r .kept)) (r .classes) c k e in
-          elim (class-at (W .base) (r .kept) (r .classes) (w .classes) c (x .0) (x .1))
-            [ inl z ↦ rw (sym (x .2), object-class (r .kept) (x .0) (z .1)) (omega arith)
-            | inr z ↦ rw (sym (x .2), cls-loader (r .kept) (x .0) (z .file) (z .reads)) (z .loader) ]
+          elim (class-at (W .base) (r .kept) (r .classes) (w .classes) c (x .0) (x .1)) [
+            | inl z ↦ rw (sym (x .2), object-class (r .kept) (x .0) (z .1)) (omega arith)
+            | inr z ↦ rw (sym (x .2), cls-loader (r .kept) (x .0) (z .file) (z .reads)) (z .loader)
+          ]
 
   -- One task moves
 
   pub whole-progressed : (k : ℕ) (o : Progress) → Moved W N (r .objects) o → Whole (progressed k r o)
-  whole-progressed zero o m = record
-    { limits = record
-        { classes = w .limits .classes; kept = w .limits .kept; cache = w .limits .cache; ties = m .ties; subtypes = w .limits .subtypes
-        ; objects = m .objects; quote = m .many; report = w .limits .report }
-    ; classes = w .classes; cache = w .cache; ties = m .between; subtypes = w .subtypes; objects = m .each; quote = m .frames
-    ; report = all-more (grow-frame N (length (r .objects)) (length (o .objects)) (m .more)) (r .report) (w .report) }
-  whole-progressed (suc k) o m = record
-    { limits = record
-        { classes = w .limits .classes; kept = w .limits .kept; cache = w .limits .cache; ties = m .ties; subtypes = w .limits .subtypes
-        ; objects = m .objects; quote = w .limits .quote; report = m .many }
-    ; classes = w .classes; cache = w .cache; ties = m .between; subtypes = w .subtypes; objects = m .each; report = m .frames
-    ; quote = all-more (grow-frame N (length (r .objects)) (length (o .objects)) (m .more)) (r .quote) (w .quote) }
+  whole-progressed zero o m = record {
+    limits = record {
+      classes = w .limits .classes;
+      kept = w .limits .kept;
+      cache = w .limits .cache;
+      ties = m .ties;
+      subtypes = w .limits .subtypes;
+      objects = m .objects;
+      quote = m .many;
+      report = w .limits .report;
+    };
+    classes = w .classes;
+    cache = w .cache;
+    ties = m .between;
+    subtypes = w .subtypes;
+    objects = m .each;
+    quote = m .frames;
+    report = all-more (grow-frame N (length (r .objects)) (length (o .objects)) (m .more)) (r .report) (w .report);
+  }
+  whole-progressed (suc k) o m = record {
+    limits = record {
+      classes = w .limits .classes;
+      kept = w .limits .kept;
+      cache = w .limits .cache;
+      ties = m .ties;
+      subtypes = w .limits .subtypes;
+      objects = m .objects;
+      quote = w .limits .quote;
+      report = m .many;
+    };
+    classes = w .classes;
+    cache = w .cache;
+    ties = m .between;
+    subtypes = w .subtypes;
+    objects = m .each;
+    report = m .frames;
+    quote = all-more (grow-frame N (length (r .objects)) (length (o .objects)) (m .more)) (r .quote) (w .quote);
+  }
 
   -- the rows' classes and constraints are then those of the progress
   pub world-progressed : (k : ℕ) (o : Progress) → Moved W N (r .objects) o → worldOf (progressed k r o) ≡ o .world
@@ -133,8 +166,17 @@ module _ (r : Rows) (w : Whole r) where
       let os = r .objects in
       let e = length-append os (newObject (W .base) c ∷ []) in
       let lc = class-found W N os ready (at l n) c (take-ok _ _ fc) in
-      record { base = refl; subtypes = refl; ties = w .limits .ties; between = w .ties; more = omega (arith, e); objects = omega (arith, e, ltb-true (length os) 256 (need-ok _ _ h)); each = made-objects (W .base) N os c lc (w .objects)
-             ; many = omega arith; frames = (entered-frame N _ s j (length os) (intValue v) (class-selected W N os ready m 1 1 c s (take-ok _ _ es)) (omega (arith, e)) tt, tt) }))))))
+      record {
+        base = refl;
+        subtypes = refl;
+        ties = w .limits .ties;
+        between = w .ties;
+        more = omega (arith, e);
+        objects = omega (arith, e, ltb-true (length os) 256 (need-ok _ _ h));
+        each = made-objects (W .base) N os c lc (w .objects);
+        many = omega arith;
+        frames = (entered-frame N _ s j (length os) (intValue v) (class-selected W N os ready m 1 1 c s (take-ok _ _ es)) (omega (arith, e)) tt, tt);
+      }))))))
     where
       Q : Progress → Type 0
       Q = Moved W N (r .objects)
@@ -179,7 +221,7 @@ file-more bs cs k f e =
     let l = leb-true (k .start + k .size) (length bs) (need-true _ (a .1)) in
     let z : k .size ≤ length (drop (k .start) bs) = omega (arith, length-drop (k .start) bs) in
     some-bind (Maybe.need (leb (k .start + k .size) (length (bs ++ cs)))) _ (needed _ (le-leb (k .start + k .size) (length (bs ++ cs)) (omega (arith, length-append bs cs))))
-      (rw (drop-append-le (k .start) bs cs (omega arith), take-append-le (k .size) (drop (k .start) bs) cs z) (a .2))
+    (rw (drop-append-le (k .start) bs cs (omega arith), take-append-le (k .size) (drop (k .start) bs) cs z) (a .2))
   where
     needed : (t : Bool) → t ≡ true → Maybe.need t ≡ some tt
     needed t q = unfold Maybe.need in rw q refl
@@ -220,8 +262,8 @@ recorded-is l n c w v e =
     go (ltb-true l 16 (and-true (ltb l 16) (leb 2 n) (need-ok _ _ (a .1)) .0)) (nth-lt (w .base .classes) c (b .0) (take-ok _ _ (b .1))) (find (w .base .cache) (at l n)) (d .2)
   where
     go : l < 16 → c < length (w .base .classes) → (o : Option ℕ)
-      → (elim o as (λ _. Result World) [ some d ↦ need (eqb d c) (Word 4) >>= λ _. ok w | none ↦ need (ltb (length (w .base .cache)) 256) (Word 10) >>= λ _. need (agrees (withEntry w (at l n) c)) (Word 9) >>= λ _. ok (withEntry w (at l n) c) ]) ≡ ok v
-      → (w ≡ v) ⊎ Entered l n c w v
+        → (elim o as (λ _. Result World) [ some d ↦ need (eqb d c) (Word 4) >>= λ _. ok w | none ↦ need (ltb (length (w .base .cache)) 256) (Word 10) >>= λ _. need (agrees (withEntry w (at l n) c)) (Word 9) >>= λ _. ok (withEntry w (at l n) c) ]) ≡ ok v
+        → (w ≡ v) ⊎ Entered l n c w v
     go x y none h = let p = bind-ok _ _ h in let q = bind-ok _ _ (p .2) in inr (record { loader = x; class = y; room = ltb-true (length (w .base .cache)) 256 (need-ok _ _ (p .1)); is = ok-inj (q .2) })
     go x y (some d) h = let p = bind-ok _ _ h in inl (ok-inj (p .2))
 
@@ -247,8 +289,18 @@ defined-is room k w v e =
     let f = bind-ok _ _ (d .2) in
     let g = bind-ok _ _ (f .2) in
     let p = every-true _ (need-ok _ _ (f .1)) in
-    record { super = c .0; cached = take-ok _ _ (c .1); notes = a .0; kept = p .0; classes = ltb-true _ _ (p .1 .0); cache = ltb-true _ _ (p .1 .1 .0); ties = leb-true _ _ (p .1 .1 .1 .0)
-           ; subtypes = leb-true _ _ (p .1 .1 .1 .1 .0); size = leb-true _ _ (p .1 .1 .1 .1 .1 .0); is = ok-inj (g .2) }
+    record {
+      super = c .0;
+      cached = take-ok _ _ (c .1);
+      notes = a .0;
+      kept = p .0;
+      classes = ltb-true _ _ (p .1 .0);
+      cache = ltb-true _ _ (p .1 .1 .0);
+      ties = leb-true _ _ (p .1 .1 .1 .0);
+      subtypes = leb-true _ _ (p .1 .1 .1 .1 .0);
+      size = leb-true _ _ (p .1 .1 .1 .1 .1 .0);
+      is = ok-inj (g .2);
+    }
 
 -- Constraints that a definition adds lie between loaders
 
@@ -272,7 +324,7 @@ subs-loader l a ss [] = tt
 subs-loader l a ss (n ∷ ns) = go (any (subtypeIs l n) ss) (subs-loader l a ss ns) (subs-loader l a (ss ++ (subtypeOf l n ∷ [])) ns)
   where
     go : (t : Bool) → All (λ (s : Subtype). s .loader < 16) (newSubtypes ss l ns) → All (λ (s : Subtype). s .loader < 16) (newSubtypes (ss ++ (subtypeOf l n ∷ [])) l ns)
-      → All (λ (s : Subtype). s .loader < 16) (elim t as (λ _. List Subtype) [ true ↦ newSubtypes ss l ns | false ↦ subtypeOf l n ∷ newSubtypes (ss ++ (subtypeOf l n ∷ [])) l ns ])
+        → All (λ (s : Subtype). s .loader < 16) (elim t as (λ _. List Subtype) [ true ↦ newSubtypes ss l ns | false ↦ subtypeOf l n ∷ newSubtypes (ss ++ (subtypeOf l n ∷ [])) l ns ])
     go true x y = x
     go false x y = (a, y)
 
@@ -285,21 +337,28 @@ module _ (r : Rows) (w : Whole r) where
       let X = withEntry (W r w) (at l n) c in
       let g : Grows (W r w) X = grows-entry (W r w) (at l n) c in
       let f : (k : ClassRow) (f : File) → fileAt (r .kept) k ≡ some f → fileAt (r .kept) k ≡ some f = λ k f x. x in
-      record
-        { limits = record { classes = w .limits .classes; kept = w .limits .kept; cache = omega (arith, length-append (r .cache) (e ∷ [])); ties = w .limits .ties; subtypes = w .limits .subtypes; objects = w .limits .objects; quote = w .limits .quote; report = w .limits .report }
-        ; classes = grown-classes (W r w .base) (X .base) (r .kept) (r .kept) (r .classes) (grown-class r w X g (r .kept) f) (w .classes)
-        ; cache = all-both (Listed (N r w)) (r .cache) (e ∷ []) (w .cache) (record { loader = a; class = omega (arith, length-map (r .classes) (classAt (r .kept))) }, tt)
-        ; ties = w .ties; subtypes = w .subtypes; objects = grown-objects r w X g (r .kept) f (N r w) (omega arith); quote = w .quote; report = w .report }
+      record {
+        limits = record { classes = w .limits .classes; kept = w .limits .kept; cache = omega (arith, length-append (r .cache) (e ∷ [])); ties = w .limits .ties; subtypes = w .limits .subtypes; objects = w .limits .objects; quote = w .limits .quote; report = w .limits .report };
+        classes = grown-classes (W r w .base) (X .base) (r .kept) (r .kept) (r .classes) (grown-class r w X g (r .kept) f) (w .classes);
+        cache = all-both (Listed (N r w)) (r .cache) (e ∷ []) (w .cache) (record { loader = a; class = omega (arith, length-map (r .classes) (classAt (r .kept))) }, tt);
+        ties = w .ties;
+        subtypes = w .subtypes;
+        objects = grown-objects r w X g (r .kept) f (N r w) (omega arith);
+        quote = w .quote;
+        report = w .report;
+      }
 
   pub whole-record : (l n c : ℕ) (v : World) → recorded l n c (W r w) ≡ ok v → Whole (addEntry r v)
-  whole-record l n c v e = elim (recorded-is l n c (W r w) v e)
-    [ inl q ↦ subst (λ (z : World). Whole (addEntry r z)) q w
-    | inr x ↦ subst (λ (z : World). Whole (addEntry r z)) (x .is) (whole-entry l n c (x .loader) (x .class) (x .room)) ]
+  whole-record l n c v e = elim (recorded-is l n c (W r w) v e) [
+    | inl q ↦ subst (λ (z : World). Whole (addEntry r z)) q w
+    | inr x ↦ subst (λ (z : World). Whole (addEntry r z)) (x .is) (whole-entry l n c (x .loader) (x .class) (x .room))
+  ]
 
   pub world-recorded : (l n c : ℕ) (v : World) → recorded l n c (W r w) ≡ ok v → worldOf (addEntry r v) ≡ v
-  world-recorded l n c v e = elim (recorded-is l n c (W r w) v e)
-    [ inl q ↦ subst (λ (z : World). worldOf (addEntry r z) ≡ z) q refl
-    | inr x ↦ subst (λ (z : World). worldOf (addEntry r z) ≡ z) (x .is) refl ]
+  world-recorded l n c v e = elim (recorded-is l n c (W r w) v e) [
+    | inl q ↦ subst (λ (z : World). worldOf (addEntry r z) ≡ z) q refl
+    | inr x ↦ subst (λ (z : World). worldOf (addEntry r z) ≡ z) (x .is) refl
+  ]
 
   module _ (l : ℕ) (bs : List ℕ) (f : File) (a : l < 16) (rf : readFile bs ≡ some f) (us : List Tie) (ss : List Subtype) where
     abbrev K : Class
@@ -324,7 +383,7 @@ module _ (r : Rows) (w : Whole r) where
     world-class = λ i. record { base = base-is i; ties = Y .ties; subtypes = Y .subtypes }
 
     module _ (p : ℕ) (fp : find (r .cache) (at l (f .super)) ≡ some p) (n64 : length (W r w .base .classes) < 64) (n256 : length (r .cache) < 256) (nk : length (r .kept) + length bs ≤ 16384)
-             (nt : length (r .ties ++ us) ≤ 256) (ns : length (r .subtypes ++ ss) ≤ 256) (sz : sizeOf (W r w .base) p + length (f .fields) ≤ 16) (bu : All Between us) (ks : All (λ (s : Subtype). s .loader < 16) ss) where
+        (nt : length (r .ties ++ us) ≤ 256) (ns : length (r .subtypes ++ ss) ≤ 256) (sz : sizeOf (W r w .base) p + length (f .fields) ≤ 16) (bu : All Between us) (ks : All (λ (s : Subtype). s .loader < 16) ss) where
       many : length (W r w .base .classes) ≡ N r w
       many = length-map (r .classes) (classAt (r .kept))
 
@@ -349,20 +408,31 @@ module _ (r : Rows) (w : Whole r) where
           omega (arith, ap length a, b, c, d, sz)
 
       whole-class : Whole (addFile l bs r Y)
-      whole-class = record
-        { limits = record
-          { classes = omega (arith, length-append (r .classes) (row ∷ []), many, n64); kept = omega (arith, length-append (r .kept) bs, nk); cache = omega (arith, length-append (r .cache) (new ∷ []), n256)
-          ; ties = nt; subtypes = ns; objects = w .limits .objects; quote = w .limits .quote; report = w .limits .report }
-        ; classes = subst (λ (b : Base). Classes b (r .kept ++ bs) (r .classes ++ (row ∷ []))) (sym base-is)
+      whole-class = record {
+        limits = record {
+          classes = omega (arith, length-append (r .classes) (row ∷ []), many, n64);
+          kept = omega (arith, length-append (r .kept) bs, nk);
+          cache = omega (arith, length-append (r .cache) (new ∷ []), n256);
+          ties = nt;
+          subtypes = ns;
+          objects = w .limits .objects;
+          quote = w .limits .quote;
+          report = w .limits .report;
+        };
+        classes = subst (λ (b : Base). Classes b (r .kept ++ bs) (r .classes ++ (row ∷ []))) (sym base-is)
             (classes-last (W r w .base) (Y .base) (r .kept) (r .kept ++ bs) (r .classes) row (omega (arith, plt)) (grown-class r w Y grew (r .kept ++ bs) (file-more (r .kept) bs))
-              (record { loader = a; file = f; reads = file-last (r .kept) bs l ∙ rf; super = p; isSuper = up; size = new-size }) (w .classes))
-        ; cache = all-both (Listed (length (r .classes ++ (row ∷ [])))) (r .cache) (new ∷ []) (grown-cache r w _ bigger) (record { loader = a; class = omega (arith, length-append (r .classes) (row ∷ []), many) }, tt)
-        ; ties = all-both Between (r .ties) us (w .ties) bu; subtypes = all-both (λ (s : Subtype). s .loader < 16) (r .subtypes) ss (w .subtypes) ks
-        ; objects = subst (λ (b : Base). All (ObjectSound b (length (r .classes ++ (row ∷ []))) (length (r .objects))) (r .objects)) (sym base-is) (grown-objects r w Y grew (r .kept ++ bs) (file-more (r .kept) bs) _ bigger)
-        ; quote = grown-frames r w _ bigger (r .quote) (w .quote); report = grown-frames r w _ bigger (r .report) (w .report) }
+            (record { loader = a; file = f; reads = file-last (r .kept) bs l ∙ rf; super = p; isSuper = up; size = new-size }) (w .classes));
+        cache = all-both (Listed (length (r .classes ++ (row ∷ [])))) (r .cache) (new ∷ []) (grown-cache r w _ bigger) (record { loader = a; class = omega (arith, length-append (r .classes) (row ∷ []), many) }, tt);
+        ties = all-both Between (r .ties) us (w .ties) bu;
+        subtypes = all-both (λ (s : Subtype). s .loader < 16) (r .subtypes) ss (w .subtypes) ks;
+        objects = subst (λ (b : Base). All (ObjectSound b (length (r .classes ++ (row ∷ []))) (length (r .objects))) (r .objects)) (sym base-is) (grown-objects r w Y grew (r .kept ++ bs) (file-more (r .kept) bs) _ bigger);
+        quote = grown-frames r w _ bigger (r .quote) (w .quote);
+        report = grown-frames r w _ bigger (r .report) (w .report);
+      }
         where
           new : Entry
           new = record { request = at l (f .name); class = length (W r w .base .classes) }
+
           bigger : N r w ≤ length (r .classes ++ (row ∷ []))
           bigger = omega (arith, length-append (r .classes) (row ∷ []))
 
@@ -370,8 +440,8 @@ module _ (r : Rows) (w : Whole r) where
   whole-define l bs f v a rf e =
       let d = defined-is _ (classOf l f) (W r w) v e in
       subst (λ (z : World). Whole (addFile l bs r z)) (d .is)
-        (whole-class l bs f a rf _ _ (d .super) (d .cached) (d .classes) (d .cache) (leb-true _ _ (d .kept)) (d .ties) (d .subtypes) (d .size)
-          (overs-between (W r w .base) (ready r w .loaders) l a (d .super) (r .ties) (f .methods)) (subs-loader l a (r .subtypes) (d .notes)))
+      (whole-class l bs f a rf _ _ (d .super) (d .cached) (d .classes) (d .cache) (leb-true _ _ (d .kept)) (d .ties) (d .subtypes) (d .size)
+      (overs-between (W r w .base) (ready r w .loaders) l a (d .super) (r .ties) (f .methods)) (subs-loader l a (r .subtypes) (d .notes)))
 
   pub world-defined : (l : ℕ) (bs : List ℕ) (f : File) (v : World) → l < 16 → readFile bs ≡ some f → define (leb (length (r .kept) + length bs) 16384) (classOf l f) (W r w) ≡ ok v → worldOf (addFile l bs r v) ≡ v
   world-defined l bs f v a rf e =
@@ -409,22 +479,57 @@ module _ (r : Rows) (w : Whole r) where
       go [] [] a b c d = unfold stepOn in w
 
   dropped-whole : (k : ℕ) → Whole (withFrames k r [])
-  dropped-whole zero = record
-    { limits = record
-        { classes = w .limits .classes; kept = w .limits .kept; cache = w .limits .cache; ties = w .limits .ties; subtypes = w .limits .subtypes
-        ; objects = w .limits .objects; quote = omega arith; report = w .limits .report }
-    ; classes = w .classes; cache = w .cache; ties = w .ties; subtypes = w .subtypes; objects = w .objects; quote = tt; report = w .report }
-  dropped-whole (suc k) = record
-    { limits = record
-        { classes = w .limits .classes; kept = w .limits .kept; cache = w .limits .cache; ties = w .limits .ties; subtypes = w .limits .subtypes
-        ; objects = w .limits .objects; quote = w .limits .quote; report = omega arith }
-    ; classes = w .classes; cache = w .cache; ties = w .ties; subtypes = w .subtypes; objects = w .objects; quote = w .quote; report = tt }
+  dropped-whole zero = record {
+    limits = record {
+      classes = w .limits .classes;
+      kept = w .limits .kept;
+      cache = w .limits .cache;
+      ties = w .limits .ties;
+      subtypes = w .limits .subtypes;
+      objects = w .limits .objects;
+      quote = omega arith;
+      report = w .limits .report;
+    };
+    classes = w .classes;
+    cache = w .cache;
+    ties = w .ties;
+    subtypes = w .subtypes;
+    objects = w .objects;
+    quote = tt;
+    report = w .report;
+  }
+  dropped-whole (suc k) = record {
+    limits = record {
+      classes = w .limits .classes;
+      kept = w .limits .kept;
+      cache = w .limits .cache;
+      ties = w .limits .ties;
+      subtypes = w .limits .subtypes;
+      objects = w .limits .objects;
+      quote = w .limits .quote;
+      report = omega arith;
+    };
+    classes = w .classes;
+    cache = w .cache;
+    ties = w .ties;
+    subtypes = w .subtypes;
+    objects = w .objects;
+    quote = w .quote;
+    report = tt;
+  }
 
   pub drop-whole : (k : ℕ) → Ok (dropRows k r) Stays
   unfolding dropRows
   drop-whole k = then Stays _ _ (λ _ _. dropped-whole k)
 
 pub boot-whole : Whole bootRows
-boot-whole = record
-  { limits = record { classes = omega arith; kept = omega arith; cache = omega arith; ties = omega arith; subtypes = omega arith; objects = omega arith; quote = omega arith; report = omega arith }
-  ; classes = (record { loader = refl; start = refl; size = refl }, tt); cache = (record { loader = omega arith; class = omega arith }, tt); ties = tt; subtypes = tt; objects = tt; quote = tt; report = tt }
+boot-whole = record {
+  limits = record { classes = omega arith; kept = omega arith; cache = omega arith; ties = omega arith; subtypes = omega arith; objects = omega arith; quote = omega arith; report = omega arith };
+  classes = (record { loader = refl; start = refl; size = refl }, tt);
+  cache = (record { loader = omega arith; class = omega arith }, tt);
+  ties = tt;
+  subtypes = tt;
+  objects = tt;
+  quote = tt;
+  report = tt;
+}

@@ -2,3 +2,6 @@
 pub mod Steps
 pub mod Calls
 pub mod Unbroken
+pub mod OnRows
+pub mod Record
+pub mod Tasks

@@ -216,7 +216,7 @@ module _ (w : World) (n : ℕ) (os : List Object) (rd : Ready w n os) where
 
     -- ties are posted
     tied : (room : Bool) (us : List Tie) (v : World) (qs : List Object) (gs : List Frame) → post w room us ≡ ok v → All Between us → M ≤ length qs → length qs ≤ 256 → All (ObjectSound (w .base) n (length qs)) qs
-      → (room ≡ true → length gs ≤ 32) → All (Framed n (length qs)) gs → Moved w n os (record { world = v; objects = qs; frames = gs; result = none })
+        → (room ≡ true → length gs ≤ 32) → All (Framed n (length qs)) gs → Moved w n os (record { world = v; objects = qs; frames = gs; result = none })
     tied room us v qs gs e a b c d g h =
         let p = post-is w room us v e in
         rw (sym (p .0)) (record { base = refl; subtypes = refl; ties = p .1; between = all-both Between (w .ties) us (rd .between) a; more = b; objects = c; each = d; many = g (p .2); frames = h })
@@ -226,13 +226,13 @@ module _ (w : World) (n : ℕ) (os : List Object) (rd : Ready w n os) where
 
     between2 : (d t r : ℕ) → All Between (newTie (w .ties) (loaderOf (w .base) d) (k .loader) t ++ newTie (w .ties ++ newTie (w .ties) (loaderOf (w .base) d) (k .loader) t) (loaderOf (w .base) d) (k .loader) r)
     between2 d t r = all-both Between (newTie (w .ties) (loaderOf (w .base) d) (k .loader) t) (newTie (w .ties ++ newTie (w .ties) (loaderOf (w .base) d) (k .loader) t) (loaderOf (w .base) d) (k .loader) r)
-      (between d t) (new-between _ _ _ r (loader-small (w .base) (rd .loaders) d) kl)
+        (between d t) (new-between _ _ _ r (loader-small (w .base) (rd .loaders) d) kl)
 
     given : (more : List Value) (v : Value) (gs : List Frame) → All (Framed n M) gs → length gs ≤ 31 → (u : Unit {0}) → under! gs ≡ ok u → ValueSound M v → Ok (give gs w os v) Q
     unfolding give under!
     given more v [] a l u e h = then Q _ _ (λ _ _. stays [] _ (omega arith) tt)
     given more v (g ∷ gs) a l u e h = stays _ _ (omega arith)
-      (record { class = a .0 .class; depth = room-lt (g .operands) u e; operands = (h, a .0 .operands); eight = a .0 .eight; locals = a .0 .locals }, a .1)
+        (record { class = a .0 .class; depth = room-lt (g .operands) u e; operands = (h, a .0 .operands); eight = a .0 .eight; locals = a .0 .locals }, a .1)
 
     each-kept : (j : Instruction) → Ok (execute w os f fs k i j) Q
     unfolding execute
@@ -245,39 +245,51 @@ module _ (w : World) (n : ℕ) (os : List Object) (rd : Ready w n os) where
     each-kept Pop = then Q _ _ (λ p ep. let q = pop-all M (f .operands) p (fr .operands) ep in keeps (p .more) (omega (arith, q .less, fr .depth)) (q .more))
     each-kept Dup = then Q _ _ (λ u e. then Q _ _ (λ p ep. let q = pop-all M (f .operands) p (fr .operands) ep in keeps (p .top ∷ p .top ∷ p .more) (omega (arith, q .less, room-lt (f .operands) u e)) (q .top, (q .top, q .more))))
     each-kept Iadd = then Q _ _ (λ p ep. then Q _ _ (λ q eq. then Q _ _ (λ _ _. then Q _ _ (λ _ _.
-      let x = pop-all M (f .operands) p (fr .operands) ep in let y = pop-all M (p .more) q (x .more) eq in keeps (intValue _ ∷ q .more) (omega (arith, x .less, y .less, fr .depth)) (tt, y .more)))))
+        let x = pop-all M (f .operands) p (fr .operands) ep in let y = pop-all M (p .more) q (x .more) eq in keeps (intValue _ ∷ q .more) (omega (arith, x .less, y .less, fr .depth)) (tt, y .more)))))
     each-kept Isub = then Q _ _ (λ p ep. then Q _ _ (λ q eq. then Q _ _ (λ _ _. then Q _ _ (λ _ _.
-      let x = pop-all M (f .operands) p (fr .operands) ep in let y = pop-all M (p .more) q (x .more) eq in keeps (intValue _ ∷ q .more) (omega (arith, x .less, y .less, fr .depth)) (tt, y .more)))))
+        let x = pop-all M (f .operands) p (fr .operands) ep in let y = pop-all M (p .more) q (x .more) eq in keeps (intValue _ ∷ q .more) (omega (arith, x .less, y .less, fr .depth)) (tt, y .more)))))
     each-kept (Getfield c x t) = then Q _ _ (λ e _. then Q _ _ (λ d _. then Q _ _ (λ v pv. then Q _ _ (λ p ep. then Q _ _ (λ o eo. then Q _ _ (λ j _. then Q _ _ (λ z ez.
-      let q = pop-all M (f .operands) p (fr .operands) ep in
-      let b = all-nth (ObjectSound (w .base) n M) os (rd .each) (o .number) (o .object) (object-is (w .base) os e (p .top) o eo) in
-      tied _ _ v os _ pv (between d t) (omega arith) (rd .objects) (rd .each) (λ _. omega arith)
+        let q = pop-all M (f .operands) p (fr .operands) ep in
+        let b = all-nth (ObjectSound (w .base) n M) os (rd .each) (o .number) (o .object) (object-is (w .base) os e (p .top) o eo) in
+        tied _ _ v os _ pv (between d t) (omega arith) (rd .objects) (rd .each) (λ _. omega arith)
         (framed (z ∷ p .more) (f .locals) (omega (arith, q .less, fr .depth)) (all-nth (ValueSound M) (o .object .values) (b .values) j z (take-ok _ _ ez), q .more) (fr .eight) (fr .locals), frs))))))))
     each-kept (Putfield c x t) = then Q _ _ (λ e _. then Q _ _ (λ d _. then Q _ _ (λ v pv. then Q _ _ (λ p ep. then Q _ _ (λ q eq. then Q _ _ (λ _ _. then Q _ _ (λ o eo. then Q _ _ (λ j _.
-      let y = pop-all M (f .operands) p (fr .operands) ep in
-      let z = pop-all M (p .more) q (y .more) eq in
-      let b = all-nth (ObjectSound (w .base) n M) os (rd .each) (o .number) (o .object) (object-is (w .base) os e (q .top) o eo) in
-      let new : Object = record { class = o .object .class; values = set (o .object .values) j (p .top) } in
-      let l : length (set os (o .number) new) ≡ M = length-set os (o .number) new in
-      tied _ _ v _ _ pv (between d t) (omega (arith, l)) (omega (arith, l, rd .objects))
+        let y = pop-all M (f .operands) p (fr .operands) ep in
+        let z = pop-all M (p .more) q (y .more) eq in
+        let b = all-nth (ObjectSound (w .base) n M) os (rd .each) (o .number) (o .object) (object-is (w .base) os e (q .top) o eo) in
+        let new : Object = record { class = o .object .class; values = set (o .object .values) j (p .top) } in
+        let l : length (set os (o .number) new) ≡ M = length-set os (o .number) new in
+        tied _ _ v _ _ pv (between d t) (omega (arith, l)) (omega (arith, l, rd .objects))
         (rw l (all-set (ObjectSound (w .base) n M) os (rd .each) (o .number) new (record { class = b .class; size = length-set (o .object .values) j (p .top) ∙ b .size; values = all-set (ValueSound M) (o .object .values) (b .values) j (p .top) (y .top) })))
         (λ _. omega arith) (rw l (framed (q .more) (f .locals) (omega (arith, y .less, z .less, fr .depth)) (z .more) (fr .eight) (fr .locals), frs))))))))))
     each-kept (Invokevirtual c x t r) = then Q _ _ (λ e _. then Q _ _ (λ d _. then Q _ _ (λ v pv. then Q _ _ (λ p ep. then Q _ _ (λ q eq. then Q _ _ (λ _ _. then Q _ _ (λ o eo. then Q _ _ (λ s es. then Q _ _ (λ j _.
-      let y = pop-all M (f .operands) p (fr .operands) ep in
-      let z = pop-all M (p .more) q (y .more) eq in
-      let h = nth-lt os (o .number) (o .object) (object-is (w .base) os e (q .top) o eo) in
-      tied _ _ v os _ pv (between2 d t r) (omega arith) (rd .objects) (rd .each) (λ h. omega (arith, ltb-true (suc (length fs)) 32 h))
-        ( entered-frame n M s j (o .number) (p .top) (class-selected x t r _ s (take-ok _ _ es)) h (value-local M (p .top) (y .top))
-        , (framed (q .more) (f .locals) (omega (arith, y .less, z .less, fr .depth)) (z .more) (fr .eight) (fr .locals), frs)))))))))))
+        let y = pop-all M (f .operands) p (fr .operands) ep in
+        let z = pop-all M (p .more) q (y .more) eq in
+        let h = nth-lt os (o .number) (o .object) (object-is (w .base) os e (q .top) o eo) in
+        tied _ _ v os _ pv (between2 d t r) (omega arith) (rd .objects) (rd .each) (λ h. omega (arith, ltb-true (suc (length fs)) 32 h)) (
+          entered-frame n M s j (o .number) (p .top) (class-selected x t r _ s (take-ok _ _ es)) h (value-local M (p .top) (y .top)),
+          (framed (q .more) (f .locals) (omega (arith, y .less, z .less, fr .depth)) (z .more) (fr .eight) (fr .locals), frs),
+        ))))))))))
     each-kept (New c) = then Q _ _ (λ e fe. then Q _ _ (λ _ h.
-      let a = and-true (ltb M 256) (ltb (length (f .operands)) 16) (need-ok _ _ h) in
-      let l = length-append os (newObject (w .base) e ∷ []) in
-      let qs : List Object = os ++ (newObject (w .base) e ∷ []) in
-      let g : M ≤ length qs = omega (arith, l) in
-      let ec = class-found (at (k .loader) c) e (take-ok _ _ fe) in
-      record { base = refl; subtypes = refl; ties = rd .ties; between = rd .between; more = g; objects = omega (arith, l, ltb-true M 256 (a .0)); each = made-objects (w .base) n os e ec (rd .each); many = omega arith
-             ; frames = ( record { class = fr .class; depth = ltb-true (length (f .operands)) 16 (a .1); operands = (omega (arith, l), all-more (grow-value M (length qs) g) (f .operands) (fr .operands)); eight = fr .eight; locals = all-more (grow-local M (length qs) g) (f .locals) (fr .locals) }
-                        , all-more (grow-frame n M (length qs) g) fs frs ) }))
+        let a = and-true (ltb M 256) (ltb (length (f .operands)) 16) (need-ok _ _ h) in
+        let l = length-append os (newObject (w .base) e ∷ []) in
+        let qs : List Object = os ++ (newObject (w .base) e ∷ []) in
+        let g : M ≤ length qs = omega (arith, l) in
+        let ec = class-found (at (k .loader) c) e (take-ok _ _ fe) in
+        record {
+          base = refl;
+          subtypes = refl;
+          ties = rd .ties;
+          between = rd .between;
+          more = g;
+          objects = omega (arith, l, ltb-true M 256 (a .0));
+          each = made-objects (w .base) n os e ec (rd .each);
+          many = omega arith;
+          frames = (
+            record { class = fr .class; depth = ltb-true (length (f .operands)) 16 (a .1); operands = (omega (arith, l), all-more (grow-value M (length qs) g) (f .operands) (fr .operands)); eight = fr .eight; locals = all-more (grow-local M (length qs) g) (f .locals) (fr .locals) },
+            all-more (grow-frame n M (length qs) g) fs frs,
+          );
+        }))
     each-kept Ireturn = then Q _ _ (λ u eu. then Q _ _ (λ p ep. then Q _ _ (λ _ _. let q = pop-all M (f .operands) p (fr .operands) ep in given (p .more) (p .top) fs frs fl u eu (q .top))))
     each-kept Areturn = then Q _ _ (λ u eu. then Q _ _ (λ p ep. then Q _ _ (λ _ _. let q = pop-all M (f .operands) p (fr .operands) ep in given (p .more) (p .top) fs frs fl u eu (q .top))))
 

@@ -41,7 +41,7 @@ runs-unbroken zero k a t h = h
 runs-unbroken (suc n) k a t h = go (stepTables t .answer) (stepTables t .tables) (step-unbroken t h) (λ k a t h. runs-unbroken n k a t h)
   where
     go : (s : Answer) (z : Tables) → broken z ≡ false → ((k : ℕ) (a : Answer) (t : Tables) → broken t ≡ false → broken (runFrom stepTables n k a t .tables) ≡ false)
-      → broken (goOn (runFrom stepTables n) k s z .tables) ≡ false
+        → broken (goOn (runFrom stepTables n) k s z .tables) ≡ false
     go Idle z q ih = q
     go (Ran j) z q ih = ih (suc k) (Ran j) z q
     go (Finished j v) z q ih = q
@@ -76,7 +76,7 @@ module _ (raw : Tables → Done Answer) (agrees : (t : Tables) → broken t ≡ 
       ∙ go (stepTables t .answer) (stepTables t .tables) (step-unbroken t h) (λ k a t h. run-raw n k a t h)
     where
       go : (x : Answer) (z : Tables) → broken z ≡ false → ((k : ℕ) (a : Answer) (t : Tables) → broken t ≡ false → runFrom raw n k a t ≡ runFrom stepTables n k a t)
-        → goOn (runFrom raw n) k x z ≡ goOn (runFrom stepTables n) k x z
+          → goOn (runFrom raw n) k x z ≡ goOn (runFrom stepTables n) k x z
       go Idle z q ih = refl
       go (Ran j) z q ih = ih (suc k) (Ran j) z q
       go (Finished j v) z q ih = refl

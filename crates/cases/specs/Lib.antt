@@ -1,0 +1,3 @@
+-- The proved cases.
+pub mod Cases
+pub mod Proved

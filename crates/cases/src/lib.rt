@@ -1,0 +1,1 @@
+// The proved cases P1 to P10: statements only.
