@@ -3,7 +3,7 @@
 use mathlib.Core.Path.{_≡_}
 use mathlib.Core.Option.{Option, none, some}
 use mathlib.Core.List.{List, [], _∷_, _++_}
-use Prim.Native.Nat.{ℕ, suc, _+_, _*_, _-_, _<_}
+use Prim.Native.Nat.{ℕ, suc, _+_, _*_, _-_, _<_, _≤_}
 use lib.ListN.{length, getD, set}
 use Rattle.definition.specs.Lists.{rows, stack}
 use Rattle.definition.specs.Classes.{Base, Class}
@@ -13,7 +13,7 @@ use Rattle.definition.specs.Instructions.{Decoded}
 use Rattle.definition.specs.declared.Refusal.the-variants.{Word}
 use Rattle.definition.specs.Answers.{Result, refused, ok, _>>=_, take?}
 use Rattle.definition.specs.Machine.{Value, intValue, objectValue, Object, Frame, existing, newObject, entryFrame, Progress, give, execute}
-use Rattle.definition.specs.Tables.{Tables, valueOf, operandAt, localAt, frame, frameOf, frameAt, frameBase, frameIn, usedFields}
+use Rattle.definition.specs.Tables.{Tables, valueOf, operandAt, localAt, frame, frameOf, frameAt, frameBase, frameIn, usedFields, objectAt}
 use Rattle.layout.specs.Cells.{frameWith, withField}
 pub use Rattle.instructions.specs.declared.Plan.{Plan}
 pub use Rattle.instructions.specs.declared.Plan.the-variants.{Refuse, Keep, Above, Local, Give, Finish, Field, Enter, Make}
@@ -49,11 +49,11 @@ module _ (w : World) (os : List Object) (fs : List Frame) (F : List ℕ) (b q : 
 abbrev pub Fit : Base → Tables → ℕ → ℕ → Plan → Type 0
 Fit B t k m (Refuse r) = Unit {0}
 Fit B t k m (Keep d) = Unit {0}
-Fit B t k m (Above d kind v) = d < 4294967295
+Fit B t k m (Above d kind v) = d < 16
 Fit B t k m (Local d j kind v) = j < 8
 Fit B t k m (Give kind v) = (0 < m) × (getD (t .frames) (frameBase k (m - 1) + 3) 0 < 16)
 Fit B t k m (Finish v) = m ≡ 0
-Fit B t k m (Field d o j kind v) = (o < getD (t .counts) 5 0) × (j < usedFields B (getD (t .objects) (o * 33) 0))
+Fit B t k m (Field d o j kind v) = (o < getD (t .counts) 5 0) × (j < usedFields B (objectAt B (t .objects) o .class))
 Fit B t k m (Enter d c j o kind v) = suc m < 32
 Fit B t k m (Make d c) = (d < 16) × (getD (t .counts) 5 0 < 256)
 
@@ -62,7 +62,7 @@ Fit B t k m (Make d c) = (d < 16) × (getD (t .counts) 5 0 < 256)
 pub record FrameOnly (F : List ℕ) (b d : ℕ) (i : Instruction) (r : Plan) : Type 0 where
   pub says : (w : World) (os : List Object) (fs : List Frame) (k : Class) (p n : ℕ)
       → meaning w os fs F b (p + n) r ≡ execute w os (frameOf F b p d) fs k (decoded i n) i
-  pub fits : (B : Base) (t : Tables) (k m : ℕ) → Fit B t k m r
+  pub fits : d ≤ 16 → (B : Base) (t : Tables) (k m : ℕ) → Fit B t k m r
 
 -- and of a return, where the frames below are the m lowest of task k
 

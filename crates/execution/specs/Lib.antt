@@ -1,0 +1,2 @@
+-- What carrying plans out writes.
+pub mod Carried

@@ -1,0 +1,1 @@
+// One step, a run of steps, and the start of a task, on the lent tables.
