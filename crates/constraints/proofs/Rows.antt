@@ -1,0 +1,53 @@
+-- What stands in rows, and tests of rows.
+use mathlib.Core.Path.{_≡_, refl, sym, ap, _∙_}
+use mathlib.Core.Bool.{Bool, true, false}
+use mathlib.Core.List.{List, [], _∷_, List·Memᴰ, List·Memᴰ·head, List·Memᴰ·tail, List·Memᴰ·not-nil}
+use mathlib.Core.Logic.{_⊎_, inl, inr}
+use Prim.Native.Nat.{ℕ, zero, suc, _+_, _-_, _<_, _≤_}
+use native.Mathlib.Nat.{eq-or-lt-of-le}
+use native.Mathlib.Omega.{arith}
+use Rattle.definition.specs.Lists.{rows, all, any}
+use Rattle.layout.specs.Places.{rows-start}
+
+-- a place of the rows
+pub record Place {A : Type 0} (g : ℕ → A) (k i : ℕ) (x : A) : Type 0 where
+  pub number : ℕ
+  pub low : i ≤ number
+  pub high : number < i + k
+  pub is : x ≡ g number
+
+module _ {A : Type 0} (g : ℕ → A) where
+  pub in-rows : (k i j : ℕ) → i ≤ j → j < i + k → List·Memᴰ (g j) (rows g k i)
+  unfolding rows
+  in-rows zero i j l h = absurd (omega arith)
+  in-rows (suc k) i j l h = go (eq-or-lt-of-le l) (λ m. in-rows k (suc i) j m (omega arith))
+    where
+      go : (i ≡ j) ⊎ (i < j) → (i < j → List·Memᴰ (g j) (rows g k (suc i))) → List·Memᴰ (g j) (g i ∷ rows g k (suc i))
+      go (inl e) f = List·Memᴰ·head (ap g (sym e))
+      go (inr m) f = List·Memᴰ·tail (f m)
+
+  pub rows-in : (k i : ℕ) (x : A) → List·Memᴰ x (rows g k i) → Place g k i x
+  unfolding rows
+  rows-in zero i x m = absurd (List·Memᴰ·not-nil m)
+  rows-in (suc k) i x (List·Memᴰ·head e) = record { number = i; low = omega arith; high = omega arith; is = e }
+  rows-in (suc k) i x (List·Memᴰ·tail m) =
+      let r = rows-in k (suc i) x m in record { number = r .number; low = omega arith; high = omega arith; is = r .is }
+
+-- a test of each row may be made of another list of rows, place by place
+pub all-same : {A B : Type 0} (f : A → Bool) (g : ℕ → A) (p : B → Bool) (h : ℕ → B) (k i : ℕ) → ((j : ℕ) → i ≤ j → j < i + k → f (g j) ≡ p (h j))
+  → all f (rows g k i) ≡ all p (rows h k i)
+unfolding rows all
+all-same f g p h zero i e = refl
+all-same f g p h (suc k) i e = rw (e i (omega arith) (omega arith)) (go (p (h i)) (all-same f g p h k (suc i) (λ j l m. e j (omega arith) (omega arith))))
+  where
+    go : (t : Bool) → all f (rows g k (suc i)) ≡ all p (rows h k (suc i))
+      → _≡_ {A = Bool} (elim t as (λ _. Bool) [ true ↦ all f (rows g k (suc i)) | false ↦ false ]) (elim t as (λ _. Bool) [ true ↦ all p (rows h k (suc i)) | false ↦ false ])
+    go true r = r
+    go false r = refl
+
+-- a test and a search of n rows begin
+pub all-start : {A : Type 0} (f : A → Bool) (g : ℕ → A) (n : ℕ) → all f (rows g (n - 0) 0) ≡ all f (rows g n 0)
+all-start f g n = rw (rows-start g n)
+
+pub any-start : {A : Type 0} (f : A → Bool) (g : ℕ → A) (n m : ℕ) → n ≡ m → any f (rows g (n - 0) 0) ≡ any f (rows g m 0)
+any-start f g n m e = let z : n - 0 ≡ m = omega arith in rw z

@@ -1,0 +1,16 @@
+use borrow.Author.Tests.{eq-eqb, ne-eqb}
+use Rattle.constraints.proofs.are.Statement.{statement}
+use Rattle.constraints.proofs.are.Tie as tie
+use Rattle.constraints.proofs.are.Reads as reads
+use Rattle.constraints.proofs.are.Lts as lts
+
+-- src/lib.rt:300:1
+returns : tie.Need-returns
+returns c = rw (eq-eqb _ _ (c .if1 .taken))
+
+-- src/lib.rt:300:1
+returns-2 : tie.Need-returns-2
+returns-2 c = rw (ne-eqb _ _ (c .if1 .left))
+
+pub are-spec : {M : Type 1} → statement M
+are-spec = tie.close (tie.spec returns returns-2)

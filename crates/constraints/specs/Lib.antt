@@ -1,0 +1,6 @@
+-- Agreement over tables, the search behind it, and what posting writes.
+pub mod Agreement
+pub mod Nodes
+pub mod Search
+pub mod Posting
+pub mod Laws
