@@ -1,0 +1,186 @@
+-- How types meet demands, by their numbers, and what instructions that read a local come to.
+use mathlib.Core.Path.{_≡_, refl, sym, ap, _∙_}
+use mathlib.Core.Bool.{Bool, true, false, _&&_}
+use mathlib.Core.Option.{Option, none, some}
+use mathlib.Core.List.{List, [], _∷_, _++_}
+use mathlib.Core.Logic.{_≢_}
+use Prim.Native.Nat.{ℕ, _%_, _<_}
+use native.Mathlib.Omega.{arith}
+use lib.ListN.{getElem?}
+use lib.Dec.{eqb, leb}
+use borrow.Author.Tests.{eq-eqb, ne-eqb, eqb-true, eqb-false, lt-leb, le-leb}
+use Rattle.definition.specs.Instructions.{pick}
+use Rattle.definition.specs.Lists.{stack}
+use Rattle.definition.specs.Maybe.{_>>=_}
+use Rattle.definition.specs.declared.Instruction.{Instruction}
+use Rattle.definition.specs.declared.Instruction.the-variants.{AconstNull, Sipush, Iload, Aload, Areturn}
+use Rattle.definition.specs.Verifier.{VerifierType, typeInt, typeNull, typeClass, Note, TypeState, Flow, flow, meetClass, meetInt, meets, asReference, pop, effect, returns}
+use Rattle.verifier.specs.declared.types.Types.{Types}
+use Rattle.verifier.specs.declared.effects.Meeting.{Meeting}
+use Rattle.verifier.specs.declared.effects.Meeting.the-variants.{Unmet, Met, Noted}
+use Rattle.verifier.specs.declared.effects.Effect.the-variants.{Pushed}
+use Rattle.verifier.specs.Types.{typeOf, localOf, operandAt, localsOf, typesOf, knownLocal}
+use Rattle.verifier.specs.Effects.{notesIn, going, outcomeOf}
+use Rattle.verifier.proofs.TypeLaws.{type-int, type-null, type-class, local-set}
+
+-- A class that is demanded, and a class that stands there
+
+module _ (a b : ℕ) where
+  by-name : (t : Bool) → eqb a b ≡ t → meetClass b (typeClass a) ≡ pick t (some []) (some (record { low = a; high = b } ∷ []))
+  unfolding meetClass pick
+  by-name true e = rw (meetClass, e)
+  by-name false e = rw (meetClass, e)
+
+  pub class-same : a ≡ b → meetClass b (typeClass a) ≡ some []
+  unfolding pick
+  class-same h = by-name true (eq-eqb _ _ h)
+
+  pub class-other : a ≢ b → meetClass b (typeClass a) ≡ some (record { low = a; high = b } ∷ [])
+  unfolding pick
+  class-other h = by-name false (ne-eqb _ _ h)
+
+-- A name that is demanded
+
+module _ (t : VerifierType) (b : ℕ) where
+  by-kind : (u : Bool) → eqb b 1 ≡ u → meets t b ≡ pick u (meetInt t) (meetClass b t)
+  unfolding meets pick
+  by-kind true e = rw (meets, e)
+  by-kind false e = rw (meets, e)
+
+  pub meets-int : b ≡ 1 → meets t b ≡ meetInt t
+  unfolding pick
+  meets-int h = by-kind true (eq-eqb _ _ h)
+
+  pub meets-class : b ≢ 1 → meets t b ≡ meetClass b t
+  unfolding pick
+  meets-class h = by-kind false (ne-eqb _ _ h)
+
+-- Numbers that are int, and others
+
+module _ (t : ℕ) where
+  pub int-is : t ≡ 65536 → meetInt (typeOf t) ≡ some []
+  unfolding meetInt
+  int-is h = rw (type-int t h)
+
+  -- any other number is null or a class
+  other : (P : VerifierType → Type 0) → P typeNull → P (typeClass (t % 65536)) → t ≢ 65536 → P (typeOf t)
+  other P n k h = go (eqb t 65537) refl
+    where
+      go : (u : Bool) → eqb t 65537 ≡ u → P (typeOf t)
+      go true e = rw (type-null t (eqb-true t 65537 e)) n
+      go false e = rw (type-class t h (eqb-false t 65537 e)) k
+
+  pub int-not : t ≢ 65536 → meetInt (typeOf t) ≡ none
+  unfolding meetInt
+  int-not h = other (λ u. meetInt u ≡ none) refl refl h
+
+  pub reference-not : t ≡ 65536 → asReference (typeOf t) ≡ none
+  unfolding asReference
+  reference-not h = rw (type-int t h)
+
+  pub reference-is : t ≢ 65536 → asReference (typeOf t) ≡ some (typeOf t)
+  unfolding asReference
+  reference-is h = other (λ u. asReference u ≡ some u) refl refl h
+
+-- Instructions that read a local, by the number of its type
+
+join : {A B : Type 0} (m : Option (Option A)) (k : A → Option B) → (m >>= λ x. x >>= k) ≡ ((m >>= λ x. x) >>= k)
+unfolding _>>=_
+join none k = refl
+join (some x) k = refl
+
+module _ (types : Types) (i t : ℕ) (e : localOf t ≡ knownLocal (localsOf (types .locals)) i) where
+  abbrev s : TypeState
+  s = typesOf types
+
+  iload-known : effect (Iload i) s ≡ (localOf t >>= λ u. meetInt u >>= λ _. flow (u ∷ s .operands) (s .locals) [])
+  unfolding effect knownLocal typesOf
+  iload-known = join (getElem? (s .locals) i) _ ∙ ap (λ m. m >>= λ u. meetInt u >>= λ _. flow (u ∷ s .operands) (s .locals) []) (sym e)
+
+  aload-known : effect (Aload i) s ≡ (localOf t >>= λ u. asReference u >>= λ _. flow (u ∷ s .operands) (s .locals) [])
+  unfolding effect knownLocal typesOf
+  aload-known = join (getElem? (s .locals) i) _ ∙ ap (λ m. m >>= λ u. asReference u >>= λ _. flow (u ∷ s .operands) (s .locals) []) (sym e)
+
+  unset-none : {B : Type 0} (k : VerifierType → Option B) → t ≡ 65538 → (localOf t >>= k) ≡ none
+  unfolding localOf pick _>>=_
+  unset-none k h = rw h
+
+  pub iload-int : t ≡ 65536 → effect (Iload i) s ≡ flow (typeInt ∷ s .operands) (s .locals) []
+  unfolding _>>=_
+  iload-int h = iload-known ∙ rw (local-set t (λ q. omega arith), int-is t h, type-int t h)
+
+  pub iload-not : t ≢ 65536 → effect (Iload i) s ≡ none
+  unfolding _>>=_
+  iload-not h = iload-known ∙ go (eqb t 65538) refl
+    where
+      go : (u : Bool) → eqb t 65538 ≡ u → (localOf t >>= λ u. meetInt u >>= λ _. flow (u ∷ s .operands) (s .locals) []) ≡ none
+      go true q = unset-none _ (eqb-true t 65538 q)
+      go false q = rw (local-set t (eqb-false t 65538 q), int-not t h)
+
+  pub aload-unset : t ≡ 65538 → effect (Aload i) s ≡ none
+  aload-unset h = aload-known ∙ unset-none _ h
+
+  pub aload-int : t ≡ 65536 → effect (Aload i) s ≡ none
+  unfolding _>>=_
+  aload-int h = aload-known ∙ rw (local-set t (λ q. omega arith), reference-not t h)
+
+  pub aload-reference : t ≢ 65538 → t ≢ 65536 → effect (Aload i) s ≡ flow (typeOf t ∷ s .operands) (s .locals) []
+  unfolding _>>=_
+  aload-reference h k = aload-known ∙ rw (local-set t h, reference-is t k)
+
+-- Inline names
+
+pub positive : (n : ℕ) → n ≢ 0 → leb 1 n ≡ true
+positive n h = le-leb 1 n (omega arith)
+
+module _ (c n t : ℕ) where
+  pub class-low : c < 2 → (leb 2 c && leb 1 n && leb 1 t) ≡ false
+  class-low h = rw (lt-leb 2 c h)
+
+  pub name-none : n ≡ 0 → (leb 2 c && leb 1 n && leb 1 t) ≡ false
+  name-none h = rw h (go (leb 2 c))
+    where
+      go : (u : Bool) → (u && false && leb 1 t) ≡ false
+      go true = refl
+      go false = refl
+
+-- One meeting alone
+
+alone : (a : Meeting) (k : List Note → Option Flow) → (notesIn a >>= λ x. notesIn Met >>= λ y. k (x ++ y)) ≡ (notesIn a >>= k)
+unfolding notesIn _>>=_
+alone Unmet k = refl
+alone Met k = refl
+alone (Noted l h) k = refl
+
+pub pushed-alone :
+    (types : Types) (d t : ℕ) (a : Meeting) →
+    outcomeOf types (Pushed d t a Met) ≡ going (notesIn a >>= λ x. flow (typeOf t ∷ stack (operandAt (types .operands)) d) (localsOf (types .locals)) x)
+unfolding outcomeOf
+pushed-alone types d t a = ap going (alone a _)
+
+-- A reference that is returned
+
+module _ (r : ℕ) (s : TypeState) where
+  by-result : (u : Bool) → eqb r 1 ≡ u → returns Areturn r s ≡ pick u none (pop (s .operands) >>= λ p. meetClass r (p .top))
+  unfolding returns pick
+  by-result true e = rw (returns, e)
+  by-result false e = rw (returns, e)
+
+  pub areturn-int : r ≡ 1 → returns Areturn r s ≡ none
+  unfolding pick
+  areturn-int h = by-result true (eq-eqb _ _ h)
+
+  pub areturn-class : r ≢ 1 → returns Areturn r s ≡ (pop (s .operands) >>= λ p. meetClass r (p .top))
+  unfolding pick
+  areturn-class h = by-result false (ne-eqb _ _ h)
+
+-- Constants
+
+module _ (types : Types) where
+  pub pushed-null : outcomeOf types (Pushed (types .depth) 65537 Met Met) ≡ going (effect AconstNull (typesOf types))
+  unfolding outcomeOf effect typesOf notesIn _>>=_
+  pushed-null = rw (type-null 65537 refl)
+
+  pub pushed-int : (n : ℕ) → outcomeOf types (Pushed (types .depth) 65536 Met Met) ≡ going (effect (Sipush n) (typesOf types))
+  unfolding outcomeOf effect typesOf notesIn _>>=_
+  pushed-int n = rw (type-int 65536 refl)

@@ -1,0 +1,121 @@
+-- The types that numbers stand for.
+use mathlib.Core.Path.{_≡_, refl, sym, ap, _∙_}
+use mathlib.Core.Option.{Option, none, some}
+use mathlib.Core.List.{List, [], _∷_}
+use mathlib.Core.Logic.{_≢_}
+use mathlib.Core.Bool.{Bool, true, false}
+use Prim.Native.Nat.{ℕ, _%_, _-_, _<_, _≤_}
+use native.Mathlib.Omega.{arith}
+use lib.ListN.{getD, getElem?}
+use lib.Dec.{eqb}
+use borrow.Author.Tests.{eq-eqb, ne-eqb}
+use Rattle.definition.specs.Instructions.{pick}
+use Rattle.definition.specs.Lists.{stack, rows}
+use Rattle.definition.specs.Maybe.{_>>=_}
+use Rattle.definition.specs.Verifier.{VerifierType, typeInt, typeNull, typeClass, typeOfName, pop}
+use Rattle.verifier.specs.declared.types.Popped.{Popped}
+use Rattle.verifier.specs.declared.types.Popped.the-variants.{Top, Empty}
+use Rattle.verifier.specs.Types.{typeOf, localOf, operandAt, localAt, localsOf, typesOf, entryOf, popped, knownLocal}
+use Rattle.verifier.proofs.RowLaws.{stack-top, rows-at, rows-past}
+
+-- A number's type
+
+module _ (n : ℕ) where
+  pub type-int : n ≡ 65536 → typeOf n ≡ typeInt
+  unfolding typeOf pick
+  type-int h = rw (eq-eqb _ _ h)
+
+  pub type-null : n ≡ 65537 → typeOf n ≡ typeNull
+  unfolding typeOf pick
+  type-null h = rw h
+
+  pub type-class : n ≢ 65536 → n ≢ 65537 → typeOf n ≡ typeClass (n % 65536)
+  unfolding typeOf pick
+  type-class h k = rw (ne-eqb _ _ h, ne-eqb _ _ k)
+
+  pub type-name : n < 65536 → typeOf n ≡ typeClass n
+  type-name h = let e : n % 65536 ≡ n = omega arith in type-class (λ k. omega arith) (λ k. omega arith) ∙ rw e
+
+  pub local-set : n ≢ 65538 → localOf n ≡ some (typeOf n)
+  unfolding localOf pick
+  local-set h = rw (ne-eqb _ _ h)
+
+  -- the type that a name stands for
+  named : (t : Bool) → eqb n 1 ≡ t → typeOfName n ≡ pick t typeInt (typeClass n)
+  unfolding typeOfName pick
+  named true e = rw (typeOfName, e)
+  named false e = rw (typeOfName, e)
+
+  pub name-int : n ≡ 1 → typeOfName n ≡ typeInt
+  unfolding pick
+  name-int h = named true (eq-eqb _ _ h)
+
+  pub name-class : n ≢ 1 → typeOfName n ≡ typeClass n
+  unfolding pick
+  name-class h = named false (ne-eqb _ _ h)
+
+-- Operands and locals
+
+pub pop-empty : (g : ℕ → VerifierType) (d : ℕ) → d ≡ 0 → pop (stack g d) ≡ none
+unfolding pop stack
+pop-empty g d h = rw h
+
+pub pop-top : (g : ℕ → VerifierType) (d : ℕ) → d ≢ 0 → pop (stack g d) ≡ some (record { top = g (d - 1); more = stack g (d - 1) })
+unfolding pop
+pop-top g d h = rw (stack-top g d h)
+
+-- popped and pushed again
+again : Option (record { top : VerifierType; more : List VerifierType }) → List VerifierType
+again none = []
+again (some r) = r .top ∷ r .more
+
+pub pop-whole :
+    (xs : List VerifierType) (t : VerifierType) (more : List VerifierType) → pop xs ≡ some (record { top = t; more = more }) → xs ≡ t ∷ more
+unfolding pop again
+pop-whole xs t more e = whole xs ∙ ap again e
+  where
+    whole : (l : List VerifierType) → l ≡ again (pop l)
+    whole [] = refl
+    whole (x ∷ l) = refl
+
+module _ (o : List ℕ) (r : Popped) (m : Option (record { top : VerifierType; more : List VerifierType })) (e : popped o r ≡ m) where
+  pub popped-empty : r ≡ Empty → m ≡ none
+  unfolding popped
+  popped-empty h = sym e ∙ ap (popped o) h
+
+  pub popped-top : {t d : ℕ} → r ≡ Top t d → m ≡ some (record { top = typeOf t; more = stack (operandAt o) d })
+  unfolding popped
+  popped-top h = sym e ∙ ap (popped o) h
+
+module _ (l : List ℕ) (i : ℕ) where
+  pub local-at : i < 8 → getElem? (localsOf l) i ≡ some (localAt l i)
+  unfolding localsOf
+  local-at h = rows-at (localAt l) 8 i h
+
+  pub local-past : 8 ≤ i → getElem? (localsOf l) i ≡ none
+  unfolding localsOf
+  local-past h = rows-past (localAt l) 8 i h
+
+  pub known-at : i < 8 → knownLocal (localsOf l) i ≡ localOf (getD l i 0)
+  unfolding knownLocal localsOf localAt _>>=_
+  known-at h = rw (rows-at (localAt l) 8 i h)
+
+  pub known-past : 8 ≤ i → knownLocal (localsOf l) i ≡ none
+  unfolding knownLocal localsOf _>>=_
+  known-past h = rw (rows-past (localAt l) 8 i h)
+
+unset : localOf 65538 ≡ none
+unfolding localOf pick
+unset = refl
+
+-- point 0: the own name and the argument type as numbers, and six unset locals
+pub entry-is :
+    (own argument first second : ℕ) (o : List ℕ) → first ≡ own → first < 65536 → typeOf second ≡ typeOfName argument → second < 65537 →
+    typesOf (record {
+      operands = o;
+      depth = 0;
+      locals = first ∷ second ∷ 65538 ∷ 65538 ∷ 65538 ∷ 65538 ∷ 65538 ∷ 65538 ∷ [];
+    }) ≡ entryOf own argument
+unfolding typesOf entryOf stack localsOf rows localAt
+entry-is own argument first second o e l f m =
+    rw (local-set first (λ k. omega arith), local-set second (λ k. omega arith), type-name first l, e, f, unset)

@@ -1,0 +1,55 @@
+-- Each opcode's instruction is read off its inline bytes.
+use Rattle.definition.specs.Instructions.{instructionOf, sizedAs}
+use Rattle.verifier.specs.Decoding.{readingOf}
+use borrow.Author.Needs.{needs}
+use Rattle.verifier.proofs.decoding.instruction_of.Statement.{statement}
+use Rattle.verifier.proofs.decoding.instruction_of.Tie as tie
+
+pub instruction-of-spec : {M : Type 1} → statement M
+instruction-of-spec =
+    tie.close
+    (tie.spec
+    (λ c. search needs)
+    (λ c. search needs)
+    (λ c κs. search needs)
+    (λ c κs. search needs)
+    (λ c. search needs)
+    (λ c κs. search needs)
+    (λ c. search needs)
+    (λ c κs. search needs)
+    (λ c. search needs)
+    (λ c κs. search needs)
+    (λ c. search needs)
+    (λ c κs. search needs)
+    (λ c. search needs)
+    (λ c. search needs)
+    (λ c. search needs)
+    (λ c. search needs)
+    (λ c. search needs)
+    (λ c κs. search needs)
+    (λ c. search needs)
+    (λ c κs. search needs)
+    (λ c. search needs)
+    (λ c κs. search needs)
+    (λ c. search needs)
+    (λ c κs. search needs)
+    (λ c. search needs)
+    (λ c. search needs)
+    (λ c. search needs)
+    (λ c. unfold readingOf sizedAs instructionOf in rw (c .enum-told .given .1))
+    (λ c. unfold readingOf sizedAs instructionOf in rw (c .before .before .enum-told2 .given .1, c .extended .ensures, c .before .short-at .ensures))
+    (λ c. unfold readingOf sizedAs instructionOf in rw (c .before .enum-told3 .given .1, c .at8 .ensures))
+    (λ c. unfold readingOf sizedAs instructionOf in rw (c .before .enum-told4 .given .1, c .at82 .ensures))
+    (λ c. unfold readingOf sizedAs instructionOf in rw (c .before .enum-told5 .given .1, c .at83 .ensures))
+    (λ c. unfold readingOf sizedAs instructionOf in rw (c .before .enum-told6 .given .1, c .at84 .ensures))
+    (λ c. unfold readingOf sizedAs instructionOf in rw (c .enum-told7 .given .1))
+    (λ c. unfold readingOf sizedAs instructionOf in rw (c .enum-told8 .given .1))
+    (λ c. unfold readingOf sizedAs instructionOf in rw (c .enum-told9 .given .1))
+    (λ c. unfold readingOf sizedAs instructionOf in rw (c .enum-told10 .given .1))
+    (λ c. unfold readingOf sizedAs in rw (c .before .enum-told11 .given .1, ← c .getfield-at .ensures))
+    (λ c. unfold readingOf sizedAs in rw (c .before .enum-told12 .given .1, ← c .putfield-at .ensures))
+    (λ c. unfold readingOf sizedAs in rw (c .before .enum-told13 .given .1, ← c .invokevirtual-at .ensures))
+    (λ c. unfold readingOf sizedAs instructionOf in rw (c .before .enum-told14 .given .1, c .short-at2 .ensures))
+    (λ c. unfold readingOf sizedAs instructionOf in rw (c .enum-told15 .given .1))
+    (λ c. unfold readingOf sizedAs instructionOf in rw (c .enum-told16 .given .1))
+    (λ c. unfold readingOf sizedAs instructionOf in rw (c .enum-told17 .given .1)))

@@ -1,0 +1,40 @@
+-- An int is popped and set in a local that is there.
+use native.Mathlib.Omega.{arith}
+use Rattle.definition.specs.Verifier.{effect}
+use Rattle.verifier.specs.Types.{typesOf}
+use Rattle.verifier.proofs.TypeLaws.{local-set, popped-empty, popped-top, local-at, local-past}
+use Rattle.definition.specs.Maybe.{_>>=_}
+use Rattle.verifier.specs.Effects.{going, outcomeOf}
+use Rattle.verifier.proofs.EffectLaws.{int-is, int-not}
+use borrow.Author.Needs.{needs}
+use Rattle.verifier.proofs.effects.istore.Statement.{statement}
+use Rattle.verifier.proofs.effects.istore.Tie as tie
+
+returns : tie.Need-returns
+unfolding outcomeOf going effect typesOf _>>=_
+returns c = rw (popped-empty _ _ _ (c .before .before .pop .ensures) (c .enum-told .given .1))
+
+returns-2 : tie.Need-returns-2
+unfolding outcomeOf going effect typesOf _>>=_
+returns-2 c = rw (popped-top _ _ _ (c .before .before .before .before .pop .ensures) (c .before .before .t .given .1), int-not _ (c .if1 .taken))
+
+returns-3 : tie.Need-returns-3
+unfolding outcomeOf going effect typesOf _>>=_
+returns-3 c = rw (popped-top _ _ _ (c .before .before .before .before .before .before .pop .ensures) (c .before .before .before .before .t .given .1), int-is _ (c .before .before .if1 .left), ← c .before .wide8 .ensures .0, local-past _ _ (c .if2 .taken))
+
+returns-4 : tie.Need-returns-4
+unfolding outcomeOf going effect typesOf _>>=_
+returns-4 c = rw (popped-top _ _ _ (c .before .before .before .before .before .before .pop .ensures) (c .before .before .before .before .t .given .1), int-is _ (c .before .before .if1 .left), ← c .before .wide8 .ensures .0, local-at _ _ (c .if2 .left), c .before .before .if1 .left, local-set 65536 (λ k. omega arith))
+
+pub istore-spec : {M : Type 1} → statement M
+istore-spec =
+    tie.close
+    (tie.spec
+    (λ c κs. search needs)
+    (λ c. search needs)
+    (λ c. search needs)
+    returns
+    returns-2
+    (λ c κs. search needs)
+    returns-3
+    returns-4)

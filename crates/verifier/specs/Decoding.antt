@@ -1,0 +1,9 @@
+-- The answer of decoding: an instruction with its size, or nothing readable.
+use mathlib.Core.Option.{Option, none, some}
+use Rattle.definition.specs.Instructions.{Decoded}
+use Rattle.verifier.specs.declared.decoding.Reading.{Reading}
+use Rattle.verifier.specs.declared.decoding.Reading.the-variants.{At, Unreadable}
+
+unfoldable pub readingOf : Option Decoded → Reading
+readingOf none = Unreadable
+readingOf (some d) = At (d .instruction) (d .size)

@@ -1,0 +1,55 @@
+-- What an instruction comes to, and what the code's answers on it stand for.
+use mathlib.Core.Bool.{true, false}
+use mathlib.Core.Option.{Option, none, some}
+use mathlib.Core.List.{List, [], _∷_, _++_}
+use Prim.Native.Nat.{ℕ}
+use lib.ListN.{set}
+use Rattle.definition.specs.Lists.{stack}
+use Rattle.definition.specs.Maybe.{_>>=_}
+use Rattle.definition.specs.declared.Instruction.{Instruction}
+use Rattle.definition.specs.Verifier.{Note, TypeState, Flow, flow, effect, returns, isReturn}
+use Rattle.verifier.specs.declared.types.Types.{Types}
+use Rattle.verifier.specs.declared.effects.Meeting.{Meeting}
+use Rattle.verifier.specs.declared.effects.Meeting.the-variants.{Unmet, Met, Noted}
+use Rattle.verifier.specs.declared.effects.Effect.{Effect}
+use Rattle.verifier.specs.declared.effects.Effect.the-variants.{Rejected, Kept, Pushed, Stored, Ended}
+use Rattle.verifier.specs.Types.{typeOf, localOf, operandAt, localsOf}
+
+-- the notes under which a demand is met
+unfoldable pub notesIn : Meeting → Option (List Note)
+notesIn Unmet = none
+notesIn Met = some []
+notesIn (Noted a b) = some (record { low = a; high = b } ∷ [])
+
+-- rejected, on to the next instruction, or a return that fits
+pub data Outcome : Type 0 where
+  rejected : Outcome
+  goes : Flow → Outcome
+  ends : List Note → Outcome
+
+unfoldable pub going : Option Flow → Outcome
+going none = rejected
+going (some f) = goes f
+
+unfoldable pub ending : Option (List Note) → Outcome
+ending none = rejected
+ending (some ns) = ends ns
+
+-- an instruction, where the result type is r and the types are s
+unfoldable pub outcome : Instruction → ℕ → TypeState → Outcome
+outcome i r s = elim (isReturn i) [ true ↦ ending (returns i r s) | false ↦ going (effect i s) ]
+
+-- the state after the lowest d operands are kept
+abbrev kept : Types → ℕ → List Note → Option Flow
+kept s d ns = flow (stack (operandAt (s .operands)) d) (localsOf (s .locals)) ns
+
+-- and a type is pushed on them
+abbrev pushed : Types → ℕ → ℕ → List Note → Option Flow
+pushed s d t ns = flow (typeOf t ∷ stack (operandAt (s .operands)) d) (localsOf (s .locals)) ns
+
+unfoldable pub outcomeOf : Types → Effect → Outcome
+outcomeOf s Rejected = rejected
+outcomeOf s (Kept d a b) = going (notesIn a >>= λ x. notesIn b >>= λ y. kept s d (x ++ y))
+outcomeOf s (Pushed d t a b) = going (notesIn a >>= λ x. notesIn b >>= λ y. pushed s d t (x ++ y))
+outcomeOf s (Stored d i t) = going (flow (stack (operandAt (s .operands)) d) (set (localsOf (s .locals)) i (localOf t)) [])
+outcomeOf s (Ended a) = ending (notesIn a)

@@ -1,0 +1,4 @@
+-- What the verifier's code answers, by the definitions.
+pub mod Decoding
+pub mod Types
+pub mod Effects

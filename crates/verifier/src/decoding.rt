@@ -1,0 +1,154 @@
+// Opcode bytes, and the instruction at a point of the code.
+ghost use mathlib.Core.Path.{_≡_};
+ghost use mathlib.Core.Option.{some};
+ghost use Prim.Native.Nat.{_+_, _*_, _<_, _≤_};
+ghost use lib.ListN.{length, getD, set};
+ghost use Rattle.definition.specs.Instructions.{opcodeOf, inlineLength, extend, instructionOf, sizedAs, decode};
+ghost use Rattle.verifier.specs.Decoding.{readingOf};
+use cells::short_at;
+use definition::Instruction;
+use definition::Opcode;
+
+// What stands at a point of the code: an instruction with its size in bytes, or nothing that can be read.
+pub enum Reading {
+    At(Instruction, usize),
+    Unreadable,
+}
+
+// The one decision over opcode bytes.
+pub fn opcode_of(b: u8) -> Opcode
+    ensures { λ r. ⌜ r ≡ opcodeOf b ⌝ }
+{
+    match b {
+        0x01 => Opcode::OpAconstNull,
+        0x11 => Opcode::OpSipush,
+        0x15 => Opcode::OpIload,
+        0x19 => Opcode::OpAload,
+        0x36 => Opcode::OpIstore,
+        0x3A => Opcode::OpAstore,
+        0x57 => Opcode::OpPop,
+        0x59 => Opcode::OpDup,
+        0x60 => Opcode::OpIadd,
+        0x64 => Opcode::OpIsub,
+        0xB4 => Opcode::OpGetfield,
+        0xB5 => Opcode::OpPutfield,
+        0xB6 => Opcode::OpInvokevirtual,
+        0xBB => Opcode::OpNew,
+        0xAC => Opcode::OpIreturn,
+        0xB0 => Opcode::OpAreturn,
+        _ => Opcode::OpUnknown,
+    }
+}
+
+// How many bytes follow an opcode inline.
+pub fn inline_length(o: Opcode) -> usize
+    ensures { λ r. ⌜ r ≡ inlineLength o ⌝ }
+{
+    match o {
+        Opcode::OpAconstNull => 0,
+        Opcode::OpSipush => 2,
+        Opcode::OpIload => 1,
+        Opcode::OpAload => 1,
+        Opcode::OpIstore => 1,
+        Opcode::OpAstore => 1,
+        Opcode::OpPop => 0,
+        Opcode::OpDup => 0,
+        Opcode::OpIadd => 0,
+        Opcode::OpIsub => 0,
+        Opcode::OpGetfield => 6,
+        Opcode::OpPutfield => 6,
+        Opcode::OpInvokevirtual => 8,
+        Opcode::OpNew => 2,
+        Opcode::OpIreturn => 0,
+        Opcode::OpAreturn => 0,
+        Opcode::OpUnknown => 0,
+    }
+}
+
+// Signed 16 bits as 32.
+fn extended(n: u16) -> u32
+    ensures { λ r. ⌜ r ≡ extend n ⌝ }
+{
+    let wide = cells::from16(n);
+    if wide < 32768 {
+        wide
+    } else {
+        wide + 4294901760
+    }
+}
+
+// The instructions with several names, which begin at place i.
+fn getfield_at(code: &[u8], i: usize) -> Instruction
+    requires { ⌜ i ≤ length (now code) ⌝ }
+    ensures { λ r. ⌜ some r ≡ instructionOf (now (code .entry)) i Opcode.OpGetfield ⌝ }
+{
+    Instruction::Getfield(
+        short_at(code, i),
+        short_at(code, i + 2),
+        short_at(code, i + 4),
+    )
+}
+
+fn putfield_at(code: &[u8], i: usize) -> Instruction
+    requires { ⌜ i ≤ length (now code) ⌝ }
+    ensures { λ r. ⌜ some r ≡ instructionOf (now (code .entry)) i Opcode.OpPutfield ⌝ }
+{
+    Instruction::Putfield(
+        short_at(code, i),
+        short_at(code, i + 2),
+        short_at(code, i + 4),
+    )
+}
+
+fn invokevirtual_at(code: &[u8], i: usize) -> Instruction
+    requires { ⌜ i ≤ length (now code) ⌝ }
+    ensures { λ r. ⌜ some r ≡ instructionOf (now (code .entry)) i Opcode.OpInvokevirtual ⌝ }
+{
+    Instruction::Invokevirtual(
+        short_at(code, i),
+        short_at(code, i + 2),
+        short_at(code, i + 4),
+        short_at(code, i + 6),
+    )
+}
+
+// The instruction of n bytes whose inline bytes begin at place i.
+fn instruction_of(code: &[u8], i: usize, o: Opcode, n: usize) -> Reading
+    requires { ⌜ i ≤ length (now code) ⌝ }
+    ensures { λ r. ⌜ r ≡ readingOf (sizedAs n (instructionOf (now (code .entry)) i o)) ⌝ }
+{
+    match o {
+        Opcode::OpAconstNull => Reading::At(Instruction::AconstNull, n),
+        Opcode::OpSipush => Reading::At(Instruction::Sipush(extended(short_at(code, i))), n),
+        Opcode::OpIload => Reading::At(Instruction::Iload(cells::at8(code, i)), n),
+        Opcode::OpAload => Reading::At(Instruction::Aload(cells::at8(code, i)), n),
+        Opcode::OpIstore => Reading::At(Instruction::Istore(cells::at8(code, i)), n),
+        Opcode::OpAstore => Reading::At(Instruction::Astore(cells::at8(code, i)), n),
+        Opcode::OpPop => Reading::At(Instruction::Pop, n),
+        Opcode::OpDup => Reading::At(Instruction::Dup, n),
+        Opcode::OpIadd => Reading::At(Instruction::Iadd, n),
+        Opcode::OpIsub => Reading::At(Instruction::Isub, n),
+        Opcode::OpGetfield => Reading::At(getfield_at(code, i), n),
+        Opcode::OpPutfield => Reading::At(putfield_at(code, i), n),
+        Opcode::OpInvokevirtual => Reading::At(invokevirtual_at(code, i), n),
+        Opcode::OpNew => Reading::At(Instruction::New(short_at(code, i)), n),
+        Opcode::OpIreturn => Reading::At(Instruction::Ireturn, n),
+        Opcode::OpAreturn => Reading::At(Instruction::Areturn, n),
+        Opcode::OpUnknown => Reading::Unreadable,
+    }
+}
+
+// The instruction at point p of the code.
+pub fn decode(code: &[u8], p: usize) -> Reading
+    ensures { λ r. ⌜ r ≡ readingOf (decode (now (code .entry)) p) ⌝ }
+{
+    if code.len() <= p {
+        return Reading::Unreadable;
+    }
+    let o = opcode_of(cells::at8(code, p));
+    let n = inline_length(o);
+    if code.len() - p <= n {
+        return Reading::Unreadable;
+    }
+    instruction_of(code, p + 1, o, n + 1)
+}

@@ -1,0 +1,297 @@
+// What each instruction does to the types.
+use crate::types::INT;
+use crate::types::NULL;
+use crate::types::Popped;
+use crate::types::Types;
+use crate::types::UNSET;
+use crate::types::local;
+use crate::types::pop;
+use crate::types::type_of_name;
+use definition::Instruction;
+ghost use mathlib.Core.Bool.{_&&_};
+ghost use mathlib.Core.Option.{some};
+ghost use mathlib.Core.Path.{_≡_};
+ghost use lib.Dec.{leb};
+ghost use Rattle.definition.specs.Verifier.{meetClass, meetInt, meets, effect, returns};
+ghost use Rattle.verifier.specs.Types.{typeOf, localOf, typesOf};
+ghost use Rattle.verifier.specs.Effects.{notesIn, going, ending, outcome, outcomeOf};
+
+// How a type meets what is demanded: not at all, as it stands, or under the note 'low below high'.
+pub enum Meeting {
+    Unmet,
+    Met,
+    Noted(u16, u16),
+}
+
+// What an instruction does: it is rejected, or keeps the lowest operands, then pushes a type or sets a local, or it ends the method.
+// The meetings are the receiver's and the value's.
+pub enum Effect {
+    Rejected,
+    Kept(usize, Meeting, Meeting),
+    Pushed(usize, u32, Meeting, Meeting),
+    Stored(usize, usize, u32),
+    Ended(Meeting),
+}
+
+// A type where class b is demanded.
+fn meet_class(b: u16, t: u32) -> Meeting
+    ensures { λ r. ⌜ notesIn r ≡ meetClass b (typeOf t) ⌝ }
+{
+    if t == INT {
+        return Meeting::Unmet;
+    }
+    if t == NULL {
+        return Meeting::Met;
+    }
+    let a = (t % 65536) as u16;
+    if a == b {
+        Meeting::Met
+    } else {
+        Meeting::Noted(a, b)
+    }
+}
+
+// A type where int is demanded.
+fn meet_int(t: u32) -> Meeting
+    ensures { λ r. ⌜ notesIn r ≡ meetInt (typeOf t) ⌝ }
+{
+    if t == INT {
+        Meeting::Met
+    } else {
+        Meeting::Unmet
+    }
+}
+
+// A type where name b is demanded.
+fn meet_name(t: u32, b: u16) -> Meeting
+    ensures { λ r. ⌜ notesIn r ≡ meets (typeOf t) b ⌝ }
+{
+    if b == 1 {
+        meet_int(t)
+    } else {
+        meet_class(b, t)
+    }
+}
+
+// A reference's type as a local holds it.
+fn stored(t: u32) -> u32
+    ensures { λ r. ⌜ localOf r ≡ some (typeOf t) ⌝ }
+{
+    if t == INT {
+        return INT;
+    }
+    if t == NULL { NULL } else { t % 65536 }
+}
+
+// An inline class is 2 or more, and other names are not 0.
+fn named(c: u16, n: u16, t: u16) -> bool
+    ensures { λ r. ⌜ r ≡ (leb 2 c && leb 1 n && leb 1 t) ⌝ }
+{
+    if c < 2 {
+        return false;
+    }
+    if n == 0 {
+        return false;
+    }
+    1 <= t
+}
+
+fn push(types: Types, t: u32) -> Effect
+    ensures { λ r. ⌜ r ≡ Effect.Pushed (types .depth) t Meeting.Met Meeting.Met ⌝ }
+{
+    Effect::Pushed(types.depth, t, Meeting::Met, Meeting::Met)
+}
+
+fn iload(types: Types, i: u8) -> Effect
+    ensures { λ r. ⌜ outcomeOf types r ≡ going (effect (Instruction.Iload i) (typesOf types)) ⌝ }
+{
+    let t = local(types, i);
+    if t != INT {
+        return Effect::Rejected;
+    }
+    push(types, INT)
+}
+
+fn aload(types: Types, i: u8) -> Effect
+    ensures { λ r. ⌜ outcomeOf types r ≡ going (effect (Instruction.Aload i) (typesOf types)) ⌝ }
+{
+    let t = local(types, i);
+    if t == UNSET {
+        return Effect::Rejected;
+    }
+    if t == INT {
+        return Effect::Rejected;
+    }
+    push(types, t)
+}
+
+fn istore(types: Types, i: u8) -> Effect
+    ensures { λ r. ⌜ outcomeOf types r ≡ going (effect (Instruction.Istore i) (typesOf types)) ⌝ }
+{
+    let Popped::Top(t, d) = pop(types, types.depth) else {
+        return Effect::Rejected;
+    };
+    if t != INT {
+        return Effect::Rejected;
+    }
+    let place = cells::wide8(i);
+    if 8 <= place {
+        return Effect::Rejected;
+    }
+    Effect::Stored(d, place, INT)
+}
+
+fn astore(types: Types, i: u8) -> Effect
+    ensures { λ r. ⌜ outcomeOf types r ≡ going (effect (Instruction.Astore i) (typesOf types)) ⌝ }
+{
+    let Popped::Top(t, d) = pop(types, types.depth) else {
+        return Effect::Rejected;
+    };
+    if t == INT {
+        return Effect::Rejected;
+    }
+    let place = cells::wide8(i);
+    if 8 <= place {
+        return Effect::Rejected;
+    }
+    Effect::Stored(d, place, stored(t))
+}
+
+fn drop(types: Types) -> Effect
+    ensures { λ r. ⌜ outcomeOf types r ≡ going (effect Instruction.Pop (typesOf types)) ⌝ }
+{
+    let Popped::Top(_, d) = pop(types, types.depth) else {
+        return Effect::Rejected;
+    };
+    Effect::Kept(d, Meeting::Met, Meeting::Met)
+}
+
+fn dup(types: Types) -> Effect
+    ensures { λ r. ⌜ outcomeOf types r ≡ going (effect Instruction.Dup (typesOf types)) ⌝ }
+{
+    let Popped::Top(t, _) = pop(types, types.depth) else {
+        return Effect::Rejected;
+    };
+    push(types, t)
+}
+
+// A sum or a difference of two ints.
+fn arithmetic(types: Types) -> Effect
+    ensures { λ r. ⌜ outcomeOf types r ≡ going (effect Instruction.Iadd (typesOf types)) ⌝ }
+{
+    let Popped::Top(x, d) = pop(types, types.depth) else {
+        return Effect::Rejected;
+    };
+    let Popped::Top(y, e) = pop(types, d) else {
+        return Effect::Rejected;
+    };
+    if x != INT {
+        return Effect::Rejected;
+    }
+    if y != INT {
+        return Effect::Rejected;
+    }
+    Effect::Pushed(e, INT, Meeting::Met, Meeting::Met)
+}
+
+fn getfield(types: Types, c: u16, f: u16, t: u16) -> Effect
+    ensures { λ r. ⌜ outcomeOf types r ≡ going (effect (Instruction.Getfield c f t) (typesOf types)) ⌝ }
+{
+    if !named(c, f, t) {
+        return Effect::Rejected;
+    }
+    let Popped::Top(x, d) = pop(types, types.depth) else {
+        return Effect::Rejected;
+    };
+    Effect::Pushed(d, type_of_name(t), meet_class(c, x), Meeting::Met)
+}
+
+fn putfield(types: Types, c: u16, f: u16, t: u16) -> Effect
+    ensures { λ r. ⌜ outcomeOf types r ≡ going (effect (Instruction.Putfield c f t) (typesOf types)) ⌝ }
+{
+    if !named(c, f, t) {
+        return Effect::Rejected;
+    }
+    let Popped::Top(x, d) = pop(types, types.depth) else {
+        return Effect::Rejected;
+    };
+    let Popped::Top(y, e) = pop(types, d) else {
+        return Effect::Rejected;
+    };
+    Effect::Kept(e, meet_class(c, y), meet_name(x, t))
+}
+
+fn invokevirtual(types: Types, c: u16, m: u16, t: u16, r: u16) -> Effect
+    ensures { λ q. ⌜ outcomeOf types q ≡ going (effect (Instruction.Invokevirtual c m t r) (typesOf types)) ⌝ }
+{
+    if !named(c, m, t) {
+        return Effect::Rejected;
+    }
+    if r == 0 {
+        return Effect::Rejected;
+    }
+    let Popped::Top(x, d) = pop(types, types.depth) else {
+        return Effect::Rejected;
+    };
+    let Popped::Top(y, e) = pop(types, d) else {
+        return Effect::Rejected;
+    };
+    Effect::Pushed(e, type_of_name(r), meet_class(c, y), meet_name(x, t))
+}
+
+fn new(types: Types, c: u16) -> Effect
+    ensures { λ r. ⌜ outcomeOf types r ≡ going (effect (Instruction.New c) (typesOf types)) ⌝ }
+{
+    if c < 2 {
+        return Effect::Rejected;
+    }
+    push(types, cells::from16(c))
+}
+
+fn ireturn(types: Types, result: u16) -> Effect
+    ensures { λ r. ⌜ outcomeOf types r ≡ ending (returns Instruction.Ireturn result (typesOf types)) ⌝ }
+{
+    if result != 1 {
+        return Effect::Rejected;
+    }
+    let Popped::Top(t, _) = pop(types, types.depth) else {
+        return Effect::Rejected;
+    };
+    Effect::Ended(meet_int(t))
+}
+
+fn areturn(types: Types, result: u16) -> Effect
+    ensures { λ r. ⌜ outcomeOf types r ≡ ending (returns Instruction.Areturn result (typesOf types)) ⌝ }
+{
+    if result == 1 {
+        return Effect::Rejected;
+    }
+    let Popped::Top(t, _) = pop(types, types.depth) else {
+        return Effect::Rejected;
+    };
+    Effect::Ended(meet_class(result, t))
+}
+
+// What an instruction does in a method with that result type.
+pub fn effect_of(types: Types, i: Instruction, result: u16) -> Effect
+    ensures { λ r. ⌜ outcomeOf types r ≡ outcome i result (typesOf types) ⌝ }
+{
+    match i {
+        Instruction::AconstNull => push(types, NULL),
+        Instruction::Sipush(_) => push(types, INT),
+        Instruction::Iload(l) => iload(types, l),
+        Instruction::Aload(l) => aload(types, l),
+        Instruction::Istore(l) => istore(types, l),
+        Instruction::Astore(l) => astore(types, l),
+        Instruction::Pop => drop(types),
+        Instruction::Dup => dup(types),
+        Instruction::Iadd => arithmetic(types),
+        Instruction::Isub => arithmetic(types),
+        Instruction::Getfield(c, f, t) => getfield(types, c, f, t),
+        Instruction::Putfield(c, f, t) => putfield(types, c, f, t),
+        Instruction::Invokevirtual(c, m, t, r) => invokevirtual(types, c, m, t, r),
+        Instruction::New(c) => new(types, c),
+        Instruction::Ireturn => ireturn(types, result),
+        Instruction::Areturn => areturn(types, result),
+    }
+}

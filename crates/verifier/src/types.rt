@@ -1,0 +1,76 @@
+// The verifier's types as numbers, and its state at a point.
+ghost use mathlib.Core.Path.{_≡_};
+ghost use Prim.Native.Nat.{_<_};
+ghost use lib.ListN.{getD};
+ghost use Rattle.definition.specs.Verifier.{typeOfName, pop};
+ghost use Rattle.verifier.specs.Types.{typeOf, localOf, operandAt, localsOf, popped, entryOf, typesOf, knownLocal};
+ghost use Rattle.definition.specs.Lists.{stack};
+
+// A type is a number: a class name is itself.
+pub const INT: u32 = 65536;
+
+pub const NULL: u32 = 65537;
+// A local that holds nothing.
+pub const UNSET: u32 = 65538;
+
+// The types at a point: of the operands, from the lowest, as many as depth says, and of the locals.
+pub struct Types {
+    pub operands: [u32; 16],
+    pub depth: usize,
+    pub locals: [u32; 8],
+}
+
+// The last operand's type, and how many are left below it.
+pub enum Popped {
+    Top(u32, usize),
+    Empty,
+}
+
+// The type that a name stands for.
+pub fn type_of_name(n: u16) -> u32
+    ensures { λ r. ⌜ (typeOf r ≡ typeOfName n) × (r < 65537) ⌝ }
+{
+    if n == 1 { INT } else { cells::from16(n) }
+}
+
+// The types at point 0.
+pub fn entry_types(own: u16, argument: u16) -> Types
+    ensures { λ r. ⌜ typesOf r ≡ entryOf own argument ⌝ }
+{
+    let first = cells::from16(own);
+    let second = type_of_name(argument);
+    Types {
+        operands: [0; 16],
+        depth: 0,
+        locals: [first, second, UNSET, UNSET, UNSET, UNSET, UNSET, UNSET],
+    }
+}
+
+// The type of the operand at place i, from the lowest; 0 past the end.
+fn operand(types: Types, i: usize) -> u32
+    ensures { λ r. ⌜ r ≡ getD (types .operands) i 0 ⌝ }
+{
+    if i < 16 { types.operands[i] } else { 0 }
+}
+
+// The last of d operands.
+pub fn pop(types: Types, d: usize) -> Popped
+    ensures { λ r. ⌜ popped (types .operands) r ≡ pop (stack (operandAt (types .operands)) d) ⌝ }
+{
+    if d == 0 {
+        return Popped::Empty;
+    }
+    Popped::Top(operand(types, d - 1), d - 1)
+}
+
+// The type of a local; unset where there is no such local.
+pub fn local(types: Types, i: u8) -> u32
+    ensures { λ r. ⌜ localOf r ≡ knownLocal (localsOf (types .locals)) i ⌝ }
+{
+    let place = cells::wide8(i);
+    if place < 8 {
+        types.locals[place]
+    } else {
+        UNSET
+    }
+}
