@@ -1,0 +1,8 @@
+-- Reading a class file by fixed places, and its laws.
+pub mod Lists
+pub mod Reading
+pub mod Rules
+pub mod Stages
+pub mod Laws
+pub mod Searches
+pub mod Facts

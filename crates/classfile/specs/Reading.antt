@@ -1,0 +1,101 @@
+-- A class file read at once, by fixed places. The reading is total: any bytes give a file, and bytes that read by the file rules
+-- give the same file as the rules do (`quick-file` of Laws).
+use mathlib.Core.Path.{_≡_}
+use mathlib.Core.Bool.{Bool, true, false, _&&_}
+use mathlib.Core.Option.{Option, none, some}
+use mathlib.Core.List.{List, []}
+use Prim.Native.Nat.{ℕ, zero, suc, _+_, _*_, _≤_}
+use lib.ListN.{length, getD, take, drop}
+use lib.Dec.{eqb, leb, ltb}
+use Rattle.definition.specs.Lists.{rows}
+use Rattle.definition.specs.Classes.{Field, Method}
+use Rattle.definition.specs.Instructions.{shortAt}
+use Rattle.definition.specs.File.{File}
+use Rattle.classfile.specs.declared.FieldFound.{FieldFound}
+use Rattle.classfile.specs.declared.MethodFound.{MethodFound}
+
+-- Names and counts: after the version byte and the length
+
+unfoldable pub className : List ℕ → ℕ
+className bs = shortAt bs 3
+
+unfoldable pub superName : List ℕ → ℕ
+superName bs = shortAt bs 5
+
+unfoldable pub fieldCount : List ℕ → ℕ
+fieldCount bs = getD bs 7 0
+
+-- Fields: four bytes each, name and type
+
+unfoldable pub fieldPlace : ℕ → ℕ
+fieldPlace i = 8 + 4 * i
+
+unfoldable pub fieldIn : List ℕ → ℕ → Field
+fieldIn bs i = record { name = shortAt bs (fieldPlace i); type = shortAt bs (fieldPlace i + 2) }
+
+unfoldable pub quickFields : List ℕ → List Field
+quickFields bs = rows (fieldIn bs) (fieldCount bs) 0
+
+-- Methods: one record after another, each with name, argument, result, code length and code
+
+unfoldable pub methodCount : List ℕ → ℕ
+methodCount bs = getD bs (fieldPlace (fieldCount bs)) 0
+
+-- of the record that begins at place p
+unfoldable pub codeLength : List ℕ → ℕ → ℕ
+codeLength bs p = shortAt bs (p + 6)
+
+-- the code, as much of it as the bytes have
+unfoldable pub codeAt : List ℕ → ℕ → List ℕ
+codeAt bs p = take (codeLength bs p) (drop (p + 8) bs)
+
+unfoldable pub methodAt : List ℕ → ℕ → Method
+methodAt bs p = record { name = shortAt bs p; argument = shortAt bs (p + 2); result = shortAt bs (p + 4); code = codeAt bs p }
+
+unfoldable pub nextPlace : List ℕ → ℕ → ℕ
+nextPlace bs p = p + 8 + codeLength bs p
+
+-- where the record of method j begins
+unfoldable pub methodPlace : List ℕ → ℕ → ℕ
+methodPlace bs zero = fieldPlace (fieldCount bs) + 1
+methodPlace bs (suc j) = nextPlace bs (methodPlace bs j)
+
+-- p is the place of method j, and so low that no place after it is larger than 32 bits can say
+pub record Placed (bs : List ℕ) (j p : ℕ) : Type 0 where
+  pub place : p ≡ methodPlace bs j
+  pub low : p ≤ 1029 + 65543 * j
+
+unfoldable pub methodIn : List ℕ → ℕ → Method
+methodIn bs j = methodAt bs (methodPlace bs j)
+
+unfoldable pub quickMethods : List ℕ → List Method
+quickMethods bs = rows (methodIn bs) (methodCount bs) 0
+
+-- The file
+
+unfoldable pub quickFile : List ℕ → File
+quickFile bs = record { name = className bs; super = superName bs; fields = quickFields bs; methods = quickMethods bs }
+
+-- Searches, as answers of functions
+
+unfoldable pub fieldIs : ℕ → ℕ → Field → Bool
+fieldIs n t f = eqb (f .name) n && eqb (f .type) t
+
+unfoldable pub fieldNamed : ℕ → Field → Bool
+fieldNamed n f = eqb (f .name) n
+
+unfoldable pub fieldFound : Option ℕ → FieldFound
+fieldFound none = FieldFound.Absent
+fieldFound (some i) = FieldFound.At i
+
+unfoldable pub methodFound : List ℕ → Option ℕ → MethodFound
+methodFound bs none = MethodFound.Absent
+methodFound bs (some j) = MethodFound.At j (methodPlace bs j)
+
+-- number j of n, if there is one
+unfoldable pub numbered : ℕ → ℕ → Option ℕ
+numbered n j = elim (ltb j n) [ true ↦ some j | false ↦ none ]
+
+-- the bytes from start, size many, if they are there, else none at all
+unfoldable pub partOf : List ℕ → ℕ → ℕ → List ℕ
+partOf bs start size = elim (leb (start + size) (length bs)) [ true ↦ take size (drop start bs) | false ↦ [] ]

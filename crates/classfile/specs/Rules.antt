@@ -1,0 +1,167 @@
+-- The file rules by places: as tests, and as what they say.
+use mathlib.Core.Path.{_≡_, ap}
+use mathlib.Core.Bool.{Bool, true, false, not}
+use mathlib.Core.List.{List, [], _∷_}
+use Prim.Native.Nat.{ℕ, _+_, _≤_, _<_}
+use native.Mathlib.Omega.{arith}
+use lib.ListN.{length, getD}
+use lib.Dec.{eqb, leb}
+use borrow.Author.Tests.{leb-true, eqb-true, le-leb, eq-eqb, not-true}
+use Rattle.definition.specs.Lists.{every, rows, doubled}
+use Rattle.definition.specs.Instructions.{shortAt}
+use Rattle.definition.specs.File.{sameField, sameMethod}
+use Rattle.classfile.specs.Lists.{_and_, every-true, true-every, each-true, true-each}
+use Rattle.classfile.specs.Reading.{className, superName, fieldCount, fieldIn, quickFields, methodCount, codeLength, nextPlace, methodPlace, quickMethods}
+
+-- The tests
+
+-- at most 4,096 bytes, all of the fields and the byte with the method count among them; version 1, the length of all that follows it
+unfoldable pub sized : List ℕ → Bool
+sized bs = every (leb (length bs) 4096 ∷ leb (methodPlace bs 0) (length bs) ∷ eqb (getD bs 0 0) 1 ∷ eqb (shortAt bs 1 + 3) (length bs) ∷ [])
+
+-- both class names are 2 or more, both counts at most 8
+unfoldable pub titled : List ℕ → Bool
+titled bs = every (leb 2 (className bs) ∷ leb 2 (superName bs) ∷ leb (fieldCount bs) 8 ∷ leb (methodCount bs) 8 ∷ [])
+
+-- neither name nor type is 0
+unfoldable pub namedField : List ℕ → ℕ → Bool
+namedField bs i = every (leb 1 (fieldIn bs i .name) ∷ leb 1 (fieldIn bs i .type) ∷ [])
+
+-- of the record at place p: neither name nor a type is 0
+unfoldable pub namedMethod : List ℕ → ℕ → Bool
+namedMethod bs p = every (leb 1 (shortAt bs p) ∷ leb 1 (shortAt bs (p + 2)) ∷ leb 1 (shortAt bs (p + 4)) ∷ [])
+
+-- of the record at place p: the code has 1 to 512 bytes, and they are there
+unfoldable pub codedMethod : List ℕ → ℕ → Bool
+codedMethod bs p = every (leb 1 (codeLength bs p) ∷ leb (codeLength bs p) 512 ∷ leb (nextPlace bs p) (length bs) ∷ [])
+
+unfoldable pub wholeMethod : List ℕ → ℕ → Bool
+wholeMethod bs p = every (namedMethod bs p ∷ codedMethod bs p ∷ [])
+
+unfoldable pub namedFields : List ℕ → Bool
+namedFields bs = every (rows (namedField bs) (fieldCount bs) 0)
+
+unfoldable pub wholeMethodIn : List ℕ → ℕ → Bool
+wholeMethodIn bs j = wholeMethod bs (methodPlace bs j)
+
+-- every method, and nothing after the last
+unfoldable pub wholeMethods : List ℕ → Bool
+wholeMethods bs = every (every (rows (wholeMethodIn bs) (methodCount bs) 0) ∷ eqb (methodPlace bs (methodCount bs)) (length bs) ∷ [])
+
+unfoldable pub readable : List ℕ → Bool
+readable bs = every
+    (sized bs
+    ∷ titled bs
+    ∷ namedFields bs
+    ∷ wholeMethods bs
+    ∷ not (doubled sameField (quickFields bs))
+    ∷ not (doubled sameMethod (quickMethods bs))
+    ∷ [])
+
+-- What they say
+
+pub record NamedField (bs : List ℕ) (i : ℕ) : Type 0 where
+  pub name : 1 ≤ fieldIn bs i .name
+  pub type : 1 ≤ fieldIn bs i .type
+
+pub record WholeMethod (bs : List ℕ) (p : ℕ) : Type 0 where
+  pub name : 1 ≤ shortAt bs p
+  pub argument : 1 ≤ shortAt bs (p + 2)
+  pub result : 1 ≤ shortAt bs (p + 4)
+  pub some : 1 ≤ codeLength bs p
+  pub few : codeLength bs p ≤ 512
+  pub within : nextPlace bs p ≤ length bs
+
+-- bytes that read as a file
+pub record Readable (bs : List ℕ) : Type 0 where
+  pub size : length bs ≤ 4096
+  pub within : methodPlace bs 0 ≤ length bs
+  pub version : getD bs 0 0 ≡ 1
+  pub rest : shortAt bs 1 + 3 ≡ length bs
+  pub name : 2 ≤ className bs
+  pub super : 2 ≤ superName bs
+  pub fewFields : fieldCount bs ≤ 8
+  pub fewMethods : methodCount bs ≤ 8
+  pub fields : (i : ℕ) → i < fieldCount bs → NamedField bs i
+  pub methods : (j : ℕ) → j < methodCount bs → WholeMethod bs (methodPlace bs j)
+  pub end : methodPlace bs (methodCount bs) ≡ length bs
+  pub noFieldTwice : doubled sameField (quickFields bs) ≡ false
+  pub noMethodTwice : doubled sameMethod (quickMethods bs) ≡ false
+
+-- The tests say so
+
+said-field : (bs : List ℕ) (i : ℕ) → namedField bs i ≡ true → NamedField bs i
+unfolding namedField
+said-field bs i h = let p = every-true _ h in record { name = leb-true _ _ (p .0); type = leb-true _ _ (p .1 .0) }
+
+said-method : (bs : List ℕ) (p : ℕ) → wholeMethod bs p ≡ true → WholeMethod bs p
+unfolding wholeMethod namedMethod codedMethod
+said-method bs p h =
+    let q = every-true _ h in
+    let n = every-true _ (q .0) in
+    let l = every-true _ (q .1 .0) in
+    record {
+      name = leb-true _ _ (n .0);
+      argument = leb-true _ _ (n .1 .0);
+      result = leb-true _ _ (n .1 .1 .0);
+      some = leb-true _ _ (l .0);
+      few = leb-true _ _ (l .1 .0);
+      within = leb-true _ _ (l .1 .1 .0);
+    }
+
+pub said : (bs : List ℕ) → readable bs ≡ true → Readable bs
+unfolding readable sized titled namedFields wholeMethods wholeMethodIn
+said bs h =
+    let r = every-true _ h in
+    let d = every-true _ (r .0) in
+    let n = every-true _ (r .1 .0) in
+    let m = every-true _ (r .1 .1 .1 .0) in
+    record {
+      size = leb-true _ _ (d .0);
+      within = leb-true _ _ (d .1 .0);
+      version = eqb-true _ _ (d .1 .1 .0);
+      rest = eqb-true _ _ (d .1 .1 .1 .0);
+      name = leb-true _ _ (n .0);
+      super = leb-true _ _ (n .1 .0);
+      fewFields = leb-true _ _ (n .1 .1 .0);
+      fewMethods = leb-true _ _ (n .1 .1 .1 .0);
+      fields = λ i l. said-field bs i (each-true _ _ 0 (r .1 .1 .0) i (omega arith) (omega arith));
+      methods = λ j l. said-method bs (methodPlace bs j) (each-true _ _ 0 (m .0) j (omega arith) (omega arith));
+      end = eqb-true _ _ (m .1 .0);
+      noFieldTwice = not-true _ (r .1 .1 .1 .1 .0);
+      noMethodTwice = not-true _ (r .1 .1 .1 .1 .1 .0);
+    }
+
+test-field : (bs : List ℕ) (i : ℕ) → NamedField bs i → namedField bs i ≡ true
+unfolding namedField
+test-field bs i h = true-every _ (le-leb _ _ (h .name) and le-leb _ _ (h .type) and tt)
+
+test-method : (bs : List ℕ) (p : ℕ) → WholeMethod bs p → wholeMethod bs p ≡ true
+unfolding wholeMethod namedMethod codedMethod
+test-method bs p h =
+    true-every _
+    (true-every _ (le-leb _ _ (h .name) and le-leb _ _ (h .argument) and le-leb _ _ (h .result) and tt)
+    and true-every _ (le-leb _ _ (h .some) and le-leb _ _ (h .few) and le-leb _ _ (h .within) and tt)
+    and tt)
+
+test-sizes : (bs : List ℕ) → Readable bs → sized bs ≡ true
+unfolding sized
+test-sizes bs h = true-every _ (le-leb _ _ (h .size) and le-leb _ _ (h .within) and eq-eqb _ _ (h .version) and eq-eqb _ _ (h .rest) and tt)
+
+test-names : (bs : List ℕ) → Readable bs → titled bs ≡ true
+unfolding titled
+test-names bs h = true-every _ (le-leb _ _ (h .name) and le-leb _ _ (h .super) and le-leb _ _ (h .fewFields) and le-leb _ _ (h .fewMethods) and tt)
+
+pub tested : (bs : List ℕ) → Readable bs → readable bs ≡ true
+unfolding readable namedFields wholeMethods wholeMethodIn
+tested bs h =
+    let fields = true-each (namedField bs) (fieldCount bs) 0 (λ i l m. test-field bs i (h .fields i (omega arith))) in
+    let methods = true-each (λ j. wholeMethod bs (methodPlace bs j)) (methodCount bs) 0 (λ j l m. test-method bs _ (h .methods j (omega arith))) in
+    true-every _
+    (test-sizes bs h
+    and test-names bs h
+    and fields
+    and true-every _ (methods and eq-eqb _ _ (h .end) and tt)
+    and ap not (h .noFieldTwice)
+    and ap not (h .noMethodTwice)
+    and tt)
