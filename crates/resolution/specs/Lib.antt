@@ -1,0 +1,4 @@
+-- Classes and cache read off the tables at once, and the laws of their lookups.
+pub mod Quick
+pub mod Unbroken
+pub mod Lookups

@@ -1,0 +1,165 @@
+-- The classes and the cache read off the tables at once. A class is read off its part of the kept bytes without checking the file rules, so
+-- that any tables give a base; tables that are not broken give the definition's (`quick-base` of Unbroken).
+use mathlib.Core.Path.{_≡_, refl, sym, ap, _∙_}
+use mathlib.Core.Bool.{Bool, true, false}
+use mathlib.Core.Option.{Option, none, some}
+use mathlib.Core.List.{List, [], _∷_, map}
+use Prim.Native.Nat.{ℕ, zero, suc, _+_, _≤_, _<_}
+use native.Mathlib.Nat.{zero-add}
+use native.Mathlib.Omega.{arith}
+use lib.ListN.{length, getD, getElem?}
+use lib.Dec.{eqb, ltb}
+use borrow.Author.Tests.{lt-ltb, le-ltb, ltb-true, ltb-false}
+use Rattle.definition.specs.Lists.{any, indexOf, isSome, rows}
+use Rattle.definition.specs.Requests.{Request, at}
+use Rattle.definition.specs.Instructions.{pick}
+use Rattle.definition.specs.Classes.{Base, Class, Field, Method, Slot, slotIs, find, lower, superOf, loaderOf, ownSlots, slots, hasField, alike, methodsOf, hasMethod}
+use Rattle.definition.specs.Tables.{Tables, ClassRow, classRowAt, entryAt}
+use Rattle.laws.specs.Stable.{loader-is}
+use Rattle.layout.specs.Places.{rows-at, rows-past}
+use Rattle.classfile.specs.Lists.{any-index}
+use Rattle.classfile.specs.Reading.{className, superName, quickFields, quickMethods, fieldIs, fieldCount, methodCount, partOf}
+use Rattle.classfile.specs.Searches.{slotOf, own-index, own-slots, own-methods}
+use Rattle.resolution.specs.declared.Found.{Found}
+use Rattle.resolution.specs.declared.Found.the-variants.{At, Absent}
+
+-- an answer as a value of the code
+unfoldable pub found : Option ℕ → Found
+found none = Absent
+found (some n) = At n
+
+-- the class of a row. Object has no file, and its name is 2
+unfoldable pub quickClass : List ℕ → ClassRow → Class
+quickClass kept k =
+    let bs = partOf kept (k .start) (k .size) in
+    record {
+      loader = k .loader;
+      name = pick (eqb (k .size) 0) 2 (className bs);
+      super = superName bs;
+      fields = quickFields bs;
+      methods = quickMethods bs;
+    }
+
+unfoldable pub quickBase : List ℕ → List ℕ → List ℕ → List ℕ → Base
+quickBase counts classes kept cache = record {
+  classes = rows (λ c. quickClass kept (classRowAt classes c)) (getD counts 0 0) 0;
+  cache = rows (entryAt cache) (getD counts 2 0) 0;
+}
+
+abbrev pub quickOf : Tables → Base
+quickOf t = quickBase (t .counts) (t .classes) (t .kept) (t .cache)
+
+-- the file of class number c, no bytes if there is no such class
+unfoldable pub fileIn : List ℕ → List ℕ → List ℕ → ℕ → List ℕ
+fileIn counts classes kept c =
+    elim (ltb c (getD counts 0 0)) [
+      | true ↦ partOf kept (classRowAt classes c .start) (classRowAt classes c .size)
+      | false ↦ []
+    ]
+
+-- the loader of class number c, 0 if there is no such class
+unfoldable pub loaderIn : List ℕ → List ℕ → ℕ → ℕ
+loaderIn counts classes c = elim (ltb c (getD counts 0 0)) [ true ↦ classRowAt classes c .loader | false ↦ 0 ]
+
+-- a number that is below n, and one that is not
+either : {A : Type 0} (c n : ℕ) → (c < n → A) → (n ≤ c → A) → A
+either {A} c n f g = go (ltb c n) refl
+  where
+    go : (t : Bool) → ltb c n ≡ t → A
+    go true e = f (ltb-true c n e)
+    go false e = g (ltb-false c n e)
+
+module _ (counts classes kept cache : List ℕ) where
+  abbrev b : Base
+  b = quickBase counts classes kept cache
+
+  abbrev row : ℕ → ClassRow
+  row c = classRowAt classes c
+
+  abbrev file : ℕ → List ℕ
+  file c = fileIn counts classes kept c
+
+  -- A class that is there, and one that is not
+
+  pub class-there : (c : ℕ) → c < getD counts 0 0 → getElem? (b .classes) c ≡ some (quickClass kept (row c))
+  unfolding quickBase
+  class-there c h = rows-at (λ c. quickClass kept (row c)) (getD counts 0 0) 0 c h ∙ ap {B = Option Class} (λ i. some (quickClass kept (row i))) (zero-add c)
+
+  pub class-past : (c : ℕ) → getD counts 0 0 ≤ c → getElem? (b .classes) c ≡ none
+  unfolding quickBase
+  class-past c h = rows-past (λ c. quickClass kept (row c)) (getD counts 0 0) 0 c h
+
+  pub file-there : (c : ℕ) → c < getD counts 0 0 → file c ≡ partOf kept (row c .start) (row c .size)
+  unfolding fileIn
+  file-there c h = rw (lt-ltb c (getD counts 0 0) h, fileIn)
+
+  pub file-past : (c : ℕ) → getD counts 0 0 ≤ c → file c ≡ []
+  unfolding fileIn
+  file-past c h = rw (le-ltb c (getD counts 0 0) h, fileIn)
+
+  -- The superclass
+
+  module _ (c : ℕ) (h : c < getD counts 0 0) where
+    abbrev request : Request
+    request = at (row c .loader) (superName (file c))
+
+    super-unfolded : superOf b c ≡ (elim (find (b .cache) request) as (λ _. Option ℕ) [ none ↦ none | some p ↦ lower c p ])
+    unfolding superOf quickClass
+    super-unfolded = rw (class-there c h, superOf, file-there c h)
+
+    pub super-uncached : find (b .cache) request ≡ none → superOf b c ≡ none
+    super-uncached e = super-unfolded ∙ rw e
+
+    pub super-cached : (p : ℕ) → find (b .cache) request ≡ some p → superOf b c ≡ lower c p
+    super-cached p e = super-unfolded ∙ rw e
+
+  pub super-past : (c : ℕ) → getD counts 0 0 ≤ c → superOf b c ≡ none
+  unfolding superOf
+  super-past c h = rw (class-past c h, superOf)
+
+  -- A class that is not there has neither fields nor methods, as an empty file
+
+  own-there : (c : ℕ) → c < getD counts 0 0 → ownSlots b c ≡ map (slotOf c) (quickFields (file c))
+  unfolding quickClass
+  own-there c h = own-slots b c (quickClass kept (row c)) (class-there c h) ∙ ap (λ (bs : List ℕ). map (slotOf c) (quickFields bs)) (sym (file-there c h))
+
+  own-past : (c : ℕ) → getD counts 0 0 ≤ c → ownSlots b c ≡ map (slotOf c) (quickFields (file c))
+  unfolding ownSlots quickFields fieldCount rows
+  own-past c h = rw (class-past c h, ownSlots, file-past c h)
+
+  pub own-quick : (c : ℕ) → ownSlots b c ≡ map (slotOf c) (quickFields (file c))
+  own-quick c = either c (getD counts 0 0) (own-there c) (own-past c)
+
+  methods-there : (c : ℕ) → c < getD counts 0 0 → methodsOf b c ≡ quickMethods (file c)
+  unfolding quickClass
+  methods-there c h = own-methods b c (quickClass kept (row c)) (class-there c h) ∙ ap quickMethods (sym (file-there c h))
+
+  methods-past : (c : ℕ) → getD counts 0 0 ≤ c → methodsOf b c ≡ quickMethods (file c)
+  unfolding methodsOf quickMethods methodCount fieldCount rows
+  methods-past c h = rw (class-past c h, methodsOf, file-past c h)
+
+  pub methods-quick : (c : ℕ) → methodsOf b c ≡ quickMethods (file c)
+  methods-quick c = either c (getD counts 0 0) (methods-there c) (methods-past c)
+
+  loader-there : (c : ℕ) → c < getD counts 0 0 → loaderOf b c ≡ loaderIn counts classes c
+  unfolding quickClass loaderIn
+  loader-there c h = loader-is b c (quickClass kept (row c)) (class-there c h) ∙ sym (rw (lt-ltb c (getD counts 0 0) h, loaderIn))
+
+  loader-past : (c : ℕ) → getD counts 0 0 ≤ c → loaderOf b c ≡ loaderIn counts classes c
+  unfolding loaderOf loaderIn
+  loader-past c h = rw (class-past c h, loaderOf, le-ltb c (getD counts 0 0) h, loaderIn)
+
+  pub loader-quick : (c : ℕ) → loaderOf b c ≡ loaderIn counts classes c
+  loader-quick c = either c (getD counts 0 0) (loader-there c) (loader-past c)
+
+  -- What a class declares
+
+  pub has-field-quick : (n t c : ℕ) → hasField b n t c ≡ any (fieldIs n t) (quickFields (file c))
+  unfolding hasField
+  has-field-quick n t c =
+      let fs = quickFields (file c) in
+      ap (any (slotIs c n t)) (own-quick c) ∙ any-index (slotIs c n t) (map (slotOf c) fs) ∙ ap isSome (own-index c n t fs) ∙ sym (any-index (fieldIs n t) fs)
+
+  pub has-method-quick : (n a r c : ℕ) → hasMethod b n a r c ≡ any (alike n a r) (quickMethods (file c))
+  unfolding hasMethod
+  has-method-quick n a r c = ap (any (alike n a r)) (methods-quick c)
