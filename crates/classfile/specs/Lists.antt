@@ -1,6 +1,6 @@
 -- Laws of tests and searches over lists, and over numbered places that are read as a list (`rows`): one turn of a loop for each of them.
 use mathlib.Core.Path.{_≡_, refl, sym, ap, _∙_, subst}
-use mathlib.Core.Logic.{⊎-elim}
+use mathlib.Core.Logic.{_⊎_, inl, inr, ⊎-elim}
 use mathlib.Core.Bool.{Bool, true, false, false≢true}
 use mathlib.Core.Option.{Option, none, some}
 use mathlib.Core.List.{List, [], _∷_, _++_, map}
@@ -8,9 +8,17 @@ use Prim.Native.Nat.{ℕ, zero, suc, _+_, _-_, _≤_, _<_}
 use native.Mathlib.Nat.{zero-add, eq-or-lt-of-le}
 use native.Mathlib.Omega.{arith}
 use lib.ListN.{length, getElem?}
-use lib.Dec.{ltb}
-use borrow.Author.Tests.{ltb-true, ltb-false}
+use lib.Dec.{leb}
+use borrow.Author.Tests.{leb-true, leb-false}
 use Rattle.definition.specs.Lists.{every, any, doubled, indexOf, isSome, rows}
+
+-- one number is at most another, or above it
+pub le-or-lt : (a b : ℕ) → (a ≤ b) ⊎ (b < a)
+le-or-lt a b = go (leb a b) refl
+  where
+    go : (t : Bool) → leb a b ≡ t → (a ≤ b) ⊎ (b < a)
+    go true e = inl (leb-true a b e)
+    go false e = inr (leb-false a b e)
 
 -- one fact, and then more
 infixr 5 _and_
@@ -165,14 +173,13 @@ no-row g (suc k) i (suc j) h = no-row g k (suc i) j (omega arith)
 
 -- an element of the list is what stands at its place
 pub row-is : {A : Type 0} (g : ℕ → A) (n j : ℕ) (x : A) → getElem? (rows g n 0) j ≡ some x → (j < n) × (g j ≡ x)
-row-is {A} g n j x h = go (ltb j n) refl
+row-is {A} g n j x h = ⊎-elim past here (le-or-lt n j)
   where
-    go : (t : Bool) → ltb j n ≡ t → (j < n) × (g j ≡ x)
-    go true e =
-        let l = ltb-true j n e in
-        let here : getElem? (rows g n 0) j ≡ some (g j) = get-rows g n 0 j l ∙ ap {B = Option A} (λ i. some (g i)) (zero-add j) in
-        (l, cc)
-    go false e = let past = no-row g n 0 j (ltb-false j n e) in let z : _≡_ {A = ℕ} 0 1 = cc in absurd (omega arith)
+    past : n ≤ j → (j < n) × (g j ≡ x)
+    past l = let e = no-row g n 0 j l in let z : _≡_ {A = ℕ} 0 1 = cc in absurd (omega arith)
+
+    here : j < n → (j < n) × (g j ≡ x)
+    here l = let e : getElem? (rows g n 0) j ≡ some (g j) = get-rows g n 0 j l ∙ ap {B = Option A} (λ i. some (g i)) (zero-add j) in (l, cc)
 
 -- A search of the places from i on: it stops at i, goes on, or ends
 
@@ -206,7 +213,8 @@ module _ {A : Type 0} (r : A → A → Bool) (g : ℕ → A) (n i : ℕ) where
   pub doubled-row : i < n → any (r (g i)) (rows g (n - (i + 1)) (i + 1)) ≡ true → doubled r (rows g (n - i) i) ≡ true
   doubled-row h e = rw (rows-more g n i h) (doubled-here r (g i) (rows g (n - (i + 1)) (i + 1)) e)
 
-  pub doubled-more : i < n → any (r (g i)) (rows g (n - (i + 1)) (i + 1)) ≡ false → doubled r (rows g (n - i) i) ≡ doubled r (rows g (n - (i + 1)) (i + 1))
+  pub doubled-more : i < n → any (r (g i)) (rows g (n - (i + 1)) (i + 1)) ≡ false
+      → doubled r (rows g (n - i) i) ≡ doubled r (rows g (n - (i + 1)) (i + 1))
   doubled-more h e = rw (rows-more g n i h) (doubled-later r (g i) (rows g (n - (i + 1)) (i + 1)) e)
 
   pub doubled-end : n ≤ i → doubled r (rows g (n - i) i) ≡ false
@@ -248,7 +256,8 @@ module _ {A : Type 0} (f : A → Bool) where
   index-found [] j h = let z : _≡_ {A = ℕ} 0 1 = cc in absurd (omega arith)
   index-found (x ∷ xs) j h = go (f x) refl (index-found xs)
     where
-      go : (t : Bool) → f x ≡ t → ((k : ℕ) → indexOf f xs ≡ some k → (y : A) × (getElem? xs k ≡ some y) × (f y ≡ true)) → (y : A) × (getElem? (x ∷ xs) j ≡ some y) × (f y ≡ true)
+      go : (t : Bool) → f x ≡ t → ((k : ℕ) → indexOf f xs ≡ some k → (y : A) × (getElem? xs k ≡ some y) × (f y ≡ true))
+          → (y : A) × (getElem? (x ∷ xs) j ≡ some y) × (f y ≡ true)
       go true e r = let z : 0 ≡ j = cc (index-here f x xs e) in (x, rw (← z), e)
       go false e r =
           let u = unshift (indexOf f xs) j (sym (index-later f x xs e) ∙ h) in
@@ -261,9 +270,14 @@ module _ {A : Type 0} (f : A → Bool) where
   index-append [] ys h = sym (shift-none (indexOf f ys))
   index-append (x ∷ xs) ys h = go (f x) refl (index-append xs ys)
     where
-      go : (t : Bool) → f x ≡ t → (any f xs ≡ false → indexOf f (xs ++ ys) ≡ shift (length xs) (indexOf f ys)) → indexOf f (x ∷ (xs ++ ys)) ≡ shift (suc (length xs)) (indexOf f ys)
+      go : (t : Bool) → f x ≡ t → (any f xs ≡ false → indexOf f (xs ++ ys) ≡ shift (length xs) (indexOf f ys))
+          → indexOf f (x ∷ (xs ++ ys)) ≡ shift (suc (length xs)) (indexOf f ys)
       go true e r = absurd (false≢true (sym h ∙ any-here f x xs e))
-      go false e r = index-later f x (xs ++ ys) e ∙ ap (shift 1) (r (sym (any-later f x xs e) ∙ h)) ∙ shift-shift (indexOf f ys) 1 (length xs) ∙ ap (λ (n : ℕ). shift n (indexOf f ys)) (omega arith)
+      go false e r =
+          index-later f x (xs ++ ys) e
+          ∙ ap (shift 1) (r (sym (any-later f x xs e) ∙ h))
+          ∙ shift-shift (indexOf f ys) 1 (length xs)
+          ∙ ap (λ (n : ℕ). shift n (indexOf f ys)) (omega arith)
 
 module _ {A B : Type 0} (f : B → Bool) (h : A → Bool) (g : A → B) (same : (x : A) → f (g x) ≡ h x) where
   pub any-map : (xs : List A) → any f (map g xs) ≡ any h xs
@@ -274,4 +288,7 @@ module _ {A B : Type 0} (f : B → Bool) (h : A → Bool) (g : A → B) (same : 
   pub index-map : (xs : List A) → indexOf f (map g xs) ≡ indexOf h xs
   unfolding indexOf
   index-map [] = refl
-  index-map (x ∷ xs) = λ i. elim (same x i) as (λ _. Option ℕ) [ true ↦ some 0 | false ↦ elim (index-map xs i) as (λ _. Option ℕ) [ none ↦ none | some j ↦ some (suc j) ] ]
+  index-map (x ∷ xs) = λ i. elim (same x i) as (λ _. Option ℕ) [
+    | true ↦ some 0
+    | false ↦ elim (index-map xs i) as (λ _. Option ℕ) [ none ↦ none | some j ↦ some (suc j) ]
+  ]

@@ -4,7 +4,7 @@ use mathlib.Core.Path.{_≡_}
 use mathlib.Core.Bool.{Bool, true, false, _&&_}
 use mathlib.Core.Option.{Option, none, some}
 use mathlib.Core.List.{List, []}
-use Prim.Native.Nat.{ℕ, zero, suc, _+_, _*_, _≤_}
+use Prim.Native.Nat.{ℕ, zero, suc, _+_, _-_, _*_, _≤_}
 use lib.ListN.{length, getD, take, drop}
 use lib.Dec.{eqb, leb, ltb}
 use Rattle.definition.specs.Lists.{rows}
@@ -35,6 +35,10 @@ fieldIn bs i = record { name = shortAt bs (fieldPlace i); type = shortAt bs (fie
 
 unfoldable pub quickFields : List ℕ → List Field
 quickFields bs = rows (fieldIn bs) (fieldCount bs) 0
+
+-- from field i on
+abbrev pub fieldsFrom : List ℕ → ℕ → List Field
+fieldsFrom bs i = rows (fieldIn bs) (fieldCount bs - i) i
 
 -- Methods: one record after another, each with name, argument, result, code length and code
 
@@ -70,6 +74,10 @@ methodIn bs j = methodAt bs (methodPlace bs j)
 
 unfoldable pub quickMethods : List ℕ → List Method
 quickMethods bs = rows (methodIn bs) (methodCount bs) 0
+
+-- from method j on
+abbrev pub methodsFrom : List ℕ → ℕ → List Method
+methodsFrom bs j = rows (methodIn bs) (methodCount bs - j) j
 
 -- The file
 

@@ -1,5 +1,6 @@
 -- What the answers of the searches say of the file that was read, and of a class's slots.
 use mathlib.Core.Path.{_≡_, refl, sym, ap, _∙_}
+use mathlib.Core.Logic.{⊎-elim}
 use mathlib.Core.Bool.{Bool, true, false}
 use mathlib.Core.Option.{Option, none, some}
 use mathlib.Core.List.{List, [], map}
@@ -7,8 +8,8 @@ use Prim.Native.Nat.{ℕ, _+_, _≤_, _<_}
 use native.Mathlib.Nat.{zero-add}
 use native.Mathlib.Omega.{arith}
 use lib.ListN.{length, take, drop, getElem?, length-take, length-drop}
-use lib.Dec.{eqb, leb, ltb}
-use borrow.Author.Tests.{lt-ltb, le-ltb, ltb-true, ltb-false, eq-eqb, le-leb, lt-leb}
+use lib.Dec.{eqb, leb}
+use borrow.Author.Tests.{lt-ltb, le-ltb, eq-eqb, le-leb, lt-leb}
 use Rattle.definition.specs.Lists.{any, indexOf, isSome}
 use Rattle.definition.specs.Maybe.{_>>=_, need}
 use Rattle.definition.specs.Classes.{Base, Class, Field, Method, Slot, slotIs, ownSlots, hasField, alike, methodsOf, hasMethod}
@@ -16,7 +17,7 @@ use Rattle.definition.specs.File.{File, byte, readFile}
 use Rattle.definition.specs.Tables.{ClassRow, fileAt}
 use Rattle.classfile.specs.declared.FieldFound.{FieldFound}
 use Rattle.classfile.specs.declared.MethodFound.{MethodFound}
-use Rattle.classfile.specs.Lists.{shift, shift-some, get-rows, no-row, row-is, any-index, index-found, any-map, index-map}
+use Rattle.classfile.specs.Lists.{le-or-lt, shift, shift-some, get-rows, no-row, row-is, any-index, index-found, any-map, index-map}
 use Rattle.classfile.specs.Reading.{methodCount, codeAt, methodAt, methodPlace, methodIn, quickMethods, fieldIs, fieldNamed, fieldFound, methodFound, numbered, partOf}
 use Rattle.classfile.specs.Laws.{methods-of}
 
@@ -43,18 +44,19 @@ unfolding numbered
 numbered-past n j h = rw (le-ltb j n h, numbered)
 
 pub numbered-some : (n j i : ℕ) → numbered n j ≡ some i → (j < n) × (i ≡ j)
-numbered-some n j i h = go (ltb j n) refl
+numbered-some n j i h = ⊎-elim past here (le-or-lt n j)
   where
-    go : (t : Bool) → ltb j n ≡ t → (j < n) × (i ≡ j)
-    go true e = let l = ltb-true j n e in (l, cc (numbered-in n j l))
-    go false e = let z : _≡_ {A = ℕ} 0 1 = cc (numbered-past n j (ltb-false j n e)) in absurd (omega arith)
+    past : n ≤ j → (j < n) × (i ≡ j)
+    past l = let z : _≡_ {A = ℕ} 0 1 = cc (numbered-past n j l) in absurd (omega arith)
+
+    here : j < n → (j < n) × (i ≡ j)
+    here l = (l, cc (numbered-in n j l))
 
 pub numbered-none : (n j : ℕ) → numbered n j ≡ none → n ≤ j
-numbered-none n j h = go (ltb j n) refl
+numbered-none n j h = ⊎-elim (λ l. l) here (le-or-lt n j)
   where
-    go : (t : Bool) → ltb j n ≡ t → n ≤ j
-    go true e = let z : _≡_ {A = ℕ} 0 1 = cc (numbered-in n j (ltb-true j n e)) in absurd (omega arith)
-    go false e = ltb-false j n e
+    here : j < n → n ≤ j
+    here l = let z : _≡_ {A = ℕ} 0 1 = cc (numbered-in n j l) in absurd (omega arith)
 
 -- Methods
 
@@ -85,7 +87,8 @@ module _ (bs : List ℕ) where
 
   -- what is found by a number
 
-  pub method-numbered : (j i p : ℕ) → methodFound bs (numbered (methodCount bs) j) ≡ MethodFound.At i p → getElem? (quickMethods bs) j ≡ some (methodAt bs p)
+  pub method-numbered : (j i p : ℕ) → methodFound bs (numbered (methodCount bs) j) ≡ MethodFound.At i p
+      → getElem? (quickMethods bs) j ≡ some (methodAt bs p)
   method-numbered j i p h =
       let a = method-at (numbered (methodCount bs) j) i p h in
       let b = numbered-some (methodCount bs) j i (a .0) in
@@ -96,7 +99,8 @@ module _ (bs : List ℕ) where
 
   -- what is found by a test
 
-  pub method-found : (f : Method → Bool) (j p : ℕ) → methodFound bs (indexOf f (quickMethods bs)) ≡ MethodFound.At j p → (getElem? (quickMethods bs) j ≡ some (methodAt bs p)) × (f (methodAt bs p) ≡ true)
+  pub method-found : (f : Method → Bool) (j p : ℕ) → methodFound bs (indexOf f (quickMethods bs)) ≡ MethodFound.At j p
+      → (getElem? (quickMethods bs) j ≡ some (methodAt bs p)) × (f (methodAt bs p) ≡ true)
   method-found f j p h =
       let a = method-at (indexOf f (quickMethods bs)) j p h in
       let x = index-found f (quickMethods bs) j (a .0) in

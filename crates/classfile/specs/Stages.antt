@@ -1,5 +1,6 @@
 -- The readings of the file rules, one after another, each at a place of the bytes: when it passes, and what it then gives.
 use mathlib.Core.Path.{_≡_, refl, ap}
+use mathlib.Core.Logic.{⊎-elim}
 use mathlib.Core.Bool.{Bool, true, false, false≢true, _&&_}
 use mathlib.Core.Option.{Option, none, some}
 use mathlib.Core.List.{List}
@@ -8,13 +9,13 @@ use native.Mathlib.Omega.{arith}
 use lib.ListN.{length, getD, drop, length-drop, drop-of-length-le}
 use lib.Seq.{drop-cons, drop-drop}
 use lib.Dec.{eqb, leb}
-use borrow.Author.Tests.{leb-true, leb-false, eqb-true, le-leb, eq-eqb}
+use borrow.Author.Tests.{leb-true, eqb-true, le-leb, eq-eqb}
 use Rattle.definition.specs.Lists.{rows}
 use Rattle.definition.specs.Maybe.{_>>=_, need}
 use Rattle.definition.specs.Classes.{Method}
 use Rattle.definition.specs.Instructions.{shortAt}
 use Rattle.definition.specs.File.{Got, byte, short, name, count, fieldsIn, methodsIn, ends}
-use Rattle.classfile.specs.Lists.{_and_, Each, each-more, each-rest}
+use Rattle.classfile.specs.Lists.{le-or-lt, _and_, Each, each-more, each-rest}
 use Rattle.classfile.specs.Reading.{fieldPlace, fieldIn, codeLength, codeAt, methodAt, nextPlace, methodPlace, methodIn}
 use Rattle.classfile.specs.Rules.{NamedField, WholeMethod}
 
@@ -65,7 +66,8 @@ abbrev pub got : {A : Type 0} → List ℕ → A → ℕ → Got A
 got bs v p = record { value = v; more = drop p bs }
 
 -- the same place in other words
-pub moved : (bs : List ℕ) {A : Type 0} {m : Option (Got A)} {T : Type 0} {v : A} {p q : ℕ} → p ≡ q → Outcome m T (got bs v p) → Outcome m T (got bs v q)
+pub moved : (bs : List ℕ) {A : Type 0} {m : Option (Got A)} {T : Type 0} {v : A} {p q : ℕ}
+    → p ≡ q → Outcome m T (got bs v p) → Outcome m T (got bs v q)
 moved bs e o = rw e at o
 
 module _ (bs : List ℕ) where
@@ -78,11 +80,7 @@ module _ (bs : List ℕ) where
   byte-past p h = rw (drop-of-length-le bs h)
 
   pub byte-at : (p : ℕ) → Outcome (byte (drop p bs)) (p < length bs) (got bs (getD bs p 0) (p + 1))
-  byte-at p = go (leb (suc p) (length bs)) refl
-    where
-      go : (t : Bool) → leb (suc p) (length bs) ≡ t → Outcome (byte (drop p bs)) (p < length bs) (got bs (getD bs p 0) (p + 1))
-      go true e = let h = leb-true (suc p) (length bs) e in passes h (byte-here p h)
-      go false e = let h = leb-false (suc p) (length bs) e in fails (λ l. omega arith) (byte-past p (omega arith))
+  byte-at p = ⊎-elim (λ h. fails (λ l. omega arith) (byte-past p h)) (λ h. passes h (byte-here p h)) (le-or-lt (length bs) p)
 
   pub short-at : (p : ℕ) → Outcome (short (drop p bs)) (p + 2 ≤ length bs) (got bs (shortAt bs p) (p + 2))
   unfolding short shortAt
@@ -100,11 +98,12 @@ module _ (bs : List ℕ) where
 
   pub ends-at : (p : ℕ) → Outcome (need (ends (drop p bs))) (length bs ≤ p) tt
   unfolding ends need
-  ends-at p = go (leb (suc p) (length bs)) refl
-    where
-      go : (t : Bool) → leb (suc p) (length bs) ≡ t → Outcome (need (ends (drop p bs))) (length bs ≤ p) tt
-      go true e = let h = leb-true (suc p) (length bs) e in fails (λ l. omega arith) (rw (drop-cons bs p 0 h))
-      go false e = let h = leb-false (suc p) (length bs) e in let l : length bs ≤ p = omega arith in passes l (rw (drop-of-length-le bs l))
+  ends-at p =
+      ⊎-elim (λ h. passes h (rw (drop-of-length-le bs h))) (λ h. fails (λ l. omega arith) (rw (drop-cons bs p 0 h))) (le-or-lt (length bs) p)
+
+  -- a name or type that is not 0
+  abbrev NameRule : ℕ → Type 0
+  NameRule p = (p + 2 ≤ length bs) × (1 ≤ shortAt bs p)
 
   -- Fields
 
@@ -113,7 +112,7 @@ module _ (bs : List ℕ) where
 
   -- as one field after another is tested
   abbrev FieldsFrom : ℕ → ℕ → Type 0
-  FieldsFrom k i = ((fieldPlace i + 2 ≤ length bs) × (1 ≤ shortAt bs (fieldPlace i))) × (((fieldPlace i + 2 + 2 ≤ length bs) × (1 ≤ shortAt bs (fieldPlace i + 2))) × Each FieldRule k (suc i))
+  FieldsFrom k i = NameRule (fieldPlace i) × (NameRule (fieldPlace i + 2) × Each FieldRule k (suc i))
 
   field-rule : (k i : ℕ) → FieldsFrom k i → Each FieldRule (suc k) i
   unfolding fieldIn fieldPlace
@@ -132,7 +131,8 @@ module _ (bs : List ℕ) where
       let next : fieldPlace i + 2 + 2 ≡ fieldPlace (suc i) = omega arith in
       let end : suc i + k ≡ i + suc k = omega arith in
       meant (field-rule k i) (field-tests k i)
-      (then _ (name-at 1 (fieldPlace i)) (λ _. then _ (moved bs next (name-at 1 (fieldPlace i + 2))) (λ _. made _ (moved bs (ap fieldPlace end) (fields-at k (suc i))))))
+      (then _ (name-at 1 (fieldPlace i)) (λ _. then _ (moved bs next (name-at 1 (fieldPlace i + 2))) (λ _.
+      made _ (moved bs (ap fieldPlace end) (fields-at k (suc i))))))
 
   -- Methods
 
@@ -152,17 +152,20 @@ module _ (bs : List ℕ) where
   code-rule : (p l : ℕ) → p ≤ length bs → Outcome (need (leb 1 l && leb l 512 && leb l (length (drop p bs)))) (CodeRule p l) tt
   code-rule p l h =
       meant
-      (λ e. let t = and-rule _ _ _ e in (leb-true 1 l (t .0), leb-true l 512 (t .1), omega (arith, leb-true l (length (drop p bs)) (t .2), length-drop p bs)))
+      (λ e.
+      let t = and-rule _ _ _ e in
+      (leb-true 1 l (t .0), leb-true l 512 (t .1), omega (arith, leb-true l (length (drop p bs)) (t .2), length-drop p bs)))
       (λ r. rw (le-leb 1 l (r .0), le-leb l 512 (r .1), le-leb l (length (drop p bs)) (omega (arith, r .2, length-drop p bs))))
       (needs _)
-
-  abbrev NameRule : ℕ → Type 0
-  NameRule p = (p + 2 ≤ length bs) × (1 ≤ shortAt bs p)
 
   -- as one method after another is tested
   abbrev MethodsFrom : ℕ → ℕ → ℕ → Type 0
   MethodsFrom k j p =
-      NameRule p × (NameRule (p + 2) × (NameRule (p + 4) × ((p + 6 + 2 ≤ length bs) × (CodeRule (p + 8) (codeLength bs p) × Each MethodRule k (suc j)))))
+      NameRule p
+      × (NameRule (p + 2)
+      × (NameRule (p + 4)
+      × ((p + 6 + 2 ≤ length bs)
+      × (CodeRule (p + 8) (codeLength bs p) × Each MethodRule k (suc j)))))
 
   method-rule : (k j : ℕ) → MethodsFrom k j (methodPlace bs j) → Each MethodRule (suc k) j
   unfolding nextPlace
@@ -193,11 +196,13 @@ module _ (bs : List ℕ) where
       and p .1
 
   -- after the code of the method at place p
-  rest-at : (k p : ℕ) {T : Type 0} {x : Got (List Method)} → Outcome (methodsIn k (drop (nextPlace bs p) bs)) T x → Outcome (methodsIn k (drop (codeLength bs p) (drop (p + 8) bs))) T x
+  rest-at : (k p : ℕ) {T : Type 0} {x : Got (List Method)}
+      → Outcome (methodsIn k (drop (nextPlace bs p) bs)) T x → Outcome (methodsIn k (drop (codeLength bs p) (drop (p + 8) bs))) T x
   unfolding nextPlace
   rest-at k p o = rw (drop-drop (codeLength bs p) (p + 8) bs) o
 
-  pub methods-at : (k j : ℕ) → Outcome (methodsIn k (drop (methodPlace bs j) bs)) (Each MethodRule k j) (got bs (rows (methodIn bs) k j) (methodPlace bs (j + k)))
+  pub methods-at : (k j : ℕ)
+      → Outcome (methodsIn k (drop (methodPlace bs j) bs)) (Each MethodRule k j) (got bs (rows (methodIn bs) k j) (methodPlace bs (j + k)))
   unfolding methodsIn rows methodIn methodAt methodPlace codeAt codeLength
   methods-at zero j = let none : j + 0 ≡ j = omega arith in passes (λ i l m. absurd (omega arith)) (rw none)
   methods-at (suc k) j =

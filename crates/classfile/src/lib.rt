@@ -1,13 +1,14 @@
 // Class files read off any bytes. The quick functions read fixed places and check nothing, so that they are total; `reads` checks every
 // rule of a file. Of bytes that `reads` accepts the quick functions give the file that the rules give.
 ghost use mathlib.Core.Path.{_≡_};
-ghost use Prim.Native.Nat.{_+_, _*_, _-_, _<_, _≤_, min};
-ghost use lib.ListN.{length};
-ghost use Rattle.definition.specs.Lists.{any, doubled, every, indexOf, isSome, rows};
+ghost use Prim.Native.Nat.{_+_, _<_, _≤_, min};
+ghost use Rattle.definition.specs.Lists.{any, doubled, indexOf, isSome};
 ghost use Rattle.definition.specs.Classes.{alike};
 ghost use Rattle.definition.specs.File.{readFile, sameField, sameMethod};
 ghost use Rattle.classfile.specs.Lists.{shift};
-ghost use Rattle.classfile.specs.Reading.{className, superName, fieldCount, fieldPlace, fieldIn, quickFields, methodCount, codeLength, codeAt, methodAt, nextPlace, methodPlace, Placed, methodIn, quickMethods, fieldIs, fieldNamed, fieldFound, methodFound, numbered, partOf};
+ghost use Rattle.classfile.specs.Reading.{className, superName, fieldCount, fieldPlace, fieldIn, quickFields, fieldsFrom};
+ghost use Rattle.classfile.specs.Reading.{methodCount, codeLength, codeAt, methodAt, nextPlace, methodPlace, Placed, methodIn, quickMethods, methodsFrom};
+ghost use Rattle.classfile.specs.Reading.{fieldIs, fieldNamed, fieldFound, methodFound, numbered, partOf};
 ghost use Rattle.classfile.specs.Rules.{sized, titled, namedField, namedFields, namedMethod, codedMethod, wholeMethod, wholeMethods};
 
 // A field by its number among the file's fields.
@@ -88,7 +89,7 @@ pub fn find_field(bytes: &[u8], name: u16, type_name: u16) -> FieldFound
 
 // A field of that name, from field `first` on.
 fn named_from(bytes: &[u8], first: u8, name: u16) -> bool
-    ensures { λ r. ⌜ r ≡ any (fieldNamed name) (rows (fieldIn (now (bytes .entry))) (fieldCount (now (bytes .entry)) - first) first) ⌝ }
+    ensures { λ r. ⌜ r ≡ any (fieldNamed name) (fieldsFrom (now (bytes .entry)) first) ⌝ }
 {
     let n = field_count(bytes);
     let mut i = first;
@@ -229,7 +230,7 @@ fn alike_from(
     result: u16,
 ) -> MethodFound
     requires { ⌜ Placed (now bytes) first start ⌝ }
-    ensures { λ r. ⌜ r ≡ methodFound (now (bytes .entry)) (shift first (indexOf (alike name argument result) (rows (methodIn (now (bytes .entry))) (methodCount (now (bytes .entry)) - first) first))) ⌝ }
+    ensures { λ r. ⌜ r ≡ methodFound (now (bytes .entry)) (shift first (indexOf (alike name argument result) (methodsFrom (now (bytes .entry)) first))) ⌝ }
 {
     let n = method_count(bytes);
     let mut place = start;
@@ -376,7 +377,7 @@ fn is_field_doubled(bytes: &[u8]) -> bool
 // A method alike to method j, whose record begins at `place`, comes later.
 fn is_repeated(bytes: &[u8], j: u8, place: u32) -> bool
     requires { ⌜ Placed (now bytes) j place × (j < 255) ⌝ }
-    ensures { λ r. ⌜ r ≡ any (sameMethod (methodIn (now (bytes .entry)) j)) (rows (methodIn (now (bytes .entry))) (methodCount (now (bytes .entry)) - (j + 1)) (j + 1)) ⌝ }
+    ensures { λ r. ⌜ r ≡ any (sameMethod (methodIn (now (bytes .entry)) j)) (methodsFrom (now (bytes .entry)) (j + 1)) ⌝ }
 {
     let name = method_name(bytes, place);
     let argument = method_argument(bytes, place);

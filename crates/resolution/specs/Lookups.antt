@@ -4,12 +4,22 @@ use mathlib.Core.Bool.{Bool, true, false}
 use mathlib.Core.Option.{Option, none, some}
 use mathlib.Core.List.{List, [], _∷_, map}
 use Prim.Native.Nat.{ℕ, zero, suc, _+_, _≤_, _<_}
-use lib.ListN.{length, getD, getElem?}
+use native.Mathlib.Nat.{zero-add}
+use native.Mathlib.Numerals.{add-one}
+use native.Mathlib.Omega.{arith}
+use lib.ListN.{length, getD, set, getElem?, length-set, List·getD-eq-default}
+use lib.Seq.{take-all}
 use lib.Dec.{eqb, ltb}
+use borrow.Author.Tests.{lt-ltb, le-ltb, ne-eqb}
+use Rattle.definition.specs.Lists.{rows, writeRows}
+use Rattle.definition.specs.Instructions.{pick}
 use Rattle.definition.specs.Classes.{Base, Class, Method, Slot, lower, superOf, methodsOf, slots}
 use Rattle.definition.specs.Tables.{classRowAt}
-use Rattle.classfile.specs.Reading.{quickMethods}
-use Rattle.resolution.specs.Quick.{quickClass, quickBase, fileIn}
+use Rattle.laws.specs.Agreement.{super-falls}
+use Rattle.layout.specs.Places.{rows-length, rows-getD, rows-take, writeRows-length}
+use Rattle.layout.specs.Cells.{rows-back, cell-rows}
+use Rattle.classfile.specs.Reading.{className, quickMethods}
+use Rattle.resolution.specs.Quick.{quickClass, quickBase, fileIn, file-there, super-past, either}
 
 -- the name of class number c, 0 if there is no such class
 unfoldable pub nameIn : List ℕ → List ℕ → List ℕ → ℕ → ℕ
@@ -23,5 +33,77 @@ codeIn ms j = elim (getElem? ms j) [ none ↦ [] | some m ↦ m .code ]
 unfoldable pub superCell : Base → ℕ → ℕ
 superCell b c = elim (superOf b c) [ none ↦ 0 | some p ↦ suc p ]
 
-abbrev pub typeOf : Slot → ℕ
-typeOf s = s .type
+-- A class's name: none, Object's, or as its file says
+
+module _ (counts classes kept : List ℕ) (c : ℕ) where
+  pub name-past : getD counts 0 0 ≤ c → nameIn counts classes kept c ≡ 0
+  unfolding nameIn
+  name-past h = rw (le-ltb c (getD counts 0 0) h, nameIn)
+
+  pub name-object : c < getD counts 0 0 → classRowAt classes c .size ≡ 0 → nameIn counts classes kept c ≡ 2
+  unfolding nameIn quickClass pick
+  name-object h e = rw (lt-ltb c (getD counts 0 0) h, nameIn, e)
+
+  pub name-file : c < getD counts 0 0 → (classRowAt classes c .size ≡ 0 → ⊥) → nameIn counts classes kept c ≡ className (fileIn counts classes kept c)
+  unfolding nameIn quickClass pick
+  name-file h e = rw (lt-ltb c (getD counts 0 0) h, nameIn, ne-eqb (classRowAt classes c .size) 0 e, file-there counts classes kept c h)
+
+-- A method's code
+
+pub code-some : (ms : List Method) (j : ℕ) (m : Method) → getElem? ms j ≡ some m → codeIn ms j ≡ m .code
+unfolding codeIn
+code-some ms j m h = rw (h, codeIn)
+
+pub code-none : (ms : List Method) (j : ℕ) → getElem? ms j ≡ none → codeIn ms j ≡ []
+unfolding codeIn
+code-none ms j h = rw (h, codeIn)
+
+-- A superclass's cell
+
+module _ (b : Base) (c : ℕ) where
+  pub cell-none : superOf b c ≡ none → superCell b c ≡ 0
+  unfolding superCell
+  cell-none h = rw (h, superCell)
+
+  pub cell-some : (p : ℕ) → superOf b c ≡ some p → superCell b c ≡ p + 1
+  unfolding superCell
+  cell-some p h = rw (h, superCell, add-one p)
+
+-- Cells written from place 0 on are read back: types of fields, superclasses
+
+pub written-read : (xs t : List ℕ) → length xs ≤ length t → rows (λ i. getD (writeRows set xs 0 t) i 0) (length xs) 0 ≡ xs
+written-read xs t l = rows-back cell-rows xs t (omega arith)
+
+-- what a cell says is the direct superclass
+pub cell-super : (b : Base) (c : ℕ) → (elim (superCell b c) as (λ _. Option ℕ) [ zero ↦ none | suc p ↦ lower c p ]) ≡ superOf b c
+unfolding superCell lower
+cell-super b c = go (superOf b c) refl
+  where
+    go : (o : Option ℕ) → superOf b c ≡ o → (elim (elim o as (λ _. ℕ) [ none ↦ 0 | some p ↦ suc p ]) as (λ _. Option ℕ) [ zero ↦ none | suc p ↦ lower c p ]) ≡ o
+    go none e = refl
+    go (some p) e = rw (lt-ltb p c (super-falls b c p e), lower)
+
+-- a table of 64 cells, filled, says so of every class where there are at most 64 of them
+module _ (counts classes kept cache supers : List ℕ) (few : getD counts 0 0 ≤ 64) (long : length supers ≡ 64) where
+  abbrev b : Base
+  b = quickBase counts classes kept cache
+
+  abbrev filled : List ℕ
+  filled = writeRows set (rows (superCell b) 64 0) 0 supers
+
+  filled-is : filled ≡ rows (superCell b) 64 0
+  filled-is =
+      let n : length filled ≡ 64 = writeRows-length set length-set (rows (superCell b) 64 0) 0 supers ∙ long in
+      let m : length (rows (superCell b) 64 0) ≡ 64 = rows-length (superCell b) 64 0 in
+      sym (take-all 64 filled (omega arith)) ∙ (sym (rows-take filled 64 (omega arith)) ∙ (ap (λ (k : ℕ). rows (λ i. getD filled i 0) k 0) (sym m) ∙ written-read (rows (superCell b) 64 0) supers (omega arith)))
+
+  pub supers-read : (c : ℕ) → getD filled c 0 ≡ superCell b c
+  supers-read c = rw filled-is (either c 64 (λ h. rows-getD (superCell b) 64 0 c 0 h ∙ ap (superCell b) (zero-add c)) past)
+    where
+      past : 64 ≤ c → getD (rows (superCell b) 64 0) c 0 ≡ superCell b c
+      past h =
+          let m : length (rows (superCell b) 64 0) ≤ c = omega (arith, rows-length (superCell b) 64 0) in
+          List·getD-eq-default (rows (superCell b) 64 0) 0 m ∙ sym (cell-none b c (super-past counts classes kept cache c (omega arith)))
+
+  pub supers-lower : (c : ℕ) → (elim (getD filled c 0) as (λ _. Option ℕ) [ zero ↦ none | suc p ↦ lower c p ]) ≡ superOf b c
+  supers-lower c = rw (supers-read c) (cell-super b c)

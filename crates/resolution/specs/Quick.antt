@@ -28,6 +28,16 @@ unfoldable pub found : Option ℕ → Found
 found none = Absent
 found (some n) = At n
 
+pub found-at : (o : Option ℕ) (n : ℕ) → found o ≡ At n → o ≡ some n
+unfolding found
+found-at none n h = cc
+found-at (some m) n h = cc
+
+pub found-absent : (o : Option ℕ) → found o ≡ Absent → o ≡ none
+unfolding found
+found-absent none h = refl
+found-absent (some m) h = cc
+
 -- the class of a row. Object has no file, and its name is 2
 unfoldable pub quickClass : List ℕ → ClassRow → Class
 quickClass kept k =
@@ -62,12 +72,21 @@ unfoldable pub loaderIn : List ℕ → List ℕ → ℕ → ℕ
 loaderIn counts classes c = elim (ltb c (getD counts 0 0)) [ true ↦ classRowAt classes c .loader | false ↦ 0 ]
 
 -- a number that is below n, and one that is not
-either : {A : Type 0} (c n : ℕ) → (c < n → A) → (n ≤ c → A) → A
+pub either : {A : Type 0} (c n : ℕ) → (c < n → A) → (n ≤ c → A) → A
 either {A} c n f g = go (ltb c n) refl
   where
     go : (t : Bool) → ltb c n ≡ t → A
     go true e = f (ltb-true c n e)
     go false e = g (ltb-false c n e)
+
+module _ (counts classes kept : List ℕ) (c : ℕ) where
+  pub file-there : c < getD counts 0 0 → fileIn counts classes kept c ≡ partOf kept (classRowAt classes c .start) (classRowAt classes c .size)
+  unfolding fileIn
+  file-there h = rw (lt-ltb c (getD counts 0 0) h, fileIn)
+
+  pub file-past : getD counts 0 0 ≤ c → fileIn counts classes kept c ≡ []
+  unfolding fileIn
+  file-past h = rw (le-ltb c (getD counts 0 0) h, fileIn)
 
 module _ (counts classes kept cache : List ℕ) where
   abbrev b : Base
@@ -89,29 +108,26 @@ module _ (counts classes kept cache : List ℕ) where
   unfolding quickBase
   class-past c h = rows-past (λ c. quickClass kept (row c)) (getD counts 0 0) 0 c h
 
-  pub file-there : (c : ℕ) → c < getD counts 0 0 → file c ≡ partOf kept (row c .start) (row c .size)
-  unfolding fileIn
-  file-there c h = rw (lt-ltb c (getD counts 0 0) h, fileIn)
+  -- The superclass of a class that is there, by what is found under its loader l and its superclass's name n
 
-  pub file-past : (c : ℕ) → getD counts 0 0 ≤ c → file c ≡ []
-  unfolding fileIn
-  file-past c h = rw (le-ltb c (getD counts 0 0) h, fileIn)
+  module _ (c : ℕ) (h : c < getD counts 0 0) (l n : ℕ) (loader : l ≡ row c .loader) (name : n ≡ superName (file c)) where
+    abbrev cached : Option ℕ
+    cached = find (rows (entryAt cache) (getD counts 2 0) 0) (at l n)
 
-  -- The superclass
+    super-unfolded : superOf b c ≡ (elim cached as (λ _. Option ℕ) [ none ↦ none | some p ↦ lower c p ])
+    unfolding superOf quickClass quickBase
+    super-unfolded = rw (loader, name, file-there counts classes kept c h) (rw (class-there c h, superOf))
 
-  module _ (c : ℕ) (h : c < getD counts 0 0) where
-    abbrev request : Request
-    request = at (row c .loader) (superName (file c))
-
-    super-unfolded : superOf b c ≡ (elim (find (b .cache) request) as (λ _. Option ℕ) [ none ↦ none | some p ↦ lower c p ])
-    unfolding superOf quickClass
-    super-unfolded = rw (class-there c h, superOf, file-there c h)
-
-    pub super-uncached : find (b .cache) request ≡ none → superOf b c ≡ none
+    pub super-uncached : cached ≡ none → superOf b c ≡ none
     super-uncached e = super-unfolded ∙ rw e
 
-    pub super-cached : (p : ℕ) → find (b .cache) request ≡ some p → superOf b c ≡ lower c p
-    super-cached p e = super-unfolded ∙ rw e
+    pub super-lower : (p : ℕ) → cached ≡ some p → p < c → superOf b c ≡ some p
+    unfolding lower
+    super-lower p e i = super-unfolded ∙ rw (e, lt-ltb p c i, lower)
+
+    pub super-higher : (p : ℕ) → cached ≡ some p → c ≤ p → superOf b c ≡ none
+    unfolding lower
+    super-higher p e i = super-unfolded ∙ rw (e, le-ltb p c i, lower)
 
   pub super-past : (c : ℕ) → getD counts 0 0 ≤ c → superOf b c ≡ none
   unfolding superOf
@@ -121,22 +137,22 @@ module _ (counts classes kept cache : List ℕ) where
 
   own-there : (c : ℕ) → c < getD counts 0 0 → ownSlots b c ≡ map (slotOf c) (quickFields (file c))
   unfolding quickClass
-  own-there c h = own-slots b c (quickClass kept (row c)) (class-there c h) ∙ ap (λ (bs : List ℕ). map (slotOf c) (quickFields bs)) (sym (file-there c h))
+  own-there c h = own-slots b c (quickClass kept (row c)) (class-there c h) ∙ ap (λ (bs : List ℕ). map (slotOf c) (quickFields bs)) (sym (file-there counts classes kept c h))
 
   own-past : (c : ℕ) → getD counts 0 0 ≤ c → ownSlots b c ≡ map (slotOf c) (quickFields (file c))
   unfolding ownSlots quickFields fieldCount rows
-  own-past c h = rw (class-past c h, ownSlots, file-past c h)
+  own-past c h = rw (class-past c h, ownSlots, file-past counts classes kept c h)
 
   pub own-quick : (c : ℕ) → ownSlots b c ≡ map (slotOf c) (quickFields (file c))
   own-quick c = either c (getD counts 0 0) (own-there c) (own-past c)
 
   methods-there : (c : ℕ) → c < getD counts 0 0 → methodsOf b c ≡ quickMethods (file c)
   unfolding quickClass
-  methods-there c h = own-methods b c (quickClass kept (row c)) (class-there c h) ∙ ap quickMethods (sym (file-there c h))
+  methods-there c h = own-methods b c (quickClass kept (row c)) (class-there c h) ∙ ap quickMethods (sym (file-there counts classes kept c h))
 
   methods-past : (c : ℕ) → getD counts 0 0 ≤ c → methodsOf b c ≡ quickMethods (file c)
   unfolding methodsOf quickMethods methodCount fieldCount rows
-  methods-past c h = rw (class-past c h, methodsOf, file-past c h)
+  methods-past c h = rw (class-past c h, methodsOf, file-past counts classes kept c h)
 
   pub methods-quick : (c : ℕ) → methodsOf b c ≡ quickMethods (file c)
   methods-quick c = either c (getD counts 0 0) (methods-there c) (methods-past c)

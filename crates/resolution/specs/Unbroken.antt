@@ -51,8 +51,8 @@ module _ (kept : List ℕ) (n : ℕ) (l : n ≤ length kept) where
       ∙ (sym (rows-part cell (length kept) start size 0 (omega arith)) ∙ (ap (λ (bs : List ℕ). take size (drop start bs)) all ∙ sym (part-there kept start size (omega arith)))))
 
   module _ (k : ClassRow) (f : File) (h : fileAt (bytesOf kept n) k ≡ some f) where
-    within : k .start + k .size ≤ n
-    within = go (leb (k .start + k .size) (length (bytesOf kept n))) refl
+    pub part-within : k .start + k .size ≤ n
+    part-within = go (leb (k .start + k .size) (length (bytesOf kept n))) refl
       where
         go : (t : Bool) → leb (k .start + k .size) (length (bytesOf kept n)) ≡ t → k .start + k .size ≤ n
         go true e = omega (arith, leb-true (k .start + k .size) (length (bytesOf kept n)) e, rows-length (λ i. getD kept i 0) n 0)
@@ -63,7 +63,7 @@ module _ (kept : List ℕ) (n : ℕ) (l : n ≤ length kept) where
 
     -- its part of the kept bytes reads as the file
     pub part-reads : readFile (partOf kept (k .start) (k .size)) ≡ some f
-    part-reads = ap readFile (sym (part-same (k .start) (k .size) within)) ∙ (sym (file-part (bytesOf kept n) k) ∙ h)
+    part-reads = ap readFile (sym (part-same (k .start) (k .size) part-within)) ∙ (sym (file-part (bytesOf kept n) k) ∙ h)
 
     -- a file is not empty
     sized : eqb (k .size) 0 ≡ false

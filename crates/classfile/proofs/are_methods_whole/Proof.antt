@@ -46,7 +46,8 @@ returns-2 : tie.Need-returns-2 Inv-loop μ-loop
 unfolding wholeMethods
 returns-2 c =
     let at = c .before .before .loop in
-    let last : at .j ≡ methodCount (now (c .before .before .before .before .before .before .args .bytes)) = omega (arith, c .before .before .before .before .method-count .ensures) in
+    let count = c .before .before .before .before .method-count .ensures in
+    let last : at .j ≡ methodCount (now (c .before .before .before .before .before .before .args .bytes)) = omega arith in
     rw (c .wide32 .ensures .0, at .inv .1 .place, last)
     (sym (every-first _ _ (sym (at .inv .2) ∙ every-end _ _ _ (c .before .loop-test .left)) ∙ every-last _))
 

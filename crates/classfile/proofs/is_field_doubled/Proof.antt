@@ -22,14 +22,16 @@ loop-holds c = rw (c .field-count .ensures) (ap (doubled sameField) (rows-start 
 returns : tie.Need-returns Inv-loop μ-loop
 unfolding sameField fieldNamed
 returns c =
+    let count = c .before .before .before .before .before .field-count .ensures in
     let later = sym (rw (c .before .before .field-name .ensures) at (c .before .named-from .ensures)) ∙ c .if1 .taken in
-    sym (doubled-row _ _ _ _ (c .before .before .before .loop-test .taken) (rw (c .before .before .before .before .before .field-count .ensures) later)) ∙ c .before .before .before .before .loop .inv
+    sym (doubled-row _ _ _ _ (c .before .before .before .loop-test .taken) (rw count later)) ∙ c .before .before .before .before .loop .inv
 
 loop-again : tie.Need-loop-again Inv-loop μ-loop
 unfolding sameField fieldNamed
 loop-again c =
+    let count = c .before .before .before .before .before .field-count .ensures in
     let never = sym (rw (c .before .before .field-name .ensures) at (c .before .named-from .ensures)) ∙ c .if1 .left in
-    sym (doubled-more _ _ _ _ (c .before .before .before .loop-test .taken) (rw (c .before .before .before .before .before .field-count .ensures) never)) ∙ c .before .before .before .before .loop .inv
+    sym (doubled-more _ _ _ _ (c .before .before .before .loop-test .taken) (rw count never)) ∙ c .before .before .before .before .loop .inv
 
 returns-2 : tie.Need-returns-2 Inv-loop μ-loop
 returns-2 c = sym (doubled-end _ _ _ _ (c .loop-test .left)) ∙ c .before .loop .inv

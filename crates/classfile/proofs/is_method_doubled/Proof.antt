@@ -29,15 +29,17 @@ is-repeated-requires c κs = (c .before .loop .inv .1, omega arith)
 
 returns : tie.Need-returns Inv-loop μ-loop
 returns c =
+    let count = c .before .before .before .before .before .method-count .ensures in
     let later = sym (c .before .is-repeated .ensures) ∙ c .if1 .taken in
-    sym (doubled-row _ _ _ _ (c .before .before .loop-test .taken) (rw (c .before .before .before .before .before .method-count .ensures) later)) ∙ c .before .before .before .loop .inv .2
+    sym (doubled-row _ _ _ _ (c .before .before .loop-test .taken) (rw count later)) ∙ c .before .before .before .loop .inv .2
 
 loop-again : tie.Need-loop-again Inv-loop μ-loop
 loop-again c =
+    let count = c .before .before .before .before .before .before .method-count .ensures in
     let never = sym (c .before .before .is-repeated .ensures) ∙ c .before .if1 .left in (
       omega arith,
       placed-next _ _ _ _ (c .before .before .before .before .loop .inv .1) (c .next-place .ensures .0) (c .next-place .ensures .1),
-      sym (doubled-more _ _ _ _ (c .before .before .before .loop-test .taken) (rw (c .before .before .before .before .before .before .method-count .ensures) never)) ∙ c .before .before .before .before .loop .inv .2,
+      sym (doubled-more _ _ _ _ (c .before .before .before .loop-test .taken) (rw count never)) ∙ c .before .before .before .before .loop .inv .2,
     )
 
 returns-2 : tie.Need-returns-2 Inv-loop μ-loop

@@ -11,7 +11,9 @@ use Rattle.classfile.proofs.is_repeated.Statement.{statement}
 use Rattle.classfile.proofs.is_repeated.Tie as tie
 
 -- what is alike to method j is alike in the name and types that were read
-same : (c : tie.After-alike-from) → sameMethod (methodIn (now (c .before .before .before .before .before .before .args .bytes)) (c .before .before .before .before .before .before .args .j)) ≡ alike (c .before .before .before .before .method-name .result) (c .before .before .before .method-argument .result) (c .before .before .method-result .result)
+same : (c : tie.After-alike-from)
+    → sameMethod (methodIn (now (c .before .before .before .before .before .before .args .bytes)) (c .before .before .before .before .before .before .args .j))
+    ≡ alike (c .before .before .before .before .method-name .result) (c .before .before .before .method-argument .result) (c .before .before .method-result .result)
 unfolding sameMethod methodIn
 same c =
     rw (

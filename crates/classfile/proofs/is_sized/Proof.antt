@@ -15,7 +15,8 @@ use Rattle.classfile.proofs.is_sized.Tie as tie
 few : (c : tie.Else1) → leb (length (now (c .before .before .args .bytes))) 4096 ≡ true
 few c = le-leb _ _ (c .if1 .left)
 
-enough : (c : tie.Else2) → leb (methodPlace (now (c .before .before .before .before .before .args .bytes)) 0) (length (now (c .before .before .before .before .before .args .bytes))) ≡ true
+enough : (c : tie.Else2)
+    → leb (methodPlace (now (c .before .before .before .before .before .args .bytes)) 0) (length (now (c .before .before .before .before .before .args .bytes))) ≡ true
 enough c = le-leb _ _ (rw (c .before .wide32 .ensures .0, c .before .before .first-place .ensures .place) at (c .if2 .left))
 
 version : (c : tie.Else3) → eqb (getD (now (c .before .before .before .before .before .before .before .args .bytes)) 0 0) 1 ≡ true
@@ -41,7 +42,11 @@ returns-4 : tie.Need-returns-4
 unfolding sized
 returns-4 c =
     rw (c .wide16 .ensures .0, c .before .short-at .ensures)
-    (sym (every-first _ _ (few (c .before .before .before .before .before .before .before)) ∙ every-first _ _ (enough (c .before .before .before .before)) ∙ every-first _ _ (version (c .before .before)) ∙ every-last _))
+    (sym
+    (every-first _ _ (few (c .before .before .before .before .before .before .before))
+    ∙ every-first _ _ (enough (c .before .before .before .before))
+    ∙ every-first _ _ (version (c .before .before))
+    ∙ every-last _))
 
 pub is-sized-spec : {M : Type 1} → statement M
 is-sized-spec =

@@ -40,7 +40,11 @@ returns-4 : tie.Need-returns-4
 unfolding titled
 returns-4 c =
     rw (c .method-count .ensures)
-    (sym (every-first _ _ (name (c .before .before .before .before .before)) ∙ every-first _ _ (super (c .before .before .before)) ∙ every-first _ _ (fields (c .before)) ∙ every-last _))
+    (sym
+    (every-first _ _ (name (c .before .before .before .before .before))
+    ∙ every-first _ _ (super (c .before .before .before))
+    ∙ every-first _ _ (fields (c .before))
+    ∙ every-last _))
 
 pub is-titled-spec : {M : Type 1} → statement M
 is-titled-spec =

@@ -38,7 +38,11 @@ returns-3 : tie.Need-returns-3
 unfolding readable
 returns-3 c =
     let no-fields = sym (c .before .are-fields-named .ensures) ∙ not-true _ (c .if3 .taken) in
-    sym (reads-as _ ∙ every-first _ _ (sizes (c .before .before .before .before)) ∙ every-first _ _ (titles (c .before .before)) ∙ every-fails _ _ no-fields)
+    sym
+    (reads-as _
+    ∙ every-first _ _ (sizes (c .before .before .before .before))
+    ∙ every-first _ _ (titles (c .before .before))
+    ∙ every-fails _ _ no-fields)
 
 returns-4 : tie.Need-returns-4
 unfolding readable

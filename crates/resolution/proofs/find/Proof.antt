@@ -27,7 +27,7 @@ loop-holds c = (omega arith, rw (c .at16 .ensures) (ap (λ (es : List Entry). fi
 
 returns : tie.Need-returns Inv-loop μ-loop
 unfolding found
-returns c = ap At (c .entry-class .ensures) ∙ ap found (sym (cached-here _ _ _ _ (c .before .before .before .loop-test .taken) (sym (c .before .before .is-entry .ensures) ∙ c .before .if1 .taken)) ∙ c .before .before .before .before .loop .inv .1) 
+returns c = ap At (c .entry-class .ensures) ∙ ap found (sym (cached-here _ _ _ _ (c .before .before .before .loop-test .taken) (sym (c .before .before .is-entry .ensures) ∙ c .before .if1 .taken)) ∙ c .before .before .before .before .loop .inv .1)
 
 loop-again : tie.Need-loop-again Inv-loop μ-loop
 loop-again c = (omega arith, sym (cached-later _ _ _ _ (c .before .before .loop-test .taken) (sym (c .before .is-entry .ensures) ∙ c .if1 .left)) ∙ c .before .before .before .loop .inv .1)

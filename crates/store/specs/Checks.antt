@@ -1,0 +1,97 @@
+-- Word 1 as tests in an order in which they can be made: lengths and counts, then the classes' files, and after these, with classes read at once
+-- off files that are known to read, superclasses and sizes, rows and values.
+use mathlib.Core.Bool.{Bool, true, false}
+use mathlib.Core.List.{List, [], _∷_}
+use Prim.Native.Nat.{ℕ, _+_, _-_, _<_, _≤_}
+use lib.ListN.{length, getD}
+use lib.Dec.{eqb, leb, ltb}
+use mathlib.Core.Path.{_≡_}
+use Rattle.definition.specs.Lists.{every, all, isSome, rows, stack}
+use Rattle.definition.specs.Classes.{Base, superOf}
+use Rattle.definition.specs.Machine.{Value, unsetValue, intValue, nullValue, objectValue, unlistedValue, Object, Frame}
+use Rattle.definition.specs.File.{readFile}
+use Rattle.definition.specs.Tables.{Tables, shaped, ClassRow, classRowAt, entryAt, tieAt, subtypeAt, objectAt, frameIn, sizeOf, cacheOf, tiesOf, subtypesOf, objectsOf, framesOf}
+use Rattle.definition.specs.Broken.{within, isObject, entryFits, tieFits, subtypeFits}
+use Rattle.classfile.specs.Reading.{partOf}
+use Rattle.resolution.specs.Quick.{quickOf}
+use Rattle.store.specs.declared.Fields.{Fields}
+use Rattle.store.specs.declared.Fields.the-variants.{Count, Unfit}
+
+-- Files: a class but the first has a loader, and a file that lies within the first n bytes and reads
+
+unfoldable pub fileFits : ℕ → List ℕ → ClassRow → Bool
+fileFits n kept k = every (ltb (k .loader) 16 ∷ leb (k .start + k .size) n ∷ isSome (readFile (partOf kept (k .start) (k .size))) ∷ [])
+
+unfoldable pub sourcesFit : ℕ → List ℕ → List ClassRow → Bool
+sourcesFit n kept [] = true
+sourcesFit n kept (k ∷ ks) = every (isObject k ∷ all (fileFits n kept) ks ∷ [])
+
+-- Superclasses and sizes: of classes 1 to n - 1, in their order
+
+unfoldable pub linked : Base → ℕ → Bool
+linked b c = every (isSome (superOf b c) ∷ leb (sizeOf b c) 16 ∷ [])
+
+abbrev pub number : ℕ → ℕ
+number c = c
+
+unfoldable pub linksFit : Base → ℕ → Bool
+linksFit b n = all (linked b) (rows number (n - 1) 1)
+
+-- how many fields a class has, if it is linked
+unfoldable pub linkedSize : Base → ℕ → Fields
+linkedSize b c = elim (linked b c) [ true ↦ Count (sizeOf b c) | false ↦ Unfit ]
+
+-- a table with the sizes of classes 0 to n - 1, each at most 16
+abbrev pub Sized : Base → ℕ → List ℕ → Type 0
+Sized b n sizes = (c : ℕ) → c < n → (getD sizes c 0 ≡ sizeOf b c) × (sizeOf b c ≤ 16)
+
+-- Values, where there are m objects; objects and frames, where there are n classes
+
+unfoldable pub valueIn : ℕ → Value → Bool
+valueIn m unsetValue = false
+valueIn m (intValue n) = true
+valueIn m nullValue = true
+valueIn m (objectValue o) = ltb o m
+valueIn m (unlistedValue k b) = false
+
+unfoldable pub localIn : ℕ → Value → Bool
+localIn m unsetValue = true
+localIn m (intValue n) = true
+localIn m nullValue = true
+localIn m (objectValue o) = ltb o m
+localIn m (unlistedValue k b) = false
+
+unfoldable pub objectIn : ℕ → ℕ → Object → Bool
+objectIn n m o = every (ltb (o .class) n ∷ all (valueIn m) (o .values) ∷ [])
+
+unfoldable pub frameFit : ℕ → ℕ → Frame → Bool
+frameFit n m f = every (ltb (f .class) n ∷ leb (length (f .operands)) 16 ∷ all (valueIn m) (f .operands) ∷ all (localIn m) (f .locals) ∷ [])
+
+-- The rows of a store
+
+unfoldable pub rowsFit : List ℕ → List ℕ → List ℕ → List ℕ → Bool
+rowsFit counts cache ties subtypes = every
+    (all (entryFits (getD counts 0 0)) (rows (entryAt cache) (getD counts 2 0) 0)
+    ∷ all tieFits (rows (tieAt ties) (getD counts 3 0) 0)
+    ∷ all subtypeFits (rows (subtypeAt subtypes) (getD counts 4 0) 0)
+    ∷ [])
+
+unfoldable pub objectsFit : Base → List ℕ → List ℕ → Bool
+objectsFit b counts objects = all (objectIn (getD counts 0 0) (getD counts 5 0)) (rows (objectAt b objects) (getD counts 5 0) 0)
+
+unfoldable pub framesFit : List ℕ → List ℕ → ℕ → Bool
+framesFit counts frames k = all (frameFit (getD counts 0 0) (getD counts 5 0)) (stack (frameIn frames k) (getD counts (6 + k) 0))
+
+-- All together
+
+unfoldable pub checks : Tables → Bool
+checks t = every
+    (shaped t
+    ∷ within (t .counts)
+    ∷ sourcesFit (getD (t .counts) 1 0) (t .kept) (rows (classRowAt (t .classes)) (getD (t .counts) 0 0) 0)
+    ∷ rowsFit (t .counts) (t .cache) (t .ties) (t .subtypes)
+    ∷ linksFit (quickOf t) (getD (t .counts) 0 0)
+    ∷ objectsFit (quickOf t) (t .counts) (t .objects)
+    ∷ framesFit (t .counts) (t .frames) 0
+    ∷ framesFit (t .counts) (t .frames) 1
+    ∷ [])

@@ -1,0 +1,245 @@
+-- The tests of Checks say the same as word 1. Once every class's file reads, what is read at once is what the definition reads, so the tests after it
+-- may go by it.
+use mathlib.Core.Path.{_≡_, refl, sym, ap, _∙_}
+use mathlib.Core.Bool.{Bool, true, false, not}
+use mathlib.Core.Option.{Option, none, some}
+use mathlib.Core.List.{List, [], _∷_}
+use Prim.Native.Nat.{ℕ, zero, suc, _+_, _-_, _<_, _≤_}
+use native.Mathlib.Omega.{arith}
+use lib.ListN.{length, getD}
+use lib.Dec.{eqb, leb, ltb}
+use borrow.Author.Tests.{ltb-true, lt-ltb, leb-true, le-leb, eqb-true, eq-eqb}
+use Rattle.definition.specs.Lists.{every, all, isSome, rows, stack}
+use Rattle.definition.specs.Classes.{Base, superOf}
+use Rattle.definition.specs.Machine.{Value, unsetValue, intValue, nullValue, objectValue, unlistedValue, Object, Frame, existing}
+use Rattle.definition.specs.File.{File, readFile}
+use Rattle.definition.specs.Tables.{Tables, shaped, ClassRow, fileAt, sizeOf, classRowAt, objectAt, frameIn, classRowsOf, keptOf, cacheOf, viewBase, objectsOf, framesOf, viewOver, view}
+use Rattle.definition.specs.Broken.{within, isObject, classesFit, entryFits, valueFits, localFits, objectFits, frameFits, sound, whole, broken}
+use Rattle.layout.specs.Tests.{All, From, every-true, true-every, all-all, all-test, is-some, some-is}
+use Rattle.layout.specs.Places.{rows-length, stack-length, all-rows, rows-all}
+use Rattle.layout.specs.Whole.{First, ClassSound, Classes, fits-classes, classes-fit, existing-some, some-existing}
+use Rattle.layout.specs.Unbroken.{Lengths, Counts, shaped-true, within-true}
+use Rattle.classfile.specs.Lists.{same-test}
+use Rattle.classfile.specs.Reading.{quickFile, partOf}
+use Rattle.classfile.specs.Laws.{reads-some}
+use Rattle.classfile.specs.Searches.{file-part}
+use Rattle.resolution.specs.Quick.{quickOf}
+use Rattle.resolution.specs.Unbroken.{Sources, part-same, part-within, part-reads, quick-view, row-first, row-other}
+use Rattle.store.specs.Checks.{fileFits, sourcesFit, linked, linksFit, number, valueIn, localIn, objectIn, frameFit, rowsFit, objectsFit, framesFit, checks}
+
+-- Values: an object exists exactly if its number is below the number of objects
+
+all-same : {A : Type 0} (f g : A → Bool) → ((x : A) → f x ≡ g x) → (xs : List A) → all f xs ≡ all g xs
+all-same f g e xs =
+    same-test (all f xs) (all g xs)
+    (λ h. all-test g (λ x. f x ≡ true) (λ x k. sym (e x) ∙ k) xs (all-all f (λ x. f x ≡ true) (λ x k. k) xs h))
+    (λ h. all-test f (λ x. g x ≡ true) (λ x k. e x ∙ k) xs (all-all g (λ x. g x ≡ true) (λ x k. k) xs h))
+
+existing-same : (os : List Object) (o : ℕ) → isSome (existing os o) ≡ ltb o (length os)
+existing-same os o = same-test _ _ (λ h. lt-ltb o (length os) (some-existing os o h)) (λ h. existing-some os o (ltb-true o (length os) h))
+
+value-same : (os : List Object) (v : Value) → valueFits os v ≡ valueIn (length os) v
+unfolding valueFits valueIn
+value-same os unsetValue = refl
+value-same os (intValue n) = refl
+value-same os nullValue = refl
+value-same os (objectValue o) = existing-same os o
+value-same os (unlistedValue k b) = refl
+
+local-same : (os : List Object) (v : Value) → localFits os v ≡ localIn (length os) v
+unfolding localFits localIn
+local-same os unsetValue = refl
+local-same os (intValue n) = refl
+local-same os nullValue = refl
+local-same os (objectValue o) = existing-same os o
+local-same os (unlistedValue k b) = refl
+
+object-same : (n : ℕ) (os : List Object) (o : Object) → objectFits n os o ≡ objectIn n (length os) o
+unfolding objectFits objectIn
+object-same n os o = rw (all-same (valueFits os) (valueIn (length os)) (value-same os) (o .values))
+
+frame-same : (n : ℕ) (os : List Object) (f : Frame) → frameFits n os f ≡ frameFit n (length os) f
+unfolding frameFits frameFit
+frame-same n os f = rw (all-same (valueFits os) (valueIn (length os)) (value-same os) (f .operands), all-same (localFits os) (localIn (length os)) (local-same os) (f .locals))
+
+-- The rows of tables
+
+module _ (t : Tables) where
+  classes-number : length (classRowsOf t) ≡ getD (t .counts) 0 0
+  classes-number = rows-length (classRowAt (t .classes)) (getD (t .counts) 0 0) 0
+
+  objects-number : (b : Base) → length (objectsOf b t) ≡ getD (t .counts) 5 0
+  unfolding objectsOf
+  objects-number b = rows-length (objectAt b (t .objects)) (getD (t .counts) 5 0) 0
+
+  objects-same : (b : Base) → all (objectFits (length (classRowsOf t)) (objectsOf b t)) (objectsOf b t) ≡ objectsFit b (t .counts) (t .objects)
+  unfolding objectsFit objectsOf
+  objects-same b =
+      all-same _ _ (object-same (length (classRowsOf t)) (objectsOf b t)) (objectsOf b t)
+      ∙ (λ i. all (objectIn (classes-number i) (objects-number b i)) (objectsOf b t))
+
+  frames-same : (b : Base) (k : ℕ) → all (frameFits (length (classRowsOf t)) (objectsOf b t)) (framesOf t k) ≡ framesFit (t .counts) (t .frames) k
+  unfolding framesFit framesOf
+  frames-same b k =
+      all-same _ _ (frame-same (length (classRowsOf t)) (objectsOf b t)) (framesOf t k)
+      ∙ (λ i. all (frameFit (classes-number i) (objects-number b i)) (framesOf t k))
+
+-- A test of each of the rows but the first
+
+rest-said : {A : Type 0} (f : A → Bool) (g : ℕ → A) (n : ℕ) → all f (rows g (n - 1) 1) ≡ true → (c : ℕ) → 0 < c → c < n → f (g c) ≡ true
+rest-said f g n h c l m =
+    let e : 1 + (c - 1) ≡ c = omega arith in
+    rw e at (all-rows (λ x. f x ≡ true) g (n - 1) 1 (all-all f (λ x. f x ≡ true) (λ x k. k) (rows g (n - 1) 1) h) (c - 1) (omega arith))
+
+said-rest : {A : Type 0} (f : A → Bool) (g : ℕ → A) (n : ℕ) → ((c : ℕ) → 0 < c → c < n → f (g c) ≡ true) → all f (rows g (n - 1) 1) ≡ true
+said-rest f g n h = all-test f (λ x. f x ≡ true) (λ x k. k) (rows g (n - 1) 1) (rows-all (λ x. f x ≡ true) g (n - 1) 1 (λ c l m. h c (omega arith) (omega arith)))
+
+-- Files
+
+pub record FileSound (n : ℕ) (kept : List ℕ) (k : ClassRow) : Type 0 where
+  pub loader : k .loader < 16
+  pub within : k .start + k .size ≤ n
+  pub reads : isSome (readFile (partOf kept (k .start) (k .size))) ≡ true
+
+module _ (n : ℕ) (kept : List ℕ) where
+  file-said : (k : ClassRow) → fileFits n kept k ≡ true → FileSound n kept k
+  unfolding fileFits
+  file-said k h = let p = every-true _ h in record { loader = ltb-true (k .loader) 16 (p .0); within = leb-true (k .start + k .size) n (p .1 .0); reads = p .1 .1 .0 }
+
+  said-file : (k : ClassRow) → FileSound n kept k → fileFits n kept k ≡ true
+  unfolding fileFits
+  said-file k f = true-every _ (lt-ltb (k .loader) 16 (f .loader), (le-leb (k .start + k .size) n (f .within), (f .reads, tt)))
+
+  module _ (g : ℕ → ClassRow) where
+    sources-first : (m : ℕ) → sourcesFit n kept (rows g m 0) ≡ true → 0 < m → First (g 0)
+    unfolding sourcesFit rows isObject
+    sources-first zero h l = absurd (omega arith)
+    sources-first (suc m) h l =
+        let p = every-true _ (every-true _ h .0) in
+        record { loader = eqb-true (g 0 .loader) 0 (p .0); start = eqb-true (g 0 .start) 0 (p .1 .0); size = eqb-true (g 0 .size) 0 (p .1 .1 .0) }
+
+    sources-other : (m : ℕ) → sourcesFit n kept (rows g m 0) ≡ true → (c : ℕ) → 0 < c → c < m → FileSound n kept (g c)
+    unfolding sourcesFit rows
+    sources-other zero h c k l = absurd (omega arith)
+    sources-other (suc m) h c k l =
+        let e : suc m - 1 ≡ m = omega arith in
+        file-said (g c) (rest-said (fileFits n kept) g (suc m) (rw e (every-true _ h .1 .0)) c k l)
+
+    said-sources : (m : ℕ) → (0 < m → First (g 0)) → ((c : ℕ) → 0 < c → c < m → FileSound n kept (g c)) → sourcesFit n kept (rows g m 0) ≡ true
+    unfolding sourcesFit rows isObject
+    said-sources zero f h = refl
+    said-sources (suc m) f h =
+        let e : suc m - 1 ≡ m = omega arith in
+        let first = f (omega arith) in
+        true-every _
+        (true-every _ (eq-eqb (g 0 .loader) 0 (first .loader), (eq-eqb (g 0 .start) 0 (first .start), (eq-eqb (g 0 .size) 0 (first .size), tt))),
+        (rw e at (said-rest (fileFits n kept) g (suc m) (λ c k l. said-file (g c) (h c k l))), tt))
+
+-- Superclasses and sizes
+
+links-said : (b : Base) (n : ℕ) → linksFit b n ≡ true → (c : ℕ) → 0 < c → c < n → (isSome (superOf b c) ≡ true) × (sizeOf b c ≤ 16)
+unfolding linksFit linked
+links-said b n h c k l = let p = every-true _ (rest-said (linked b) number n h c k l) in (p .0, leb-true (sizeOf b c) 16 (p .1 .0))
+
+said-links : (b : Base) (n : ℕ) → ((c : ℕ) → 0 < c → c < n → (isSome (superOf b c) ≡ true) × (sizeOf b c ≤ 16)) → linksFit b n ≡ true
+unfolding linksFit linked
+said-links b n h = said-rest (linked b) number n (λ c k l. let p = h c k l in true-every _ (p .0, (le-leb (sizeOf b c) 16 (p .1), tt)))
+
+-- Classes, each by its number
+
+classes-from : (b : Base) (bs : List ℕ) (g : ℕ → ClassRow) (n i : ℕ) → ((c : ℕ) → i ≤ c → c < i + n → ClassSound b bs c (g c)) → From (ClassSound b bs) i (rows g n i)
+unfolding rows
+classes-from b bs g zero i h = tt
+classes-from b bs g (suc n) i h = (h i (omega arith) (omega arith), classes-from b bs g n (suc i) (λ c k l. h c (omega arith) (omega arith)))
+
+classes-said : (b : Base) (bs : List ℕ) (g : ℕ → ClassRow) (n : ℕ) → (0 < n → First (g 0)) → ((c : ℕ) → 0 < c → c < n → ClassSound b bs c (g c)) → Classes b bs (rows g n 0)
+unfolding rows
+classes-said b bs g zero f h = tt
+classes-said b bs g (suc n) f h = (f (omega arith), classes-from b bs g n 1 (λ c k l. h c (omega arith) (omega arith)))
+
+-- All together
+
+module _ (t : Tables) (bytes : getD (t .counts) 1 0 ≤ length (t .kept)) where
+  abbrev rowOf : ℕ → ClassRow
+  rowOf c = classRowAt (t .classes) c
+
+  abbrev few : ℕ
+  few = getD (t .counts) 0 0
+
+  -- files that fit are those that the definition reads
+  fit-sources : sourcesFit (getD (t .counts) 1 0) (t .kept) (rows rowOf few 0) ≡ true → Sources t
+  fit-sources h = record {
+    bytes = bytes;
+    first = sources-first (getD (t .counts) 1 0) (t .kept) rowOf few h;
+    others = λ c k l.
+        let f = sources-other (getD (t .counts) 1 0) (t .kept) rowOf few h c k l in
+        let bs = partOf (t .kept) (rowOf c .start) (rowOf c .size) in
+        (quickFile bs,
+        file-part (keptOf t) (rowOf c)
+        ∙ (ap readFile (part-same (t .kept) (getD (t .counts) 1 0) bytes (rowOf c .start) (rowOf c .size) (f .within)) ∙ reads-some bs (f .reads)));
+  }
+
+  -- and the definition's are files that fit
+  sources-fit : (c : ℕ) (b : Base) → ClassSound b (keptOf t) c (rowOf c) → FileSound (getD (t .counts) 1 0) (t .kept) (rowOf c)
+  sources-fit c b k = record {
+    loader = k .loader;
+    within = part-within (t .kept) (getD (t .counts) 1 0) bytes (rowOf c) (k .file) (k .reads);
+    reads = some-is _ _ (part-reads (t .kept) (getD (t .counts) 1 0) bytes (rowOf c) (k .file) (k .reads));
+  }
+
+enough : (t : Tables) → shaped t ≡ true → within (t .counts) ≡ true → getD (t .counts) 1 0 ≤ length (t .kept)
+enough t s w = omega (arith, shaped-true t s .kept, within-true (t .counts) w .kept)
+
+checks-sound : (t : Tables) → checks t ≡ true → whole t ≡ true
+unfolding checks whole sound view viewOver rowsFit
+checks-sound t h =
+    let p = every-true _ h in
+    let bytes = enough t (p .0) (p .1 .0) in
+    let s = fit-sources t bytes (p .1 .1 .0) in
+    let e = quick-view t s in
+    let r = every-true _ (p .1 .1 .1 .0) in
+    let n = getD (t .counts) 0 0 in
+    let b = viewBase t in
+    let classes : Classes b (keptOf t) (classRowsOf t) =
+    classes-said b (keptOf t) (classRowAt (t .classes)) n (s .first) (λ c k l.
+    let f = s .others c k l in
+    let q = links-said b n (ap (λ (d : Base). linksFit d n) (sym e) ∙ p .1 .1 .1 .1 .0) c k l in
+    let u = is-some _ (q .0) in
+    record { loader = sources-other (getD (t .counts) 1 0) (t .kept) (classRowAt (t .classes)) n (p .1 .1 .0) c k l .loader; file = f .0; reads = f .1; super = u .0; isSuper = u .1; size = q .1 }) in
+    true-every _
+    (p .0,
+    (p .1 .0,
+    (true-every _
+    (classes-fit _ _ _ classes,
+    (ap (λ (m : ℕ). all (entryFits m) (cacheOf t)) (classes-number t) ∙ r .0,
+    (r .1 .0,
+    (r .1 .1 .0,
+    (objects-same t b ∙ (ap (λ (d : Base). objectsFit d (t .counts) (t .objects)) (sym e) ∙ p .1 .1 .1 .1 .1 .0),
+    (frames-same t b 0 ∙ p .1 .1 .1 .1 .1 .1 .0, (frames-same t b 1 ∙ p .1 .1 .1 .1 .1 .1 .1 .0, tt))))))), tt)))
+
+sound-checks : (t : Tables) → whole t ≡ true → checks t ≡ true
+unfolding checks whole sound view viewOver rowsFit
+sound-checks t h =
+    let p = every-true _ h in
+    let q = every-true _ (p .1 .1 .0) in
+    let bytes = enough t (p .0) (p .1 .0) in
+    let n = getD (t .counts) 0 0 in
+    let g = classRowAt (t .classes) in
+    let b = viewBase t in
+    let k : Classes b (keptOf t) (classRowsOf t) = fits-classes _ _ _ (q .0) in
+    let files = said-sources (getD (t .counts) 1 0) (t .kept) g n (row-first b (keptOf t) g n k) (λ c i j. sources-fit t bytes c b (row-other b (keptOf t) g n k c i j)) in
+    let e = quick-view t (fit-sources t bytes files) in
+    let links = said-links b n (λ c i j. let s = row-other b (keptOf t) g n k c i j in (some-is _ _ (s .isSuper), s .size)) in
+    true-every _
+    (p .0,
+    (p .1 .0,
+    (files,
+    (true-every _ (ap (λ (m : ℕ). all (entryFits m) (cacheOf t)) (sym (classes-number t)) ∙ q .1 .0, (q .1 .1 .0, (q .1 .1 .1 .0, tt))),
+    (ap (λ (d : Base). linksFit d n) e ∙ links,
+    (ap (λ (d : Base). objectsFit d (t .counts) (t .objects)) e ∙ (sym (objects-same t b) ∙ q .1 .1 .1 .1 .0),
+    (sym (frames-same t b 0) ∙ q .1 .1 .1 .1 .1 .0, (sym (frames-same t b 1) ∙ q .1 .1 .1 .1 .1 .1 .0, tt))))))))
+
+-- the tests fail exactly if the tables are broken
+pub checks-broken : (t : Tables) → broken t ≡ not (checks t)
+unfolding broken
+checks-broken t = ap not (same-test (whole t) (checks t) (sound-checks t) (checks-sound t))

@@ -1,0 +1,167 @@
+-- Every call on rows whose numbers have their widths leaves such rows, if its own arguments have theirs.
+use mathlib.Core.Path.{_≡_, subst}
+use mathlib.Core.Bool.{Bool, true, false}
+use mathlib.Core.Option.{Option, none, some}
+use mathlib.Core.List.{List, [], _∷_, _++_}
+use mathlib.Core.Logic.{inl, inr}
+use Prim.Native.Nat.{ℕ, zero, suc, _<_}
+use native.Mathlib.Omega.{arith}
+use Rattle.definition.specs.Answers.{ok}
+use Rattle.definition.specs.Lists.{any}
+use Rattle.definition.specs.Classes.{Base, Class, Method, superOf, loaderOf, hasMethod}
+use Rattle.definition.specs.Constraints.{Tie, Subtype, World, newTie}
+use Rattle.definition.specs.File.{readFile, classOf}
+use Rattle.definition.specs.Superclasses.{nearest}
+use Rattle.definition.specs.Verifier.{Note}
+use Rattle.definition.specs.Machine.{Frame, Progress, newObject, intValue}
+use Rattle.definition.specs.Loading.{subtypeIs, subtypeOf, newSubtypes, overrideTie, overrideTies, define, recorded, started}
+use Rattle.definition.specs.Tables.{Rows, worldOf}
+use Rattle.definition.specs.Calls.{Given, bootRows, progressed, withFrames, framesIn, defineRows, recordRows, startRows, dropRows, stepTask, stepOn, stepRows}
+use Rattle.definition.specs.Widths.{EachBelow}
+use Rattle.laws.specs.Wrapped.{Ok, then}
+use Rattle.layout.specs.Tests.{All, all-both}
+use Rattle.unbroken.specs.Calls.{recorded-is}
+use Rattle.widths.specs.Below.{below-both}
+use Rattle.widths.specs.Fits.{EntryFits, TieFits, SubtypeFits, ObjectFits, FrameFits, RowsFit}
+use Rattle.widths.specs.Files.{MethodFits, ClassFits, file-fits, classes-fit}
+use Rattle.widths.specs.Notes.{NoteFits, notes-fit}
+use Rattle.widths.specs.Steps.{then-on, take-read, new-fits, new-tie-fits, method-fits, entered-fits, ProgressFits, step-fits}
+
+-- Loads
+
+pub record WorldFits (w : World) : Type 0 where
+  pub cache : All EntryFits (w .base .cache)
+  pub ties : All TieFits (w .ties)
+  pub subtypes : All SubtypeFits (w .subtypes)
+
+subtypes-fit : (ss : List Subtype) (l : ℕ) (ns : List Note) → All NoteFits ns → All SubtypeFits (newSubtypes ss l ns)
+unfolding newSubtypes
+subtypes-fit ss l [] h = tt
+subtypes-fit ss l (n ∷ ns) h = go (any (subtypeIs l n) ss) (subtypes-fit ss l ns (h .1)) (subtypes-fit (ss ++ (subtypeOf l n ∷ [])) l ns (h .1))
+  where
+    go : (t : Bool) → All SubtypeFits (newSubtypes ss l ns) → All SubtypeFits (newSubtypes (ss ++ (subtypeOf l n ∷ [])) l ns)
+        → All SubtypeFits (elim t as (λ _. List Subtype) [ true ↦ newSubtypes ss l ns | false ↦ subtypeOf l n ∷ newSubtypes (ss ++ (subtypeOf l n ∷ [])) l ns ])
+    go true x y = x
+    go false x y = (record { low = h .0 .low; high = h .0 .high }, y)
+
+override-fits : (b : Base) (l p : ℕ) (ts : List Tie) (m : Method) → MethodFits m → All TieFits (overrideTie b l p ts m)
+unfolding overrideTie
+override-fits b l p ts m h = go (nearest (superOf b) (hasMethod b (m .name) (m .argument) (m .result)) p)
+  where
+    go : (o : Option ℕ) → All TieFits (elim o as (λ _. List Tie) [
+      | none ↦ []
+      | some y ↦ let us = newTie ts l (loaderOf b y) (m .argument) in us ++ newTie (ts ++ us) l (loaderOf b y) (m .result)
+    ])
+    go none = tt
+    go (some y) =
+        let us : List Tie = newTie ts l (loaderOf b y) (m .argument) in
+        all-both TieFits us _ (new-tie-fits ts l (loaderOf b y) (m .argument) (h .argument)) (new-tie-fits (ts ++ us) l (loaderOf b y) (m .result) (h .result))
+
+overrides-fit : (b : Base) (l p : ℕ) (ts : List Tie) (ms : List Method) → All MethodFits ms → All TieFits (overrideTies b l p ts ms)
+unfolding overrideTies
+overrides-fit b l p ts [] h = tt
+overrides-fit b l p ts (m ∷ ms) h =
+    let us : List Tie = overrideTie b l p ts m in
+    all-both TieFits us _ (override-fits b l p ts m (h .0)) (overrides-fit b l p (ts ++ us) ms (h .1))
+
+define-world : (room : Bool) (k : Class) (w : World) → ClassFits k → WorldFits w → Ok (define room k w) WorldFits
+unfolding define
+define-world room k w h f =
+    then-on (All NoteFits) WorldFits _ _ (take-read (All NoteFits) _ _ (notes-fit k (h .name) (k .methods) (h .methods .each))) (λ ns hn.
+    then WorldFits _ _ (λ _ _. then WorldFits _ _ (λ p _. then WorldFits _ _ (λ _ _. then WorldFits _ _ (λ _ _. then WorldFits _ _ (λ _ _.
+    record {
+      cache = all-both EntryFits (w .base .cache) _ (f .cache) (h .name, tt);
+      ties = all-both TieFits (w .ties) _ (f .ties) (overrides-fit (w .base) (k .loader) p (w .ties) (k .methods) (h .methods .each));
+      subtypes = all-both SubtypeFits (w .subtypes) _ (f .subtypes) (subtypes-fit (w .subtypes) (k .loader) ns hn);
+    }))))))
+
+record-world : (l n c : ℕ) (w v : World) → n < 65536 → WorldFits w → recorded l n c w ≡ ok v → WorldFits v
+record-world l n c w v h f e = elim (recorded-is l n c w v e) [
+  | inl q ↦ subst WorldFits q f
+  | inr x ↦ subst WorldFits (x .is) (record { cache = all-both EntryFits (w .base .cache) _ (f .cache) (h, tt); ties = f .ties; subtypes = f .subtypes })
+]
+
+-- Calls
+
+abbrev pub Fit : {A : Type 0} → Given A → Type 0
+Fit g = RowsFit (g .rows)
+
+module _ (r : Rows) (f : RowsFit r) where
+  world-fits : WorldFits (worldOf r)
+  world-fits = record { cache = f .cache; ties = f .ties; subtypes = f .subtypes }
+
+  class-list : All ClassFits (worldOf r .base .classes)
+  class-list = classes-fit (r .kept) (f .kept) (r .classes)
+
+  progressed-fits : (k : ℕ) (o : Progress) → ProgressFits o → RowsFit (progressed k r o)
+  progressed-fits zero o p = record { kept = f .kept; cache = f .cache; ties = p .ties; subtypes = f .subtypes; objects = p .objects; quote = p .frames; report = f .report }
+  progressed-fits (suc k) o p = record { kept = f .kept; cache = f .cache; ties = p .ties; subtypes = f .subtypes; objects = p .objects; quote = f .quote; report = p .frames }
+
+  pub define-fits : (l : ℕ) (bs : List ℕ) → EachBelow 256 bs → Ok (defineRows l bs r) Fit
+  unfolding defineRows
+  define-fits l bs h = then Fit _ _ (λ _ _.
+      then-on (λ x. ClassFits (classOf l x)) Fit _ _ (take-read (λ x. ClassFits (classOf l x)) (readFile bs) _ (file-fits l bs h)) (λ x hx.
+      then-on WorldFits Fit _ _ (define-world _ (classOf l x) (worldOf r) hx world-fits) (λ w hw.
+      record {
+        kept = below-both 256 (r .kept) bs (f .kept) h;
+        cache = hw .cache;
+        ties = hw .ties;
+        subtypes = hw .subtypes;
+        objects = f .objects;
+        quote = f .quote;
+        report = f .report;
+      })))
+
+  pub record-fits : (l n c : ℕ) → n < 65536 → Ok (recordRows l n c r) Fit
+  unfolding recordRows
+  record-fits l n c h = then Fit _ _ (λ w e.
+      record {
+        kept = f .kept;
+        cache = record-world l n c (worldOf r) w h world-fits e .cache;
+        ties = f .ties;
+        subtypes = f .subtypes;
+        objects = f .objects;
+        quote = f .quote;
+        report = f .report;
+      })
+
+  started-fits : (l n m v : ℕ) (fs : List Frame) → v < 4294967296 → Ok (started l n m v (worldOf r) (r .objects) fs) ProgressFits
+  unfolding started
+  started-fits l n m v fs h =
+      then ProgressFits _ _ (λ _ _. then ProgressFits _ _ (λ _ _. then ProgressFits _ _ (λ c _. then ProgressFits _ _ (λ s _.
+      then-on (λ j. j < 4294967296) ProgressFits _ _ (take-read (λ j. j < 4294967296) _ _ (method-fits (worldOf r .base) class-list m 1 1 s)) (λ j hj.
+      then ProgressFits _ _ (λ _ _.
+      record {
+        ties = f .ties;
+        objects = all-both ObjectFits (r .objects) (newObject (worldOf r .base) c ∷ []) (f .objects) (new-fits (worldOf r .base) c, tt);
+        frames = (entered-fits s j _ (intValue v) hj h, tt);
+      }))))))
+
+  pub start-fits : (k l n m v : ℕ) → v < 4294967296 → Ok (startRows k l n m v r) Fit
+  unfolding startRows
+  start-fits k l n m v h = then Fit _ _ (λ _ _. then-on ProgressFits Fit _ _ (started-fits l n m v (framesIn k r) h) (λ o p. progressed-fits k o p))
+
+  task-fits : (k : ℕ) (g : Frame) (gs : List Frame) → All FrameFits (g ∷ gs) → Ok (stepTask k (worldOf r) g gs r) Fit
+  unfolding stepTask
+  task-fits k g gs h =
+      then-on ProgressFits Fit _ _ (step-fits (worldOf r) (r .objects) class-list (f .ties) (f .objects) g gs (h .0) (h .1)) (λ o p. progressed-fits k o p)
+
+  pub step-rows-fit : Ok (stepRows r) Fit
+  unfolding stepRows
+  step-rows-fit = go (r .quote) (r .report) (f .quote) (f .report)
+    where
+      go : (q p : List Frame) → All FrameFits q → All FrameFits p → Ok (stepOn q p (worldOf r) r) Fit
+      go (g ∷ gs) p a b = unfold stepOn in task-fits 0 g gs a
+      go [] (g ∷ gs) a b = unfold stepOn in task-fits 1 g gs b
+      go [] [] a b = unfold stepOn in f
+
+  dropped-fits : (k : ℕ) → RowsFit (withFrames k r [])
+  dropped-fits zero = record { kept = f .kept; cache = f .cache; ties = f .ties; subtypes = f .subtypes; objects = f .objects; quote = tt; report = f .report }
+  dropped-fits (suc k) = record { kept = f .kept; cache = f .cache; ties = f .ties; subtypes = f .subtypes; objects = f .objects; quote = f .quote; report = tt }
+
+  pub drop-fits : (k : ℕ) → Ok (dropRows k r) Fit
+  unfolding dropRows
+  drop-fits k = then Fit _ _ (λ _ _. dropped-fits k)
+
+pub boot-fits : RowsFit bootRows
+boot-fits = record { kept = tt; cache = (omega arith, tt); ties = tt; subtypes = tt; objects = tt; quote = tt; report = tt }

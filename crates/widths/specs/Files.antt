@@ -1,0 +1,264 @@
+-- What is read of bytes has its width: names of a file 16 bits, bytes of a method's code 8, and an instruction's inline numbers their own.
+use mathlib.Core.Path.{_≡_, refl}
+use mathlib.Core.Bool.{Bool, true, false, _&&_}
+use mathlib.Core.Option.{Option, none, some}
+use mathlib.Core.List.{List, [], _∷_, map}
+use Prim.Native.Nat.{ℕ, zero, suc, _+_, _<_, _≤_}
+use native.Mathlib.Omega.{arith}
+use lib.ListN.{length, take, drop, getD, getElem?, length-take}
+use lib.Dec.{leb, ltb}
+use borrow.Author.Tests.{leb-true}
+use Rattle.definition.specs.declared.Opcode.{Opcode}
+use Rattle.definition.specs.declared.Opcode.the-variants.{OpAconstNull, OpSipush, OpIload, OpAload, OpIstore, OpAstore, OpPop, OpDup, OpIadd, OpIsub, OpGetfield, OpPutfield, OpInvokevirtual, OpNew, OpIreturn, OpAreturn, OpUnknown}
+use Rattle.definition.specs.declared.Instruction.{Instruction}
+use Rattle.definition.specs.declared.Instruction.the-variants.{AconstNull, Sipush, Iload, Aload, Istore, Astore, Pop, Dup, Iadd, Isub, Getfield, Putfield, Invokevirtual, New, Ireturn, Areturn}
+use Rattle.definition.specs.Maybe.{_>>=_, need}
+use Rattle.definition.specs.Classes.{Base, Class, Method, methodsOf}
+use Rattle.definition.specs.File.{File, Got, byte, short, name, count, fieldsIn, methodsIn, readFile, classOf, objectClass}
+use Rattle.definition.specs.Instructions.{opcodeOf, inlineLength, shortAt, extend, instructionOf, Decoded, sizedAs, decode}
+use Rattle.definition.specs.Tables.{ClassRow, fileAt, classAt}
+use Rattle.definition.specs.Widths.{EachBelow}
+use Rattle.laws.specs.Tests.{and-true}
+use Rattle.layout.specs.Tests.{All}
+use Rattle.unbroken.specs.Steps.{all-nth}
+use Rattle.widths.specs.Below.{all-map, below-cell, below-take, below-drop}
+
+-- Readings in sequence: what holds of what was read, if it was read
+
+abbrev pub Read : {A : Type 0} → Option A → (A → Type 0) → Type 0
+Read none Q = Unit {0}
+Read (some a) Q = Q a
+
+pub read-on : {A B : Type 0} (P : A → Type 0) (Q : B → Type 0) (o : Option A) (f : A → Option B) → Read o P → ((a : A) → P a → Read (f a) Q) → Read (o >>= f) Q
+unfolding _>>=_
+read-on P Q none f h k = tt
+read-on P Q (some a) f h k = k a h
+
+-- where nothing of the first reading counts
+pub read-past : {A B : Type 0} (Q : B → Type 0) (o : Option A) (f : A → Option B) → ((a : A) → Read (f a) Q) → Read (o >>= f) Q
+unfolding _>>=_
+read-past Q none f k = tt
+read-past Q (some a) f k = k a
+
+pub read-need : {B : Type 0} (Q : B → Type 0) (b : Bool) (f : Unit {0} → Option B) → (b ≡ true → Read (f tt) Q) → Read (need b >>= f) Q
+unfolding _>>=_ need
+read-need Q true f k = k refl
+read-need Q false f k = tt
+
+pub read-nth : {A : Type 0} (P : A → Type 0) (xs : List A) (i : ℕ) → All P xs → Read (getElem? xs i) P
+read-nth P [] i h = tt
+read-nth P (x ∷ xs) zero h = h .0
+read-nth P (x ∷ xs) (suc i) h = read-nth P xs i (h .1)
+
+-- Bytes and 16-bit numbers
+
+-- what was read has P, and the rest are bytes
+pub record GotFits {A : Type 0} (P : A → Type 0) (g : Got A) : Type 0 where
+  pub value : P (g .value)
+  pub more : EachBelow 256 (g .more)
+
+abbrev Any : {A : Type 0} → A → Type 0
+Any a = Unit {0}
+
+abbrev Short : ℕ → Type 0
+Short n = n < 65536
+
+byte-fits : (bs : List ℕ) → EachBelow 256 bs → Read (byte bs) (GotFits (λ b. b < 256))
+unfolding byte
+byte-fits [] h = tt
+byte-fits (b ∷ bs) h = record { value = h .0; more = h .1 }
+
+short-fits : (bs : List ℕ) → EachBelow 256 bs → Read (short bs) (GotFits Short)
+unfolding short
+short-fits bs h =
+    read-on (GotFits (λ b. b < 256)) (GotFits Short) _ _ (byte-fits bs h) (λ a x.
+    read-on (GotFits (λ b. b < 256)) (GotFits Short) _ _ (byte-fits (a .more) (x .more)) (λ b y. record { value = omega (arith, x .value, y .value); more = y .more }))
+
+name-fits : (n : ℕ) (bs : List ℕ) → EachBelow 256 bs → Read (name n bs) (GotFits Short)
+unfolding name
+name-fits n bs h = read-on (GotFits Short) (GotFits Short) _ _ (short-fits bs h) (λ x g. read-need (GotFits Short) _ _ (λ _. g))
+
+-- a count is at most 8
+count-fits : (bs : List ℕ) → EachBelow 256 bs → Read (count bs) (GotFits (λ n. n ≤ 8))
+unfolding count
+count-fits bs h = read-on (GotFits (λ b. b < 256)) (GotFits (λ n. n ≤ 8)) _ _ (byte-fits bs h) (λ x g.
+    read-need (GotFits (λ n. n ≤ 8)) _ _ (λ e. record { value = leb-true _ _ e; more = g .more }))
+
+fields-fit : (k : ℕ) (bs : List ℕ) → EachBelow 256 bs → Read (fieldsIn k bs) (GotFits Any)
+unfolding fieldsIn
+fields-fit zero bs h = record { value = tt; more = h }
+fields-fit (suc k) bs h =
+    read-on (GotFits Short) (GotFits Any) _ _ (name-fits 1 bs h) (λ n x.
+    read-on (GotFits Short) (GotFits Any) _ _ (name-fits 1 (n .more) (x .more)) (λ t y.
+    read-on (GotFits Any) (GotFits Any) _ _ (fields-fit k (t .more) (y .more)) (λ fs z. record { value = tt; more = z .more })))
+
+-- a method: types of 16 bits, code of at most 512 bytes
+pub record MethodFits (m : Method) : Type 0 where
+  pub argument : m .argument < 65536
+  pub result : m .result < 65536
+  pub code : EachBelow 256 (m .code)
+  pub short : length (m .code) ≤ 512
+
+-- so many methods, each of which fits
+pub record MethodsFit (k : ℕ) (ms : List Method) : Type 0 where
+  pub many : length ms ≤ k
+  pub each : All MethodFits ms
+
+methods-fit : (k : ℕ) (bs : List ℕ) → EachBelow 256 bs → Read (methodsIn k bs) (GotFits (MethodsFit k))
+unfolding methodsIn
+methods-fit zero bs h = record { value = record { many = omega arith; each = tt }; more = h }
+methods-fit (suc k) bs h =
+    read-on (GotFits Short) G _ _ (name-fits 1 bs h) (λ n x.
+    read-on (GotFits Short) G _ _ (name-fits 1 (n .more) (x .more)) (λ a y.
+    read-on (GotFits Short) G _ _ (name-fits 1 (a .more) (y .more)) (λ r z.
+    read-on (GotFits Short) G _ _ (short-fits (r .more) (z .more)) (λ l w.
+    read-need G _ _ (λ e.
+    read-on (GotFits (MethodsFit k)) G _ _ (methods-fit k (drop (l .value) (l .more)) (below-drop 256 (l .value) (l .more) (w .more))) (λ ms v.
+    let q : l .value ≤ 512 = at-most (l .value) (length (l .more)) e in
+    record {
+      value = record {
+        many = omega (arith, v .value .many);
+        each = (
+          record {
+            argument = y .value;
+            result = z .value;
+            code = below-take 256 (l .value) (l .more) (w .more);
+            short = omega (arith, length-take (l .value) (l .more));
+          },
+          v .value .each,
+        );
+      };
+      more = v .more;
+    }))))))
+  where
+    G : Got (List Method) → Type 0
+    G = GotFits (MethodsFit (suc k))
+
+    at-most : (n m : ℕ) → (leb 1 n && leb n 512 && leb n m) ≡ true → n ≤ 512
+    at-most n m e = leb-true n 512 (and-true (leb 1 n) (leb n 512) (and-true (leb 1 n && leb n 512) (leb n m) e .0) .1)
+
+-- a class's name, and its methods
+pub record ClassFits (k : Class) : Type 0 where
+  pub name : k .name < 65536
+  pub methods : MethodsFit 8 (k .methods)
+
+pub file-fits : (l : ℕ) (bs : List ℕ) → EachBelow 256 bs → Read (readFile bs) (λ f. ClassFits (classOf l f))
+unfolding readFile
+file-fits l bs h =
+    read-need Q _ _ (λ _.
+    read-on (GotFits (λ b. b < 256)) Q _ _ (byte-fits bs h) (λ v xv. read-need Q _ _ (λ _.
+    read-on (GotFits Short) Q _ _ (short-fits (v .more) (xv .more)) (λ n xn. read-need Q _ _ (λ _.
+    read-on (GotFits Short) Q _ _ (name-fits 2 (n .more) (xn .more)) (λ c xc.
+    read-on (GotFits Short) Q _ _ (name-fits 2 (c .more) (xc .more)) (λ s xs.
+    read-on (GotFits (λ n. n ≤ 8)) Q _ _ (count-fits (s .more) (xs .more)) (λ k xk.
+    read-on (GotFits Any) Q _ _ (fields-fit (k .value) (k .more) (xk .more)) (λ fs xf.
+    read-on (GotFits (λ n. n ≤ 8)) Q _ _ (count-fits (fs .more) (xf .more)) (λ j xj.
+    read-on (GotFits (MethodsFit (j .value))) Q _ _ (methods-fit (j .value) (j .more) (xj .more)) (λ ms xm.
+    read-need Q _ _ (λ _. read-need Q _ _ (λ _. read-need Q _ _ (λ _.
+    record { name = xc .value; methods = record { many = omega (arith, xm .value .many, xj .value); each = xm .value .each } }))))))))))))))
+  where
+    Q : File → Type 0
+    Q f = ClassFits (classOf l f)
+
+object-fits : ClassFits objectClass
+object-fits = record { name = omega arith; methods = record { many = omega arith; each = tt } }
+
+-- a class whose file is kept
+pub class-fits : (bs : List ℕ) → EachBelow 256 bs → (k : ClassRow) → ClassFits (classAt bs k)
+unfolding classAt fileAt
+class-fits bs h k = go (fileAt bs k) kept
+  where
+    Q : File → Type 0
+    Q f = ClassFits (classOf (k .loader) f)
+
+    kept : Read (fileAt bs k) Q
+    kept = read-need Q _ _ (λ _. file-fits (k .loader) (take (k .size) (drop (k .start) bs)) (below-take 256 (k .size) (drop (k .start) bs) (below-drop 256 (k .start) bs h)))
+
+    go : (o : Option File) → Read o Q → ClassFits (elim o as (λ _. Class) [ none ↦ objectClass | some f ↦ classOf (k .loader) f ])
+    go none x = object-fits
+    go (some f) x = x
+
+pub classes-fit : (bs : List ℕ) → EachBelow 256 bs → (ks : List ClassRow) → All ClassFits (map (classAt bs) ks)
+classes-fit bs h ks = all-map ClassFits (classAt bs) (class-fits bs h) ks
+
+pub methods-of-fit : (b : Base) → All ClassFits (b .classes) → (c : ℕ) → MethodsFit 8 (methodsOf b c)
+unfolding methodsOf
+methods-of-fit b h c = go (getElem? (b .classes) c) refl
+  where
+    go : (o : Option Class) → getElem? (b .classes) c ≡ o → MethodsFit 8 (elim o as (λ _. List Method) [ none ↦ [] | some k ↦ k .methods ])
+    go none e = record { many = omega arith; each = tt }
+    go (some k) e = all-nth ClassFits (b .classes) h c k e .methods
+
+-- Instructions
+
+abbrev pub InstructionFits : Instruction → Type 0
+InstructionFits AconstNull = Unit {0}
+InstructionFits (Sipush n) = n < 4294967296
+InstructionFits (Iload i) = Unit {0}
+InstructionFits (Aload i) = Unit {0}
+InstructionFits (Istore i) = Unit {0}
+InstructionFits (Astore i) = Unit {0}
+InstructionFits Pop = Unit {0}
+InstructionFits Dup = Unit {0}
+InstructionFits Iadd = Unit {0}
+InstructionFits Isub = Unit {0}
+InstructionFits (Getfield c f t) = (c < 65536) × (t < 65536)
+InstructionFits (Putfield c f t) = (c < 65536) × (t < 65536)
+InstructionFits (Invokevirtual c m t r) = (c < 65536) × (t < 65536) × (r < 65536)
+InstructionFits (New c) = c < 65536
+InstructionFits Ireturn = Unit {0}
+InstructionFits Areturn = Unit {0}
+
+module _ (code : List ℕ) (h : EachBelow 256 code) where
+  short-at : (i : ℕ) → shortAt code i < 65536
+  unfolding shortAt
+  short-at i = omega (arith, below-cell 256 code i (omega arith) h, below-cell 256 code (i + 1) (omega arith) h)
+
+  extended : (n : ℕ) → n < 65536 → extend n < 4294967296
+  unfolding extend
+  extended n l = go (ltb n 32768)
+    where
+      go : (b : Bool) → (elim b as (λ _. ℕ) [ true ↦ n | false ↦ n + 4294901760 ]) < 4294967296
+      go true = omega arith
+      go false = omega arith
+
+  instruction-fits : (i : ℕ) (o : Opcode) → Read (instructionOf code i o) InstructionFits
+  unfolding instructionOf
+  instruction-fits i OpAconstNull = tt
+  instruction-fits i OpSipush = extended (shortAt code i) (short-at i)
+  instruction-fits i OpIload = tt
+  instruction-fits i OpAload = tt
+  instruction-fits i OpIstore = tt
+  instruction-fits i OpAstore = tt
+  instruction-fits i OpPop = tt
+  instruction-fits i OpDup = tt
+  instruction-fits i OpIadd = tt
+  instruction-fits i OpIsub = tt
+  instruction-fits i OpGetfield = (short-at i, short-at (i + 4))
+  instruction-fits i OpPutfield = (short-at i, short-at (i + 4))
+  instruction-fits i OpInvokevirtual = (short-at i, short-at (i + 4), short-at (i + 6))
+  instruction-fits i OpNew = short-at i
+  instruction-fits i OpIreturn = tt
+  instruction-fits i OpAreturn = tt
+  instruction-fits i OpUnknown = tt
+
+  -- what is decoded at point p ends within the code
+  pub record DecodedFits (p : ℕ) (i : Decoded) : Type 0 where
+    pub instruction : InstructionFits (i .instruction)
+    pub inside : p + i .size ≤ length code
+
+  pub decode-fits : (p : ℕ) → Read (decode code p) (DecodedFits p)
+  unfolding decode sizedAs
+  decode-fits p = go (leb (p + suc (inlineLength (opcodeOf (getD code p 0)))) (length code)) refl
+    where
+      n : ℕ
+      n = suc (inlineLength (opcodeOf (getD code p 0)))
+
+      sized : p + n ≤ length code → (o : Option Instruction) → Read o InstructionFits → Read (sizedAs n o) (DecodedFits p)
+      sized l none x = tt
+      sized l (some i) x = record { instruction = x; inside = l }
+
+      go : (b : Bool) → leb (p + n) (length code) ≡ b
+          → Read (elim b as (λ _. Option Decoded) [ true ↦ sizedAs n (instructionOf code (p + 1) (opcodeOf (getD code p 0))) | false ↦ none ]) (DecodedFits p)
+      go true e = sized (leb-true (p + n) (length code) e) (instructionOf code (p + 1) (opcodeOf (getD code p 0))) (instruction-fits (p + 1) (opcodeOf (getD code p 0)))
+      go false e = tt

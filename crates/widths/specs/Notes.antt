@@ -1,0 +1,164 @@
+-- The verifier's notes are between names of 16 bits: every type that it gives comes from the class's name, a method's types or an inline name.
+use mathlib.Core.Bool.{Bool, true, false}
+use mathlib.Core.Option.{Option, none, some}
+use mathlib.Core.List.{List, [], _∷_, _++_}
+use Prim.Native.Nat.{ℕ, zero, suc, _+_, _<_}
+use lib.ListN.{length, set}
+use lib.Dec.{eqb}
+use Rattle.definition.specs.declared.Instruction.{Instruction}
+use Rattle.definition.specs.declared.Instruction.the-variants.{AconstNull, Sipush, Iload, Aload, Istore, Astore, Pop, Dup, Iadd, Isub, Getfield, Putfield, Invokevirtual, New, Ireturn, Areturn}
+use Rattle.definition.specs.Maybe.{_>>=_, need}
+use Rattle.definition.specs.Classes.{Class, Method}
+use Rattle.definition.specs.Instructions.{Decoded}
+use Rattle.definition.specs.Verifier.{VerifierType, typeInt, typeNull, typeClass, Note, TypeState, Flow, typeOfName, entryTypes, meetClass, meetInt, meets, pop, flow, effect, returns, isReturn, verify, notesOf}
+use Rattle.definition.specs.Widths.{EachBelow}
+use Rattle.layout.specs.Tests.{All, all-both}
+use Rattle.widths.specs.Below.{all-set}
+use Rattle.widths.specs.Files.{Read, read-on, read-past, read-need, read-nth, InstructionFits, DecodedFits, decode-fits, MethodFits}
+
+-- a class name has 16 bits
+abbrev TypeFits : VerifierType → Type 0
+TypeFits typeInt = Unit {0}
+TypeFits typeNull = Unit {0}
+TypeFits (typeClass a) = a < 65536
+
+abbrev LocalFits : Option VerifierType → Type 0
+LocalFits o = Read o TypeFits
+
+pub record NoteFits (n : Note) : Type 0 where
+  pub low : n .low < 65536
+  pub high : n .high < 65536
+
+record StateFits (s : TypeState) : Type 0 where
+  operands : All TypeFits (s .operands)
+  locals : All LocalFits (s .locals)
+
+record FlowFits (f : Flow) : Type 0 where
+  types : StateFits (f .types)
+  notes : All NoteFits (f .notes)
+
+name-type : (n : ℕ) → n < 65536 → TypeFits (typeOfName n)
+unfolding typeOfName
+name-type n l = go (eqb n 1)
+  where
+    go : (b : Bool) → TypeFits (elim b as (λ _. VerifierType) [ true ↦ typeInt | false ↦ typeClass n ])
+    go true = tt
+    go false = l
+
+class-met : (b : ℕ) (t : VerifierType) → b < 65536 → TypeFits t → Read (meetClass b t) (All NoteFits)
+unfolding meetClass
+class-met b typeInt l h = tt
+class-met b typeNull l h = tt
+class-met b (typeClass a) l h = go (eqb a b)
+  where
+    go : (e : Bool) → Read (elim e as (λ _. Option (List Note)) [ true ↦ some [] | false ↦ some (record { low = a; high = b } ∷ []) ]) (All NoteFits)
+    go true = tt
+    go false = (record { low = h; high = l }, tt)
+
+int-met : (t : VerifierType) → Read (meetInt t) (All NoteFits)
+unfolding meetInt
+int-met typeInt = tt
+int-met typeNull = tt
+int-met (typeClass a) = tt
+
+met : (t : VerifierType) (b : ℕ) → b < 65536 → TypeFits t → Read (meets t b) (All NoteFits)
+unfolding meets
+met t b l h = go (eqb b 1)
+  where
+    go : (e : Bool) → Read (elim e as (λ _. Option (List Note)) [ true ↦ meetInt t | false ↦ meetClass b t ]) (All NoteFits)
+    go true = int-met t
+    go false = class-met b t l h
+
+abbrev Popped : record { top : VerifierType; more : List VerifierType } → Type 0
+Popped p = TypeFits (p .top) × All TypeFits (p .more)
+
+popped : (ts : List VerifierType) → All TypeFits ts → Read (pop ts) Popped
+unfolding pop
+popped [] h = tt
+popped (t ∷ ts) h = (h .0, h .1)
+
+flows : (o : List VerifierType) (l : List (Option VerifierType)) (n : List Note) → All TypeFits o → All LocalFits l → All NoteFits n → Read (flow o l n) FlowFits
+flows o l n a b c = read-need FlowFits _ _ (λ _. record { types = record { operands = a; locals = b }; notes = c })
+
+module _ (s : TypeState) (h : StateFits s) where
+  effect-fits : (i : Instruction) → InstructionFits i → Read (effect i s) FlowFits
+  unfolding effect
+  effect-fits AconstNull f = flows (typeNull ∷ s .operands) (s .locals) [] (tt, h .operands) (h .locals) tt
+  effect-fits (Sipush n) f = flows (typeInt ∷ s .operands) (s .locals) [] (tt, h .operands) (h .locals) tt
+  effect-fits (Iload i) f =
+      read-on LocalFits FlowFits _ _ (read-nth LocalFits (s .locals) i (h .locals)) (λ x hx. read-on TypeFits FlowFits x _ hx (λ t ht. read-past FlowFits _ _ (λ _.
+      flows (t ∷ s .operands) (s .locals) [] (ht, h .operands) (h .locals) tt)))
+  effect-fits (Aload i) f =
+      read-on LocalFits FlowFits _ _ (read-nth LocalFits (s .locals) i (h .locals)) (λ x hx. read-on TypeFits FlowFits x _ hx (λ t ht. read-past FlowFits _ _ (λ _.
+      flows (t ∷ s .operands) (s .locals) [] (ht, h .operands) (h .locals) tt)))
+  effect-fits (Istore i) f = read-on Popped FlowFits _ _ (popped (s .operands) (h .operands)) (λ p hp. read-past FlowFits _ _ (λ _. read-past FlowFits _ _ (λ _.
+      flows (p .more) (set (s .locals) i (some (p .top))) [] (hp .1) (all-set LocalFits (s .locals) i (some (p .top)) (h .locals) (hp .0)) tt)))
+  effect-fits (Astore i) f = read-on Popped FlowFits _ _ (popped (s .operands) (h .operands)) (λ p hp. read-past FlowFits _ _ (λ _. read-past FlowFits _ _ (λ _.
+      flows (p .more) (set (s .locals) i (some (p .top))) [] (hp .1) (all-set LocalFits (s .locals) i (some (p .top)) (h .locals) (hp .0)) tt)))
+  effect-fits Pop f = read-on Popped FlowFits _ _ (popped (s .operands) (h .operands)) (λ p hp. flows (p .more) (s .locals) [] (hp .1) (h .locals) tt)
+  effect-fits Dup f = read-on Popped FlowFits _ _ (popped (s .operands) (h .operands)) (λ p hp. flows (p .top ∷ p .top ∷ p .more) (s .locals) [] (hp .0, hp) (h .locals) tt)
+  effect-fits Iadd f = read-on Popped FlowFits _ _ (popped (s .operands) (h .operands)) (λ p hp. read-on Popped FlowFits _ _ (popped (p .more) (hp .1)) (λ q hq.
+      read-past FlowFits _ _ (λ _. read-past FlowFits _ _ (λ _. flows (typeInt ∷ q .more) (s .locals) [] (tt, hq .1) (h .locals) tt))))
+  effect-fits Isub f = read-on Popped FlowFits _ _ (popped (s .operands) (h .operands)) (λ p hp. read-on Popped FlowFits _ _ (popped (p .more) (hp .1)) (λ q hq.
+      read-past FlowFits _ _ (λ _. read-past FlowFits _ _ (λ _. flows (typeInt ∷ q .more) (s .locals) [] (tt, hq .1) (h .locals) tt))))
+  effect-fits (Getfield c n t) f = read-need FlowFits _ _ (λ _. read-on Popped FlowFits _ _ (popped (s .operands) (h .operands)) (λ p hp.
+      read-on (All NoteFits) FlowFits _ _ (class-met c (p .top) (f .0) (hp .0)) (λ a ha. flows (typeOfName t ∷ p .more) (s .locals) a (name-type t (f .1), hp .1) (h .locals) ha)))
+  effect-fits (Putfield c n t) f = read-need FlowFits _ _ (λ _.
+      read-on Popped FlowFits _ _ (popped (s .operands) (h .operands)) (λ p hp. read-on Popped FlowFits _ _ (popped (p .more) (hp .1)) (λ q hq.
+      read-on (All NoteFits) FlowFits _ _ (class-met c (q .top) (f .0) (hq .0)) (λ a ha. read-on (All NoteFits) FlowFits _ _ (met (p .top) t (f .1) (hp .0)) (λ b hb.
+      flows (q .more) (s .locals) (a ++ b) (hq .1) (h .locals) (all-both NoteFits a b ha hb))))))
+  effect-fits (Invokevirtual c m t r) f = read-need FlowFits _ _ (λ _.
+      read-on Popped FlowFits _ _ (popped (s .operands) (h .operands)) (λ p hp. read-on Popped FlowFits _ _ (popped (p .more) (hp .1)) (λ q hq.
+      read-on (All NoteFits) FlowFits _ _ (class-met c (q .top) (f .0) (hq .0)) (λ a ha. read-on (All NoteFits) FlowFits _ _ (met (p .top) t (f .1) (hp .0)) (λ b hb.
+      flows (typeOfName r ∷ q .more) (s .locals) (a ++ b) (name-type r (f .2), hq .1) (h .locals) (all-both NoteFits a b ha hb))))))
+  effect-fits (New c) f = read-need FlowFits _ _ (λ _. flows (typeClass c ∷ s .operands) (s .locals) [] (f, h .operands) (h .locals) tt)
+  effect-fits Ireturn f = tt
+  effect-fits Areturn f = tt
+
+  returns-fit : (i : Instruction) (r : ℕ) → r < 65536 → Read (returns i r s) (All NoteFits)
+  unfolding returns
+  returns-fit AconstNull r l = tt
+  returns-fit (Sipush n) r l = tt
+  returns-fit (Iload i) r l = tt
+  returns-fit (Aload i) r l = tt
+  returns-fit (Istore i) r l = tt
+  returns-fit (Astore i) r l = tt
+  returns-fit Pop r l = tt
+  returns-fit Dup r l = tt
+  returns-fit Iadd r l = tt
+  returns-fit Isub r l = tt
+  returns-fit (Getfield c f t) r l = tt
+  returns-fit (Putfield c f t) r l = tt
+  returns-fit (Invokevirtual c m t q) r l = tt
+  returns-fit (New c) r l = tt
+  returns-fit Ireturn r l = read-need (All NoteFits) _ _ (λ _. read-on Popped (All NoteFits) _ _ (popped (s .operands) (h .operands)) (λ p hp. int-met (p .top)))
+  returns-fit Areturn r l = go (eqb r 1)
+    where
+      go : (b : Bool) → Read (elim b as (λ _. Option (List Note)) [ true ↦ none | false ↦ pop (s .operands) >>= λ p. meetClass r (p .top) ]) (All NoteFits)
+      go true = tt
+      go false = read-on Popped (All NoteFits) _ _ (popped (s .operands) (h .operands)) (λ p hp. class-met r (p .top) l (hp .0))
+
+module _ (code : List ℕ) (bytes : EachBelow 256 code) (result : ℕ) (small : result < 65536) where
+  verify-fits : (k p : ℕ) (s : TypeState) → StateFits s → Read (verify code result k p s) (All NoteFits)
+  unfolding verify
+  verify-fits zero p s h = tt
+  verify-fits (suc k) p s h = read-on (DecodedFits code bytes p) (All NoteFits) _ _ (decode-fits code bytes p) (λ i x. go i x (isReturn (i .instruction)) (λ q s. verify-fits k q s))
+    where
+      go : (i : Decoded) → DecodedFits code bytes p i → (b : Bool) → ((q : ℕ) (s : TypeState) → StateFits s → Read (verify code result k q s) (All NoteFits))
+          → Read (elim b as (λ _. Option (List Note)) [
+            | true ↦ need (eqb (p + i .size) (length code)) >>= λ _. returns (i .instruction) result s
+            | false ↦ effect (i .instruction) s >>= λ f. verify code result k (p + i .size) (f .types) >>= λ ns. some (f .notes ++ ns)
+          ]) (All NoteFits)
+      go i x true ih = read-need (All NoteFits) _ _ (λ _. returns-fit s h (i .instruction) result small)
+      go i x false ih = read-on FlowFits (All NoteFits) _ _ (effect-fits s h (i .instruction) (x .instruction)) (λ f hf.
+          read-on (All NoteFits) (All NoteFits) _ _ (ih (p + i .size) (f .types) (hf .types)) (λ ns hn. all-both NoteFits (f .notes) ns (hf .notes) hn))
+
+entry-fits : (k : Class) (m : Method) → k .name < 65536 → MethodFits m → StateFits (entryTypes k m)
+entry-fits k m l h = record { operands = tt; locals = (l, (name-type (m .argument) (h .argument), (tt, (tt, (tt, (tt, (tt, (tt, tt)))))))) }
+
+pub notes-fit : (k : Class) → k .name < 65536 → (ms : List Method) → All MethodFits ms → Read (notesOf k ms) (All NoteFits)
+unfolding notesOf
+notes-fit k l [] h = tt
+notes-fit k l (m ∷ ms) h =
+    read-on (All NoteFits) (All NoteFits) _ _ (verify-fits (m .code) (h .0 .code) (m .result) (h .0 .result) (length (m .code)) 0 (entryTypes k m) (entry-fits k m l (h .0))) (λ ns hn.
+    read-on (All NoteFits) (All NoteFits) _ _ (notes-fit k l ms (h .1)) (λ rs hr. all-both NoteFits ns rs hn hr))

@@ -1,0 +1,78 @@
+-- A call but a run leaves the tables as they were, or puts whole rows into them. A run does so step by step.
+use mathlib.Core.Path.{_≡_, refl}
+use mathlib.Core.Bool.{Bool, true, false}
+use mathlib.Core.Logic.{_⊎_, inl, inr}
+use Rattle.definition.specs.declared.Refusal.{Refusal}
+use Rattle.definition.specs.declared.Refusal.the-variants.{Word}
+use Rattle.definition.specs.declared.Answer.the-variants.{Refused}
+use Rattle.definition.specs.declared.Reply.{Reply}
+use Rattle.definition.specs.declared.Reply.the-variants.{Accepted, Denied}
+use Rattle.definition.specs.Answers.{Result, refused, ok}
+use Rattle.definition.specs.Tables.{Tables, shaped, Rows, view, put}
+use Rattle.definition.specs.Broken.{broken}
+use Rattle.definition.specs.Calls.{Given, bootRows, defineRows, recordRows, startRows, dropRows, stepRows, Done, done, carried, wrap, boot, stepTables, Call, callBoot, callDefine, callRecord, callStart, callStep, callRun, callDrop, perform}
+use Rattle.laws.specs.Wrapped.{ok-at}
+use Rattle.layout.specs.Whole.{Whole}
+use Rattle.layout.specs.Unbroken.{broken-false}
+use Rattle.unbroken.specs.Calls.{define-whole, record-whole, start-whole, step-whole, drop-whole, boot-whole}
+use Rattle.unbroken.specs.Unbroken.{Keeps}
+
+-- an accepted call put its rows, which are whole
+pub record Put {A : Type 0} (f : Rows → Result (Given A)) (t u : Tables) : Type 0 where
+  pub given : Given A
+  pub accepted : f (view t) ≡ ok given
+  pub whole : Whole (given .rows)
+  pub is : u ≡ put (given .rows) t
+
+pub wrap-puts : {A : Type 0} (deny : Refusal → A) (f : Rows → Result (Given A)) (t : Tables) → Keeps f → (wrap deny f t .tables ≡ t) ⊎ Put f t (wrap deny f t .tables)
+unfolding wrap carried
+wrap-puts {A} deny f t keeps = go (broken t) refl
+  where
+    carry : broken t ≡ false → (o : Result (Given A)) → f (view t) ≡ o → (carried deny t o .tables ≡ t) ⊎ Put f t (carried deny t o .tables)
+    carry h (refused w) e = inl refl
+    carry h (ok g) e = inr (record { given = g; accepted = e; whole = ok-at (λ g. Whole (g .rows)) _ (keeps (view t) (broken-false t h .1)) g e; is = refl })
+
+    D : Bool → Tables
+    D b = (elim b as (λ _. Done A) [ true ↦ done (deny (Word 1)) t | false ↦ carried deny t (f (view t)) ]) .tables
+
+    go : (b : Bool) → broken t ≡ b → (D b ≡ t) ⊎ Put f t (D b)
+    go true h = inl refl
+    go false h = carry h (f (view t)) refl
+
+-- the tables as they were, or with whole rows put
+abbrev pub Puts : Tables → Tables → Type 0
+Puts t u = (u ≡ t) ⊎ ((r : Rows) × Whole r × (u ≡ put r t))
+
+wrapped-puts : {A : Type 0} (deny : Refusal → A) (f : Rows → Result (Given A)) (t : Tables) → Keeps f → Puts t (wrap deny f t .tables)
+wrapped-puts deny f t keeps = elim (wrap-puts deny f t keeps) [ inl e ↦ inl e | inr p ↦ inr (p .given .rows, p .whole, p .is) ]
+
+boot-puts : (t : Tables) → Puts t (boot t .tables)
+unfolding boot
+boot-puts t = go (shaped t)
+  where
+    go : (b : Bool) → Puts t ((elim b as (λ _. Done Reply) [ true ↦ done Accepted (put bootRows t) | false ↦ done (Denied (Word 1)) t ]) .tables)
+    go true = inr (bootRows, boot-whole, refl)
+    go false = inl refl
+
+pub step-puts : (t : Tables) → Puts t (stepTables t .tables)
+unfolding stepTables
+step-puts t = wrapped-puts Refused stepRows t step-whole
+
+abbrev pub Runs : Call → Type 0
+Runs callBoot = ⊥
+Runs (callDefine l bs) = ⊥
+Runs (callRecord l n c) = ⊥
+Runs (callStart k l n m v) = ⊥
+Runs callStep = ⊥
+Runs (callRun n) = Unit {0}
+Runs (callDrop k) = ⊥
+
+pub call-puts : (c : Call) → (Runs c → ⊥) → (t : Tables) → Puts t (perform c t .tables)
+unfolding perform
+call-puts callBoot h t = boot-puts t
+call-puts (callDefine l bs) h t = wrapped-puts Denied (defineRows l bs) t (λ r w. define-whole r w l bs)
+call-puts (callRecord l n c) h t = wrapped-puts Denied (recordRows l n c) t (λ r w. record-whole r w l n c)
+call-puts (callStart k l n m v) h t = wrapped-puts Denied (startRows k l n m v) t (λ r w. start-whole r w k l n m v)
+call-puts callStep h t = step-puts t
+call-puts (callRun n) h t = absurd (h tt)
+call-puts (callDrop k) h t = wrapped-puts Denied (dropRows k) t (λ r w. drop-whole r w k)

@@ -1,0 +1,233 @@
+-- A step leaves ints of 32 bits, ties on names of 16 bits, and methods and points that fit their cells.
+use mathlib.Core.Bool.{Bool, true, false, _||_}
+use mathlib.Core.Option.{Option, none, some}
+use mathlib.Core.List.{List, [], _∷_, _++_}
+use Prim.Native.Nat.{ℕ, suc, _+_, _-_, _%_, _<_}
+use native.Mathlib.Nat.{mod-lt}
+use native.Mathlib.Omega.{arith}
+use lib.ListN.{length, getElem?, set}
+use lib.Dec.{eqb}
+use Rattle.definition.specs.declared.Instruction.{Instruction}
+use Rattle.definition.specs.declared.Instruction.the-variants.{AconstNull, Sipush, Iload, Aload, Istore, Astore, Pop, Dup, Iadd, Isub, Getfield, Putfield, Invokevirtual, New, Ireturn, Areturn}
+use Rattle.definition.specs.declared.Refusal.{Refusal}
+use Rattle.definition.specs.declared.Refusal.the-variants.{Word}
+use Rattle.definition.specs.Answers.{Result, refused, ok, _>>=_, take?}
+use Rattle.definition.specs.Lists.{any, indexOf}
+use Rattle.definition.specs.Classes.{Base, Class, slots, loaderOf, methodsOf, alike}
+use Rattle.definition.specs.Constraints.{Tie, World, tieIs, newTie, post}
+use Rattle.definition.specs.Instructions.{Decoded}
+use Rattle.definition.specs.Verifier.{pop}
+use Rattle.definition.specs.Machine.{Value, unsetValue, intValue, nullValue, objectValue, unlistedValue, Object, Frame, existing, initialValue, newObject, entryFrame, pop!, object!, Progress, Now, now, past, give, execute, step}
+use Rattle.laws.specs.Wrapped.{Ok, then}
+use Rattle.layout.specs.Tests.{All, all-both}
+use Rattle.widths.specs.Below.{all-map, all-set}
+use Rattle.widths.specs.Fits.{IntFits, TieFits, ObjectFits, FrameFits}
+use Rattle.widths.specs.Files.{Read, read-nth, InstructionFits, DecodedFits, decode-fits, MethodFits, ClassFits, methods-of-fit}
+
+-- Answers in sequence: what holds of an accepted value
+
+pub then-on : {A B : Type 0} (P : A → Type 0) (Q : B → Type 0) (o : Result A) (f : A → Result B) → Ok o P → ((a : A) → P a → Ok (f a) Q) → Ok (o >>= f) Q
+unfolding _>>=_
+then-on P Q (refused w) f h k = tt
+then-on P Q (ok a) f h k = k a h
+
+pub take-read : {A : Type 0} (P : A → Type 0) (o : Option A) (w : Refusal) → Read o P → Ok (take? o w) P
+unfolding take?
+take-read P none w h = tt
+take-read P (some a) w h = h
+
+-- Operands
+
+abbrev Popped : record { top : Value; more : List Value } → Type 0
+Popped p = IntFits (p .top) × All IntFits (p .more)
+
+pop-fits : (vs : List Value) → All IntFits vs → Ok (pop! vs) Popped
+unfolding pop! pop take?
+pop-fits [] h = tt
+pop-fits (v ∷ vs) h = (h .0, h .1)
+
+-- Objects
+
+object-fits : (b : Base) (os : List Object) (e : ℕ) (v : Value) → All ObjectFits os → Ok (object! b os e v) (λ o. ObjectFits (o .object))
+unfolding object! existing
+object-fits b os e unsetValue h = tt
+object-fits b os e (intValue n) h = tt
+object-fits b os e nullValue h = tt
+object-fits b os e (objectValue o) h =
+    then-on ObjectFits Q _ _ (take-read ObjectFits (getElem? os o) _ (read-nth ObjectFits os o h)) (λ k f. then Q _ _ (λ _ _. f))
+  where
+    Q : record { number : ℕ; object : Object } → Type 0
+    Q o = ObjectFits (o .object)
+object-fits b os e (unlistedValue k x) h = tt
+
+-- fields begin as 0 or null
+pub new-fits : (b : Base) (c : ℕ) → ObjectFits (newObject b c)
+unfolding newObject initialValue
+new-fits b c = all-map IntFits initialValue (λ s. begun (eqb (s .type) 1)) (slots b c)
+  where
+    begun : (u : Bool) → IntFits (elim u as (λ _. Value) [ true ↦ intValue 0 | false ↦ nullValue ])
+    begun true = omega arith
+    begun false = tt
+
+-- Ties
+
+pub new-tie-fits : (ts : List Tie) (l m n : ℕ) → n < 65536 → All TieFits (newTie ts l m n)
+unfolding newTie
+new-tie-fits ts l m n h = go (eqb l m || eqb n 1 || any (tieIs l m n) ts)
+  where
+    go : (z : Bool) → All TieFits (elim z as (λ _. List Tie) [ true ↦ [] | false ↦ record { one = l; two = m; name = n } ∷ [] ])
+    go true = tt
+    go false = (h, tt)
+
+abbrev Tied : World → Type 0
+Tied w = All TieFits (w .ties)
+
+post-fits : (w : World) (room : Bool) (us : List Tie) → Tied w → All TieFits us → Ok (post w room us) Tied
+unfolding post
+post-fits w room us h k = then Tied _ _ (λ _ _. then Tied _ _ (λ _ _. all-both TieFits (w .ties) us h k))
+
+-- Methods
+
+index-lt : {A : Type 0} (f : A → Bool) (xs : List A) → Read (indexOf f xs) (λ j. j < length xs)
+unfolding indexOf
+index-lt f [] = tt
+index-lt f (x ∷ xs) = go (f x) (indexOf f xs) (index-lt f xs)
+  where
+    go : (b : Bool) (o : Option ℕ) → Read o (λ j. j < length xs)
+        → Read (elim b as (λ _. Option ℕ) [ true ↦ some 0 | false ↦ elim o as (λ _. Option ℕ) [ none ↦ none | some i ↦ some (suc i) ] ]) (λ j. j < suc (length xs))
+    go true o h = omega arith
+    go false none h = tt
+    go false (some i) h = omega arith
+
+-- a selected method's place is one of a class's methods
+pub method-fits : (b : Base) → All ClassFits (b .classes) → (n t r s : ℕ) → Read (indexOf (alike n t r) (methodsOf b s)) (λ j. j < 4294967296)
+method-fits b h n t r s = go (indexOf (alike n t r) (methodsOf b s)) (index-lt (alike n t r) (methodsOf b s))
+  where
+    go : (o : Option ℕ) → Read o (λ j. j < length (methodsOf b s)) → Read o (λ j. j < 4294967296)
+    go none x = tt
+    go (some j) x = omega (arith, methods-of-fit b h s .many)
+
+-- a method's first frame
+pub entered-fits : (s j o : ℕ) (v : Value) → j < 4294967296 → IntFits v → FrameFits (entryFrame s j o v)
+entered-fits s j o v l h = record { method = l; point = omega arith; operands = tt; locals = (tt, (h, (tt, (tt, (tt, (tt, (tt, (tt, tt)))))))) }
+
+-- What a step leaves
+
+pub record ProgressFits (o : Progress) : Type 0 where
+  pub ties : All TieFits (o .world .ties)
+  pub objects : All ObjectFits (o .objects)
+  pub frames : All FrameFits (o .frames)
+
+module _ (w : World) (os : List Object) (classes : All ClassFits (w .base .classes)) (ties : All TieFits (w .ties)) (objects : All ObjectFits os) where
+  give-fits : (fs : List Frame) (v : Value) → All FrameFits fs → IntFits v → Ok (give fs w os v) ProgressFits
+  unfolding give
+  give-fits [] v h k = then ProgressFits _ _ (λ _ _. record { ties = ties; objects = objects; frames = tt })
+  give-fits (g ∷ gs) v h k = record {
+    ties = ties;
+    objects = objects;
+    frames = (record { method = h .0 .method; point = h .0 .point; operands = (k, h .0 .operands); locals = h .0 .locals }, h .1);
+  }
+
+  module _ (f : Frame) (fs : List Frame) (k : Class) (i : Decoded) (top : FrameFits f) (rest : All FrameFits fs) (point : f .point + i .size < 4294967296) where
+    moved : (o l : List Value) → All IntFits o → All IntFits l → FrameFits (past f i o l)
+    moved o l a b = record { method = top .method; point = point; operands = a; locals = b }
+
+    -- nothing but the frame changes
+    frame-only : (o l : List Value) → All IntFits o → All IntFits l → ProgressFits (record { world = w; objects = os; frames = past f i o l ∷ fs; result = none })
+    frame-only o l a b = record { ties = ties; objects = objects; frames = (moved o l a b, rest) }
+
+    abbrev Q : Progress → Type 0
+    Q = ProgressFits
+
+    pushed : (v : Value) → IntFits v → Q (record { world = w; objects = os; frames = past f i (v ∷ f .operands) (f .locals) ∷ fs; result = none })
+    pushed v h = frame-only (v ∷ f .operands) (f .locals) (h, top .operands) (top .locals)
+
+    abbrev Held : record { number : ℕ; object : Object } → Type 0
+    Held o = ObjectFits (o .object)
+
+    local : (j : ℕ) → Ok (take? (getElem? (f .locals) j) (Word 14)) IntFits
+    local j = take-read IntFits (getElem? (f .locals) j) (Word 14) (read-nth IntFits (f .locals) j (top .locals))
+
+    stored : (j : ℕ) (p : record { top : Value; more : List Value }) → Popped p
+        → Q (record { world = w; objects = os; frames = past f i (p .more) (set (f .locals) j (p .top)) ∷ fs; result = none })
+    stored j p h = frame-only (p .more) (set (f .locals) j (p .top)) (h .1) (all-set IntFits (f .locals) j (p .top) (top .locals) (h .0))
+
+    -- two operands popped, whatever follows
+    two-popped : (g : (p q : record { top : Value; more : List Value }) → Result Progress)
+        → ((p q : record { top : Value; more : List Value }) → Popped p → Popped q → Ok (g p q) Q)
+        → Ok (pop! (f .operands) >>= λ p. pop! (p .more) >>= λ q. g p q) Q
+    two-popped g n =
+        then-on Popped Q _ _ (pop-fits (f .operands) (top .operands)) (λ p hp. then-on Popped Q _ (g p) (pop-fits (p .more) (hp .1)) (λ q hq. n p q hp hq))
+
+    both-ties : (l m t r : ℕ) → t < 65536 → r < 65536 → All TieFits (newTie (w .ties) l m t ++ newTie (w .ties ++ newTie (w .ties) l m t) l m r)
+    both-ties l m t r a b =
+        let us : List Tie = newTie (w .ties) l m t in
+        all-both TieFits us (newTie (w .ties ++ us) l m r) (new-tie-fits (w .ties) l m t a) (new-tie-fits (w .ties ++ us) l m r b)
+
+    execute-fits : (j : Instruction) → InstructionFits j → Ok (execute w os f fs k i j) Q
+    unfolding execute
+    execute-fits AconstNull x = then Q _ _ (λ _ _. pushed nullValue tt)
+    execute-fits (Sipush n) x = then Q _ _ (λ _ _. pushed (intValue n) x)
+    execute-fits (Iload j) x = then Q _ _ (λ _ _. then-on IntFits Q _ _ (local j) (λ v h. then Q _ _ (λ _ _. pushed v h)))
+    execute-fits (Aload j) x = then Q _ _ (λ _ _. then-on IntFits Q _ _ (local j) (λ v h. then Q _ _ (λ _ _. pushed v h)))
+    execute-fits (Istore j) x = then-on Popped Q _ _ (pop-fits (f .operands) (top .operands)) (λ p h. then Q _ _ (λ _ _. then Q _ _ (λ _ _. stored j p h)))
+    execute-fits (Astore j) x = then-on Popped Q _ _ (pop-fits (f .operands) (top .operands)) (λ p h. then Q _ _ (λ _ _. then Q _ _ (λ _ _. stored j p h)))
+    execute-fits Pop x = then-on Popped Q _ _ (pop-fits (f .operands) (top .operands)) (λ p h. frame-only (p .more) (f .locals) (h .1) (top .locals))
+    execute-fits Dup x = then Q _ _ (λ _ _. then-on Popped Q _ _ (pop-fits (f .operands) (top .operands)) (λ p h.
+        frame-only (p .top ∷ p .top ∷ p .more) (f .locals) (h .0, h) (top .locals)))
+    execute-fits Iadd x = two-popped _ (λ p q hp hq. then Q _ _ (λ b _. then Q _ _ (λ a _.
+        frame-only (intValue ((a + b) % 4294967296) ∷ q .more) (f .locals) (mod-lt (a + b) (omega arith), hq .1) (top .locals))))
+    execute-fits Isub x = two-popped _ (λ p q hp hq. then Q _ _ (λ b _. then Q _ _ (λ a _.
+        frame-only (intValue ((a + 4294967296 - b) % 4294967296) ∷ q .more) (f .locals) (mod-lt (a + 4294967296 - b) (omega arith), hq .1) (top .locals))))
+    execute-fits (Getfield c n t) x = then Q _ _ (λ e _. then Q _ _ (λ d _.
+        then-on Tied Q _ _ (post-fits w _ _ ties (new-tie-fits (w .ties) (loaderOf (w .base) d) (k .loader) t (x .1))) (λ v tied.
+        then-on Popped Q _ _ (pop-fits (f .operands) (top .operands)) (λ p hp.
+        then-on Held Q _ _ (object-fits (w .base) os e (p .top) objects) (λ o held. then Q _ _ (λ j _.
+        then-on IntFits Q _ _ (take-read IntFits (getElem? (o .object .values) j) _ (read-nth IntFits (o .object .values) j held)) (λ z hz.
+        record { ties = tied; objects = objects; frames = (moved (z ∷ p .more) (f .locals) (hz, hp .1) (top .locals), rest) })))))))
+    execute-fits (Putfield c n t) x = then Q _ _ (λ e _. then Q _ _ (λ d _.
+        then-on Tied Q _ _ (post-fits w _ _ ties (new-tie-fits (w .ties) (loaderOf (w .base) d) (k .loader) t (x .1))) (λ v tied.
+        two-popped _ (λ p q hp hq. then Q _ _ (λ _ _.
+        then-on Held Q _ _ (object-fits (w .base) os e (q .top) objects) (λ o held. then Q _ _ (λ j _.
+        record {
+          ties = tied;
+          objects = all-set ObjectFits os (o .number) _ objects (all-set IntFits (o .object .values) j (p .top) held (hp .0));
+          frames = (moved (q .more) (f .locals) (hq .1) (top .locals), rest);
+        })))))))
+    execute-fits (Invokevirtual c n t r) x = then Q _ _ (λ e _. then Q _ _ (λ d _.
+        then-on Tied Q _ _ (post-fits w _ _ ties (both-ties (loaderOf (w .base) d) (k .loader) t r (x .1) (x .2))) (λ v tied.
+        two-popped _ (λ p q hp hq. then Q _ _ (λ _ _. then Q _ _ (λ o _. then Q _ _ (λ s _.
+        then-on (λ j. j < 4294967296) Q _ _ (take-read (λ j. j < 4294967296) _ _ (method-fits (w .base) classes n t r s)) (λ j l.
+        record {
+          ties = tied;
+          objects = objects;
+          frames = (entered-fits s j (o .number) (p .top) l (hp .0), (moved (q .more) (f .locals) (hq .1) (top .locals), rest));
+        }))))))))
+    execute-fits (New c) x = then Q _ _ (λ e _. then Q _ _ (λ _ _.
+        record {
+          ties = ties;
+          objects = all-both ObjectFits os (newObject (w .base) e ∷ []) objects (new-fits (w .base) e, tt);
+          frames = (moved (objectValue (length os) ∷ f .operands) (f .locals) (tt, top .operands) (top .locals), rest);
+        }))
+    execute-fits Ireturn x = then Q _ _ (λ _ _. then-on Popped Q _ _ (pop-fits (f .operands) (top .operands)) (λ p h.
+        then Q _ _ (λ _ _. give-fits fs (p .top) rest (h .0))))
+    execute-fits Areturn x = then Q _ _ (λ _ _. then-on Popped Q _ _ (pop-fits (f .operands) (top .operands)) (λ p h.
+        then Q _ _ (λ _ _. give-fits fs (p .top) rest (h .0))))
+
+  record NowFits (f : Frame) (n : Now) : Type 0 where
+    instruction : InstructionFits (n .at .instruction)
+    point : f .point + n .at .size < 4294967296
+
+  now-fits : (f : Frame) → Ok (now w f) (NowFits f)
+  unfolding now
+  now-fits f =
+      then-on ClassFits (NowFits f) _ _ (take-read ClassFits _ _ (read-nth ClassFits (w .base .classes) (f .class) classes)) (λ k hk.
+      then-on MethodFits (NowFits f) _ _ (take-read MethodFits _ _ (read-nth MethodFits (k .methods) (f .method) (hk .methods .each))) (λ m hm.
+      let D : Decoded → Type 0 = DecodedFits (m .code) (hm .code) (f .point) in
+      then-on D (NowFits f) _ _ (take-read D _ _ (decode-fits (m .code) (hm .code) (f .point))) (λ i hi.
+      record { instruction = hi .instruction; point = omega (arith, hi .inside, hm .short) })))
+
+  pub step-fits : (f : Frame) (fs : List Frame) → FrameFits f → All FrameFits fs → Ok (step w os f fs) ProgressFits
+  unfolding step
+  step-fits f fs top rest =
+      then-on (NowFits f) ProgressFits _ _ (now-fits f) (λ n h. execute-fits f fs (n .theClass) (n .at) top rest (h .point) (n .at .instruction) (h .instruction))

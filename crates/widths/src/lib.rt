@@ -1,0 +1,1 @@
+// Cells keep their widths under every call, and cells that hold no row are untouched: proofs only.
