@@ -291,23 +291,26 @@ module _ (N L K E O F : List ℕ) (b d loader c : ℕ) where
     }
 
 -- new: a plan alone, since it posts no tie
-pub record Making (N L K E O F : List ℕ) (b d loader : ℕ) (i : Instruction) (r : Plan) : Type 0 where
+pub record Making (N L K E O F : List ℕ) (b d loader c : ℕ) (r : Plan) : Type 0 where
   pub says : (I S : List ℕ) (fs : List Frame) (k : Class) (p n : ℕ) → k .loader ≡ loader
       → (let B = quickBase N L K E in let t = tables N L K E I S O F in
-      meaning (worldIn B t) (objectsOf B t) fs F b (p + n) r ≡ execute (worldIn B t) (objectsOf B t) (frameOf F b p d) fs k (decoded i n) i)
+      meaning (worldIn B t) (objectsOf B t) fs F b (p + n) r ≡ execute (worldIn B t) (objectsOf B t) (frameOf F b p d) fs k (decoded (New c) n) (New c))
   pub fits : (I S : List ℕ) (k m : ℕ) → Fit (quickBase N L K E) (tables N L K E I S O F) k m r
+  -- the class of the object that is made is cached
+  pub known : (x e : ℕ) → r ≡ Make x e → find (quickBase N L K E .cache) (at loader c) ≡ some e
 
 module _ (N L K E O F : List ℕ) (b d loader c : ℕ) where
   abbrev base : Base
   base = quickBase N L K E
 
-  pub new-uncached : find (base .cache) (at loader c) ≡ none → Making N L K E O F b d loader (New c) (Refuse (Wanted loader c))
+  pub new-uncached : find (base .cache) (at loader c) ≡ none → Making N L K E O F b d loader c (Refuse (Wanted loader c))
   unfolding meaning
   new-uncached h = record {
     says = λ I S fs k p n e.
         let T : Tables = tables N L K E I S O F in
         rw (← e) (sym (new-wanted (worldIn base T) (objectsOf base T) (frameOf F b p d) fs k (decoded (New c) n) c (rw e h)));
     fits = λ I S k m. tt;
+    known = λ x e q. cc;
   }
 
   module _ (e : ℕ) (there : find (base .cache) (at loader c) ≡ some e) where
@@ -315,16 +318,17 @@ module _ (N L K E O F : List ℕ) (b d loader c : ℕ) where
     unfolding frameOf
     room t p = rw (objects-fill t base .count, stack-length (operandAt F b) d)
 
-    pub new-no-room : (ltb (getD N 5 0) 256 && ltb d 16) ≡ false → Making N L K E O F b d loader (New c) (Refuse (Word 10))
+    pub new-no-room : (ltb (getD N 5 0) 256 && ltb d 16) ≡ false → Making N L K E O F b d loader c (Refuse (Word 10))
     unfolding meaning
     new-no-room h = record {
       says = λ I S fs k p n q.
           let T : Tables = tables N L K E I S O F in
           sym (new-full (worldIn base T) (objectsOf base T) (frameOf F b p d) fs k (decoded (New c) n) c e (rw q there) (room T p ∙ h));
       fits = λ I S k m. tt;
+      known = λ x y q. cc;
     }
 
-    pub new-made : getD N 5 0 < 256 → d < 16 → Making N L K E O F b d loader (New c) (Make d e)
+    pub new-made : getD N 5 0 < 256 → d < 16 → Making N L K E O F b d loader c (Make d e)
     unfolding meaning execute take? _>>=_ need frameOf
     new-made few low = record {
       says = λ I S fs k p n q.
@@ -332,4 +336,5 @@ module _ (N L K E O F : List ℕ) (b d loader c : ℕ) where
           let h : (ltb (length (objectsOf base T)) 256 && ltb (length (frameOf F b p d .operands)) 16) ≡ true = room T p ∙ rw (lt-ltb (getD N 5 0) 256 few, lt-ltb d 16 low) in
           rw (q, there, h);
       fits = λ I S k m. (low, few);
+      known = λ x y q. let z : e ≡ y = cc in rw (← z) there;
     }

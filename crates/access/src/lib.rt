@@ -197,7 +197,7 @@ pub fn invokevirtual(counts: &[u16], classes: &[u16], kept: &[u8], cache: &[u16]
 }
 
 pub fn new_object(counts: &[u16], classes: &[u16], kept: &[u8], cache: &[u16], objects: &[u32], frames: &[u32], b: u32, d: u32, loader: u8, class: u16) -> Plan
-    ensures { λ r. ⌜ Making (now (counts .entry)) (now (classes .entry)) (now (kept .entry)) (now (cache .entry)) (now (objects .entry)) (now (frames .entry)) b d loader (Instruction.New class) r ⌝ }
+    ensures { λ r. ⌜ Making (now (counts .entry)) (now (classes .entry)) (now (kept .entry)) (now (cache .entry)) (now (objects .entry)) (now (frames .entry)) b d loader class r ⌝ }
 {
     let Found::At(e) = resolution::find(counts, cache, cells::from8(loader), class) else {
         return Plan::Refuse(Refusal::Wanted(loader, class));

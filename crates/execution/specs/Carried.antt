@@ -2,31 +2,32 @@
 -- the tables but that task k has m frames below its top frame.
 use mathlib.Core.Path.{_≡_, refl, sym, ap, _∙_}
 use mathlib.Core.Option.{Option, none, some}
-use mathlib.Core.List.{List, [], _∷_, _++_}
+use mathlib.Core.List.{List, [], _∷_, _++_, map}
 use Prim.Native.Nat.{ℕ, zero, suc, _+_, _*_, _-_, _<_, _≤_}
 use native.Mathlib.Omega.{arith}
-use lib.ListN.{length, getD, set}
+use lib.ListN.{length, getD, set, length-map}
 use lib.Seq.{set-getD, getD-set-other}
 use Rattle.definition.specs.declared.Refusal.{Refusal}
 use Rattle.definition.specs.declared.Answer.{Answer}
 use Rattle.definition.specs.declared.Answer.the-variants.{Idle, Ran, Finished, Refused}
 use Rattle.definition.specs.Answers.{Result, refused, ok, _>>=_, take?}
 use Rattle.definition.specs.Lists.{rows, writeRows, stack}
-use Rattle.definition.specs.Classes.{Base}
+use Rattle.definition.specs.Classes.{Base, Slot, slots}
 use Rattle.definition.specs.Constraints.{Tie, World, posted}
-use Rattle.definition.specs.Machine.{Value, objectValue, Object, Frame, existing, newObject, entryFrame, Progress, give}
-use Rattle.definition.specs.Tables.{Tables, tables, putTie, valueOf, objectAt, putObject, putField, usedFields, operandAt, putOperand, localAt, putLocal, frameOf, frameAt, putFrame, frameBase, frameIn, tiesOf, subtypesOf, objectsOf, viewOver, put}
+use Rattle.definition.specs.Machine.{Value, objectValue, Object, Frame, existing, newObject, entryFrame, Progress, give, initialValue}
+use Rattle.definition.specs.Tables.{Tables, tables, putTie, valueOf, objectAt, putObject, putField, sizeOf, usedFields, operandAt, putOperand, localAt, putLocal, frameOf, frameAt, putFrame, frameBase, frameIn, tiesOf, subtypesOf, objectsOf, viewOver, put}
 use Rattle.definition.specs.Calls.{Given, given, progressed, answerOf, Done, done, carried}
-use Rattle.layout.specs.Places.{rows-length, stack-top}
-use Rattle.layout.specs.Cells.{moved, withField, withValue}
+use Rattle.layout.specs.Places.{rows-map, stack-top}
+use Rattle.layout.specs.Cells.{rows-back, cell-rows, moved, withField, withValue}
 use Rattle.layout.specs.View.{countAt, Fills, FillsTask, objects-fill, object-made, object-set, object-there, progress-writes, none-left, top-kept, top-above, top-local, top-given, top-entered}
+use Rattle.frames.specs.Initial.{initialOf, initialObject, initial-value}
+use Rattle.resolution.specs.Quick.{quickBase}
+use Rattle.resolution.specs.Slots.{slotType}
+use Rattle.access.specs.Accesses.{worldIn}
+use Rattle.execution.specs.Postings.{Posting, Nothing, toPost}
 use Rattle.instructions.specs.Plans.{meaning, Fit}
 use Rattle.instructions.specs.declared.Plan.{Plan}
 use Rattle.instructions.specs.declared.Plan.the-variants.{Refuse, Keep, Above, Local, Give, Finish, Field, Enter, Make}
-
--- the classes that B gives, with the tables' constraints
-abbrev pub worldIn : Base → Tables → World
-worldIn B t = record { base = B; ties = tiesOf t; subtypes = subtypesOf t }
 
 -- what the machine makes of a plan of task k, which has m frames below its top frame, where the ties us are posted and the frame goes on at point q
 unfoldable pub planned : Base → Tables → ℕ → ℕ → ℕ → List Tie → Plan → Done Answer
@@ -47,6 +48,18 @@ Quiet us (Field d o j kind v) = Unit {0}
 Quiet us (Enter d c j o kind v) = Unit {0}
 Quiet us (Make d c) = Unit {0}
 
+-- the class of an object that is made has no more fields than a row has room for
+abbrev pub Sized : Base → Plan → Type 0
+Sized B (Refuse r) = Unit {0}
+Sized B (Keep d) = Unit {0}
+Sized B (Above d kind v) = Unit {0}
+Sized B (Local d j kind v) = Unit {0}
+Sized B (Give kind v) = Unit {0}
+Sized B (Finish v) = Unit {0}
+Sized B (Field d o j kind v) = Unit {0}
+Sized B (Enter d c j o kind v) = Unit {0}
+Sized B (Make d c) = sizeOf B c ≤ 16
+
 -- what carrying out asks: task k has m frames below its top frame, whose row begins at cell b; ties and plan have room
 pub record Ready (B : Base) (t : Tables) (k m b : ℕ) (us : List Tie) (p : Plan) : Type 0 where
   pub two : k < 2
@@ -56,6 +69,7 @@ pub record Ready (B : Base) (t : Tables) (k m b : ℕ) (us : List Tie) (p : Plan
   pub ties : countAt t 3 + length us ≤ 256
   pub quiet : Quiet us p
   pub fits : Fit B t k m p
+  pub sized : Sized B p
 
 -- The tables after ties were posted, and then n frames of task k and m objects counted
 
@@ -189,3 +203,76 @@ module _ (B : Base) (N L K E I S O F : List ℕ) (k m b q : ℕ) (us : List Tie)
       same-objects B before k m q us (r .two) (objectsOf B before) _ none (suc (m - 1)) O (putOperand (frameBase k (m - 1)) (set F (frameBase k (m - 1) + 3) (d + 1)) d (valueOf kind v))
       (objects-fill before B) (top-given before k (m - 1) (omega (arith, r .low)) d (valueOf kind v) z (omega (arith, h .1, z)))
       ∙ ap (λ (n : ℕ). tables (set (set N 3 (getD N 3 0 + length us)) (6 + k) n) L K E (writeRows putTie us (getD N 3 0) I) S O (putOperand (frameBase k (m - 1)) (set F (frameBase k (m - 1) + 3) (d + 1)) d (valueOf kind v))) one)))
+
+-- What is posted with a plan: nothing with a refusal
+
+abbrev pub quietly : Posting → Plan → Posting
+quietly x (Refuse r) = Nothing
+quietly x (Keep d) = x
+quietly x (Above d kind v) = x
+quietly x (Local d j kind v) = x
+quietly x (Give kind v) = x
+quietly x (Finish v) = x
+quietly x (Field d o j kind v) = x
+quietly x (Enter d c j o kind v) = x
+quietly x (Make d c) = x
+
+pub quietly-quiet : (x : Posting) (p : Plan) → Quiet (toPost (quietly x p)) p
+unfolding toPost
+quietly-quiet x (Refuse r) = refl
+quietly-quiet x (Keep d) = tt
+quietly-quiet x (Above d kind v) = tt
+quietly-quiet x (Local d j kind v) = tt
+quietly-quiet x (Give kind v) = tt
+quietly-quiet x (Finish v) = tt
+quietly-quiet x (Field d o j kind v) = tt
+quietly-quiet x (Enter d c j o kind v) = tt
+quietly-quiet x (Make d c) = tt
+
+pub quietly-means : (w : World) (os : List Object) (fs : List Frame) (F : List ℕ) (b q : ℕ) (x : Posting) (p : Plan)
+    → meaning (posted w (toPost (quietly x p))) os fs F b q p ≡ meaning (posted w (toPost x)) os fs F b q p
+unfolding meaning
+quietly-means w os fs F b q x (Refuse r) = refl
+quietly-means w os fs F b q x (Keep d) = refl
+quietly-means w os fs F b q x (Above d kind v) = refl
+quietly-means w os fs F b q x (Local d j kind v) = refl
+quietly-means w os fs F b q x (Give kind v) = refl
+quietly-means w os fs F b q x (Finish v) = refl
+quietly-means w os fs F b q x (Field d o j kind v) = refl
+quietly-means w os fs F b q x (Enter d c j o kind v) = refl
+quietly-means w os fs F b q x (Make d c) = refl
+
+pub quietly-few : (x : Posting) (p : Plan) → length (toPost (quietly x p)) ≤ length (toPost x)
+unfolding toPost
+quietly-few x (Refuse r) = omega arith
+quietly-few x (Keep d) = omega arith
+quietly-few x (Above d kind v) = omega arith
+quietly-few x (Local d j kind v) = omega arith
+quietly-few x (Give kind v) = omega arith
+quietly-few x (Finish v) = omega arith
+quietly-few x (Field d o j kind v) = omega arith
+quietly-few x (Enter d c j o kind v) = omega arith
+quietly-few x (Make d c) = omega arith
+
+-- A new object's values, by the types of its fields
+
+pub typed-object : (B : Base) (c : ℕ) (ts : List ℕ) → sizeOf B c ≤ length ts → initialObject c (writeRows set (map slotType (slots B c)) 0 ts) (sizeOf B c) ≡ newObject B c
+unfolding newObject
+typed-object B c ts l =
+    let us : List ℕ = writeRows set (map slotType (slots B c)) 0 ts in
+    let n : length (map slotType (slots B c)) ≡ sizeOf B c = length-map (slots B c) slotType in
+    let e : rows (λ i. getD us i 0) (sizeOf B c) 0 ≡ map slotType (slots B c) = rw n at (rows-back cell-rows (map slotType (slots B c)) ts (omega arith)) in
+    ap (λ (vs : List Value). record { class = c; values = vs }) (sym (rows-map initialOf (λ i. getD us i 0) (sizeOf B c) 0) ∙ (ap (map initialOf) e ∙ initials (slots B c)))
+  where
+    initials : (xs : List Slot) → map initialOf (map slotType xs) ≡ map initialValue xs
+    initials [] = refl
+    initials (x ∷ xs) = rw (initial-value x, initials xs)
+
+-- ties that are posted leave classes and cache as they are
+pub quick-posted : (N L K E : List ℕ) (n : ℕ) → quickBase (set N 3 n) L K E ≡ quickBase N L K E
+unfolding quickBase
+quick-posted N L K E n = rw (getD-set-other N 3 0 n 0 (λ e. omega arith), getD-set-other N 3 2 n 0 (λ e. omega arith))
+
+pub written-new : (B : Base) (c o n : ℕ) (O P ts us : List ℕ) → n ≡ sizeOf B c → us ≡ writeRows set (map slotType (slots B c)) 0 ts → sizeOf B c ≤ length ts
+    → P ≡ putObject O o (initialObject c us n) → P ≡ putObject O o (newObject B c)
+written-new B c o n O P ts us e f l h = h ∙ rw (e, f, typed-object B c ts l)

@@ -1,2 +1,3 @@
--- What carrying plans out writes.
+-- What a step posts and writes, and what it makes of the tables.
+pub mod Postings
 pub mod Carried

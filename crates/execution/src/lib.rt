@@ -1,1 +1,187 @@
 // One step, a run of steps, and the start of a task, on the lent tables.
+ghost use mathlib.Core.Path.{_≡_};
+ghost use Prim.Native.Nat.{_+_, _*_, _-_, _<_, _≤_};
+ghost use lib.ListN.{length, getD, set};
+ghost use Rattle.definition.specs.Lists.{rows, writeRows};
+ghost use Rattle.definition.specs.Machine.{objectValue, newObject, entryFrame};
+ghost use Rattle.definition.specs.Tables.{tables, tie, tieAt, putTie, valueOf, sizeOf, putObject, putOperand, putLocal, putFrame, frameBase};
+ghost use Rattle.layout.specs.Cells.{moved};
+ghost use Rattle.resolution.specs.Quick.{quickBase};
+ghost use Rattle.access.specs.Accesses.{tiesOn};
+ghost use Rattle.execution.specs.Carried.{quietly};
+ghost use Rattle.execution.specs.Postings.{toPost, isNew};
+use definition::Answer;
+use definition::Refusal;
+use instructions::Plan;
+
+// The ties that a step posts between two loaders: one of each name.
+enum Posting {
+    Nothing,
+    One(u8, u8, u16),
+    Two(u8, u8, u16, u16),
+}
+
+// Whether a tie on that name between two different loaders is new. Int posts none.
+fn is_new(ties: &[u16], count: u16, one: u8, two: u8, name: u16) -> bool
+    ensures { λ r. ⌜ r ≡ isNew (rows (tieAt (now (ties .entry))) count 0) one two name ⌝ }
+{
+    if name == 1 {
+        return false;
+    }
+    !constraints::tie_known(ties, count, one, two, name)
+}
+
+// The ties on two names between two loaders that are not known yet.
+fn new_ties(ties: &[u16], count: u16, one: u8, two: u8, first: u16, second: u16) -> Posting
+    ensures { λ r. ⌜ toPost r ≡ tiesOn (rows (tieAt (now (ties .entry))) count 0) one two first second ⌝ }
+{
+    if one == two {
+        return Posting::Nothing;
+    }
+    if !is_new(ties, count, one, two, first) {
+        if !is_new(ties, count, one, two, second) {
+            return Posting::Nothing;
+        }
+        return Posting::One(one, two, second);
+    }
+    if first == second {
+        return Posting::One(one, two, first);
+    }
+    if !is_new(ties, count, one, two, second) {
+        return Posting::One(one, two, first);
+    }
+    Posting::Two(one, two, first, second)
+}
+
+// How many they are.
+fn tie_number(posting: Posting) -> u16
+    ensures { λ r. ⌜ (r ≡ length (toPost posting)) × (r < 3) ⌝ }
+{
+    match posting {
+        Posting::Nothing => 0,
+        Posting::One(_, _, _) => 1,
+        Posting::Two(_, _, _, _) => 2,
+    }
+}
+
+// A tie written into row i.
+fn write_tie(ties: &mut [u16], i: u16, one: u8, two: u8, name: u16)
+    ensures { λ _. ⌜ now (ties .exit) ≡ putTie (now (ties .entry)) i (tie one two name) ⌝ }
+{
+    let place = cells::wide16(i) * 3;
+    cells::put16(ties, place, cells::from8(one));
+    cells::put16(ties, place + 1, cells::from8(two));
+    cells::put16(ties, place + 2, name);
+}
+
+// Ties written from row n on.
+fn write_ties(ties: &mut [u16], n: u16, posting: Posting)
+    requires { ⌜ n < 65535 ⌝ }
+    ensures { λ _. ⌜ now (ties .exit) ≡ writeRows putTie (toPost posting) n (now (ties .entry)) ⌝ }
+{
+    match posting {
+        Posting::Nothing => {}
+        Posting::One(one, two, name) => {
+            write_tie(ties, n, one, two, name);
+        }
+        Posting::Two(one, two, first, second) => {
+            write_tie(ties, n + 1, one, two, second);
+            write_tie(ties, n, one, two, first);
+        }
+    }
+}
+
+// Ties posted: their rows and their count.
+fn post_ties(counts: &mut [u16], ties: &mut [u16], posting: Posting)
+    requires { ⌜ getD (now counts) 3 0 + length (toPost posting) ≤ 256 ⌝ }
+    ensures counted { λ _. ⌜ now (counts .exit) ≡ set (now (counts .entry)) 3 (getD (now (counts .entry)) 3 0 + length (toPost posting)) ⌝ }
+    ensures written { λ _. ⌜ now (ties .exit) ≡ writeRows putTie (toPost posting) (getD (now (counts .entry)) 3 0) (now (ties .entry)) ⌝ }
+{
+    if let Posting::Nothing = posting {
+        return;
+    }
+    let n = cells::at16(counts, 3);
+    write_ties(ties, n, posting);
+    cells::put16(counts, 3, n + tie_number(posting));
+}
+
+// What is posted with a plan: nothing with a refusal.
+fn quiet(posting: Posting, plan: Plan) -> Posting
+    ensures { λ r. ⌜ r ≡ quietly posting plan ⌝ }
+{
+    match plan {
+        Plan::Refuse(_) => Posting::Nothing,
+        Plan::Keep(_) => posting,
+        Plan::Above(_, _, _) => posting,
+        Plan::Local(_, _, _, _) => posting,
+        Plan::Give(_, _) => posting,
+        Plan::Finish(_) => posting,
+        Plan::Field(_, _, _, _, _) => posting,
+        Plan::Enter(_, _, _, _, _, _) => posting,
+        Plan::Make(_, _) => posting,
+    }
+}
+
+// A value pushed: the frame goes on at point q with d operands and the value above them.
+fn push(frames: &mut [u32], b: u32, q: u32, d: u32, kind: u32, bits: u32)
+    requires { ⌜ d < 16 ⌝ }
+    ensures { λ _. ⌜ now (frames .exit) ≡ putOperand b (moved (now (frames .entry)) b q (d + 1)) d (valueOf kind bits) ⌝ }
+{
+    frames::write_moved(frames, b, q, d + 1);
+    frames::write_operand(frames, b, d, kind, bits);
+}
+
+// A local set: the frame goes on at point q with d operands.
+fn store(frames: &mut [u32], b: u32, q: u32, d: u32, j: u8, kind: u32, bits: u32)
+    ensures { λ _. ⌜ now (frames .exit) ≡ putLocal b (moved (now (frames .entry)) b q d) j (valueOf kind bits) ⌝ }
+{
+    frames::write_moved(frames, b, q, d);
+    frames::write_local(frames, b, j, kind, bits);
+}
+
+// A value given back to the frame in row m - 1 of a task, which is then its top frame.
+fn give(counts: &mut [u16], frames: &mut [u32], task: u8, m: u16, kind: u32, bits: u32)
+    requires { ⌜ (0 < m) × (getD (now frames) (frameBase task (m - 1) + 3) 0 < 16) ⌝ }
+    ensures counted { λ _. ⌜ now (counts .exit) ≡ set (now (counts .entry)) (6 + task) m ⌝ }
+    ensures written { λ _. ⌜ (let a = frameBase task (m - 1) in let d = getD (now (frames .entry)) (a + 3) 0 in now (frames .exit) ≡ putOperand a (set (now (frames .entry)) (a + 3) (d + 1)) d (valueOf kind bits)) ⌝ }
+{
+    let a = frames::row(task, m - 1);
+    let d = frames::depth(frames, a);
+    frames::write_depth(frames, a, d + 1);
+    frames::write_operand(frames, a, d, kind, bits);
+    cells::put16(counts, 6 + cells::wide8(task), m);
+}
+
+// A frame entered in row m + 1 of a task, above the one that goes on at point q with d operands.
+fn enter(counts: &mut [u16], frames: &mut [u32], task: u8, m: u16, b: u32, q: u32, d: u32, c: u32, j: u32, o: u32, kind: u32, bits: u32)
+    requires { ⌜ m < 32 ⌝ }
+    ensures counted { λ _. ⌜ now (counts .exit) ≡ set (now (counts .entry)) (6 + task) (m + 2) ⌝ }
+    ensures written { λ _. ⌜ now (frames .exit) ≡ putFrame (moved (now (frames .entry)) b q d) (frameBase task (m + 1)) (entryFrame c j o (valueOf kind bits)) ⌝ }
+{
+    frames::write_moved(frames, b, q, d);
+    frames::write_entry(frames, frames::row(task, m + 1), c, j, o, kind, bits);
+    cells::put16(counts, 6 + cells::wide8(task), m + 2);
+}
+
+// The row of a new object of class c.
+fn write_new(counts: &[u16], classes: &[u16], kept: &[u8], cache: &[u16], objects: &mut [u32], o: u32, c: u32)
+    requires { ⌜ sizeOf (quickBase (now counts) (now classes) (now kept) (now cache)) c ≤ 16 ⌝ }
+    ensures { λ _. ⌜ now (objects .exit) ≡ putObject (now (objects .entry)) o (newObject (quickBase (now (counts .entry)) (now (classes .entry)) (now (kept .entry)) (now (cache .entry))) c) ⌝ }
+{
+    let mut types = [0u16; 16];
+    let n = resolution::slot_types(&mut types, counts, classes, kept, cache, c);
+    frames::write_object(objects, o, c, &types, n as u8);
+}
+
+// An object of class c made, with the next number, which is pushed.
+fn make(counts: &mut [u16], classes: &[u16], kept: &[u8], cache: &[u16], objects: &mut [u32], frames: &mut [u32], b: u32, q: u32, d: u32, c: u32)
+    requires { ⌜ (d < 16) × (getD (now counts) 5 0 < 256) × (sizeOf (quickBase (now counts) (now classes) (now kept) (now cache)) c ≤ 16) ⌝ }
+    ensures counted { λ _. ⌜ now (counts .exit) ≡ set (now (counts .entry)) 5 (getD (now (counts .entry)) 5 0 + 1) ⌝ }
+    ensures made { λ _. ⌜ now (objects .exit) ≡ putObject (now (objects .entry)) (getD (now (counts .entry)) 5 0) (newObject (quickBase (now (counts .entry)) (now (classes .entry)) (now (kept .entry)) (now (cache .entry))) c) ⌝ }
+    ensures pushed { λ _. ⌜ now (frames .exit) ≡ putOperand b (moved (now (frames .entry)) b q (d + 1)) d (objectValue (getD (now (counts .entry)) 5 0)) ⌝ }
+{
+    let n = cells::at16(counts, 5);
+    write_new(counts, classes, kept, cache, objects, cells::from16(n), c);
+    push(frames, b, q, d, 3, cells::from16(n));
+    cells::put16(counts, 5, n + 1);
+}
