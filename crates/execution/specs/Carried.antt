@@ -276,3 +276,25 @@ quick-posted N L K E n = rw (getD-set-other N 3 0 n 0 (λ e. omega arith), getD-
 pub written-new : (B : Base) (c o n : ℕ) (O P ts us : List ℕ) → n ≡ sizeOf B c → us ≡ writeRows set (map slotType (slots B c)) 0 ts → sizeOf B c ≤ length ts
     → P ≡ putObject O o (initialObject c us n) → P ≡ putObject O o (newObject B c)
 written-new B c o n O P ts us e f l h = h ∙ rw (e, f, typed-object B c ts l)
+
+-- An object made where ties were posted: classes and cache are as before
+
+module _ (N L K E I S O F : List ℕ) (k m b q : ℕ) (us : List Tie) (p : Plan) (r : Ready (quickBase N L K E) (tables N L K E I S O F) k m b us p)
+    (C J : List ℕ) (c : C ≡ set N 3 (getD N 3 0 + length us)) (j : J ≡ writeRows putTie us (getD N 3 0) I) (d s : ℕ) (e : p ≡ Make d s) where
+  same-base : quickBase C L K E ≡ quickBase N L K E
+  same-base = rw c (quick-posted N L K E (getD N 3 0 + length us))
+
+  same-number : getD C 5 0 ≡ getD N 5 0
+  same-number = rw c (getD-set-other N 3 5 (getD N 3 0 + length us) 0 (λ e. omega arith))
+
+  pub make-ready : (d < 16) × (getD C 5 0 < 256) × (sizeOf (quickBase C L K E) s ≤ 16)
+  make-ready =
+      let f : (d < 16) × (getD N 5 0 < 256) = rw e at (r .fits) in
+      let z : sizeOf (quickBase N L K E) s ≤ 16 = rw e at (r .sized) in
+      (f .0, rw same-number (f .1), rw same-base z)
+
+  pub out-made : (D G P : List ℕ) → D ≡ set C 5 (getD C 5 0 + 1) → P ≡ putObject O (getD C 5 0) (newObject (quickBase C L K E) s)
+      → G ≡ putOperand b (moved F b q (d + 1)) d (objectValue (getD C 5 0))
+      → done (Ran k) (tables D L K E J S P G) ≡ planned (quickBase N L K E) (tables N L K E I S O F) k m q us p
+  out-made D G P f g h =
+      out-make (quickBase N L K E) N L K E I S O F k m b q us p r C J c j d s (getD C 5 0) D G P e same-number f h (rw same-base at g)

@@ -8,7 +8,8 @@ ghost use Rattle.definition.specs.Tables.{tables, tie, tieAt, putTie, valueOf, 
 ghost use Rattle.layout.specs.Cells.{moved};
 ghost use Rattle.resolution.specs.Quick.{quickBase};
 ghost use Rattle.access.specs.Accesses.{tiesOn};
-ghost use Rattle.execution.specs.Carried.{quietly};
+ghost use Rattle.definition.specs.Calls.{done};
+ghost use Rattle.execution.specs.Carried.{quietly, Ready, planned};
 ghost use Rattle.execution.specs.Postings.{toPost, isNew};
 use definition::Answer;
 use definition::Refusal;
@@ -184,4 +185,48 @@ fn make(counts: &mut [u16], classes: &[u16], kept: &[u8], cache: &[u16], objects
     write_new(counts, classes, kept, cache, objects, cells::from16(n), c);
     push(frames, b, q, d, 3, cells::from16(n));
     cells::put16(counts, 5, n + 1);
+}
+
+// The one place that writes: ties are posted, then the plan is carried out. The top frame of the task, in row m, goes on at point q.
+fn carry_out(counts: &mut [u16], classes: &[u16], kept: &[u8], cache: &[u16], ties: &mut [u16], subtypes: &[u16], objects: &mut [u32], frames: &mut [u32], task: u8, m: u16, b: u32, q: u32, posting: Posting, plan: Plan) -> Answer
+    requires { ⌜ Ready (quickBase (now counts) (now classes) (now kept) (now cache)) (tables (now counts) (now classes) (now kept) (now cache) (now ties) (now subtypes) (now objects) (now frames)) task m b (toPost posting) plan ⌝ }
+    ensures { λ r. ⌜ done r (tables (now (counts .exit)) (now (classes .entry)) (now (kept .entry)) (now (cache .entry)) (now (ties .exit)) (now (subtypes .entry)) (now (objects .exit)) (now (frames .exit))) ≡ planned (quickBase (now (counts .entry)) (now (classes .entry)) (now (kept .entry)) (now (cache .entry))) (tables (now (counts .entry)) (now (classes .entry)) (now (kept .entry)) (now (cache .entry)) (now (ties .entry)) (now (subtypes .entry)) (now (objects .entry)) (now (frames .entry))) task m q (toPost posting) plan ⌝ }
+{
+    post_ties(counts, ties, posting);
+    match plan {
+        Plan::Refuse(r) => Answer::Refused(r),
+        Plan::Keep(d) => {
+            frames::write_moved(frames, b, q, d);
+            Answer::Ran(task)
+        }
+        Plan::Above(d, kind, bits) => {
+            push(frames, b, q, d, kind, bits);
+            Answer::Ran(task)
+        }
+        Plan::Local(d, j, kind, bits) => {
+            store(frames, b, q, d, j, kind, bits);
+            Answer::Ran(task)
+        }
+        Plan::Give(kind, bits) => {
+            give(counts, frames, task, m, kind, bits);
+            Answer::Ran(task)
+        }
+        Plan::Finish(bits) => {
+            cells::put16(counts, 6 + cells::wide8(task), 0);
+            Answer::Finished(task, bits)
+        }
+        Plan::Field(d, o, j, kind, bits) => {
+            frames::write_moved(frames, b, q, d);
+            frames::write_field(objects, o, j, kind, bits);
+            Answer::Ran(task)
+        }
+        Plan::Enter(d, c, j, o, kind, bits) => {
+            enter(counts, frames, task, m, b, q, d, c, j, o, kind, bits);
+            Answer::Ran(task)
+        }
+        Plan::Make(d, c) => {
+            make(counts, classes, kept, cache, objects, frames, b, q, d, c);
+            Answer::Ran(task)
+        }
+    }
 }
