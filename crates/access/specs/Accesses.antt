@@ -52,7 +52,7 @@ pub record Accessing (N L K E O F : List ℕ) (b d loader : ℕ) (room : List Fr
       → (let B = quickBase N L K E in let t = tables N L K E I S O F in
       accessed (worldIn B t) (objectsOf B t) fs F b (p + n) (room fs) loader first second r
       ≡ execute (worldIn B t) (objectsOf B t) (frameOf F b p d) fs k (decoded i n) i)
-  pub fits : d ≤ 16 → (I S : List ℕ) (k m : ℕ) → suc m < 32 → AccessFits (quickBase N L K E) (tables N L K E I S O F) k m r
+  pub fits : d ≤ 16 → (I S : List ℕ) (k : ℕ) (fs : List Frame) → room fs ≡ true → AccessFits (quickBase N L K E) (tables N L K E I S O F) k (length fs) r
 
 abbrev pub always : List Frame → Bool
 always fs = true

@@ -8,7 +8,7 @@ use Prim.Native.Nat.{ℕ, zero, suc, _+_, _<_, _≤_}
 use native.Mathlib.Omega.{arith}
 use lib.ListN.{length, getElem?, getD, set}
 use lib.Dec.{eqb, ltb, leb}
-use borrow.Author.Tests.{eqb-true, ne-eqb, lt-ltb}
+use borrow.Author.Tests.{eqb-true, ne-eqb, lt-ltb, ltb-true}
 use Rattle.definition.specs.Lists.{any, indexOf, rows}
 use Rattle.definition.specs.Requests.{at}
 use Rattle.definition.specs.Superclasses.{Below, nearest, below}
@@ -205,13 +205,19 @@ module _ (w : World) (os : List Object) (f : Frame) (fs : List Frame) (k : Class
   unfolding execute take? _>>=_ need
   new-full e there h = rw (there, h)
 
--- What is left once the ties are posted: a plan that means it
+-- What is left once the ties are posted: a plan that means it; `limit` is what it asks of the number of frames below
 
-pub record Rest (N L K E O F : List ℕ) (b d : ℕ) (rest : Base → List Object → Frame → List Frame → Decoded → World → Result Progress) (r : Plan) : Type 0 where
+abbrev pub unlimited : ℕ → Type 0
+unlimited m = Unit {0}
+
+abbrev pub framesLeft : ℕ → Type 0
+framesLeft m = suc m < 32
+
+pub record Rest (N L K E O F : List ℕ) (b d : ℕ) (limit : ℕ → Type 0) (rest : Base → List Object → Frame → List Frame → Decoded → World → Result Progress) (r : Plan) : Type 0 where
   pub says : (I S : List ℕ) (fs : List Frame) (w : World) (p : ℕ) (i : Decoded)
       → (let B = quickBase N L K E in let os = objectsOf B (tables N L K E I S O F) in
       meaning w os fs F b (p + i .size) r ≡ rest B os (frameOf F b p d) fs i w)
-  pub fits : d ≤ 16 → (I S : List ℕ) (k m : ℕ) → suc m < 32 → Fit (quickBase N L K E) (tables N L K E I S O F) k m r
+  pub fits : d ≤ 16 → (I S : List ℕ) (k m : ℕ) → limit m → Fit (quickBase N L K E) (tables N L K E I S O F) k m r
 
 module _ (N L K E O F : List ℕ) (b d loader c : ℕ) where
   abbrev B : Base
@@ -223,7 +229,7 @@ module _ (N L K E O F : List ℕ) (b d loader c : ℕ) where
       → (let t = tables N L K E I S O F in execute (worldIn B t) (objectsOf B t) (frameOf F b p d) fs k (decoded i n) i ≡ refused r))
       → Accessing N L K E O F b d loader room x y i (Unresolved r)
   unfolding accessed
-  unresolved room x y i r h = record { says = λ I S fs k p n e. sym (h I S fs k p n e); fits = λ few I S k m l. tt }
+  unresolved room x y i r h = record { says = λ I S fs k p n e. sym (h I S fs k p n e); fits = λ few I S k gs l. tt }
 
   module _ (missing : find (B .cache) (at loader c) ≡ none) where
     pub getfield-uncached : (n t : ℕ) → Accessing N L K E O F b d loader always t 1 (Getfield c n t) (Unresolved (Wanted loader c))
@@ -253,7 +259,7 @@ module _ (N L K E O F : List ℕ) (b d loader c : ℕ) where
         invoke-absent (worldIn B (tables N L K E I S O F)) (objectsOf B (tables N L K E I S O F)) (frameOf F b p d) fs k (decoded (Invokevirtual c n t r) m) c n t r e (rw z there) h)
 
   module _ (e : ℕ) (there : find (B .cache) (at loader c) ≡ some e) (s one : ℕ) (declares : one ≡ loaderOf B s) (p : Plan) where
-    pub getfield-right : (n t : ℕ) → nearest (superOf B) (hasField B n t) e ≡ some s → Rest N L K E O F b d (λ B os f fs i. readField B os f fs i e s n t) p
+    pub getfield-right : (n t : ℕ) → nearest (superOf B) (hasField B n t) e ≡ some s → Rest N L K E O F b d unlimited (λ B os f fs i. readField B os f fs i e s n t) p
         → Accessing N L K E O F b d loader always t 1 (Getfield c n t) (Resolved one p)
     getfield-right n t found q = record {
       says = λ I S fs k x y z.
@@ -262,10 +268,10 @@ module _ (N L K E O F : List ℕ) (b d loader c : ℕ) where
           (readField B (objectsOf B T) (frameOf F b x d) fs (decoded (Getfield c n t) y) e s n t) (ties-int (tiesOf T) one loader t)
           (λ w. q .says I S fs w x (decoded (Getfield c n t) y))
           ∙ rw (declares, ← z) (sym (getfield-found (worldIn B T) (objectsOf B T) (frameOf F b x d) fs k (decoded (Getfield c n t) y) c n t e (rw z there) s found));
-      fits = λ few I S k m l. q .fits few I S k m l;
+      fits = λ few I S k gs l. q .fits few I S k (length gs) tt;
     }
 
-    pub putfield-right : (n t : ℕ) → nearest (superOf B) (hasField B n t) e ≡ some s → Rest N L K E O F b d (λ B os f fs i. writeField B os f fs i e s n t) p
+    pub putfield-right : (n t : ℕ) → nearest (superOf B) (hasField B n t) e ≡ some s → Rest N L K E O F b d unlimited (λ B os f fs i. writeField B os f fs i e s n t) p
         → Accessing N L K E O F b d loader always t 1 (Putfield c n t) (Resolved one p)
     putfield-right n t found q = record {
       says = λ I S fs k x y z.
@@ -274,10 +280,10 @@ module _ (N L K E O F : List ℕ) (b d loader c : ℕ) where
           (writeField B (objectsOf B T) (frameOf F b x d) fs (decoded (Putfield c n t) y) e s n t) (ties-int (tiesOf T) one loader t)
           (λ w. q .says I S fs w x (decoded (Putfield c n t) y))
           ∙ rw (declares, ← z) (sym (putfield-found (worldIn B T) (objectsOf B T) (frameOf F b x d) fs k (decoded (Putfield c n t) y) c n t e (rw z there) s found));
-      fits = λ few I S k m l. q .fits few I S k m l;
+      fits = λ few I S k gs l. q .fits few I S k (length gs) tt;
     }
 
-    pub invoke-right : (n t r : ℕ) → nearest (superOf B) (hasMethod B n t r) e ≡ some s → Rest N L K E O F b d (λ B os f fs i. callMethod B os f fs i e n t r) p
+    pub invoke-right : (n t r : ℕ) → nearest (superOf B) (hasMethod B n t r) e ≡ some s → Rest N L K E O F b d framesLeft (λ B os f fs i. callMethod B os f fs i e n t r) p
         → Accessing N L K E O F b d loader frameRoom t r (Invokevirtual c n t r) (Resolved one p)
     invoke-right n t r found q = record {
       says = λ I S fs k x y z.
@@ -287,7 +293,7 @@ module _ (N L K E O F : List ℕ) (b d loader c : ℕ) where
           (λ w. q .says I S fs w x (decoded (Invokevirtual c n t r) y))
           ∙ rw (declares, ← z)
           (sym (invoke-found (worldIn B T) (objectsOf B T) (frameOf F b x d) fs k (decoded (Invokevirtual c n t r) y) c n t r e (rw z there) s found));
-      fits = λ few I S k m l. q .fits few I S k m l;
+      fits = λ few I S k gs l. q .fits few I S k (length gs) (ltb-true (suc (length gs)) 32 l);
     }
 
 -- new: a plan alone, since it posts no tie

@@ -24,7 +24,7 @@ use Rattle.instructions.specs.Plans.{meaning}
 use Rattle.instructions.specs.Operands.{isKind, pop-none, pop-some, kind-is, kind-not, take-past, take-at}
 use Rattle.resolution.specs.Quick.{quickBase}
 use Rattle.access.specs.Accesses.{Receiver, Wrong, Right, Received, readField, writeField, callMethod}
-use Rattle.access.specs.Members.{field-used, Rest}
+use Rattle.access.specs.Members.{field-used, unlimited, framesLeft, Rest}
 
 module _ (N L K E O F : List ℕ) (b d e : ℕ) where
   abbrev B : Base
@@ -50,7 +50,7 @@ module _ (N L K E O F : List ℕ) (b d e : ℕ) where
   -- getfield of field n of type t, which class s declares
   module _ (s n t : ℕ) where
     abbrev Read : Plan → Type 0
-    Read = Rest N L K E O F b d (λ B os f fs i. readField B os f fs i e s n t)
+    Read = Rest N L K E O F b d unlimited (λ B os f fs i. readField B os f fs i e s n t)
 
     pub read-none : d ≡ 0 → Read (Refuse (Word 14))
     unfolding readField meaning frameOf _>>=_
@@ -107,7 +107,7 @@ module _ (N L K E O F : List ℕ) (b d e : ℕ) where
     -- putfield of field n of type t, which class s declares
     module _ (s n : ℕ) where
       abbrev Written : Plan → Type 0
-      Written = Rest N L K E O F b d (λ B os f fs i. writeField B os f fs i e s n t)
+      Written = Rest N L K E O F b d unlimited (λ B os f fs i. writeField B os f fs i e s n t)
 
       pub write-unkind : d - 1 ≢ 0 → isKind t kind bits ≡ false → Written (Refuse (Word 14))
       unfolding writeField meaning frameOf _>>=_
@@ -187,7 +187,7 @@ module _ (N L K E O F : List ℕ) (b d e : ℕ) where
     -- invokevirtual of method n from t to u
     module _ (n u : ℕ) where
       abbrev Called : Plan → Type 0
-      Called = Rest N L K E O F b d (λ B os f fs i. callMethod B os f fs i e n t u)
+      Called = Rest N L K E O F b d framesLeft (λ B os f fs i. callMethod B os f fs i e n t u)
 
       pub call-unkind : d - 1 ≢ 0 → isKind t kind bits ≡ false → Called (Refuse (Word 14))
       unfolding callMethod meaning frameOf _>>=_
@@ -263,18 +263,18 @@ module _ (N L K E O F : List ℕ) (b d e : ℕ) where
 
   -- fewer than two operands
   module _ (s n t u : ℕ) where
-    pub write-none : d ≡ 0 → Rest N L K E O F b d (λ B os f fs i. writeField B os f fs i e s n t) (Refuse (Word 14))
+    pub write-none : d ≡ 0 → Rest N L K E O F b d unlimited (λ B os f fs i. writeField B os f fs i e s n t) (Refuse (Word 14))
     unfolding writeField meaning frameOf _>>=_
     write-none h = record { says = λ I S fs w p i. rw (pop-none (operandAt F b) d h); fits = λ few I S k m l. tt }
 
-    pub write-one : d ≢ 0 → d - 1 ≡ 0 → Rest N L K E O F b d (λ B os f fs i. writeField B os f fs i e s n t) (Refuse (Word 14))
+    pub write-one : d ≢ 0 → d - 1 ≡ 0 → Rest N L K E O F b d unlimited (λ B os f fs i. writeField B os f fs i e s n t) (Refuse (Word 14))
     unfolding writeField meaning frameOf _>>=_
     write-one deep h = record { says = λ I S fs w p i. rw (pop-some (operandAt F b) d deep, pop-none (operandAt F b) (d - 1) h); fits = λ few I S k m l. tt }
 
-    pub call-none : d ≡ 0 → Rest N L K E O F b d (λ B os f fs i. callMethod B os f fs i e n t u) (Refuse (Word 14))
+    pub call-none : d ≡ 0 → Rest N L K E O F b d framesLeft (λ B os f fs i. callMethod B os f fs i e n t u) (Refuse (Word 14))
     unfolding callMethod meaning frameOf _>>=_
     call-none h = record { says = λ I S fs w p i. rw (pop-none (operandAt F b) d h); fits = λ few I S k m l. tt }
 
-    pub call-one : d ≢ 0 → d - 1 ≡ 0 → Rest N L K E O F b d (λ B os f fs i. callMethod B os f fs i e n t u) (Refuse (Word 14))
+    pub call-one : d ≢ 0 → d - 1 ≡ 0 → Rest N L K E O F b d framesLeft (λ B os f fs i. callMethod B os f fs i e n t u) (Refuse (Word 14))
     unfolding callMethod meaning frameOf _>>=_
     call-one deep h = record { says = λ I S fs w p i. rw (pop-some (operandAt F b) d deep, pop-none (operandAt F b) (d - 1) h); fits = λ few I S k m l. tt }

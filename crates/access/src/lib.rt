@@ -9,7 +9,7 @@ ghost use Rattle.definition.specs.Classes.{superOf, hasField, hasMethod};
 ghost use Rattle.definition.specs.Tables.{tables};
 ghost use Rattle.resolution.specs.Quick.{quickBase, found};
 ghost use Rattle.access.specs.Accesses.{Received, Accessing, always, frameRoom, readField, writeField, callMethod};
-ghost use Rattle.access.specs.Members.{noObject, Rest, Making};
+ghost use Rattle.access.specs.Members.{noObject, unlimited, framesLeft, Rest, Making};
 use definition::Instruction;
 use definition::Refusal;
 use instructions::Plan;
@@ -57,7 +57,7 @@ fn received(counts: &[u16], classes: &[u16], kept: &[u8], cache: &[u16], objects
 // getfield, once class s is found to declare the field: the value of an object's field takes the object's place.
 fn read_field(counts: &[u16], classes: &[u16], kept: &[u8], cache: &[u16], objects: &[u32], frames: &[u32], b: u32, d: u32, e: u32, s: u32, name: u16, of: u16) -> Plan
     requires { ⌜ (let B = quickBase (now counts) (now classes) (now kept) (now cache) in nearest (superOf B) (hasField B name of) e ≡ some s) ⌝ }
-    ensures { λ r. ⌜ Rest (now (counts .entry)) (now (classes .entry)) (now (kept .entry)) (now (cache .entry)) (now (objects .entry)) (now (frames .entry)) b d (λ B os f fs i. readField B os f fs i e s name of) r ⌝ }
+    ensures { λ r. ⌜ Rest (now (counts .entry)) (now (classes .entry)) (now (kept .entry)) (now (cache .entry)) (now (objects .entry)) (now (frames .entry)) b d unlimited (λ B os f fs i. readField B os f fs i e s name of) r ⌝ }
 {
     if d == 0 {
         return instructions::refuse(14);
@@ -82,7 +82,7 @@ fn read_field(counts: &[u16], classes: &[u16], kept: &[u8], cache: &[u16], objec
 // putfield, once class s is found to declare the field: the value above the object goes into the object's field.
 fn set_field(counts: &[u16], classes: &[u16], kept: &[u8], cache: &[u16], objects: &[u32], frames: &[u32], b: u32, d: u32, e: u32, s: u32, name: u16, of: u16) -> Plan
     requires { ⌜ (let B = quickBase (now counts) (now classes) (now kept) (now cache) in nearest (superOf B) (hasField B name of) e ≡ some s) ⌝ }
-    ensures { λ r. ⌜ Rest (now (counts .entry)) (now (classes .entry)) (now (kept .entry)) (now (cache .entry)) (now (objects .entry)) (now (frames .entry)) b d (λ B os f fs i. writeField B os f fs i e s name of) r ⌝ }
+    ensures { λ r. ⌜ Rest (now (counts .entry)) (now (classes .entry)) (now (kept .entry)) (now (cache .entry)) (now (objects .entry)) (now (frames .entry)) b d unlimited (λ B os f fs i. writeField B os f fs i e s name of) r ⌝ }
 {
     if d == 0 {
         return instructions::refuse(14);
@@ -125,7 +125,7 @@ fn selected(counts: &[u16], classes: &[u16], kept: &[u8], cache: &[u16], c: u32,
 // invokevirtual, once class s is found to declare the method: a frame is entered in the method selected from the object's own class.
 fn call_method(counts: &[u16], classes: &[u16], kept: &[u8], cache: &[u16], objects: &[u32], frames: &[u32], b: u32, d: u32, e: u32, s: u32, name: u16, argument: u16, result: u16) -> Plan
     requires { ⌜ (let B = quickBase (now counts) (now classes) (now kept) (now cache) in nearest (superOf B) (hasMethod B name argument result) e ≡ some s) ⌝ }
-    ensures { λ r. ⌜ Rest (now (counts .entry)) (now (classes .entry)) (now (kept .entry)) (now (cache .entry)) (now (objects .entry)) (now (frames .entry)) b d (λ B os f fs i. callMethod B os f fs i e name argument result) r ⌝ }
+    ensures { λ r. ⌜ Rest (now (counts .entry)) (now (classes .entry)) (now (kept .entry)) (now (cache .entry)) (now (objects .entry)) (now (frames .entry)) b d framesLeft (λ B os f fs i. callMethod B os f fs i e name argument result) r ⌝ }
 {
     if d == 0 {
         return instructions::refuse(14);

@@ -1,16 +1,20 @@
 // One step, a run of steps, and the start of a task, on the lent tables.
 ghost use mathlib.Core.Path.{_≡_};
+ghost use mathlib.Core.List.{[]};
 ghost use Prim.Native.Nat.{_+_, _*_, _-_, _<_, _≤_};
 ghost use lib.ListN.{length, getD, set};
 ghost use Rattle.definition.specs.Lists.{rows, writeRows};
 ghost use Rattle.definition.specs.Machine.{objectValue, newObject, entryFrame};
 ghost use Rattle.definition.specs.Tables.{tables, tie, tieAt, putTie, valueOf, sizeOf, putObject, putOperand, putLocal, putFrame, frameBase};
+ghost use Rattle.definition.specs.Constraints.{posted, agrees};
 ghost use Rattle.layout.specs.Cells.{moved};
+ghost use Rattle.layout.specs.Unbroken.{Counts};
 ghost use Rattle.resolution.specs.Quick.{quickBase};
-ghost use Rattle.access.specs.Accesses.{tiesOn};
+ghost use Rattle.access.specs.Accesses.{worldIn, tiesOn};
 ghost use Rattle.definition.specs.Calls.{done};
 ghost use Rattle.execution.specs.Carried.{quietly, Ready, planned};
 ghost use Rattle.execution.specs.Postings.{toPost, isNew};
+ghost use Rattle.execution.specs.Decisions.{Settled};
 use definition::Answer;
 use definition::Refusal;
 use instructions::Plan;
@@ -106,6 +110,32 @@ fn post_ties(counts: &mut [u16], ties: &mut [u16], posting: Posting)
     cells::put16(counts, 3, n + tie_number(posting));
 }
 
+// A table copied into another of its length.
+fn copy_rows(to: &mut [u16], from: &[u16])
+    requires { ⌜ length (now to) ≡ length (now from) ⌝ }
+    ensures { λ _. ⌜ now (to .exit) ≡ now (from .entry) ⌝ }
+{
+    let mut i = 0;
+    while i < from.len() {
+        to[i] = from[i];
+        i += 1;
+    }
+}
+
+// Whether the store agrees with ties that are to be posted, tried on a copy of the ties.
+fn agrees_with(counts: &[u16], classes: &[u16], kept: &[u8], cache: &[u16], ties: &[u16], subtypes: &[u16], posting: Posting) -> bool
+    requires { ⌜ Counts (now counts) × (length (now ties) ≡ 768) × (getD (now counts) 3 0 + length (toPost posting) ≤ 256) ⌝ }
+    ensures { λ r. ⌜ r ≡ agrees (posted (worldIn (quickBase (now (counts .entry)) (now (classes .entry)) (now (kept .entry)) (now (cache .entry))) (tables (now (counts .entry)) (now (classes .entry)) (now (kept .entry)) (now (cache .entry)) (now (ties .entry)) (now (subtypes .entry)) [] [])) (toPost posting)) ⌝ }
+{
+    let n = cells::at16(counts, 3);
+    let mut tried = [0u16; 768];
+    copy_rows(&mut tried, ties);
+    write_ties(&mut tried, n, posting);
+    let mut supers = [0u8; 64];
+    resolution::fill_supers(&mut supers, counts, classes, kept, cache);
+    constraints::agree(&supers, cache, cells::at16(counts, 2), &tried, n + tie_number(posting), subtypes, cells::at16(counts, 4))
+}
+
 // What is posted with a plan: nothing with a refusal.
 fn quiet(posting: Posting, plan: Plan) -> Posting
     ensures { λ r. ⌜ r ≡ quietly posting plan ⌝ }
@@ -121,6 +151,53 @@ fn quiet(posting: Posting, plan: Plan) -> Posting
         Plan::Enter(_, _, _, _, _, _) => posting,
         Plan::Make(_, _) => posting,
     }
+}
+
+// What a step decides: the ties that it posts, and the plan that it then carries out.
+struct Decision {
+    posting: Posting,
+    plan: Plan,
+}
+
+fn refused(word: u8) -> Decision
+    ensures { λ r. ⌜ (r .posting ≡ Posting.Nothing) × (r .plan ≡ Plan.Refuse (Refusal.Word word)) ⌝ }
+{
+    Decision {
+        posting: Posting::Nothing,
+        plan: instructions::refuse(word),
+    }
+}
+
+fn decided(posting: Posting, plan: Plan) -> Decision
+    ensures { λ r. ⌜ (r .posting ≡ quietly posting plan) × (r .plan ≡ plan) ⌝ }
+{
+    Decision {
+        posting: quiet(posting, plan),
+        plan,
+    }
+}
+
+// A plan with its ties on two names between two loaders, or the refusal that comes before it: no room, or a clash.
+fn settle(counts: &[u16], classes: &[u16], kept: &[u8], cache: &[u16], ties: &[u16], subtypes: &[u16], room: bool, one: u8, two: u8, first: u16, second: u16, plan: Plan) -> Decision
+    requires { ⌜ Counts (now counts) × (length (now ties) ≡ 768) ⌝ }
+    ensures { λ r. ⌜ Settled (now (counts .entry)) (now (classes .entry)) (now (kept .entry)) (now (cache .entry)) (now (ties .entry)) (now (subtypes .entry)) room (tiesOn (rows (tieAt (now (ties .entry))) (getD (now (counts .entry)) 3 0) 0) one two first second) plan (r .posting) (r .plan) ⌝ }
+{
+    if !room {
+        return refused(10);
+    }
+    let n = cells::at16(counts, 3);
+    let posting = new_ties(ties, n, one, two, first, second);
+    let k = tie_number(posting);
+    if k == 0 {
+        return decided(posting, plan);
+    }
+    if 256 < n + k {
+        return refused(10);
+    }
+    if !agrees_with(counts, classes, kept, cache, ties, subtypes, posting) {
+        return refused(9);
+    }
+    decided(posting, plan)
 }
 
 // A value pushed: the frame goes on at point q with d operands and the value above them.
