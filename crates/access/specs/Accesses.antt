@@ -9,7 +9,7 @@ use lib.ListN.{length, getElem?, set}
 use lib.Dec.{ltb}
 use Rattle.definition.specs.Lists.{indexOf, stack}
 use Rattle.definition.specs.Superclasses.{nearest, below}
-use Rattle.definition.specs.Classes.{Base, Class, superOf, slots, slotIs, alike, methodsOf, hasMethod}
+use Rattle.definition.specs.Classes.{Base, Class, loaderOf, superOf, slots, slotIs, alike, methodsOf, hasMethod}
 use Rattle.definition.specs.Constraints.{Tie, World, newTie, post}
 use Rattle.definition.specs.declared.Instruction.{Instruction}
 use Rattle.definition.specs.Instructions.{Decoded}
@@ -45,6 +45,11 @@ abbrev pub AccessFits : Base → Tables → ℕ → ℕ → Access → Type 0
 AccessFits B t k m (Unresolved r) = Unit {0}
 AccessFits B t k m (Resolved one p) = Fit B t k m p
 
+-- what was found names the loader of a class
+abbrev pub Declared : Base → Access → Type 0
+Declared B (Unresolved r) = Unit {0}
+Declared B (Resolved one p) = (s : ℕ) × (one ≡ loaderOf B s)
+
 -- The answer r is right for the instruction i of a frame with d operands and a class of that loader, whatever constraints, frames below, class, point
 -- and size there are: N L K E O F are the counts, classes, kept bytes, cache, objects and frames
 pub record Accessing (N L K E O F : List ℕ) (b d loader : ℕ) (room : List Frame → Bool) (first second : ℕ) (i : Instruction) (r : Access) : Type 0 where
@@ -53,6 +58,7 @@ pub record Accessing (N L K E O F : List ℕ) (b d loader : ℕ) (room : List Fr
       accessed (worldIn B t) (objectsOf B t) fs F b (p + n) (room fs) loader first second r
       ≡ execute (worldIn B t) (objectsOf B t) (frameOf F b p d) fs k (decoded i n) i)
   pub fits : d ≤ 16 → (I S : List ℕ) (k : ℕ) (fs : List Frame) → room fs ≡ true → AccessFits (quickBase N L K E) (tables N L K E I S O F) k (length fs) r
+  pub declared : Declared (quickBase N L K E) r
 
 abbrev pub always : List Frame → Bool
 always fs = true

@@ -229,7 +229,7 @@ module _ (N L K E O F : List ℕ) (b d loader c : ℕ) where
       → (let t = tables N L K E I S O F in execute (worldIn B t) (objectsOf B t) (frameOf F b p d) fs k (decoded i n) i ≡ refused r))
       → Accessing N L K E O F b d loader room x y i (Unresolved r)
   unfolding accessed
-  unresolved room x y i r h = record { says = λ I S fs k p n e. sym (h I S fs k p n e); fits = λ few I S k gs l. tt }
+  unresolved room x y i r h = record { says = λ I S fs k p n e. sym (h I S fs k p n e); fits = λ few I S k gs l. tt; declared = tt }
 
   module _ (missing : find (B .cache) (at loader c) ≡ none) where
     pub getfield-uncached : (n t : ℕ) → Accessing N L K E O F b d loader always t 1 (Getfield c n t) (Unresolved (Wanted loader c))
@@ -269,6 +269,7 @@ module _ (N L K E O F : List ℕ) (b d loader c : ℕ) where
           (λ w. q .says I S fs w x (decoded (Getfield c n t) y))
           ∙ rw (declares, ← z) (sym (getfield-found (worldIn B T) (objectsOf B T) (frameOf F b x d) fs k (decoded (Getfield c n t) y) c n t e (rw z there) s found));
       fits = λ few I S k gs l. q .fits few I S k (length gs) tt;
+      declared = (s, declares);
     }
 
     pub putfield-right : (n t : ℕ) → nearest (superOf B) (hasField B n t) e ≡ some s → Rest N L K E O F b d unlimited (λ B os f fs i. writeField B os f fs i e s n t) p
@@ -281,6 +282,7 @@ module _ (N L K E O F : List ℕ) (b d loader c : ℕ) where
           (λ w. q .says I S fs w x (decoded (Putfield c n t) y))
           ∙ rw (declares, ← z) (sym (putfield-found (worldIn B T) (objectsOf B T) (frameOf F b x d) fs k (decoded (Putfield c n t) y) c n t e (rw z there) s found));
       fits = λ few I S k gs l. q .fits few I S k (length gs) tt;
+      declared = (s, declares);
     }
 
     pub invoke-right : (n t r : ℕ) → nearest (superOf B) (hasMethod B n t r) e ≡ some s → Rest N L K E O F b d framesLeft (λ B os f fs i. callMethod B os f fs i e n t r) p
@@ -294,6 +296,7 @@ module _ (N L K E O F : List ℕ) (b d loader c : ℕ) where
           ∙ rw (declares, ← z)
           (sym (invoke-found (worldIn B T) (objectsOf B T) (frameOf F b x d) fs k (decoded (Invokevirtual c n t r) y) c n t r e (rw z there) s found));
       fits = λ few I S k gs l. q .fits few I S k (length gs) (ltb-true (suc (length gs)) 32 l);
+      declared = (s, declares);
     }
 
 -- new: a plan alone, since it posts no tie
@@ -301,9 +304,9 @@ pub record Making (N L K E O F : List ℕ) (b d loader c : ℕ) (r : Plan) : Typ
   pub says : (I S : List ℕ) (fs : List Frame) (k : Class) (p n : ℕ) → k .loader ≡ loader
       → (let B = quickBase N L K E in let t = tables N L K E I S O F in
       meaning (worldIn B t) (objectsOf B t) fs F b (p + n) r ≡ execute (worldIn B t) (objectsOf B t) (frameOf F b p d) fs k (decoded (New c) n) (New c))
-  pub fits : (I S : List ℕ) (k m : ℕ) → Fit (quickBase N L K E) (tables N L K E I S O F) k m r
-  -- the class of the object that is made is cached
-  pub known : (x e : ℕ) → r ≡ Make x e → find (quickBase N L K E .cache) (at loader c) ≡ some e
+  -- where the class that is cached has no more fields than a row has room for
+  pub fits : ((e : ℕ) → find (quickBase N L K E .cache) (at loader c) ≡ some e → sizeOf (quickBase N L K E) e ≤ 16)
+      → (I S : List ℕ) (k m : ℕ) → Fit (quickBase N L K E) (tables N L K E I S O F) k m r
 
 module _ (N L K E O F : List ℕ) (b d loader c : ℕ) where
   abbrev base : Base
@@ -315,8 +318,7 @@ module _ (N L K E O F : List ℕ) (b d loader c : ℕ) where
     says = λ I S fs k p n e.
         let T : Tables = tables N L K E I S O F in
         rw (← e) (sym (new-wanted (worldIn base T) (objectsOf base T) (frameOf F b p d) fs k (decoded (New c) n) c (rw e h)));
-    fits = λ I S k m. tt;
-    known = λ x e q. cc;
+    fits = λ sizes I S k m. tt;
   }
 
   module _ (e : ℕ) (there : find (base .cache) (at loader c) ≡ some e) where
@@ -330,8 +332,7 @@ module _ (N L K E O F : List ℕ) (b d loader c : ℕ) where
       says = λ I S fs k p n q.
           let T : Tables = tables N L K E I S O F in
           sym (new-full (worldIn base T) (objectsOf base T) (frameOf F b p d) fs k (decoded (New c) n) c e (rw q there) (room T p ∙ h));
-      fits = λ I S k m. tt;
-      known = λ x y q. cc;
+      fits = λ sizes I S k m. tt;
     }
 
     pub new-made : getD N 5 0 < 256 → d < 16 → Making N L K E O F b d loader c (Make d e)
@@ -341,6 +342,5 @@ module _ (N L K E O F : List ℕ) (b d loader c : ℕ) where
           let T : Tables = tables N L K E I S O F in
           let h : (ltb (length (objectsOf base T)) 256 && ltb (length (frameOf F b p d .operands)) 16) ≡ true = room T p ∙ rw (lt-ltb (getD N 5 0) 256 few, lt-ltb d 16 low) in
           rw (q, there, h);
-      fits = λ I S k m. (low, few);
-      known = λ x y q. let z : e ≡ y = cc in rw (← z) there;
+      fits = λ sizes I S k m. (low, few, sizes e there);
     }

@@ -48,18 +48,6 @@ Quiet us (Field d o j kind v) = Unit {0}
 Quiet us (Enter d c j o kind v) = Unit {0}
 Quiet us (Make d c) = Unit {0}
 
--- the class of an object that is made has no more fields than a row has room for
-abbrev pub Sized : Base → Plan → Type 0
-Sized B (Refuse r) = Unit {0}
-Sized B (Keep d) = Unit {0}
-Sized B (Above d kind v) = Unit {0}
-Sized B (Local d j kind v) = Unit {0}
-Sized B (Give kind v) = Unit {0}
-Sized B (Finish v) = Unit {0}
-Sized B (Field d o j kind v) = Unit {0}
-Sized B (Enter d c j o kind v) = Unit {0}
-Sized B (Make d c) = sizeOf B c ≤ 16
-
 -- what carrying out asks: task k has m frames below its top frame, whose row begins at cell b; ties and plan have room
 pub record Ready (B : Base) (t : Tables) (k m b : ℕ) (us : List Tie) (p : Plan) : Type 0 where
   pub two : k < 2
@@ -69,7 +57,6 @@ pub record Ready (B : Base) (t : Tables) (k m b : ℕ) (us : List Tie) (p : Plan
   pub ties : countAt t 3 + length us ≤ 256
   pub quiet : Quiet us p
   pub fits : Fit B t k m p
-  pub sized : Sized B p
 
 -- The tables after ties were posted, and then n frames of task k and m objects counted
 
@@ -169,7 +156,7 @@ module _ (B : Base) (N L K E I S O F : List ℕ) (k m b q : ℕ) (us : List Tie)
       → P ≡ putObject O n (newObject B s) → done (Ran k) (tables D L K E J S P G) ≡ plans
   unfolding planned meaning _>>=_ carried answerOf
   out-make d s n D G P e a f g h =
-      let w : (d < 16) × (getD N 5 0 < 256) = rw e at (r .fits) in
+      let w : (d < 16) × (getD N 5 0 < 256) × (sizeOf B s ≤ 16) = rw e at (r .fits) in
       rw (e, f, g, h, a, c, j, r .row, objects-fill before B .count)
       (ap (done (Ran k)) (sym (
       progress-writes B before k _ us (getD N 5 0 + 1) (suc m) (putObject O (getD N 5 0) (newObject B s))
@@ -289,9 +276,8 @@ module _ (N L K E I S O F : List ℕ) (k m b q : ℕ) (us : List Tie) (p : Plan)
 
   pub make-ready : (d < 16) × (getD C 5 0 < 256) × (sizeOf (quickBase C L K E) s ≤ 16)
   make-ready =
-      let f : (d < 16) × (getD N 5 0 < 256) = rw e at (r .fits) in
-      let z : sizeOf (quickBase N L K E) s ≤ 16 = rw e at (r .sized) in
-      (f .0, rw same-number (f .1), rw same-base z)
+      let f : (d < 16) × (getD N 5 0 < 256) × (sizeOf (quickBase N L K E) s ≤ 16) = rw e at (r .fits) in
+      (f .0, rw same-number (f .1), rw same-base (f .2))
 
   pub out-made : (D G P : List ℕ) → D ≡ set C 5 (getD C 5 0 + 1) → P ≡ putObject O (getD C 5 0) (newObject (quickBase C L K E) s)
       → G ≡ putOperand b (moved F b q (d + 1)) d (objectValue (getD C 5 0))

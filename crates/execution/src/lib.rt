@@ -14,8 +14,10 @@ ghost use Rattle.access.specs.Accesses.{worldIn, tiesOn};
 ghost use Rattle.definition.specs.Calls.{done};
 ghost use Rattle.execution.specs.Carried.{quietly, Ready, planned};
 ghost use Rattle.execution.specs.Postings.{toPost, isNew};
-ghost use Rattle.execution.specs.Decisions.{Settled};
+ghost use Rattle.execution.specs.Decisions.{Settled, Narrow, AccessSettled, Usable, Acted};
+use access::Access;
 use definition::Answer;
+use definition::Instruction;
 use definition::Refusal;
 use instructions::Plan;
 
@@ -198,6 +200,52 @@ fn settle(counts: &[u16], classes: &[u16], kept: &[u8], cache: &[u16], ties: &[u
         return refused(9);
     }
     decided(posting, plan)
+}
+
+// A plan that posts nothing.
+fn plain(plan: Plan) -> Decision
+    ensures { λ r. ⌜ (r .posting ≡ Posting.Nothing) × (r .plan ≡ plan) ⌝ }
+{
+    Decision {
+        posting: Posting::Nothing,
+        plan,
+    }
+}
+
+// What is missing is refused; what was found is settled with its ties.
+fn settle_access(counts: &[u16], classes: &[u16], kept: &[u8], cache: &[u16], ties: &[u16], subtypes: &[u16], room: bool, loader: u8, first: u16, second: u16, found: Access) -> Decision
+    requires { ⌜ Counts (now counts) × (length (now ties) ≡ 768) × Narrow found ⌝ }
+    ensures { λ r. ⌜ AccessSettled (now (counts .entry)) (now (classes .entry)) (now (kept .entry)) (now (cache .entry)) (now (ties .entry)) (now (subtypes .entry)) room loader first second found (r .posting) (r .plan) ⌝ }
+{
+    match found {
+        Access::Unresolved(r) => Decision { posting: Posting::Nothing, plan: Plan::Refuse(r) },
+        Access::Resolved(one, plan) => settle(counts, classes, kept, cache, ties, subtypes, room, one as u8, loader, first, second, plan),
+    }
+}
+
+// The decision on an instruction of the top frame of a task, in row m: the frame has d operands, and its class that loader.
+fn act(counts: &[u16], classes: &[u16], kept: &[u8], cache: &[u16], ties: &[u16], subtypes: &[u16], objects: &[u32], frames: &[u32], task: u8, m: u16, b: u32, d: u32, loader: u8, i: Instruction) -> Decision
+    requires { ⌜ Usable (now counts) (now classes) (now kept) (now cache) (now ties) × (m < 32) ⌝ }
+    ensures { λ r. ⌜ Acted (now (counts .entry)) (now (classes .entry)) (now (kept .entry)) (now (cache .entry)) (now (ties .entry)) (now (subtypes .entry)) (now (objects .entry)) (now (frames .entry)) task m b d loader i (r .posting) (r .plan) ⌝ }
+{
+    match i {
+        Instruction::AconstNull => plain(instructions::aconst_null(d)),
+        Instruction::Sipush(n) => plain(instructions::sipush(d, n)),
+        Instruction::Iload(j) => plain(instructions::iload(frames, b, d, j)),
+        Instruction::Aload(j) => plain(instructions::aload(frames, b, d, j)),
+        Instruction::Istore(j) => plain(instructions::istore(frames, b, d, j)),
+        Instruction::Astore(j) => plain(instructions::astore(frames, b, d, j)),
+        Instruction::Pop => plain(instructions::pop(d)),
+        Instruction::Dup => plain(instructions::dup(frames, b, d)),
+        Instruction::Iadd => plain(instructions::iadd(frames, b, d)),
+        Instruction::Isub => plain(instructions::isub(frames, b, d)),
+        Instruction::Getfield(class, name, of) => settle_access(counts, classes, kept, cache, ties, subtypes, true, loader, of, 1, access::getfield(counts, classes, kept, cache, objects, frames, b, d, loader, class, name, of)),
+        Instruction::Putfield(class, name, of) => settle_access(counts, classes, kept, cache, ties, subtypes, true, loader, of, 1, access::putfield(counts, classes, kept, cache, objects, frames, b, d, loader, class, name, of)),
+        Instruction::Invokevirtual(class, name, argument, result) => settle_access(counts, classes, kept, cache, ties, subtypes, m + 1 < 32, loader, argument, result, access::invokevirtual(counts, classes, kept, cache, objects, frames, b, d, loader, class, name, argument, result)),
+        Instruction::New(class) => plain(access::new_object(counts, classes, kept, cache, objects, frames, b, d, loader, class)),
+        Instruction::Ireturn => plain(instructions::ireturn(frames, task, m, b, d)),
+        Instruction::Areturn => plain(instructions::areturn(frames, task, m, b, d)),
+    }
 }
 
 // A value pushed: the frame goes on at point q with d operands and the value above them.

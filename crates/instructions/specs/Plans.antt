@@ -13,7 +13,7 @@ use Rattle.definition.specs.Instructions.{Decoded}
 use Rattle.definition.specs.declared.Refusal.the-variants.{Word}
 use Rattle.definition.specs.Answers.{Result, refused, ok, _>>=_, take?}
 use Rattle.definition.specs.Machine.{Value, intValue, objectValue, Object, Frame, existing, newObject, entryFrame, Progress, give, execute}
-use Rattle.definition.specs.Tables.{Tables, valueOf, operandAt, localAt, frame, frameOf, frameAt, frameBase, frameIn, usedFields, objectAt}
+use Rattle.definition.specs.Tables.{Tables, valueOf, operandAt, localAt, frame, frameOf, frameAt, frameBase, frameIn, sizeOf, usedFields, objectAt}
 use Rattle.layout.specs.Cells.{frameWith, withField}
 pub use Rattle.instructions.specs.declared.Plan.{Plan}
 pub use Rattle.instructions.specs.declared.Plan.the-variants.{Refuse, Keep, Above, Local, Give, Finish, Field, Enter, Make}
@@ -55,7 +55,7 @@ Fit B t k m (Give kind v) = (0 < m) × (getD (t .frames) (frameBase k (m - 1) + 
 Fit B t k m (Finish v) = m ≡ 0
 Fit B t k m (Field d o j kind v) = (o < getD (t .counts) 5 0) × (j < usedFields B (objectAt B (t .objects) o .class))
 Fit B t k m (Enter d c j o kind v) = suc m < 32
-Fit B t k m (Make d c) = (d < 16) × (getD (t .counts) 5 0 < 256)
+Fit B t k m (Make d c) = (d < 16) × (getD (t .counts) 5 0 < 256) × (sizeOf B c ≤ 16)
 
 -- The plan r is right for the instruction i of a frame with d operands, whatever world, objects, frames below, class, point and size there are
 
