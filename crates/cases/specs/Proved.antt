@@ -1,14 +1,14 @@
 -- P1 to P10 hold from a boot of any tables that boot accepts, and so of zeros; and the paper's worked example answers as printed.
 use mathlib.Core.Path.{_≡_, refl, sym, ap, _∙_, subst}
-use mathlib.Core.Bool.{Bool, true, false, false≢true, not, _&&_, _||_}
-use mathlib.Core.Option.{Option, none, some, Option·none-ne-some, Option·some-injective}
-use mathlib.Core.List.{List, [], _∷_, _++_, map}
+use mathlib.Core.Bool.{Bool, true, false, false≢true}
+use mathlib.Core.Option.{some, Option·none-ne-some, Option·some-injective}
+use mathlib.Core.List.{List, [], _∷_, map}
 use Prim.Native.Nat.{ℕ, zero, suc}
 use native.Mathlib.Omega.{arith}
 use lib.ListN.{length, getElem?, replicate}
 use borrow.Author.Tests.{eqb-false}
 use Prim.Native.Nat.{_+_}
-use lib.IntN.{ℤ, pos, negsuc}
+use lib.IntN.{pos}
 use lib.Dec.{eqb}
 use Rattle.definition.specs.declared.Refusal.{Refusal}
 use Rattle.definition.specs.declared.Refusal.the-variants.{Word}
@@ -18,13 +18,13 @@ use Rattle.definition.specs.declared.Reply.the-variants.{Accepted, Defined, Ste
 use Rattle.definition.specs.declared.Answer.the-variants.{Idle, Ran, Finished, Refused}
 use mathlib.Core.Logic.{_⊎_, inl, inr}
 use Rattle.laws.specs.Refused.{refusal, refused-same}
-use Rattle.definition.specs.Answers.{Details, line, details, stepDetails, refusalDetails, signed, number, numberOfStep, numberOf, _>>=_, need, take?}
+use Rattle.definition.specs.Answers.{endsIn, Details, line, details, stepDetails, refusalDetails, signed, number, numberOfStep, numberOf, _>>=_, need, take?}
 use Rattle.definition.specs.Tables.{Tables, tables, shaped, Rows, view, fileAt, classAt}
-use Rattle.definition.specs.Calls.{turn, bootRows, boot, Call, callDefine, callRecord, callStart, callStep, callRun, callDrop, perform, performAll, defineRows, recordRows, startRows, dropRows, answerOf, stepTask, stepOn, stepRows, turnOf}
+use Rattle.definition.specs.Calls.{turn, bootRows, boot, Call, callDefine, callRecord, callStart, callStep, perform, performAll, defineRows, recordRows, startRows, dropRows, answerOf, stepTask, stepOn, stepRows, turnOf}
 use Rattle.definition.specs.OnRows.{settle, onRows, runRows, performRows, performAllRows}
 use Rattle.unbroken.specs.OnRows.{Same, Shows, same-booted, same-perform, OneStep, rows-same}
 use Rattle.definition.specs.Samples.{fileF, two, method, fileOf, plain, taker, coded, lifts, pushes, ready, tied12, tied123}
-use Rattle.cases.specs.Cases.{Case, table, beforeLast, answered, left, Right}
+use Rattle.cases.specs.Cases.{Case, table, beforeLast, answered, left, Right, preparedBy, accepted}
 use Rattle.definition.specs.Classes.{find, lower, superOf, loaderOf, ownSlots, slotsIn, slots, slotIs, hasField, alike, methodsOf, hasMethod}
 use Rattle.definition.specs.Constraints.{tieEdges, subtypeEdges, edges, pairAgrees, rowAgrees, agreesOver, agrees, tieIs, newTie, agreesAfter, post}
 use Rattle.definition.specs.File.{byte, short, name, count, fieldsIn, methodsIn, ends, sameField, sameMethod, readFile}
@@ -44,6 +44,18 @@ answeredRows c = let r = performAllRows (c .before) bootRows .rows in details (t
 on-rows : map answeredRows table ≡ map (λ c. c .expect) table
 unfolding answeredRows signed number numberOfStep numberOf refusalDetails stepDetails details _>>=_ need take? defineRows recordRows startRows dropRows answerOf stepTask stepOn stepRows turnOf turn find lower superOf loaderOf ownSlots slotsIn slots slotIs hasField alike methodsOf hasMethod tieEdges subtypeEdges edges pairAgrees rowAgrees agreesOver agrees tieIs newTie agreesAfter post byte short name count fieldsIn methodsIn ends sameField sameMethod readFile pick opcodeOf inlineLength shortAt extend instructionOf sizedAs decode every all any doubled indexOf isNone subtypeIs newSubtypes overrideTie overrideTies hides define recorded started existing initialValue newObject pop! int! reference! kind! room! object! now under! give execute step Maybe._>>=_ Maybe.need sameRequest has fires rest grow reach leads seek nearest below fileAt classAt typeOfName meetClass meetInt meets asReference pop effect returns isReturn verify typesAt notesOf settle onRows runRows performRows performAllRows two method fileOf plain fileF taker coded lifts pushes ready tied12 tied123 table
 on-rows = refl
+
+prepared-rows : map (λ c. accepted (performAllRows (c .before) bootRows .answer)) table ≡ map (λ _. true) table
+unfolding accepted endsIn signed number numberOfStep numberOf refusalDetails stepDetails details _>>=_ need take? defineRows recordRows startRows dropRows answerOf stepTask stepOn stepRows turnOf turn find lower superOf loaderOf ownSlots slotsIn slots slotIs hasField alike methodsOf hasMethod tieEdges subtypeEdges edges pairAgrees rowAgrees agreesOver agrees tieIs newTie agreesAfter post byte short name count fieldsIn methodsIn ends sameField sameMethod readFile pick opcodeOf inlineLength shortAt extend instructionOf sizedAs decode every all any doubled indexOf isNone subtypeIs newSubtypes overrideTie overrideTies hides define recorded started existing initialValue newObject pop! int! reference! kind! room! object! now under! give execute step Maybe._>>=_ Maybe.need sameRequest has fires rest grow reach leads seek nearest below fileAt classAt typeOfName meetClass meetInt meets asReference pop effect returns isReturn verify typesAt notesOf settle onRows runRows performRows performAllRows two method fileOf plain fileF taker coded lifts pushes ready tied12 tied123 table
+prepared-rows = refl
+
+ties-rows : map (λ c. performAllRows (c .before) bootRows .rows .ties) table ≡ map (λ c. c .ties) table
+unfolding signed number numberOfStep numberOf refusalDetails stepDetails details _>>=_ need take? defineRows recordRows startRows dropRows answerOf stepTask stepOn stepRows turnOf turn find lower superOf loaderOf ownSlots slotsIn slots slotIs hasField alike methodsOf hasMethod tieEdges subtypeEdges edges pairAgrees rowAgrees agreesOver agrees tieIs newTie agreesAfter post byte short name count fieldsIn methodsIn ends sameField sameMethod readFile pick opcodeOf inlineLength shortAt extend instructionOf sizedAs decode every all any doubled indexOf isNone subtypeIs newSubtypes overrideTie overrideTies hides define recorded started existing initialValue newObject pop! int! reference! kind! room! object! now under! give execute step Maybe._>>=_ Maybe.need sameRequest has fires rest grow reach leads seek nearest below fileAt classAt typeOfName meetClass meetInt meets asReference pop effect returns isReturn verify typesAt notesOf settle onRows runRows performRows performAllRows two method fileOf plain fileF taker coded lifts pushes ready tied12 tied123 table
+ties-rows = refl
+
+subtypes-rows : map (λ c. performAllRows (c .before) bootRows .rows .subtypes) table ≡ map (λ c. c .subtypes) table
+unfolding signed number numberOfStep numberOf refusalDetails stepDetails details _>>=_ need take? defineRows recordRows startRows dropRows answerOf stepTask stepOn stepRows turnOf turn find lower superOf loaderOf ownSlots slotsIn slots slotIs hasField alike methodsOf hasMethod tieEdges subtypeEdges edges pairAgrees rowAgrees agreesOver agrees tieIs newTie agreesAfter post byte short name count fieldsIn methodsIn ends sameField sameMethod readFile pick opcodeOf inlineLength shortAt extend instructionOf sizedAs decode every all any doubled indexOf isNone subtypeIs newSubtypes overrideTie overrideTies hides define recorded started existing initialValue newObject pop! int! reference! kind! room! object! now under! give execute step Maybe._>>=_ Maybe.need sameRequest has fires rest grow reach leads seek nearest below fileAt classAt typeOfName meetClass meetInt meets asReference pop effect returns isReturn verify typesAt notesOf settle onRows runRows performRows performAllRows two method fileOf plain fileF taker coded lifts pushes ready tied12 tied123 table
+subtypes-rows = refl
 
 unfoldable isRefusal : Reply → Bool
 isRefusal Accepted = false
@@ -141,6 +153,14 @@ module _ (t : Tables) (h : shaped t ≡ true) (c : Case) where
   unfolding left
   did = same-perform (c .last) (beforeLast t c) (rowsBefore c) shows
 
+  before-rows : view (beforeLast t c) ≡ performAllRows (c .before) bootRows .rows
+  unfolding rowsBefore
+  before-rows = shows .rows
+
+  prepared-same : preparedBy t c ≡ accepted (performAllRows (c .before) bootRows .answer)
+  unfolding preparedBy
+  prepared-same = ap accepted (same-booted (c .before) t h .0)
+
   answered-rows : answered t c ≡ answeredRows c
   unfolding answered answeredRows rowsBefore
   answered-rows = λ i. details (turn (shows .rows i)) (did .0 i)
@@ -168,6 +188,9 @@ keeps t h c o (inr q) = rows-same (c .last) o (beforeLast t c) (rowsBefore c) (s
 
 pub cases : (t : Tables) → boot t .answer ≡ Accepted → Right t
 cases t a = record {
+  prepared = map-same (preparedBy t) (λ c. accepted (performAllRows (c .before) bootRows .answer)) (prepared-same t h) table ∙ prepared-rows;
+  ties = map-same (λ c. view (beforeLast t c) .ties) (λ c. performAllRows (c .before) bootRows .rows .ties) (λ c. ap (λ (r : Rows). r .ties) (before-rows t h c)) table ∙ ties-rows;
+  subtypes = map-same (λ c. view (beforeLast t c) .subtypes) (λ c. performAllRows (c .before) bootRows .rows .subtypes) (λ c. ap (λ (r : Rows). r .subtypes) (before-rows t h c)) table ∙ subtypes-rows;
   answers = map-same (answered t) answeredRows (answered-rows t h) table ∙ on-rows;
   unchanged = λ i c e u. keeps t h c (all-at (λ c. OneStep (c .last)) table one-steps i c e) (all-at Stays table stays i c e .0 u);
   changed = λ i c e u q. eqb-false _ _ (all-at Stays table stays i c e .1 u) (ap size (sym (view-left t h c) ∙ ap view q ∙ shows t h c .rows));

@@ -5,21 +5,20 @@ use mathlib.Core.Bool.{Bool, true, false}
 use mathlib.Core.Option.{Option, none, some}
 use mathlib.Core.List.{List, _++_, List·Memᴰ, Memᴰ·append-left, Memᴰ·append-right, List·Memᴰ·append-cases}
 use mathlib.Core.Logic.{_⊎_, inl, inr}
-use Prim.Native.Nat.{ℕ, suc, _+_, _*_, _-_, _<_, _≤_, _/_, _%_}
+use Prim.Native.Nat.{ℕ, _+_, _*_, _-_, _<_, _≤_, _/_, _%_}
 use native.Mathlib.Nat.{add-zero}
 use native.Mathlib.Omega.{arith}
 use lib.ListN.{getD}
-use lib.Dec.{eqb, ltb}
+use lib.Dec.{ltb}
 use borrow.Author.Tests.{ltb-true, ltb-false}
 use Rattle.definition.specs.Lists.{rows, all}
 use Rattle.definition.specs.Requests.{Request, at, Edge, has, leads, reach}
-use Rattle.definition.specs.Superclasses.{below}
 use Rattle.definition.specs.Classes.{Entry, find}
-use Rattle.definition.specs.Constraints.{Tie, Subtype, tieEdges, subtypeEdges, pairAgrees, rowAgrees, agreesOver}
+use Rattle.definition.specs.Constraints.{Subtype, tieEdges, subtypeEdges, pairAgrees, rowAgrees, agreesOver}
 use Rattle.definition.specs.Tables.{entryAt, tieAt, subtypeAt}
 use Rattle.constraints.specs.Nodes.{requestOf, requestIn, AllNumbered, First, NodesOf, ClassesOf, startOf, endOf, linkOf, linksFrom, leadsFrom, pairIs, pairOn, agreeOn}
 use Rattle.constraints.specs.Search.{Small}
-use Rattle.constraints.proofs.Rows.{Place, in-rows, rows-in, all-same}
+use Rattle.constraints.proofs.Rows.{in-rows, rows-in, all-same}
 use Rattle.constraints.proofs.Renaming.{Carried, leads-same}
 use Rattle.constraints.proofs.Edges.{edge, edge-at, forward, turned, upward, forward-in, turned-in, upward-in, OfTie, of-tie, OfSubtype, of-subtype, find-at}
 
@@ -71,9 +70,8 @@ first-cell t name i = ap (λ (x : ℕ). at (getD t x 0) (getD t (i * 3 + name) 0
 -- A store as nodes
 
 module _ (cache : List ℕ) (n : ℕ) (ties : List ℕ) (tied : ℕ) (subtypes : List ℕ) (noted : ℕ) (numbers nodes classes : List ℕ)
-  (put : AllNumbered cache n ties tied subtypes noted numbers) (isNode : NodesOf numbers (n + (noted + tied + tied) + (noted + tied + tied)) nodes)
-  (isClass : ClassesOf cache nodes n classes) where
-
+    (put : AllNumbered cache n ties tied subtypes noted numbers) (isNode : NodesOf numbers (n + (noted + tied + tied) + (noted + tied + tied)) nodes)
+    (isClass : ClassesOf cache nodes n classes) where
   abbrev links : ℕ
   links = noted + tied + tied
 
@@ -133,7 +131,7 @@ module _ (cache : List ℕ) (n : ℕ) (ties : List ℕ) (tied : ℕ) (subtypes :
   -- each edge is a link
 
   link-of : (base e : ℕ) (d : Edge) → base ≤ e → e < links → d .from ≡ named (n + e) → d .to ≡ named (n + links + e)
-    → Carried named noded places (linksFrom nodes n links base) d
+      → Carried named noded places (linksFrom nodes n links base) d
   unfolding linksFrom linkOf startOf endOf
   link-of base e d l h p q = record {
     start = n + e;
@@ -148,10 +146,14 @@ module _ (cache : List ℕ) (n : ℕ) (ties : List ℕ) (tied : ℕ) (subtypes :
   tie-link : (base : ℕ) → base ≤ noted → (d : Edge) → List·Memᴰ d theTies → Carried named noded places (linksFrom nodes n links base) d
   tie-link base l d m = go (of-tie (rows (tieAt ties) tied 0) d m)
     where
-      way : (i : ℕ) → i < tied → (d ≡ forward (tieAt ties i)) ⊎ (d ≡ turned (tieAt ties i)) → Carried named noded places (linksFrom nodes n links base) d
-      way i h (inl e) = link-of base (noted + i) d (omega arith) (omega arith) (ap (λ (x : Edge). x .from) e ∙ sym (one-at i h)) (ap (λ (x : Edge). x .to) e ∙ sym (two-at i h))
+      way : (i : ℕ) → i < tied → (d ≡ forward (tieAt ties i)) ⊎ (d ≡ turned (tieAt ties i))
+          → Carried named noded places (linksFrom nodes n links base) d
+      way i h (inl e) = link-of base (noted + i) d (omega arith) (omega arith) (ap (λ (x : Edge). x .from) e ∙ sym (one-at i h))
+          (ap (λ (x : Edge). x .to) e ∙ sym (two-at i h))
       way i h (inr e) =
-          link-of base (noted + tied + i) d (omega arith) (omega arith) (ap (λ (x : Edge). x .from) e ∙ sym (two-back i h)) (ap (λ (x : Edge). x .to) e ∙ sym (one-back i h))
+          link-of base (noted + tied + i) d (omega arith) (omega arith) (ap (λ (x : Edge). x .from) e ∙ sym (two-back i h))
+          (ap (λ (x : Edge). x .to) e ∙ sym (one-back i h))
+
       go : OfTie (rows (tieAt ties) tied 0) d → Carried named noded places (linksFrom nodes n links base) d
       go r = let p = rows-in (tieAt ties) tied 0 (r .tie) (r .there) in way (p .number) (omega arith) (rw (p .is) at (r .way))
 
@@ -159,9 +161,12 @@ module _ (cache : List ℕ) (n : ℕ) (ties : List ℕ) (tied : ℕ) (subtypes :
   subtype-link d m = go (of-subtype (rows (subtypeAt subtypes) noted 0) d m)
     where
       way : (i : ℕ) → i < noted → d ≡ upward (subtypeAt subtypes i) → Carried named noded places (linksFrom nodes n links 0) d
-      way i h e = link-of 0 i d (omega arith) (omega arith) (ap (λ (x : Edge). x .from) e ∙ sym (low-at i h)) (ap (λ (x : Edge). x .to) e ∙ sym (high-at i h))
+      way i h e = link-of 0 i d (omega arith) (omega arith) (ap (λ (x : Edge). x .from) e ∙ sym (low-at i h))
+          (ap (λ (x : Edge). x .to) e ∙ sym (high-at i h))
+
       go : OfSubtype (rows (subtypeAt subtypes) noted 0) d → Carried named noded places (linksFrom nodes n links 0) d
-      go r = let p = rows-in (subtypeAt subtypes) noted 0 (r .subtype) (r .there) in way (p .number) (omega arith) (r .is ∙ ap (λ (x : Subtype). upward x) (p .is))
+      go r = let p = rows-in (subtypeAt subtypes) noted 0 (r .subtype) (r .there) in way (p .number) (omega arith)
+          (r .is ∙ ap (λ (x : Subtype). upward x) (p .is))
 
   any-link : (d : Edge) → List·Memᴰ d (theTies ++ theSubtypes) → Carried named noded places (linksFrom nodes n links 0) d
   any-link d m = elim (List·Memᴰ·append-cases theTies m) [ inl a ↦ tie-link 0 (omega arith) d a | inr b ↦ subtype-link d b ]
@@ -173,8 +178,10 @@ module _ (cache : List ℕ) (n : ℕ) (ties : List ℕ) (tied : ℕ) (subtypes :
     where
       ahead : (i : ℕ) → i < tied → e ≡ noted + i → List·Memᴰ (edge (named (n + e)) (named (n + links + e))) theTies
       ahead i k q = rw q (edge-at (one-at i k) (two-at i k) (forward-in (in-rows (tieAt ties) tied 0 i (omega arith) (omega arith))))
+
       back : (i : ℕ) → i < tied → e ≡ noted + tied + i → List·Memᴰ (edge (named (n + e)) (named (n + links + e))) theTies
       back i k q = rw q (edge-at (two-back i k) (one-back i k) (turned-in (in-rows (tieAt ties) tied 0 i (omega arith) (omega arith))))
+
       go : (t : Bool) → ltb e (noted + tied) ≡ t → List·Memᴰ (edge (named (n + e)) (named (n + links + e))) theTies
       go true q = ahead (e - noted) (omega (arith, ltb-true e (noted + tied) q)) (omega arith)
       go false q = back (e - (noted + tied)) (omega (arith, ltb-false e (noted + tied) q)) (omega (arith, ltb-false e (noted + tied) q))
@@ -185,11 +192,12 @@ module _ (cache : List ℕ) (n : ℕ) (ties : List ℕ) (tied : ℕ) (subtypes :
       go : (t : Bool) → ltb e noted ≡ t → List·Memᴰ (edge (named (n + e)) (named (n + links + e))) (theTies ++ theSubtypes)
       go true q =
           let k : e < noted = ltb-true e noted q in
-          Memᴰ·append-right theTies (edge-at (low-at e k) (high-at e k) (upward-in (in-rows (subtypeAt subtypes) noted 0 e (omega arith) (omega arith))))
+          Memᴰ·append-right theTies (edge-at (low-at e k) (high-at e k)
+          (upward-in (in-rows (subtypeAt subtypes) noted 0 e (omega arith) (omega arith))))
       go false q = Memᴰ·append-left theSubtypes (link-tie e (ltb-false e noted q) h)
 
   edge-of : (base : ℕ) (E : List Edge) → ((e : ℕ) → base ≤ e → e < links → List·Memᴰ (edge (named (n + e)) (named (n + links + e))) E)
-    → (d : Edge) → List·Memᴰ d (linksFrom nodes n links base) → Carried noded named places E d
+      → (d : Edge) → List·Memᴰ d (linksFrom nodes n links base) → Carried noded named places E d
   unfolding linksFrom linkOf startOf endOf
   edge-of base E f d m = let p = rows-in (linkOf nodes n links) (links - base) base d m in record {
     start = n + p .number;
@@ -204,13 +212,14 @@ module _ (cache : List ℕ) (n : ℕ) (ties : List ℕ) (tied : ℕ) (subtypes :
   -- what leads to what
 
   tied-same : (a b : ℕ) → a < places → b < places
-    → leads theTies (named a) (named b) ≡ leadsFrom nodes n links noted (getD nodes a 0) (getD nodes b 0)
+      → leads theTies (named a) (named b) ≡ leadsFrom nodes n links noted (getD nodes a 0) (getD nodes b 0)
   unfolding leadsFrom
   tied-same a b h k =
-      leads-same named noded places theTies (linksFrom nodes n links noted) same-node (tie-link noted (omega arith)) same-name (edge-of noted theTies link-tie) a b h k
+      leads-same named noded places theTies (linksFrom nodes n links noted) same-node (tie-link noted (omega arith)) same-name
+      (edge-of noted theTies link-tie) a b h k
 
   led-same : (a b : ℕ) → a < places → b < places
-    → leads (theTies ++ theSubtypes) (named a) (named b) ≡ leadsFrom nodes n links 0 (getD nodes a 0) (getD nodes b 0)
+      → leads (theTies ++ theSubtypes) (named a) (named b) ≡ leadsFrom nodes n links 0 (getD nodes a 0) (getD nodes b 0)
   unfolding leadsFrom
   led-same a b h k =
       leads-same named noded places (theTies ++ theSubtypes) (linksFrom nodes n links 0) same-node any-link same-name
@@ -231,7 +240,8 @@ module _ (cache : List ℕ) (n : ℕ) (ties : List ℕ) (tied : ℕ) (subtypes :
       let f = isNode i (omega arith) in
       let l : getD nodes i 0 ≤ i = node-low numbers places nodes isNode i (omega arith) in
       let k : getD nodes i 0 < n = omega arith in
-      let same : entryAt cache (getD nodes i 0) .request ≡ entryAt cache i .request = sym (cached-at (getD nodes i 0) k) ∙ ap (λ (x : ℕ). requestOf x) (f .here (omega arith)) ∙ cached-at i h in
+      let same : entryAt cache (getD nodes i 0) .request ≡ entryAt cache i .request = sym (cached-at (getD nodes i 0) k)
+      ∙ ap (λ (x : ℕ). requestOf x) (f .here (omega arith)) ∙ cached-at i h in
       find-at cache (entryAt cache i .request) n 0 (getD nodes i 0) (omega arith) (omega arith) same
       (λ j _ m q. f .none j m (number-eq (getD numbers j 0) (getD numbers i 0) (cached-at j (omega arith) ∙ q ∙ sym (cached-at i h))))
       ∙ ap (λ (x : ℕ). some x) (class-of i h)
@@ -239,8 +249,9 @@ module _ (cache : List ℕ) (n : ℕ) (ties : List ℕ) (tied : ℕ) (subtypes :
   -- agreement
 
   row-same : (E : List Edge) (base : ℕ)
-    → ((a b : ℕ) → a < places → b < places → leads E (named a) (named b) ≡ leadsFrom nodes n links base (getD nodes a 0) (getD nodes b 0))
-    → (a b : ℕ) → a < n → b < n → has (entryAt cache b .request) (reach E (entryAt cache a .request)) ≡ leadsFrom nodes n links base (getD nodes a 0) (getD nodes b 0)
+      → ((a b : ℕ) → a < places → b < places → leads E (named a) (named b) ≡ leadsFrom nodes n links base (getD nodes a 0) (getD nodes b 0))
+      → (a b : ℕ) → a < n → b < n → has (entryAt cache b .request) (reach E (entryAt cache a .request))
+      ≡ leadsFrom nodes n links base (getD nodes a 0) (getD nodes b 0)
   unfolding leads
   row-same E base f a b h k = rw (cached-at a h, cached-at b k) at (f a b (omega arith) (omega arith))
 
@@ -249,23 +260,27 @@ module _ (cache : List ℕ) (n : ℕ) (ties : List ℕ) (tied : ℕ) (subtypes :
     theCache = rows (entryAt cache) n 0
 
     pair-same : (a b : ℕ) → a < n → b < n
-      → pairAgrees sup theCache (getD classes a 0) (reach theTies (entryAt cache a .request)) (reach (theTies ++ theSubtypes) (entryAt cache a .request)) (entryAt cache b .request)
+        → pairAgrees sup theCache (getD classes a 0) (reach theTies (entryAt cache a .request))
+        (reach (theTies ++ theSubtypes) (entryAt cache a .request)) (entryAt cache b .request)
         ≡ pairOn sup nodes classes n links noted a b
     unfolding pairAgrees pairOn pairIs
     pair-same a b h k =
         rw (found b k, pairAgrees)
-        (ap (λ (t : Bool). pairIs sup t (has (entryAt cache b .request) (reach (theTies ++ theSubtypes) (entryAt cache a .request))) (getD classes a 0) (getD classes b 0))
+        (ap (λ (t : Bool). pairIs sup t (has (entryAt cache b .request) (reach (theTies ++ theSubtypes) (entryAt cache a .request)))
+        (getD classes a 0) (getD classes b 0))
         (row-same theTies noted tied-same a b h k)
         ∙ ap (λ (t : Bool). pairIs sup (leadsFrom nodes n links noted (getD nodes a 0) (getD nodes b 0)) t (getD classes a 0) (getD classes b 0))
         (row-same (theTies ++ theSubtypes) 0 led-same a b h k))
 
     class-same : (a : ℕ) → a < n
-      → rowAgrees sup theCache theTies (theTies ++ theSubtypes) (entryAt cache a .request) ≡ all (pairOn sup nodes classes n links noted a) (rows (λ i. i) n 0)
+        → rowAgrees sup theCache theTies (theTies ++ theSubtypes) (entryAt cache a .request)
+        ≡ all (pairOn sup nodes classes n links noted a) (rows (λ i. i) n 0)
     unfolding rowAgrees
     class-same a h =
         rw (found a h, rowAgrees)
         (all-same
-        (λ f. pairAgrees sup theCache (getD classes a 0) (reach theTies (entryAt cache a .request)) (reach (theTies ++ theSubtypes) (entryAt cache a .request)) (f .request))
+        (λ f. pairAgrees sup theCache (getD classes a 0) (reach theTies (entryAt cache a .request))
+        (reach (theTies ++ theSubtypes) (entryAt cache a .request)) (f .request))
         (entryAt cache) (pairOn sup nodes classes n links noted a) (λ i. i) n 0 (λ b _ k. pair-same a b h (omega arith)))
 
     pub agree-same : agreesOver sup theCache theTies (theTies ++ theSubtypes) ≡ agreeOn sup nodes classes n links noted
@@ -275,9 +290,12 @@ module _ (cache : List ℕ) (n : ℕ) (ties : List ℕ) (tied : ℕ) (subtypes :
         (λ a. all (pairOn sup nodes classes n links noted a) (rows (λ i. i) n 0)) (λ i. i) n 0 (λ a _ h. class-same a (omega arith))
 
 -- the same, where the counts are given by their values
-pub agree-counted : (sup : ℕ → Option ℕ) (cache ties subtypes : List ℕ) (n tied noted n′ tied′ noted′ : ℕ) (nodes classes : List ℕ) → n ≡ n′ → tied ≡ tied′ → noted ≡ noted′
-  → agreesOver sup (rows (entryAt cache) n 0) (tieEdges (rows (tieAt ties) tied 0)) (tieEdges (rows (tieAt ties) tied 0) ++ subtypeEdges (rows (subtypeAt subtypes) noted 0))
+pub agree-counted : (sup : ℕ → Option ℕ) (cache ties subtypes : List ℕ) (n tied noted n′ tied′ noted′ : ℕ) (nodes classes : List ℕ) → n ≡ n′
+    → tied ≡ tied′ → noted ≡ noted′
+    → agreesOver sup (rows (entryAt cache) n 0) (tieEdges (rows (tieAt ties) tied 0))
+    (tieEdges (rows (tieAt ties) tied 0) ++ subtypeEdges (rows (subtypeAt subtypes) noted 0))
     ≡ agreeOn sup nodes classes n (noted + tied + tied) noted
-  → agreeOn sup nodes classes n (noted + tied + tied) noted
-    ≡ agreesOver sup (rows (entryAt cache) n′ 0) (tieEdges (rows (tieAt ties) tied′ 0)) (tieEdges (rows (tieAt ties) tied′ 0) ++ subtypeEdges (rows (subtypeAt subtypes) noted′ 0))
+    → agreeOn sup nodes classes n (noted + tied + tied) noted
+    ≡ agreesOver sup (rows (entryAt cache) n′ 0) (tieEdges (rows (tieAt ties) tied′ 0))
+    (tieEdges (rows (tieAt ties) tied′ 0) ++ subtypeEdges (rows (subtypeAt subtypes) noted′ 0))
 agree-counted sup cache ties subtypes n tied noted n′ tied′ noted′ nodes classes p q r e = rw (sym p, sym q, sym r) (sym e)

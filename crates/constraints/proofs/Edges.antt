@@ -1,15 +1,15 @@
 -- The edges of ties and of subtype constraints, and the row that a request is found in.
-use mathlib.Core.Path.{_≡_, refl, sym, ap, _∙_}
-use mathlib.Core.Bool.{Bool, true, false, false≢true}
-use mathlib.Core.Option.{Option, none, some}
-use mathlib.Core.List.{List, [], _∷_, _++_, List·Memᴰ, List·Memᴰ·head, List·Memᴰ·tail, List·Memᴰ·not-nil}
+use mathlib.Core.Path.{_≡_, refl, ap}
+use mathlib.Core.Bool.{Bool, true, false}
+use mathlib.Core.Option.{some}
+use mathlib.Core.List.{List, [], _∷_, List·Memᴰ, List·Memᴰ·head, List·Memᴰ·tail, List·Memᴰ·not-nil}
 use mathlib.Core.Logic.{_⊎_, inl, inr}
 use Prim.Native.Nat.{ℕ, zero, suc, _+_, _<_, _≤_}
 use native.Mathlib.Nat.{eq-or-lt-of-le}
 use native.Mathlib.Omega.{arith}
 use Rattle.definition.specs.Lists.{rows}
 use Rattle.definition.specs.Requests.{Request, at, Edge, sameRequest}
-use Rattle.definition.specs.Classes.{Entry, find}
+use Rattle.definition.specs.Classes.{find}
 use Rattle.definition.specs.Constraints.{Tie, Subtype, tieEdges, subtypeEdges}
 use Rattle.definition.specs.Tables.{entryAt}
 use Rattle.laws.specs.Chains.{same-eq, same-refl}
@@ -78,13 +78,15 @@ not-same a b h = go (sameRequest a b) refl
     go false e = refl
 
 pub find-at : (t : List ℕ) (r : Request) (k i j : ℕ) → i ≤ j → j < i + k → entryAt t j .request ≡ r
-  → ((h : ℕ) → i ≤ h → h < j → entryAt t h .request ≡ r → ⊥) → find (rows (entryAt t) k i) r ≡ some (entryAt t j .class)
+    → ((h : ℕ) → i ≤ h → h < j → entryAt t h .request ≡ r → ⊥) → find (rows (entryAt t) k i) r ≡ some (entryAt t j .class)
 unfolding rows find
 find-at t r zero i j l h e f = absurd (omega arith)
 find-at t r (suc k) i j l h e f = go (eq-or-lt-of-le l) (λ m. find-at t r k (suc i) j m (omega arith) e (λ x o q. f x (omega arith) q))
   where
     here : i ≡ j → sameRequest (entryAt t i .request) r ≡ true
     here q = rw (q, e) (same-refl r)
-    go : (i ≡ j) ⊎ (i < j) → (i < j → find (rows (entryAt t) k (suc i)) r ≡ some (entryAt t j .class)) → find (entryAt t i ∷ rows (entryAt t) k (suc i)) r ≡ some (entryAt t j .class)
+
+    go : (i ≡ j) ⊎ (i < j) → (i < j → find (rows (entryAt t) k (suc i)) r ≡ some (entryAt t j .class))
+        → find (entryAt t i ∷ rows (entryAt t) k (suc i)) r ≡ some (entryAt t j .class)
     go (inl q) g = rw (here q, find) (ap (λ (x : ℕ). some (entryAt t x .class)) q)
     go (inr m) g = rw (not-same (entryAt t i .request) r (f i (omega arith) m), find) (g m)

@@ -1,18 +1,17 @@
 -- Posting: when a constraint is there already, and what is written where one is added.
-use mathlib.Core.Path.{_≡_, refl, sym, ap, _∙_}
+use mathlib.Core.Path.{_≡_, refl}
 use mathlib.Core.Bool.{Bool, true, false, _&&_, _||_}
 use mathlib.Core.List.{List, [], _∷_, _++_}
-use Prim.Native.Nat.{ℕ, zero, suc, _+_, _*_, _-_, _<_, _≤_}
-use native.Mathlib.Nat.{add-zero}
+use Prim.Native.Nat.{ℕ, _+_, _*_}
 use native.Mathlib.Omega.{arith}
-use lib.ListN.{length, getD, set}
+use lib.ListN.{length, getD}
 use lib.Dec.{eqb}
 use borrow.Author.Tests.{eq-eqb, ne-eqb}
 use Rattle.definition.specs.Lists.{any, rows, writeRows}
 use Rattle.definition.specs.Constraints.{Tie, Subtype, tieIs, newTie}
 use Rattle.definition.specs.Loading.{subtypeIs, subtypeOf, newSubtypes}
 use Rattle.definition.specs.Verifier.{Note}
-use Rattle.definition.specs.Tables.{tie, subtype, tieAt, putTie, subtypeAt, putSubtype, putThree}
+use Rattle.definition.specs.Tables.{tie, tieAt, putTie, subtypeAt, putSubtype, putThree}
 use Rattle.constraints.specs.Posting.{newTieIn, note, newSubtypesIn, tiesAfter, subtypesAfter}
 
 -- A row is the constraint
@@ -27,12 +26,13 @@ module _ (t : List ℕ) (i l m n : ℕ) where
   tie-straight h e = rw (eq-eqb (getD t (i * 3 + 2) 0) n h, e) refl
 
   pub tie-turned : getD t (i * 3 + 2) 0 ≡ n → (eqb (getD t (i * 3) 0) l && eqb (getD t (i * 3 + 1) 0) m) ≡ false
-    → tieIs l m n (tieAt t i) ≡ (eqb (getD t (i * 3) 0) m && eqb (getD t (i * 3 + 1) 0) l)
+      → tieIs l m n (tieAt t i) ≡ (eqb (getD t (i * 3) 0) m && eqb (getD t (i * 3 + 1) 0) l)
   unfolding tieIs tieAt
   tie-turned h e = rw (eq-eqb (getD t (i * 3 + 2) 0) n h, e) refl
 
 module _ (t : List ℕ) (i l a b : ℕ) where
-  pub subtype-low : (eqb (getD t (i * 3) 0) l && eqb (getD t (i * 3 + 1) 0) a) ≡ true → subtypeIs l (note a b) (subtypeAt t i) ≡ eqb (getD t (i * 3 + 2) 0) b
+  pub subtype-low : (eqb (getD t (i * 3) 0) l && eqb (getD t (i * 3 + 1) 0) a) ≡ true
+      → subtypeIs l (note a b) (subtypeAt t i) ≡ eqb (getD t (i * 3 + 2) 0) b
   unfolding subtypeIs subtypeAt
   subtype-low e = rw e refl
 
@@ -59,7 +59,8 @@ module _ (t : List ℕ) (c l m n r : ℕ) where
   unfolding newTieIn newTie
   tie-int e = tie-same (go (eqb l m) (eqb n 1) (eq-eqb n 1 e))
     where
-      go : (a b : Bool) → b ≡ true → _≡_ {A = List Tie} (elim (a || b || any (tieIs l m n) (rows (tieAt t) c 0)) as (λ _. List Tie) [ true ↦ [] | false ↦ tie l m n ∷ [] ]) []
+      go : (a b : Bool) → b ≡ true → _≡_ {A = List Tie}
+          (elim (a || b || any (tieIs l m n) (rows (tieAt t) c 0)) as (λ _. List Tie) [ true ↦ [] | false ↦ tie l m n ∷ [] ]) []
       go true b h = refl
       go false b h = rw h refl
 
@@ -72,11 +73,12 @@ module _ (t : List ℕ) (c l m n r : ℕ) where
       go false b h = rw h refl
 
   pub tie-new : (u : List ℕ) → (l ≡ m → ⊥) → (n ≡ 1 → ⊥) → any (tieIs l m n) (rows (tieAt t) c 0) ≡ false → r ≡ c → u ≡ putThree t c l m n
-    → (r + 1 ≡ c + length (newTieIn t c l m n)) × (u ≡ tiesAfter t c (newTieIn t c l m n))
+      → (r + 1 ≡ c + length (newTieIn t c l m n)) × (u ≡ tiesAfter t c (newTieIn t c l m n))
   unfolding newTieIn newTie tiesAfter writeRows putTie
   tie-new u p q e z w = rw (one (eqb l m) (eqb n 1) (any (tieIs l m n) (rows (tieAt t) c 0)) (ne-eqb l m p) (ne-eqb n 1 q) e) (omega arith, w)
     where
-      one : (a b d : Bool) → a ≡ false → b ≡ false → d ≡ false → _≡_ {A = List Tie} (elim (a || b || d) as (λ _. List Tie) [ true ↦ [] | false ↦ tie l m n ∷ [] ]) (tie l m n ∷ [])
+      one : (a b d : Bool) → a ≡ false → b ≡ false → d ≡ false
+          → _≡_ {A = List Tie} (elim (a || b || d) as (λ _. List Tie) [ true ↦ [] | false ↦ tie l m n ∷ [] ]) (tie l m n ∷ [])
       one a b d x y z = rw (x, y, z) refl
 
 -- A subtype constraint
@@ -95,11 +97,11 @@ module _ (t : List ℕ) (c l a b r : ℕ) where
   one = note a b ∷ []
 
   pub subtype-there : any (subtypeIs l (note a b)) (rows (subtypeAt t) c 0) ≡ true → r ≡ c
-    → (r ≡ c + length (newSubtypesIn t c l one)) × (t ≡ subtypesAfter t c (newSubtypesIn t c l one))
+      → (r ≡ c + length (newSubtypesIn t c l one)) × (t ≡ subtypesAfter t c (newSubtypesIn t c l one))
   unfolding newSubtypesIn newSubtypes subtypesAfter writeRows
   subtype-there e q = rw (note-there (rows (subtypeAt t) c 0) l (note a b) [] e) (omega arith, refl)
 
   pub subtype-new : (u : List ℕ) → any (subtypeIs l (note a b)) (rows (subtypeAt t) c 0) ≡ false → r ≡ c → u ≡ putThree t c l a b
-    → (r + 1 ≡ c + length (newSubtypesIn t c l one)) × (u ≡ subtypesAfter t c (newSubtypesIn t c l one))
+      → (r + 1 ≡ c + length (newSubtypesIn t c l one)) × (u ≡ subtypesAfter t c (newSubtypesIn t c l one))
   unfolding newSubtypesIn newSubtypes subtypesAfter writeRows putSubtype
   subtype-new u e q w = rw (note-new (rows (subtypeAt t) c 0) l (note a b) [] e) (omega arith, w)

@@ -1,6 +1,6 @@
 -- Chains carried from one naming of places to another: where the names of one are equal only if those of the other are, and each edge has
 -- its counterpart, what a place leads to is the same under both.
-use mathlib.Core.Path.{_≡_, refl, sym, ap, _∙_}
+use mathlib.Core.Path.{_≡_, refl, sym, _∙_}
 use mathlib.Core.Bool.{Bool, true, false}
 use mathlib.Core.List.{List, List·Memᴰ}
 use Prim.Native.Nat.{ℕ, _<_}
@@ -25,8 +25,7 @@ pub record Carried (U W : ℕ → Request) (n : ℕ) (F : List Edge) (e : Edge) 
   pub other : List·Memᴰ (record { from = W start; to = W end }) F
 
 module _ (U W : ℕ → Request) (n : ℕ) (E F : List Edge) (same : (p q : ℕ) → p < n → q < n → U p ≡ U q → W p ≡ W q)
-  (edge : (e : Edge) → List·Memᴰ e E → Carried U W n F e) where
-
+    (edge : (e : Edge) → List·Memᴰ e E → Carried U W n F e) where
   carry : (a : ℕ) → a < n → {x y : Request} → x ≡ U a → Chain E x y → Reached U W n F a y
   carry a h {x} {y} p (stay e) = record { place = a; fits = h; is = sym e ∙ p; chain = stay refl }
   carry a h {x} {y} p (hop {b} c m) =
@@ -48,9 +47,9 @@ same-truth false true f g = g refl
 same-truth false false f g = refl
 
 pub leads-same : (U W : ℕ → Request) (n : ℕ) (E F : List Edge)
-  → ((p q : ℕ) → p < n → q < n → U p ≡ U q → W p ≡ W q) → ((e : Edge) → List·Memᴰ e E → Carried U W n F e)
-  → ((p q : ℕ) → p < n → q < n → W p ≡ W q → U p ≡ U q) → ((e : Edge) → List·Memᴰ e F → Carried W U n E e)
-  → (a b : ℕ) → a < n → b < n → leads E (U a) (U b) ≡ leads F (W a) (W b)
+    → ((p q : ℕ) → p < n → q < n → U p ≡ U q → W p ≡ W q) → ((e : Edge) → List·Memᴰ e E → Carried U W n F e)
+    → ((p q : ℕ) → p < n → q < n → W p ≡ W q → U p ≡ U q) → ((e : Edge) → List·Memᴰ e F → Carried W U n E e)
+    → (a b : ℕ) → a < n → b < n → leads E (U a) (U b) ≡ leads F (W a) (W b)
 leads-same U W n E F s e t f a b h k =
     same-truth (leads E (U a) (U b)) (leads F (W a) (W b))
     (λ q. chain-leads F (W a) (W b) (carried U W n E F s e a b h k (leads-chain E (U a) (U b) q)))

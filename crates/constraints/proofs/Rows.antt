@@ -1,7 +1,7 @@
 -- What stands in rows, and tests of rows.
-use mathlib.Core.Path.{_≡_, refl, sym, ap, _∙_}
+use mathlib.Core.Path.{_≡_, refl, sym, ap}
 use mathlib.Core.Bool.{Bool, true, false}
-use mathlib.Core.List.{List, [], _∷_, List·Memᴰ, List·Memᴰ·head, List·Memᴰ·tail, List·Memᴰ·not-nil}
+use mathlib.Core.List.{_∷_, List·Memᴰ, List·Memᴰ·head, List·Memᴰ·tail, List·Memᴰ·not-nil}
 use mathlib.Core.Logic.{_⊎_, inl, inr}
 use Prim.Native.Nat.{ℕ, zero, suc, _+_, _-_, _<_, _≤_}
 use native.Mathlib.Nat.{eq-or-lt-of-le}
@@ -35,13 +35,15 @@ module _ {A : Type 0} (g : ℕ → A) where
 
 -- a test of each row may be made of another list of rows, place by place
 pub all-same : {A B : Type 0} (f : A → Bool) (g : ℕ → A) (p : B → Bool) (h : ℕ → B) (k i : ℕ) → ((j : ℕ) → i ≤ j → j < i + k → f (g j) ≡ p (h j))
-  → all f (rows g k i) ≡ all p (rows h k i)
+    → all f (rows g k i) ≡ all p (rows h k i)
 unfolding rows all
 all-same f g p h zero i e = refl
-all-same f g p h (suc k) i e = rw (e i (omega arith) (omega arith)) (go (p (h i)) (all-same f g p h k (suc i) (λ j l m. e j (omega arith) (omega arith))))
+all-same f g p h (suc k) i e = rw (e i (omega arith) (omega arith))
+    (go (p (h i)) (all-same f g p h k (suc i) (λ j l m. e j (omega arith) (omega arith))))
   where
     go : (t : Bool) → all f (rows g k (suc i)) ≡ all p (rows h k (suc i))
-      → _≡_ {A = Bool} (elim t as (λ _. Bool) [ true ↦ all f (rows g k (suc i)) | false ↦ false ]) (elim t as (λ _. Bool) [ true ↦ all p (rows h k (suc i)) | false ↦ false ])
+        → _≡_ {A = Bool} (elim t as (λ _. Bool) [ true ↦ all f (rows g k (suc i)) | false ↦ false ])
+        (elim t as (λ _. Bool) [ true ↦ all p (rows h k (suc i)) | false ↦ false ])
     go true r = r
     go false r = refl
 

@@ -1,7 +1,7 @@
 -- The search: a node is marked and queued once; the links that start at a node are visited one after the other; and once each queued node's
 -- links were visited, the marks hold the start, hold only what it leads to and are closed, so they decide what it leads to.
 use mathlib.Core.Path.{_≡_, refl, sym, ap, _∙_}
-use mathlib.Core.Bool.{Bool, true, false, false≢true}
+use mathlib.Core.Bool.{Bool, true, false}
 use mathlib.Core.Option.{Option}
 use mathlib.Core.List.{List, [], _∷_, List·Memᴰ}
 use mathlib.Core.Logic.{_⊎_, inl, inr}
@@ -14,9 +14,9 @@ use lib.Dec.{eqb, ltb}
 use borrow.Author.Tests.{eqb-true, eqb-false, eq-eqb, ne-eqb, ltb-true, ltb-false}
 use Rattle.definition.specs.Requests.{Request, at, Edge, Chain, stay, hop, leads}
 use Rattle.laws.specs.Chains.{leads-chain, chain-leads}
-use Rattle.constraints.specs.Nodes.{startOf, endOf, linkOf, linksFrom, leadsFrom, pairIs, pairOn}
+use Rattle.constraints.specs.Nodes.{startOf, endOf, linkOf, linksFrom, leadsFrom, pairMarked, pairOn}
 use Rattle.constraints.specs.Search.{Last, marked, Marked, Queued, Grown, Visited, Link, Expanded, Searched}
-use Rattle.constraints.proofs.Rows.{Place, in-rows, rows-in}
+use Rattle.constraints.proofs.Rows.{in-rows, rows-in}
 use Rattle.constraints.proofs.Renaming.{same-truth}
 use Rattle.constraints.proofs.Edges.{edge, edge-at}
 
@@ -38,7 +38,8 @@ marked-set (x ∷ xs) zero h n = rw (ne-eqb x 1 n, marked) refl
 marked-set (x ∷ xs) (suc i) h n = go (eqb x 1) (marked-set xs i (omega arith) n)
   where
     go : (t : Bool) → marked (set xs i 1) ≡ suc (marked xs)
-      → _≡_ {A = ℕ} (elim t as (λ _. ℕ) [ true ↦ suc (marked (set xs i 1)) | false ↦ marked (set xs i 1) ]) (suc (elim t as (λ _. ℕ) [ true ↦ suc (marked xs) | false ↦ marked xs ]))
+        → _≡_ {A = ℕ} (elim t as (λ _. ℕ) [ true ↦ suc (marked (set xs i 1)) | false ↦ marked (set xs i 1) ])
+        (suc (elim t as (λ _. ℕ) [ true ↦ suc (marked xs) | false ↦ marked xs ]))
     go true e = ap suc e
     go false e = e
 
@@ -116,9 +117,11 @@ module _ (x : ℕ) (marks queue : List ℕ) (tail : ℕ) (s : Queued marks queue
       where
         below : (p : ℕ) → p < tail + 1 → p ≤ tail
         below p l = omega arith
+
         one : (p : ℕ) → (p ≡ tail) ⊎ (p < tail) → Marked (set marks x 1) (getD (set queue tail x) p 0)
         one p (inl e) = rw (e, queue-end) (getD-set-same marks x 1 0 long)
         one p (inr l) = rw (queue-at p l) (keep-mark marks x (getD queue p 0) long (s .isMarked p l))
+
         two : (y : ℕ) → Marked marks y ⊎ (y ≡ x) → (p : ℕ) × (p < tail + 1) × (getD (set queue tail x) p 0 ≡ y)
         two y (inl m) = let r = s .isQueued y m in (r .0, omega (arith, r .1), queue-at (r .0) (r .1) ∙ r .2)
         two y (inr e) = (tail, omega arith, queue-end ∙ sym e)
@@ -133,7 +136,8 @@ queue-low {marks} {queue} s p h = rw (s .marksLong) at (mark-low marks (getD que
 -- nothing is marked yet
 pub none-marked : (x : ℕ) → Marked (replicate 1792 0) x → ⊥
 none-marked x m =
-    let z : _≡_ {A = ℕ} 0 1 = sym (getD-replicate {A = ℕ} 1792 x 0 0 (omega (arith, mark-low (replicate 1792 0) x m, length-replicate {A = ℕ} 1792 0))) ∙ m in
+    let z : _≡_ {A = ℕ} 0 1 = sym (getD-replicate {A = ℕ} 1792 x 0 0
+    (omega (arith, mark-low (replicate 1792 0) x m, length-replicate {A = ℕ} 1792 0))) ∙ m in
     omega arith
 
 pub queued-none : Queued (replicate 1792 0) (replicate 1792 0) 0
@@ -148,7 +152,8 @@ queued-none = record {
 -- Visiting the ends of a node's links, the last link first
 
 -- the links from number f on were visited; f is 0, or one more than a link that starts at x
-pub record Expanding (nodes : List ℕ) (cached links base x f : ℕ) (marks queue : List ℕ) (tail : ℕ) (marks′ queue′ : List ℕ) (tail′ : ℕ) : Type 0 where
+pub record Expanding (nodes : List ℕ) (cached links base x f : ℕ) (marks queue : List ℕ) (tail : ℕ) (marks′ queue′ : List ℕ) (tail′ : ℕ)
+    : Type 0 where
   pub high : f ≤ links
   pub here : (e : ℕ) → f ≡ suc e → startOf nodes cached e ≡ x
   pub queued : Queued marks′ queue′ tail′
@@ -158,7 +163,7 @@ pub record Expanding (nodes : List ℕ) (cached links base x f : ℕ) (marks que
 
 module _ (nodes : List ℕ) (cached links base x : ℕ) where
   pub expanding-none : {f : ℕ} {marks queue : List ℕ} {tail : ℕ} → Last nodes cached x links f → Queued marks queue tail
-    → Expanding nodes cached links base x f marks queue tail marks queue tail
+      → Expanding nodes cached links base x f marks queue tail marks queue tail
   expanding-none {f} last s = record {
     high = last .high;
     here = last .here;
@@ -169,8 +174,8 @@ module _ (nodes : List ℕ) (cached links base x : ℕ) where
   }
 
   pub expanding-one : {f e g : ℕ} {m q m′ q′ m″ q″ : List ℕ} {t t′ t″ : ℕ} → f ≡ suc e → base ≤ e → Last nodes cached (startOf nodes cached e) e g
-    → Expanding nodes cached links base x f m q t m′ q′ t′ → Visited (endOf nodes cached links e) m′ q′ t′ m″ q″ t″
-    → Expanding nodes cached links base x g m q t m″ q″ t″
+      → Expanding nodes cached links base x f m q t m′ q′ t′ → Visited (endOf nodes cached links e) m′ q′ t′ m″ q″ t″
+      → Expanding nodes cached links base x g m q t m″ q″ t″
   expanding-one {f} {e} {g} {m} {q} {m′} {q′} {m″} {q″} i b last s v = record {
     high = omega (arith, last .high, s .high);
     here = λ d k. last .here d k ∙ start;
@@ -182,18 +187,22 @@ module _ (nodes : List ℕ) (cached links base x : ℕ) where
     where
       start : startOf nodes cached e ≡ x
       start = s .here e i
+
       between : (k : ℕ) → (ltb k e ≡ false) → (ltb e k ≡ false) → k ≡ e
       between k p r = omega (arith, ltb-false k e p, ltb-false e k r)
-      later : (y : ℕ) (l : Link nodes cached links base x y) (a : Bool) → ltb (l .number) e ≡ a → (c : Bool) → ltb e (l .number) ≡ c → g ≤ l .number → Marked m″ y
+
+      later : (y : ℕ) (l : Link nodes cached links base x y) (a : Bool) → ltb (l .number) e ≡ a → (c : Bool) → ltb e (l .number) ≡ c
+          → g ≤ l .number → Marked m″ y
       later y l true p c r h = absurd (last .none (l .number) h (ltb-true (l .number) e p) (l .start ∙ sym start))
       later y l false p true r h = v .grown .still y (s .all y l (omega (arith, ltb-true e (l .number) r)))
       later y l false p false r h = rw (sym (l .end), between (l .number) p r) (v .it)
+
       new : (y : ℕ) → Marked m′ y ⊎ (y ≡ endOf nodes cached links e) → Marked m y ⊎ Link nodes cached links base x y
       new y (inl k) = s .only y k
       new y (inr k) = inr (record { number = e; low = b; high = omega (arith, s .high); start = start; end = sym k })
 
   pub expanding-all : {f : ℕ} {m q m′ q′ : List ℕ} {t t′ : ℕ} → f ≤ base → Expanding nodes cached links base x f m q t m′ q′ t′
-    → Expanded nodes cached links base x m q t m′ q′ t′
+      → Expanded nodes cached links base x m q t m′ q′ t′
   expanding-all h s = record {
     queued = s .queued;
     grown = s .grown;
@@ -220,7 +229,8 @@ module _ (nodes : List ℕ) (n links base a : ℕ) where
       edge-at (ap (λ (z : ℕ). at 0 z) (sym (l .start))) (ap (λ (z : ℕ). at 0 z) (sym (l .end)))
       (in-rows (linkOf nodes n links) (links - base) base (l .number) (l .low) (omega (arith, l .low, l .high)))
 
-  pub searching-start : {m q m′ q′ : List ℕ} {t t′ : ℕ} → ((x : ℕ) → Marked m x → ⊥) → Visited a m q t m′ q′ t′ → Searching nodes n links base a 0 m′ q′ t′
+  pub searching-start : {m q m′ q′ : List ℕ} {t t′ : ℕ} → ((x : ℕ) → Marked m x → ⊥) → Visited a m q t m′ q′ t′
+      → Searching nodes n links base a 0 m′ q′ t′
   searching-start {m} none v = record {
     high = omega arith;
     queued = v .queued;
@@ -234,7 +244,7 @@ module _ (nodes : List ℕ) (n links base a : ℕ) where
       first y (inr e) = stay (ap (λ (z : ℕ). at 0 z) (sym e))
 
   pub searching-one : {d : ℕ} {m q m′ q′ : List ℕ} {t t′ : ℕ} → d < t → Searching nodes n links base a d m q t
-    → Expanded nodes n links base (getD q d 0) m q t m′ q′ t′ → Searching nodes n links base a (d + 1) m′ q′ t′
+      → Expanded nodes n links base (getD q d 0) m q t m′ q′ t′ → Searching nodes n links base a (d + 1) m′ q′ t′
   searching-one {d} {m} {q} {m′} {q′} {t} {t′} h s v = record {
     high = omega (arith, v .grown .more);
     queued = v .queued;
@@ -245,9 +255,11 @@ module _ (nodes : List ℕ) (n links base a : ℕ) where
     where
       low : (p : ℕ) → p < d + 1 → p ≤ d
       low p l = omega arith
+
       new : (y : ℕ) → Marked m y ⊎ Link nodes n links base (getD q d 0) y → Led y
       new y (inl k) = s .sound y k
       new y (inr l) = hop (s .sound (getD q d 0) (s .queued .isMarked d h)) (link-edge (getD q d 0) y l)
+
       old : (p y : ℕ) → (p ≡ d) ⊎ (p < d) → Link nodes n links base (getD q p 0) y → Marked m′ y
       old p y (inl e) l = v .all y (rw e at l)
       old p y (inr k) l = v .grown .still y (s .closed p k y l)
@@ -265,7 +277,7 @@ module _ (nodes : List ℕ) (n links base a : ℕ) where
         let p = rows-in (linkOf nodes n links) (links - base) base (edge b z) m in
         let x : startOf nodes n (p .number) ≡ r .0 = ap (λ (k : Request). k .name) (sym (ap (λ (k : Edge). k .from) (p .is)) ∙ r .1) in
         let l : Link nodes n links base (r .0) (endOf nodes n links (p .number)) =
-          record { number = p .number; low = p .low; high = omega (arith, p .low, p .high); start = x; end = refl } in
+        record { number = p .number; low = p .low; high = omega (arith, p .low, p .high); start = x; end = refl } in
         (endOf nodes n links (p .number), ap (λ (k : Edge). k .to) (p .is), all-closed (r .0) (endOf nodes n links (p .number)) (r .2) l)
 
     pub searched : Searched nodes n links base a marks
@@ -279,8 +291,7 @@ module _ (nodes : List ℕ) (n links base a : ℕ) where
 
 -- a pair, by the marks of the searches from the first
 pub pair-marks : (sup : ℕ → Option ℕ) (nodes classes : List ℕ) (n links noted a b s : ℕ) (tied led : List ℕ) → s ≡ getD nodes a 0
-  → Searched nodes n links noted s tied → Searched nodes n links 0 s led
-  → pairIs sup (eqb (getD tied (getD nodes b 0) 0) 1) (eqb (getD led (getD nodes b 0) 0) 1) (getD classes a 0) (getD classes b 0)
-    ≡ pairOn sup nodes classes n links noted a b
-unfolding pairOn
+    → Searched nodes n links noted s tied → Searched nodes n links 0 s led
+    → pairMarked sup nodes classes tied led a b ≡ pairOn sup nodes classes n links noted a b
+unfolding pairMarked pairOn
 pair-marks sup nodes classes n links noted a b s tied led e p q = rw (p (getD nodes b 0), q (getD nodes b 0), e) refl

@@ -1,15 +1,15 @@
 -- The walk upward through a table of direct superclasses.
-use mathlib.Core.Path.{_≡_, refl, sym, ap, _∙_}
+use mathlib.Core.Path.{_≡_, refl, sym, _∙_}
 use mathlib.Core.Bool.{Bool, true, false}
 use mathlib.Core.Option.{Option, none, some, Option·none-ne-some, Option·some-injective}
 use mathlib.Core.List.{List}
-use Prim.Native.Nat.{ℕ, zero, suc, _+_, _-_, _<_, _≤_}
+use Prim.Native.Nat.{ℕ, zero, suc, _-_, _<_, _≤_}
 use native.Mathlib.Omega.{arith}
 use lib.ListN.{getD}
 use lib.Dec.{eqb, ltb}
 use borrow.Author.Tests.{eq-eqb, ne-eqb, ltb-true, lt-ltb, le-ltb}
 use Rattle.definition.specs.Classes.{lower}
-use Rattle.definition.specs.Superclasses.{Falls, below, nearest}
+use Rattle.definition.specs.Superclasses.{Falls, below}
 use Rattle.laws.specs.Upward.{nearest-here, nearest-up, nearest-none}
 use Rattle.constraints.specs.Agreement.{superIn}
 

@@ -1,6 +1,6 @@
 -- What agreement is tested of: tables of rows, as many as a count says and at most 256, and direct superclasses by a table.
 use mathlib.Core.Bool.{Bool, true, false}
-use mathlib.Core.Option.{Option, none, some}
+use mathlib.Core.Option.{Option, none}
 use mathlib.Core.List.{List, _++_}
 use Prim.Native.Nat.{ℕ, zero, suc}
 use lib.ListN.{getD}

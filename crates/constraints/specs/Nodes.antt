@@ -90,10 +90,16 @@ leadsFrom nodes cached links base a b = leads (linksFrom nodes cached links base
 unfoldable pub pairIs : (ℕ → Option ℕ) → Bool → Bool → ℕ → ℕ → Bool
 pairIs sup tied led c d = elim tied [ true ↦ eqb c d | false ↦ elim led [ true ↦ below sup c d | false ↦ true ] ]
 
+-- the pair of places a and b, by marks of what a is tied to and of what it leads to
+unfoldable pub pairMarked : (ℕ → Option ℕ) → List ℕ → List ℕ → List ℕ → List ℕ → ℕ → ℕ → Bool
+pairMarked sup nodes classes tied led a b =
+    pairIs sup (eqb (getD tied (getD nodes b 0) 0) 1) (eqb (getD led (getD nodes b 0) 0) 1) (getD classes a 0) (getD classes b 0)
+
 -- the pair of places a and b
 unfoldable pub pairOn : (ℕ → Option ℕ) → List ℕ → List ℕ → ℕ → ℕ → ℕ → ℕ → ℕ → Bool
 pairOn sup nodes classes cached links noted a b =
-    pairIs sup (leadsFrom nodes cached links noted (getD nodes a 0) (getD nodes b 0)) (leadsFrom nodes cached links 0 (getD nodes a 0) (getD nodes b 0))
+    pairIs sup (leadsFrom nodes cached links noted (getD nodes a 0) (getD nodes b 0))
+    (leadsFrom nodes cached links 0 (getD nodes a 0) (getD nodes b 0))
     (getD classes a 0) (getD classes b 0)
 
 -- all pairs of cached requests; the links from `noted` on are ties

@@ -1,6 +1,6 @@
 -- What posting writes: the new rows behind those that a table has, and the new count.
 use mathlib.Core.Bool.{Bool, true, false, _&&_}
-use mathlib.Core.List.{List, [], _∷_}
+use mathlib.Core.List.{List}
 use Prim.Native.Nat.{ℕ, _+_, _*_, _-_}
 use lib.ListN.{length, getD, take}
 use lib.Dec.{leb}
@@ -26,6 +26,10 @@ noteAt t i = note (getD t (i * 2) 0) (getD t (i * 2 + 1) 0)
 -- the subtype constraints that notes add to the first rows of a table
 unfoldable pub newSubtypesIn : List ℕ → ℕ → ℕ → List Note → List Subtype
 newSubtypesIn t count loader notes = newSubtypes (rows (subtypeAt t) count 0) loader notes
+
+-- those that a table of notes adds
+abbrev pub newNotesIn : List ℕ → ℕ → ℕ → List ℕ → ℕ → List Subtype
+newNotesIn t count loader notes n = newSubtypesIn t count loader (rows (noteAt notes) n 0)
 
 -- the rows behind the first ones
 unfoldable pub tiesAfter : List ℕ → ℕ → List Tie → List ℕ

@@ -1,7 +1,7 @@
 // Posting ties and subtype constraints, and the test of agreement.
 ghost use mathlib.Core.Path.{_≡_};
 ghost use Prim.Native.Nat.{ℕ, _+_, _*_, _<_, _≤_};
-ghost use lib.ListN.{length, getD, set};
+ghost use lib.ListN.{length, getD};
 ghost use lib.Dec.{eqb};
 ghost use mathlib.Core.Bool.{_&&_};
 ghost use mathlib.Core.List.{[], _∷_};
@@ -12,15 +12,14 @@ ghost use Rattle.definition.specs.Tables.{tieAt, subtypeAt, putThree};
 ghost use Rattle.definition.specs.Requests.{at};
 ghost use Rattle.definition.specs.Superclasses.{below};
 ghost use Rattle.constraints.specs.Agreement.{atMost, superIn, agreeIn};
-ghost use Rattle.constraints.specs.Nodes.{requestOf, requestIn, Numbered, EndsNumbered, AllNumbered, First, NodesOf, ClassesOf, pairIs, pairOn, agreeOn};
-ghost use Rattle.constraints.specs.Posting.{newTieIn, newSubtypesIn, noteAt, note, tiesAfter, subtypesAfter, roomy, counted, notesPosted};
+ghost use Rattle.constraints.specs.Nodes.{requestOf, requestIn, Numbered, EndsNumbered, AllNumbered, First, NodesOf, ClassesOf, pairIs, pairMarked, agreeOn};
+ghost use Rattle.constraints.specs.Posting.{newTieIn, newSubtypesIn, newNotesIn, note, tiesAfter, subtypesAfter, roomy, counted, notesPosted};
 ghost use Rattle.constraints.specs.Search.{Joined, Small, Queued, Visited, Expanded, Searched};
-
 use cells::at8;
+use cells::at16;
 use cells::from8;
 use cells::from16;
 use cells::put16;
-use cells::at16;
 use cells::wide8;
 use cells::wide16;
 
@@ -56,7 +55,14 @@ fn row_number(t: &[u16], loader: usize, name: usize, i: usize) -> usize
 }
 
 // The numbers of the first `count` rows of a table, written from a place on.
-fn number_rows(t: &[u16], loader: usize, name: usize, count: usize, numbers: &mut [usize], from: usize)
+fn number_rows(
+    t: &[u16],
+    loader: usize,
+    name: usize,
+    count: usize,
+    numbers: &mut [usize],
+    from: usize,
+)
     requires { ⌜ (loader < 3) × (name < 3) × (count ≤ 256) × (from + count ≤ length (now numbers)) ⌝ }
     ensures { λ _. ⌜ Numbered (now (t .entry)) loader name count (now (numbers .entry)) (now (numbers .exit)) from ⌝ }
 {
@@ -67,8 +73,19 @@ fn number_rows(t: &[u16], loader: usize, name: usize, count: usize, numbers: &mu
     }
 }
 
-// The numbers at one end of each link: of subtype constraints, of ties, and of ties turned round.
-fn number_ends(ties: &[u16], tied: usize, subtypes: &[u16], noted: usize, name: usize, near: usize, far: usize, numbers: &mut [usize], from: usize)
+// The numbers at one end of each link, of subtype constraints, of ties, and of ties turned round: of subtype constraints the name in cell
+// `name`, of ties the loader in cell `near`, of ties turned round that in cell `far`.
+fn number_ends(
+    ties: &[u16],
+    tied: usize,
+    subtypes: &[u16],
+    noted: usize,
+    name: usize,
+    near: usize,
+    far: usize,
+    numbers: &mut [usize],
+    from: usize,
+)
     requires { ⌜ (tied ≤ 256) × (noted ≤ 256) × (name < 3) × (near < 3) × (far < 3) × (from + noted + tied + tied ≤ length (now numbers)) ⌝ }
     ensures { λ _. ⌜ EndsNumbered (now (ties .entry)) tied (now (subtypes .entry)) noted name near far (now (numbers .entry)) (now (numbers .exit)) from ⌝ }
 {
@@ -77,14 +94,34 @@ fn number_ends(ties: &[u16], tied: usize, subtypes: &[u16], noted: usize, name: 
     number_rows(ties, far, 2, tied, numbers, from + noted + tied);
 }
 
-// The numbers of all places: the cached requests, where links start, and where they end.
-fn number_places(cache: &[u16], cached: usize, ties: &[u16], tied: usize, subtypes: &[u16], noted: usize, numbers: &mut [usize])
+// The numbers of all places: the cached requests, where links start, and where they end. A subtype constraint leads from its lower name,
+// in cell 1, to its higher, in cell 2; a tie from its one loader, in cell 0, to its other, in cell 1, and back.
+fn number_places(
+    cache: &[u16],
+    cached: usize,
+    ties: &[u16],
+    tied: usize,
+    subtypes: &[u16],
+    noted: usize,
+    numbers: &mut [usize],
+)
     requires { ⌜ (cached ≤ 256) × (tied ≤ 256) × (noted ≤ 256) × (length (now numbers) ≡ 1792) ⌝ }
     ensures { λ _. ⌜ AllNumbered (now (cache .entry)) cached (now (ties .entry)) tied (now (subtypes .entry)) noted (now (numbers .exit)) ⌝ }
 {
+    let links = noted + tied + tied;
     number_rows(cache, 0, 1, cached, numbers, 0);
     number_ends(ties, tied, subtypes, noted, 1, 0, 1, numbers, cached);
-    number_ends(ties, tied, subtypes, noted, 2, 1, 0, numbers, cached + (noted + tied + tied));
+    number_ends(
+        ties,
+        tied,
+        subtypes,
+        noted,
+        2,
+        1,
+        0,
+        numbers,
+        cached + links,
+    );
 }
 
 // Nodes.
@@ -135,8 +172,9 @@ fn list_classes(cache: &[u16], nodes: &[usize], cached: usize, classes: &mut [us
     }
 }
 
-// Links, each joined to the last before it that starts at the same node.
+// Links.
 
+// Joins each link to the last before it that starts at the same node.
 fn join(nodes: &[usize], cached: usize, links: usize, heads: &mut [usize], nexts: &mut [usize])
     requires { ⌜ Small (now nodes) cached links × Joined (now nodes) cached 0 (now heads) (now nexts) ⌝ }
     ensures { λ _. ⌜ Joined (now (nodes .entry)) cached links (now (heads .exit)) (now (nexts .exit)) ⌝ }
@@ -166,7 +204,18 @@ fn visit(node: usize, marks: &mut [u8], queue: &mut [usize], tail: usize) -> usi
 }
 
 // Visits the end of each link from number `base` on that starts at a node.
-fn expand(nodes: &[usize], cached: usize, links: usize, heads: &[usize], nexts: &[usize], base: usize, node: usize, marks: &mut [u8], queue: &mut [usize], tail: usize) -> usize
+fn expand(
+    nodes: &[usize],
+    cached: usize,
+    links: usize,
+    heads: &[usize],
+    nexts: &[usize],
+    base: usize,
+    node: usize,
+    marks: &mut [u8],
+    queue: &mut [usize],
+    tail: usize,
+) -> usize
     requires { ⌜ (node < 1792) × Small (now nodes) cached links × Joined (now nodes) cached links (now heads) (now nexts) × Queued (now marks) (now queue) tail ⌝ }
     ensures { λ r. ⌜ Expanded (now (nodes .entry)) cached links base node (now (marks .entry)) (now (queue .entry)) tail (now (marks .exit)) (now (queue .exit)) r ⌝ }
 {
@@ -181,7 +230,15 @@ fn expand(nodes: &[usize], cached: usize, links: usize, heads: &[usize], nexts: 
 }
 
 // The marks of what a node leads to, by links from number `base` on.
-fn search(nodes: &[usize], cached: usize, links: usize, heads: &[usize], nexts: &[usize], base: usize, start: usize) -> [u8; 1792]
+fn search(
+    nodes: &[usize],
+    cached: usize,
+    links: usize,
+    heads: &[usize],
+    nexts: &[usize],
+    base: usize,
+    start: usize,
+) -> [u8; 1792]
     requires { ⌜ (start < 1792) × Small (now nodes) cached links × Joined (now nodes) cached links (now heads) (now nexts) ⌝ }
     ensures { λ r. ⌜ Searched (now (nodes .entry)) cached links base start r ⌝ }
 {
@@ -191,7 +248,18 @@ fn search(nodes: &[usize], cached: usize, links: usize, heads: &[usize], nexts: 
     let mut done = 0;
     while done < tail {
         let node = queue[done];
-        tail = expand(nodes, cached, links, heads, nexts, base, node, &mut marks, &mut queue, tail);
+        tail = expand(
+            nodes,
+            cached,
+            links,
+            heads,
+            nexts,
+            base,
+            node,
+            &mut marks,
+            &mut queue,
+            tail,
+        );
         done += 1;
     }
     marks
@@ -231,19 +299,41 @@ fn pair_agrees(supers: &[u8], tied: bool, led: bool, c: usize, d: usize) -> bool
 }
 
 // The pair of cached requests a and b, where the marks are those of what a is tied to and of what it leads to.
-fn marks_agree(supers: &[u8], nodes: &[usize], classes: &[usize], tied: &[u8], led: &[u8], a: usize, b: usize) -> bool
-    ensures {
-        λ r. ⌜ r ≡ pairIs (superIn (now (supers .entry))) (eqb (getD (now (tied .entry)) (getD (now (nodes .entry)) b 0) 0) 1) (eqb (getD (now (led .entry)) (getD (now (nodes .entry)) b 0) 0) 1) (getD (now (classes .entry)) a 0) (getD (now (classes .entry)) b 0) ⌝
-    }
+fn marks_agree(
+    supers: &[u8],
+    nodes: &[usize],
+    classes: &[usize],
+    tied: &[u8],
+    led: &[u8],
+    a: usize,
+    b: usize,
+) -> bool
+    ensures { λ r. ⌜ r ≡ pairMarked (superIn (now (supers .entry))) (now (nodes .entry)) (now (classes .entry)) (now (tied .entry)) (now (led .entry)) a b ⌝ }
 {
     let node = place(nodes, b);
     let is_tied = at8(tied, node) == 1;
     let is_led = at8(led, node) == 1;
-    pair_agrees(supers, is_tied, is_led, place(classes, a), place(classes, b))
+    pair_agrees(
+        supers,
+        is_tied,
+        is_led,
+        place(classes, a),
+        place(classes, b),
+    )
 }
 
-// Every pair of cached requests agrees: a's search is made once, and the first pair that does not agree ends the test.
-fn pairs_agree(supers: &[u8], nodes: &[usize], classes: &[usize], cached: usize, links: usize, noted: usize, heads: &[usize], nexts: &[usize]) -> bool
+// Every pair of cached requests agrees. What a request leads to is searched once; the first pair that does not agree ends the test. The
+// links from number `noted` on are ties.
+fn pairs_agree(
+    supers: &[u8],
+    nodes: &[usize],
+    classes: &[usize],
+    cached: usize,
+    links: usize,
+    noted: usize,
+    heads: &[usize],
+    nexts: &[usize],
+) -> bool
     requires { ⌜ Small (now nodes) cached links × Joined (now nodes) cached links (now heads) (now nexts) ⌝ }
     ensures { λ r. ⌜ r ≡ agreeOn (superIn (now (supers .entry))) (now (nodes .entry)) (now (classes .entry)) cached links noted ⌝ }
 {
@@ -267,10 +357,16 @@ fn pairs_agree(supers: &[u8], nodes: &[usize], classes: &[usize], cached: usize,
 }
 
 // The store of these tables agrees: tied cached requests mean one class, and where one leads to another, its class is the other's or below.
-pub fn agree(supers: &[u8], cache: &[u16], entries: u16, ties: &[u16], tie_count: u16, subtypes: &[u16], subtype_count: u16) -> bool
-    ensures {
-        λ r. ⌜ r ≡ agreeIn (now (supers .entry)) (now (cache .entry)) entries (now (ties .entry)) «tie_count» (now (subtypes .entry)) «subtype_count» ⌝
-    }
+pub fn agree(
+    supers: &[u8],
+    cache: &[u16],
+    entries: u16,
+    ties: &[u16],
+    tie_count: u16,
+    subtypes: &[u16],
+    subtype_count: u16,
+) -> bool
+    ensures { λ r. ⌜ r ≡ agreeIn (now (supers .entry)) (now (cache .entry)) entries (now (ties .entry)) «tie_count» (now (subtypes .entry)) «subtype_count» ⌝ }
 {
     let cached = at_most(entries);
     let tied = at_most(tie_count);
@@ -285,7 +381,16 @@ pub fn agree(supers: &[u8], cache: &[u16], entries: u16, ties: &[u16], tie_count
     let mut heads = [0usize; 1792];
     let mut nexts = [0usize; 768];
     join(&nodes, cached, links, &mut heads, &mut nexts);
-    pairs_agree(supers, &nodes, &classes, cached, links, noted, &heads, &nexts)
+    pairs_agree(
+        supers,
+        &nodes,
+        &classes,
+        cached,
+        links,
+        noted,
+        &heads,
+        &nexts,
+    )
 }
 
 // Posting.
@@ -370,7 +475,12 @@ fn subtype_is(subtypes: &[u16], i: usize, loader: u8, low: u16, high: u16) -> bo
     requires { ⌜ i < 65536 ⌝ }
     ensures { λ r. ⌜ r ≡ subtypeIs loader (note low high) (subtypeAt (now (subtypes .entry)) i) ⌝ }
 {
-    if are(at16(subtypes, i * 3), at16(subtypes, i * 3 + 1), from8(loader), low) {
+    if are(
+        at16(subtypes, i * 3),
+        at16(subtypes, i * 3 + 1),
+        from8(loader),
+        low,
+    ) {
         return at16(subtypes, i * 3 + 2) == high;
     }
     false
@@ -405,9 +515,15 @@ pub fn add_subtype(subtypes: &mut [u16], count: u16, loader: u8, low: u16, high:
 }
 
 // Adds the notes of a verifier, two cells each, as subtype constraints of a loader, those that are not there yet.
-pub fn add_subtypes(subtypes: &mut [u16], count: u16, loader: u8, notes: &[u16], note_count: u16) -> Added
-    ensures { λ r. ⌜ r ≡ counted (roomy (now (subtypes .entry))) (count + length (newSubtypesIn (now (subtypes .entry)) count loader (rows (noteAt (now (notes .entry))) «note_count» 0))) ⌝ }
-    ensures { λ _. ⌜ now (subtypes .exit) ≡ notesPosted (now (subtypes .entry)) count (newSubtypesIn (now (subtypes .entry)) count loader (rows (noteAt (now (notes .entry))) «note_count» 0)) ⌝ }
+pub fn add_subtypes(
+    subtypes: &mut [u16],
+    count: u16,
+    loader: u8,
+    notes: &[u16],
+    note_count: u16,
+) -> Added
+    ensures { λ r. ⌜ r ≡ counted (roomy (now (subtypes .entry))) (count + length (newNotesIn (now (subtypes .entry)) count loader (now (notes .entry)) «note_count»)) ⌝ }
+    ensures { λ _. ⌜ now (subtypes .exit) ≡ notesPosted (now (subtypes .entry)) count (newNotesIn (now (subtypes .entry)) count loader (now (notes .entry)) «note_count») ⌝ }
 {
     if subtypes.len() < 768 {
         return Added::Full;
@@ -419,7 +535,13 @@ pub fn add_subtypes(subtypes: &mut [u16], count: u16, loader: u8, notes: &[u16],
     let mut total = count;
     let mut i = 0;
     while i < n {
-        let next = add_subtype(subtypes, total, loader, at16(notes, i * 2), at16(notes, i * 2 + 1));
+        let next = add_subtype(
+            subtypes,
+            total,
+            loader,
+            at16(notes, i * 2),
+            at16(notes, i * 2 + 1),
+        );
         if 256 < next {
             return Added::Full;
         }

@@ -1,7 +1,7 @@
 -- Answers and refusals: this paper's number and values for each case, and calls as sequences of tests, the first that fails refusing.
 use mathlib.Core.Bool.{Bool, true, false}
 use mathlib.Core.Option.{Option, none, some}
-use Prim.Native.Nat.{ℕ, _+_, _-_}
+use Prim.Native.Nat.{ℕ, _-_}
 use lib.IntN.{ℤ, pos, negsuc}
 use lib.Dec.{ltb}
 use Rattle.definition.specs.Requests.{Request}
@@ -26,7 +26,7 @@ unfoldable pub number : Refusal → ℕ
 number (Wanted l n) = 5
 number (Word n) = n
 
--- the number of a step's answer and of a call's: 0 if it isn't refused; a run is judged by its last answer
+-- the number of a step's answer and of a call's: 0 if it isn't refused. A run that ends in a refused step is itself accepted.
 unfoldable pub numberOfStep : Answer → ℕ
 numberOfStep Idle = 0
 numberOfStep (Ran k) = 0
@@ -37,8 +37,23 @@ unfoldable pub numberOf : Reply → ℕ
 numberOf Accepted = 0
 numberOf (Defined c) = 0
 numberOf (Stepped a) = numberOfStep a
-numberOf (RanFor n a) = numberOfStep a
+numberOf (RanFor n a) = 0
 numberOf (Denied r) = number r
+
+-- the number that a run ends in, and the count of its steps that ran
+unfoldable pub endsIn : Reply → ℕ
+endsIn Accepted = 0
+endsIn (Defined c) = 0
+endsIn (Stepped a) = 0
+endsIn (RanFor n a) = numberOfStep a
+endsIn (Denied r) = 0
+
+unfoldable pub countOf : Reply → ℕ
+countOf Accepted = 0
+countOf (Defined c) = 0
+countOf (Stepped a) = 0
+countOf (RanFor n a) = n
+countOf (Denied r) = 0
 
 -- A printed line's numbers: the refusal's, then three details
 
@@ -63,7 +78,7 @@ stepDetails turn (Ran k) = line 0 (pos 1) (pos k) (pos 0)
 stepDetails turn (Finished k n) = line 0 (pos 2) (pos k) (signed n)
 stepDetails turn (Refused r) = refusalDetails turn r
 
--- a run's are those of its last answer; its count stands beside them
+-- a run's are those of its last answer; `countOf` gives its count
 unfoldable pub details : ℕ → Reply → Details
 details turn Accepted = line 0 (pos 0) (pos 0) (pos 0)
 details turn (Defined c) = line 0 (pos c) (pos 0) (pos 0)

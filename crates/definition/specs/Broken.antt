@@ -35,7 +35,7 @@ unfoldable pub classesFit : Base → List ℕ → List ClassRow → Bool
 classesFit b bs [] = true
 classesFit b bs (k ∷ ks) = every (isObject k ∷ allFrom (classFits b bs) 1 ks ∷ [])
 
--- a class, object or loader number that is unused or too large; n classes there are
+-- no class, object or loader number is unused or too large; n classes there are
 unfoldable pub entryFits : ℕ → Entry → Bool
 entryFits n e = every (ltb (e .request .loader) 16 ∷ ltb (e .class) n ∷ [])
 

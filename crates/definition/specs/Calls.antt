@@ -1,11 +1,11 @@
 -- The seven calls: on rows, then on tables.
 use mathlib.Core.Path.{_≡_}
-use mathlib.Core.Bool.{Bool, true, false, _&&_}
+use mathlib.Core.Bool.{true, false, _&&_}
 use mathlib.Core.Option.{Option, none, some}
 use mathlib.Core.List.{List, [], _∷_, _++_}
 use Prim.Native.Nat.{ℕ, zero, suc, _+_}
 use lib.ListN.{length}
-use lib.Dec.{eqb, leb, ltb}
+use lib.Dec.{leb, ltb}
 use Rattle.definition.specs.Requests.{at}
 use Rattle.definition.specs.Constraints.{World}
 use Rattle.definition.specs.Answers.{Refusal, Word, Answer, Idle, Ran, Finished, Refused, Reply, Accepted, Defined, Stepped, RanFor, Denied, Result, refused, ok, _>>=_, need, take?}
@@ -194,7 +194,7 @@ pub data Call : Type 0 where
   callRun : ℕ → Call
   callDrop : ℕ → Call
 
--- the words that each call may refuse with, first that applies; a run's last answer may be any of a step's
+-- the words that each call may refuse with, in the order in which the definitions above test them; a run's last answer may be any of a step's
 unfoldable pub stepRefusals : List ℕ
 stepRefusals = 1 ∷ 14 ∷ 5 ∷ 7 ∷ 10 ∷ 9 ∷ 11 ∷ []
 

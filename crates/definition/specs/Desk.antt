@@ -1,5 +1,5 @@
 -- The publishers' desk: the file and verifier checks of a byte range, for a number: 0, 2 or 6.
-use mathlib.Core.Option.{Option, none, some}
+use mathlib.Core.Option.{none, some}
 use mathlib.Core.List.{List}
 use Prim.Native.Nat.{ℕ}
 use Rattle.definition.specs.Verifier.{notesOf}

@@ -18,9 +18,9 @@ use Rattle.definition.specs.Answers.{refused, number, numberOfStep, numb
 use Rattle.definition.specs.OnRows.{settle, onRows, runRows, performRows, performAllRows}
 use Rattle.definition.specs.Samples.{two, method, fileOf, plain, fileF, taker, coded, lifts, pushes, ready, tied12, tied123}
 use Rattle.definition.specs.Maybe as Maybe
-use Rattle.definition.specs.Answers.{Refusal, Word, Reply, Denied}
-use Rattle.definition.specs.Tables.{Tables, Rows}
-use Rattle.definition.specs.Calls.{Done, bootRows, Call, callBoot, callDefine, callRecord, callStart, callStep, callRun}
+use Rattle.definition.specs.Answers.{Refusal, Denied}
+use Rattle.definition.specs.Tables.{Tables}
+use Rattle.definition.specs.Calls.{bootRows, Call, callDefine, callRecord, callStart}
 
 -- the numbers of the answers to the calls, from a boot
 unfoldable numbers : List Call → List ℕ

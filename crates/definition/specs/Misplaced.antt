@@ -2,16 +2,17 @@
 use mathlib.Core.Path.{_≡_}
 use mathlib.Core.Bool.{Bool, true, false}
 use mathlib.Core.Option.{Option, none, some}
-use mathlib.Core.List.{List, [], _∷_}
-use Prim.Native.Nat.{ℕ, zero, suc, _+_}
-use lib.ListN.{getElem?}
+use mathlib.Core.List.{List, [], _∷_, reverse}
+use Prim.Native.Nat.{ℕ, _+_}
+use lib.ListN.{length, getElem?}
+use lib.Dec.{ltb}
 use Rattle.definition.specs.Lists.{Each}
-use Rattle.definition.specs.Maybe.{_>>=_}
+use Rattle.definition.specs.Maybe.{_>>=_, need}
 use Rattle.definition.specs.Requests.{at}
 use Rattle.definition.specs.Superclasses.{Below, below}
-use Rattle.definition.specs.Classes.{Class, find, superOf, loaderOf, slots}
+use Rattle.definition.specs.Classes.{find, superOf, loaderOf, slots}
 use Rattle.definition.specs.Constraints.{World}
-use Rattle.definition.specs.Verifier.{VerifierType, typeInt, typeNull, typeClass, TypeState, typeOfName, typesIn}
+use Rattle.definition.specs.Verifier.{VerifierType, typeInt, typeNull, typeClass, typeOfName, typesIn}
 use Rattle.definition.specs.Machine.{Value, unsetValue, intValue, nullValue, objectValue, unlistedValue, Object, Frame, existing}
 use Rattle.definition.specs.Tables.{Tables, Rows, worldOf, view}
 
@@ -95,14 +96,15 @@ pub record FrameTypes : Type 0 where
 
 unfoldable pub typesOf : World → Bool → Frame → Option FrameTypes
 typesOf w waits f =
-    getElem? (w .base .classes) (f .class) >>= λ k. getElem? (k .methods) (f .method) >>= λ m. typesIn k m (f .point) >>= λ s.
+    getElem? (w .base .classes) (f .class) >>= λ k. getElem? (k .methods) (f .method) >>= λ m.
+    need (ltb (f .point) (length (m .code))) >>= λ _. typesIn k m (f .point) >>= λ s.
     waitingTypes waits (s .operands) >>= λ ts. some (record { loader = k .loader; operands = ts; locals = s .locals })
 
--- a frame that has no types counts 1
+-- a frame that has no types counts 1; operands are paired from the lowest
 unfoldable pub misplacedInFrame : World → List Object → Bool → Frame → ℕ
 misplacedInFrame w os waits f = elim (typesOf w waits f) [
   | none ↦ 1
-  | some x ↦ failures (placed w os (x .loader)) (x .operands) (f .operands) + failures (placedLocal w os (x .loader)) (x .locals) (f .locals)
+  | some x ↦ failures (placed w os (x .loader)) (reverse (x .operands)) (reverse (f .operands)) + failures (placedLocal w os (x .loader)) (x .locals) (f .locals)
 ]
 
 -- the top frame runs, those below wait

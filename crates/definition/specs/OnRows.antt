@@ -1,5 +1,5 @@
 -- The calls on rows alone: what the calls on tables answer and leave, whatever stands in the unused cells. Lists of calls are computed here.
-use mathlib.Core.Bool.{Bool, true, false, _&&_}
+use mathlib.Core.Bool.{true, false, _&&_}
 use mathlib.Core.List.{List, [], _∷_}
 use Prim.Native.Nat.{ℕ, zero, suc}
 use lib.Dec.{leb}

@@ -1,5 +1,5 @@
 -- boxscript: calls read off lines of bytes, and answers printed as lines.
-use mathlib.Core.Bool.{Bool, true, false, _&&_}
+use mathlib.Core.Bool.{true, false, _&&_}
 use mathlib.Core.Option.{Option, none, some}
 use mathlib.Core.List.{List, [], _∷_, _++_}
 use Prim.Native.Nat.{ℕ, zero, suc, _+_, _-_, _*_, _/_, _%_}
@@ -9,7 +9,7 @@ use lib.Dec.{eqb, leb, ltb}
 use Rattle.definition.specs.Maybe.{_>>=_, need}
 use Rattle.definition.specs.Answers.{Details, Reply, details}
 use Rattle.definition.specs.Tables.{Tables, view}
-use Rattle.definition.specs.Calls.{turn, Done, Call, callDefine, callRecord, callStart, callStep, callDrop, perform}
+use Rattle.definition.specs.Calls.{turn, Done, boot, Call, callDefine, callRecord, callStart, callStep, callDrop, perform}
 
 -- Numbers: one or more decimal digits, leading zeros allowed
 
@@ -89,13 +89,14 @@ command b (x ∷ y ∷ z ∷ u ∷ v ∷ []) =
     need (eqb b 83) >>= λ _. short x >>= λ k. short y >>= λ l. short z >>= λ n. short u >>= λ m. int v >>= λ i. line b (callStart k l n m i)
 command b (x ∷ y ∷ z ∷ u ∷ v ∷ w ∷ xs) = none
 
--- the first field is one letter; a line of more than 65,536 bytes can't be read
+-- the first field is one letter
 unfoldable pub commandOf : List (List ℕ) → Option Line
 commandOf [] = none
 commandOf ([] ∷ fs) = none
 commandOf ((b ∷ []) ∷ fs) = command b fs
 commandOf ((b ∷ c ∷ bs) ∷ fs) = none
 
+-- a line of more than 65,536 bytes is one it can't read
 unfoldable pub readLine : List ℕ → Option Line
 readLine bs = need (leb (length bs) 65536) >>= λ _. commandOf (fields bs)
 
@@ -132,3 +133,12 @@ carryOut bs t = readLine bs >>= λ l. some (turned (l .letter) t (perform (l .ca
 unfoldable pub script : List (List ℕ) → Tables → List ℕ
 script [] t = []
 script (l ∷ ls) t = elim (carryOut l t) [ none ↦ [] | some x ↦ x .output ++ script ls (x .tables) ]
+
+-- The whole program: the input's lines end at byte 10, a last one without it is read; boot, then the lines
+
+unfoldable pub linesOf : List ℕ → List (List ℕ)
+linesOf [] = []
+linesOf (b ∷ bs) = elim (eqb b 10) [ true ↦ [] ∷ linesOf bs | false ↦ grow b (linesOf bs) ]
+
+unfoldable pub boxscript : Tables → List ℕ → List ℕ
+boxscript zeros input = script (linesOf input) (boot zeros .tables)

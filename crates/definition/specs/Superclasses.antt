@@ -6,7 +6,7 @@ use mathlib.Core.Option.{Option, none, some}
 use Prim.Native.Nat.{ℕ, zero, suc, _<_}
 use lib.Dec.{eqb}
 
--- c is d, or lies below it
+-- `Below sup d c`: c is d, or lies below it
 pub data Below (sup : ℕ → Option ℕ) (d : ℕ) : ℕ → Type 0 where
   same : {c : ℕ} → c ≡ d → Below sup d c
   up : {c p : ℕ} → sup c ≡ some p → Below sup d p → Below sup d c
@@ -22,6 +22,6 @@ seek sup test (suc k) c = elim (test c) [ true ↦ some c | false ↦ elim (sup 
 unfoldable pub nearest : (ℕ → Option ℕ) → (ℕ → Bool) → ℕ → Option ℕ
 nearest sup test c = seek sup test (suc c) c
 
--- c is d or below it
+-- the same as a test, `below sup c d`: c is d or below it
 unfoldable pub below : (ℕ → Option ℕ) → ℕ → ℕ → Bool
 below sup c d = elim (nearest sup (λ x. eqb x d) c) [ none ↦ false | some _ ↦ true ]

@@ -1,5 +1,5 @@
 -- The store as lent tables: lengths, cells, and how the used rows are read and written. docs/STORE.md publishes this layout.
-use mathlib.Core.Bool.{Bool, true, false}
+use mathlib.Core.Bool.{Bool}
 use mathlib.Core.Option.{Option, none, some}
 use mathlib.Core.List.{List, [], _∷_, map}
 use Prim.Native.Nat.{ℕ, _+_, _*_}

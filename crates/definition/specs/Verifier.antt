@@ -7,7 +7,7 @@ use lib.ListN.{length, getElem?, set}
 use lib.Dec.{eqb, leb}
 use Rattle.definition.specs.Maybe.{_>>=_, need}
 use Rattle.definition.specs.Classes.{Class, Method}
-use Rattle.definition.specs.Instructions.{Instruction, AconstNull, Sipush, Iload, Aload, Istore, Astore, Pop, Dup, Iadd, Isub, Getfield, Putfield, Invokevirtual, New, Ireturn, Areturn, Decoded, decode}
+use Rattle.definition.specs.Instructions.{Instruction, AconstNull, Sipush, Iload, Aload, Istore, Astore, Pop, Dup, Iadd, Isub, Getfield, Putfield, Invokevirtual, New, Ireturn, Areturn, decode}
 
 -- int, null, or a class name
 pub data VerifierType : Type 0 where

@@ -1,19 +1,15 @@
 -- A store that has all that an earlier one has: what a load leaves.
-use mathlib.Core.Path.{_≡_, refl, sym, ap, _∙_}
-use mathlib.Core.Bool.{Bool, true, false, false≢true, true≢false}
-use mathlib.Core.Option.{Option, none, some, Option·some-ne-none, Option·none-ne-some, Option·some-injective}
-use mathlib.Core.List.{List, [], _∷_, _++_, List·Memᴰ, List·Memᴰ·head, List·Memᴰ·tail, List·Memᴰ·not-nil, Memᴰ·append-left, Memᴰ·append-right, List·Memᴰ·append-cases}
-use mathlib.Core.Logic.{_⊎_, inl, inr}
-use Prim.Native.Nat.{ℕ, zero, suc, _+_, _≤_, _<_}
+use mathlib.Core.Path.{_≡_, refl}
+use mathlib.Core.Option.{some, Option·none-ne-some}
+use mathlib.Core.List.{List, [], _∷_, _++_, List·Memᴰ, Memᴰ·append-left, Memᴰ·append-right, List·Memᴰ·append-cases}
+use mathlib.Core.Logic.{inl, inr}
+use Prim.Native.Nat.{ℕ, zero, suc, _+_, _<_}
 use native.Mathlib.Omega.{arith}
 use lib.ListN.{length, getElem?}
 use Rattle.definition.specs.Classes.{Class, Entry, find, superOf}
-use Rattle.definition.specs.Constraints.{Agrees, Subtype, Tie, World, edges, subtypeEdges, tieEdges}
-use Rattle.definition.specs.Requests.{Chain, Edge, Request, at, stay}
-use Rattle.definition.specs.Superclasses.{Below, Falls, nearest, same, up}
-use Rattle.laws.specs.Agreement.{find-more, is-super, nth-more, super-falls, super-is}
-use Rattle.laws.specs.Chains.{chain-join, chain-more, chain-turn, turned}
-use Rattle.laws.specs.Upward.{below-more, below-trans, nearest-below, nearest-finds, nearest-here, nearest-up}
+use Rattle.definition.specs.Constraints.{Subtype, Tie, World, edges, subtypeEdges, tieEdges}
+use Rattle.definition.specs.Requests.{Edge, Request, at}
+use Rattle.laws.specs.Agreement.{find-more, is-super, nth-more, super-is}
 use Rattle.definition.specs.Loading.{withClass, withEntry}
 
 -- The later world has all that the earlier has

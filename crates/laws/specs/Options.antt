@@ -1,10 +1,10 @@
 -- Options in sequence, and lists related element by element.
-use mathlib.Core.Path.{_≡_, refl, sym, ap, _∙_}
-use mathlib.Core.Bool.{Bool, true, false, false≢true}
+use mathlib.Core.Path.{_≡_, refl, sym, ap}
+use mathlib.Core.Bool.{Bool, true, false}
 use mathlib.Core.Option.{Option, none, some, Option·none-ne-some, Option·some-injective}
-use mathlib.Core.List.{List, [], _∷_, _++_, List·Memᴰ, List·Memᴰ·head, List·Memᴰ·tail}
+use mathlib.Core.List.{List, [], _∷_, _++_, List·Memᴰ, List·Memᴰ·head, List·Memᴰ·tail, reverse, reverseAux}
 use mathlib.Core.Logic.{_⊎_, inl, inr}
-use Prim.Native.Nat.{ℕ, zero, suc, _+_, _≤_, _<_}
+use Prim.Native.Nat.{ℕ, zero, suc, _+_}
 use lib.ListN.{length, getElem?, set}
 use Rattle.definition.specs.Maybe.{_>>=_, need}
 use Rattle.definition.specs.Lists.{Each}
@@ -84,3 +84,12 @@ each-more-in [] [] f h = tt
 each-more-in [] (y ∷ ys) f h = h
 each-more-in (x ∷ xs) [] f h = h
 each-more-in (x ∷ xs) (y ∷ ys) f h = (f x y (List·Memᴰ·head refl) (h .0), each-more-in xs ys (λ a b m. f a b (List·Memᴰ·tail m)) (h .1))
+
+pub each-reverse : {A B : Type 0} (R : A → B → Type 0) (xs : List A) (ys : List B) → Each R xs ys → Each R (reverse xs) (reverse ys)
+each-reverse {A} {B} R xs ys h = go xs ys [] [] h tt
+  where
+    go : (xs : List A) (ys : List B) (us : List A) (vs : List B) → Each R xs ys → Each R us vs → Each R (reverseAux xs us) (reverseAux ys vs)
+    go [] [] us vs h k = k
+    go [] (y ∷ ys) us vs h k = absurd h
+    go (x ∷ xs) [] us vs h k = absurd h
+    go (x ∷ xs) (y ∷ ys) us vs h k = go xs ys (x ∷ us) (y ∷ vs) (h .1) (h .0, k)

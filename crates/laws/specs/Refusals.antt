@@ -1,18 +1,18 @@
 -- Every refusal of a call on rows is one of the words that the paper lists for that call.
 use mathlib.Core.Path.{_≡_, refl}
-use mathlib.Core.Bool.{Bool, true, false, _&&_}
+use mathlib.Core.Bool.{Bool, true, false}
 use mathlib.Core.Option.{Option, none, some}
-use mathlib.Core.List.{List, [], _∷_, _++_}
-use Prim.Native.Nat.{ℕ, zero, suc, _+_}
-use lib.ListN.{length, getElem?}
-use lib.Dec.{eqb, leb, ltb}
+use mathlib.Core.List.{List, [], _∷_}
+use Prim.Native.Nat.{ℕ, suc}
+use lib.ListN.{length}
+use lib.Dec.{eqb, ltb}
 use Rattle.definition.specs.declared.Refusal.{Refusal}
 use Rattle.definition.specs.declared.Refusal.the-variants.{Wanted, Word}
 use Rattle.definition.specs.declared.Instruction.{Instruction}
 use Rattle.definition.specs.declared.Instruction.the-variants.{AconstNull, Sipush, Iload, Aload, Istore, Astore, Pop, Dup, Iadd, Isub, Getfield, Putfield, Invokevirtual, New, Ireturn, Areturn}
 use Rattle.definition.specs.Lists.{any}
 use Rattle.definition.specs.Requests.{at}
-use Rattle.definition.specs.Answers.{number, wanted, Result, refused, ok, _>>=_, need, take?}
+use Rattle.definition.specs.Answers.{number, Result, refused, ok, _>>=_, need, take?}
 use Rattle.definition.specs.Classes.{Base, Class, find}
 use Rattle.definition.specs.Constraints.{Tie, World, agrees, post}
 use Rattle.definition.specs.Instructions.{Decoded}

@@ -13,7 +13,7 @@ use Rattle.definition.specs.declared.Answer.the-variants.{Idle, Ran, Finished, 
 use Rattle.definition.specs.declared.Reply.{Reply}
 use Rattle.definition.specs.declared.Reply.the-variants.{Accepted, Defined, Stepped, RanFor, Denied}
 use Rattle.definition.specs.Lists.{any}
-use Rattle.definition.specs.Answers.{number, numberOf, numberOfStep, Result, refused, ok, _>>=_}
+use Rattle.definition.specs.Answers.{number, Result, refused, ok}
 use Rattle.definition.specs.Constraints.{World}
 use Rattle.definition.specs.Machine.{Frame}
 use Rattle.definition.specs.Tables.{Tables, shaped, Rows, worldOf, view, put}

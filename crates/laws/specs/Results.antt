@@ -1,9 +1,9 @@
 -- Answers: a value, or a refusal with its word.
-use mathlib.Core.Path.{_≡_, refl, sym, ap, _∙_}
-use mathlib.Core.Bool.{Bool, true, false, false≢true}
-use mathlib.Core.Option.{Option, none, some, Option·none-ne-some, Option·some-injective}
+use mathlib.Core.Path.{_≡_, refl, ap}
+use mathlib.Core.Bool.{Bool, true, false}
+use mathlib.Core.Option.{Option, none, some}
 use mathlib.Core.Logic.{_⊎_, inl, inr}
-use Prim.Native.Nat.{ℕ, zero, suc}
+use Prim.Native.Nat.{ℕ}
 use Rattle.definition.specs.Answers.{Result, _>>=_, need, take?, wanted, ok, refused}
 use Rattle.definition.specs.Requests.{Request}
 use Rattle.definition.specs.declared.Refusal.{Refusal}

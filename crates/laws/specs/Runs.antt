@@ -2,16 +2,16 @@
 -- after exactly those steps.
 use mathlib.Core.Path.{_≡_, refl, sym, ap, _∙_}
 use mathlib.Core.Logic.{_⊎_, inl, inr}
-use Prim.Native.Nat.{ℕ, zero, suc, _+_, _<_, _≤_}
-use native.Mathlib.Nat.{add-suc}
+use Prim.Native.Nat.{ℕ, zero, suc, _+_, _<_}
 use native.Mathlib.Omega.{arith}
-use Rattle.definition.specs.declared.Refusal.{Refusal}
 use Rattle.definition.specs.declared.Answer.{Answer}
 use Rattle.definition.specs.declared.Answer.the-variants.{Idle, Ran, Finished, Refused}
-use Rattle.definition.specs.declared.Reply.{Reply}
 use Rattle.definition.specs.declared.Reply.the-variants.{RanFor}
 use Rattle.definition.specs.Tables.{Tables}
-use Rattle.definition.specs.Calls.{Done, done, goOn, runFrom}
+use mathlib.Core.Bool.{true, false, _&&_}
+use lib.Dec.{leb}
+use Rattle.definition.specs.Broken.{broken}
+use Rattle.definition.specs.Calls.{Done, done, stepTables, goOn, runFrom, run, callRun, perform}
 
 module _ (one : Tables → Done Answer) where
   -- the tables after k steps, and the answer of the last of them, `a` if there is none
@@ -92,3 +92,9 @@ module _ (one : Tables → Done Answer) where
       go (Ran j) e ih = went n k₀ j a₀ t (one t .tables) (λ i. done (e i) (one t .tables)) (ap (λ (x : Answer). goOn (runFrom one n) k₀ x (one t .tables)) e) (ih (suc k₀) (Ran j) (one t .tables))
       go (Finished j m) e ih = stopped n k₀ a₀ (Finished j m) t (one t .tables) (λ i. done (e i) (one t .tables)) (λ h. h) refl (ap (λ (x : Answer). goOn (runFrom one n) k₀ x (one t .tables)) e)
       go (Refused w) e ih = stopped n k₀ a₀ (Refused w) t (one t .tables) (λ i. done (e i) (one t .tables)) (λ h. h) refl (ap (λ (x : Answer). goOn (runFrom one n) k₀ x (one t .tables)) e)
+
+-- The call: on a store that isn't broken, for n from 1 to 65,535, it answers and leaves what its steps do
+pub run-steps : (n : ℕ) (t : Tables) → broken t ≡ false → leb 1 n && leb n 65535 ≡ true
+    → (k : ℕ) × (a : Answer) × (s : Tables) × (perform (callRun n) t ≡ done (RanFor k a) s) × Run stepTables n Idle t k a s
+unfolding perform run
+run-steps n t h l = let r = run-is stepTables n 0 Idle t in (r .count, r .last, r .left, rw (h, run) (rw l (r .gives ∙ (let z : 0 + r .count ≡ r .count = omega arith in ap (λ (k : ℕ). done (RanFor k (r .last)) (r .left)) z))), r .steps)

@@ -1,22 +1,19 @@
 -- What a class means does not change when classes and cache entries are added.
 use mathlib.Core.Path.{_≡_, refl, sym, ap, _∙_}
 use mathlib.Core.Bool.{Bool, true, false, false≢true}
-use mathlib.Core.Option.{Option, none, some, Option·none-ne-some, Option·some-ne-none, Option·some-injective}
+use mathlib.Core.Option.{Option, none, some, Option·some-ne-none, Option·some-injective}
 use mathlib.Core.List.{List, [], _∷_, _++_, map, List·Memᴰ, List·Memᴰ·head, List·Memᴰ·tail, List·Memᴰ·not-nil, List·Memᴰ·append-cases}
 use mathlib.Core.Logic.{_⊎_, inl, inr}
-use Prim.Native.Nat.{ℕ, zero, suc, _+_, _≤_, _<_}
+use Prim.Native.Nat.{ℕ, zero, suc, _+_, _<_}
 use native.Mathlib.Omega.{arith}
-use lib.ListN.{length, getElem?}
+use lib.ListN.{getElem?}
 use Rattle.definition.specs.Classes.{Base, Class, Entry, Field, Method, Slot, alike, find, hasMethod, loaderOf, methodsOf, ownSlots, slots, slotsIn, superOf}
 use Rattle.definition.specs.Constraints.{World}
 use Rattle.definition.specs.Lists.{any}
-use Rattle.definition.specs.Machine.{Object}
 use Rattle.definition.specs.Requests.{Request, at, sameRequest}
 use Rattle.definition.specs.Superclasses.{nearest, seek}
-use Rattle.definition.specs.Verifier.{typeOfName}
 use Rattle.laws.specs.Agreement.{super-falls, super-is}
 use Rattle.laws.specs.Chains.{same-refl}
-use Rattle.laws.specs.Options.{each-more-in}
 use Rattle.laws.specs.Growth.{Grows, grows-super}
 
 -- each class that is cached is there, and each but the first has its superclass

@@ -1,20 +1,19 @@
 -- A report's instruction runs only while no quote has a frame.
-use mathlib.Core.Path.{_≡_, refl, sym, ap, _∙_}
+use mathlib.Core.Path.{_≡_, refl, sym, _∙_}
 use mathlib.Core.Option.{Option, none, some, Option·none-ne-some, Option·some-injective}
 use mathlib.Core.List.{List, [], _∷_}
-use Prim.Native.Nat.{ℕ, _<_}
+use Prim.Native.Nat.{ℕ}
 use native.Mathlib.Omega.{arith}
-use Rattle.definition.specs.declared.Refusal.{Refusal}
 use Rattle.definition.specs.declared.Answer.{Answer}
 use Rattle.definition.specs.declared.Answer.the-variants.{Idle, Ran, Finished, Refused}
-use Rattle.definition.specs.Answers.{Result, refused, ok, _>>=_}
+use Rattle.definition.specs.Answers.{ok}
 use Rattle.definition.specs.Constraints.{World}
 use Rattle.definition.specs.Machine.{Frame, step}
 use Rattle.definition.specs.Tables.{Tables, Rows, worldOf, view}
 use Rattle.definition.specs.Calls.{Given, answerOf, stepTask, stepOn, stepRows, stepTables}
 use Rattle.laws.specs.Results.{bind-ok}
 use Rattle.laws.specs.Wrapped.{wrapped}
-use Rattle.laws.specs.Runs.{after, IsRun, run-is}
+use Rattle.laws.specs.Runs.{after}
 
 -- the task that a step's answer names
 abbrev pub taskOf : Answer → Option ℕ

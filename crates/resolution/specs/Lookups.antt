@@ -1,6 +1,7 @@
 -- What else the lookups answer: a class's name, a method's code, and tables of superclasses and slots.
 use mathlib.Core.Path.{_≡_, refl, sym, ap, _∙_}
-use mathlib.Core.Bool.{Bool, true, false}
+use mathlib.Core.Bool.{Bool, true, false, false≢true}
+use mathlib.Core.Logic.{_⊎_, inl, inr}
 use mathlib.Core.Option.{Option, none, some}
 use mathlib.Core.List.{List, [], _∷_, map}
 use Prim.Native.Nat.{ℕ, zero, suc, _+_, _≤_, _<_}
@@ -11,15 +12,20 @@ use lib.ListN.{length, getD, set, getElem?, length-set, List·getD-eq-default}
 use lib.Seq.{take-all}
 use lib.Dec.{eqb, ltb}
 use borrow.Author.Tests.{lt-ltb, le-ltb, ne-eqb}
-use Rattle.definition.specs.Lists.{rows, writeRows}
+use Rattle.definition.specs.Lists.{any, indexOf, rows, writeRows}
 use Rattle.definition.specs.Instructions.{pick}
-use Rattle.definition.specs.Classes.{Base, Class, Method, Slot, lower, superOf, methodsOf, slots}
+use Rattle.definition.specs.Classes.{Base, Class, Field, Method, lower, superOf, alike, methodsOf, hasMethod}
+use Rattle.definition.specs.Superclasses.{nearest}
 use Rattle.definition.specs.Tables.{classRowAt}
 use Rattle.laws.specs.Agreement.{super-falls}
+use Rattle.laws.specs.Upward.{nearest-here, nearest-up, nearest-none, nearest-below}
 use Rattle.layout.specs.Places.{rows-length, rows-getD, rows-take, writeRows-length}
 use Rattle.layout.specs.Cells.{rows-back, cell-rows}
-use Rattle.classfile.specs.Reading.{className, quickMethods}
-use Rattle.resolution.specs.Quick.{quickClass, quickBase, fileIn, file-there, super-past, either}
+use Rattle.classfile.specs.Reading.{className, superName, quickFields, quickMethods}
+use Rattle.classfile.specs.Searches.{any-some, any-none}
+use Rattle.resolution.specs.Quick.{quickClass, quickBase, fileIn, file-there, loaderIn, super-past, either}
+use Rattle.resolution.specs.declared.Selection.{Selection}
+use Rattle.resolution.specs.declared.Selection.the-variants.{Selected, Unselected}
 
 -- the name of class number c, 0 if there is no such class
 unfoldable pub nameIn : List ℕ → List ℕ → List ℕ → ℕ → ℕ
@@ -28,6 +34,13 @@ nameIn counts classes kept c = elim (ltb c (getD counts 0 0)) [ true ↦ quickCl
 -- the code of method number j of a list, none if there is no such method
 unfoldable pub codeIn : List Method → ℕ → List ℕ
 codeIn ms j = elim (getElem? ms j) [ none ↦ [] | some m ↦ m .code ]
+
+-- the method selected upward of class c: the nearest class that declares one alike, and the method's place there
+unfoldable pub selection : Base → ℕ → ℕ → ℕ → ℕ → Selection
+selection b n a r c = elim (nearest (superOf b) (hasMethod b n a r) c) [
+  | none ↦ Unselected
+  | some s ↦ elim (indexOf (alike n a r) (methodsOf b s)) [ none ↦ Unselected | some j ↦ Selected s j ]
+]
 
 -- a class's direct superclass as a cell: 0 for none, else its number and 1
 unfoldable pub superCell : Base → ℕ → ℕ
@@ -48,6 +61,35 @@ module _ (counts classes kept : List ℕ) (c : ℕ) where
   unfolding nameIn quickClass pick
   name-file h e = rw (lt-ltb c (getD counts 0 0) h, nameIn, ne-eqb (classRowAt classes c .size) 0 e, file-there counts classes kept c h)
 
+-- What a class that is there is
+
+module _ (counts classes kept : List ℕ) (c : ℕ) (h : c < getD counts 0 0) where
+  abbrev theClass : Class
+  theClass = quickClass kept (classRowAt classes c)
+
+  abbrev bytes : List ℕ
+  bytes = fileIn counts classes kept c
+
+  pub class-loader : theClass .loader ≡ loaderIn counts classes c
+  unfolding quickClass loaderIn
+  class-loader = rw (lt-ltb c (getD counts 0 0) h, loaderIn)
+
+  pub class-name : theClass .name ≡ nameIn counts classes kept c
+  unfolding nameIn
+  class-name = rw (lt-ltb c (getD counts 0 0) h, nameIn)
+
+  pub class-super : theClass .super ≡ superName bytes
+  unfolding quickClass
+  class-super = rw (file-there counts classes kept c h)
+
+  pub class-fields : theClass .fields ≡ quickFields bytes
+  unfolding quickClass
+  class-fields = rw (file-there counts classes kept c h)
+
+  pub class-methods : theClass .methods ≡ quickMethods bytes
+  unfolding quickClass
+  class-methods = rw (file-there counts classes kept c h)
+
 -- A method's code
 
 pub code-some : (ms : List Method) (j : ℕ) (m : Method) → getElem? ms j ≡ some m → codeIn ms j ≡ m .code
@@ -57,6 +99,78 @@ code-some ms j m h = rw (h, codeIn)
 pub code-none : (ms : List Method) (j : ℕ) → getElem? ms j ≡ none → codeIn ms j ≡ []
 unfolding codeIn
 code-none ms j h = rw (h, codeIn)
+
+-- either there is no such method, or its code is that
+pub code-cases : (ms : List Method) (j : ℕ) → ((getElem? ms j ≡ none) × (codeIn ms j ≡ [])) ⊎ ((m : Method) × (getElem? ms j ≡ some m) × (codeIn ms j ≡ m .code))
+code-cases ms j = go (getElem? ms j) refl
+  where
+    go : (o : Option Method) → getElem? ms j ≡ o → ((getElem? ms j ≡ none) × (codeIn ms j ≡ [])) ⊎ ((m : Method) × (getElem? ms j ≡ some m) × (codeIn ms j ≡ m .code))
+    go none e = inl (e, code-none ms j e)
+    go (some m) e = inr (m, e, code-some ms j m e)
+
+declared : (b : Base) (n a r d : ℕ) → hasMethod b n a r d ≡ true → any (alike n a r) (methodsOf b d) ≡ true
+unfolding hasMethod
+declared b n a r d h = h
+
+-- A method's selection: here, further up, or nowhere
+
+module _ (b : Base) (n a r c : ℕ) where
+  abbrev place : ℕ → Option ℕ
+  place s = indexOf (alike n a r) (methodsOf b s)
+
+  abbrev nearestOne : Option ℕ
+  nearestOne = nearest (superOf b) (hasMethod b n a r) c
+
+  has-place : (j : ℕ) → place c ≡ some j → hasMethod b n a r c ≡ true
+  unfolding hasMethod
+  has-place j e = any-some (alike n a r) (methodsOf b c) j e
+
+  no-place : place c ≡ none → hasMethod b n a r c ≡ false
+  unfolding hasMethod
+  no-place e = any-none (alike n a r) (methodsOf b c) e
+
+  pub selection-here : (j : ℕ) → place c ≡ some j → selection b n a r c ≡ Selected c j
+  unfolding selection
+  selection-here j e = rw (nearest-here (superOf b) (super-falls b) (hasMethod b n a r) c (has-place j e), selection) (rw e)
+
+  pub selection-up : (p : ℕ) → place c ≡ none → superOf b c ≡ some p → selection b n a r c ≡ selection b n a r p
+  unfolding selection
+  selection-up p e s = rw (nearest-up (superOf b) (super-falls b) (hasMethod b n a r) c p (no-place e) s, selection)
+
+  pub selection-none : place c ≡ none → superOf b c ≡ none → selection b n a r c ≡ Unselected
+  unfolding selection
+  selection-none e s = rw (nearest-none (superOf b) (super-falls b) (hasMethod b n a r) c (no-place e) s, selection)
+
+  -- what the answer says
+
+  abbrev picked : ℕ → Option ℕ → Selection
+  picked s o = elim o as (λ _. Selection) [ none ↦ Unselected | some j ↦ Selected s j ]
+
+  selection-cases : selection b n a r c ≡ (elim nearestOne as (λ _. Selection) [ none ↦ Unselected | some s ↦ picked s (place s) ])
+  unfolding selection
+  selection-cases = refl
+
+  pub selection-at : (s j : ℕ) → selection b n a r c ≡ Selected s j → (nearestOne ≡ some s) × (place s ≡ some j)
+  selection-at s j h = go nearestOne refl (sym selection-cases ∙ h)
+    where
+      last : (d : ℕ) → nearestOne ≡ some d → (o : Option ℕ) → place d ≡ o → picked d o ≡ Selected s j → (nearestOne ≡ some s) × (place s ≡ some j)
+      last d e none f q = let z : _≡_ {A = ℕ} 0 1 = cc in absurd (omega arith)
+      last d e (some i) f q = let same : d ≡ s = cc in (rw same at e, ap place (sym same) ∙ (f ∙ cc))
+
+      go : (o : Option ℕ) → nearestOne ≡ o → (elim o as (λ _. Selection) [ none ↦ Unselected | some d ↦ picked d (place d) ]) ≡ Selected s j → (nearestOne ≡ some s) × (place s ≡ some j)
+      go none e q = let z : _≡_ {A = ℕ} 0 1 = cc in absurd (omega arith)
+      go (some d) e q = last d e (place d) refl q
+
+  pub selection-absent : selection b n a r c ≡ Unselected → nearestOne ≡ none
+  selection-absent h = go nearestOne refl (sym selection-cases ∙ h)
+    where
+      last : (d : ℕ) → nearestOne ≡ some d → (o : Option ℕ) → place d ≡ o → picked d o ≡ Unselected → nearestOne ≡ none
+      last d e none f q = absurd (false≢true (sym (any-none (alike n a r) (methodsOf b d) f) ∙ declared b n a r d (nearest-below (superOf b) (super-falls b) (hasMethod b n a r) c d e .1)))
+      last d e (some i) f q = let z : _≡_ {A = ℕ} 0 1 = cc in absurd (omega arith)
+
+      go : (o : Option ℕ) → nearestOne ≡ o → (elim o as (λ _. Selection) [ none ↦ Unselected | some d ↦ picked d (place d) ]) ≡ Unselected → nearestOne ≡ none
+      go none e q = e
+      go (some d) e q = last d e (place d) refl q
 
 -- A superclass's cell
 

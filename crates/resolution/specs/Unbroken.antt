@@ -31,7 +31,8 @@ use Rattle.resolution.specs.Quick.{quickClass, quickBase, quickOf}
 abbrev bytesOf : List ℕ → ℕ → List ℕ
 bytesOf kept n = rows (λ i. getD kept i 0) n 0
 
-part-none : (kept : List ℕ) (start size : ℕ) → size ≡ 0 → partOf kept start size ≡ []
+-- a part of no bytes
+pub part-none : (kept : List ℕ) (start size : ℕ) → size ≡ 0 → partOf kept start size ≡ []
 unfolding partOf
 part-none kept start size e = rw e (go (leb (start + 0) (length kept)))
   where

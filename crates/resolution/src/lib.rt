@@ -12,7 +12,7 @@ ghost use Rattle.definition.specs.Classes.{find, superOf, slots, slotIs, hasFie
 ghost use Rattle.definition.specs.Tables.{entryAt, classRowAt};
 ghost use Rattle.classfile.specs.Reading.{fieldIs, fieldCount, quickFields, quickMethods};
 ghost use Rattle.resolution.specs.Quick.{found, quickBase, fileIn, loaderIn};
-ghost use Rattle.resolution.specs.Lookups.{nameIn, codeIn, superCell};
+ghost use Rattle.resolution.specs.Lookups.{nameIn, codeIn, selection, superCell};
 ghost use Rattle.resolution.specs.Slots.{inheritedIn, slotNamed, fieldType, slotType};
 use classfile::FieldFound;
 use classfile::MethodFound;
@@ -21,6 +21,12 @@ use classfile::MethodFound;
 pub enum Found {
     At(u32),
     Absent,
+}
+
+// The class that declares a selected method, and the method's place there.
+pub enum Selection {
+    Selected(u32, u32),
+    Unselected,
 }
 
 // Row i of the cache has that request.
@@ -368,6 +374,31 @@ pub fn method_index(
         return Found::Absent;
     };
     Found::At(cells::from16(cells::from8(j)))
+}
+
+// The method selected upward of class c.
+pub fn select_method(
+    counts: &[u16],
+    classes: &[u16],
+    kept: &[u8],
+    cache: &[u16],
+    c: u32,
+    name: u16,
+    argument: u16,
+    result: u16,
+) -> Selection
+    ensures { λ r. ⌜ r ≡ selection (quickBase (now (counts .entry)) (now (classes .entry)) (now (kept .entry)) (now (cache .entry))) name argument result c ⌝ }
+{
+    let mut at = c;
+    loop {
+        if let Found::At(j) = method_index(counts, classes, kept, at, name, argument, result) {
+            return Selection::Selected(at, j);
+        }
+        let Found::At(p) = super_of(counts, classes, kept, cache, at) else {
+            return Selection::Unselected;
+        };
+        at = p;
+    }
 }
 
 // The code of a class's method, as the part of the kept bytes that it is; no bytes if there is no such method.

@@ -1,17 +1,14 @@
 -- Conformance of a class to a request, and what keeps it.
 use mathlib.Core.Path.{_≡_, refl, sym, ap, _∙_}
-use mathlib.Core.Bool.{Bool, true, false, false≢true, true≢false}
-use mathlib.Core.Option.{Option, none, some, Option·some-ne-none, Option·none-ne-some, Option·some-injective}
-use mathlib.Core.List.{List, [], _∷_, _++_, List·Memᴰ, List·Memᴰ·head, List·Memᴰ·tail, List·Memᴰ·not-nil, Memᴰ·append-left, Memᴰ·append-right, List·Memᴰ·append-cases}
-use mathlib.Core.Logic.{_⊎_, inl, inr}
-use Prim.Native.Nat.{ℕ, zero, suc, _+_, _≤_, _<_}
-use native.Mathlib.Omega.{arith}
-use lib.ListN.{length, getElem?}
-use Rattle.definition.specs.Classes.{Class, Entry, find, superOf}
-use Rattle.definition.specs.Constraints.{Agrees, Subtype, Tie, World, edges, subtypeEdges, tieEdges}
+use mathlib.Core.Bool.{Bool, true, false}
+use mathlib.Core.Option.{Option, some, Option·some-injective}
+use mathlib.Core.List.{List, _∷_, List·Memᴰ, List·Memᴰ·head, List·Memᴰ·tail, Memᴰ·append-left}
+use Prim.Native.Nat.{ℕ}
+use Rattle.definition.specs.Classes.{find, superOf}
+use Rattle.definition.specs.Constraints.{Agrees, Tie, World, edges, subtypeEdges, tieEdges}
 use Rattle.definition.specs.Requests.{Chain, Edge, Request, at, stay}
 use Rattle.definition.specs.Superclasses.{Below, Falls, nearest, same, up}
-use Rattle.laws.specs.Agreement.{find-more, is-super, nth-more, super-falls, super-is}
+use Rattle.laws.specs.Agreement.{super-falls}
 use Rattle.laws.specs.Chains.{chain-join, chain-more, chain-turn, turned}
 use Rattle.laws.specs.Upward.{below-more, below-trans, nearest-below, nearest-finds, nearest-here, nearest-up}
 use Rattle.laws.specs.Growth.{Grows, grows-edges, grows-super}

@@ -1,5 +1,5 @@
 -- Objects keep their conforming fields when classes, cache entries and constraints are added.
-use mathlib.Core.Path.{_≡_, refl}
+use mathlib.Core.Path.{_≡_}
 use mathlib.Core.Option.{some}
 use mathlib.Core.List.{List}
 use lib.ListN.{getElem?}

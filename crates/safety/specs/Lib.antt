@@ -12,3 +12,4 @@ pub mod Safe
 pub mod Misplaced
 pub mod Words
 pub mod Safety
+pub mod Bits

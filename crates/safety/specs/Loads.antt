@@ -1,13 +1,12 @@
 -- Loading keeps the invariant.
 use mathlib.Core.Path.{_≡_, refl, sym, ap, _∙_}
-use mathlib.Core.Bool.{Bool, true, false, false≢true, not, _&&_, _||_}
-use mathlib.Core.Option.{Option, none, some, Option·none-ne-some, Option·some-ne-none, Option·some-injective}
-use mathlib.Core.List.{List, [], _∷_, _++_, map, append-nil, append-assoc, List·Memᴰ, List·Memᴰ·head, List·Memᴰ·tail, List·Memᴰ·not-nil, Memᴰ·append-left, Memᴰ·append-right}
+use mathlib.Core.Bool.{Bool, true, false, _&&_}
+use mathlib.Core.Option.{none, some, Option·none-ne-some, Option·some-injective}
+use mathlib.Core.List.{List, [], _∷_, _++_, append-assoc, List·Memᴰ, List·Memᴰ·head, List·Memᴰ·tail, Memᴰ·append-left, Memᴰ·append-right}
 use mathlib.Core.Logic.{_⊎_, inl, inr, _≢_}
-use Prim.Native.Nat.{ℕ, zero, suc, _+_, _≤_, _<_}
-use native.Mathlib.Omega.{arith}
+use Prim.Native.Nat.{ℕ, zero, suc, _+_, _<_}
 use lib.ListN.{length, getElem?}
-use lib.Dec.{eqb, leb, ltb}
+use lib.Dec.{eqb}
 use borrow.Author.Tests.{eqb-true}
 use Rattle.definition.specs.Classes.{Base, Class, Entry, Method, alike, find, hasMethod, loaderOf, superOf}
 use Rattle.definition.specs.Constraints.{Agrees, Subtype, Tie, World, subtypeEdges, tieEdges}
@@ -29,7 +28,6 @@ use Rattle.definition.specs.Maybe as Maybe
 use Rattle.laws.specs.Growth.{Grows, grows-super, sub-edges-more, tie-edges-more}
 use Rattle.laws.specs.Stable.{find-last, find-snoc, has-class, has-is, has-stable, loader-is, loader-stable, nearest-stable, real-super, super-stable}
 use Rattle.laws.specs.Growth.{grows-class, grows-entry, nth-lt}
-use Rattle.laws.specs.Agreement.{nth-more}
 
 nth-mem : {A : Type 0} (xs : List A) (i : ℕ) (x : A) → getElem? xs i ≡ some x → List·Memᴰ x xs
 nth-mem [] i x h = absurd (Option·none-ne-some x h)

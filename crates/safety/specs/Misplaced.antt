@@ -1,23 +1,20 @@
 -- Misplaced values: there are none where the invariant holds.
-use mathlib.Core.Path.{_≡_, refl, sym, ap, _∙_}
-use mathlib.Core.Bool.{Bool, true, false, false≢true}
-use mathlib.Core.Option.{Option, none, some, Option·none-ne-some, Option·some-injective}
-use mathlib.Core.List.{List, [], _∷_, _++_}
-use Prim.Native.Nat.{ℕ, zero, suc, _+_, _≤_, _<_}
-use native.Mathlib.Omega.{arith}
-use lib.ListN.{length, getElem?, drop}
-use lib.Dec.{eqb, leb}
+use mathlib.Core.Path.{_≡_, refl}
+use mathlib.Core.Bool.{Bool, true, false}
+use mathlib.Core.Option.{Option, none, some}
+use mathlib.Core.List.{reverse, List, [], _∷_}
+use Prim.Native.Nat.{ℕ, suc, _<_}
+use lib.ListN.{length, getElem?}
 use Rattle.definition.specs.Classes.{Class, Method, find, loaderOf, slots, superOf}
 use Rattle.definition.specs.Constraints.{Agrees, World}
 use Rattle.definition.specs.Machine.{Frame, Object, Value, intValue, nullValue, objectValue, unsetValue, unlistedValue, existing}
-use Rattle.definition.specs.Misplaced.{failures, misplaced, misplacedFields, misplacedInFrame, misplacedInFrames, placed, placedLocal, typesOf}
+use Rattle.definition.specs.Misplaced.{failures, misplacedFields, misplacedInFrame, misplacedInFrames, placed, placedLocal, typesOf}
 use Rattle.definition.specs.Requests.{at}
 use Rattle.definition.specs.Superclasses.{below}
 use Rattle.definition.specs.Verifier.{TypeState, VerifierType, typeClass, typeInt, typeNull, typeOfName}
 use Rattle.laws.specs.Agreement.{super-falls}
 use Rattle.laws.specs.Upward.{true-below}
 use Rattle.safety.specs.Conform.{fits-below}
-use Rattle.safety.specs.Store.{Store}
 use Rattle.safety.specs.Safe.{Valid}
 use Rattle.safety.specs.Valid.{Conforms, Linked, Local, Stack, Typed, Under}
 use Rattle.laws.specs.Options.{some-bind}
@@ -25,6 +22,13 @@ use Rattle.definition.specs.Tables.{Rows, worldOf}
 use Rattle.safety.specs.Store.{storeOf}
 use Rattle.definition.specs.Misplaced.{waitingTypes, misplacedIn}
 use Rattle.definition.specs.Lists.{Each}
+use Rattle.laws.specs.Options.{each-reverse}
+use Rattle.definition.specs.Maybe.{need}
+use Rattle.definition.specs.Verifier.{entryTypes}
+use Rattle.safety.specs.Sized.{within}
+use Rattle.safety.specs.Typing.{known}
+use borrow.Author.Tests.{lt-ltb}
+use lib.Dec.{ltb}
 
 -- What conforms is placed
 
@@ -68,17 +72,26 @@ module _ (w : World) (os : List Object) (lk : Linked w) where
   objects-placed [] h = refl
   objects-placed (b ∷ bs) h = rw (none-bad _ (λ s v. placed w os (loaderOf (w .base) (s .owner)) (typeOfName (s .type)) v) (λ s v c. conforms-placed w os (lk .agreed) _ _ v c) (slots (w .base) (b .class)) (b .values) (h 0 b refl), objects-placed bs (λ o. h (suc o))) refl
 
+  point-in : (f : Frame) (k : Class) (m : Method) (τ : TypeState) → Typed w f k m τ → f .point < length (m .code)
+  point-in f k m τ t =
+      let v = lk .verified (f .class) (f .method) k m (t .isClass) (t .isMethod) in
+      let kn = known (m .code) (m .result) (length (m .code)) 0 (entryTypes k m) (v .notes) (f .point) τ (v .passes) (t .types) in
+      within (m .code) (f .point) (kn .at) (kn .reads)
+
   frame-placed : (waits : Bool) (f : Frame) (k : Class) (m : Method) (τ : TypeState) (ts : List VerifierType) → Typed w f k m τ → waitingTypes waits (τ .operands) ≡ some ts
       → Each (Conforms w os (k .loader)) ts (f .operands) → Each (Local w os (k .loader)) (τ .locals) (f .locals) → misplacedInFrame w os waits f ≡ 0
   unfolding misplacedInFrame
   frame-placed waits f k m τ ts t e a b = rw (types-are, misplacedInFrame)
       (rw (
-        none-bad _ (placed w os (k .loader)) (conforms-placed w os (lk .agreed) (k .loader)) ts (f .operands) a,
+        none-bad _ (placed w os (k .loader)) (conforms-placed w os (lk .agreed) (k .loader)) (reverse ts) (reverse (f .operands)) (each-reverse (Conforms w os (k .loader)) ts (f .operands) a),
         none-bad _ (placedLocal w os (k .loader)) (local-placed w os (lk .agreed) (k .loader)) (τ .locals) (f .locals) b,
       ) refl)
     where
+      inside : need (ltb (f .point) (length (m .code))) ≡ some tt
+      inside = unfold need in rw (lt-ltb (f .point) (length (m .code)) (point-in f k m τ t)) refl
+
       types-are : typesOf w waits f ≡ some (record { loader = k .loader; operands = ts; locals = τ .locals })
-      types-are = unfold typesOf in some-bind _ _ (t .isClass) (some-bind _ _ (t .isMethod) (some-bind _ _ (t .types) (some-bind _ _ e refl)))
+      types-are = unfold typesOf in some-bind _ _ (t .isClass) (some-bind _ _ (t .isMethod) (some-bind _ _ inside (some-bind _ _ (t .types) (some-bind _ _ e refl))))
 
   under-placed : (l r : ℕ) (fs : List Frame) → Under w os l r fs → misplacedInFrames w os true fs ≡ 0
   unfolding misplacedInFrames waitingTypes

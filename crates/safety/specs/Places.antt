@@ -1,26 +1,21 @@
 -- Lemmas on places: what meets a name conforms to it, what ties carry, where fields are, what posting ties keeps.
-use mathlib.Core.Path.{_≡_, refl, sym, ap, _∙_}
-use mathlib.Core.Bool.{Bool, true, false, false≢true, true≢false, not, _&&_, _||_}
-use mathlib.Core.Option.{Option, none, some, Option·none-ne-some, Option·some-injective}
-use mathlib.Core.List.{List, [], _∷_, _++_, map, append-nil, append-assoc, List·Memᴰ, List·Memᴰ·head, List·Memᴰ·tail, Memᴰ·append-left, Memᴰ·append-right}
-use mathlib.Core.Logic.{_⊎_, inl, inr, _≢_}
-use Prim.Native.Nat.{ℕ, zero, suc, _+_, _-_, _≤_, _<_, _%_}
-use native.Mathlib.Omega.{arith}
-use lib.ListN.{length, getElem?, set}
+use mathlib.Core.Path.{_≡_, refl, sym, ap}
+use mathlib.Core.Bool.{Bool, true, false, _&&_, _||_}
+use mathlib.Core.Option.{Option, some, Option·none-ne-some, Option·some-injective}
+use mathlib.Core.List.{List, [], _∷_, _++_, append-nil, List·Memᴰ, List·Memᴰ·head, List·Memᴰ·tail, Memᴰ·append-right}
+use mathlib.Core.Logic.{inl, inr, _≢_}
+use Prim.Native.Nat.{ℕ, _+_, _-_}
 use lib.Dec.{eqb}
-use borrow.Author.Tests.{eqb-true, eq-eqb, eqb-false, ne-eqb}
-use Rattle.definition.specs.Classes.{Base, Slot, ownSlots, slots, slotsIn, superOf}
+use borrow.Author.Tests.{eqb-true, eqb-false, ne-eqb}
 use Rattle.definition.specs.Constraints.{Agrees, Tie, World, agreesAfter, edges, newTie, posted, subtypeEdges, tieEdges, tieIs}
 use Rattle.definition.specs.Lists.{any}
 use Rattle.definition.specs.Machine.{Object, Value, intValue, nullValue, objectValue, unsetValue, unlistedValue}
 use Rattle.definition.specs.Requests.{Chain, Edge, at, hop, stay}
-use Rattle.definition.specs.Superclasses.{Below, below, same, up}
 use Rattle.definition.specs.Verifier.{Note, VerifierType, meetClass, meetInt, meets, typeClass, typeInt, typeNull, typeOfName}
-use Rattle.laws.specs.Agreement.{agrees-true, super-falls}
+use Rattle.laws.specs.Agreement.{agrees-true}
 use Rattle.laws.specs.Tests.{and-true, any-true, or-true}
 use Rattle.safety.specs.Conform.{Fits, Tied, fits-on, fits-tied, tie-turned}
 use Rattle.safety.specs.Valid.{Conforms}
-use Rattle.laws.specs.Agreement.{nth-more}
 
 -- every note of the list is a constraint of loader l
 abbrev pub Noted : World → ℕ → List Note → Type 0

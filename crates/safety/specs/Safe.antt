@@ -1,14 +1,13 @@
 -- The invariant is kept by loads, starts and steps.
 use mathlib.Core.Path.{_≡_, refl, sym, ap, _∙_}
-use mathlib.Core.Bool.{Bool, true, false, false≢true, not, _&&_, _||_}
-use mathlib.Core.Option.{Option, none, some, Option·none-ne-some, Option·some-ne-none, Option·some-injective}
-use mathlib.Core.List.{List, [], _∷_, _++_, map, List·Memᴰ, List·Memᴰ·head, List·Memᴰ·tail, List·Memᴰ·not-nil, List·Memᴰ·eq-of-singleton}
-use mathlib.Core.Logic.{_⊎_, inl, inr, _≢_}
-use Prim.Native.Nat.{ℕ, zero, suc, _+_, _≤_, _<_}
+use mathlib.Core.Bool.{Bool, true, false≢true}
+use mathlib.Core.Option.{Option, none, some, Option·none-ne-some, Option·some-injective}
+use mathlib.Core.List.{List, [], _∷_, _++_, map, List·Memᴰ·eq-of-singleton}
+use mathlib.Core.Logic.{_≢_}
+use Prim.Native.Nat.{ℕ, zero, suc, _+_}
 use native.Mathlib.Omega.{arith}
 use lib.ListN.{length, getElem?}
-use lib.Dec.{eqb, leb, ltb}
-use borrow.Author.Tests.{eqb-true}
+use lib.Dec.{eqb, ltb}
 use Rattle.definition.specs.Answers.{Result, _>>=_, need, ok, refused}
 use Rattle.definition.specs.Classes.{Class, Entry, alike, find, hasMethod, methodsOf, slots, superOf}
 use Rattle.definition.specs.Constraints.{World, agrees, edges, pairAgrees, rowAgrees, subtypeEdges, tieEdges, agreesOver}

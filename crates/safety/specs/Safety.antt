@@ -3,7 +3,7 @@ use mathlib.Core.Path.{_≡_, refl, sym, ap, _∙_, subst}
 use mathlib.Core.Bool.{Bool, true, false, false≢true, _&&_}
 use mathlib.Core.Option.{Option, none, some, Option·none-ne-some, Option·some-injective}
 use mathlib.Core.List.{List, [], _∷_}
-use Prim.Native.Nat.{ℕ, zero, suc, _<_, _≤_}
+use Prim.Native.Nat.{ℕ, zero, suc, _≤_}
 use native.Mathlib.Omega.{arith}
 use lib.ListN.{length, getElem?}
 use lib.Dec.{leb}
@@ -13,15 +13,15 @@ use Rattle.definition.specs.declared.Refusal.the-variants.{Wanted, Word}
 use Rattle.definition.specs.declared.Answer.{Answer}
 use Rattle.definition.specs.declared.Answer.the-variants.{Idle, Ran, Finished, Refused}
 use Rattle.definition.specs.declared.Reply.{Reply}
-use Rattle.definition.specs.declared.Reply.the-variants.{Accepted, Defined, Stepped, RanFor, Denied}
-use Rattle.definition.specs.Answers.{number, numberOf, numberOfStep, Result, refused, ok, _>>=_}
+use Rattle.definition.specs.declared.Reply.the-variants.{Accepted, Denied}
+use Rattle.definition.specs.Answers.{number, numberOf, endsIn, numberOfStep, Result, refused, ok, _>>=_}
 use Rattle.definition.specs.Constraints.{World}
 use Rattle.definition.specs.File.{classOf}
 use Rattle.definition.specs.Machine.{Frame, Progress}
 use Rattle.definition.specs.Tables.{Tables, shaped, Rows, worldOf, view, put}
 use Rattle.definition.specs.Broken.{broken}
 use Rattle.definition.specs.Calls.{Given, bootRows, progressed, framesIn, withFrames, defineRows, recordRows, startRows, dropRows, answerOf, stepTask, stepOn, stepRows, Done, done, wrap, boot, stepTables, goOn, runFrom, run, Call, callBoot, callDefine, callRecord, callStart, callStep, callRun, callDrop, perform, performAll, ComesFromBoot}
-use Rattle.definition.specs.Misplaced.{misplaced, AllPlaced}
+use Rattle.definition.specs.Misplaced.{misplaced}
 use Rattle.definition.specs.Safety.{Safe}
 use Rattle.laws.specs.Results.{NotStuck, Wp, not-word, ok-inj, wp-need, wp-take}
 use Rattle.laws.specs.Wrapped.{wrapped, Ok, ok-at}
@@ -48,7 +48,7 @@ abbrev FineStep : Answer → Type 0
 FineStep a = numberOfStep a ≡ 14 → ⊥
 
 abbrev Fine : Reply → Type 0
-Fine a = numberOf a ≡ 14 → ⊥
+Fine a = (numberOf a ≡ 14 → ⊥) × (endsIn a ≡ 14 → ⊥)
 
 zero-fine : _≡_ {A = ℕ} 0 14 → ⊥
 zero-fine e = omega arith
@@ -78,25 +78,25 @@ module _ (r : Rows) (w : Whole r) (v : Good r) where
   R g = Good (g .rows) × FineStep (g .answer)
 
   define-good : (l : ℕ) (bs : List ℕ) → Wp (defineRows l bs r) Q
-  unfolding defineRows numberOf
+  unfolding defineRows numberOf endsIn
   define-good l bs = wp-need Q _ _ _ (not-word 3 (omega arith)) (λ a. wp-take Q _ _ _ (not-word 2 (omega arith)) (λ f rf.
       wp-on (Loaded (S .world)) Q _ _ (define-kept _ (classOf l f) (S .world) (v .linked)) (λ x e h.
-      (subst (λ (z : World). Valid (in-world S z)) (sym (world-defined r w l bs f x (ltb-true l 16 a) rf e)) (valid-world S (ok x) v h), zero-fine))))
+      (subst (λ (z : World). Valid (in-world S z)) (sym (world-defined r w l bs f x (ltb-true l 16 a) rf e)) (valid-world S (ok x) v h), (zero-fine, zero-fine)))))
 
   record-good : (l n c : ℕ) → Wp (recordRows l n c r) Q
-  unfolding recordRows numberOf
+  unfolding recordRows numberOf endsIn
   record-good l n c = wp-on (Loaded (S .world)) Q _ _ (record-kept l n c (S .world) (v .linked)) (λ x e h.
-      (subst (λ (z : World). Valid (in-world S z)) (sym (world-recorded r w l n c x e)) (valid-world S (ok x) v h), zero-fine))
+      (subst (λ (z : World). Valid (in-world S z)) (sym (world-recorded r w l n c x e)) (valid-world S (ok x) v h), (zero-fine, zero-fine)))
 
   progress-good : (k : ℕ) (o : Progress) → worldOf (progressed k r o) ≡ o .world → Kept (S .world) (S .objects) o → Good (progressed k r o)
   progress-good zero o q h = subst (λ (z : World). Valid (record { world = z; objects = o .objects; quote = o .frames; report = r .report })) (sym q) (valid-quote S (ok o) v h)
   progress-good (suc k) o q h = subst (λ (z : World). Valid (record { world = z; objects = o .objects; quote = r .quote; report = o .frames })) (sym q) (valid-report S (ok o) v h)
 
   start-good : (k l n m x : ℕ) → Wp (startRows k l n m x r) Q
-  unfolding startRows numberOf
+  unfolding startRows numberOf endsIn
   start-good k l n m x = wp-need Q _ _ _ (not-word 3 (omega arith)) (λ _.
       wp-on (Kept (S .world) (S .objects)) Q _ _ (start-kept l n m x (S .world) (S .objects) (framesIn k r) (v .linked) (v .heap)) (λ o e h.
-      (progress-good k o (world-progressed r w k o (ok-at _ _ (start-moves r w l n m x (framesIn k r)) o e)) h, zero-fine)))
+      (progress-good k o (world-progressed r w k o (ok-at _ _ (start-moves r w l n m x (framesIn k r)) o e)) h, (zero-fine, zero-fine))))
 
   fine-answer : (k : ℕ) (o : Option ℕ) → FineStep (answerOf k o)
   unfolding answerOf numberOfStep
@@ -123,8 +123,8 @@ module _ (r : Rows) (w : Whole r) (v : Good r) where
   dropped-good (suc k) = record { linked = v .linked; heap = v .heap; quote = v .quote; report = tt }
 
   drop-good : (k : ℕ) → Wp (dropRows k r) Q
-  unfolding dropRows numberOf
-  drop-good k = wp-need Q _ _ _ (not-word 3 (omega arith)) (λ _. (dropped-good k, zero-fine))
+  unfolding dropRows numberOf endsIn
+  drop-good k = wp-need Q _ _ _ (not-word 3 (omega arith)) (λ _. (dropped-good k, (zero-fine, zero-fine)))
 
 boot-good : Good bootRows
 boot-good = subst Valid (sym same) valid-booted
@@ -168,24 +168,24 @@ unfolding numberOfStep
 refused-fine w h = not-fourteen w h
 
 denied-fine : (w : Refusal) → NotStuck w → Fine (Denied w)
-unfolding numberOf
-denied-fine w h = not-fourteen w h
+unfolding numberOf endsIn
+denied-fine w h = (not-fourteen w h, zero-fine)
 
 step-sane : (t : Tables) → Sane t → FineStep (stepTables t .answer) × Sane (stepTables t .tables)
 unfolding stepTables
 step-sane t s = wrap-sane Refused FineStep stepRows t s refused-fine step-whole step-good
 
 runs-sane : (n k : ℕ) (a : Answer) (t : Tables) → FineStep a → Sane t → Fine (runFrom stepTables n k a t .answer) × Sane (runFrom stepTables n k a t .tables)
-unfolding runFrom numberOf
-runs-sane zero k a t f s = (f, s)
+unfolding runFrom numberOf endsIn
+runs-sane zero k a t f s = ((zero-fine, f), s)
 runs-sane (suc n) k a t f s = let d = step-sane t s in go (stepTables t .answer) (stepTables t .tables) (d .0) (d .1) (λ k a t f s. runs-sane n k a t f s)
   where
     go : (x : Answer) (z : Tables) → FineStep x → Sane z → ((k : ℕ) (a : Answer) (t : Tables) → FineStep a → Sane t → Fine (runFrom stepTables n k a t .answer) × Sane (runFrom stepTables n k a t .tables))
         → Fine (goOn (runFrom stepTables n) k x z .answer) × Sane (goOn (runFrom stepTables n) k x z .tables)
-    go Idle z p q ih = (p, q)
+    go Idle z p q ih = ((zero-fine, p), q)
     go (Ran j) z p q ih = ih (suc k) (Ran j) z p q
-    go (Finished j v) z p q ih = (p, q)
-    go (Refused w) z p q ih = (p, q)
+    go (Finished j v) z p q ih = ((zero-fine, p), q)
+    go (Refused w) z p q ih = ((zero-fine, p), q)
 
 run-sane : (n : ℕ) (t : Tables) → Sane t → Fine (run n t .answer) × Sane (run n t .tables)
 unfolding run
@@ -200,7 +200,7 @@ run-sane n t s = rw (s .unbroken, run) (go (leb 1 n && leb n 65535))
 
 boot-sane : (t : Tables) → shaped t ≡ true → Fine (boot t .answer) × Sane (boot t .tables)
 unfolding boot
-boot-sane t h = rw (h, boot) ((unfold numberOf in zero-fine), put-sane bootRows t (shaped-true t h) boot-whole boot-good)
+boot-sane t h = rw (h, boot) ((unfold numberOf endsIn in (zero-fine, zero-fine)), put-sane bootRows t (shaped-true t h) boot-whole boot-good)
 
 perform-sane : (c : Call) (t : Tables) → Sane t → Fine (perform c t .answer) × Sane (perform c t .tables)
 unfolding perform
@@ -208,7 +208,7 @@ perform-sane callBoot t s = boot-sane t (true-shaped t (broken-false t (s .unbro
 perform-sane (callDefine l bs) t s = wrap-sane Denied Fine (defineRows l bs) t s denied-fine (λ r w. define-whole r w l bs) (λ r w v. define-good r w v l bs)
 perform-sane (callRecord l n c) t s = wrap-sane Denied Fine (recordRows l n c) t s denied-fine (λ r w. record-whole r w l n c) (λ r w v. record-good r w v l n c)
 perform-sane (callStart k l n m x) t s = wrap-sane Denied Fine (startRows k l n m x) t s denied-fine (λ r w. start-whole r w k l n m x) (λ r w v. start-good r w v k l n m x)
-perform-sane callStep t s = unfold numberOf in step-sane t s
+perform-sane callStep t s = let d = step-sane t s in unfold numberOf endsIn in ((d .0, zero-fine), d .1)
 perform-sane (callRun n) t s = run-sane n t s
 perform-sane (callDrop k) t s = wrap-sane Denied Fine (dropRows k) t s denied-fine (λ r w. drop-whole r w k) (λ r w v. drop-good r w v k)
 

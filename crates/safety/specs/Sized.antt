@@ -1,13 +1,13 @@
--- Each instruction has a byte or more.
-use mathlib.Core.Path.{_≡_, refl, sym, ap, _∙_}
+-- Each instruction has a byte or more, and stands within the code.
+use mathlib.Core.Path.{_≡_, refl, ap}
 use mathlib.Core.Bool.{Bool, true, false}
 use mathlib.Core.Option.{Option, none, some, Option·none-ne-some, Option·some-injective}
 use mathlib.Core.List.{List}
-use Prim.Native.Nat.{ℕ, suc, _+_, _<_, _≤_}
+use Prim.Native.Nat.{ℕ, suc, _+_, _<_}
 use native.Mathlib.Omega.{arith}
 use lib.ListN.{length, getD}
 use lib.Dec.{leb}
-use Rattle.definition.specs.declared.Opcode.{Opcode}
+use borrow.Author.Tests.{leb-true}
 use Rattle.definition.specs.declared.Instruction.{Instruction}
 use Rattle.definition.specs.Instructions.{opcodeOf, inlineLength, instructionOf, Decoded, sizedAs, decode}
 
@@ -15,6 +15,15 @@ sized-as : (n : ℕ) (o : Option Instruction) (i : Decoded) → sizedAs (suc n) 
 unfolding sizedAs
 sized-as n none i e = absurd (Option·none-ne-some i e)
 sized-as n (some j) i e = let z : suc n ≡ i .size = ap (λ (d : Decoded). d .size) (Option·some-injective _ _ e) in omega arith
+
+pub within : (s : List ℕ) (p : ℕ) (i : Decoded) → decode s p ≡ some i → p < length s
+unfolding decode
+within s p i h = go (leb (p + suc (inlineLength (opcodeOf (getD s p 0)))) (length s)) refl h
+  where
+    go : (t : Bool) → leb (p + suc (inlineLength (opcodeOf (getD s p 0)))) (length s) ≡ t
+        → (elim t as (λ _. Option Decoded) [ true ↦ sizedAs (suc (inlineLength (opcodeOf (getD s p 0)))) (instructionOf s (p + 1) (opcodeOf (getD s p 0))) | false ↦ none ]) ≡ some i → p < length s
+    go true q e = let l = leb-true (p + suc (inlineLength (opcodeOf (getD s p 0)))) (length s) q in omega arith
+    go false q e = absurd (Option·none-ne-some i e)
 
 pub sized : (s : List ℕ) (p : ℕ) (i : Decoded) → decode s p ≡ some i → 0 < i .size
 unfolding decode

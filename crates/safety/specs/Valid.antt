@@ -1,13 +1,12 @@
 -- The invariant: every value conforms to its place.
-use mathlib.Core.Path.{_≡_, refl, sym, ap, _∙_}
-use mathlib.Core.Bool.{Bool, true, false, false≢true, not, _&&_, _||_}
-use mathlib.Core.Option.{Option, none, some, Option·none-ne-some, Option·some-injective}
-use mathlib.Core.List.{List, [], _∷_, _++_, map, List·Memᴰ, Memᴰ·append-left, Memᴰ·append-right}
-use mathlib.Core.Logic.{_⊎_, inl, inr, _≢_}
-use Prim.Native.Nat.{ℕ, zero, suc, _+_, _-_, _≤_, _<_, _%_}
-use native.Mathlib.Omega.{arith}
-use lib.ListN.{length, getElem?, set}
-use Rattle.definition.specs.Classes.{Base, Class, Method, find, hasMethod, loaderOf, slots, superOf}
+use mathlib.Core.Path.{_≡_}
+use mathlib.Core.Bool.{true}
+use mathlib.Core.Option.{Option, none, some}
+use mathlib.Core.List.{List, [], _∷_, List·Memᴰ}
+use mathlib.Core.Logic.{_≢_}
+use Prim.Native.Nat.{ℕ, _-_, _<_}
+use lib.ListN.{length, getElem?}
+use Rattle.definition.specs.Classes.{Class, Method, find, hasMethod, loaderOf, slots, superOf}
 use Rattle.definition.specs.Constraints.{Agrees, World, posted, subtypeEdges}
 use Rattle.definition.specs.Machine.{Frame, Object, Value, intValue, nullValue, objectValue, unsetValue, unlistedValue}
 use Rattle.definition.specs.Requests.{Request, at}

@@ -1,9 +1,9 @@
 -- No value is counted as misplaced exactly if each field, operand and set local is placed in the words of demand 3.
-use mathlib.Core.Path.{_≡_, refl, sym, ap, _∙_}
+use mathlib.Core.Path.{_≡_, refl}
 use mathlib.Core.Bool.{Bool, true, false, false≢true}
 use mathlib.Core.Option.{Option, none, some, Option·none-ne-some, Option·some-injective}
-use mathlib.Core.List.{List, [], _∷_}
-use Prim.Native.Nat.{ℕ, zero, suc, _+_, _<_}
+use mathlib.Core.List.{List, [], _∷_, reverse, reverse-reverse}
+use Prim.Native.Nat.{ℕ, zero, suc, _+_}
 use native.Mathlib.Omega.{arith}
 use lib.ListN.{getElem?}
 use Rattle.definition.specs.Lists.{Each}
@@ -17,7 +17,7 @@ use Rattle.definition.specs.Tables.{Rows, worldOf}
 use Rattle.definition.specs.Misplaced.{Placed, placed, PlacedLocal, placedLocal, failures, misplacedFields, FrameTypes, typesOf, misplacedInFrame, misplacedInFrames, misplacedIn, FieldsPlaced, FramePlaced, FramesPlaced, AllPlaced}
 use Rattle.laws.specs.Upward.{below-true, true-below}
 use Rattle.laws.specs.Agreement.{super-falls}
-use Rattle.laws.specs.Options.{each-more}
+use Rattle.laws.specs.Options.{each-more, each-reverse}
 use Rattle.safety.specs.Misplaced.{none-bad}
 
 -- The test and the words, for one value
@@ -104,6 +104,9 @@ bad-none f (x ∷ xs) (y ∷ ys) h = go (f x y) refl h (bad-none f xs ys)
 failing : {A B : Type 0} (f : A → B → Bool) (R : A → B → Type 0) → ((x : A) (y : B) → f x y ≡ true → R x y) → (xs : List A) (ys : List B) → failures f xs ys ≡ 0 → Each R xs ys
 failing f R g xs ys h = each-more g xs ys (bad-none f xs ys h)
 
+turned : {A B : Type 0} (R : A → B → Type 0) (xs : List A) (ys : List B) → Each R (reverse xs) (reverse ys) → Each R xs ys
+turned R xs ys h = rw (reverse-reverse xs, reverse-reverse ys) at (each-reverse R (reverse xs) (reverse ys) h)
+
 sum-zero : (a b : ℕ) → a + b ≡ 0 → (a ≡ 0) × (b ≡ 0)
 sum-zero a b h = (omega arith, omega arith)
 
@@ -135,13 +138,13 @@ module _ (w : World) (os : List Object) where
   frame-words waits f h = go (typesOf w waits f) refl h
     where
       go : (x : Option FrameTypes) → typesOf w waits f ≡ x
-          → _≡_ {A = ℕ} (elim x as (λ _. ℕ) [ none ↦ 1 | some y ↦ failures (placed w os (y .loader)) (y .operands) (f .operands) + failures (placedLocal w os (y .loader)) (y .locals) (f .locals) ]) 0
+          → _≡_ {A = ℕ} (elim x as (λ _. ℕ) [ none ↦ 1 | some y ↦ failures (placed w os (y .loader)) (reverse (y .operands)) (reverse (f .operands)) + failures (placedLocal w os (y .loader)) (y .locals) (f .locals) ]) 0
           → FramePlaced w os waits f
       go none e q = absurd (omega arith)
       go (some y) e q = let z = sum-zero _ _ q in record {
         types = y;
         has = e;
-        operands = failing _ _ (placed-is w os (y .loader)) (y .operands) (f .operands) (z .0);
+        operands = turned (Placed w os (y .loader)) (y .operands) (f .operands) (failing _ _ (placed-is w os (y .loader)) (reverse (y .operands)) (reverse (f .operands)) (z .0));
         locals = failing _ _ (local-is w os (y .loader)) (y .locals) (f .locals) (z .1);
       }
 
@@ -149,7 +152,7 @@ module _ (w : World) (os : List Object) where
   unfolding misplacedInFrame
   words-frame waits f h = let y = h .types in rw (h .has, misplacedInFrame)
       (rw (
-        none-bad _ (placed w os (y .loader)) (is-placed w os (y .loader)) (y .operands) (f .operands) (h .operands),
+        none-bad _ (placed w os (y .loader)) (is-placed w os (y .loader)) (reverse (y .operands)) (reverse (f .operands)) (each-reverse (Placed w os (y .loader)) (y .operands) (f .operands) (h .operands)),
         none-bad _ (placedLocal w os (y .loader)) (is-local w os (y .loader)) (y .locals) (f .locals) (h .locals),
       ) refl)
 

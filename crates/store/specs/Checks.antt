@@ -2,7 +2,7 @@
 -- off files that are known to read, superclasses and sizes, rows and values.
 use mathlib.Core.Bool.{Bool, true, false}
 use mathlib.Core.List.{List, [], _∷_}
-use Prim.Native.Nat.{ℕ, _+_, _-_, _<_, _≤_}
+use Prim.Native.Nat.{ℕ, _+_, _*_, _-_, _<_, _≤_}
 use lib.ListN.{length, getD}
 use lib.Dec.{eqb, leb, ltb}
 use mathlib.Core.Path.{_≡_}
@@ -10,7 +10,7 @@ use Rattle.definition.specs.Lists.{every, all, isSome, rows, stack}
 use Rattle.definition.specs.Classes.{Base, superOf}
 use Rattle.definition.specs.Machine.{Value, unsetValue, intValue, nullValue, objectValue, unlistedValue, Object, Frame}
 use Rattle.definition.specs.File.{readFile}
-use Rattle.definition.specs.Tables.{Tables, shaped, ClassRow, classRowAt, entryAt, tieAt, subtypeAt, objectAt, frameIn, sizeOf, cacheOf, tiesOf, subtypesOf, objectsOf, framesOf}
+use Rattle.definition.specs.Tables.{Tables, shaped, ClassRow, classRowAt, entryAt, tieAt, subtypeAt, fieldAt, objectAt, frameIn, sizeOf}
 use Rattle.definition.specs.Broken.{within, isObject, entryFits, tieFits, subtypeFits}
 use Rattle.classfile.specs.Reading.{partOf}
 use Rattle.resolution.specs.Quick.{quickOf}
@@ -44,6 +44,10 @@ linkedSize b c = elim (linked b c) [ true ↦ Count (sizeOf b c) | false ↦ Unf
 -- a table with the sizes of classes 0 to n - 1, each at most 16
 abbrev pub Sized : Base → ℕ → List ℕ → Type 0
 Sized b n sizes = (c : ℕ) → c < n → (getD sizes c 0 ≡ sizeOf b c) × (sizeOf b c ≤ 16)
+
+-- an object whose class's size stands in such a table
+unfoldable pub objectSized : List ℕ → List ℕ → ℕ → Object
+objectSized sizes t o = record { class = getD t (o * 33) 0; values = rows (fieldAt t o) (getD sizes (getD t (o * 33) 0) 0) 0 }
 
 -- Values, where there are m objects; objects and frames, where there are n classes
 
@@ -82,6 +86,15 @@ objectsFit b counts objects = all (objectIn (getD counts 0 0) (getD counts 5 0))
 unfoldable pub framesFit : List ℕ → List ℕ → ℕ → Bool
 framesFit counts frames k = all (frameFit (getD counts 0 0) (getD counts 5 0)) (stack (frameIn frames k) (getD counts (6 + k) 0))
 
+-- superclasses and sizes, and all values of objects and frames
+unfoldable pub valuesFit : Base → List ℕ → List ℕ → List ℕ → Bool
+valuesFit b counts objects frames = every
+    (linksFit b (getD counts 0 0)
+    ∷ objectsFit b counts objects
+    ∷ framesFit counts frames 0
+    ∷ framesFit counts frames 1
+    ∷ [])
+
 -- All together
 
 unfoldable pub checks : Tables → Bool
@@ -90,8 +103,5 @@ checks t = every
     ∷ within (t .counts)
     ∷ sourcesFit (getD (t .counts) 1 0) (t .kept) (rows (classRowAt (t .classes)) (getD (t .counts) 0 0) 0)
     ∷ rowsFit (t .counts) (t .cache) (t .ties) (t .subtypes)
-    ∷ linksFit (quickOf t) (getD (t .counts) 0 0)
-    ∷ objectsFit (quickOf t) (t .counts) (t .objects)
-    ∷ framesFit (t .counts) (t .frames) 0
-    ∷ framesFit (t .counts) (t .frames) 1
+    ∷ valuesFit (quickOf t) (t .counts) (t .objects) (t .frames)
     ∷ [])

@@ -25,7 +25,7 @@ use Rattle.classfile.specs.Laws.{reads-some}
 use Rattle.classfile.specs.Searches.{file-part}
 use Rattle.resolution.specs.Quick.{quickOf}
 use Rattle.resolution.specs.Unbroken.{Sources, part-same, part-within, part-reads, quick-view, row-first, row-other}
-use Rattle.store.specs.Checks.{fileFits, sourcesFit, linked, linksFit, number, valueIn, localIn, objectIn, frameFit, rowsFit, objectsFit, framesFit, checks}
+use Rattle.store.specs.Checks.{fileFits, sourcesFit, linked, linksFit, number, valueIn, localIn, objectIn, frameFit, rowsFit, objectsFit, framesFit, valuesFit, checks}
 
 -- Values: an object exists exactly if its number is below the number of objects
 
@@ -111,7 +111,7 @@ module _ (n : ℕ) (kept : List ℕ) where
   said-file k f = true-every _ (lt-ltb (k .loader) 16 (f .loader), (le-leb (k .start + k .size) n (f .within), (f .reads, tt)))
 
   module _ (g : ℕ → ClassRow) where
-    sources-first : (m : ℕ) → sourcesFit n kept (rows g m 0) ≡ true → 0 < m → First (g 0)
+    pub sources-first : (m : ℕ) → sourcesFit n kept (rows g m 0) ≡ true → 0 < m → First (g 0)
     unfolding sourcesFit rows isObject
     sources-first zero h l = absurd (omega arith)
     sources-first (suc m) h l =
@@ -131,9 +131,10 @@ module _ (n : ℕ) (kept : List ℕ) where
     said-sources (suc m) f h =
         let e : suc m - 1 ≡ m = omega arith in
         let first = f (omega arith) in
-        true-every _
-        (true-every _ (eq-eqb (g 0 .loader) 0 (first .loader), (eq-eqb (g 0 .start) 0 (first .start), (eq-eqb (g 0 .size) 0 (first .size), tt))),
-        (rw e at (said-rest (fileFits n kept) g (suc m) (λ c k l. said-file (g c) (h c k l))), tt))
+        true-every _ (
+          true-every _ (eq-eqb (g 0 .loader) 0 (first .loader), (eq-eqb (g 0 .start) 0 (first .start), (eq-eqb (g 0 .size) 0 (first .size), tt))),
+          (rw e at (said-rest (fileFits n kept) g (suc m) (λ c k l. said-file (g c) (h c k l))), tt),
+        )
 
 -- Superclasses and sizes
 
@@ -173,10 +174,11 @@ module _ (t : Tables) (bytes : getD (t .counts) 1 0 ≤ length (t .kept)) where
     first = sources-first (getD (t .counts) 1 0) (t .kept) rowOf few h;
     others = λ c k l.
         let f = sources-other (getD (t .counts) 1 0) (t .kept) rowOf few h c k l in
-        let bs = partOf (t .kept) (rowOf c .start) (rowOf c .size) in
-        (quickFile bs,
-        file-part (keptOf t) (rowOf c)
-        ∙ (ap readFile (part-same (t .kept) (getD (t .counts) 1 0) bytes (rowOf c .start) (rowOf c .size) (f .within)) ∙ reads-some bs (f .reads)));
+        let bs = partOf (t .kept) (rowOf c .start) (rowOf c .size) in (
+          quickFile bs,
+          file-part (keptOf t) (rowOf c)
+              ∙ (ap readFile (part-same (t .kept) (getD (t .counts) 1 0) bytes (rowOf c .start) (rowOf c .size) (f .within)) ∙ reads-some bs (f .reads)),
+        );
   }
 
   -- and the definition's are files that fit
@@ -191,34 +193,50 @@ enough : (t : Tables) → shaped t ≡ true → within (t .counts) ≡ true → 
 enough t s w = omega (arith, shaped-true t s .kept, within-true (t .counts) w .kept)
 
 checks-sound : (t : Tables) → checks t ≡ true → whole t ≡ true
-unfolding checks whole sound view viewOver rowsFit
+unfolding checks whole sound view viewOver rowsFit valuesFit
 checks-sound t h =
     let p = every-true _ h in
     let bytes = enough t (p .0) (p .1 .0) in
     let s = fit-sources t bytes (p .1 .1 .0) in
     let e = quick-view t s in
     let r = every-true _ (p .1 .1 .1 .0) in
+    let v = every-true _ (p .1 .1 .1 .1 .0) in
     let n = getD (t .counts) 0 0 in
     let b = viewBase t in
     let classes : Classes b (keptOf t) (classRowsOf t) =
     classes-said b (keptOf t) (classRowAt (t .classes)) n (s .first) (λ c k l.
     let f = s .others c k l in
-    let q = links-said b n (ap (λ (d : Base). linksFit d n) (sym e) ∙ p .1 .1 .1 .1 .0) c k l in
+    let q = links-said b n (ap (λ (d : Base). linksFit d n) (sym e) ∙ v .0) c k l in
     let u = is-some _ (q .0) in
     record { loader = sources-other (getD (t .counts) 1 0) (t .kept) (classRowAt (t .classes)) n (p .1 .1 .0) c k l .loader; file = f .0; reads = f .1; super = u .0; isSuper = u .1; size = q .1 }) in
-    true-every _
-    (p .0,
-    (p .1 .0,
-    (true-every _
-    (classes-fit _ _ _ classes,
-    (ap (λ (m : ℕ). all (entryFits m) (cacheOf t)) (classes-number t) ∙ r .0,
-    (r .1 .0,
-    (r .1 .1 .0,
-    (objects-same t b ∙ (ap (λ (d : Base). objectsFit d (t .counts) (t .objects)) (sym e) ∙ p .1 .1 .1 .1 .1 .0),
-    (frames-same t b 0 ∙ p .1 .1 .1 .1 .1 .1 .0, (frames-same t b 1 ∙ p .1 .1 .1 .1 .1 .1 .1 .0, tt))))))), tt)))
+    true-every _ (
+      p .0,
+      (
+        p .1 .0,
+        (
+          true-every _ (
+            classes-fit _ _ _ classes,
+            (
+              ap (λ (m : ℕ). all (entryFits m) (cacheOf t)) (classes-number t) ∙ r .0,
+              (
+                r .1 .0,
+                (
+                  r .1 .1 .0,
+                  (
+                    objects-same t b ∙ (ap (λ (d : Base). objectsFit d (t .counts) (t .objects)) (sym e) ∙ v .1 .0),
+                    (frames-same t b 0 ∙ v .1 .1 .0, (frames-same t b 1 ∙ v .1 .1 .1 .0, tt)),
+                  ),
+                ),
+              ),
+            ),
+          ),
+          tt,
+        ),
+      ),
+    )
 
 sound-checks : (t : Tables) → whole t ≡ true → checks t ≡ true
-unfolding checks whole sound view viewOver rowsFit
+unfolding checks whole sound view viewOver rowsFit valuesFit
 sound-checks t h =
     let p = every-true _ h in
     let q = every-true _ (p .1 .1 .0) in
@@ -230,14 +248,28 @@ sound-checks t h =
     let files = said-sources (getD (t .counts) 1 0) (t .kept) g n (row-first b (keptOf t) g n k) (λ c i j. sources-fit t bytes c b (row-other b (keptOf t) g n k c i j)) in
     let e = quick-view t (fit-sources t bytes files) in
     let links = said-links b n (λ c i j. let s = row-other b (keptOf t) g n k c i j in (some-is _ _ (s .isSuper), s .size)) in
-    true-every _
-    (p .0,
-    (p .1 .0,
-    (files,
-    (true-every _ (ap (λ (m : ℕ). all (entryFits m) (cacheOf t)) (sym (classes-number t)) ∙ q .1 .0, (q .1 .1 .0, (q .1 .1 .1 .0, tt))),
-    (ap (λ (d : Base). linksFit d n) e ∙ links,
-    (ap (λ (d : Base). objectsFit d (t .counts) (t .objects)) e ∙ (sym (objects-same t b) ∙ q .1 .1 .1 .1 .0),
-    (sym (frames-same t b 0) ∙ q .1 .1 .1 .1 .1 .0, (sym (frames-same t b 1) ∙ q .1 .1 .1 .1 .1 .1 .0, tt))))))))
+    true-every _ (
+      p .0,
+      (
+        p .1 .0,
+        (
+          files,
+          (
+            true-every _ (ap (λ (m : ℕ). all (entryFits m) (cacheOf t)) (sym (classes-number t)) ∙ q .1 .0, (q .1 .1 .0, (q .1 .1 .1 .0, tt))),
+            (
+              true-every _ (
+                ap (λ (d : Base). linksFit d n) e ∙ links,
+                (
+                  ap (λ (d : Base). objectsFit d (t .counts) (t .objects)) e ∙ (sym (objects-same t b) ∙ q .1 .1 .1 .1 .0),
+                  (sym (frames-same t b 0) ∙ q .1 .1 .1 .1 .1 .0, (sym (frames-same t b 1) ∙ q .1 .1 .1 .1 .1 .1 .0, tt)),
+                ),
+              ),
+              tt,
+            ),
+          ),
+        ),
+      ),
+    )
 
 -- the tests fail exactly if the tables are broken
 pub checks-broken : (t : Tables) → broken t ≡ not (checks t)

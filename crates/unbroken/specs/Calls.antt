@@ -1,16 +1,16 @@
 -- Every call on rows keeps whole rows whole, and the rows it leaves have the classes and constraints of the machine over classes.
 use mathlib.Core.Path.{_≡_, refl, sym, ap, _∙_, subst}
-use mathlib.Core.Bool.{Bool, true, false, false≢true, not, _&&_, _||_}
+use mathlib.Core.Bool.{Bool, true, false}
 use mathlib.Core.Option.{Option, none, some, Option·none-ne-some, Option·some-injective}
-use mathlib.Core.List.{List, [], _∷_, _++_, map, append-nil, List·Memᴰ, List·Memᴰ·head, List·Memᴰ·tail}
+use mathlib.Core.List.{List, [], _∷_, _++_, map, List·Memᴰ, List·Memᴰ·head, List·Memᴰ·tail}
 use mathlib.Core.Logic.{_⊎_, inl, inr}
 use Prim.Native.Nat.{ℕ, zero, suc, _+_, _-_, _≤_, _<_}
 use native.Mathlib.Omega.{arith}
-use lib.ListN.{length, getElem?, take, drop, length-append, length-map, length-drop}
-use lib.Seq.{take-append-le, drop-append-le, take-at, drop-at, take-length}
+use lib.ListN.{length, getElem?, drop, length-append, length-map, length-drop}
+use lib.Seq.{take-append-le, drop-append-le, drop-at, take-length}
 use lib.Dec.{eqb, leb, ltb}
-use borrow.Author.Tests.{eqb-true, leb-true, ltb-true, le-leb}
-use Rattle.definition.specs.Answers.{Result, _>>=_, need, ok, refused}
+use borrow.Author.Tests.{leb-true, ltb-true, le-leb}
+use Rattle.definition.specs.Answers.{Result, _>>=_, need, ok}
 use Rattle.definition.specs.Calls.{Given, addEntry, addFile, bootRows, defineRows, dropRows, recordRows, startRows, stepOn, stepRows, withFrames, stepTask, progressed, framesIn}
 use Rattle.definition.specs.Classes.{Base, Class, Entry, Method, find, hasMethod, loaderOf, ownSlots, slots, superOf}
 use Rattle.definition.specs.Constraints.{Subtype, Tie, World, agrees, newTie}

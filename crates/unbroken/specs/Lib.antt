@@ -5,3 +5,4 @@ pub mod Unbroken
 pub mod OnRows
 pub mod Record
 pub mod Tasks
+pub mod Lasting

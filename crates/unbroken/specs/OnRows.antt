@@ -9,12 +9,12 @@ use Rattle.definition.specs.declared.Refusal.the-variants.{Word}
 use Rattle.definition.specs.declared.Answer.{Answer}
 use Rattle.definition.specs.declared.Answer.the-variants.{Idle, Ran, Finished, Refused}
 use Rattle.definition.specs.declared.Reply.{Reply}
-use Rattle.definition.specs.declared.Reply.the-variants.{Accepted, Stepped, RanFor, Denied}
-use Rattle.definition.specs.Answers.{Result, refused, ok}
-use Rattle.definition.specs.Tables.{Tables, shaped, Rows, view, put, putTie}
+use Rattle.definition.specs.declared.Reply.the-variants.{Accepted, Stepped, Denied}
+use Rattle.definition.specs.Answers.{Result}
+use Rattle.definition.specs.Tables.{Tables, shaped, Rows, view, put}
 use Rattle.definition.specs.Broken.{broken}
 use Rattle.definition.specs.Calls.{Given, bootRows, defineRows, recordRows, startRows, dropRows, stepRows, Done, done, wrap, boot, stepTables, goOn, runFrom, run, Call, callBoot, callDefine, callRecord, callStart, callStep, callRun, callDrop, perform, performAll}
-use Rattle.laws.specs.Wrapped.{wrapped, Ok, ok-at}
+use Rattle.laws.specs.Wrapped.{wrapped, ok-at}
 use Rattle.layout.specs.Whole.{Whole}
 use Rattle.layout.specs.View.{put-view}
 use Rattle.layout.specs.Unbroken.{Lengths, shaped-true, true-shaped, view-put, true-whole, broken-false}

@@ -1,15 +1,14 @@
 -- A step keeps counts, numbers and kinds within what a store allows.
 use mathlib.Core.Path.{_≡_, refl, sym, ap, _∙_}
-use mathlib.Core.Bool.{Bool, true, false, false≢true, not, _&&_, _||_}
+use mathlib.Core.Bool.{Bool, true, false, _||_}
 use mathlib.Core.Option.{Option, none, some, Option·none-ne-some, Option·some-injective}
 use mathlib.Core.List.{List, [], _∷_, _++_, map}
-use mathlib.Core.Logic.{_⊎_, inl, inr}
-use Prim.Native.Nat.{ℕ, zero, suc, _+_, _-_, _≤_, _<_, _%_}
+use Prim.Native.Nat.{ℕ, zero, suc, _+_, _-_, _≤_, _<_}
 use native.Mathlib.Omega.{arith}
 use lib.ListN.{length, getElem?, set, length-append, length-set, length-map}
 use lib.Dec.{eqb, leb, ltb}
 use borrow.Author.Tests.{leb-true, ltb-true}
-use Rattle.definition.specs.Answers.{Result, _>>=_, ok, refused, take?}
+use Rattle.definition.specs.Answers.{Result, ok, refused, take?}
 use Rattle.definition.specs.Classes.{Base, Class, Slot, find, hasMethod, loaderOf, slots, superOf}
 use Rattle.definition.specs.Constraints.{Tie, World, newTie, post, posted, tieIs}
 use Rattle.definition.specs.Instructions.{Decoded}

@@ -1,12 +1,11 @@
 -- While the quote has a frame, no call but a boot, a start or a drop of the report changes the report's frames.
 use mathlib.Core.Path.{_≡_, refl, sym, ap, _∙_, subst}
-use mathlib.Core.Bool.{Bool, true, false, false≢true, _&&_}
+use mathlib.Core.Bool.{Bool, true, false, _&&_}
 use mathlib.Core.Option.{Option, none, some}
-use mathlib.Core.List.{List, [], _∷_, _++_}
-use Prim.Native.Nat.{ℕ, zero, suc, _<_}
+use mathlib.Core.List.{List, [], _∷_}
+use Prim.Native.Nat.{ℕ, zero, suc}
 use native.Mathlib.Omega.{arith}
-use lib.ListN.{length}
-use lib.Dec.{leb, ltb}
+use lib.Dec.{leb}
 use borrow.Author.Tests.{ltb-true}
 use Rattle.definition.specs.declared.Refusal.{Refusal}
 use Rattle.definition.specs.declared.Refusal.the-variants.{Word}
@@ -16,16 +15,16 @@ use Rattle.definition.specs.declared.Answer.{Answer}
 use Rattle.definition.specs.declared.Answer.the-variants.{Idle, Ran, Finished, Refused}
 use Rattle.definition.specs.declared.Reply.{Reply}
 use Rattle.definition.specs.declared.Reply.the-variants.{Denied}
-use Rattle.definition.specs.Answers.{Result, refused, ok, _>>=_, need}
+use Rattle.definition.specs.Answers.{Result, refused, ok}
 use Rattle.definition.specs.Classes.{Class}
 use Rattle.definition.specs.Constraints.{World}
 use Rattle.definition.specs.Instructions.{Decoded}
 use Rattle.definition.specs.Machine.{Value, Object, Frame, Progress, give, execute, step}
-use Rattle.definition.specs.Tables.{Tables, Rows, worldOf, view, put}
+use Rattle.definition.specs.Tables.{Tables, Rows, worldOf, view}
 use Rattle.definition.specs.Broken.{broken}
 use Rattle.definition.specs.Calls.{Given, progressed, defineRows, recordRows, startRows, dropRows, answerOf, stepTask, stepOn, stepRows, Done, done, carried, wrap, stepTables, goOn, runFrom, run, Call, callBoot, callDefine, callRecord, callStart, callStep, callRun, callDrop, perform}
 use Rattle.laws.specs.Results.{bind-ok, need-ok}
-use Rattle.laws.specs.Wrapped.{wrapped, Ok, ok-at, then}
+use Rattle.laws.specs.Wrapped.{Ok, ok-at, then}
 use Rattle.layout.specs.Whole.{Whole}
 use Rattle.layout.specs.Unbroken.{view-put, broken-false}
 use Rattle.unbroken.specs.Calls.{define-whole, record-whole, start-whole, step-whole, drop-whole}
@@ -74,7 +73,7 @@ step-left w os f fs = then Left _ _ (λ n _. left w os f fs (n .theClass) (n .at
 -- On tables
 
 -- what holds of an accepted call's rows holds of what the tables then show
-shown : {A : Type 0} (deny : Refusal → A) (f : Rows → Result (Given A)) (P : A → Rows → Type 0) (t : Tables) → Keeps f → ((w : Refusal) → P (deny w) (view t))
+pub shown : {A : Type 0} (deny : Refusal → A) (f : Rows → Result (Given A)) (P : A → Rows → Type 0) (t : Tables) → Keeps f → ((w : Refusal) → P (deny w) (view t))
     → ((g : Given A) → f (view t) ≡ ok g → P (g .answer) (g .rows)) → P (wrap deny f t .answer) (view (wrap deny f t .tables))
 unfolding wrap
 shown {A} deny f P t k deny-holds ok-holds = go (broken t) refl

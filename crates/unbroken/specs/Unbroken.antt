@@ -1,5 +1,5 @@
 -- From any store that is not broken, every call leaves one that is not broken; so a run may test for it once.
-use mathlib.Core.Path.{_≡_, refl, sym, ap, _∙_}
+use mathlib.Core.Path.{_≡_, refl, ap, _∙_}
 use mathlib.Core.Bool.{Bool, true, false, _&&_}
 use Prim.Native.Nat.{ℕ, zero, suc}
 use lib.Dec.{leb}
@@ -10,7 +10,7 @@ use Rattle.definition.specs.declared.Answer.the-variants.{Idle, Ran, Finished, 
 use Rattle.definition.specs.declared.Reply.{Reply}
 use Rattle.definition.specs.declared.Reply.the-variants.{Denied}
 use Rattle.definition.specs.Answers.{Result}
-use Rattle.definition.specs.Tables.{Tables, shaped, Rows, view, put}
+use Rattle.definition.specs.Tables.{Tables, shaped, Rows, view}
 use Rattle.definition.specs.Broken.{broken}
 use Rattle.definition.specs.Calls.{Given, bootRows, defineRows, recordRows, startRows, dropRows, stepRows, Done, done, wrap, boot, stepTables, goOn, runFrom, run, Call, callBoot, callDefine, callRecord, callStart, callStep, callRun, callDrop, perform}
 use Rattle.laws.specs.Wrapped.{wrapped, Ok, ok-at}

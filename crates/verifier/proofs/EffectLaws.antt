@@ -12,7 +12,6 @@ use borrow.Author.Tests.{eq-eqb, ne-eqb, eqb-true, eqb-false, lt-leb, le-leb}
 use Rattle.definition.specs.Instructions.{pick}
 use Rattle.definition.specs.Lists.{stack}
 use Rattle.definition.specs.Maybe.{_>>=_}
-use Rattle.definition.specs.declared.Instruction.{Instruction}
 use Rattle.definition.specs.declared.Instruction.the-variants.{AconstNull, Sipush, Iload, Aload, Areturn}
 use Rattle.definition.specs.Verifier.{VerifierType, typeInt, typeNull, typeClass, Note, TypeState, Flow, flow, meetClass, meetInt, meets, asReference, pop, effect, returns}
 use Rattle.verifier.specs.declared.types.Types.{Types}
@@ -26,7 +25,7 @@ use Rattle.verifier.proofs.TypeLaws.{type-int, type-null, type-class, l
 -- A class that is demanded, and a class that stands there
 
 module _ (a b : ℕ) where
-  by-name : (t : Bool) → eqb a b ≡ t → meetClass b (typeClass a) ≡ pick t (some []) (some (record { low = a; high = b } ∷ []))
+  pub by-name : (t : Bool) → eqb a b ≡ t → meetClass b (typeClass a) ≡ pick t (some []) (some (record { low = a; high = b } ∷ []))
   unfolding meetClass pick
   by-name true e = rw (meetClass, e)
   by-name false e = rw (meetClass, e)
@@ -42,7 +41,7 @@ module _ (a b : ℕ) where
 -- A name that is demanded
 
 module _ (t : VerifierType) (b : ℕ) where
-  by-kind : (u : Bool) → eqb b 1 ≡ u → meets t b ≡ pick u (meetInt t) (meetClass b t)
+  pub by-kind : (u : Bool) → eqb b 1 ≡ u → meets t b ≡ pick u (meetInt t) (meetClass b t)
   unfolding meets pick
   by-kind true e = rw (meets, e)
   by-kind false e = rw (meets, e)
@@ -161,7 +160,7 @@ pushed-alone types d t a = ap going (alone a _)
 -- A reference that is returned
 
 module _ (r : ℕ) (s : TypeState) where
-  by-result : (u : Bool) → eqb r 1 ≡ u → returns Areturn r s ≡ pick u none (pop (s .operands) >>= λ p. meetClass r (p .top))
+  pub by-result : (u : Bool) → eqb r 1 ≡ u → returns Areturn r s ≡ pick u none (pop (s .operands) >>= λ p. meetClass r (p .top))
   unfolding returns pick
   by-result true e = rw (returns, e)
   by-result false e = rw (returns, e)

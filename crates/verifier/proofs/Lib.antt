@@ -1,5 +1,9 @@
 -- Laws that the proofs of several functions cite.
-pub mod RowLaws
 pub mod DecodingLaws
 pub mod TypeLaws
 pub mod EffectLaws
+pub mod TurnLaws
+pub mod NoteLaws
+pub mod TraceLaws
+pub mod CountLaws
+pub mod ClassLaws

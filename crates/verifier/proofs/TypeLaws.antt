@@ -16,7 +16,7 @@ use Rattle.definition.specs.Verifier.{VerifierType, typeInt, typeNull, typeClas
 use Rattle.verifier.specs.declared.types.Popped.{Popped}
 use Rattle.verifier.specs.declared.types.Popped.the-variants.{Top, Empty}
 use Rattle.verifier.specs.Types.{typeOf, localOf, operandAt, localAt, localsOf, typesOf, entryOf, popped, knownLocal}
-use Rattle.verifier.proofs.RowLaws.{stack-top, rows-at, rows-past}
+use Rattle.layout.specs.Places.{stack-top, rows-there, rows-past}
 
 -- A number's type
 
@@ -62,7 +62,7 @@ pop-empty g d h = rw h
 
 pub pop-top : (g : ℕ → VerifierType) (d : ℕ) → d ≢ 0 → pop (stack g d) ≡ some (record { top = g (d - 1); more = stack g (d - 1) })
 unfolding pop
-pop-top g d h = rw (stack-top g d h)
+pop-top g d h = rw (stack-top g d (omega arith))
 
 -- popped and pushed again
 again : Option (record { top : VerifierType; more : List VerifierType }) → List VerifierType
@@ -90,19 +90,19 @@ module _ (o : List ℕ) (r : Popped) (m : Option (record { top : VerifierType; m
 module _ (l : List ℕ) (i : ℕ) where
   pub local-at : i < 8 → getElem? (localsOf l) i ≡ some (localAt l i)
   unfolding localsOf
-  local-at h = rows-at (localAt l) 8 i h
+  local-at h = rows-there (localAt l) 8 i h
 
   pub local-past : 8 ≤ i → getElem? (localsOf l) i ≡ none
   unfolding localsOf
-  local-past h = rows-past (localAt l) 8 i h
+  local-past h = rows-past (localAt l) 8 0 i h
 
   pub known-at : i < 8 → knownLocal (localsOf l) i ≡ localOf (getD l i 0)
   unfolding knownLocal localsOf localAt _>>=_
-  known-at h = rw (rows-at (localAt l) 8 i h)
+  known-at h = rw (rows-there (localAt l) 8 i h)
 
   pub known-past : 8 ≤ i → knownLocal (localsOf l) i ≡ none
   unfolding knownLocal localsOf _>>=_
-  known-past h = rw (rows-past (localAt l) 8 i h)
+  known-past h = rw (rows-past (localAt l) 8 0 i h)
 
 unset : localOf 65538 ≡ none
 unfolding localOf pick

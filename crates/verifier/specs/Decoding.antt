@@ -7,3 +7,8 @@ use Rattle.verifier.specs.declared.decoding.Reading.the-variants.{At, Un
 unfoldable pub readingOf : Option Decoded → Reading
 readingOf none = Unreadable
 readingOf (some d) = At (d .instruction) (d .size)
+
+-- and back
+unfoldable pub decodedOf : Reading → Option Decoded
+decodedOf Unreadable = none
+decodedOf (At i n) = some (record { instruction = i; size = n })

@@ -2,3 +2,4 @@
 pub mod Decoding
 pub mod Types
 pub mod Effects
+pub mod Trace

@@ -1,8 +1,8 @@
 // Opcode bytes, and the instruction at a point of the code.
 ghost use mathlib.Core.Path.{_≡_};
 ghost use mathlib.Core.Option.{some};
-ghost use Prim.Native.Nat.{_+_, _*_, _<_, _≤_};
-ghost use lib.ListN.{length, getD, set};
+ghost use Prim.Native.Nat.{_≤_};
+ghost use lib.ListN.{length};
 ghost use Rattle.definition.specs.Instructions.{opcodeOf, inlineLength, extend, instructionOf, sizedAs, decode};
 ghost use Rattle.verifier.specs.Decoding.{readingOf};
 use cells::short_at;

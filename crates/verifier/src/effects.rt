@@ -273,7 +273,7 @@ fn areturn(types: Types, result: u16) -> Effect
 }
 
 // What an instruction does in a method with that result type.
-pub fn effect_of(types: Types, i: Instruction, result: u16) -> Effect
+pub(crate) fn effect_of(types: Types, i: Instruction, result: u16) -> Effect
     ensures { λ r. ⌜ outcomeOf types r ≡ outcome i result (typesOf types) ⌝ }
 {
     match i {

@@ -2,8 +2,14 @@
 mod decoding; // decoding.rt: opcode bytes, and the instruction at a point
 mod types; // types.rt: the verifier's types as numbers, and its state at a point
 mod effects; // effects.rt: what each instruction does to the state
+mod turns; // turns.rt: one turn of the walk over the code
+mod methods; // methods.rt: the walk over a method, and the table of notes
+mod classes; // classes.rt: all methods of a class file
 
+pub use classes::verify_class;
 pub use decoding::Reading;
 pub use decoding::decode;
 pub use decoding::inline_length;
 pub use decoding::opcode_of;
+pub use methods::Verified;
+pub use methods::verify_method;

@@ -2,16 +2,17 @@
 ghost use mathlib.Core.Path.{_≡_};
 ghost use Prim.Native.Nat.{_<_};
 ghost use lib.ListN.{getD};
+ghost use Rattle.definition.specs.Lists.{stack};
 ghost use Rattle.definition.specs.Verifier.{typeOfName, pop};
 ghost use Rattle.verifier.specs.Types.{typeOf, localOf, operandAt, localsOf, popped, entryOf, typesOf, knownLocal};
-ghost use Rattle.definition.specs.Lists.{stack};
 
-// A type is a number: a class name is itself.
-pub const INT: u32 = 65536;
+// A type is a number. A class name is itself.
+pub(crate) const INT: u32 = 65536;
 
-pub const NULL: u32 = 65537;
+pub(crate) const NULL: u32 = 65537;
+
 // A local that holds nothing.
-pub const UNSET: u32 = 65538;
+pub(crate) const UNSET: u32 = 65538;
 
 // The types at a point: of the operands, from the lowest, as many as depth says, and of the locals.
 pub struct Types {
@@ -27,14 +28,14 @@ pub enum Popped {
 }
 
 // The type that a name stands for.
-pub fn type_of_name(n: u16) -> u32
+pub(crate) fn type_of_name(n: u16) -> u32
     ensures { λ r. ⌜ (typeOf r ≡ typeOfName n) × (r < 65537) ⌝ }
 {
     if n == 1 { INT } else { cells::from16(n) }
 }
 
 // The types at point 0.
-pub fn entry_types(own: u16, argument: u16) -> Types
+pub(crate) fn entry_types(own: u16, argument: u16) -> Types
     ensures { λ r. ⌜ typesOf r ≡ entryOf own argument ⌝ }
 {
     let first = cells::from16(own);
@@ -54,7 +55,7 @@ fn operand(types: Types, i: usize) -> u32
 }
 
 // The last of d operands.
-pub fn pop(types: Types, d: usize) -> Popped
+pub(crate) fn pop(types: Types, d: usize) -> Popped
     ensures { λ r. ⌜ popped (types .operands) r ≡ pop (stack (operandAt (types .operands)) d) ⌝ }
 {
     if d == 0 {
@@ -64,7 +65,7 @@ pub fn pop(types: Types, d: usize) -> Popped
 }
 
 // The type of a local; unset where there is no such local.
-pub fn local(types: Types, i: u8) -> u32
+pub(crate) fn local(types: Types, i: u8) -> u32
     ensures { λ r. ⌜ localOf r ≡ knownLocal (localsOf (types .locals)) i ⌝ }
 {
     let place = cells::wide8(i);

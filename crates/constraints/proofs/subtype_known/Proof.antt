@@ -1,55 +1,45 @@
+-- None of the rows that were passed is the constraint.
+use Prim.Native.Nat.{_-_, _≤_}
+use mathlib.Core.Path.{_≡_, sym, _∙_}
+use native.Mathlib.Omega.{arith}
 use borrow.Author.Needs.{needs}
-use Rattle.layout.specs.Places.{any-hit, any-on, any-end}
-use Rattle.constraints.proofs.Rows.{any-start}
-use Rattle.constraints.specs.Posting.{note}
+use Rattle.definition.specs.Lists.{any, rows}
 use Rattle.definition.specs.Loading.{subtypeIs}
 use Rattle.definition.specs.Tables.{subtypeAt}
-use Rattle.definition.specs.Lists.{any, rows}
-use native.Mathlib.Omega.{arith}
-use mathlib.Core.Path.{_≡_, refl, sym, ap, _∙_}
-use Prim.Native.Nat.{ℕ, suc, _+_, _*_, _-_, _<_, _≤_}
+use Rattle.layout.specs.Places.{any-hit, any-on, any-end}
+use Rattle.constraints.specs.Posting.{note}
+use Rattle.constraints.proofs.Rows.{any-start}
 use Rattle.constraints.proofs.subtype_known.Statement.{statement}
 use Rattle.constraints.proofs.subtype_known.Tie as tie
-use Rattle.constraints.proofs.subtype_known.Reads as reads
-use Rattle.constraints.proofs.subtype_known.Lts as lts
-use Rattle.cells.proofs.wide16.Reads as wide16-reads
-use Rattle.constraints.proofs.subtype_is.Reads as subtype-is-reads
 
 abbrev Inv-loop : tie.InvT-loop
-Inv-loop subtypes count loader low high n i₀ i = (i ≤ n) × (any (subtypeIs loader (note low high)) (rows (subtypeAt subtypes) (n - i) i) ≡ any (subtypeIs loader (note low high)) (rows (subtypeAt subtypes) count 0))
+Inv-loop subtypes count loader low high n i₀ i = (i ≤ n)
+    × (any (subtypeIs loader (note low high)) (rows (subtypeAt subtypes) (n - i) i)
+    ≡ any (subtypeIs loader (note low high)) (rows (subtypeAt subtypes) count 0))
 
 abbrev μ-loop : tie.MeasureT-loop
 μ-loop subtypes count loader low high n i₀ i = n - i
 
--- src/lib.rt:381:9
-wide16-requires : tie.Need-wide16-requires Inv-loop μ-loop
-wide16-requires c κs = search needs
-
--- src/lib.rt:383:5
 loop-holds : tie.Need-loop-holds Inv-loop μ-loop
 loop-holds c = (omega arith, any-start _ _ _ _ (c .wide16 .ensures .0))
 
--- src/lib.rt:384:12
 subtype-is-requires : tie.Need-subtype-is-requires Inv-loop μ-loop
-subtype-is-requires c κs = omega (arith, c .before .before .wide16 .ensures .1)
+subtype-is-requires c κs =
+    let wide16 = c .before .before .wide16 in
+    omega (arith, wide16 .ensures .1)
 
--- src/lib.rt:385:13
 returns : tie.Need-returns Inv-loop μ-loop
-returns c = sym (any-hit _ _ _ _ (c .before .before .loop-test .taken) (sym (c .before .subtype-is .ensures) ∙ c .if1 .taken)) ∙ c .before .before .before .loop .inv .1
+returns c =
+    let test = c .before .before .loop-test in
+    let loop = c .before .before .before .loop in
+    sym (any-hit _ _ _ _ (test .taken) (sym (c .before .subtype-is .ensures) ∙ c .if1 .taken)) ∙ loop .inv .1
 
--- src/lib.rt:387:9
-add-i : tie.Need-add-i Inv-loop μ-loop
-add-i c = search needs
-
--- src/lib.rt:383:5
-loop-less : tie.Need-loop-less Inv-loop μ-loop
-loop-less c = search needs
-
--- src/lib.rt:383:5
 loop-again : tie.Need-loop-again Inv-loop μ-loop
-loop-again c = (omega arith, sym (any-on _ _ _ _ (c .before .before .loop-test .taken) (sym (c .before .subtype-is .ensures) ∙ c .if1 .left)) ∙ c .before .before .before .loop .inv .1)
+loop-again c =
+    let test = c .before .before .loop-test in
+    let loop = c .before .before .before .loop in
+    (omega arith, sym (any-on _ _ _ _ (test .taken) (sym (c .before .subtype-is .ensures) ∙ c .if1 .left)) ∙ loop .inv .1)
 
--- src/lib.rt:378:1
 returns-2 : tie.Need-returns-2 Inv-loop μ-loop
 returns-2 c = sym (any-end _ _ _ _ (c .loop-test .left)) ∙ c .before .loop .inv .1
 
@@ -59,11 +49,11 @@ subtype-known-spec =
     (tie.spec
     Inv-loop
     μ-loop
-    wide16-requires
+    (λ c κs. search needs)
     loop-holds
     subtype-is-requires
     returns
-    add-i
-    loop-less
+    (λ c. search needs)
+    (λ c. search needs)
     loop-again
     returns-2)

@@ -13,10 +13,18 @@ returns c = rw (decode-past _ _ (c .if1 .taken))
 
 returns-2 : tie.Need-returns-2
 unfolding readingOf
-returns-2 c = rw (decode-cut _ _ _ _ (c .before .before .opcode-of .ensures ∙ ap opcodeOf (c .before .before .before .at8 .ensures)) (c .before .inline-length .ensures) (c .before .before .before .before .if1 .left) (c .if2 .taken))
+returns-2 c =
+    rw
+    (decode-cut _ _ _ _ (c .before .before .opcode-of .ensures ∙ ap opcodeOf (c .before .before .before .at8 .ensures))
+    (c .before .inline-length .ensures) (c .before .before .before .before .if1 .left) (c .if2 .taken))
 
 returns-3 : tie.Need-returns-3
-returns-3 c = rw (c .instruction-of .ensures, decode-whole _ _ _ _ (c .before .before .before .opcode-of .ensures ∙ ap opcodeOf (c .before .before .before .before .at8 .ensures)) (c .before .before .inline-length .ensures) (c .before .before .before .before .before .if1 .left) (c .before .if2 .left))
+returns-3 c =
+    rw (
+      c .instruction-of .ensures,
+      decode-whole _ _ _ _ (c .before .before .before .opcode-of .ensures ∙ ap opcodeOf (c .before .before .before .before .at8 .ensures))
+          (c .before .before .inline-length .ensures) (c .before .before .before .before .before .if1 .left) (c .before .if2 .left),
+    )
 
 pub decode-spec : {M : Type 1} → statement M
 decode-spec =

@@ -17,7 +17,12 @@ returns-2 c = rw (aload-int (c .before .before .before .args .types) _ _ (c .bef
 
 returns-3 : tie.Need-returns-3
 unfolding outcomeOf going typesOf notesIn _>>=_
-returns-3 c = rw (c .push .ensures, aload-reference (c .before .before .before .before .args .types) _ _ (c .before .before .before .local .ensures) (c .before .before .if1 .left) (c .before .if2 .left))
+returns-3 c =
+    rw (
+      c .push .ensures,
+      aload-reference (c .before .before .before .before .args .types) _ _ (c .before .before .before .local .ensures) (c .before .before .if1 .left)
+          (c .before .if2 .left),
+    )
 
 pub aload-spec : {M : Type 1} → statement M
 aload-spec = tie.close (tie.spec (λ c κs. search needs) returns returns-2 (λ c κs. search needs) returns-3)

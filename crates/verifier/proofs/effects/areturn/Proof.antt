@@ -14,11 +14,17 @@ returns c = rw (areturn-int _ _ (c .if1 .taken))
 
 returns-2 : tie.Need-returns-2
 unfolding outcomeOf ending typesOf _>>=_
-returns-2 c = rw (areturn-class _ _ (c .before .before .before .if1 .left), popped-empty _ _ _ (c .before .before .pop .ensures) (c .enum-told .given .1))
+returns-2 c =
+    rw (areturn-class _ _ (c .before .before .before .if1 .left), popped-empty _ _ _ (c .before .before .pop .ensures) (c .enum-told .given .1))
 
 returns-3 : tie.Need-returns-3
 unfolding outcomeOf ending typesOf _>>=_
-returns-3 c = rw (areturn-class _ _ (c .before .before .before .before .before .if1 .left), popped-top _ _ _ (c .before .before .before .before .pop .ensures) (c .before .before .t .given .1), c .meet-class .ensures)
+returns-3 c =
+    rw (
+      areturn-class _ _ (c .before .before .before .before .before .if1 .left),
+      popped-top _ _ _ (c .before .before .before .before .pop .ensures) (c .before .before .t .given .1),
+      c .meet-class .ensures,
+    )
 
 pub areturn-spec : {M : Type 1} → statement M
 areturn-spec =

@@ -16,19 +16,44 @@ returns c = rw (popped-empty _ _ _ (c .before .before .pop .ensures) (c .enum-to
 
 returns-2 : tie.Need-returns-2
 unfolding outcomeOf going effect typesOf _>>=_
-returns-2 c = rw (popped-top _ _ _ (c .before .before .before .before .before .before .pop .ensures) (c .before .before .before .before .x .given .1), popped-empty _ _ _ (c .before .before .pop2 .ensures) (c .enum-told2 .given .1))
+returns-2 c =
+    rw (
+      popped-top _ _ _ (c .before .before .before .before .before .before .pop .ensures) (c .before .before .before .before .x .given .1),
+      popped-empty _ _ _ (c .before .before .pop2 .ensures) (c .enum-told2 .given .1),
+    )
 
 returns-3 : tie.Need-returns-3
 unfolding outcomeOf going effect typesOf _>>=_
-returns-3 c = rw (popped-top _ _ _ (c .before .before .before .before .before .before .before .before .pop .ensures) (c .before .before .before .before .before .before .x .given .1), popped-top _ _ _ (c .before .before .before .before .pop2 .ensures) (c .before .before .y .given .1), int-not _ (c .if1 .taken))
+returns-3 c =
+    rw (
+      popped-top _ _ _ (c .before .before .before .before .before .before .before .before .pop .ensures)
+          (c .before .before .before .before .before .before .x .given .1),
+      popped-top _ _ _ (c .before .before .before .before .pop2 .ensures) (c .before .before .y .given .1),
+      int-not _ (c .if1 .taken),
+    )
 
 returns-4 : tie.Need-returns-4
 unfolding outcomeOf going effect typesOf _>>=_
-returns-4 c = rw (popped-top _ _ _ (c .before .before .before .before .before .before .before .before .before .pop .ensures) (c .before .before .before .before .before .before .before .x .given .1), popped-top _ _ _ (c .before .before .before .before .before .pop2 .ensures) (c .before .before .before .y .given .1), int-is _ (c .before .if1 .left), int-not _ (c .if2 .taken))
+returns-4 c =
+    rw (
+      popped-top _ _ _ (c .before .before .before .before .before .before .before .before .before .pop .ensures)
+          (c .before .before .before .before .before .before .before .x .given .1),
+      popped-top _ _ _ (c .before .before .before .before .before .pop2 .ensures) (c .before .before .before .y .given .1),
+      int-is _ (c .before .if1 .left),
+      int-not _ (c .if2 .taken),
+    )
 
 returns-5 : tie.Need-returns-5
 unfolding outcomeOf going effect typesOf _>>=_ notesIn
-returns-5 c = rw (popped-top _ _ _ (c .before .before .before .before .before .before .before .before .before .pop .ensures) (c .before .before .before .before .before .before .before .x .given .1), popped-top _ _ _ (c .before .before .before .before .before .pop2 .ensures) (c .before .before .before .y .given .1), int-is _ (c .before .if1 .left), int-is _ (c .if2 .left), type-int 65536 refl)
+returns-5 c =
+    rw (
+      popped-top _ _ _ (c .before .before .before .before .before .before .before .before .before .pop .ensures)
+          (c .before .before .before .before .before .before .before .x .given .1),
+      popped-top _ _ _ (c .before .before .before .before .before .pop2 .ensures) (c .before .before .before .y .given .1),
+      int-is _ (c .before .if1 .left),
+      int-is _ (c .if2 .left),
+      type-int 65536 refl,
+    )
 
 pub arithmetic-spec : {M : Type 1} → statement M
 arithmetic-spec =

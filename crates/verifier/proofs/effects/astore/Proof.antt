@@ -15,15 +15,30 @@ returns c = rw (popped-empty _ _ _ (c .before .before .pop .ensures) (c .enum-to
 
 returns-2 : tie.Need-returns-2
 unfolding outcomeOf going effect typesOf _>>=_
-returns-2 c = rw (popped-top _ _ _ (c .before .before .before .before .pop .ensures) (c .before .before .t .given .1), reference-not _ (c .if1 .taken))
+returns-2 c =
+    rw (popped-top _ _ _ (c .before .before .before .before .pop .ensures) (c .before .before .t .given .1), reference-not _ (c .if1 .taken))
 
 returns-3 : tie.Need-returns-3
 unfolding outcomeOf going effect typesOf _>>=_
-returns-3 c = rw (popped-top _ _ _ (c .before .before .before .before .before .before .pop .ensures) (c .before .before .before .before .t .given .1), reference-is _ (c .before .before .if1 .left), ← c .before .wide8 .ensures .0, local-past _ _ (c .if2 .taken))
+returns-3 c =
+    rw (
+      popped-top _ _ _ (c .before .before .before .before .before .before .pop .ensures) (c .before .before .before .before .t .given .1),
+      reference-is _ (c .before .before .if1 .left),
+      ← c .before .wide8 .ensures .0,
+      local-past _ _ (c .if2 .taken),
+    )
 
 returns-4 : tie.Need-returns-4
 unfolding outcomeOf going effect typesOf _>>=_
-returns-4 c = rw (popped-top _ _ _ (c .before .before .before .before .before .before .before .pop .ensures) (c .before .before .before .before .before .t .given .1), reference-is _ (c .before .before .before .if1 .left), ← c .before .before .wide8 .ensures .0, local-at _ _ (c .before .if2 .left), c .stored .ensures)
+returns-4 c =
+    rw (
+      popped-top _ _ _ (c .before .before .before .before .before .before .before .pop .ensures)
+          (c .before .before .before .before .before .t .given .1),
+      reference-is _ (c .before .before .before .if1 .left),
+      ← c .before .before .wide8 .ensures .0,
+      local-at _ _ (c .before .if2 .left),
+      c .stored .ensures,
+    )
 
 pub astore-spec : {M : Type 1} → statement M
 astore-spec =

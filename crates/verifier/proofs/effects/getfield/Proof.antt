@@ -17,11 +17,23 @@ returns c = rw (sym (c .before .named .ensures) ∙ not-true _ (c .if1 .taken))
 
 returns-2 : tie.Need-returns-2
 unfolding outcomeOf going effect typesOf _>>=_ need
-returns-2 c = rw (sym (c .before .before .before .before .named .ensures) ∙ not-false _ (c .before .before .before .if1 .left), popped-empty _ _ _ (c .before .before .pop .ensures) (c .enum-told .given .1))
+returns-2 c =
+    rw (
+      sym (c .before .before .before .before .named .ensures) ∙ not-false _ (c .before .before .before .if1 .left),
+      popped-empty _ _ _ (c .before .before .pop .ensures) (c .enum-told .given .1),
+    )
 
 returns-3 : tie.Need-returns-3
 unfolding going effect typesOf _>>=_ need
-returns-3 c = rw (pushed-alone _ _ _ _, c .meet-class .ensures, c .before .type-of-name .ensures .0, sym (c .before .before .before .before .before .before .before .named .ensures) ∙ not-false _ (c .before .before .before .before .before .before .if1 .left), popped-top _ _ _ (c .before .before .before .before .before .pop .ensures) (c .before .before .before .x .given .1))
+returns-3 c =
+    rw (
+      pushed-alone _ _ _ _,
+      c .meet-class .ensures,
+      c .before .type-of-name .ensures .0,
+      sym (c .before .before .before .before .before .before .before .named .ensures)
+          ∙ not-false _ (c .before .before .before .before .before .before .if1 .left),
+      popped-top _ _ _ (c .before .before .before .before .before .pop .ensures) (c .before .before .before .x .given .1),
+    )
 
 pub getfield-spec : {M : Type 1} → statement M
 getfield-spec =

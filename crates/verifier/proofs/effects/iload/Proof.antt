@@ -15,7 +15,12 @@ returns c = rw (iload-not (c .before .before .args .types) _ _ (c .before .local
 
 returns-2 : tie.Need-returns-2
 unfolding outcomeOf going typesOf notesIn _>>=_
-returns-2 c = rw (c .push .ensures, iload-int (c .before .before .before .args .types) _ _ (c .before .before .local .ensures) (c .before .if1 .left), type-int 65536 refl)
+returns-2 c =
+    rw (
+      c .push .ensures,
+      iload-int (c .before .before .before .args .types) _ _ (c .before .before .local .ensures) (c .before .if1 .left),
+      type-int 65536 refl,
+    )
 
 pub iload-spec : {M : Type 1} → statement M
 iload-spec = tie.close (tie.spec (λ c κs. search needs) returns (λ c κs. search needs) returns-2)

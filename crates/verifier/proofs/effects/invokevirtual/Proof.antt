@@ -21,15 +21,40 @@ returns-2 c = rw (sym (c .before .before .named .ensures) ∙ not-false _ (c .be
 
 returns-3 : tie.Need-returns-3
 unfolding outcomeOf going effect typesOf _>>=_ need
-returns-3 c = rw (sym (c .before .before .before .before .before .named .ensures) ∙ not-false _ (c .before .before .before .before .if1 .left), positive (c .before .before .before .before .before .before .args .r) (c .before .before .before .if2 .left), popped-empty _ _ _ (c .before .before .pop .ensures) (c .enum-told .given .1))
+returns-3 c =
+    rw (
+      sym (c .before .before .before .before .before .named .ensures) ∙ not-false _ (c .before .before .before .before .if1 .left),
+      positive (c .before .before .before .before .before .before .args .r) (c .before .before .before .if2 .left),
+      popped-empty _ _ _ (c .before .before .pop .ensures) (c .enum-told .given .1),
+    )
 
 returns-4 : tie.Need-returns-4
 unfolding outcomeOf going effect typesOf _>>=_ need
-returns-4 c = rw (sym (c .before .before .before .before .before .before .before .before .before .named .ensures) ∙ not-false _ (c .before .before .before .before .before .before .before .before .if1 .left), positive (c .before .before .before .before .before .before .before .before .before .before .args .r) (c .before .before .before .before .before .before .before .if2 .left), popped-top _ _ _ (c .before .before .before .before .before .before .pop .ensures) (c .before .before .before .before .x .given .1), popped-empty _ _ _ (c .before .before .pop2 .ensures) (c .enum-told2 .given .1))
+returns-4 c =
+    rw (
+      sym (c .before .before .before .before .before .before .before .before .before .named .ensures)
+          ∙ not-false _ (c .before .before .before .before .before .before .before .before .if1 .left),
+      positive (c .before .before .before .before .before .before .before .before .before .before .args .r)
+          (c .before .before .before .before .before .before .before .if2 .left),
+      popped-top _ _ _ (c .before .before .before .before .before .before .pop .ensures) (c .before .before .before .before .x .given .1),
+      popped-empty _ _ _ (c .before .before .pop2 .ensures) (c .enum-told2 .given .1),
+    )
 
 returns-5 : tie.Need-returns-5
 unfolding outcomeOf going effect typesOf _>>=_ need
-returns-5 c = rw (sym (c .before .before .before .before .before .before .before .before .before .before .before .before .before .named .ensures) ∙ not-false _ (c .before .before .before .before .before .before .before .before .before .before .before .before .if1 .left), positive (c .before .before .before .before .before .before .before .before .before .before .before .before .before .before .args .r) (c .before .before .before .before .before .before .before .before .before .before .before .if2 .left), popped-top _ _ _ (c .before .before .before .before .before .before .before .before .before .before .pop .ensures) (c .before .before .before .before .before .before .before .before .x .given .1), popped-top _ _ _ (c .before .before .before .before .before .before .pop2 .ensures) (c .before .before .before .before .y .given .1), c .before .meet-class .ensures, c .meet-name .ensures, c .before .before .type-of-name .ensures .0)
+returns-5 c =
+    rw (
+      sym (c .before .before .before .before .before .before .before .before .before .before .before .before .before .named .ensures)
+          ∙ not-false _ (c .before .before .before .before .before .before .before .before .before .before .before .before .if1 .left),
+      positive (c .before .before .before .before .before .before .before .before .before .before .before .before .before .before .args .r)
+          (c .before .before .before .before .before .before .before .before .before .before .before .if2 .left),
+      popped-top _ _ _ (c .before .before .before .before .before .before .before .before .before .before .pop .ensures)
+          (c .before .before .before .before .before .before .before .before .x .given .1),
+      popped-top _ _ _ (c .before .before .before .before .before .before .pop2 .ensures) (c .before .before .before .before .y .given .1),
+      c .before .meet-class .ensures,
+      c .meet-name .ensures,
+      c .before .before .type-of-name .ensures .0,
+    )
 
 pub invokevirtual-spec : {M : Type 1} → statement M
 invokevirtual-spec =

@@ -15,11 +15,17 @@ returns c = rw (ne-eqb _ _ (c .if1 .taken))
 
 returns-2 : tie.Need-returns-2
 unfolding outcomeOf ending returning typesOf _>>=_ need
-returns-2 c = rw (eq-eqb _ _ (c .before .before .before .if1 .left), popped-empty _ _ _ (c .before .before .pop .ensures) (c .enum-told .given .1))
+returns-2 c =
+    rw (eq-eqb _ _ (c .before .before .before .if1 .left), popped-empty _ _ _ (c .before .before .pop .ensures) (c .enum-told .given .1))
 
 returns-3 : tie.Need-returns-3
 unfolding outcomeOf ending returning typesOf _>>=_ need
-returns-3 c = rw (eq-eqb _ _ (c .before .before .before .before .before .if1 .left), popped-top _ _ _ (c .before .before .before .before .pop .ensures) (c .before .before .t .given .1), c .meet-int .ensures)
+returns-3 c =
+    rw (
+      eq-eqb _ _ (c .before .before .before .before .before .if1 .left),
+      popped-top _ _ _ (c .before .before .before .before .pop .ensures) (c .before .before .t .given .1),
+      c .meet-int .ensures,
+    )
 
 pub ireturn-spec : {M : Type 1} → statement M
 ireturn-spec =

@@ -15,7 +15,13 @@ returns c = rw (lt-leb 2 (c .before .args .c) (c .if1 .taken))
 
 returns-2 : tie.Need-returns-2
 unfolding outcomeOf going effect typesOf _>>=_ notesIn need
-returns-2 c = rw (c .push .ensures, le-leb 2 (c .before .before .before .args .c) (c .before .before .if1 .left), type-name _ (c .before .from16 .ensures .1), c .before .from16 .ensures .0)
+returns-2 c =
+    rw (
+      c .push .ensures,
+      le-leb 2 (c .before .before .before .args .c) (c .before .before .if1 .left),
+      type-name _ (c .before .from16 .ensures .1),
+      c .before .from16 .ensures .0,
+    )
 
 pub new-spec : {M : Type 1} → statement M
 new-spec = tie.close (tie.spec returns (λ c κs. search needs) (λ c κs. search needs) returns-2)

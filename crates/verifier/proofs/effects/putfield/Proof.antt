@@ -16,15 +16,34 @@ returns c = rw (sym (c .before .named .ensures) ∙ not-true _ (c .if1 .taken))
 
 returns-2 : tie.Need-returns-2
 unfolding outcomeOf going effect typesOf _>>=_ need
-returns-2 c = rw (sym (c .before .before .before .before .named .ensures) ∙ not-false _ (c .before .before .before .if1 .left), popped-empty _ _ _ (c .before .before .pop .ensures) (c .enum-told .given .1))
+returns-2 c =
+    rw (
+      sym (c .before .before .before .before .named .ensures) ∙ not-false _ (c .before .before .before .if1 .left),
+      popped-empty _ _ _ (c .before .before .pop .ensures) (c .enum-told .given .1),
+    )
 
 returns-3 : tie.Need-returns-3
 unfolding outcomeOf going effect typesOf _>>=_ need
-returns-3 c = rw (sym (c .before .before .before .before .before .before .before .before .named .ensures) ∙ not-false _ (c .before .before .before .before .before .before .before .if1 .left), popped-top _ _ _ (c .before .before .before .before .before .before .pop .ensures) (c .before .before .before .before .x .given .1), popped-empty _ _ _ (c .before .before .pop2 .ensures) (c .enum-told2 .given .1))
+returns-3 c =
+    rw (
+      sym (c .before .before .before .before .before .before .before .before .named .ensures)
+          ∙ not-false _ (c .before .before .before .before .before .before .before .if1 .left),
+      popped-top _ _ _ (c .before .before .before .before .before .before .pop .ensures) (c .before .before .before .before .x .given .1),
+      popped-empty _ _ _ (c .before .before .pop2 .ensures) (c .enum-told2 .given .1),
+    )
 
 returns-4 : tie.Need-returns-4
 unfolding outcomeOf going effect typesOf _>>=_ need
-returns-4 c = rw (sym (c .before .before .before .before .before .before .before .before .before .before .before .named .ensures) ∙ not-false _ (c .before .before .before .before .before .before .before .before .before .before .if1 .left), popped-top _ _ _ (c .before .before .before .before .before .before .before .before .before .pop .ensures) (c .before .before .before .before .before .before .before .x .given .1), popped-top _ _ _ (c .before .before .before .before .before .pop2 .ensures) (c .before .before .before .y .given .1), c .before .meet-class .ensures, c .meet-name .ensures)
+returns-4 c =
+    rw (
+      sym (c .before .before .before .before .before .before .before .before .before .before .before .named .ensures)
+          ∙ not-false _ (c .before .before .before .before .before .before .before .before .before .before .if1 .left),
+      popped-top _ _ _ (c .before .before .before .before .before .before .before .before .before .pop .ensures)
+          (c .before .before .before .before .before .before .before .x .given .1),
+      popped-top _ _ _ (c .before .before .before .before .before .pop2 .ensures) (c .before .before .before .y .given .1),
+      c .before .meet-class .ensures,
+      c .meet-name .ensures,
+    )
 
 pub putfield-spec : {M : Type 1} → statement M
 putfield-spec =

@@ -11,7 +11,10 @@ returns : tie.Need-returns
 returns c = (type-int _ refl ∙ sym (name-int _ (c .if1 .taken)), omega arith)
 
 returns-2 : tie.Need-returns-2
-returns-2 c = (type-name _ (c .from16 .ensures .1) ∙ (ap typeClass (c .from16 .ensures .0) ∙ sym (name-class _ (c .before .if1 .left))), omega (arith, c .from16 .ensures .1))
+returns-2 c = (
+  type-name _ (c .from16 .ensures .1) ∙ (ap typeClass (c .from16 .ensures .0) ∙ sym (name-class _ (c .before .if1 .left))),
+  omega (arith, c .from16 .ensures .1),
+)
 
 pub type-of-name-spec : {M : Type 1} → statement M
 type-of-name-spec = tie.close (tie.spec (λ c κs. search needs) returns returns-2)

@@ -1,0 +1,216 @@
+-- Laws that the proofs of the tests share: of joined tests, of a value's cells, of files and of sizes.
+use mathlib.Core.Path.{_≡_, refl, sym, ap, _∙_}
+use mathlib.Core.Bool.{Bool, true, false}
+use mathlib.Core.Option.{Option, none, some}
+use mathlib.Core.List.{List, [], _∷_}
+use Prim.Native.Nat.{ℕ, zero, suc, _+_, _*_, _-_, _≤_, _<_}
+use native.Mathlib.Omega.{arith}
+use lib.ListN.{length, getD, set}
+use lib.Seq.{getD-set-same, getD-set-other}
+use lib.Dec.{eqb, leb, ltb}
+use borrow.Author.Tests.{eq-eqb, ne-eqb, le-ltb, le-leb, lt-leb, leb-true, eqb-true, eqb-false}
+use Rattle.definition.specs.Lists.{every, all, isSome, rows, stack}
+use Rattle.definition.specs.Instructions.{pick}
+use Rattle.definition.specs.Classes.{Base, superOf, slots}
+use Rattle.definition.specs.Machine.{Value, unsetValue, intValue, nullValue, objectValue, unlistedValue}
+use Rattle.definition.specs.Tables.{ClassRow, sizeOf, valueOf, classRowAt, usedFields, objectAt, localAt, operandAt, frameOf, frameAt}
+use Rattle.definition.specs.Broken.{isObject}
+use Rattle.laws.specs.Agreement.{super-falls}
+use Rattle.layout.specs.Tests.{every-true}
+use Rattle.layout.specs.Places.{stack-length}
+use Rattle.classfile.specs.Lists.{every-first, every-fails}
+use Rattle.classfile.specs.Reading.{fieldCount}
+use Rattle.resolution.specs.Quick.{quickBase, fileIn, file-there, file-past, either}
+use Rattle.resolution.specs.Slots.{size-none, size-some, own-size}
+use Rattle.resolution.specs.Unbroken.{part-none}
+use Rattle.store.specs.declared.Fields.{Fields}
+use Rattle.store.specs.declared.Fields.the-variants.{Count, Unfit}
+use Rattle.store.specs.Checks.{fileFits, sourcesFit, linked, linkedSize, Sized, objectSized, valueIn, localIn, objectIn, frameFit}
+use Rattle.store.specs.Same.{sources-first}
+
+-- Joined tests
+
+pub every-last : (t : Bool) → every (t ∷ []) ≡ t
+unfolding every
+every-last true = refl
+every-last false = refl
+
+-- A value's cells
+
+null-value : (m k b : ℕ) (t : Bool) → valueIn m (pick t nullValue (unlistedValue k b)) ≡ t
+unfolding valueIn pick
+null-value m k b true = refl
+null-value m k b false = refl
+
+empty-value : (m k b : ℕ) (t : Bool) → localIn m (pick t unsetValue (unlistedValue k b)) ≡ t
+unfolding localIn pick
+empty-value m k b true = refl
+empty-value m k b false = refl
+
+module _ (m k b : ℕ) where
+  pub int-fits : k ≡ 1 → valueIn m (valueOf k b) ≡ true
+  unfolding valueIn valueOf pick
+  int-fits e = rw e
+
+  pub object-fits : k ≡ 3 → valueIn m (valueOf k b) ≡ ltb b m
+  unfolding valueIn valueOf pick
+  object-fits e = rw e
+
+  pub null-fits : k ≡ 2 → valueIn m (valueOf k b) ≡ eqb b 0
+  unfolding valueOf pick
+  null-fits e = rw e (null-value m 2 b (eqb b 0))
+
+  pub empty-fits : k ≡ 0 → localIn m (valueOf k b) ≡ eqb b 0
+  unfolding valueOf pick
+  empty-fits e = rw e (empty-value m 0 b (eqb b 0))
+
+  pub none-fits : (k ≡ 1 → ⊥) → (k ≡ 3 → ⊥) → (k ≡ 2 → ⊥) → valueIn m (valueOf k b) ≡ false
+  unfolding valueIn valueOf pick
+  none-fits x y z = rw (ne-eqb k 1 x, ne-eqb k 3 y, ne-eqb k 2 z) (go (eqb b 0) (eqb k 0))
+    where
+      go : (t u : Bool) → valueIn m (pick t (pick u unsetValue (unlistedValue k b)) (unlistedValue k b)) ≡ false
+      go true true = refl
+      go true false = refl
+      go false u = refl
+
+-- a local whose kind is not 0 is as a field
+pub local-value : (m k b : ℕ) → (k ≡ 0 → ⊥) → localIn m (valueOf k b) ≡ valueIn m (valueOf k b)
+unfolding valueIn localIn valueOf pick
+local-value m k b x = rw (ne-eqb k 0 x) (go (eqb k 1) (eqb k 3) (eqb b 0) (eqb k 2))
+  where
+    value : Bool → Bool → Bool → Bool → Value
+    value s t u v = pick s (intValue b) (pick t (objectValue b) (pick u (pick v nullValue (unlistedValue k b)) (unlistedValue k b)))
+
+    go : (s t u v : Bool) → localIn m (value s t u v) ≡ valueIn m (value s t u v)
+    go true t u v = refl
+    go false true u v = refl
+    go false false true true = refl
+    go false false true false = refl
+    go false false false v = refl
+
+-- Files: none, the first is not Object, or the others are to be tested
+
+module _ (n : ℕ) (kept : List ℕ) (g : ℕ → ClassRow) (m : ℕ) where
+  pub sources-none : m ≡ 0 → sourcesFit n kept (rows g m 0) ≡ true
+  unfolding sourcesFit rows
+  sources-none e = rw e
+
+  sources-one : 0 < m → sourcesFit n kept (rows g m 0) ≡ every (isObject (g 0) ∷ all (fileFits n kept) (rows g (m - 1) 1) ∷ [])
+  unfolding sourcesFit rows
+  sources-one h = let e : m ≡ suc (m - 1) = omega arith in ap (λ (k : ℕ). sourcesFit n kept (rows g k 0)) e
+
+  pub sources-unfit : 0 < m → isObject (g 0) ≡ false → sourcesFit n kept (rows g m 0) ≡ false
+  sources-unfit h e = sources-one h ∙ every-fails _ _ e
+
+  pub sources-rest : 0 < m → isObject (g 0) ≡ true → sourcesFit n kept (rows g m 0) ≡ all (fileFits n kept) (rows g (m - 1) 1)
+  sources-rest h e = sources-one h ∙ (every-first _ _ e ∙ every-last _)
+
+-- Sizes
+
+module _ (b : Base) (c : ℕ) where
+  pub linked-none : superOf b c ≡ none → linked b c ≡ false
+  unfolding linked isSome
+  linked-none e = rw e (every-fails _ _ refl)
+
+  linked-some : (p : ℕ) → superOf b c ≡ some p → linked b c ≡ leb (sizeOf b c) 16
+  unfolding linked isSome
+  linked-some p e = rw e (every-first _ _ refl ∙ every-last _)
+
+  pub size-unlinked : superOf b c ≡ none → linkedSize b c ≡ Unfit
+  unfolding linkedSize
+  size-unlinked e = rw (linked-none e, linkedSize)
+
+  pub size-above : (p n : ℕ) → superOf b c ≡ some p → n ≡ sizeOf b c → 16 < n → linkedSize b c ≡ Unfit
+  unfolding linkedSize
+  size-above p n e q l = rw (linked-some p e ∙ lt-leb (sizeOf b c) 16 (omega arith), linkedSize)
+
+  pub size-within : (p n : ℕ) → superOf b c ≡ some p → n ≡ sizeOf b c → n ≤ 16 → linkedSize b c ≡ Count n
+  unfolding linkedSize
+  size-within p n e q l = rw (linked-some p e ∙ le-leb (sizeOf b c) 16 (omega arith), linkedSize, q)
+
+-- what the answer says
+pub size-said : (b : Base) (c n : ℕ) → linkedSize b c ≡ Count n → (linked b c ≡ true) × (n ≡ sizeOf b c)
+unfolding linkedSize
+size-said b c n h = go (linked b c) refl h
+  where
+    go : (t : Bool) → linked b c ≡ t → (elim t as (λ _. Fields) [ true ↦ Count (sizeOf b c) | false ↦ Unfit ]) ≡ Count n → (linked b c ≡ true) × (n ≡ sizeOf b c)
+    go true e q = (e, cc)
+    go false e q = let z : _≡_ {A = ℕ} 0 1 = cc in absurd (omega arith)
+
+pub said-unfit : (b : Base) (c : ℕ) → linkedSize b c ≡ Unfit → linked b c ≡ false
+unfolding linkedSize
+said-unfit b c h = go (linked b c) refl h
+  where
+    go : (t : Bool) → linked b c ≡ t → (elim t as (λ _. Fields) [ true ↦ Count (sizeOf b c) | false ↦ Unfit ]) ≡ Unfit → linked b c ≡ false
+    go true e q = let z : _≡_ {A = ℕ} 0 1 = cc in absurd (omega arith)
+    go false e q = e
+
+pub linked-small : (b : Base) (c : ℕ) → linked b c ≡ true → sizeOf b c ≤ 16
+unfolding linked
+linked-small b c h = leb-true (sizeOf b c) 16 (every-true _ h .1 .0)
+
+-- A table of sizes, of which the first is 0; one more; and what it says of objects
+
+module _ (b : Base) where
+  pub sized-first : (s : List ℕ) → length s ≡ 64 → sizeOf b 0 ≡ 0 → Sized b 1 (set s 0 0)
+  sized-first s l e c h =
+      let z : c ≡ 0 = omega arith in
+      (ap (λ (i : ℕ). getD (set s 0 0) i 0) z ∙ (getD-set-same s 0 0 0 (omega arith) ∙ (sym e ∙ ap (sizeOf b) (sym z))), omega (arith, ap (sizeOf b) z))
+
+  pub sized-more : (s : List ℕ) (n v : ℕ) → Sized b n s → n < length s → v ≡ sizeOf b n → sizeOf b n ≤ 16 → Sized b (n + 1) (set s n v)
+  sized-more s n v h l e k c i = go (eqb c n) refl
+    where
+      go : (t : Bool) → eqb c n ≡ t → (getD (set s n v) c 0 ≡ sizeOf b c) × (sizeOf b c ≤ 16)
+      go true q = let z = eqb-true c n q in rw z (getD-set-same s n v 0 l ∙ e, k)
+      go false q = let z = eqb-false c n q in let m = h c (omega arith) in (getD-set-other s n c v 0 z ∙ m .0, m .1)
+
+  module _ (n m : ℕ) (sizes t : List ℕ) (sized : Sized b n sizes) where
+    -- an object whose class is there
+    same-object : (o : ℕ) → getD t (o * 33) 0 < n → objectSized sizes t o ≡ objectAt b t o
+    unfolding objectSized objectAt usedFields pick
+    same-object o l = let s = sized (getD t (o * 33) 0) l in rw (s .0, le-leb (sizeOf b (getD t (o * 33) 0)) 16 (s .1), pick)
+
+    same-fits : (o : ℕ) → objectIn n m (objectSized sizes t o) ≡ objectIn n m (objectAt b t o)
+    unfolding objectIn objectSized objectAt
+    same-fits o = either (getD t (o * 33) 0) n (λ l. ap (objectIn n m) (same-object o l)) (λ l. let e = le-ltb (getD t (o * 33) 0) n l in every-fails _ _ e ∙ sym (every-fails _ _ e))
+
+    pub sized-objects : (k i : ℕ) → all (objectIn n m) (rows (objectSized sizes t) k i) ≡ all (objectIn n m) (rows (objectAt b t) k i)
+    unfolding rows all
+    sized-objects zero i = refl
+    sized-objects (suc k) i = let e = sized-objects k (suc i) in λ j. elim (same-fits i j) as (λ _. Bool) [ true ↦ e j | false ↦ false ]
+
+module _ (counts classes kept cache : List ℕ) where
+  abbrev base : Base
+  base = quickBase counts classes kept cache
+
+  -- the size of a class is its superclass's and its own fields
+  pub size-sum : (c p s k : ℕ) → superOf base c ≡ some p → s ≡ sizeOf base p → k ≡ fieldCount (fileIn counts classes kept c) → s + k ≡ sizeOf base c
+  size-sum c p s k e x y = omega (arith, size-some base c p e, own-size counts classes kept cache c)
+
+  object-file : sourcesFit (getD counts 1 0) kept (rows (classRowAt classes) (getD counts 0 0) 0) ≡ true → fileIn counts classes kept 0 ≡ []
+  object-file h =
+      either 0 (getD counts 0 0)
+      (λ l.
+      let f = sources-first (getD counts 1 0) kept (classRowAt classes) (getD counts 0 0) h l in
+      file-there counts classes kept 0 l ∙ part-none kept (classRowAt classes 0 .start) (classRowAt classes 0 .size) (f .size))
+      (λ l. file-past counts classes kept 0 l)
+
+  no-super : superOf base 0 ≡ none
+  no-super = go (superOf base 0) refl
+    where
+      go : (o : Option ℕ) → superOf base 0 ≡ o → o ≡ none
+      go none e = refl
+      go (some p) e = absurd (omega (arith, super-falls base 0 p e))
+
+  -- Object has no fields
+  pub object-size : sourcesFit (getD counts 1 0) kept (rows (classRowAt classes) (getD counts 0 0) 0) ≡ true → sizeOf base 0 ≡ 0
+  unfolding fieldCount
+  object-size h = size-none base 0 no-super ∙ (own-size counts classes kept cache 0 ∙ rw (object-file h))
+
+-- Frames
+
+pub frame-tests : (t : List ℕ) (b n m : ℕ)
+    → frameFit n m (frameAt t b)
+    ≡ every (ltb (getD t b 0) n ∷ leb (getD t (b + 3) 0) 16 ∷ all (valueIn m) (stack (operandAt t b) (getD t (b + 3) 0)) ∷ all (localIn m) (rows (localAt t b) 8 0) ∷ [])
+unfolding frameFit frameAt frameOf
+frame-tests t b n m = rw (stack-length (operandAt t b) (getD t (b + 3) 0))

@@ -1,0 +1,81 @@
+//! What a call answers, and the words of refusal.
+
+/// The refusal numbers of document 01.
+pub mod word {
+    pub const BROKEN: u8 = 1;
+    pub const FILE: u8 = 2;
+    pub const UNKNOWN: u8 = 3;
+    pub const TAKEN: u8 = 4;
+    pub const WANTED: u8 = 5;
+    pub const UNVERIFIED: u8 = 6;
+    pub const ABSENT: u8 = 7;
+    pub const HIDDEN: u8 = 8;
+    pub const CLASH: u8 = 9;
+    pub const FULL: u8 = 10;
+    pub const NULL: u8 = 11;
+    pub const BUSY: u8 = 12;
+    pub const MISNAMED: u8 = 13;
+    pub const STUCK: u8 = 14;
+
+    /// The words in the order of their numbers, from 1.
+    pub const NAMES: [&str; 14] = [
+        "broken", "file", "unknown", "taken", "wanted", "unverified", "absent", "hidden", "clash", "full",
+        "null", "busy", "misnamed", "stuck",
+    ];
+}
+
+/// Why a call is refused.
+#[derive(Clone, Copy, Debug, PartialEq, Eq)]
+pub enum Refusal {
+    /// Number 5: the request (loader, name) is needed and isn't cached.
+    Wanted(u8, u16),
+    /// Any other number.
+    Word(u8),
+}
+
+impl Refusal {
+    pub fn number(self) -> u8 {
+        match self {
+            Refusal::Wanted(..) => word::WANTED,
+            Refusal::Word(number) => number,
+        }
+    }
+}
+
+/// The answer of a step.
+#[derive(Clone, Copy, Debug, PartialEq, Eq)]
+pub enum Answer {
+    Idle,
+    /// One instruction of this task ran.
+    Ran(u8),
+    /// This task's first frame returned this int.
+    Finished(u8, u32),
+    Refused(Refusal),
+}
+
+/// The answer of any call.
+#[derive(Clone, Copy, Debug, PartialEq, Eq)]
+pub enum Reply {
+    Accepted,
+    /// The number of the defined class.
+    Defined(u8),
+    Stepped(Answer),
+    /// The count of steps that ran, and the last answer.
+    RanFor(u16, Answer),
+    Denied(Refusal),
+}
+
+impl Reply {
+    /// The refusal of the call itself. A run is accepted even when its last step was refused.
+    pub fn refusal(self) -> Option<Refusal> {
+        match self {
+            Reply::Denied(refusal) | Reply::Stepped(Answer::Refused(refusal)) => Some(refusal),
+            _ => None,
+        }
+    }
+}
+
+/// The answer that a plain word makes.
+pub fn denied(number: u8) -> Reply {
+    Reply::Denied(Refusal::Word(number))
+}

@@ -1,0 +1,101 @@
+//! Instructions: one decision over opcode bytes gives what follows inline and how long it is.
+
+/// Opcode numbers, the JVMS's.
+pub mod op {
+    pub const ACONST_NULL: u8 = 0x01;
+    pub const SIPUSH: u8 = 0x11;
+    pub const ILOAD: u8 = 0x15;
+    pub const ALOAD: u8 = 0x19;
+    pub const ISTORE: u8 = 0x36;
+    pub const ASTORE: u8 = 0x3A;
+    pub const POP: u8 = 0x57;
+    pub const DUP: u8 = 0x59;
+    pub const IADD: u8 = 0x60;
+    pub const ISUB: u8 = 0x64;
+    pub const IRETURN: u8 = 0xAC;
+    pub const ARETURN: u8 = 0xB0;
+    pub const GETFIELD: u8 = 0xB4;
+    pub const PUTFIELD: u8 = 0xB5;
+    pub const INVOKEVIRTUAL: u8 = 0xB6;
+    pub const NEW: u8 = 0xBB;
+
+    pub const ALL: [u8; 16] = [
+        ACONST_NULL, SIPUSH, ILOAD, ALOAD, ISTORE, ASTORE, POP, DUP, IADD, ISUB, IRETURN, ARETURN, GETFIELD,
+        PUTFIELD, INVOKEVIRTUAL, NEW,
+    ];
+    pub const NAMES: [&str; 16] = [
+        "aconst_null", "sipush", "iload", "aload", "istore", "astore", "pop", "dup", "iadd", "isub", "ireturn",
+        "areturn", "getfield", "putfield", "invokevirtual", "new",
+    ];
+}
+
+/// A field as an instruction names it.
+#[derive(Clone, Copy, Debug, PartialEq, Eq)]
+pub struct FieldRef {
+    pub class: u16,
+    pub field: u16,
+    pub of: u16,
+}
+
+/// A method as an instruction names it.
+#[derive(Clone, Copy, Debug, PartialEq, Eq)]
+pub struct MethodRef {
+    pub class: u16,
+    pub method: u16,
+    pub argument: u16,
+    pub result: u16,
+}
+
+#[derive(Clone, Copy, Debug, PartialEq, Eq)]
+pub enum Instruction {
+    AconstNull,
+    Sipush(i16),
+    Iload(u8),
+    Aload(u8),
+    Istore(u8),
+    Astore(u8),
+    Pop,
+    Dup,
+    Iadd,
+    Isub,
+    Getfield(FieldRef),
+    Putfield(FieldRef),
+    Invokevirtual(MethodRef),
+    New(u16),
+    Ireturn,
+    Areturn,
+}
+
+use Instruction::*;
+
+/// The instruction at a point and the next point; nothing if it can't be read.
+pub fn decode(code: &[u8], point: usize) -> Option<(Instruction, usize)> {
+    let opcode = *code.get(point)?;
+    let inline = &code[point + 1..];
+    let byte = || inline.first().copied();
+    let word = |i: usize| inline.get(2 * i..2 * i + 2).map(|w| u16::from_be_bytes([w[0], w[1]]));
+    let field = || Some(FieldRef { class: word(0)?, field: word(1)?, of: word(2)? });
+    let (instruction, inline_length) = match opcode {
+        op::ACONST_NULL => (AconstNull, 0),
+        op::SIPUSH => (Sipush(word(0)? as i16), 2),
+        op::ILOAD => (Iload(byte()?), 1),
+        op::ALOAD => (Aload(byte()?), 1),
+        op::ISTORE => (Istore(byte()?), 1),
+        op::ASTORE => (Astore(byte()?), 1),
+        op::POP => (Pop, 0),
+        op::DUP => (Dup, 0),
+        op::IADD => (Iadd, 0),
+        op::ISUB => (Isub, 0),
+        op::GETFIELD => (Getfield(field()?), 6),
+        op::PUTFIELD => (Putfield(field()?), 6),
+        op::INVOKEVIRTUAL => {
+            let method = MethodRef { class: word(0)?, method: word(1)?, argument: word(2)?, result: word(3)? };
+            (Invokevirtual(method), 8)
+        }
+        op::NEW => (New(word(0)?), 2),
+        op::IRETURN => (Ireturn, 0),
+        op::ARETURN => (Areturn, 0),
+        _ => return None,
+    };
+    Some((instruction, point + 1 + inline_length))
+}

@@ -1,0 +1,126 @@
+//! A blueprint says what the classes of one list are like, so that files of several loaders fit each other
+//! mostly, and differ where it is of interest.
+
+use super::build::{Code, Draft};
+use super::rng::Rng;
+use super::walk;
+use crate::store::{INT, OBJECT};
+
+/// The name of the blueprint's first class.
+pub const FIRST: u16 = 10;
+/// The method (MAIN, int, int) that a task can start in.
+pub const MAIN: u16 = 20;
+const FIELD: u16 = 30;
+
+#[derive(Clone, Debug)]
+pub struct Sketch {
+    pub name: u16,
+    pub superclass: u16,
+    pub fields: Vec<(u16, u16)>,
+    /// Name, argument type, result type.
+    pub methods: Vec<(u16, u16, u16)>,
+}
+
+#[derive(Clone, Debug)]
+pub struct Blueprint {
+    pub sketches: Vec<Sketch>,
+}
+
+impl Blueprint {
+    pub fn new(rng: &mut Rng) -> Blueprint {
+        let count = rng.within(3, 7);
+        let names: Vec<u16> = (0..count as u16).map(|i| FIRST + i).collect();
+        let mut blueprint = Blueprint { sketches: Vec::new() };
+        for &name in &names {
+            let sketch = blueprint.sketch(rng, name, &names);
+            blueprint.sketches.push(sketch);
+        }
+        blueprint
+    }
+
+    fn sketch(&self, rng: &mut Rng, name: u16, names: &[u16]) -> Sketch {
+        let superclass = match self.sketches.len() {
+            0 => OBJECT,
+            _ if rng.percent(25) => OBJECT,
+            lower => self.sketches[rng.below(lower)].name,
+        };
+        let first = FIELD + 4 * (name - FIRST);
+        let fields = (0..rng.within(0, 3) as u16).map(|i| (first + i, random_type(rng, names))).collect();
+        let mut methods = vec![(MAIN, INT, INT)];
+        let inherited: Vec<_> = self.upward(superclass).iter().flat_map(|up| up.methods.clone()).collect();
+        for _ in 0..rng.within(0, 4) {
+            let method = match inherited.len() {
+                1.. if rng.percent(60) => rng.pick(&inherited),
+                _ => (MAIN + rng.below(3) as u16, random_type(rng, names), random_type(rng, names)),
+            };
+            if !methods.contains(&method) {
+                methods.push(method);
+            }
+        }
+        Sketch { name, superclass, fields, methods }
+    }
+
+    pub fn find(&self, name: u16) -> Option<&Sketch> {
+        self.sketches.iter().find(|sketch| sketch.name == name)
+    }
+
+    pub fn names(&self) -> Vec<u16> {
+        self.sketches.iter().map(|sketch| sketch.name).collect()
+    }
+
+    /// The class and those upward, Object left out.
+    pub fn upward(&self, name: u16) -> Vec<&Sketch> {
+        std::iter::successors(self.find(name), |sketch| self.find(sketch.superclass)).collect()
+    }
+
+    /// The names of the class and of those below it.
+    pub fn downward(&self, name: u16) -> Vec<u16> {
+        let is_below = |&lower: &u16| self.upward(lower).iter().any(|sketch| sketch.name == name);
+        self.names().into_iter().filter(is_below).collect()
+    }
+
+    /// A class of this name as some loader might have it.
+    pub fn draft(&self, rng: &mut Rng, name: u16) -> Draft {
+        let Some(sketch) = self.find(name) else {
+            return Draft::new(name).under(self.sketches[0].name);
+        };
+        let mut sketch = sketch.clone();
+        self.vary(rng, &mut sketch);
+        let mut draft = Draft::new(name).under(sketch.superclass);
+        draft.fields = sketch.fields;
+        for (method, argument, result) in sketch.methods {
+            let code = walk::method(rng, self, name, argument, result);
+            draft = draft.method(method, argument, result, &Code { bytes: code });
+        }
+        draft
+    }
+
+    /// Now and then another superclass, a field or method less, or a field that hides one.
+    fn vary(&self, rng: &mut Rng, sketch: &mut Sketch) {
+        if rng.percent(12) {
+            sketch.superclass = OBJECT;
+        }
+        if rng.percent(3) {
+            sketch.superclass = rng.pick(&self.names());
+        }
+        if rng.percent(12) {
+            sketch.fields.pop();
+        }
+        if rng.percent(12) && sketch.methods.len() > 1 {
+            let at = rng.below(sketch.methods.len());
+            sketch.methods.remove(at);
+        }
+        let hidden = self.find(sketch.superclass).and_then(|up| up.fields.first().copied());
+        if let Some((name, _)) = hidden.filter(|_| rng.percent(6)) {
+            sketch.fields.push((name, INT));
+        }
+    }
+}
+
+fn random_type(rng: &mut Rng, names: &[u16]) -> u16 {
+    match rng.below(10) {
+        0..=2 => INT,
+        3 => OBJECT,
+        _ => rng.pick(names),
+    }
+}

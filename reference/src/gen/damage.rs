@@ -1,0 +1,371 @@
+//! Damaged stores: good ones with cells, counts, rows, files or lengths changed.
+
+use super::blueprint::Blueprint;
+use super::build::Draft;
+use super::cases;
+use super::list::busy_list;
+use super::rng::Rng;
+use super::Call;
+use crate::store::{cell, count, frame_base, Store, FRAME_ROW, LIMITS, OBJECT_ROW, ROW};
+
+/// Kinds of damage, each a way to change a good store.
+const KINDS: [fn(&mut Rng, &mut Store); 16] = [
+    any_cells, a_count, uniform_table, wrong_length, second_cache_row, overlapping_files, superclass_not_lower,
+    code_bytes, kept_byte, top_frame, operand_count, a_value, constraints, full_frames, uniform_store, file_place,
+];
+
+/// A store from a boot with some damage, from one change to three.
+pub fn damaged(seed: u64) -> Store {
+    let mut rng = Rng::new(seed ^ 0x64_61_6D_61);
+    let mut store = good(seed, &mut rng);
+    for _ in 0..rng.pick(&[1, 1, 2, 3]) {
+        let kind = rng.below(KINDS.len());
+        KINDS[kind](&mut rng, &mut store);
+    }
+    store
+}
+
+/// A store from a boot, mostly with frames.
+fn good(seed: u64, rng: &mut Rng) -> Store {
+    if rng.percent(80) {
+        return busy_list(seed, rng.within(20, 90)).store;
+    }
+    let code = [cases::reader(), cases::caller(), cases::null_reader()][rng.below(3)].clone();
+    let mut trial = cases::across(&code, rng.percent(50), rng.percent(50));
+    for _ in 0..rng.below(3) {
+        trial.step();
+    }
+    trial.store
+}
+
+/// Calls of each kind to try on a store, with arguments that mostly make sense there.
+pub fn probes(seed: u64, store: &Store) -> Vec<Call> {
+    let mut rng = Rng::new(seed ^ 0x70_72_6F_62);
+    let blueprint = Blueprint::new(&mut rng);
+    let draft = blueprint.draft(&mut rng, 10 + seed as u16 % 7);
+    let [loader, name, class] = some_entry(&mut rng, store);
+    let other = rng.below(5) as u16;
+    let int = rng.draw() as u32;
+    vec![
+        Call::Boot,
+        Call::Define { loader: other, file: draft.file() },
+        Call::Define { loader, file: Draft::new(rng.within(2, 30) as u16).file() },
+        Call::Record { loader: other, name, class },
+        Call::Record { loader: rng.below(17) as u16, name: rng.below(16) as u16, class: rng.below(9) as u16 },
+        Call::Start { task: rng.below(2) as u16, loader, name, method: 20, int },
+        Call::Start { task: rng.below(3) as u16, loader: other, name: rng.below(16) as u16, method: 20, int },
+        Call::Step,
+        Call::Run { n: rng.within(0, 40) as u16 },
+        Call::Drop { task: rng.below(3) as u16 },
+    ]
+}
+
+/// Some row of the cache, used or not.
+fn some_entry(rng: &mut Rng, store: &Store) -> [u16; 3] {
+    let used = store.counts.get(count::CACHE).map_or(0, |&n| usize::from(n)).min(store.cache.len() / ROW);
+    let at = rng.below(used.max(1)) * ROW;
+    store.cache.get(at..at + ROW).map_or([1, 2, 0], |row| [row[0], row[1], row[2]])
+}
+
+/// A number that is small, near an edge, or anything.
+fn number(rng: &mut Rng) -> u32 {
+    match rng.below(5) {
+        0 => rng.draw() as u32,
+        1 => rng.pick(&[u32::MAX, 0x7FFF_FFFF, 0xFFFF, 0x1_0000, 255, 256, 257]),
+        _ => rng.below(18) as u32,
+    }
+}
+
+fn word(rng: &mut Rng) -> u16 {
+    number(rng) as u16
+}
+
+fn table<'a>(rng: &mut Rng, store: &'a mut Store) -> (&'a mut Vec<u16>, usize) {
+    let used = |cells: usize, rows: u16| (cells * usize::from(rows)).max(1);
+    let counts = store.counts.clone();
+    let count = |i: usize| counts.get(i).copied().unwrap_or(1);
+    match rng.below(5) {
+        0 => (&mut store.counts, 8),
+        1 => (&mut store.classes, used(ROW, count(0))),
+        2 => (&mut store.cache, used(ROW, count(2))),
+        3 => (&mut store.ties, used(ROW, count(3))),
+        _ => (&mut store.subtypes, used(ROW, count(4))),
+    }
+}
+
+/// Some cells of used rows, whatever they hold.
+fn any_cells(rng: &mut Rng, store: &mut Store) {
+    for _ in 0..rng.within(1, 3) {
+        let value = number(rng);
+        match rng.below(4) {
+            0 => set(rng, &mut store.objects, 4 * OBJECT_ROW, value),
+            1 => set(rng, &mut store.frames, 2 * FRAME_ROW, value),
+            _ => {
+                let (cells, used) = table(rng, store);
+                set(rng, cells, used, value as u16);
+            }
+        }
+    }
+}
+
+fn set<T>(rng: &mut Rng, cells: &mut [T], used: usize, value: T) {
+    let end = used.min(cells.len());
+    if end > 0 {
+        cells[rng.below(end)] = value;
+    }
+}
+
+/// A count at, past or below its limit, or one off.
+fn a_count(rng: &mut Rng, store: &mut Store) {
+    let which = rng.below(8);
+    let Some(count) = store.counts.get_mut(which) else {
+        return;
+    };
+    *count = match rng.below(7) {
+        0 => LIMITS[which],
+        1 => LIMITS[which] + 1,
+        2 => 0,
+        3 => u16::MAX,
+        4 => count.wrapping_add(1),
+        5 => count.saturating_sub(1),
+        _ => rng.below(usize::from(LIMITS[which]) + 1) as u16,
+    };
+}
+
+fn fill(store: &mut Store, which: usize, bits: u32) {
+    match which {
+        0 => store.counts.fill(bits as u16),
+        1 => store.classes.fill(bits as u16),
+        2 => store.kept.fill(bits as u8),
+        3 => store.cache.fill(bits as u16),
+        4 => store.ties.fill(bits as u16),
+        5 => store.subtypes.fill(bits as u16),
+        6 => store.objects.fill(bits),
+        _ => store.frames.fill(bits),
+    }
+}
+
+/// A table of zeros or ones.
+fn uniform_table(rng: &mut Rng, store: &mut Store) {
+    let bits = rng.pick(&[0, u32::MAX, 1]);
+    fill(store, rng.below(8), bits);
+}
+
+/// Every table of zeros or ones, now and then with counts that fit.
+fn uniform_store(rng: &mut Rng, store: &mut Store) {
+    let bits = rng.pick(&[0, u32::MAX]);
+    (0..8).for_each(|which| fill(store, which, bits));
+    if rng.percent(50) && store.counts.len() == 8 {
+        let counts: Vec<u16> = LIMITS.iter().map(|&limit| rng.below(usize::from(limit) + 1) as u16).collect();
+        store.counts.copy_from_slice(&counts);
+    }
+}
+
+fn resize<T: Clone + Default>(cells: &mut Vec<T>, change: usize) {
+    match change {
+        0 => cells.clear(),
+        1 => drop(cells.pop()),
+        2 => cells.push(T::default()),
+        _ => cells.extend(cells.clone()),
+    }
+}
+
+/// A table that is too short or too long.
+fn wrong_length(rng: &mut Rng, store: &mut Store) {
+    let change = rng.below(4);
+    match rng.below(8) {
+        0 => resize(&mut store.counts, change),
+        1 => resize(&mut store.classes, change),
+        2 => resize(&mut store.kept, change),
+        3 => resize(&mut store.cache, change),
+        4 => resize(&mut store.ties, change),
+        5 => resize(&mut store.subtypes, change),
+        6 => resize(&mut store.objects, change),
+        _ => resize(&mut store.frames, change),
+    }
+}
+
+/// Are the tables such that rows can be damaged with care?
+fn is_whole(store: &Store) -> bool {
+    !crate::broken(store)
+}
+
+/// Two rows for one request, the new one below or above the old.
+fn second_cache_row(rng: &mut Rng, store: &mut Store) {
+    let used = store.counts.get(count::CACHE).map_or(0, |&n| usize::from(n));
+    if !is_whole(store) || used == 0 || store.is_full(count::CACHE) {
+        return;
+    }
+    let at = rng.below(used) * ROW;
+    let class = rng.below(store.count(count::CLASSES)) as u16;
+    let row = [store.cache[at], store.cache[at + 1], class];
+    store.add_cached(row);
+    if rng.percent(50) {
+        store.cache.swap(at + 2, used * ROW + 2);
+    }
+}
+
+/// A class whose file is another class's.
+fn overlapping_files(rng: &mut Rng, store: &mut Store) {
+    let classes = store.counts.first().map_or(0, |&n| usize::from(n));
+    if !is_whole(store) || classes < 3 {
+        return;
+    }
+    let (from, to) = (rng.within(1, classes - 1) * ROW, rng.within(1, classes - 1) * ROW);
+    store.classes.copy_within(from + 1..from + ROW, to + 1);
+}
+
+/// A cache row of a superclass with a number that isn't lower.
+fn superclass_not_lower(rng: &mut Rng, store: &mut Store) {
+    let classes = store.counts.first().map_or(0, |&n| n);
+    if !is_whole(store) || classes < 2 {
+        return;
+    }
+    let class = rng.within(1, usize::from(classes) - 1) as u16;
+    let Some(file) = store.file(class) else {
+        return;
+    };
+    let request = (store.loader_of(class), file.superclass());
+    let found = store.cache_rows().position(|row| (row[0], row[1]) == request);
+    if let Some(row) = found {
+        store.cache[row * ROW + 2] = rng.within(usize::from(class), usize::from(classes) - 1) as u16;
+    }
+}
+
+/// Where the code of some method stands in the kept bytes.
+fn some_code(rng: &mut Rng, store: &Store) -> Option<std::ops::Range<usize>> {
+    let classes = usize::from(*store.counts.first()?);
+    if !is_whole(store) || classes < 2 {
+        return None;
+    }
+    let class = match store.turn() {
+        Some(task) if rng.percent(70) => {
+            store.frames[frame_base(task, store.frame_count(task) - 1) + cell::CLASS] as u16
+        }
+        _ => rng.within(1, classes - 1) as u16,
+    };
+    let file = store.file(class)?;
+    let code = file.method(rng.below(file.method_count().max(1)))?.code;
+    let start = code.as_ptr() as usize - store.kept.as_ptr() as usize;
+    Some(start..start + code.len())
+}
+
+/// Code that no verifier has seen.
+fn code_bytes(rng: &mut Rng, store: &mut Store) {
+    for _ in 0..rng.within(1, 4) {
+        let Some(code) = some_code(rng, store) else {
+            return;
+        };
+        let at = rng.within(code.start, code.end - 1);
+        store.kept[at] = match rng.below(4) {
+            0 => rng.draw() as u8,
+            1 => rng.below(16) as u8,
+            _ => rng.pick(&crate::code::op::ALL),
+        };
+    }
+}
+
+fn kept_byte(rng: &mut Rng, store: &mut Store) {
+    let used = store.counts.get(count::KEPT).map_or(0, |&n| usize::from(n)).min(store.kept.len());
+    if used > 0 {
+        let at = rng.below(used);
+        store.kept[at] = rng.draw() as u8;
+    }
+}
+
+/// A class's start or size moved.
+fn file_place(rng: &mut Rng, store: &mut Store) {
+    let classes = store.counts.first().map_or(0, |&n| usize::from(n)).min(store.classes.len() / ROW);
+    if classes > 1 {
+        let at = rng.within(1, classes - 1) * ROW + rng.within(1, 2);
+        store.classes[at] = store.classes[at].wrapping_add(rng.pick(&[1, u16::MAX, 0x8000]));
+    }
+}
+
+/// The cells of the top frame of the task at its turn.
+fn top(store: &mut Store) -> Option<&mut [u32]> {
+    if !is_whole(store) {
+        return None;
+    }
+    let task = store.turn()?;
+    let base = frame_base(task, store.frame_count(task) - 1);
+    Some(&mut store.frames[base..base + FRAME_ROW])
+}
+
+/// Class, method or point of the top frame.
+fn top_frame(rng: &mut Rng, store: &mut Store) {
+    let classes = store.counts.first().map_or(1, |&n| usize::from(n).max(1));
+    let Some(frame) = top(store) else {
+        return;
+    };
+    match rng.below(4) {
+        0 => frame[cell::CLASS] = rng.below(classes) as u32,
+        1 => frame[cell::METHOD] = rng.pick(&[0, 1, 2, 8, 0xFFFF_FFFF]),
+        _ => frame[cell::POINT] = number(rng),
+    }
+}
+
+/// An operand count that isn't the verifier's; the operands are ints or nulls, but for one at times.
+fn operand_count(rng: &mut Rng, store: &mut Store) {
+    let (kind, count) = (rng.pick(&[1, 2]), rng.pick(&[0, 1, 2, 15, 16, 16, 17]));
+    let Some(frame) = top(store) else {
+        return;
+    };
+    frame[cell::OPERANDS] = count;
+    for operand in 0..16 {
+        let at = cell::OPERAND_0 + 2 * operand;
+        frame[at..at + 2].copy_from_slice(&[kind, 0]);
+    }
+    if rng.percent(30) {
+        let at = cell::OPERAND_0 + 2 * rng.below(16);
+        frame[at..at + 2].copy_from_slice(&rng.pick(&[[0, 0], [2, 1], [3, 999], [4, 0], [3, 0]]));
+    }
+}
+
+/// A value of the top frame or of an object changed to another kind.
+fn a_value(rng: &mut Rng, store: &mut Store) {
+    let objects = store.counts.get(count::OBJECTS).map_or(1, |&n| u32::from(n).max(1));
+    let object = rng.draw() as u32 % objects;
+    let pair = rng.pick(&[[0, 0], [1, 5], [2, 0], [3, object], [3, object], [3, objects], [2, 1], [4, 0], [0, 1]]);
+    if rng.percent(40) && is_whole(store) {
+        let at = Store::field_cell(object, rng.below(3));
+        store.objects[at..at + 2].copy_from_slice(&pair);
+    } else if let Some(frame) = top(store) {
+        let places = rng.pick(&[3, 12, 12]);
+        let at = cell::LOCAL_0 + 2 * rng.below(places);
+        frame[at..at + 2].copy_from_slice(&pair);
+    }
+}
+
+/// Constraints that nobody posted; the store may disagree with them.
+fn constraints(rng: &mut Rng, store: &mut Store) {
+    if !is_whole(store) {
+        return;
+    }
+    for _ in 0..rng.within(1, 6) {
+        let (one, other) = (rng.below(5) as u16, rng.below(5) as u16);
+        let name = |rng: &mut Rng| if rng.percent(95) { rng.within(2, 16) as u16 } else { word(rng) };
+        let (low, high) = (name(rng), name(rng));
+        if rng.percent(50) && !store.is_full(count::TIES) {
+            store.add_tie([one, other, low]);
+        } else if !store.is_full(count::SUBTYPES) {
+            store.add_subtype([one, low, high]);
+        }
+    }
+}
+
+/// A task with all its frames, copies of the top one.
+fn full_frames(rng: &mut Rng, store: &mut Store) {
+    let Some(frame) = top(store).map(|frame| frame.to_vec()) else {
+        return;
+    };
+    let Some(task) = store.turn() else {
+        return;
+    };
+    let frames = rng.pick(&[2, 31, 32]);
+    for depth in store.frame_count(task)..frames {
+        let base = frame_base(task, depth);
+        store.frames[base..base + FRAME_ROW].copy_from_slice(&frame);
+    }
+    store.counts[count::FRAMES + task] = store.counts[count::FRAMES + task].max(frames as u16);
+}

@@ -1,0 +1,137 @@
+//! Files: good ones, mutated, cut off, random, and at the edges of the file rules.
+
+use super::blueprint::Blueprint;
+use super::build::{set_length, Code, Draft};
+use super::rng::Rng;
+use crate::code::op;
+use crate::store::INT;
+
+/// A file, or bytes that might have been one.
+pub fn file(seed: u64) -> Vec<u8> {
+    let mut rng = Rng::new(seed ^ 0x66_69_6C_65);
+    match rng.weighted(&[3, 5, 2, 2, 3, 3]) {
+        0 => good(&mut rng),
+        1 => mutated(&mut rng),
+        2 => cut(&mut rng),
+        3 => {
+            let length = rng.below(40);
+            rng.bytes(length)
+        }
+        4 => edge(&mut rng),
+        _ => random_code(&mut rng),
+    }
+}
+
+fn good(rng: &mut Rng) -> Vec<u8> {
+    let blueprint = Blueprint::new(rng);
+    let names = blueprint.names();
+    let name = rng.pick(&names);
+    blueprint.draft(rng, name).file()
+}
+
+fn mutated(rng: &mut Rng) -> Vec<u8> {
+    let mut bytes = good(rng);
+    for _ in 0..rng.within(1, 3) {
+        let at = rng.below(bytes.len());
+        match rng.below(6) {
+            0 => bytes[at] = rng.draw() as u8,
+            1 => bytes[at] ^= 1 << rng.below(8),
+            2 => bytes[at] = bytes[at].wrapping_add(1),
+            3 => bytes[at] = 0,
+            4 => bytes.insert(at, rng.draw() as u8),
+            _ => drop(bytes.remove(at)),
+        }
+        if bytes.len() < 4 {
+            break;
+        }
+    }
+    if rng.percent(60) {
+        set_length(&mut bytes);
+    }
+    bytes
+}
+
+fn cut(rng: &mut Rng) -> Vec<u8> {
+    let mut bytes = good(rng);
+    let length = rng.below(bytes.len() + 1);
+    bytes.truncate(length);
+    if rng.percent(50) {
+        set_length(&mut bytes);
+    }
+    if rng.percent(20) {
+        bytes.push(0);
+    }
+    bytes
+}
+
+/// A file at one edge of the file rules, on one side or the other.
+pub fn edge(rng: &mut Rng) -> Vec<u8> {
+    let end = Code::new().end(INT);
+    let many = |count: u16| (0..count).fold(Draft::new(10), |draft, i| draft.main(20 + i, &end));
+    match rng.below(12) {
+        0 => (0..rng.within(7, 9) as u16).fold(Draft::new(10), |draft, i| draft.field(30 + i, INT)).file(),
+        1 => many(rng.within(7, 9) as u16).file(),
+        2 => Draft::new(rng.below(4) as u16).under(rng.below(4) as u16).file(),
+        3 => Draft::new(10).field(rng.below(3) as u16, rng.below(3) as u16).file(),
+        4 => Draft::new(10).method(rng.below(2) as u16, INT, rng.below(3) as u16, &end).file(),
+        5 => Draft::new(10).field(30, INT).field(30, rng.within(1, 11) as u16).file(),
+        6 => Draft::new(10).main(20, &end).main(20 + rng.below(2) as u16, &end).file(),
+        7 => Draft::new(10).main(20, &end).method(20, rng.within(1, 2) as u16, INT, &end).file(),
+        8 => Draft::new(10).main(20, &padded(rng.within(510, 514))).file(),
+        9 => Draft::new(10).main(20, &Code::new()).file(),
+        10 => {
+            let length = rng.within(4_094, 4_098);
+            of_length(10, length)
+        }
+        _ => {
+            let mut bytes = many(1).file();
+            bytes[0] = rng.below(3) as u8;
+            bytes
+        }
+    }
+}
+
+/// Code of exactly so many bytes, 5 or more, that returns an int.
+pub fn padded(length: usize) -> Code {
+    let mut code = Code::new();
+    let ending = 4 - length % 2;
+    while code.bytes.len() + ending < length {
+        code = code.null().pop();
+    }
+    if ending == 4 {
+        code.int(0).ireturn()
+    } else {
+        code.iload(1).ireturn()
+    }
+}
+
+/// A good file below Object of exactly so many bytes, from 22 to 4,098.
+pub fn of_length(name: u16, length: usize) -> Vec<u8> {
+    let methods = (length - 9).div_ceil(8 + 512);
+    let mut left = length - 9 - 8 * methods;
+    let mut draft = Draft::new(name);
+    for i in (1..=methods).rev() {
+        let code = padded(left / i);
+        left -= code.bytes.len();
+        draft = draft.main(20 + i as u16, &code);
+    }
+    draft.file()
+}
+
+/// Readable files whose code is drawn instruction by instruction with no regard to types.
+fn random_code(rng: &mut Rng) -> Vec<u8> {
+    let mut code = Code::new();
+    for _ in 0..rng.within(1, 8) {
+        let opcode = rng.pick(&op::ALL);
+        let mut name = || rng.pick(&[1, 2, 10, 11, 30]) - u16::from(rng.percent(3));
+        code = match opcode {
+            op::SIPUSH | op::NEW => code.names(opcode, &[name()]),
+            op::ILOAD | op::ALOAD | op::ISTORE | op::ASTORE => code.local(opcode, rng.below(9) as u8),
+            op::GETFIELD | op::PUTFIELD => code.names(opcode, &[name(), name(), name()]),
+            op::INVOKEVIRTUAL => code.names(opcode, &[name(), name(), name(), name()]),
+            _ => code.plain(opcode),
+        };
+    }
+    let result = rng.pick(&[INT, 11]);
+    Draft::new(10).method(20, rng.pick(&[INT, 10]), result, &code.end(result)).file()
+}

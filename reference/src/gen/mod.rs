@@ -1,0 +1,118 @@
+//! Generators for differential tests. The same seed gives the same calls, stores and files.
+
+pub mod blueprint;
+pub mod build;
+pub mod cases;
+pub mod codes;
+pub mod damage;
+pub mod files;
+pub mod limits;
+pub mod list;
+pub mod rng;
+pub mod scripts;
+pub mod stuck;
+pub mod sweep;
+pub mod walk;
+
+use crate::answer::Reply;
+use crate::store::Store;
+use crate::{boot, define, drop_task, record, run, start, step};
+
+/// One call with its arguments.
+#[derive(Clone, Debug, PartialEq, Eq)]
+pub enum Call {
+    Boot,
+    Define { loader: u16, file: Vec<u8> },
+    Record { loader: u16, name: u16, class: u16 },
+    Start { task: u16, loader: u16, name: u16, method: u16, int: u32 },
+    Step,
+    Run { n: u16 },
+    Drop { task: u16 },
+}
+
+pub const CALLS: [&str; 7] = ["boot", "define", "record", "start", "step", "run", "drop"];
+
+impl Call {
+    /// The call's place in `CALLS`.
+    pub fn kind(&self) -> usize {
+        match self {
+            Call::Boot => 0,
+            Call::Define { .. } => 1,
+            Call::Record { .. } => 2,
+            Call::Start { .. } => 3,
+            Call::Step => 4,
+            Call::Run { .. } => 5,
+            Call::Drop { .. } => 6,
+        }
+    }
+
+    /// Makes the call.
+    pub fn apply(&self, store: &mut Store) -> Reply {
+        match *self {
+            Call::Boot => boot(store),
+            Call::Define { loader, ref file } => define(store, loader, file),
+            Call::Record { loader, name, class } => record(store, loader, name, class),
+            Call::Start { task, loader, name, method, int } => start(store, task, loader, name, method, int),
+            Call::Step => Reply::Stepped(step(store)),
+            Call::Run { n } => run(store, n),
+            Call::Drop { task } => drop_task(store, task),
+        }
+    }
+}
+
+/// A list of calls under way, with the store it leads to.
+#[derive(Clone)]
+pub struct Trial {
+    pub store: Store,
+    pub calls: Vec<Call>,
+    pub replies: Vec<Reply>,
+}
+
+impl Trial {
+    /// Begins with a boot of zeros.
+    pub fn booted() -> Trial {
+        let mut trial = Trial { store: Store::zeros(), calls: Vec::new(), replies: Vec::new() };
+        trial.call(Call::Boot);
+        trial
+    }
+
+    /// Boots and records Object under these loaders.
+    pub fn ready(loaders: impl IntoIterator<Item = u16>) -> Trial {
+        let mut trial = Trial::booted();
+        for loader in loaders {
+            trial.record(loader, 2, 0);
+        }
+        trial
+    }
+
+    pub fn call(&mut self, call: Call) -> Reply {
+        let reply = call.apply(&mut self.store);
+        self.calls.push(call);
+        self.replies.push(reply);
+        reply
+    }
+
+    pub fn define(&mut self, loader: u16, draft: &build::Draft) -> Reply {
+        self.call(Call::Define { loader, file: draft.file() })
+    }
+
+    pub fn record(&mut self, loader: u16, name: u16, class: u16) -> Reply {
+        self.call(Call::Record { loader, name, class })
+    }
+
+    pub fn start(&mut self, task: u16, loader: u16, name: u16, method: u16, int: i32) -> Reply {
+        self.call(Call::Start { task, loader, name, method, int: int as u32 })
+    }
+
+    pub fn step(&mut self) -> Reply {
+        self.call(Call::Step)
+    }
+
+    pub fn run(&mut self, n: u16) -> Reply {
+        self.call(Call::Run { n })
+    }
+
+    pub fn drop_task(&mut self, task: u16) -> Reply {
+        self.call(Call::Drop { task })
+    }
+}

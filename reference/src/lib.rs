@@ -1,0 +1,30 @@
+//! The tariff class machine, written a second time: boot, define, record, start, step, run and drop
+//! over the eight lent tables that docs/STORE.md publishes, the desk's check, and boxscript.
+//!
+//! It shares no code with the proved machine. The two are compared call by call and cell by cell.
+
+pub mod agree;
+pub mod answer;
+pub mod broken;
+pub mod classes;
+pub mod code;
+pub mod file;
+pub mod gen;
+pub mod host;
+pub mod load;
+pub mod placed;
+pub mod script;
+pub mod step;
+pub mod store;
+pub mod tally;
+pub mod task;
+pub mod verifier;
+
+pub use answer::{Answer, Refusal, Reply};
+pub use broken::broken;
+pub use load::{boot, define, record};
+pub use placed::misplaced;
+pub use step::step;
+pub use store::Store;
+pub use task::{drop_task, run, start};
+pub use verifier::check;

@@ -1,0 +1,124 @@
+//! boot, define and record.
+
+use crate::agree::{agrees, same_tie, tie, Added};
+use crate::answer::{denied, word, Refusal, Reply};
+use crate::broken::{lengths_fit, unbroken};
+use crate::classes::Classes;
+use crate::file::File;
+use crate::store::{count, Store, FIELDS, LIMITS, LOADERS, OBJECT, ROW};
+use crate::verifier::verify;
+
+pub fn boot(store: &mut Store) -> Reply {
+    if !lengths_fit(store) {
+        return denied(word::BROKEN);
+    }
+    store.counts.copy_from_slice(&[1, 0, 1, 0, 0, 0, 0, 0]);
+    store.classes[..ROW].copy_from_slice(&[0, 0, 0]);
+    store.cache[..ROW].copy_from_slice(&[0, OBJECT, 0]);
+    Reply::Accepted
+}
+
+pub fn define(store: &mut Store, loader: u16, bytes: &[u8]) -> Reply {
+    match try_define(store, loader, bytes) {
+        Ok(class) => Reply::Defined(class as u8),
+        Err(refusal) => Reply::Denied(refusal),
+    }
+}
+
+fn try_define(store: &mut Store, loader: u16, bytes: &[u8]) -> Result<u16, Refusal> {
+    let mut classes = unbroken(store).ok_or(Refusal::Word(word::BROKEN))?;
+    if loader >= LOADERS {
+        return Err(Refusal::Word(word::UNKNOWN));
+    }
+    let file = File::read(bytes).ok_or(Refusal::Word(word::FILE))?;
+    let mut notes = Vec::new();
+    let verified = verify(file, &mut |lower, higher| notes.push([loader, lower, higher]));
+    verified.map_err(|_| Refusal::Word(word::UNVERIFIED))?;
+    if store.cached(loader, file.name()).is_some() {
+        return Err(Refusal::Word(word::TAKEN));
+    }
+    let wanted = Refusal::Wanted(loader as u8, file.superclass());
+    let superclass = store.cached(loader, file.superclass()).ok_or(wanted)?;
+    if file.fields().any(|field| classes.has_field_named(store, superclass, field.name)) {
+        return Err(Refusal::Word(word::HIDDEN));
+    }
+    let subtypes = new_subtypes(store, &notes);
+    let ties = overriding_ties(store, &classes, loader, superclass, file);
+    let entry = [loader, file.name(), store.counts[count::CLASSES]];
+    let added = Added { entry: Some(entry), ties: &ties, subtypes: &subtypes };
+    if is_class_too_much(store, &classes, superclass, file, bytes.len()) || added.is_too_much(store) {
+        return Err(Refusal::Word(word::FULL));
+    }
+    classes.add(superclass, file).ok_or(Refusal::Word(word::FULL))?;
+    if !agrees(store, &added, &classes) {
+        return Err(Refusal::Word(word::CLASH));
+    }
+    let class = store.add_class(loader, bytes);
+    added.write(store);
+    Ok(class)
+}
+
+/// Would the class pass the limit of classes, kept bytes or fields?
+fn is_class_too_much(store: &Store, classes: &Classes, superclass: u16, file: File, length: usize) -> bool {
+    store.is_full(count::CLASSES)
+        || store.count(count::KEPT) + length > usize::from(LIMITS[count::KEPT])
+        || classes.field_count(superclass) + file.field_count() > FIELDS
+}
+
+/// The notes that are no rows yet, each once.
+fn new_subtypes(store: &Store, notes: &[[u16; 3]]) -> Vec<[u16; 3]> {
+    let mut new: Vec<[u16; 3]> = Vec::new();
+    for &note in notes {
+        if !new.contains(&note) && !store.subtype_rows().any(|row| row == note) {
+            new.push(note);
+        }
+    }
+    new
+}
+
+/// Is the tie neither a row of the store nor among these?
+pub fn is_new_tie(store: &Store, among: &[[u16; 3]], row: [u16; 3]) -> bool {
+    !among.iter().any(|&other| same_tie(other, row)) && !store.tie_rows().any(|other| same_tie(other, row))
+}
+
+/// The new ties of the methods that override one upward, on argument and then result.
+fn overriding_ties(store: &Store, classes: &Classes, loader: u16, superclass: u16, file: File) -> Vec<[u16; 3]> {
+    let mut new = Vec::new();
+    for method in file.methods() {
+        let overridden = classes.method(store, superclass, method.name, method.argument, method.result);
+        let Some((nearest, _)) = overridden else {
+            continue;
+        };
+        for of in [method.argument, method.result] {
+            let row = tie(loader, store.loader_of(nearest), of);
+            new.extend(row.filter(|&row| is_new_tie(store, &new, row)));
+        }
+    }
+    new
+}
+
+pub fn record(store: &mut Store, loader: u16, name: u16, class: u16) -> Reply {
+    let Some(classes) = unbroken(store) else {
+        return denied(word::BROKEN);
+    };
+    if loader >= LOADERS || name < 2 || !classes.has(u32::from(class)) {
+        return denied(word::UNKNOWN);
+    }
+    if store.name_of(class) != name {
+        return denied(word::MISNAMED);
+    }
+    match store.cached(loader, name) {
+        Some(there) if there == class => return Reply::Accepted,
+        Some(_) => return denied(word::TAKEN),
+        None => {}
+    }
+    let added = Added { entry: Some([loader, name, class]), ..Added::default() };
+    if added.is_too_much(store) {
+        return denied(word::FULL);
+    }
+    if !agrees(store, &added, &classes) {
+        return denied(word::CLASH);
+    }
+    added.write(store);
+    Reply::Accepted
+}

@@ -1,0 +1,282 @@
+//! step: one instruction of the task whose turn it is.
+
+use crate::agree::{agrees, tie, Added};
+use crate::answer::{word, Answer, Refusal};
+use crate::broken::unbroken;
+use crate::classes::Classes;
+use crate::code::{decode, FieldRef, Instruction, MethodRef};
+use crate::load::is_new_tie;
+use crate::store::{cell, count, frame_base, Store, Value, LOCALS, OPERANDS};
+use crate::task::make_object;
+
+const STUCK: Refusal = Refusal::Word(word::STUCK);
+const FULL: Refusal = Refusal::Word(word::FULL);
+
+pub fn step(store: &mut Store) -> Answer {
+    match unbroken(store) {
+        Some(classes) => take_step(store, &classes),
+        None => Answer::Refused(Refusal::Word(word::BROKEN)),
+    }
+}
+
+/// A step on a store that isn't broken, with its classes.
+pub fn take_step(store: &mut Store, classes: &Classes) -> Answer {
+    let Some(task) = store.turn() else {
+        return Answer::Idle;
+    };
+    let Some((instruction, next)) = instruction_of(store, task) else {
+        return Answer::Refused(STUCK);
+    };
+    let base = frame_base(task, store.frame_count(task) - 1);
+    let operands = store.frames[base + cell::OPERANDS] as usize;
+    let turn = Turn { store, classes, task, base, operands, next };
+    turn.execute(instruction).unwrap_or_else(Answer::Refused)
+}
+
+/// The instruction of a task's top frame and the next point, if it can be read.
+pub fn instruction_of(store: &Store, task: usize) -> Option<(Instruction, usize)> {
+    let base = frame_base(task, store.frame_count(task).checked_sub(1)?);
+    let file = store.file(store.frames[base + cell::CLASS] as u16)?;
+    let method = file.method(store.frames[base + cell::METHOD] as usize)?;
+    decode(method.code, store.frames[base + cell::POINT] as usize)
+}
+
+/// The top frame of the task at its turn.
+struct Turn<'a> {
+    store: &'a mut Store,
+    classes: &'a Classes,
+    task: usize,
+    base: usize,
+    operands: usize,
+    next: usize,
+}
+
+/// The new ties of one instruction: at most two.
+struct NewTies {
+    rows: [[u16; 3]; 2],
+    count: usize,
+}
+
+impl NewTies {
+    fn rows(&self) -> &[[u16; 3]] {
+        &self.rows[..self.count]
+    }
+}
+
+impl Turn<'_> {
+    fn execute(mut self, instruction: Instruction) -> Result<Answer, Refusal> {
+        match instruction {
+            Instruction::AconstNull => self.push(|_| Ok(Value::Null)),
+            Instruction::Sipush(int) => self.push(|_| Ok(Value::Int(i32::from(int) as u32))),
+            Instruction::Iload(n) => self.push(|turn| turn.local(n).filter(is_int).ok_or(STUCK)),
+            Instruction::Aload(n) => self.push(|turn| turn.local(n).filter(is_reference).ok_or(STUCK)),
+            Instruction::Dup => self.push(|turn| turn.operand(0)),
+            Instruction::Istore(n) => self.store_local(n, is_int),
+            Instruction::Astore(n) => self.store_local(n, is_reference),
+            Instruction::Pop => {
+                self.operand(0)?;
+                self.settle(1, None)
+            }
+            Instruction::Iadd => self.arithmetic(u32::wrapping_add),
+            Instruction::Isub => self.arithmetic(u32::wrapping_sub),
+            Instruction::Getfield(at) => self.getfield(at),
+            Instruction::Putfield(at) => self.putfield(at),
+            Instruction::Invokevirtual(at) => self.invokevirtual(at),
+            Instruction::New(class) => self.new_object(class),
+            Instruction::Ireturn => self.give_back(is_int),
+            Instruction::Areturn => self.give_back(is_reference),
+        }
+    }
+
+    /// The operand so far below the top.
+    fn operand(&self, depth: usize) -> Result<Value, Refusal> {
+        let place = self.operands.checked_sub(depth + 1).ok_or(STUCK)?;
+        Value::read(&self.store.frames, self.base + cell::OPERAND_0 + 2 * place).ok_or(STUCK)
+    }
+
+    fn int(&self, depth: usize) -> Result<u32, Refusal> {
+        match self.operand(depth)? {
+            Value::Int(bits) => Ok(bits),
+            _ => Err(STUCK),
+        }
+    }
+
+    fn local_cell(&self, number: u8) -> Option<usize> {
+        let number = usize::from(number);
+        (number < LOCALS).then_some(self.base + cell::LOCAL_0 + 2 * number)
+    }
+
+    fn local(&self, number: u8) -> Option<Value> {
+        Value::read(&self.store.frames, self.local_cell(number)?)
+    }
+
+    /// Takes operands off, puts one on, and moves to the next point.
+    fn settle(&mut self, taken: usize, put: Option<Value>) -> Result<Answer, Refusal> {
+        let left = self.operands - taken;
+        if let Some(value) = put {
+            value.write(&mut self.store.frames, self.base + cell::OPERAND_0 + 2 * left);
+        }
+        self.store.frames[self.base + cell::OPERANDS] = (left + usize::from(put.is_some())) as u32;
+        self.store.frames[self.base + cell::POINT] = self.next as u32;
+        Ok(Answer::Ran(self.task as u8))
+    }
+
+    /// An instruction that only adds an operand: the limit comes before the value.
+    fn push(&mut self, value: impl Fn(&Self) -> Result<Value, Refusal>) -> Result<Answer, Refusal> {
+        if self.operands >= OPERANDS {
+            return Err(FULL);
+        }
+        let value = value(self)?;
+        self.settle(0, Some(value))
+    }
+
+    fn store_local(&mut self, number: u8, fits: fn(&Value) -> bool) -> Result<Answer, Refusal> {
+        let value = Some(self.operand(0)?).filter(fits).ok_or(STUCK)?;
+        let at = self.local_cell(number).ok_or(STUCK)?;
+        value.write(&mut self.store.frames, at);
+        self.settle(1, None)
+    }
+
+    fn arithmetic(&mut self, of: fn(u32, u32) -> u32) -> Result<Answer, Refusal> {
+        let (left, right) = (self.int(1)?, self.int(0)?);
+        self.settle(2, Some(Value::Int(of(left, right))))
+    }
+
+    /// The loader of the frame's class.
+    fn loader(&self) -> u16 {
+        self.store.loader_of(self.store.frames[self.base + cell::CLASS] as u16)
+    }
+
+    /// The class that the instruction names, under the frame class's loader.
+    fn named_class(&self, name: u16) -> Result<u16, Refusal> {
+        let loader = self.loader();
+        self.store.cached(loader, name).ok_or(Refusal::Wanted(loader as u8, name))
+    }
+
+    /// The ties between the nearest class's loader and the frame class's that are no rows yet.
+    fn new_ties(&self, nearest: u16, types: &[u16]) -> NewTies {
+        let mut new = NewTies { rows: [[0; 3]; 2], count: 0 };
+        let (there, here) = (self.store.loader_of(nearest), self.loader());
+        for row in types.iter().filter_map(|&of| tie(there, here, of)) {
+            if is_new_tie(self.store, new.rows(), row) {
+                new.rows[new.count] = row;
+                new.count += 1;
+            }
+        }
+        new
+    }
+
+    /// Refuses ties that pass the limit, or room that isn't there, and then ties that clash.
+    fn judge(&self, ties: &NewTies, room: bool) -> Result<(), Refusal> {
+        let added = Added { ties: ties.rows(), ..Added::default() };
+        if !room || added.is_too_much(self.store) {
+            return Err(FULL);
+        }
+        if !added.is_empty() && !agrees(self.store, &added, self.classes) {
+            return Err(Refusal::Word(word::CLASH));
+        }
+        Ok(())
+    }
+
+    fn post(&mut self, ties: &NewTies) {
+        ties.rows().iter().for_each(|&row| self.store.add_tie(row));
+    }
+
+    /// The receiver: an object of the named class or below it, or null, which is refused last.
+    fn receiver(&self, depth: usize, named: u16) -> Result<Option<u32>, Refusal> {
+        match self.operand(depth)? {
+            Value::Null => Ok(None),
+            Value::Object(object) if self.classes.below(self.store.object_class(object), named) => Ok(Some(object)),
+            _ => Err(STUCK),
+        }
+    }
+
+    /// The value of a putfield or the argument of a call.
+    fn passed(&self, of: u16) -> Result<Value, Refusal> {
+        Some(self.operand(0)?).filter(|value| value.is_kind_of(of)).ok_or(STUCK)
+    }
+
+    fn getfield(&mut self, at: FieldRef) -> Result<Answer, Refusal> {
+        let named = self.named_class(at.class)?;
+        let Some((nearest, field)) = self.classes.field(self.store, named, at.field, at.of) else {
+            return Err(Refusal::Word(word::ABSENT));
+        };
+        let ties = self.new_ties(nearest, &[at.of]);
+        self.judge(&ties, true)?;
+        let object = self.receiver(0, named)?.ok_or(Refusal::Word(word::NULL))?;
+        let value = Value::read(&self.store.objects, Store::field_cell(object, field)).ok_or(STUCK)?;
+        self.post(&ties);
+        self.settle(1, Some(value))
+    }
+
+    fn putfield(&mut self, at: FieldRef) -> Result<Answer, Refusal> {
+        let named = self.named_class(at.class)?;
+        let Some((nearest, field)) = self.classes.field(self.store, named, at.field, at.of) else {
+            return Err(Refusal::Word(word::ABSENT));
+        };
+        let ties = self.new_ties(nearest, &[at.of]);
+        self.judge(&ties, true)?;
+        let value = self.passed(at.of)?;
+        let object = self.receiver(1, named)?.ok_or(Refusal::Word(word::NULL))?;
+        value.write(&mut self.store.objects, Store::field_cell(object, field));
+        self.post(&ties);
+        self.settle(2, None)
+    }
+
+    fn invokevirtual(&mut self, at: MethodRef) -> Result<Answer, Refusal> {
+        let named = self.named_class(at.class)?;
+        let found = self.classes.method(self.store, named, at.method, at.argument, at.result);
+        let Some((nearest, _)) = found else {
+            return Err(Refusal::Word(word::ABSENT));
+        };
+        let ties = self.new_ties(nearest, &[at.argument, at.result]);
+        self.judge(&ties, !self.store.is_full(count::FRAMES + self.task))?;
+        let argument = self.passed(at.argument)?;
+        let object = self.receiver(1, named)?.ok_or(Refusal::Word(word::NULL))?;
+        let own = self.store.object_class(object);
+        let selected = self.classes.method(self.store, own, at.method, at.argument, at.result);
+        let (owner, place) = selected.map(|(class, method)| (class, method.place)).ok_or(STUCK)?;
+        self.post(&ties);
+        let answer = self.settle(2, None);
+        self.store.enter(self.task, owner, place, Value::Object(object), argument);
+        answer
+    }
+
+    fn new_object(&mut self, name: u16) -> Result<Answer, Refusal> {
+        let class = self.named_class(name)?;
+        if self.operands >= OPERANDS || self.store.is_full(count::OBJECTS) {
+            return Err(FULL);
+        }
+        let object = make_object(self.store, self.classes, class);
+        self.settle(0, Some(object))
+    }
+
+    /// Returns the top operand to the caller, or ends the task with it.
+    fn give_back(&mut self, fits: fn(&Value) -> bool) -> Result<Answer, Refusal> {
+        let caller = self.store.frame_count(self.task).checked_sub(2).map(|depth| frame_base(self.task, depth));
+        let room = caller.map(|base| self.store.frames[base + cell::OPERANDS] as usize);
+        if room == Some(OPERANDS) {
+            return Err(FULL);
+        }
+        let value = Some(self.operand(0)?).filter(fits).ok_or(STUCK)?;
+        let answer = match (caller, room, value) {
+            (Some(base), Some(place), _) => {
+                value.write(&mut self.store.frames, base + cell::OPERAND_0 + 2 * place);
+                self.store.frames[base + cell::OPERANDS] += 1;
+                Answer::Ran(self.task as u8)
+            }
+            (_, _, Value::Int(bits)) => Answer::Finished(self.task as u8, bits),
+            _ => return Err(STUCK),
+        };
+        self.store.counts[count::FRAMES + self.task] -= 1;
+        Ok(answer)
+    }
+}
+
+fn is_int(value: &Value) -> bool {
+    matches!(value, Value::Int(_))
+}
+
+fn is_reference(value: &Value) -> bool {
+    matches!(value, Value::Null | Value::Object(_))
+}

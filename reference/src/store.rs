@@ -1,0 +1,256 @@
+//! The store: eight lent tables, their lengths, limits, rows and values.
+
+use crate::file::File;
+
+/// The cells of `counts`.
+pub mod count {
+    pub const CLASSES: usize = 0;
+    pub const KEPT: usize = 1;
+    pub const CACHE: usize = 2;
+    pub const TIES: usize = 3;
+    pub const SUBTYPES: usize = 4;
+    pub const OBJECTS: usize = 5;
+    /// Frames of the quote; those of the report are the next cell.
+    pub const FRAMES: usize = 6;
+}
+
+/// The limit of each count.
+pub const LIMITS: [u16; 8] = [64, 16_384, 256, 256, 256, 256, 32, 32];
+/// The length of each table, in the order of `Store`.
+pub const LENGTHS: [usize; 8] = [8, 192, 16_384, 768, 768, 768, 8_448, 3_328];
+
+pub const LOADERS: u16 = 16;
+pub const TASKS: u16 = 2;
+pub const FIELDS: usize = 16;
+pub const LOCALS: usize = 8;
+pub const OPERANDS: usize = 16;
+pub const INT: u16 = 1;
+pub const OBJECT: u16 = 2;
+
+/// Cells of a row.
+pub const ROW: usize = 3;
+pub const OBJECT_ROW: usize = 33;
+pub const FRAME_ROW: usize = 52;
+
+/// Cells within a frame's row.
+pub mod cell {
+    pub const CLASS: usize = 0;
+    pub const METHOD: usize = 1;
+    pub const POINT: usize = 2;
+    pub const OPERANDS: usize = 3;
+    pub const LOCAL_0: usize = 4;
+    pub const OPERAND_0: usize = 20;
+}
+
+#[derive(Clone, Debug, PartialEq, Eq)]
+pub struct Store {
+    pub counts: Vec<u16>,
+    pub classes: Vec<u16>,
+    pub kept: Vec<u8>,
+    pub cache: Vec<u16>,
+    pub ties: Vec<u16>,
+    pub subtypes: Vec<u16>,
+    pub objects: Vec<u32>,
+    pub frames: Vec<u32>,
+}
+
+/// A value that stands in a field, operand or local.
+#[derive(Clone, Copy, Debug, PartialEq, Eq)]
+pub enum Value {
+    Empty,
+    Int(u32),
+    Null,
+    Object(u32),
+}
+
+impl Value {
+    /// The listed pair's value; nothing for a pair that isn't listed.
+    pub fn read(cells: &[u32], at: usize) -> Option<Value> {
+        match (cells[at], cells[at + 1]) {
+            (0, 0) => Some(Value::Empty),
+            (1, bits) => Some(Value::Int(bits)),
+            (2, 0) => Some(Value::Null),
+            (3, object) => Some(Value::Object(object)),
+            _ => None,
+        }
+    }
+
+    pub fn write(self, cells: &mut [u32], at: usize) {
+        let (kind, bits) = match self {
+            Value::Empty => (0, 0),
+            Value::Int(bits) => (1, bits),
+            Value::Null => (2, 0),
+            Value::Object(object) => (3, object),
+        };
+        cells[at] = kind;
+        cells[at + 1] = bits;
+    }
+
+    /// What a field of this type begins as.
+    pub fn first(of: u16) -> Value {
+        if of == INT {
+            Value::Int(0)
+        } else {
+            Value::Null
+        }
+    }
+
+    /// An int where the type is int, a reference where it is a class name.
+    pub fn is_kind_of(self, wanted: u16) -> bool {
+        match self {
+            Value::Empty => false,
+            Value::Int(_) => wanted == INT,
+            Value::Null | Value::Object(_) => wanted != INT,
+        }
+    }
+}
+
+/// The used rows of a table with three cells a row.
+pub fn rows(table: &[u16], used: usize) -> impl Iterator<Item = [u16; 3]> + '_ {
+    table.chunks_exact(ROW).take(used).map(|row| [row[0], row[1], row[2]])
+}
+
+/// Where the row of this frame begins.
+pub fn frame_base(task: usize, depth: usize) -> usize {
+    (task * usize::from(LIMITS[count::FRAMES]) + depth) * FRAME_ROW
+}
+
+impl Store {
+    /// What a program begins with: every row free.
+    pub fn zeros() -> Store {
+        Store {
+            counts: vec![0; LENGTHS[0]],
+            classes: vec![0; LENGTHS[1]],
+            kept: vec![0; LENGTHS[2]],
+            cache: vec![0; LENGTHS[3]],
+            ties: vec![0; LENGTHS[4]],
+            subtypes: vec![0; LENGTHS[5]],
+            objects: vec![0; LENGTHS[6]],
+            frames: vec![0; LENGTHS[7]],
+        }
+    }
+
+    pub fn lengths(&self) -> [usize; 8] {
+        [
+            self.counts.len(),
+            self.classes.len(),
+            self.kept.len(),
+            self.cache.len(),
+            self.ties.len(),
+            self.subtypes.len(),
+            self.objects.len(),
+            self.frames.len(),
+        ]
+    }
+
+    pub fn count(&self, which: usize) -> usize {
+        usize::from(self.counts[which])
+    }
+
+    pub fn is_full(&self, which: usize) -> bool {
+        self.counts[which] >= LIMITS[which]
+    }
+
+    pub fn cache_rows(&self) -> impl Iterator<Item = [u16; 3]> + '_ {
+        rows(&self.cache, self.count(count::CACHE))
+    }
+
+    pub fn tie_rows(&self) -> impl Iterator<Item = [u16; 3]> + '_ {
+        rows(&self.ties, self.count(count::TIES))
+    }
+
+    pub fn subtype_rows(&self) -> impl Iterator<Item = [u16; 3]> + '_ {
+        rows(&self.subtypes, self.count(count::SUBTYPES))
+    }
+
+    /// The class that the cache holds for a request; of two rows the lower.
+    pub fn cached(&self, loader: u16, name: u16) -> Option<u16> {
+        self.cache_rows().find(|row| row[0] == loader && row[1] == name).map(|row| row[2])
+    }
+
+    pub fn loader_of(&self, class: u16) -> u16 {
+        self.classes[usize::from(class) * ROW]
+    }
+
+    /// The bytes of a class's file, if they lie within the kept bytes.
+    pub fn file_bytes(&self, class: u16) -> Option<&[u8]> {
+        let row = usize::from(class) * ROW;
+        let start = usize::from(self.classes[row + 1]);
+        let end = start + usize::from(self.classes[row + 2]);
+        self.kept[..self.count(count::KEPT)].get(start..end)
+    }
+
+    /// The file of a class of a store that isn't broken; Object has none.
+    pub fn file(&self, class: u16) -> Option<File<'_>> {
+        if class == 0 {
+            return None;
+        }
+        self.file_bytes(class).map(File::trusted)
+    }
+
+    pub fn name_of(&self, class: u16) -> u16 {
+        self.file(class).map_or(OBJECT, |file| file.name())
+    }
+
+    pub fn frame_count(&self, task: usize) -> usize {
+        self.count(count::FRAMES + task)
+    }
+
+    /// The task whose turn it is: the quote if it has a frame, else the report.
+    pub fn turn(&self) -> Option<usize> {
+        (0..usize::from(TASKS)).find(|&task| self.frame_count(task) > 0)
+    }
+
+    pub fn object_class(&self, object: u32) -> u16 {
+        self.objects[object as usize * OBJECT_ROW] as u16
+    }
+
+    /// The first cell of a field's value.
+    pub fn field_cell(object: u32, field: usize) -> usize {
+        object as usize * OBJECT_ROW + 1 + 2 * field
+    }
+
+    /// Appends a class and its file; the caller has seen that there is room.
+    pub fn add_class(&mut self, loader: u16, file: &[u8]) -> u16 {
+        let class = self.counts[count::CLASSES];
+        let start = self.count(count::KEPT);
+        self.kept[start..start + file.len()].copy_from_slice(file);
+        let at = usize::from(class) * ROW;
+        self.classes[at..at + ROW].copy_from_slice(&[loader, start as u16, file.len() as u16]);
+        self.counts[count::CLASSES] += 1;
+        self.counts[count::KEPT] += file.len() as u16;
+        class
+    }
+
+    pub fn add_cached(&mut self, row: [u16; 3]) {
+        add_row(&mut self.cache, &mut self.counts[count::CACHE], row);
+    }
+
+    pub fn add_tie(&mut self, row: [u16; 3]) {
+        add_row(&mut self.ties, &mut self.counts[count::TIES], row);
+    }
+
+    pub fn add_subtype(&mut self, row: [u16; 3]) {
+        add_row(&mut self.subtypes, &mut self.counts[count::SUBTYPES], row);
+    }
+
+    /// Appends a frame at point 0 with no operands; the caller has seen that there is room.
+    pub fn enter(&mut self, task: usize, class: u16, method: usize, this: Value, argument: Value) {
+        let base = frame_base(task, self.frame_count(task));
+        let frame = &mut self.frames[base..base + FRAME_ROW];
+        frame[cell::CLASS] = u32::from(class);
+        frame[cell::METHOD] = method as u32;
+        frame[cell::POINT] = 0;
+        frame[cell::OPERANDS] = 0;
+        this.write(frame, cell::LOCAL_0);
+        argument.write(frame, cell::LOCAL_0 + 2);
+        frame[cell::LOCAL_0 + 4..cell::OPERAND_0].fill(0);
+        self.counts[count::FRAMES + task] += 1;
+    }
+}
+
+fn add_row(table: &mut [u16], used: &mut u16, row: [u16; 3]) {
+    let at = usize::from(*used) * ROW;
+    table[at..at + ROW].copy_from_slice(&row);
+    *used += 1;
+}

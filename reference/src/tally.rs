@@ -1,0 +1,132 @@
+//! How often each word was given to each call, and how often each opcode ran.
+
+use std::fmt;
+
+use crate::answer::{word, Answer, Reply};
+use crate::code::op;
+use crate::gen::{Call, CALLS};
+use crate::step::{instruction_of, take_step};
+use crate::store::{cell, frame_base, Store};
+
+#[derive(Clone)]
+pub struct Tally {
+    /// By call and refusal number; 0 is accepted.
+    pub words: [[u64; 15]; 7],
+    /// The last answers of runs by refusal number, and then idle, ran, finished.
+    pub run_ends: [u64; 18],
+    /// The same of steps.
+    pub steps: [u64; 18],
+    pub opcodes: [u64; 256],
+}
+
+impl Default for Tally {
+    fn default() -> Tally {
+        Tally { words: [[0; 15]; 7], run_ends: [0; 18], steps: [0; 18], opcodes: [0; 256] }
+    }
+}
+
+pub const IDLE: usize = 15;
+pub const RAN: usize = 16;
+pub const FINISHED: usize = 17;
+
+fn ending(answer: Answer) -> usize {
+    match answer {
+        Answer::Idle => IDLE,
+        Answer::Ran(_) => RAN,
+        Answer::Finished(..) => FINISHED,
+        Answer::Refused(refusal) => usize::from(refusal.number()),
+    }
+}
+
+/// The opcode of the task at its turn.
+fn opcode(store: &Store) -> Option<u8> {
+    let task = store.turn()?;
+    instruction_of(store, task)?;
+    let base = frame_base(task, store.frame_count(task) - 1);
+    let file = store.file(store.frames[base + cell::CLASS] as u16)?;
+    let method = file.method(store.frames[base + cell::METHOD] as usize)?;
+    method.code.get(store.frames[base + cell::POINT] as usize).copied()
+}
+
+impl Tally {
+    /// Counts a call on the store as it was before.
+    pub fn count(&mut self, before: &Store, call: &Call, reply: Reply) {
+        let number = reply.refusal().map_or(0, |refusal| usize::from(refusal.number()));
+        self.words[call.kind()][number] += 1;
+        match reply {
+            Reply::Stepped(answer) => {
+                self.steps[ending(answer)] += 1;
+                self.count_opcodes(before, u16::from(ran(answer)));
+            }
+            Reply::RanFor(steps, answer) => {
+                self.run_ends[ending(answer)] += 1;
+                let finished = u16::from(matches!(answer, Answer::Finished(..)));
+                self.count_opcodes(before, steps.saturating_add(finished).min(200));
+            }
+            _ => {}
+        }
+    }
+
+    /// Runs a copy of the store again for the opcodes of its first steps.
+    fn count_opcodes(&mut self, before: &Store, steps: u16) {
+        if steps == 0 {
+            return;
+        }
+        let Some(classes) = crate::broken::unbroken(before) else {
+            return;
+        };
+        let mut store = before.clone();
+        for _ in 0..steps {
+            if let Some(opcode) = opcode(&store) {
+                self.opcodes[usize::from(opcode)] += 1;
+            }
+            take_step(&mut store, &classes);
+        }
+    }
+
+    pub fn add(&mut self, other: &Tally) {
+        for call in 0..7 {
+            (0..15).for_each(|number| self.words[call][number] += other.words[call][number]);
+        }
+        (0..18).for_each(|end| self.run_ends[end] += other.run_ends[end]);
+        (0..18).for_each(|end| self.steps[end] += other.steps[end]);
+        (0..256).for_each(|opcode| self.opcodes[opcode] += other.opcodes[opcode]);
+    }
+
+    /// The words given to a call, by number; 0 is accepted.
+    pub fn given(&self, call: &str) -> Vec<usize> {
+        let kind = CALLS.iter().position(|&name| name == call).expect("a call");
+        (0..15).filter(|&number| self.words[kind][number] > 0).collect()
+    }
+
+    /// The opcodes that never ran.
+    pub fn idle_opcodes(&self) -> Vec<&'static str> {
+        let never = op::ALL.iter().zip(op::NAMES).filter(|(&opcode, _)| self.opcodes[usize::from(opcode)] == 0);
+        never.map(|(_, name)| name).collect()
+    }
+}
+
+fn ran(answer: Answer) -> bool {
+    matches!(answer, Answer::Ran(_) | Answer::Finished(..))
+}
+
+impl fmt::Display for Tally {
+    fn fmt(&self, f: &mut fmt::Formatter) -> fmt::Result {
+        write!(f, "{:<14}", "")?;
+        CALLS.iter().try_for_each(|name| write!(f, "{name:>9}"))?;
+        writeln!(f, "{:>11}", "run's end")?;
+        for number in 0..15 {
+            let name = if number == 0 { "accepted" } else { word::NAMES[number - 1] };
+            write!(f, "{number:>2} {name:<11}")?;
+            self.words.iter().try_for_each(|call| write!(f, "{:>9}", call[number]))?;
+            writeln!(f, "{:>11}", if number == 0 { 0 } else { self.run_ends[number] })?;
+        }
+        for (at, name) in [(IDLE, "idle"), (RAN, "ran"), (FINISHED, "finished")] {
+            writeln!(f, "   {name:<11}{:>45}{:>29}", self.steps[at], self.run_ends[at])?;
+        }
+        for (opcode, name) in op::ALL.iter().zip(op::NAMES) {
+            writeln!(f, "   {opcode:02X} {name:<14}{:>9}", self.opcodes[usize::from(*opcode)])?;
+        }
+        Ok(())
+    }
+}

@@ -1,0 +1,77 @@
+//! start, run and drop.
+
+use crate::answer::{denied, word, Answer, Refusal, Reply};
+use crate::broken::unbroken;
+use crate::classes::Classes;
+use crate::step::take_step;
+use crate::store::{count, Store, Value, INT, LOADERS, OBJECT_ROW, TASKS};
+
+/// Makes an object with all fields 0 or null; the caller has seen that there is room.
+pub fn make_object(store: &mut Store, classes: &Classes, class: u16) -> Value {
+    let object = u32::from(store.counts[count::OBJECTS]);
+    let types = classes.field_types(store, class);
+    store.objects[object as usize * OBJECT_ROW] = u32::from(class);
+    for (field, (_, of)) in types.iter().enumerate() {
+        Value::first(of).write(&mut store.objects, Store::field_cell(object, field));
+    }
+    store.counts[count::OBJECTS] += 1;
+    Value::Object(object)
+}
+
+pub fn start(store: &mut Store, task: u16, loader: u16, name: u16, method: u16, int: u32) -> Reply {
+    let Some(classes) = unbroken(store) else {
+        return denied(word::BROKEN);
+    };
+    if task >= TASKS || loader >= LOADERS || name < 2 || method == 0 {
+        return denied(word::UNKNOWN);
+    }
+    let task = usize::from(task);
+    if store.frame_count(task) > 0 {
+        return denied(word::BUSY);
+    }
+    let Some(class) = store.cached(loader, name) else {
+        return Reply::Denied(Refusal::Wanted(loader as u8, name));
+    };
+    let Some((owner, selected)) = classes.method(store, class, method, INT, INT) else {
+        return denied(word::ABSENT);
+    };
+    let place = selected.place;
+    if store.is_full(count::OBJECTS) {
+        return denied(word::FULL);
+    }
+    let this = make_object(store, &classes, class);
+    store.enter(task, owner, place, this, Value::Int(int));
+    Reply::Accepted
+}
+
+/// Steps leave a store that isn't broken so, and leave its classes and cache: both are looked at once.
+pub fn run(store: &mut Store, n: u16) -> Reply {
+    let Some(classes) = unbroken(store) else {
+        return denied(word::BROKEN);
+    };
+    if n == 0 {
+        return denied(word::UNKNOWN);
+    }
+    let mut ran = 0;
+    loop {
+        let answer = take_step(store, &classes);
+        let Answer::Ran(_) = answer else {
+            return Reply::RanFor(ran, answer);
+        };
+        ran += 1;
+        if ran == n {
+            return Reply::RanFor(ran, answer);
+        }
+    }
+}
+
+pub fn drop_task(store: &mut Store, task: u16) -> Reply {
+    if unbroken(store).is_none() {
+        return denied(word::BROKEN);
+    }
+    if task >= TASKS {
+        return denied(word::UNKNOWN);
+    }
+    store.counts[count::FRAMES + usize::from(task)] = 0;
+    Reply::Accepted
+}

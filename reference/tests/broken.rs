@@ -1,0 +1,148 @@
+//! Word 1, condition by condition, and what isn't broken though it is damaged.
+
+use reference::broken;
+use reference::gen::build::Draft;
+use reference::gen::cases::whole;
+use reference::store::{Store, INT, LIMITS};
+
+fn check(expected: bool, what: &str, change: impl FnOnce(&mut Store)) {
+    let mut store = whole();
+    assert_eq!(store.counts[2..], [7, 1, 1, 3, 2, 1]);
+    assert!(!broken(&store), "the store is whole");
+    change(&mut store);
+    assert_eq!(broken(&store), expected, "{what}");
+}
+
+#[test]
+fn lengths() {
+    check(true, "counts short", |s| s.counts.truncate(s.counts.len() - 1));
+    check(true, "classes long", |s| s.classes.push(0));
+    check(true, "kept empty", |s| s.kept.clear());
+    check(true, "cache short", |s| s.cache.truncate(s.cache.len() - 1));
+    check(true, "ties long", |s| s.ties.push(0));
+    check(true, "subtypes short", |s| s.subtypes.truncate(s.subtypes.len() - 1));
+    check(true, "objects long", |s| s.objects.push(0));
+    check(true, "frames empty", |s| s.frames.clear());
+}
+
+#[test]
+fn counts() {
+    for (which, limit) in LIMITS.into_iter().enumerate() {
+        check(true, "past the limit", |s| s.counts[which] = limit + 1);
+        check(true, "far past the limit", |s| s.counts[which] = u16::MAX);
+    }
+    // Zeros are fine rows of these tables, and bytes that no file uses are fine.
+    check(false, "ties at the limit", |s| s.counts[3] = 256);
+    check(false, "subtypes at the limit", |s| s.counts[4] = 256);
+    check(false, "kept at the limit", |s| s.counts[1] = 16_384);
+    check(false, "cache at the limit", |s| s.counts[2] = 256);
+    check(false, "objects of Object", |s| s.counts[5] = 256);
+    check(false, "frames of Object", |s| s.counts[7] = 32);
+    check(true, "classes at the limit, without files", |s| s.counts[0] = 64);
+    check(true, "no classes, but objects", |s| s.counts[0] = 0);
+}
+
+#[test]
+fn classes_and_files() {
+    for cell in 0..3 {
+        check(true, "another class 0", |s| s.classes[cell] = 1);
+    }
+    check(true, "loader 16", |s| s.classes[3] = 16);
+    check(true, "a loader without the superclass", |s| s.classes[9] = 3);
+    check(true, "size one more", |s| s.classes[5] += 1);
+    check(true, "size one less", |s| s.classes[5] -= 1);
+    check(true, "start one on", |s| s.classes[4] += 1);
+    check(true, "start past all", |s| s.classes[4] = u16::MAX);
+    check(true, "fewer kept bytes than files", |s| s.counts[1] -= 1);
+    check(true, "version 2", |s| s.kept[0] = 2);
+    check(false, "another name of its own", |s| s.kept[4] = 77);
+    check(true, "a superclass that isn't cached", |s| s.kept[6] = 77);
+    check(true, "its own superclass", |s| s.kept[6] = 10);
+    check(false, "bytes behind the kept ones", |s| s.kept[16_383] = 9);
+    check(false, "code that no verifier takes", |s| {
+        let at = s.kept.iter().position(|&byte| byte == 0xBB).expect("new");
+        s.kept[at] = 0xFF;
+    });
+    check(false, "two classes with one file", |s| s.classes.copy_within(4..6, 10));
+}
+
+#[test]
+fn superclasses_are_lower() {
+    let row = |s: &Store, loader: u16, name: u16| {
+        3 * s.cache_rows().position(|row| row[0] == loader && row[1] == name).expect("cached")
+    };
+    check(true, "as high as the class", |s| {
+        let at = row(s, 1, 10);
+        s.cache[at + 2] = 2;
+    });
+    check(true, "higher", |s| {
+        let at = row(s, 1, 10);
+        s.cache[at + 2] = 3;
+    });
+    check(false, "of two rows the lower is read", |s| s.add_cached([1, 10, 3]));
+    check(true, "and a lower row counts", |s| {
+        s.add_cached([1, 10, 1]);
+        let at = row(s, 1, 10);
+        s.cache[at + 2] = 2;
+    });
+}
+
+#[test]
+fn too_many_fields() {
+    let fields = |draft: Draft, first: u16, count: u16| (0..count).fold(draft, |draft, i| draft.field(first + i, INT));
+    for (count, expected) in [(8, false), (1, true)] {
+        let mut store = whole();
+        let mut add = |loader: u16, draft: Draft| {
+            let class = store.add_class(loader, &draft.file());
+            store.add_cached([loader, draft.name, class]);
+        };
+        add(1, fields(Draft::new(40), 100, 8));
+        add(1, fields(Draft::new(41).under(40), 200, 8));
+        if expected {
+            add(1, fields(Draft::new(42).under(41), 300, count));
+        }
+        assert_eq!(broken(&store), expected);
+    }
+}
+
+#[test]
+fn rows() {
+    check(true, "cache loader", |s| s.cache[3] = 16);
+    check(true, "cache class", |s| s.cache[5] = 4);
+    check(false, "cache name", |s| s.cache[19] = 0);
+    check(true, "tie's first loader", |s| s.ties[0] = 16);
+    check(true, "tie's second loader", |s| s.ties[1] = 16);
+    check(false, "tie's name", |s| s.ties[2] = 0);
+    check(true, "subtype's loader", |s| s.subtypes[0] = 16);
+    check(false, "subtype's names", |s| s.subtypes[1..3].fill(0));
+    check(false, "rows behind the used ones", |s| {
+        s.cache[30..].fill(u16::MAX);
+        s.ties[3..].fill(u16::MAX);
+        s.subtypes[3..].fill(u16::MAX);
+        s.classes[12..].fill(u16::MAX);
+        s.objects[99..].fill(u32::MAX);
+        s.frames[2 * 52..32 * 52].fill(u32::MAX);
+        s.frames[33 * 52..].fill(u32::MAX);
+    });
+}
+
+#[test]
+fn objects_and_frames() {
+    check(true, "object's class", |s| s.objects[0] = 4);
+    check(true, "object's class by far", |s| s.objects[33] = 0x1_0000);
+    check(true, "an empty field", |s| s.objects[1] = 0);
+    check(true, "null with bits", |s| s.objects[4] = 1);
+    check(true, "kind 4", |s| s.objects[3] = 4);
+    check(true, "an object that isn't there", |s| s.objects[3..5].copy_from_slice(&[3, 3]));
+    check(false, "an object that is", |s| s.objects[3..5].copy_from_slice(&[3, 2]));
+    check(false, "a cell past the fields", |s| s.objects[5] = 9);
+    check(true, "frame's class", |s| s.frames[0] = 4);
+    check(true, "frame's class by far", |s| s.frames[32 * 52] = 0x1_0001);
+    check(false, "method and point", |s| s.frames[1..3].fill(u32::MAX));
+    check(true, "17 operands", |s| s.frames[3] = 17);
+    check(true, "an empty operand", |s| s.frames[52 + 3] = 3);
+    check(true, "kind 5 in a local", |s| s.frames[8] = 5);
+    check(true, "empty with bits", |s| s.frames[9] = 1);
+    check(true, "an object that isn't there in a local", |s| s.frames[5] = 3);
+    check(false, "a cell past the operands", |s| s.frames[50] = 9);
+}
