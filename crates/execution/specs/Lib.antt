@@ -3,3 +3,4 @@ pub mod Postings
 pub mod Carried
 pub mod Agreeing
 pub mod Decisions
+pub mod Steps
