@@ -4,3 +4,4 @@ pub mod Carried
 pub mod Agreeing
 pub mod Decisions
 pub mod Steps
+pub mod Turns

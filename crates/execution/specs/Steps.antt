@@ -5,9 +5,9 @@ use mathlib.Core.Option.{Option, none, some, Option·none-ne-some, Option·some-
 use mathlib.Core.List.{List, [], _∷_}
 use Prim.Native.Nat.{ℕ, zero, suc, _+_, _<_, _≤_}
 use native.Mathlib.Omega.{arith}
-use lib.ListN.{length, getD, getElem?}
+use lib.ListN.{length, getD, getElem?, take, drop, length-take, length-drop}
 use lib.Dec.{leb, ltb}
-use borrow.Author.Tests.{lt-leb, ltb-true}
+use borrow.Author.Tests.{lt-leb, leb-true, ltb-true, ltb-false}
 use Rattle.definition.specs.Lists.{rows, stack}
 use Rattle.definition.specs.Requests.{Request, sameRequest}
 use Rattle.definition.specs.Classes.{Base, Class, Method, Entry, find, loaderOf, methodsOf}
@@ -19,14 +19,24 @@ use Rattle.definition.specs.Answers.{Result, refused, ok, _>>=_, take?}
 use Rattle.definition.specs.Machine.{Object, Frame, Progress, Now, now, execute, step}
 use Rattle.definition.specs.Tables.{Tables, tables, classRowAt, sizeOf, operandAt, frameOf, frameAt, frameBase, frameIn, classRowsOf, keptOf, cacheOf, viewBase, objectsOf, framesOf, viewOver, view}
 use Rattle.definition.specs.Broken.{broken}
-use Rattle.layout.specs.Places.{stack-length}
+use Rattle.layout.specs.Places.{rows-at, rows-past, stack-length}
 use Rattle.layout.specs.Whole.{All, Listed, Frames}
 use Rattle.layout.specs.Unbroken.{size-small, Unbroken, unbroken}
 use Rattle.layout.specs.View.{countAt, frames-top}
-use Rattle.resolution.specs.Quick.{quickOf, loaderIn, loader-quick}
+use Rattle.classfile.specs.Reading.{methodCount, methodPlace, codeLength, codeAt, methodAt, methodIn, quickMethods, partOf}
+use Rattle.resolution.specs.Quick.{quickBase, quickOf, fileIn, loaderIn, loader-quick, methods-quick}
 use Rattle.resolution.specs.Unbroken.{quick-base, row-first, row-other}
-use Rattle.execution.specs.Decisions.{Usable}
+use Rattle.execution.specs.Decisions.{Usable, Acted}
+use Rattle.verifier.specs.declared.decoding.Reading.{Reading}
+use Rattle.verifier.specs.declared.decoding.Reading.the-variants.{At, Unreadable}
+use Rattle.verifier.specs.Decoding.{readingOf, decodedOf}
 use Rattle.resolution.specs.Lookups.{codeIn}
+use Rattle.instructions.specs.declared.Plan.{Plan}
+use Rattle.instructions.specs.declared.Plan.the-variants.{Refuse}
+use Rattle.instructions.specs.Plans.{decoded, meaning, Fit}
+use Rattle.access.specs.Accesses.{worldIn}
+use Rattle.execution.specs.Postings.{Posting, Nothing, toPost}
+use Rattle.execution.specs.Carried.{Quiet, Ready}
 
 -- The code of a frame's method, none if there is no such class or method
 
@@ -139,3 +149,131 @@ module _ (t : Tables) (h : broken t ≡ false) where
         go zero l e = unfold view viewOver in few 0 _ _ ((rw e at (facts .sounds .quote)) .0)
         go (suc zero) l e = unfold view viewOver in few 1 _ _ ((rw e at (facts .sounds .report)) .0)
         go (suc (suc k)) l e = absurd (omega arith)
+
+-- A method's code lies within the kept bytes, and an instruction within its code
+
+code-length : (bs : List ℕ) (j : ℕ) → length (codeIn (quickMethods bs) j) ≤ length bs
+unfolding codeIn quickMethods
+code-length bs j = go (getElem? (rows (methodIn bs) (methodCount bs) 0) j) refl
+  where
+    part : (m n : ℕ) → length (take m (drop n bs)) ≤ length bs
+    part m n = omega (arith, length-take m (drop n bs), length-drop n bs)
+
+    go : (o : Option Method) → getElem? (rows (methodIn bs) (methodCount bs) 0) j ≡ o → length {A = ℕ} (elim o as (λ _. List ℕ) [ none ↦ [] | some m ↦ m .code ]) ≤ length bs
+    go none e = omega arith
+    go (some m) e = within (ltb j (methodCount bs)) refl
+      where
+        within : (u : Bool) → ltb j (methodCount bs) ≡ u → length (m .code) ≤ length bs
+        within true q =
+            let z : 0 + j ≡ j = omega arith in
+            let r : methodIn bs j ≡ m = Option·some-injective (methodIn bs j) m ((rw z at (sym (rows-at (methodIn bs) (methodCount bs) 0 j (ltb-true j (methodCount bs) q)))) ∙ e) in
+            rw (← r) (unfold methodIn methodAt codeAt in part (codeLength bs (methodPlace bs j)) (methodPlace bs j + 8))
+        within false q = absurd (Option·none-ne-some m (sym (rows-past (methodIn bs) (methodCount bs) 0 j (ltb-false j (methodCount bs) q)) ∙ e))
+
+file-length : (N L K : List ℕ) (c : ℕ) → length (fileIn N L K c) ≤ length K
+unfolding fileIn partOf
+file-length N L K c = go (ltb c (getD N 0 0))
+  where
+    part : (s n : ℕ) (u : Bool) → length {A = ℕ} (elim u as (λ _. List ℕ) [ true ↦ take n (drop s K) | false ↦ [] ]) ≤ length K
+    part s n true = omega (arith, length-take n (drop s K), length-drop s K)
+    part s n false = omega arith
+
+    go : (u : Bool) → length {A = ℕ} (elim u as (λ _. List ℕ) [ true ↦ partOf K (classRowAt L c .start) (classRowAt L c .size) | false ↦ [] ]) ≤ length K
+    go true = part (classRowAt L c .start) (classRowAt L c .size) (leb (classRowAt L c .start + classRowAt L c .size) (length K))
+    go false = omega arith
+
+pub decode-within : (code : List ℕ) (p : ℕ) (i : Decoded) → decode code p ≡ some i → p + i .size ≤ length code
+unfolding decode
+decode-within code p i h = go (leb (p + suc (inlineLength (opcodeOf (getD code p 0)))) (length code)) refl h
+  where
+    n : ℕ
+    n = suc (inlineLength (opcodeOf (getD code p 0)))
+
+    sized : (o : Option Instruction) → sizedAs n o ≡ some i → i .size ≡ n
+    sized none e = unfold sizedAs in absurd (Option·none-ne-some i e)
+    sized (some x) e = unfold sizedAs in ap (λ (d : Decoded). d .size) (sym (Option·some-injective (record { instruction = x; size = n }) i e))
+
+    go : (u : Bool) → leb (p + n) (length code) ≡ u
+        → (elim u as (λ _. Option Decoded) [ true ↦ sizedAs n (instructionOf code (p + 1) (opcodeOf (getD code p 0))) | false ↦ none ]) ≡ some i → p + i .size ≤ length code
+    go true e q = omega (arith, leb-true (p + n) (length code) e, sized (instructionOf code (p + 1) (opcodeOf (getD code p 0))) q)
+    go false e q = absurd (Option·none-ne-some i q)
+
+-- so the next point is a number of 32 bits
+pub next-small : (N L K : List ℕ) (c j p : ℕ) (i : Decoded) → length K ≡ 16384 → decode (codeIn (quickMethods (fileIn N L K c)) j) p ≡ some i → p + i .size < 4294967296
+next-small N L K c j p i e h = omega (
+  arith,
+  decode-within (codeIn (quickMethods (fileIn N L K c)) j) p i h,
+  code-length (fileIn N L K c) j,
+  file-length N L K c,
+)
+
+-- An answer of decoding, and what was decoded
+
+module _ (o : Option Decoded) (r : Reading) (reads : r ≡ readingOf o) where
+  back : decodedOf r ≡ o
+  unfolding decodedOf readingOf
+  back = rw reads (go o)
+    where
+      go : (o : Option Decoded) → decodedOf (readingOf o) ≡ o
+      go none = refl
+      go (some d) = refl
+
+  pub unread : r ≡ Unreadable → o ≡ none
+  unfolding decodedOf
+  unread e = sym back ∙ rw e
+
+  pub read-at : (i : Instruction) (n : ℕ) → r ≡ At i n → o ≡ some (decoded i n)
+  unfolding decodedOf
+  read-at i n e = sym back ∙ rw e
+
+-- What a step chooses for the top frame of task k, in row m, which begins at cell b: ties, a plan, the next point
+
+pub record Chosen (N L K E I S O F : List ℕ) (k m b : ℕ) (x : Posting) (p : Plan) (q : ℕ) : Type 0 where
+  pub says : (let B = quickBase N L K E in let t = tables N L K E I S O F in
+      meaning (posted (worldIn B t) (toPost x)) (objectsOf B t) (stack (frameIn F k) m) F (frameBase k m) q p
+      ≡ step (worldIn B t) (objectsOf B t) (frameIn F k m) (stack (frameIn F k) m))
+  pub ready : Ready (quickBase N L K E) (tables N L K E I S O F) k m b (toPost x) p
+
+module _ (N L K E I S O F : List ℕ) (whole : broken (tables N L K E I S O F) ≡ false) (k m b : ℕ) (two : k < 2) (count : getD N (6 + k) 0 ≡ suc m) (row : b ≡ frameBase k m) where
+  abbrev B : Base
+  B = quickBase N L K E
+
+  abbrev T : Tables
+  T = tables N L K E I S O F
+
+  ready : (x : Posting) (p : Plan) → getD N 3 0 + length (toPost x) ≤ 256 → Quiet (toPost x) p → Fit B T k m p → Ready B T k m b (toPost x) p
+  ready x p l h f = record { two = two; count = count; low = row-low T whole k m two count; row = row; ties = l; quiet = h; fits = f }
+
+  -- the code that is read is the frame's
+  code-read : (c j : ℕ) → c ≡ getD F b 0 → j ≡ getD F (b + 1) 0 → codeIn (quickMethods (fileIn N L K c)) j ≡ codeOf B (frameIn F k m)
+  unfolding codeOf frameIn frameAt frameOf
+  code-read c j e f = rw (e, f, row, methods-quick N L K E (getD F (frameBase k m) 0))
+
+  module _ (c j p : ℕ) (code : List ℕ) (class : c ≡ getD F b 0) (method : j ≡ getD F (b + 1) 0) (point : p ≡ getD F (b + 2) 0)
+      (source : code ≡ codeIn (quickMethods (fileIn N L K c)) j) where
+    here : decode (codeOf B (frameIn F k m)) (frameIn F k m .point) ≡ decode code p
+    unfolding frameIn frameAt frameOf
+    here = rw (source, code-read c j class method, point, row)
+
+    pub chosen-unreadable : (q : ℕ) → decode code p ≡ none → Chosen N L K E I S O F k m b Nothing (Refuse (Word 14)) q
+    unfolding meaning toPost
+    chosen-unreadable q h = record {
+      says = sym (step-unreadable (worldIn B T) (objectsOf B T) (frameIn F k m) (stack (frameIn F k) m) (here ∙ h));
+      ready = ready Nothing (Refuse (Word 14)) (omega (arith, usable T whole .counts .ties)) refl tt;
+    }
+
+    pub chosen : (i : Instruction) (n d loader : ℕ) (x : Posting) (r : Plan) → decode code p ≡ some (decoded i n) → d ≡ getD F (b + 3) 0 → loader ≡ loaderIn N L c
+        → Acted N L K E I S O F k m b d loader i x r → Chosen N L K E I S O F k m b x r (p + n)
+    chosen i n d loader x r h e l a =
+        let s = step-readable (worldIn B T) (objectsOf B T) (frameIn F k m) (stack (frameIn F k) m) (decoded i n) (here ∙ h) in
+        record {
+          says = rw (← row) (a .says (s .0) p n (s .1 ∙ loads) ∙ (framed (s .0) ∙ sym (s .2)));
+          ready = ready x r (a .ties) (a .quiet) (a .fits (rw (e, row) (depth-few T whole k m two count)));
+        }
+      where
+        loads : loaderOf B (frameIn F k m .class) ≡ loader
+        loads = unfold frameIn frameAt frameOf in rw (l, class, row) (loader-quick N L K E (getD F (frameBase k m) 0))
+
+        framed : (a : Class) → execute (worldIn B T) (objectsOf B T) (frameOf F b p d) (stack (frameIn F k) m) a (decoded i n) i
+            ≡ execute (worldIn B T) (objectsOf B T) (frameIn F k m) (stack (frameIn F k) m) a (decoded i n) i
+        framed a = unfold frameIn frameAt in rw (point, e, row)
