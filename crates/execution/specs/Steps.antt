@@ -262,6 +262,10 @@ module _ (N L K E I S O F : List ℕ) (whole : broken (tables N L K E I S O F) �
       ready = ready Nothing (Refuse (Word 14)) (omega (arith, usable T whole .counts .ties)) refl tt;
     }
 
+    -- the point after the instruction is a number of 32 bits
+    pub next-fits : (i : Instruction) (n : ℕ) → decode code p ≡ some (decoded i n) → p + n < 4294967296
+    next-fits i n h = next-small N L K c j p (decoded i n) (unbroken T whole .lengths .kept) (rw (← source) h)
+
     pub chosen : (i : Instruction) (n d loader : ℕ) (x : Posting) (r : Plan) → decode code p ≡ some (decoded i n) → d ≡ getD F (b + 3) 0 → loader ≡ loaderIn N L c
         → Acted N L K E I S O F k m b d loader i x r → Chosen N L K E I S O F k m b x r (p + n)
     chosen i n d loader x r h e l a =

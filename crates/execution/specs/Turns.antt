@@ -2,7 +2,8 @@
 use mathlib.Core.Path.{_≡_, refl, sym, ap, _∙_}
 use mathlib.Core.Bool.{Bool, true, false}
 use mathlib.Core.List.{List, [], _∷_}
-use Prim.Native.Nat.{ℕ, suc, _+_, _<_}
+use mathlib.Core.Logic.{_≢_}
+use Prim.Native.Nat.{ℕ, zero, suc, _+_, _-_, _<_}
 use native.Mathlib.Omega.{arith}
 use lib.ListN.{getD}
 use lib.Dec.{eqb}
@@ -109,3 +110,22 @@ module _ (t : Tables) (h : broken t ≡ false) where
           unfold stepRows view viewOver taken in
           ap (carried Refused t)
           (on-quote (framesOf t 0) (framesOf t 1) (worldOf (view t)) (view t) (frameIn (t .frames) 0 m) (stack (frameIn (t .frames) 0) m) (frames-top t 0 m z) ∙ task 0)
+
+  -- k is the task whose turn it is, and n its number of frames
+  module _ (k n : ℕ) (turns : k ≡ turnOf (t .counts)) (frames : n ≡ getD (t .counts) (6 + k) 0) where
+    pub turn-idle : n ≡ 0 → done Idle t ≡ stepTables t
+    turn-idle e = sym (step-idle (rw (← turns) (sym frames ∙ e)))
+
+    pub turn-count : n ≢ 0 → getD (t .counts) (6 + k) 0 ≡ suc (n - 1)
+    turn-count e = sym frames ∙ one n e
+      where
+        one : (n : ℕ) → n ≢ 0 → n ≡ suc (n - 1)
+        one zero e = absurd (e refl)
+        one (suc n) e = omega arith
+
+    pub turn-taken : n ≢ 0 → (d : Done Answer) → d ≡ taken (quickOf t) t k (n - 1) → d ≡ stepTables t
+    turn-taken e d q = q ∙ (rw turns (sym (step-taken (n - 1) (rw turns at (turn-count e)))))
+
+pub step-broken : (t : Tables) → broken t ≡ true → done (Refused (Word 1)) t ≡ stepTables t
+unfolding stepTables wrap
+step-broken t h = rw (h, wrap)

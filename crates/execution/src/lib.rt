@@ -1,7 +1,8 @@
 // One step, a run of steps, and the start of a task, on the lent tables.
 ghost use mathlib.Core.Path.{_≡_};
+ghost use mathlib.Core.Bool.{false};
 ghost use mathlib.Core.List.{[]};
-ghost use Prim.Native.Nat.{_+_, _*_, _-_, _<_, _≤_};
+ghost use Prim.Native.Nat.{suc, _+_, _*_, _-_, _<_, _≤_};
 ghost use lib.ListN.{length, getD, set};
 ghost use Rattle.definition.specs.Lists.{rows, writeRows};
 ghost use Rattle.definition.specs.Machine.{objectValue, newObject, entryFrame};
@@ -11,15 +12,19 @@ ghost use Rattle.layout.specs.Cells.{moved};
 ghost use Rattle.layout.specs.Unbroken.{Counts};
 ghost use Rattle.resolution.specs.Quick.{quickBase};
 ghost use Rattle.access.specs.Accesses.{worldIn, tiesOn};
-ghost use Rattle.definition.specs.Calls.{done};
+ghost use Rattle.definition.specs.Broken.{broken};
+ghost use Rattle.definition.specs.Calls.{done, stepTables};
 ghost use Rattle.execution.specs.Carried.{quietly, Ready, planned};
 ghost use Rattle.execution.specs.Postings.{toPost, isNew};
+ghost use Rattle.execution.specs.Steps.{Chosen};
+ghost use Rattle.execution.specs.Turns.{taken, turnOf};
 ghost use Rattle.execution.specs.Decisions.{Settled, Narrow, AccessSettled, Usable, Acted};
 use access::Access;
 use definition::Answer;
 use definition::Instruction;
 use definition::Refusal;
 use instructions::Plan;
+use verifier::Reading;
 
 // The ties that a step posts between two loaders: one of each name.
 enum Posting {
@@ -248,6 +253,35 @@ fn act(counts: &[u16], classes: &[u16], kept: &[u8], cache: &[u16], ties: &[u16]
     }
 }
 
+// What a step chooses: ties, a plan, and the point at which the frame goes on.
+struct Choice {
+    posting: Posting,
+    plan: Plan,
+    next: u32,
+}
+
+// The choice for the top frame of a task, in row m, which begins at cell b.
+fn choose(counts: &[u16], classes: &[u16], kept: &[u8], cache: &[u16], ties: &[u16], subtypes: &[u16], objects: &[u32], frames: &[u32], task: u8, m: u16, b: u32) -> Choice
+    requires { ⌜ (broken (tables (now counts) (now classes) (now kept) (now cache) (now ties) (now subtypes) (now objects) (now frames)) ≡ false) × (task < 2) × (getD (now counts) (6 + task) 0 ≡ suc m) × (b ≡ frameBase task m) ⌝ }
+    ensures { λ r. ⌜ Chosen (now (counts .entry)) (now (classes .entry)) (now (kept .entry)) (now (cache .entry)) (now (ties .entry)) (now (subtypes .entry)) (now (objects .entry)) (now (frames .entry)) task m b (r .posting) (r .plan) (r .next) ⌝ }
+{
+    let c = frames::frame_class(frames, b);
+    let p = frames::point(frames, b);
+    let code = resolution::method_code(counts, classes, kept, c, frames::frame_method(frames, b));
+    let Reading::At(i, n) = verifier::decode(code, cells::wide32(p)) else {
+        return Choice { posting: Posting::Nothing, plan: instructions::refuse(14), next: 0 };
+    };
+    let loader = resolution::loader_of(counts, classes, c);
+    let r = act(counts, classes, kept, cache, ties, subtypes, objects, frames, task, m, b, frames::depth(frames, b), loader as u8, i);
+    let posting = r.posting;
+    let plan = r.plan;
+    Choice {
+        posting,
+        plan,
+        next: (cells::wide32(p) + n) as u32,
+    }
+}
+
 // A value pushed: the frame goes on at point q with d operands and the value above them.
 fn push(frames: &mut [u32], b: u32, q: u32, d: u32, kind: u32, bits: u32)
     requires { ⌜ d < 16 ⌝ }
@@ -354,4 +388,46 @@ fn carry_out(counts: &mut [u16], classes: &[u16], kept: &[u8], cache: &[u16], ti
             Answer::Ran(task)
         }
     }
+}
+
+// A step of a task whose top frame is in row m.
+fn step_task(counts: &mut [u16], classes: &[u16], kept: &[u8], cache: &[u16], ties: &mut [u16], subtypes: &[u16], objects: &mut [u32], frames: &mut [u32], task: u8, m: u16) -> Answer
+    requires { ⌜ (broken (tables (now counts) (now classes) (now kept) (now cache) (now ties) (now subtypes) (now objects) (now frames)) ≡ false) × (task < 2) × (getD (now counts) (6 + task) 0 ≡ suc m) ⌝ }
+    ensures { λ r. ⌜ done r (tables (now (counts .exit)) (now (classes .entry)) (now (kept .entry)) (now (cache .entry)) (now (ties .exit)) (now (subtypes .entry)) (now (objects .exit)) (now (frames .exit))) ≡ taken (quickBase (now (counts .entry)) (now (classes .entry)) (now (kept .entry)) (now (cache .entry))) (tables (now (counts .entry)) (now (classes .entry)) (now (kept .entry)) (now (cache .entry)) (now (ties .entry)) (now (subtypes .entry)) (now (objects .entry)) (now (frames .entry))) task m ⌝ }
+{
+    let b = frames::row(task, m);
+    let r = choose(counts, classes, kept, cache, ties, subtypes, objects, frames, task, m, b);
+    let posting = r.posting;
+    let plan = r.plan;
+    carry_out(counts, classes, kept, cache, ties, subtypes, objects, frames, task, m, b, r.next, posting, plan)
+}
+
+// Whose turn it is: the quote's if it has a frame, else the report's.
+fn turn(counts: &[u16]) -> u8
+    ensures { λ r. ⌜ r ≡ turnOf (now (counts .entry)) ⌝ }
+{
+    if cells::at16(counts, 6) == 0 { 1 } else { 0 }
+}
+
+// A step of a store that is not broken.
+fn step_unbroken(counts: &mut [u16], classes: &[u16], kept: &[u8], cache: &[u16], ties: &mut [u16], subtypes: &[u16], objects: &mut [u32], frames: &mut [u32]) -> Answer
+    requires { ⌜ broken (tables (now counts) (now classes) (now kept) (now cache) (now ties) (now subtypes) (now objects) (now frames)) ≡ false ⌝ }
+    ensures { λ r. ⌜ done r (tables (now (counts .exit)) (now (classes .entry)) (now (kept .entry)) (now (cache .entry)) (now (ties .exit)) (now (subtypes .entry)) (now (objects .exit)) (now (frames .exit))) ≡ stepTables (tables (now (counts .entry)) (now (classes .entry)) (now (kept .entry)) (now (cache .entry)) (now (ties .entry)) (now (subtypes .entry)) (now (objects .entry)) (now (frames .entry))) ⌝ }
+{
+    let task = turn(counts);
+    let n = cells::at16(counts, 6 + cells::wide8(task));
+    if n == 0 {
+        return Answer::Idle;
+    }
+    step_task(counts, classes, kept, cache, ties, subtypes, objects, frames, task, n - 1)
+}
+
+// One instruction of the quote if it has a frame, else of the report.
+pub fn step(counts: &mut [u16], classes: &[u16], kept: &[u8], cache: &[u16], ties: &mut [u16], subtypes: &[u16], objects: &mut [u32], frames: &mut [u32]) -> Answer
+    ensures { λ r. ⌜ done r (tables (now (counts .exit)) (now (classes .entry)) (now (kept .entry)) (now (cache .entry)) (now (ties .exit)) (now (subtypes .entry)) (now (objects .exit)) (now (frames .exit))) ≡ stepTables (tables (now (counts .entry)) (now (classes .entry)) (now (kept .entry)) (now (cache .entry)) (now (ties .entry)) (now (subtypes .entry)) (now (objects .entry)) (now (frames .entry))) ⌝ }
+{
+    if store::is_broken(counts, classes, kept, cache, ties, subtypes, objects, frames) {
+        return Answer::Refused(Refusal::Word(1));
+    }
+    step_unbroken(counts, classes, kept, cache, ties, subtypes, objects, frames)
 }
