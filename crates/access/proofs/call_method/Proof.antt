@@ -1,0 +1,72 @@
+-- `access::call_method` meets its contract.
+use mathlib.Core.Path.{sym, _∙_}
+use denote.Ref.{now}
+use borrow.Author.Needs.{needs}
+use borrow.Author.Tests.{not-true, not-false}
+use Rattle.access.specs.Remainders.{call-unkind, call-wrong, call-unselected, call-absent, call-at, call-none, call-one}
+use Rattle.definition.specs.Requests.{at}
+use Rattle.definition.specs.Tables.{objectAt}
+use Rattle.resolution.specs.Quick.{found-at, found-absent, methods-quick}
+use Rattle.access.proofs.call_method.Statement.{statement}
+use Rattle.access.proofs.call_method.Tie as tie
+
+returns : tie.Need-returns
+returns c = rw (c .refuse .ensures) (call-none _ _ _ _ _ _ _ _ _ 0 _ _ _ (c .before .if1 .taken))
+
+returns-2 : tie.Need-returns-2
+returns-2 c = rw (c .refuse2 .ensures) (call-one _ _ _ _ _ _ _ _ _ 0 _ _ _ (c .before .before .if1 .left) (c .before .if2 .taken))
+
+returns-3 : tie.Need-returns-3
+returns-3 c = rw (c .refuse3 .ensures) (call-unkind _ _ _ _ _ _ _ _ _ _ _ _ (c .before .before .before .before .before .if1 .left) (c .before .before .before .operand .ensures) _ _ (c .before .before .before .before .if2 .left) (sym (c .before .before .is-kind .ensures) ∙ not-true _ (c .before .if3 .taken)))
+
+selected-requires : tie.Need-selected-requires
+selected-requires c κs = c .before .before .before .before .before .before .before .before .before .before .before .before .before .before .before .before .before .pre
+
+returns-4 : tie.Need-returns-4
+unfolding objectAt
+returns-4 c = rw (c .refuse5 .ensures) (call-unselected _ _ _ _ _ _ _ _ _ _ _ _ (c .before .before .before .before .before .before .before .before .before .before .before .before .before .before .if1 .left) (c .before .before .before .before .before .before .before .before .before .before .before .before .operand .ensures) _ _ (c .before .before .before .before .before .before .before .before .before .before .before .before .before .if2 .left) (sym (c .before .before .before .before .before .before .before .before .before .before .before .is-kind .ensures) ∙ not-false _ (c .before .before .before .before .before .before .before .before .before .before .if3 .left)) _ _ (c .before .before .before .before .before .before .before .before .before .operand2 .ensures) _ (c .before .before .before .before .before .before .before .before .received .ensures) _ (c .before .before .before .before .before .before .r2 .given .1) (rw (c .before .before .before .before .object-class .ensures) at (found-absent _ (sym (c .before .before .before .selected .ensures) ∙ c .before .enum-told .given .1))))
+
+returns-5 : tie.Need-returns-5
+unfolding objectAt
+returns-5 c = rw (c .refuse6 .ensures) (call-absent _ _ _ _ _ _ _ _ _ _ _ _ (c .before .before .before .before .before .before .before .before .before .before .before .before .before .before .before .before .before .before .if1 .left) (c .before .before .before .before .before .before .before .before .before .before .before .before .before .before .before .before .operand .ensures) _ _ (c .before .before .before .before .before .before .before .before .before .before .before .before .before .before .before .before .before .if2 .left) (sym (c .before .before .before .before .before .before .before .before .before .before .before .before .before .before .before .is-kind .ensures) ∙ not-false _ (c .before .before .before .before .before .before .before .before .before .before .before .before .before .before .if3 .left)) _ _ (c .before .before .before .before .before .before .before .before .before .before .before .before .before .operand2 .ensures) _ (c .before .before .before .before .before .before .before .before .before .before .before .before .received .ensures) _ (c .before .before .before .before .before .before .before .before .before .before .r2 .given .1) _ (rw (c .before .before .before .before .before .before .before .before .object-class .ensures) at (found-at _ _ (sym (c .before .before .before .before .before .before .before .selected .ensures) ∙ c .before .before .before .before .before .a .given .1))) (rw (methods-quick (now (c .before .before .before .before .before .before .before .before .before .before .before .before .before .before .before .before .before .before .before .before .before .before .before .before .before .args .counts)) (now (c .before .before .before .before .before .before .before .before .before .before .before .before .before .before .before .before .before .before .before .before .before .before .before .before .before .args .classes)) (now (c .before .before .before .before .before .before .before .before .before .before .before .before .before .before .before .before .before .before .before .before .before .before .before .before .before .args .kept)) (now (c .before .before .before .before .before .before .before .before .before .before .before .before .before .before .before .before .before .before .before .before .before .before .before .before .before .args .cache)) _) (found-absent _ (sym (c .before .before .before .method-index .ensures) ∙ c .before .enum-told2 .given .1))))
+
+returns-6 : tie.Need-returns-6
+returns-6 c = rw (c .refuse4 .ensures) (call-wrong _ _ _ _ _ _ _ _ _ _ _ _ (c .before .before .before .before .before .before .before .before .before .before .if1 .left) (c .before .before .before .before .before .before .before .before .operand .ensures) _ _ (c .before .before .before .before .before .before .before .before .before .if2 .left) (sym (c .before .before .before .before .before .before .before .is-kind .ensures) ∙ not-false _ (c .before .before .before .before .before .before .if3 .left)) _ _ (c .before .before .before .before .before .operand2 .ensures) _ (c .before .before .before .before .received .ensures) _ (c .before .before .r .given .1))
+
+returns-7 : tie.Need-returns-7
+unfolding objectAt
+returns-7 c = call-at _ _ _ _ _ _ _ _ _ _ _ _ (c .before .before .before .before .before .before .before .before .before .before .before .before .before .before .before .before .before .before .if1 .left) (c .before .before .before .before .before .before .before .before .before .before .before .before .before .before .before .before .operand .ensures) _ _ (c .before .before .before .before .before .before .before .before .before .before .before .before .before .before .before .before .before .if2 .left) (sym (c .before .before .before .before .before .before .before .before .before .before .before .before .before .before .before .is-kind .ensures) ∙ not-false _ (c .before .before .before .before .before .before .before .before .before .before .before .before .before .before .if3 .left)) _ _ (c .before .before .before .before .before .before .before .before .before .before .before .before .before .operand2 .ensures) _ (c .before .before .before .before .before .before .before .before .before .before .before .before .received .ensures) _ (c .before .before .before .before .before .before .before .before .before .before .r2 .given .1) _ (rw (c .before .before .before .before .before .before .before .before .object-class .ensures) at (found-at _ _ (sym (c .before .before .before .before .before .before .before .selected .ensures) ∙ c .before .before .before .before .before .a .given .1))) _ (rw (methods-quick (now (c .before .before .before .before .before .before .before .before .before .before .before .before .before .before .before .before .before .before .before .before .before .before .before .before .before .args .counts)) (now (c .before .before .before .before .before .before .before .before .before .before .before .before .before .before .before .before .before .before .before .before .before .before .before .before .before .args .classes)) (now (c .before .before .before .before .before .before .before .before .before .before .before .before .before .before .before .before .before .before .before .before .before .before .before .before .before .args .kept)) (now (c .before .before .before .before .before .before .before .before .before .before .before .before .before .before .before .before .before .before .before .before .before .before .before .before .before .args .cache)) _) (found-at _ _ (sym (c .before .before .before .method-index .ensures) ∙ c .before .j .given .1)))
+
+pub call-method-spec : {M : Type 1} → statement M
+call-method-spec =
+    tie.close
+    (tie.spec
+    (λ c κs. search needs)
+    returns
+    (λ c. search needs)
+    (λ c κs. search needs)
+    returns-2
+    (λ c κs. search needs)
+    (λ c κs. search needs)
+    (λ c κs. search needs)
+    returns-3
+    (λ c. search needs)
+    (λ c κs. search needs)
+    (λ c κs. search needs)
+    (λ c. search needs)
+    (λ c κs. search needs)
+    (λ c. search needs)
+    (λ c κs. search needs)
+    selected-requires
+    (λ c. search needs)
+    (λ c. search needs)
+    (λ c κs. search needs)
+    returns-4
+    (λ c κs. search needs)
+    (λ c. search needs)
+    (λ c. search needs)
+    (λ c κs. search needs)
+    returns-5
+    (λ c. search needs)
+    returns-6
+    returns-7)

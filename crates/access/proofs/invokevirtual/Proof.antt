@@ -1,0 +1,37 @@
+-- `access::invokevirtual` meets its contract.
+use mathlib.Core.Path.{sym, _∙_}
+use denote.Ref.{now}
+use borrow.Author.Needs.{needs}
+use Rattle.access.specs.Members.{cached, uncached, invoke-uncached, invoke-undeclared, invoke-right}
+use Rattle.resolution.specs.Quick.{found-at, found-absent, loader-quick}
+use Rattle.access.proofs.invokevirtual.Statement.{statement}
+use Rattle.access.proofs.invokevirtual.Tie as tie
+
+returns : tie.Need-returns
+returns c = invoke-uncached _ _ _ _ _ _ _ _ _ _ (uncached _ _ _ _ _ _ _ _ (c .before .before .find .ensures) (c .before .before .before .from8 .ensures .0) (c .enum-told .given .1)) _ _ _
+
+returns-2 : tie.Need-returns-2
+returns-2 c = invoke-undeclared _ _ _ _ _ _ _ _ _ _ _ (cached _ _ _ _ _ _ _ _ (c .before .before .before .before .before .before .find .ensures) (c .before .before .before .before .before .before .before .from8 .ensures .0) _ (c .before .before .before .before .e .given .1)) _ _ _ (found-absent _ (sym (c .before .before .nearest-method .ensures) ∙ c .enum-told2 .given .1))
+
+call-method-requires : tie.Need-call-method-requires
+call-method-requires c κs = found-at _ _ (sym (c .before .before .before .before .nearest-method .ensures) ∙ c .before .before .s .given .1)
+
+returns-3 : tie.Need-returns-3
+returns-3 c = invoke-right _ _ _ _ _ _ _ _ _ _ _ (cached _ _ _ _ _ _ _ _ (c .before .before .before .before .before .before .before .before .before .find .ensures) (c .before .before .before .before .before .before .before .before .before .before .from8 .ensures .0) _ (c .before .before .before .before .before .before .before .e .given .1)) _ _ (c .before .loader-of .ensures ∙ sym (loader-quick (now (c .before .before .before .before .before .before .before .before .before .before .before .before .before .before .before .before .before .args .counts)) (now (c .before .before .before .before .before .before .before .before .before .before .before .before .before .before .before .before .before .args .classes)) (now (c .before .before .before .before .before .before .before .before .before .before .before .before .before .before .before .before .before .args .kept)) (now (c .before .before .before .before .before .before .before .before .before .before .before .before .before .before .before .before .before .args .cache)) _)) _ _ _ _ (found-at _ _ (sym (c .before .before .before .before .before .nearest-method .ensures) ∙ c .before .before .before .s .given .1)) (c .call-method .ensures)
+
+pub invokevirtual-spec : {M : Type 1} → statement M
+invokevirtual-spec =
+    tie.close
+    (tie.spec
+    (λ c κs. search needs)
+    (λ c κs. search needs)
+    (λ c. search needs)
+    (λ c. search needs)
+    returns
+    (λ c κs. search needs)
+    (λ c. search needs)
+    (λ c. search needs)
+    returns-2
+    (λ c κs. search needs)
+    call-method-requires
+    returns-3)

@@ -1,0 +1,35 @@
+-- `access::new_object` meets its contract.
+use borrow.Author.Needs.{needs}
+use borrow.Author.Tests.{lt-ltb, le-ltb}
+use Rattle.access.specs.Members.{cached, uncached, new-uncached, new-no-room, new-made}
+use Rattle.definition.specs.Requests.{at}
+use Rattle.access.proofs.new_object.Statement.{statement}
+use Rattle.access.proofs.new_object.Tie as tie
+
+returns : tie.Need-returns
+returns c = new-uncached _ _ _ _ _ _ _ _ _ _ (uncached _ _ _ _ _ _ _ _ (c .before .before .find .ensures) (c .before .before .before .from8 .ensures .0) (c .enum-told .given .1))
+
+returns-2 : tie.Need-returns-2
+returns-2 c = rw (c .refuse .ensures) (new-no-room _ _ _ _ _ _ _ _ _ _ _ (cached _ _ _ _ _ _ _ _ (c .before .before .before .before .before .before .find .ensures) (c .before .before .before .before .before .before .before .from8 .ensures .0) _ (c .before .before .before .before .e .given .1)) (rw (le-ltb _ _ (rw (c .before .before .at16 .ensures) at (c .before .if1 .taken)))))
+
+returns-3 : tie.Need-returns-3
+returns-3 c = rw (c .refuse2 .ensures) (new-no-room _ _ _ _ _ _ _ _ _ _ _ (cached _ _ _ _ _ _ _ _ (c .before .before .before .before .before .before .before .find .ensures) (c .before .before .before .before .before .before .before .before .from8 .ensures .0) _ (c .before .before .before .before .before .e .given .1)) (rw (lt-ltb _ _ (rw (c .before .before .before .at16 .ensures) at (c .before .before .if1 .left)), le-ltb _ _ (c .before .if2 .taken))))
+
+returns-4 : tie.Need-returns-4
+returns-4 c = new-made _ _ _ _ _ _ _ _ _ _ _ (cached _ _ _ _ _ _ _ _ (c .before .before .before .before .before .before .find .ensures) (c .before .before .before .before .before .before .before .from8 .ensures .0) _ (c .before .before .before .before .e .given .1)) (rw (c .before .before .at16 .ensures) at (c .before .if1 .left)) (c .if2 .left)
+
+pub new-object-spec : {M : Type 1} → statement M
+new-object-spec =
+    tie.close
+    (tie.spec
+    (λ c κs. search needs)
+    (λ c κs. search needs)
+    (λ c. search needs)
+    (λ c. search needs)
+    returns
+    (λ c κs. search needs)
+    (λ c κs. search needs)
+    returns-2
+    (λ c κs. search needs)
+    returns-3
+    returns-4)

@@ -1,0 +1,37 @@
+-- `access::putfield` meets its contract.
+use mathlib.Core.Path.{sym, _∙_}
+use denote.Ref.{now}
+use borrow.Author.Needs.{needs}
+use Rattle.access.specs.Members.{cached, uncached, putfield-uncached, putfield-undeclared, putfield-right}
+use Rattle.resolution.specs.Quick.{found-at, found-absent, loader-quick}
+use Rattle.access.proofs.putfield.Statement.{statement}
+use Rattle.access.proofs.putfield.Tie as tie
+
+returns : tie.Need-returns
+returns c = putfield-uncached _ _ _ _ _ _ _ _ _ _ (uncached _ _ _ _ _ _ _ _ (c .before .before .find .ensures) (c .before .before .before .from8 .ensures .0) (c .enum-told .given .1)) _ _
+
+returns-2 : tie.Need-returns-2
+returns-2 c = putfield-undeclared _ _ _ _ _ _ _ _ _ _ _ (cached _ _ _ _ _ _ _ _ (c .before .before .before .before .before .before .find .ensures) (c .before .before .before .before .before .before .before .from8 .ensures .0) _ (c .before .before .before .before .e .given .1)) _ _ (found-absent _ (sym (c .before .before .nearest-field .ensures) ∙ c .enum-told2 .given .1))
+
+set-field-requires : tie.Need-set-field-requires
+set-field-requires c κs = found-at _ _ (sym (c .before .before .before .before .nearest-field .ensures) ∙ c .before .before .s .given .1)
+
+returns-3 : tie.Need-returns-3
+returns-3 c = putfield-right _ _ _ _ _ _ _ _ _ _ _ (cached _ _ _ _ _ _ _ _ (c .before .before .before .before .before .before .before .before .before .find .ensures) (c .before .before .before .before .before .before .before .before .before .before .from8 .ensures .0) _ (c .before .before .before .before .before .before .before .e .given .1)) _ _ (c .before .loader-of .ensures ∙ sym (loader-quick (now (c .before .before .before .before .before .before .before .before .before .before .before .before .before .before .before .before .before .args .counts)) (now (c .before .before .before .before .before .before .before .before .before .before .before .before .before .before .before .before .before .args .classes)) (now (c .before .before .before .before .before .before .before .before .before .before .before .before .before .before .before .before .before .args .kept)) (now (c .before .before .before .before .before .before .before .before .before .before .before .before .before .before .before .before .before .args .cache)) _)) _ _ _ (found-at _ _ (sym (c .before .before .before .before .before .nearest-field .ensures) ∙ c .before .before .before .s .given .1)) (c .set-field .ensures)
+
+pub putfield-spec : {M : Type 1} → statement M
+putfield-spec =
+    tie.close
+    (tie.spec
+    (λ c κs. search needs)
+    (λ c κs. search needs)
+    (λ c. search needs)
+    (λ c. search needs)
+    returns
+    (λ c κs. search needs)
+    (λ c. search needs)
+    (λ c. search needs)
+    returns-2
+    (λ c κs. search needs)
+    set-field-requires
+    returns-3)

@@ -1,0 +1,12 @@
+-- `access::selected` meets its contract.
+use borrow.Author.Needs.{needs}
+use Rattle.resolution.specs.Quick.{found}
+use Rattle.access.proofs.selected.Statement.{statement}
+use Rattle.access.proofs.selected.Tie as tie
+
+returns : tie.Need-returns
+unfolding found
+returns c = rw (c .if1 .taken, c .before .before .before .before .before .pre)
+
+pub selected-spec : {M : Type 1} → statement M
+selected-spec = tie.close (tie.spec returns (λ c κs. search needs) (λ c. search needs))

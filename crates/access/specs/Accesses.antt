@@ -1,0 +1,107 @@
+-- What the answers of getfield, putfield and invokevirtual mean. A class, field or method was looked up under the frame class's loader and is missing,
+-- or it was found: then ties are posted between the loader of the class that declares it and the frame class's, and a plan says the rest.
+use mathlib.Core.Path.{_≡_}
+use mathlib.Core.Bool.{Bool, true}
+use mathlib.Core.List.{List, _∷_, _++_}
+use mathlib.Core.Option.{none}
+use Prim.Native.Nat.{ℕ, suc, _+_, _<_, _≤_}
+use lib.ListN.{length, getElem?, set}
+use lib.Dec.{ltb}
+use Rattle.definition.specs.Lists.{indexOf, stack}
+use Rattle.definition.specs.Superclasses.{nearest, below}
+use Rattle.definition.specs.Classes.{Base, Class, loaderOf, superOf, slots, slotIs, alike, methodsOf, hasMethod}
+use Rattle.definition.specs.Constraints.{Tie, World, newTie, post}
+use Rattle.definition.specs.declared.Instruction.{Instruction}
+use Rattle.definition.specs.Instructions.{Decoded}
+use Rattle.definition.specs.declared.Refusal.the-variants.{Word}
+use Rattle.definition.specs.Answers.{Result, refused, ok, _>>=_, take?}
+use Rattle.definition.specs.Machine.{Value, Object, Frame, pop!, kind!, object!, entryFrame, past, Progress, execute}
+use Rattle.definition.specs.Tables.{Tables, tables, valueOf, objectAt, frameOf, tiesOf, subtypesOf, objectsOf}
+use Rattle.layout.specs.View.{countAt}
+use Rattle.instructions.specs.declared.Plan.{Plan}
+use Rattle.instructions.specs.Plans.{decoded, meaning, Fit}
+use Rattle.resolution.specs.Quick.{quickBase}
+pub use Rattle.access.specs.declared.Access.{Access}
+pub use Rattle.access.specs.declared.Access.the-variants.{Unresolved, Resolved}
+pub use Rattle.access.specs.declared.Receiver.{Receiver}
+pub use Rattle.access.specs.declared.Receiver.the-variants.{Wrong, Right}
+
+-- the classes that B gives, with the tables' constraints
+abbrev pub worldIn : Base → Tables → World
+worldIn B t = record { base = B; ties = tiesOf t; subtypes = subtypesOf t }
+
+-- ties on two names between two loaders; int posts none
+abbrev pub tiesOn : List Tie → ℕ → ℕ → ℕ → ℕ → List Tie
+tiesOn ts one two first second = let us = newTie ts one two first in us ++ newTie (ts ++ us) one two second
+
+module _ (w : World) (os : List Object) (fs : List Frame) (F : List ℕ) (b q : ℕ) where
+  -- an answer's meaning, where ties on two names are posted between the loader of the class that was found and `two`
+  unfoldable pub accessed : Bool → ℕ → ℕ → ℕ → Access → Result Progress
+  accessed room two first second (Unresolved r) = refused r
+  accessed room two first second (Resolved one p) = post w room (tiesOn (w .ties) one two first second) >>= λ w′. meaning w′ os fs F b q p
+
+-- a plan that was found has room
+abbrev pub AccessFits : Base → Tables → ℕ → ℕ → Access → Type 0
+AccessFits B t k m (Unresolved r) = Unit {0}
+AccessFits B t k m (Resolved one p) = Fit B t k m p
+
+-- what was found names the loader of a class
+abbrev pub Declared : Base → Access → Type 0
+Declared B (Unresolved r) = Unit {0}
+Declared B (Resolved one p) = (s : ℕ) × (one ≡ loaderOf B s)
+
+-- The answer r is right for the instruction i of a frame with d operands and a class of that loader, whatever constraints, frames below, class, point
+-- and size there are: N L K E O F are the counts, classes, kept bytes, cache, objects and frames
+pub record Accessing (N L K E O F : List ℕ) (b d loader : ℕ) (room : List Frame → Bool) (first second : ℕ) (i : Instruction) (r : Access) : Type 0 where
+  pub says : (I S : List ℕ) (fs : List Frame) (k : Class) (p n : ℕ) → k .loader ≡ loader
+      → (let B = quickBase N L K E in let t = tables N L K E I S O F in
+      accessed (worldIn B t) (objectsOf B t) fs F b (p + n) (room fs) loader first second r
+      ≡ execute (worldIn B t) (objectsOf B t) (frameOf F b p d) fs k (decoded i n) i)
+  pub fits : d ≤ 16 → (I S : List ℕ) (k : ℕ) (fs : List Frame) → room fs ≡ true → AccessFits (quickBase N L K E) (tables N L K E I S O F) k (length fs) r
+  pub declared : Declared (quickBase N L K E) r
+
+abbrev pub always : List Frame → Bool
+always fs = true
+
+-- one frame more is within the limit
+abbrev pub frameRoom : List Frame → Bool
+frameRoom fs = ltb (suc (length fs)) 32
+
+-- What is left of an instruction once its ties are posted, in the world w
+
+module _ (B : Base) (os : List Object) (f : Frame) (fs : List Frame) (i : Decoded) (e : ℕ) where
+  -- getfield of field n of type t, which class s declares
+  unfoldable pub readField : ℕ → ℕ → ℕ → World → Result Progress
+  readField s n t w =
+      pop! (f .operands) >>= λ p. object! B os e (p .top) >>= λ o.
+      take? (indexOf (slotIs s n t) (slots B s)) (Word 14) >>= λ j.
+      take? (getElem? (o .object .values) j) (Word 14) >>= λ v.
+      ok (record { world = w; objects = os; frames = past f i (v ∷ p .more) (f .locals) ∷ fs; result = none })
+
+  unfoldable pub writeField : ℕ → ℕ → ℕ → World → Result Progress
+  writeField s n t w =
+      pop! (f .operands) >>= λ p. pop! (p .more) >>= λ q. kind! t (p .top) >>= λ _. object! B os e (q .top) >>= λ o.
+      take? (indexOf (slotIs s n t) (slots B s)) (Word 14) >>= λ j.
+      ok (record {
+        world = w;
+        objects = set os (o .number) (record { class = o .object .class; values = set (o .object .values) j (p .top) });
+        frames = past f i (q .more) (f .locals) ∷ fs;
+        result = none;
+      })
+
+  -- invokevirtual of method n from t to r
+  unfoldable pub callMethod : ℕ → ℕ → ℕ → World → Result Progress
+  callMethod n t r w =
+      pop! (f .operands) >>= λ p. pop! (p .more) >>= λ q. kind! t (p .top) >>= λ _. object! B os e (q .top) >>= λ o.
+      take? (nearest (superOf B) (hasMethod B n t r) (o .object .class)) (Word 14) >>= λ s.
+      take? (indexOf (alike n t r) (methodsOf B s)) (Word 14) >>= λ j.
+      ok (record { world = w; objects = os; frames = entryFrame s j (o .number) (p .top) ∷ past f i (q .more) (f .locals) ∷ fs; result = none })
+
+-- The receiver: cells of a kind and bits are an object, of class e or below it, or a word says what they are not
+
+abbrev pub Received : Base → Tables → ℕ → ℕ → ℕ → Receiver → Type 0
+Received B t e kind bits (Wrong w) = object! B (objectsOf B t) e (valueOf kind bits) ≡ refused (Word w)
+Received B t e kind bits (Right o) =
+    (object! B (objectsOf B t) e (valueOf kind bits) ≡ ok (record { number = o; object = objectAt B (t .objects) o }))
+    × (o < countAt t 5)
+    × (below (superOf B) (objectAt B (t .objects) o .class) e ≡ true)

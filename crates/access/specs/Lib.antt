@@ -1,0 +1,4 @@
+-- Instructions that look a class up: what their answers mean, and the laws that decide on them.
+pub mod Accesses
+pub mod Members
+pub mod Remainders

@@ -1,0 +1,346 @@
+-- Laws of fields and methods that were looked up: where a field stands in an object, what a receiver is, and the instructions case by case.
+use mathlib.Core.Path.{_≡_, refl, sym, ap, _∙_}
+use mathlib.Core.Bool.{Bool, true, false, _||_, _&&_}
+use mathlib.Core.Option.{Option, none, some, Option·none-ne-some, Option·some-injective}
+use mathlib.Core.List.{List, [], _∷_, _++_, append-nil}
+use mathlib.Core.Logic.{_≢_}
+use Prim.Native.Nat.{ℕ, zero, suc, _+_, _<_, _≤_}
+use native.Mathlib.Omega.{arith}
+use lib.ListN.{length, getElem?, getD, set}
+use lib.Dec.{eqb, ltb, leb}
+use borrow.Author.Tests.{eqb-true, ne-eqb, lt-ltb, ltb-true}
+use Rattle.definition.specs.Lists.{any, indexOf, rows}
+use Rattle.definition.specs.Requests.{at}
+use Rattle.definition.specs.Superclasses.{Below, nearest, below}
+use Rattle.definition.specs.Classes.{Base, Class, Slot, find, superOf, loaderOf, slots, slotIs, hasField, alike, methodsOf, hasMethod}
+use Rattle.definition.specs.Constraints.{Tie, World, tieIs, newTie, post}
+use Rattle.definition.specs.declared.Instruction.the-variants.{Getfield, Putfield, Invokevirtual, New}
+use Rattle.definition.specs.declared.Instruction.{Instruction}
+use Rattle.definition.specs.Instructions.{Decoded, pick}
+use Rattle.definition.specs.declared.Refusal.{Refusal}
+use Rattle.definition.specs.declared.Refusal.the-variants.{Word, Wanted}
+use Rattle.definition.specs.Answers.{Result, refused, ok, _>>=_, need, take?}
+use Rattle.definition.specs.Machine.{Value, unsetValue, intValue, nullValue, objectValue, unlistedValue, Object, Frame, object!, Progress, existing, execute}
+use Rattle.definition.specs.Tables.{Tables, tables, entryAt, valueOf, objectAt, fieldAt, usedFields, sizeOf, operandAt, frameOf, objectsOf, tiesOf}
+use Rattle.laws.specs.Agreement.{super-falls}
+use Rattle.laws.specs.Upward.{nearest-below, below-true, below-trans}
+use Rattle.laws.specs.Slots.{slots-below}
+use Rattle.laws.specs.Growth.{nth-lt}
+use Rattle.layout.specs.Places.{stack-length}
+use Rattle.layout.specs.View.{countAt, objects-fill, object-there, object-past}
+use Rattle.instructions.specs.declared.Plan.{Plan}
+use Rattle.instructions.specs.declared.Plan.the-variants.{Refuse, Make}
+use Rattle.instructions.specs.Plans.{decoded, meaning, Fit}
+use Rattle.resolution.specs.declared.Found.{Found}
+use Rattle.resolution.specs.declared.Found.the-variants.{At, Absent}
+use Rattle.resolution.specs.Quick.{quickBase, found, found-at, found-absent}
+use Rattle.access.specs.Accesses.{Access, Unresolved, Resolved, worldIn, tiesOn, accessed, AccessFits, Accessing, always, frameRoom, readField, writeField, callMethod}
+
+-- The cache, asked under a loader that was widened
+
+module _ (N L K E : List ℕ) (x l c : ℕ) (r : Found) (asked : r ≡ found (find (rows (entryAt E) (getD N 2 0) 0) (at x c))) (wide : x ≡ l) where
+  pub cached : (e : ℕ) → r ≡ At e → find (quickBase N L K E .cache) (at l c) ≡ some e
+  unfolding quickBase
+  cached e q = rw (← wide) (found-at _ e (sym asked ∙ q))
+
+  pub uncached : r ≡ Absent → find (quickBase N L K E .cache) (at l c) ≡ none
+  unfolding quickBase
+  uncached q = rw (← wide) (found-absent _ (sym asked ∙ q))
+
+-- Ties: none on int, so ties on one name are ties on it and int
+
+int-untied : (ts : List Tie) (l m : ℕ) → newTie ts l m 1 ≡ []
+unfolding newTie
+int-untied ts l m = go (eqb l m)
+  where
+    go : (u : Bool) → _≡_ {A = List Tie} (elim (u || eqb 1 1 || any (λ t. tieIs l m 1 t) ts) as (λ _. List Tie) [ true ↦ [] | false ↦ record { one = l; two = m; name = 1 } ∷ [] ]) []
+    go true = refl
+    go false = refl
+
+pub ties-int : (ts : List Tie) (l m n : ℕ) → tiesOn ts l m n 1 ≡ newTie ts l m n
+ties-int ts l m n = rw (int-untied (ts ++ newTie ts l m n) l m) (append-nil (newTie ts l m n))
+
+-- what was found means its ties posted and the rest of the instruction
+resolved : (w : World) (os : List Object) (fs : List Frame) (F : List ℕ) (b q : ℕ) (room : Bool) (one two first second : ℕ) (p : Plan) (us : List Tie) (rest : World → Result Progress)
+    → tiesOn (w .ties) one two first second ≡ us → ((z : World) → meaning z os fs F b q p ≡ rest z)
+    → accessed w os fs F b q room two first second (Resolved one p) ≡ (post w room us >>= rest)
+unfolding accessed
+resolved w os fs F b q room one two first second p us rest e h = (λ i. post w room (e i) >>= λ z. h z i)
+
+-- Where a field stands in an object
+
+index-there : {A : Type 0} (f : A → Bool) (xs : List A) (j : ℕ) → indexOf f xs ≡ some j → (x : A) × (getElem? xs j ≡ some x)
+unfolding indexOf
+index-there f [] j h = absurd (Option·none-ne-some j h)
+index-there {A} f (x ∷ xs) j h = go (f x) h (index-there f xs)
+  where
+    later : (o : Option ℕ) → ((i : ℕ) → o ≡ some i → (y : A) × (getElem? xs i ≡ some y))
+        → (elim o as (λ _. Option ℕ) [ none ↦ none | some i ↦ some (suc i) ]) ≡ some j → (y : A) × (getElem? (x ∷ xs) j ≡ some y)
+    later none ih r = absurd (Option·none-ne-some j r)
+    later (some i) ih r = let y = ih i refl in rw (← Option·some-injective (suc i) j r) (y .0, y .1)
+
+    go : (u : Bool) → (elim u as (λ _. Option ℕ) [ true ↦ some 0 | false ↦ elim (indexOf f xs) as (λ _. Option ℕ) [ none ↦ none | some i ↦ some (suc i) ] ]) ≡ some j
+        → ((i : ℕ) → indexOf f xs ≡ some i → (y : A) × (getElem? xs i ≡ some y)) → (y : A) × (getElem? (x ∷ xs) j ≡ some y)
+    go true e ih = rw (← Option·some-injective 0 j e) (x, refl)
+    go false e ih = later (indexOf f xs) ih e
+
+-- a field that class s declares stands in every object of a class c below e, from which s was found
+pub field-used : (B : Base) (c e s n t j : ℕ) → below (superOf B) c e ≡ true → nearest (superOf B) (hasField B n t) e ≡ some s → indexOf (slotIs s n t) (slots B s) ≡ some j
+    → j < 16 → j < usedFields B c
+unfolding usedFields pick
+field-used B c e s n t j h g i few = go (leb (sizeOf B c) 16) refl
+  where
+    declared : Below (superOf B) s c
+    declared =
+        below-trans (below-true (superOf B) (super-falls B) c e h) (nearest-below (superOf B) (super-falls B) (hasField B n t) e s g .0)
+
+    sized : j < sizeOf B c
+    sized = let x = index-there (slotIs s n t) (slots B s) j i in nth-lt (slots B c) j (x .0) (slots-below B declared j (x .0) (x .1))
+
+    go : (u : Bool) → leb (sizeOf B c) 16 ≡ u → j < pick u (sizeOf B c) 16
+    go true q = sized
+    go false q = few
+
+-- Receivers
+
+-- the word for cells that are no object's
+unfoldable pub noObject : ℕ → ℕ → ℕ
+noObject k b = pick (eqb k 2) (pick (eqb b 0) 11 14) 14
+
+module _ (B : Base) (os : List Object) (e k b : ℕ) where
+  pub object-word : k ≢ 3 → object! B os e (valueOf k b) ≡ refused (Word (noObject k b))
+  unfolding object! valueOf pick noObject
+  object-word h = rw (ne-eqb k 3 h) (two (eqb k 2) refl)
+    where
+      null : (n : ℕ) (u : Bool) → object! B os e (pick u nullValue (unlistedValue n b)) ≡ refused (Word (pick u 11 14))
+      null n true = refl
+      null n false = refl
+
+      unset : (u : Bool) → object! B os e (pick u unsetValue (unlistedValue k b)) ≡ refused (Word 14)
+      unset true = refl
+      unset false = refl
+
+      bare : (u : Bool) → object! B os e (pick u (pick (eqb k 0) unsetValue (unlistedValue k b)) (unlistedValue k b)) ≡ refused (Word 14)
+      bare true = unset (eqb k 0)
+      bare false = refl
+
+      int : (u : Bool) → object! B os e (pick u (intValue b) (pick (eqb b 0) (pick (eqb k 0) unsetValue (unlistedValue k b)) (unlistedValue k b))) ≡ refused (Word 14)
+      int true = refl
+      int false = bare (eqb b 0)
+
+      two : (u : Bool) → eqb k 2 ≡ u
+          → object! B os e (pick (eqb k 1) (intValue b) (pick (eqb b 0) (pick (eqb k 0) unsetValue (pick (eqb k 2) nullValue (unlistedValue k b))) (unlistedValue k b)))
+          ≡ refused (Word (pick (eqb k 2) (pick (eqb b 0) 11 14) 14))
+      two true q = let z : k ≡ 2 = eqb-true k 2 q in rw z (null 2 (eqb b 0))
+      two false q = rw q (int (eqb k 1))
+
+module _ (B : Base) (t : Tables) (e k o : ℕ) (is : k ≡ 3) where
+  pub object-missing : countAt t 5 ≤ o → object! B (objectsOf B t) e (valueOf k o) ≡ refused (Word 14)
+  unfolding object! valueOf pick take? _>>=_
+  object-missing l = rw (is, object-past t B o l)
+
+  pub object-above : o < countAt t 5 → below (superOf B) (objectAt B (t .objects) o .class) e ≡ false → object! B (objectsOf B t) e (valueOf k o) ≡ refused (Word 14)
+  unfolding object! valueOf pick take? _>>=_ need
+  object-above l h = rw (is, object-there t B o l, h)
+
+  pub object-right : o < countAt t 5 → below (superOf B) (objectAt B (t .objects) o .class) e ≡ true
+      → object! B (objectsOf B t) e (valueOf k o) ≡ ok (record { number = o; object = objectAt B (t .objects) o })
+  unfolding object! valueOf pick take? _>>=_ need
+  object-right l h = rw (is, object-there t B o l, h)
+
+-- The instructions, case by case
+
+module _ (w : World) (os : List Object) (f : Frame) (fs : List Frame) (k : Class) (i : Decoded) (c n t : ℕ) where
+  pub getfield-wanted : find (w .base .cache) (at (k .loader) c) ≡ none → execute w os f fs k i (Getfield c n t) ≡ refused (Wanted (k .loader) c)
+  unfolding execute take? _>>=_
+  getfield-wanted h = rw h
+
+  pub putfield-wanted : find (w .base .cache) (at (k .loader) c) ≡ none → execute w os f fs k i (Putfield c n t) ≡ refused (Wanted (k .loader) c)
+  unfolding execute take? _>>=_
+  putfield-wanted h = rw h
+
+  module _ (e : ℕ) (there : find (w .base .cache) (at (k .loader) c) ≡ some e) where
+    pub getfield-absent : nearest (superOf (w .base)) (hasField (w .base) n t) e ≡ none → execute w os f fs k i (Getfield c n t) ≡ refused (Word 7)
+    unfolding execute take? _>>=_
+    getfield-absent h = rw (there, h)
+
+    pub putfield-absent : nearest (superOf (w .base)) (hasField (w .base) n t) e ≡ none → execute w os f fs k i (Putfield c n t) ≡ refused (Word 7)
+    unfolding execute take? _>>=_
+    putfield-absent h = rw (there, h)
+
+    module _ (s : ℕ) (found : nearest (superOf (w .base)) (hasField (w .base) n t) e ≡ some s) where
+      pub getfield-found : execute w os f fs k i (Getfield c n t)
+          ≡ (post w true (newTie (w .ties) (loaderOf (w .base) s) (k .loader) t) >>= readField (w .base) os f fs i e s n t)
+      unfolding execute take? _>>=_ readField
+      getfield-found = rw (there, found)
+
+      pub putfield-found : execute w os f fs k i (Putfield c n t)
+          ≡ (post w true (newTie (w .ties) (loaderOf (w .base) s) (k .loader) t) >>= writeField (w .base) os f fs i e s n t)
+      unfolding execute take? _>>=_ writeField
+      putfield-found = rw (there, found)
+
+module _ (w : World) (os : List Object) (f : Frame) (fs : List Frame) (k : Class) (i : Decoded) (c n t r : ℕ) where
+  pub invoke-wanted : find (w .base .cache) (at (k .loader) c) ≡ none → execute w os f fs k i (Invokevirtual c n t r) ≡ refused (Wanted (k .loader) c)
+  unfolding execute take? _>>=_
+  invoke-wanted h = rw h
+
+  module _ (e : ℕ) (there : find (w .base .cache) (at (k .loader) c) ≡ some e) where
+    pub invoke-absent : nearest (superOf (w .base)) (hasMethod (w .base) n t r) e ≡ none → execute w os f fs k i (Invokevirtual c n t r) ≡ refused (Word 7)
+    unfolding execute take? _>>=_
+    invoke-absent h = rw (there, h)
+
+    pub invoke-found : (s : ℕ) → nearest (superOf (w .base)) (hasMethod (w .base) n t r) e ≡ some s
+        → execute w os f fs k i (Invokevirtual c n t r)
+        ≡ (post w (frameRoom fs) (tiesOn (w .ties) (loaderOf (w .base) s) (k .loader) t r) >>= callMethod (w .base) os f fs i e n t r)
+    unfolding execute take? _>>=_ callMethod
+    invoke-found s found = rw (there, found)
+
+module _ (w : World) (os : List Object) (f : Frame) (fs : List Frame) (k : Class) (i : Decoded) (c : ℕ) where
+  pub new-wanted : find (w .base .cache) (at (k .loader) c) ≡ none → execute w os f fs k i (New c) ≡ refused (Wanted (k .loader) c)
+  unfolding execute take? _>>=_
+  new-wanted h = rw h
+
+  pub new-full : (e : ℕ) → find (w .base .cache) (at (k .loader) c) ≡ some e → (ltb (length os) 256 && ltb (length (f .operands)) 16) ≡ false
+      → execute w os f fs k i (New c) ≡ refused (Word 10)
+  unfolding execute take? _>>=_ need
+  new-full e there h = rw (there, h)
+
+-- What is left once the ties are posted: a plan that means it; `limit` is what it asks of the number of frames below
+
+abbrev pub unlimited : ℕ → Type 0
+unlimited m = Unit {0}
+
+abbrev pub framesLeft : ℕ → Type 0
+framesLeft m = suc m < 32
+
+pub record Rest (N L K E O F : List ℕ) (b d : ℕ) (limit : ℕ → Type 0) (rest : Base → List Object → Frame → List Frame → Decoded → World → Result Progress) (r : Plan) : Type 0 where
+  pub says : (I S : List ℕ) (fs : List Frame) (w : World) (p : ℕ) (i : Decoded)
+      → (let B = quickBase N L K E in let os = objectsOf B (tables N L K E I S O F) in
+      meaning w os fs F b (p + i .size) r ≡ rest B os (frameOf F b p d) fs i w)
+  pub fits : d ≤ 16 → (I S : List ℕ) (k m : ℕ) → limit m → Fit (quickBase N L K E) (tables N L K E I S O F) k m r
+
+module _ (N L K E O F : List ℕ) (b d loader c : ℕ) where
+  abbrev B : Base
+  B = quickBase N L K E
+
+  -- nothing was found: every constraint and frame gives the same refusal
+  pub unresolved : (room : List Frame → Bool) (x y : ℕ) (i : Instruction) (r : Refusal)
+      → ((I S : List ℕ) (fs : List Frame) (k : Class) (p n : ℕ) → k .loader ≡ loader
+      → (let t = tables N L K E I S O F in execute (worldIn B t) (objectsOf B t) (frameOf F b p d) fs k (decoded i n) i ≡ refused r))
+      → Accessing N L K E O F b d loader room x y i (Unresolved r)
+  unfolding accessed
+  unresolved room x y i r h = record { says = λ I S fs k p n e. sym (h I S fs k p n e); fits = λ few I S k gs l. tt; declared = tt }
+
+  module _ (missing : find (B .cache) (at loader c) ≡ none) where
+    pub getfield-uncached : (n t : ℕ) → Accessing N L K E O F b d loader always t 1 (Getfield c n t) (Unresolved (Wanted loader c))
+    getfield-uncached n t = unresolved always t 1 (Getfield c n t) (Wanted loader c) (λ I S fs k p m z.
+        rw (← z) (getfield-wanted (worldIn B (tables N L K E I S O F)) (objectsOf B (tables N L K E I S O F)) (frameOf F b p d) fs k (decoded (Getfield c n t) m) c n t (rw z missing)))
+
+    pub putfield-uncached : (n t : ℕ) → Accessing N L K E O F b d loader always t 1 (Putfield c n t) (Unresolved (Wanted loader c))
+    putfield-uncached n t = unresolved always t 1 (Putfield c n t) (Wanted loader c) (λ I S fs k p m z.
+        rw (← z) (putfield-wanted (worldIn B (tables N L K E I S O F)) (objectsOf B (tables N L K E I S O F)) (frameOf F b p d) fs k (decoded (Putfield c n t) m) c n t (rw z missing)))
+
+    pub invoke-uncached : (n t r : ℕ) → Accessing N L K E O F b d loader frameRoom t r (Invokevirtual c n t r) (Unresolved (Wanted loader c))
+    invoke-uncached n t r = unresolved frameRoom t r (Invokevirtual c n t r) (Wanted loader c) (λ I S fs k p m z.
+        rw (← z) (invoke-wanted (worldIn B (tables N L K E I S O F)) (objectsOf B (tables N L K E I S O F)) (frameOf F b p d) fs k (decoded (Invokevirtual c n t r) m) c n t r (rw z missing)))
+
+  module _ (e : ℕ) (there : find (B .cache) (at loader c) ≡ some e) where
+    pub getfield-undeclared : (n t : ℕ) → nearest (superOf B) (hasField B n t) e ≡ none → Accessing N L K E O F b d loader always t 1 (Getfield c n t) (Unresolved (Word 7))
+    getfield-undeclared n t h = unresolved always t 1 (Getfield c n t) (Word 7) (λ I S fs k p m z.
+        getfield-absent (worldIn B (tables N L K E I S O F)) (objectsOf B (tables N L K E I S O F)) (frameOf F b p d) fs k (decoded (Getfield c n t) m) c n t e (rw z there) h)
+
+    pub putfield-undeclared : (n t : ℕ) → nearest (superOf B) (hasField B n t) e ≡ none → Accessing N L K E O F b d loader always t 1 (Putfield c n t) (Unresolved (Word 7))
+    putfield-undeclared n t h = unresolved always t 1 (Putfield c n t) (Word 7) (λ I S fs k p m z.
+        putfield-absent (worldIn B (tables N L K E I S O F)) (objectsOf B (tables N L K E I S O F)) (frameOf F b p d) fs k (decoded (Putfield c n t) m) c n t e (rw z there) h)
+
+    pub invoke-undeclared : (n t r : ℕ) → nearest (superOf B) (hasMethod B n t r) e ≡ none
+        → Accessing N L K E O F b d loader frameRoom t r (Invokevirtual c n t r) (Unresolved (Word 7))
+    invoke-undeclared n t r h = unresolved frameRoom t r (Invokevirtual c n t r) (Word 7) (λ I S fs k p m z.
+        invoke-absent (worldIn B (tables N L K E I S O F)) (objectsOf B (tables N L K E I S O F)) (frameOf F b p d) fs k (decoded (Invokevirtual c n t r) m) c n t r e (rw z there) h)
+
+  module _ (e : ℕ) (there : find (B .cache) (at loader c) ≡ some e) (s one : ℕ) (declares : one ≡ loaderOf B s) (p : Plan) where
+    pub getfield-right : (n t : ℕ) → nearest (superOf B) (hasField B n t) e ≡ some s → Rest N L K E O F b d unlimited (λ B os f fs i. readField B os f fs i e s n t) p
+        → Accessing N L K E O F b d loader always t 1 (Getfield c n t) (Resolved one p)
+    getfield-right n t found q = record {
+      says = λ I S fs k x y z.
+          let T : Tables = tables N L K E I S O F in
+          resolved (worldIn B T) (objectsOf B T) fs F b (x + y) true one loader t 1 p (newTie (tiesOf T) one loader t)
+          (readField B (objectsOf B T) (frameOf F b x d) fs (decoded (Getfield c n t) y) e s n t) (ties-int (tiesOf T) one loader t)
+          (λ w. q .says I S fs w x (decoded (Getfield c n t) y))
+          ∙ rw (declares, ← z) (sym (getfield-found (worldIn B T) (objectsOf B T) (frameOf F b x d) fs k (decoded (Getfield c n t) y) c n t e (rw z there) s found));
+      fits = λ few I S k gs l. q .fits few I S k (length gs) tt;
+      declared = (s, declares);
+    }
+
+    pub putfield-right : (n t : ℕ) → nearest (superOf B) (hasField B n t) e ≡ some s → Rest N L K E O F b d unlimited (λ B os f fs i. writeField B os f fs i e s n t) p
+        → Accessing N L K E O F b d loader always t 1 (Putfield c n t) (Resolved one p)
+    putfield-right n t found q = record {
+      says = λ I S fs k x y z.
+          let T : Tables = tables N L K E I S O F in
+          resolved (worldIn B T) (objectsOf B T) fs F b (x + y) true one loader t 1 p (newTie (tiesOf T) one loader t)
+          (writeField B (objectsOf B T) (frameOf F b x d) fs (decoded (Putfield c n t) y) e s n t) (ties-int (tiesOf T) one loader t)
+          (λ w. q .says I S fs w x (decoded (Putfield c n t) y))
+          ∙ rw (declares, ← z) (sym (putfield-found (worldIn B T) (objectsOf B T) (frameOf F b x d) fs k (decoded (Putfield c n t) y) c n t e (rw z there) s found));
+      fits = λ few I S k gs l. q .fits few I S k (length gs) tt;
+      declared = (s, declares);
+    }
+
+    pub invoke-right : (n t r : ℕ) → nearest (superOf B) (hasMethod B n t r) e ≡ some s → Rest N L K E O F b d framesLeft (λ B os f fs i. callMethod B os f fs i e n t r) p
+        → Accessing N L K E O F b d loader frameRoom t r (Invokevirtual c n t r) (Resolved one p)
+    invoke-right n t r found q = record {
+      says = λ I S fs k x y z.
+          let T : Tables = tables N L K E I S O F in
+          resolved (worldIn B T) (objectsOf B T) fs F b (x + y) (frameRoom fs) one loader t r p (tiesOn (tiesOf T) one loader t r)
+          (callMethod B (objectsOf B T) (frameOf F b x d) fs (decoded (Invokevirtual c n t r) y) e n t r) refl
+          (λ w. q .says I S fs w x (decoded (Invokevirtual c n t r) y))
+          ∙ rw (declares, ← z)
+          (sym (invoke-found (worldIn B T) (objectsOf B T) (frameOf F b x d) fs k (decoded (Invokevirtual c n t r) y) c n t r e (rw z there) s found));
+      fits = λ few I S k gs l. q .fits few I S k (length gs) (ltb-true (suc (length gs)) 32 l);
+      declared = (s, declares);
+    }
+
+-- new: a plan alone, since it posts no tie
+pub record Making (N L K E O F : List ℕ) (b d loader c : ℕ) (r : Plan) : Type 0 where
+  pub says : (I S : List ℕ) (fs : List Frame) (k : Class) (p n : ℕ) → k .loader ≡ loader
+      → (let B = quickBase N L K E in let t = tables N L K E I S O F in
+      meaning (worldIn B t) (objectsOf B t) fs F b (p + n) r ≡ execute (worldIn B t) (objectsOf B t) (frameOf F b p d) fs k (decoded (New c) n) (New c))
+  -- where the class that is cached has no more fields than a row has room for
+  pub fits : ((e : ℕ) → find (quickBase N L K E .cache) (at loader c) ≡ some e → sizeOf (quickBase N L K E) e ≤ 16)
+      → (I S : List ℕ) (k m : ℕ) → Fit (quickBase N L K E) (tables N L K E I S O F) k m r
+
+module _ (N L K E O F : List ℕ) (b d loader c : ℕ) where
+  abbrev base : Base
+  base = quickBase N L K E
+
+  pub new-uncached : find (base .cache) (at loader c) ≡ none → Making N L K E O F b d loader c (Refuse (Wanted loader c))
+  unfolding meaning
+  new-uncached h = record {
+    says = λ I S fs k p n e.
+        let T : Tables = tables N L K E I S O F in
+        rw (← e) (sym (new-wanted (worldIn base T) (objectsOf base T) (frameOf F b p d) fs k (decoded (New c) n) c (rw e h)));
+    fits = λ sizes I S k m. tt;
+  }
+
+  module _ (e : ℕ) (there : find (base .cache) (at loader c) ≡ some e) where
+    room : (t : Tables) (p : ℕ) → (ltb (length (objectsOf base t)) 256 && ltb (length (frameOf F b p d .operands)) 16) ≡ (ltb (countAt t 5) 256 && ltb d 16)
+    unfolding frameOf
+    room t p = rw (objects-fill t base .count, stack-length (operandAt F b) d)
+
+    pub new-no-room : (ltb (getD N 5 0) 256 && ltb d 16) ≡ false → Making N L K E O F b d loader c (Refuse (Word 10))
+    unfolding meaning
+    new-no-room h = record {
+      says = λ I S fs k p n q.
+          let T : Tables = tables N L K E I S O F in
+          sym (new-full (worldIn base T) (objectsOf base T) (frameOf F b p d) fs k (decoded (New c) n) c e (rw q there) (room T p ∙ h));
+      fits = λ sizes I S k m. tt;
+    }
+
+    pub new-made : getD N 5 0 < 256 → d < 16 → Making N L K E O F b d loader c (Make d e)
+    unfolding meaning execute take? _>>=_ need frameOf
+    new-made few low = record {
+      says = λ I S fs k p n q.
+          let T : Tables = tables N L K E I S O F in
+          let h : (ltb (length (objectsOf base T)) 256 && ltb (length (frameOf F b p d .operands)) 16) ≡ true = room T p ∙ rw (lt-ltb (getD N 5 0) 256 few, lt-ltb d 16 low) in
+          rw (q, there, h);
+      fits = λ sizes I S k m. (low, few, sizes e there);
+    }

@@ -1,0 +1,86 @@
+-- Agreement of the store with ties that are to be posted, tested on a copy of the ties and on a table of superclasses.
+use mathlib.Core.Path.{_≡_, refl, sym, ap, _∙_}
+use mathlib.Core.Bool.{Bool, true, false}
+use mathlib.Core.Option.{Option, none, some}
+use mathlib.Core.List.{List, [], _∷_, _++_}
+use Prim.Native.Nat.{ℕ, zero, suc, _+_, _*_, _<_, _≤_}
+use native.Mathlib.Nat.{zero-add}
+use native.Mathlib.Omega.{arith}
+use lib.ListN.{length, getD, set, length-set, length-append, List·getD-eq-default}
+use lib.Dec.{ltb}
+use borrow.Author.Tests.{le-leb, ltb-true, ltb-false}
+use Rattle.definition.specs.Lists.{rows, writeRows}
+use Rattle.definition.specs.Classes.{Base, superOf}
+use Rattle.definition.specs.Constraints.{Tie, World, tieEdges, subtypeEdges, edges, agreesOver, agrees, posted}
+use Rattle.definition.specs.Tables.{Tables, tables, entryAt, tieAt, putTie, subtypeAt, tiesOf, subtypesOf}
+use Rattle.layout.specs.Places.{rows-length, rows-getD, writeRows-length}
+use Rattle.layout.specs.Cells.{rows-back, rows-more, cell-rows, tie-rows}
+use Rattle.constraints.specs.Agreement.{atMost, superIn, agreeIn}
+use Rattle.resolution.specs.Quick.{quickBase, super-past}
+use Rattle.resolution.specs.Lookups.{superCell, cell-super}
+use Rattle.access.specs.Accesses.{worldIn}
+
+at-most : (n : ℕ) → n ≤ 256 → atMost 256 n ≡ n
+unfolding atMost
+at-most n h = rw (le-leb n 256 h, atMost)
+
+-- The table of superclasses
+
+module _ (N L K E : List ℕ) (few : getD N 0 0 ≤ 64) (zs : List ℕ) (long : length zs ≡ 64) where
+  abbrev B : Base
+  B = quickBase N L K E
+
+  abbrev supers : List ℕ
+  supers = writeRows set (rows (superCell B) 64 0) 0 zs
+
+  cell : (c : ℕ) → c < 64 → getD supers c 0 ≡ superCell B c
+  cell c h =
+      let n : length (rows (superCell B) 64 0) ≡ 64 = rows-length (superCell B) 64 0 in
+      let e : rows (λ i. getD supers i 0) 64 0 ≡ rows (superCell B) 64 0 = rw n at (rows-back cell-rows (rows (superCell B) 64 0) zs (omega arith)) in
+      let z : 0 + c ≡ c = omega arith in
+      (rw z at (sym (rows-getD (λ i. getD supers i 0) 64 0 c 0 h))) ∙ (ap (λ (xs : List ℕ). getD xs c 0) e ∙ (rw z at (rows-getD (superCell B) 64 0 c 0 h)))
+
+  past : (c : ℕ) → 64 ≤ c → getD supers c 0 ≡ 0
+  past c h = List·getD-eq-default supers 0 (omega (arith, writeRows-length set length-set (rows (superCell B) 64 0) 0 zs))
+
+  super-cell : (c : ℕ) → c < 64 → superIn supers c ≡ superOf B c
+  unfolding superIn
+  super-cell c h = rw (cell c h, superIn) (cell-super B c)
+
+  super-past-end : (c : ℕ) → 64 ≤ c → superIn supers c ≡ superOf B c
+  unfolding superIn
+  super-past-end c h = rw (past c h, superIn, super-past N L K E c (omega arith))
+
+  -- it says of every class what its superclass is
+  pub supers-table : superIn supers ≡ superOf B
+  supers-table = λ i c. each c i
+    where
+      each : (c : ℕ) → superIn supers c ≡ superOf B c
+      each c = go (ltb c 64) refl
+        where
+          go : (u : Bool) → ltb c 64 ≡ u → superIn supers c ≡ superOf B c
+          go true e = super-cell c (ltb-true c 64 e)
+          go false e = super-past-end c (ltb-false c 64 e)
+
+-- The ties with new rows behind them
+
+tried : (I : List ℕ) (n : ℕ) (us : List Tie) → length I ≡ 768 → n + length us ≤ 256 → rows (tieAt (writeRows putTie us n I)) (n + length us) 0 ≡ rows (tieAt I) n 0 ++ us
+tried I n us long few =
+    let xs : List Tie = rows (tieAt I) n 0 ++ us in
+    let e : length xs ≡ n + length us = length-append (rows (tieAt I) n 0) us ∙ rw (rows-length (tieAt I) n 0) in
+    let f : writeRows putTie xs 0 I ≡ writeRows putTie us n I = rows-more tie-rows I n us in
+    rw (e, f) at (rows-back tie-rows xs I (omega arith))
+
+-- what the test says of the store with the ties us posted
+pub agree-posted : (N L K E I S O F zs : List ℕ) (us : List Tie) → getD N 0 0 ≤ 64 → getD N 2 0 ≤ 256 → getD N 4 0 ≤ 256 → length zs ≡ 64 → length I ≡ 768 → getD N 3 0 + length us ≤ 256
+    → agreeIn (writeRows set (rows (superCell (quickBase N L K E)) 64 0) 0 zs) E (getD N 2 0) (writeRows putTie us (getD N 3 0) I) (getD N 3 0 + length us) S (getD N 4 0)
+    ≡ agrees (posted (worldIn (quickBase N L K E) (tables N L K E I S O F)) us)
+unfolding agrees edges quickBase
+agree-posted N L K E I S O F zs us c e s z i n =
+    rw (
+      supers-table N L K E c zs z,
+      at-most (getD N 2 0) e,
+      at-most (getD N 4 0) s,
+      at-most (getD N 3 0 + length us) n,
+      tried I (getD N 3 0) us i n,
+    )

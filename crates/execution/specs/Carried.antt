@@ -1,0 +1,286 @@
+-- What carrying a plan out writes: the ties that are posted, a field or an object's row, cells of the task's frames, and their counts. Nothing is asked of
+-- the tables but that task k has m frames below its top frame.
+use mathlib.Core.Path.{_≡_, refl, sym, ap, _∙_}
+use mathlib.Core.Option.{Option, none, some}
+use mathlib.Core.List.{List, [], _∷_, _++_, map}
+use Prim.Native.Nat.{ℕ, zero, suc, _+_, _*_, _-_, _<_, _≤_}
+use native.Mathlib.Omega.{arith}
+use lib.ListN.{length, getD, set, length-map}
+use lib.Seq.{set-getD, getD-set-other}
+use Rattle.definition.specs.declared.Refusal.{Refusal}
+use Rattle.definition.specs.declared.Answer.{Answer}
+use Rattle.definition.specs.declared.Answer.the-variants.{Idle, Ran, Finished, Refused}
+use Rattle.definition.specs.Answers.{Result, refused, ok, _>>=_, take?}
+use Rattle.definition.specs.Lists.{rows, writeRows, stack}
+use Rattle.definition.specs.Classes.{Base, Slot, slots}
+use Rattle.definition.specs.Constraints.{Tie, World, posted}
+use Rattle.definition.specs.Machine.{Value, objectValue, Object, Frame, existing, newObject, entryFrame, Progress, give, initialValue}
+use Rattle.definition.specs.Tables.{Tables, tables, putTie, valueOf, objectAt, putObject, putField, sizeOf, usedFields, operandAt, putOperand, localAt, putLocal, frameOf, frameAt, putFrame, frameBase, frameIn, tiesOf, subtypesOf, objectsOf, viewOver, put}
+use Rattle.definition.specs.Calls.{Given, given, progressed, answerOf, Done, done, carried}
+use Rattle.layout.specs.Places.{rows-map, stack-top}
+use Rattle.layout.specs.Cells.{rows-back, cell-rows, moved, withField, withValue}
+use Rattle.layout.specs.View.{countAt, Fills, FillsTask, objects-fill, object-made, object-set, object-there, progress-writes, none-left, top-kept, top-above, top-local, top-given, top-entered}
+use Rattle.frames.specs.Initial.{initialOf, initialObject, initial-value}
+use Rattle.resolution.specs.Quick.{quickBase}
+use Rattle.resolution.specs.Slots.{slotType}
+use Rattle.access.specs.Accesses.{worldIn}
+use Rattle.execution.specs.Postings.{Posting, Nothing, toPost}
+use Rattle.instructions.specs.Plans.{meaning, Fit}
+use Rattle.instructions.specs.declared.Plan.{Plan}
+use Rattle.instructions.specs.declared.Plan.the-variants.{Refuse, Keep, Above, Local, Give, Finish, Field, Enter, Make}
+
+-- what the machine makes of a plan of task k, which has m frames below its top frame, where the ties us are posted and the frame goes on at point q
+unfoldable pub planned : Base → Tables → ℕ → ℕ → ℕ → List Tie → Plan → Done Answer
+planned B t k m q us p =
+    carried Refused t
+    (meaning (posted (worldIn B t) us) (objectsOf B t) (stack (frameIn (t .frames) k) m) (t .frames) (frameBase k m) q p
+    >>= λ o. given (answerOf k (o .result)) (progressed k (viewOver B t) o))
+
+-- a refusal posts nothing
+abbrev pub Quiet : List Tie → Plan → Type 0
+Quiet us (Refuse r) = us ≡ []
+Quiet us (Keep d) = Unit {0}
+Quiet us (Above d kind v) = Unit {0}
+Quiet us (Local d j kind v) = Unit {0}
+Quiet us (Give kind v) = Unit {0}
+Quiet us (Finish v) = Unit {0}
+Quiet us (Field d o j kind v) = Unit {0}
+Quiet us (Enter d c j o kind v) = Unit {0}
+Quiet us (Make d c) = Unit {0}
+
+-- what carrying out asks: task k has m frames below its top frame, whose row begins at cell b; ties and plan have room
+pub record Ready (B : Base) (t : Tables) (k m b : ℕ) (us : List Tie) (p : Plan) : Type 0 where
+  pub two : k < 2
+  pub count : countAt t (6 + k) ≡ suc m
+  pub low : m < 32
+  pub row : b ≡ frameBase k m
+  pub ties : countAt t 3 + length us ≤ 256
+  pub quiet : Quiet us p
+  pub fits : Fit B t k m p
+
+-- The tables after ties were posted, and then n frames of task k and m objects counted
+
+module _ (B : Base) (t : Tables) (k m q : ℕ) (us : List Tie) (two : k < 2) where
+  abbrev counts : List ℕ
+  counts = set (t .counts) 3 (countAt t 3 + length us)
+
+  abbrev ties : List ℕ
+  ties = writeRows putTie us (countAt t 3) (t .ties)
+
+  abbrev leaves : List Object → List Frame → Option ℕ → Progress
+  leaves os fs x = record { world = posted (worldIn B t) us; objects = os; frames = fs; result = x }
+
+  -- objects as many as before
+  same-objects : (os : List Object) (fs : List Frame) (x : Option ℕ) (n : ℕ) (o u : List ℕ) → Fills putObject os (t .objects) (countAt t 5) o → FillsTask k fs t n u
+      → put (progressed k (viewOver B t) (leaves os fs x)) t ≡ tables (set counts (6 + k) n) (t .classes) (t .kept) (t .cache) ties (t .subtypes) o u
+  same-objects os fs x n o u g h =
+      progress-writes B t k (leaves os fs x) us (countAt t 5) n o u two refl g h
+      ∙ ap (λ z. tables (set z (6 + k) n) (t .classes) (t .kept) (t .cache) ties (t .subtypes) o u) five
+    where
+      five : set counts 5 (countAt t 5) ≡ counts
+      five = rw (← getD-set-other (t .counts) 3 5 (countAt t 3 + length us) 0 (λ e. omega arith)) (set-getD counts 5 0)
+
+  -- the number of frames as before
+  frame-count : (n : ℕ) → countAt t (6 + k) ≡ n → set counts (6 + k) n ≡ counts
+  frame-count n e = rw (← e, ← getD-set-other (t .counts) 3 (6 + k) (countAt t 3 + length us) 0 (λ z. omega arith)) (set-getD counts (6 + k) 0)
+
+  top-frame : (os : List Object) (fs : List Frame) (o u : List ℕ) → countAt t (6 + k) ≡ suc m → Fills putObject os (t .objects) (countAt t 5) o → FillsTask k fs t (suc m) u
+      → put (progressed k (viewOver B t) (leaves os fs none)) t ≡ tables counts (t .classes) (t .kept) (t .cache) ties (t .subtypes) o u
+  top-frame os fs o u e g h =
+      same-objects os fs none (suc m) o u g h ∙ ap (λ z. tables z (t .classes) (t .kept) (t .cache) ties (t .subtypes) o u) (frame-count (suc m) e)
+
+-- What each plan leaves: C and I are the counts and the ties where the ties us were posted, b is where the top frame's row begins
+
+module _ (B : Base) (N L K E I S O F : List ℕ) (k m b q : ℕ) (us : List Tie) (p : Plan) (r : Ready B (tables N L K E I S O F) k m b us p)
+    (C J : List ℕ) (c : C ≡ set N 3 (getD N 3 0 + length us)) (j : J ≡ writeRows putTie us (getD N 3 0) I) where
+  abbrev before : Tables
+  before = tables N L K E I S O F
+
+  abbrev plans : Done Answer
+  plans = planned B before k m q us p
+
+  pub out-refuse : (w : Refusal) → p ≡ Refuse w → done (Refused w) (tables C L K E J S O F) ≡ plans
+  unfolding planned meaning _>>=_ carried writeRows
+  out-refuse w e =
+      let h : us ≡ [] = rw e at (r .quiet) in
+      let z : getD N 3 0 + 0 ≡ getD N 3 0 = omega arith in
+      rw (e, c, j, h, z, set-getD N 3 0)
+
+  pub out-keep : (d : ℕ) (G : List ℕ) → p ≡ Keep d → G ≡ moved F b q d → done (Ran k) (tables C L K E J S O G) ≡ plans
+  unfolding planned meaning _>>=_ carried answerOf
+  out-keep d G e g =
+      rw (e, c, j, g, r .row)
+      (ap (done (Ran k)) (sym (top-frame B before k m q us (r .two) (objectsOf B before) (frameOf F (frameBase k m) q d ∷ stack (frameIn F k) m) O
+      (moved F (frameBase k m) q d) (r .count) (objects-fill before B) (top-kept before k m (r .low) q d))))
+
+  pub out-above : (d kind v : ℕ) (G : List ℕ) → p ≡ Above d kind v → G ≡ putOperand b (moved F b q (d + 1)) d (valueOf kind v)
+      → done (Ran k) (tables C L K E J S O G) ≡ plans
+  unfolding planned meaning _>>=_ carried answerOf
+  out-above d kind v G e g =
+      let f : d < 16 = rw e at (r .fits) in
+      rw (e, c, j, g, r .row)
+      (ap (done (Ran k)) (sym (top-frame B before k m q us (r .two) (objectsOf B before) _ O
+      (putOperand (frameBase k m) (moved F (frameBase k m) q (d + 1)) d (valueOf kind v)) (r .count) (objects-fill before B) (top-above before k m (r .low) q d (valueOf kind v) f))))
+
+  pub out-local : (d i kind v : ℕ) (G : List ℕ) → p ≡ Local d i kind v → G ≡ putLocal b (moved F b q d) i (valueOf kind v)
+      → done (Ran k) (tables C L K E J S O G) ≡ plans
+  unfolding planned meaning _>>=_ carried answerOf
+  out-local d i kind v G e g =
+      let f : i < 8 = rw e at (r .fits) in
+      rw (e, c, j, g, r .row)
+      (ap (done (Ran k)) (sym (top-frame B before k m q us (r .two) (objectsOf B before) _ O
+      (putLocal (frameBase k m) (moved F (frameBase k m) q d) i (valueOf kind v)) (r .count) (objects-fill before B) (top-local before k m (r .low) q d i (valueOf kind v) f))))
+
+  pub out-field : (d o i kind v : ℕ) (G P : List ℕ) → p ≡ Field d o i kind v → G ≡ moved F b q d → P ≡ putField o O i (valueOf kind v)
+      → done (Ran k) (tables C L K E J S P G) ≡ plans
+  unfolding planned meaning _>>=_ carried answerOf take?
+  out-field d o i kind v G P e g h =
+      let f : (o < getD N 5 0) × (i < usedFields B (objectAt B O o .class)) = rw e at (r .fits) in
+      rw (e, c, j, g, h, r .row, object-there before B o (f .0))
+      (ap (done (Ran k)) (sym (top-frame B before k m q us (r .two) _ _ (putField o O i (valueOf kind v)) (moved F (frameBase k m) q d) (r .count)
+      (object-set before B o i (valueOf kind v) (f .0) (f .1)) (top-kept before k m (r .low) q d))))
+
+  pub out-enter : (d s i o kind v : ℕ) (D G : List ℕ) → p ≡ Enter d s i o kind v → D ≡ set C (6 + k) (m + 2)
+      → G ≡ putFrame (moved F b q d) (frameBase k (m + 1)) (entryFrame s i o (valueOf kind v)) → done (Ran k) (tables D L K E J S O G) ≡ plans
+  unfolding planned meaning _>>=_ carried answerOf
+  out-enter d s i o kind v D G e f g =
+      let h : suc m < 32 = rw e at (r .fits) in
+      let x : m + 2 ≡ suc (suc m) = omega arith in
+      let y : m + 1 ≡ suc m = omega arith in
+      rw (e, f, g, c, j, r .row, x, y)
+      (ap (done (Ran k)) (sym (same-objects B before k m q us (r .two) (objectsOf B before) _ none (suc (suc m)) O
+      (putFrame (moved F (frameBase k m) q d) (frameBase k (suc m)) (entryFrame s i o (valueOf kind v))) (objects-fill before B)
+      (top-entered before k m (r .low) q d (entryFrame s i o (valueOf kind v)) h (omega arith) (omega arith)))))
+
+  pub out-make : (d s n : ℕ) (D G P : List ℕ) → p ≡ Make d s → n ≡ getD N 5 0 → D ≡ set C 5 (n + 1) → G ≡ putOperand b (moved F b q (d + 1)) d (objectValue n)
+      → P ≡ putObject O n (newObject B s) → done (Ran k) (tables D L K E J S P G) ≡ plans
+  unfolding planned meaning _>>=_ carried answerOf
+  out-make d s n D G P e a f g h =
+      let w : (d < 16) × (getD N 5 0 < 256) × (sizeOf B s ≤ 16) = rw e at (r .fits) in
+      rw (e, f, g, h, a, c, j, r .row, objects-fill before B .count)
+      (ap (done (Ran k)) (sym (
+      progress-writes B before k _ us (getD N 5 0 + 1) (suc m) (putObject O (getD N 5 0) (newObject B s))
+      (putOperand (frameBase k m) (moved F (frameBase k m) q (d + 1)) d (objectValue (getD N 5 0))) (r .two) refl (object-made before B (newObject B s))
+      (top-above before k m (r .low) q d (objectValue (getD N 5 0)) (w .0))
+      ∙ ap (λ z. tables z L K E (writeRows putTie us (getD N 3 0) I) S (putObject O (getD N 5 0) (newObject B s)) (putOperand (frameBase k m) (moved F (frameBase k m) q (d + 1)) d (objectValue (getD N 5 0)))) frames)))
+    where
+      frames : set (set (set N 3 (getD N 3 0 + length us)) 5 (getD N 5 0 + 1)) (6 + k) (suc m) ≡ set (set N 3 (getD N 3 0 + length us)) 5 (getD N 5 0 + 1)
+      frames =
+          let A : List ℕ = set N 3 (getD N 3 0 + length us) in
+          let z : getD (set A 5 (getD N 5 0 + 1)) (6 + k) 0 ≡ suc m =
+          getD-set-other A 5 (6 + k) (getD N 5 0 + 1) 0 (λ e. omega arith) ∙ (getD-set-other N 3 (6 + k) (getD N 3 0 + length us) 0 (λ e. omega arith) ∙ r .count) in
+          rw (← z) (set-getD (set A 5 (getD N 5 0 + 1)) (6 + k) 0)
+
+  pub out-finish : (v : ℕ) (D : List ℕ) → p ≡ Finish v → D ≡ set C (6 + k) 0 → done (Finished k v) (tables D L K E J S O F) ≡ plans
+  unfolding planned meaning _>>=_ carried answerOf
+  out-finish v D e f =
+      rw (e, f, c, j)
+      (ap (done (Finished k v)) (sym (same-objects B before k m q us (r .two) (objectsOf B before) [] (some v) 0 O F (objects-fill before B) (none-left before k))))
+
+  -- the frame below is at a, with d operands
+  pub out-give : (kind v a d : ℕ) (D G : List ℕ) → p ≡ Give kind v → a ≡ frameBase k (m - 1) → d ≡ getD F (a + 3) 0 → D ≡ set C (6 + k) m
+      → G ≡ putOperand a (set F (a + 3) (d + 1)) d (valueOf kind v) → done (Ran k) (tables D L K E J S O G) ≡ plans
+  unfolding planned meaning _>>=_ carried answerOf give
+  out-give kind v a d D G e x y f g =
+      let h : (0 < m) × (getD F (frameBase k (m - 1) + 3) 0 < 16) = rw e at (r .fits) in
+      let one : suc (m - 1) ≡ m = omega arith in
+      let z : d ≡ getD F (frameBase k (m - 1) + 3) 0 = rw x at y in
+      rw (e, f, g, c, j, x, stack-top (frameIn F k) m (h .0))
+      (ap (done (Ran k)) (sym (
+      same-objects B before k m q us (r .two) (objectsOf B before) _ none (suc (m - 1)) O (putOperand (frameBase k (m - 1)) (set F (frameBase k (m - 1) + 3) (d + 1)) d (valueOf kind v))
+      (objects-fill before B) (top-given before k (m - 1) (omega (arith, r .low)) d (valueOf kind v) z (omega (arith, h .1, z)))
+      ∙ ap (λ (n : ℕ). tables (set (set N 3 (getD N 3 0 + length us)) (6 + k) n) L K E (writeRows putTie us (getD N 3 0) I) S O (putOperand (frameBase k (m - 1)) (set F (frameBase k (m - 1) + 3) (d + 1)) d (valueOf kind v))) one)))
+
+-- What is posted with a plan: nothing with a refusal
+
+abbrev pub quietly : Posting → Plan → Posting
+quietly x (Refuse r) = Nothing
+quietly x (Keep d) = x
+quietly x (Above d kind v) = x
+quietly x (Local d j kind v) = x
+quietly x (Give kind v) = x
+quietly x (Finish v) = x
+quietly x (Field d o j kind v) = x
+quietly x (Enter d c j o kind v) = x
+quietly x (Make d c) = x
+
+pub quietly-quiet : (x : Posting) (p : Plan) → Quiet (toPost (quietly x p)) p
+unfolding toPost
+quietly-quiet x (Refuse r) = refl
+quietly-quiet x (Keep d) = tt
+quietly-quiet x (Above d kind v) = tt
+quietly-quiet x (Local d j kind v) = tt
+quietly-quiet x (Give kind v) = tt
+quietly-quiet x (Finish v) = tt
+quietly-quiet x (Field d o j kind v) = tt
+quietly-quiet x (Enter d c j o kind v) = tt
+quietly-quiet x (Make d c) = tt
+
+pub quietly-means : (w : World) (os : List Object) (fs : List Frame) (F : List ℕ) (b q : ℕ) (x : Posting) (p : Plan)
+    → meaning (posted w (toPost (quietly x p))) os fs F b q p ≡ meaning (posted w (toPost x)) os fs F b q p
+unfolding meaning
+quietly-means w os fs F b q x (Refuse r) = refl
+quietly-means w os fs F b q x (Keep d) = refl
+quietly-means w os fs F b q x (Above d kind v) = refl
+quietly-means w os fs F b q x (Local d j kind v) = refl
+quietly-means w os fs F b q x (Give kind v) = refl
+quietly-means w os fs F b q x (Finish v) = refl
+quietly-means w os fs F b q x (Field d o j kind v) = refl
+quietly-means w os fs F b q x (Enter d c j o kind v) = refl
+quietly-means w os fs F b q x (Make d c) = refl
+
+pub quietly-few : (x : Posting) (p : Plan) → length (toPost (quietly x p)) ≤ length (toPost x)
+unfolding toPost
+quietly-few x (Refuse r) = omega arith
+quietly-few x (Keep d) = omega arith
+quietly-few x (Above d kind v) = omega arith
+quietly-few x (Local d j kind v) = omega arith
+quietly-few x (Give kind v) = omega arith
+quietly-few x (Finish v) = omega arith
+quietly-few x (Field d o j kind v) = omega arith
+quietly-few x (Enter d c j o kind v) = omega arith
+quietly-few x (Make d c) = omega arith
+
+-- A new object's values, by the types of its fields
+
+pub typed-object : (B : Base) (c : ℕ) (ts : List ℕ) → sizeOf B c ≤ length ts → initialObject c (writeRows set (map slotType (slots B c)) 0 ts) (sizeOf B c) ≡ newObject B c
+unfolding newObject
+typed-object B c ts l =
+    let us : List ℕ = writeRows set (map slotType (slots B c)) 0 ts in
+    let n : length (map slotType (slots B c)) ≡ sizeOf B c = length-map (slots B c) slotType in
+    let e : rows (λ i. getD us i 0) (sizeOf B c) 0 ≡ map slotType (slots B c) = rw n at (rows-back cell-rows (map slotType (slots B c)) ts (omega arith)) in
+    ap (λ (vs : List Value). record { class = c; values = vs }) (sym (rows-map initialOf (λ i. getD us i 0) (sizeOf B c) 0) ∙ (ap (map initialOf) e ∙ initials (slots B c)))
+  where
+    initials : (xs : List Slot) → map initialOf (map slotType xs) ≡ map initialValue xs
+    initials [] = refl
+    initials (x ∷ xs) = rw (initial-value x, initials xs)
+
+-- ties that are posted leave classes and cache as they are
+pub quick-posted : (N L K E : List ℕ) (n : ℕ) → quickBase (set N 3 n) L K E ≡ quickBase N L K E
+unfolding quickBase
+quick-posted N L K E n = rw (getD-set-other N 3 0 n 0 (λ e. omega arith), getD-set-other N 3 2 n 0 (λ e. omega arith))
+
+pub written-new : (B : Base) (c o n : ℕ) (O P ts us : List ℕ) → n ≡ sizeOf B c → us ≡ writeRows set (map slotType (slots B c)) 0 ts → sizeOf B c ≤ length ts
+    → P ≡ putObject O o (initialObject c us n) → P ≡ putObject O o (newObject B c)
+written-new B c o n O P ts us e f l h = h ∙ rw (e, f, typed-object B c ts l)
+
+-- An object made where ties were posted: classes and cache are as before
+
+module _ (N L K E I S O F : List ℕ) (k m b q : ℕ) (us : List Tie) (p : Plan) (r : Ready (quickBase N L K E) (tables N L K E I S O F) k m b us p)
+    (C J : List ℕ) (c : C ≡ set N 3 (getD N 3 0 + length us)) (j : J ≡ writeRows putTie us (getD N 3 0) I) (d s : ℕ) (e : p ≡ Make d s) where
+  same-base : quickBase C L K E ≡ quickBase N L K E
+  same-base = rw c (quick-posted N L K E (getD N 3 0 + length us))
+
+  same-number : getD C 5 0 ≡ getD N 5 0
+  same-number = rw c (getD-set-other N 3 5 (getD N 3 0 + length us) 0 (λ e. omega arith))
+
+  pub make-ready : (d < 16) × (getD C 5 0 < 256) × (sizeOf (quickBase C L K E) s ≤ 16)
+  make-ready =
+      let f : (d < 16) × (getD N 5 0 < 256) × (sizeOf (quickBase N L K E) s ≤ 16) = rw e at (r .fits) in
+      (f .0, rw same-number (f .1), rw same-base (f .2))
+
+  pub out-made : (D G P : List ℕ) → D ≡ set C 5 (getD C 5 0 + 1) → P ≡ putObject O (getD C 5 0) (newObject (quickBase C L K E) s)
+      → G ≡ putOperand b (moved F b q (d + 1)) d (objectValue (getD C 5 0))
+      → done (Ran k) (tables D L K E J S P G) ≡ planned (quickBase N L K E) (tables N L K E I S O F) k m q us p
+  out-made D G P f g h =
+      out-make (quickBase N L K E) N L K E I S O F k m b q us p r C J c j d s (getD C 5 0) D G P e same-number f h (rw same-base at g)

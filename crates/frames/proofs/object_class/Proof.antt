@@ -1,0 +1,10 @@
+-- `frames::object_class` meets its contract.
+use borrow.Author.Needs.{needs}
+use Rattle.frames.proofs.object_class.Statement.{statement}
+use Rattle.frames.proofs.object_class.Tie as tie
+
+returns : tie.Need-returns
+returns c = rw (← c .before .wide32 .ensures .0) (c .at32 .ensures)
+
+pub object-class-spec : {M : Type 1} → statement M
+object-class-spec = tie.close (tie.spec (λ c κs. search needs) (λ c. search needs) (λ c κs. search needs) returns)

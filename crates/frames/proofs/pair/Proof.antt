@@ -1,0 +1,12 @@
+-- `frames::pair` meets its contract.
+use borrow.Author.Needs.{needs}
+use Rattle.definition.specs.Tables.{valueAt}
+use Rattle.frames.proofs.pair.Statement.{statement}
+use Rattle.frames.proofs.pair.Tie as tie
+
+returns : tie.Need-returns
+unfolding valueAt
+returns c = rw (c .before .at32 .ensures, c .at322 .ensures)
+
+pub pair-spec : {M : Type 1} → statement M
+pair-spec = tie.close (tie.spec (λ c κs. search needs) (λ c. search needs) (λ c κs. search needs) returns)

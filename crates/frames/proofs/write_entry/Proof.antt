@@ -1,0 +1,23 @@
+-- `frames::write_entry` meets its contract.
+use borrow.Author.Needs.{needs}
+use Rattle.frames.specs.Initial.{putUnset}
+use Rattle.definition.specs.Instructions.{pick}
+use Rattle.definition.specs.Lists.{writeRows, writeStack}
+use Rattle.definition.specs.Tables.{valueOf, putFrame}
+use Rattle.frames.proofs.write_entry.Statement.{statement}
+use Rattle.frames.proofs.write_entry.Tie as tie
+
+returns : tie.Need-returns
+unfolding putFrame writeRows writeStack putUnset valueOf pick
+returns c = rw (c .before .before .write-local2 .ensures, c .before .before .before .before .before .before .write-local .ensures, c .before .before .before .before .before .before .before .before .before .before .write-unset .ensures, c .before .before .before .before .before .before .before .before .before .before .before .before .before .before .write-head .ensures)
+
+pub write-entry-spec : {M : Type 1} → statement M
+write-entry-spec =
+    tie.close
+    (tie.spec
+    (λ c κs. search needs)
+    (λ c κs. search needs)
+    (λ c κs. search needs)
+    (λ c κs. search needs)
+    (λ c. search needs)
+    returns)

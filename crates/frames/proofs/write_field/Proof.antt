@@ -1,0 +1,25 @@
+-- `frames::write_field` meets its contract.
+use mathlib.Core.Path.{sym}
+use borrow.Author.Needs.{needs}
+use Rattle.definition.specs.Tables.{putField}
+use Rattle.layout.specs.Cells.{putValue-cells}
+use Rattle.frames.proofs.write_field.Statement.{statement}
+use Rattle.frames.proofs.write_field.Tie as tie
+
+returns : tie.Need-returns
+unfolding putField
+returns c = rw (c .before .before .write-pair .ensures, c .before .before .before .before .wide32 .ensures .0, c .before .before .before .wide8 .ensures .0) (sym (putValue-cells _ _ _ _))
+
+pub write-field-spec : {M : Type 1} → statement M
+write-field-spec =
+    tie.close
+    (tie.spec
+    (λ c κs. search needs)
+    (λ c. search needs)
+    (λ c κs. search needs)
+    (λ c. search needs)
+    (λ c. search needs)
+    (λ c. search needs)
+    (λ c κs. search needs)
+    (λ c. search needs)
+    returns)

@@ -1,0 +1,20 @@
+-- `frames::write_head` meets its contract.
+use borrow.Author.Needs.{needs}
+use Rattle.frames.proofs.write_head.Statement.{statement}
+use Rattle.frames.proofs.write_head.Tie as tie
+
+returns : tie.Need-returns
+returns c = rw (c .before .before .write-moved .ensures, c .before .before .before .before .before .before .put322 .ensures, c .before .before .before .before .before .before .before .before .before .before .before .put32 .ensures, c .before .before .before .before .before .before .before .before .before .before .before .before .wide32 .ensures .0, c .before .before .before .before .before .before .before .wide322 .ensures .0)
+
+pub write-head-spec : {M : Type 1} → statement M
+write-head-spec =
+    tie.close
+    (tie.spec
+    (λ c κs. search needs)
+    (λ c κs. search needs)
+    (λ c κs. search needs)
+    (λ c. search needs)
+    (λ c κs. search needs)
+    (λ c κs. search needs)
+    (λ c. search needs)
+    returns)

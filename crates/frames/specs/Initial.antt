@@ -1,0 +1,33 @@
+-- What a new object's row holds, by the types of its fields; the empty locals of a new frame.
+use mathlib.Core.Path.{_≡_, refl, ap}
+use mathlib.Core.Bool.{Bool, true, false}
+use mathlib.Core.List.{List, [], _∷_, map}
+use Prim.Native.Nat.{ℕ}
+use lib.ListN.{getD}
+use lib.Dec.{eqb}
+use Rattle.definition.specs.Lists.{rows}
+use Rattle.definition.specs.Classes.{Base, Slot, slots}
+use Rattle.definition.specs.Instructions.{pick}
+use Rattle.definition.specs.Machine.{Value, unsetValue, intValue, nullValue, Object, initialValue, newObject}
+use Rattle.definition.specs.Tables.{putLocal}
+
+-- a field of type t begins as 0 or null
+unfoldable pub initialOf : ℕ → Value
+initialOf t = pick (eqb t 1) (intValue 0) nullValue
+
+-- an object of class c with the first n of those types
+abbrev pub initialObject : ℕ → List ℕ → ℕ → Object
+initialObject c ts n = record { class = c; values = rows (λ i. initialOf (getD ts i 0)) n 0 }
+
+-- locals 2 to 7 emptied
+unfoldable pub putUnset : ℕ → List ℕ → List ℕ
+putUnset b t =
+    putLocal b (putLocal b (putLocal b (putLocal b (putLocal b (putLocal b t 7 unsetValue) 6 unsetValue) 5 unsetValue) 4 unsetValue) 3 unsetValue) 2 unsetValue
+
+pub initial-value : (s : Slot) → initialValue s ≡ initialOf (s .type)
+unfolding initialValue initialOf pick
+initial-value s = go (eqb (s .type) 1)
+  where
+    go : (u : Bool) → _≡_ {A = Value} (elim u as (λ _. Value) [ true ↦ intValue 0 | false ↦ nullValue ]) (pick u (intValue 0) nullValue)
+    go true = refl
+    go false = refl

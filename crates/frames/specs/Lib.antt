@@ -1,0 +1,2 @@
+-- What rows of new frames and objects hold.
+pub mod Initial

@@ -1,0 +1,195 @@
+// Cells of frames and objects, read and written totally. A frame's row begins at cell b; a value is a kind and 32 bits.
+ghost use mathlib.Core.Path.{_≡_};
+ghost use Prim.Native.Nat.{_+_, _*_, _<_, _≤_};
+ghost use lib.ListN.{getD, set};
+ghost use Rattle.definition.specs.Machine.{entryFrame};
+ghost use Rattle.definition.specs.Tables.{valueOf, valueAt, putCells, operandAt, putOperand, localAt, putLocal, fieldAt, putField, putHead, putFrame, putObject, frameBase};
+ghost use Rattle.layout.specs.Cells.{moved};
+ghost use Rattle.frames.specs.Initial.{initialOf, initialObject, putUnset};
+
+// A value's two cells.
+pub struct Cell {
+    pub kind: u32,
+    pub bits: u32,
+}
+
+// Reading
+
+fn pair(t: &[u32], i: usize) -> Cell
+    requires { ⌜ i < 1099511627776 ⌝ }
+    ensures { λ r. ⌜ valueOf (r .kind) (r .bits) ≡ valueAt (now (t .entry)) i ⌝ }
+{
+    Cell {
+        kind: cells::at32(t, i),
+        bits: cells::at32(t, i + 1),
+    }
+}
+
+// The i-th operand from the lowest.
+pub fn operand(frames: &[u32], b: u32, i: u32) -> Cell
+    ensures { λ r. ⌜ valueOf (r .kind) (r .bits) ≡ operandAt (now (frames .entry)) b i ⌝ }
+{
+    pair(frames, cells::wide32(b) + (20 + 2 * cells::wide32(i)))
+}
+
+pub fn local(frames: &[u32], b: u32, j: u8) -> Cell
+    ensures { λ r. ⌜ valueOf (r .kind) (r .bits) ≡ localAt (now (frames .entry)) b j ⌝ }
+{
+    pair(frames, cells::wide32(b) + (4 + 2 * cells::wide8(j)))
+}
+
+// Field j of object o.
+pub fn field(objects: &[u32], o: u32, j: u8) -> Cell
+    ensures { λ r. ⌜ valueOf (r .kind) (r .bits) ≡ fieldAt (now (objects .entry)) o j ⌝ }
+{
+    pair(objects, cells::wide32(o) * 33 + (1 + 2 * cells::wide8(j)))
+}
+
+// The class of object o.
+pub fn object_class(objects: &[u32], o: u32) -> u32
+    ensures { λ r. ⌜ r ≡ getD (now (objects .entry)) (o * 33) 0 ⌝ }
+{
+    cells::at32(objects, cells::wide32(o) * 33)
+}
+
+// A frame's class, its method's place in that class, its point and its operand count.
+pub fn frame_class(frames: &[u32], b: u32) -> u32
+    ensures { λ r. ⌜ r ≡ getD (now (frames .entry)) b 0 ⌝ }
+{
+    cells::at32(frames, cells::wide32(b))
+}
+
+pub fn frame_method(frames: &[u32], b: u32) -> u32
+    ensures { λ r. ⌜ r ≡ getD (now (frames .entry)) (b + 1) 0 ⌝ }
+{
+    cells::at32(frames, cells::wide32(b) + 1)
+}
+
+pub fn point(frames: &[u32], b: u32) -> u32
+    ensures { λ r. ⌜ r ≡ getD (now (frames .entry)) (b + 2) 0 ⌝ }
+{
+    cells::at32(frames, cells::wide32(b) + 2)
+}
+
+pub fn depth(frames: &[u32], b: u32) -> u32
+    ensures { λ r. ⌜ r ≡ getD (now (frames .entry)) (b + 3) 0 ⌝ }
+{
+    cells::at32(frames, cells::wide32(b) + 3)
+}
+
+// Where row m of a task begins.
+pub fn row(task: u8, m: u16) -> u32
+    ensures { λ r. ⌜ r ≡ frameBase task m ⌝ }
+{
+    (cells::from16(cells::from8(task)) * 32 + cells::from16(m)) * 52
+}
+
+// Writing
+
+fn write_pair(t: &mut [u32], i: usize, kind: u32, bits: u32)
+    requires { ⌜ i < 1099511627776 ⌝ }
+    ensures { λ _. ⌜ now (t .exit) ≡ putCells (now (t .entry)) i kind bits ⌝ }
+{
+    cells::put32(t, i, kind);
+    cells::put32(t, i + 1, bits);
+}
+
+// The point and the operand count.
+pub fn write_moved(frames: &mut [u32], b: u32, p: u32, d: u32)
+    ensures { λ _. ⌜ now (frames .exit) ≡ moved (now (frames .entry)) b p d ⌝ }
+{
+    cells::put32(frames, cells::wide32(b) + 2, p);
+    cells::put32(frames, cells::wide32(b) + 3, d);
+}
+
+// The operand count alone.
+pub fn write_depth(frames: &mut [u32], b: u32, d: u32)
+    ensures { λ _. ⌜ now (frames .exit) ≡ set (now (frames .entry)) (b + 3) d ⌝ }
+{
+    cells::put32(frames, cells::wide32(b) + 3, d);
+}
+
+pub fn write_operand(frames: &mut [u32], b: u32, i: u32, kind: u32, bits: u32)
+    ensures { λ _. ⌜ now (frames .exit) ≡ putOperand b (now (frames .entry)) i (valueOf kind bits) ⌝ }
+{
+    write_pair(
+        frames,
+        cells::wide32(b) + (20 + 2 * cells::wide32(i)),
+        kind,
+        bits,
+    );
+}
+
+pub fn write_local(frames: &mut [u32], b: u32, j: u8, kind: u32, bits: u32)
+    ensures { λ _. ⌜ now (frames .exit) ≡ putLocal b (now (frames .entry)) j (valueOf kind bits) ⌝ }
+{
+    write_pair(
+        frames,
+        cells::wide32(b) + (4 + 2 * cells::wide8(j)),
+        kind,
+        bits,
+    );
+}
+
+pub fn write_field(objects: &mut [u32], o: u32, j: u8, kind: u32, bits: u32)
+    ensures { λ _. ⌜ now (objects .exit) ≡ putField o (now (objects .entry)) j (valueOf kind bits) ⌝ }
+{
+    write_pair(
+        objects,
+        cells::wide32(o) * 33 + (1 + 2 * cells::wide8(j)),
+        kind,
+        bits,
+    );
+}
+
+fn write_head(frames: &mut [u32], b: u32, c: u32, j: u32)
+    ensures { λ _. ⌜ now (frames .exit) ≡ putHead (now (frames .entry)) b c j 0 0 ⌝ }
+{
+    cells::put32(frames, cells::wide32(b), c);
+    cells::put32(frames, cells::wide32(b) + 1, j);
+    write_moved(frames, b, 0, 0);
+}
+
+fn write_unset(frames: &mut [u32], b: u32)
+    ensures { λ _. ⌜ now (frames .exit) ≡ putUnset b (now (frames .entry)) ⌝ }
+{
+    write_local(frames, b, 7, 0, 0);
+    write_local(frames, b, 6, 0, 0);
+    write_local(frames, b, 5, 0, 0);
+    write_local(frames, b, 4, 0, 0);
+    write_local(frames, b, 3, 0, 0);
+    write_local(frames, b, 2, 0, 0);
+}
+
+// A frame entered: method j of class c, this is object o, the argument a kind and bits.
+pub fn write_entry(frames: &mut [u32], b: u32, c: u32, j: u32, o: u32, kind: u32, bits: u32)
+    ensures { λ _. ⌜ now (frames .exit) ≡ putFrame (now (frames .entry)) b (entryFrame c j o (valueOf kind bits)) ⌝ }
+{
+    write_head(frames, b, c, j);
+    write_unset(frames, b);
+    write_local(frames, b, 1, kind, bits);
+    write_local(frames, b, 0, 3, o);
+}
+
+// What a field of that type begins as: 0 for an int, null for a class name.
+fn write_initial(objects: &mut [u32], o: u32, j: u8, name: u16)
+    ensures { λ _. ⌜ now (objects .exit) ≡ putField o (now (objects .entry)) j (initialOf name) ⌝ }
+{
+    if name == 1 {
+        write_field(objects, o, j, 1, 0);
+    } else {
+        write_field(objects, o, j, 2, 0);
+    }
+}
+
+// A new object's row: its class, and what n fields of those types begin as.
+pub fn write_object(objects: &mut [u32], o: u32, c: u32, types: &[u16], n: u8)
+    ensures { λ _. ⌜ now (objects .exit) ≡ putObject (now (objects .entry)) o (initialObject c (now (types .entry)) n) ⌝ }
+{
+    cells::put32(objects, cells::wide32(o) * 33, c);
+    let mut i = n;
+    while 0 < i {
+        write_initial(objects, o, i - 1, cells::at16(types, cells::wide8(i - 1)));
+        i -= 1;
+    }
+}

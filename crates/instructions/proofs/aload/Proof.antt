@@ -1,0 +1,42 @@
+-- `instructions::aload` meets its contract.
+use mathlib.Core.Path.{sym, _∙_}
+use native.Mathlib.Omega.{arith}
+use borrow.Author.Needs.{needs}
+use borrow.Author.Tests.{not-true, not-false}
+use Rattle.instructions.specs.Operands.{room-full, room-free, take-past, take-at, reference-is, reference-not}
+use Rattle.instructions.specs.Plans.{meaning}
+use Rattle.definition.specs.Answers.{_>>=_}
+use Rattle.definition.specs.Machine.{execute}
+use Rattle.definition.specs.Tables.{frameOf}
+use Rattle.instructions.proofs.aload.Statement.{statement}
+use Rattle.instructions.proofs.aload.Tie as tie
+
+returns : tie.Need-returns
+unfolding meaning execute _>>=_ frameOf
+returns c = record { says = λ w os fs k p n. rw (c .refuse .ensures, room-full _ _ (c .before .if1 .taken)); fits = λ few B t k m. rw (c .refuse .ensures) tt }
+
+returns-2 : tie.Need-returns-2
+unfolding meaning execute _>>=_ frameOf
+returns-2 c = record { says = λ w os fs k p n. rw (c .refuse2 .ensures, room-free _ _ (c .before .before .if1 .left), take-past _ _ _ _ (c .before .if2 .taken)); fits = λ few B t k m. rw (c .refuse2 .ensures) tt }
+
+returns-3 : tie.Need-returns-3
+unfolding meaning execute _>>=_ frameOf
+returns-3 c = record { says = λ w os fs k p n. rw (c .refuse3 .ensures, room-free _ _ (c .before .before .before .before .before .if1 .left), take-at _ _ _ _ (c .before .before .before .before .if2 .left), ← c .before .before .before .local .ensures, reference-not _ _ (sym (c .before .before .is-reference .ensures) ∙ not-true _ (c .before .if3 .taken))); fits = λ few B t k m. rw (c .refuse3 .ensures) tt }
+
+returns-4 : tie.Need-returns-4
+unfolding meaning execute _>>=_ frameOf
+returns-4 c = record { says = λ w os fs k p n. rw (room-free _ _ (c .before .before .before .before .if1 .left), take-at _ _ _ _ (c .before .before .before .if2 .left), ← c .before .before .local .ensures, reference-is _ _ (sym (c .before .is-reference .ensures) ∙ not-false _ (c .if3 .left))); fits = λ few B t k m. omega arith }
+
+pub aload-spec : {M : Type 1} → statement M
+aload-spec =
+    tie.close
+    (tie.spec
+    (λ c κs. search needs)
+    returns
+    (λ c κs. search needs)
+    returns-2
+    (λ c κs. search needs)
+    (λ c κs. search needs)
+    (λ c κs. search needs)
+    returns-3
+    returns-4)

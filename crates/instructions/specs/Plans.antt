@@ -1,0 +1,72 @@
+-- What a step is going to do, as a plan of numbers, and what a plan means in rows. A plan speaks of the frame whose row begins at cell b and goes
+-- on at point q; fs are the frames below it. An instruction's function answers a plan whose meaning is what the machine does.
+use mathlib.Core.Path.{_≡_}
+use mathlib.Core.Option.{Option, none, some}
+use mathlib.Core.List.{List, [], _∷_, _++_}
+use Prim.Native.Nat.{ℕ, suc, _+_, _*_, _-_, _<_, _≤_}
+use lib.ListN.{length, getD, set}
+use Rattle.definition.specs.Lists.{rows, stack}
+use Rattle.definition.specs.Classes.{Base, Class}
+use Rattle.definition.specs.Constraints.{Tie, World, posted}
+use Rattle.definition.specs.declared.Instruction.{Instruction}
+use Rattle.definition.specs.Instructions.{Decoded}
+use Rattle.definition.specs.declared.Refusal.the-variants.{Word}
+use Rattle.definition.specs.Answers.{Result, refused, ok, _>>=_, take?}
+use Rattle.definition.specs.Machine.{Value, intValue, objectValue, Object, Frame, existing, newObject, entryFrame, Progress, give, execute}
+use Rattle.definition.specs.Tables.{Tables, valueOf, operandAt, localAt, frame, frameOf, frameAt, frameBase, frameIn, sizeOf, usedFields, objectAt}
+use Rattle.layout.specs.Cells.{frameWith, withField}
+pub use Rattle.instructions.specs.declared.Plan.{Plan}
+pub use Rattle.instructions.specs.declared.Plan.the-variants.{Refuse, Keep, Above, Local, Give, Finish, Field, Enter, Make}
+
+abbrev pub decoded : Instruction → ℕ → Decoded
+decoded i n = record { instruction = i; size = n }
+
+-- the frame with d of its operands and a value above them
+abbrev pub withAbove : List ℕ → ℕ → ℕ → ℕ → Value → Frame
+withAbove F b q d v = frameWith F b q (v ∷ stack (operandAt F b) d) (rows (localAt F b) 8 0)
+
+-- the frame with d of its operands and a local set
+abbrev pub withLocal : List ℕ → ℕ → ℕ → ℕ → ℕ → Value → Frame
+withLocal F b q d j v = frameWith F b q (stack (operandAt F b) d) (set (rows (localAt F b) 8 0) j v)
+
+module _ (w : World) (os : List Object) (fs : List Frame) (F : List ℕ) (b q : ℕ) where
+  abbrev leaves : List Object → List Frame → Result Progress
+  leaves xs gs = ok (record { world = w; objects = xs; frames = gs; result = none })
+
+  unfoldable pub meaning : Plan → Result Progress
+  meaning (Refuse r) = refused r
+  meaning (Keep d) = leaves os (frameOf F b q d ∷ fs)
+  meaning (Above d k v) = leaves os (withAbove F b q d (valueOf k v) ∷ fs)
+  meaning (Local d j k v) = leaves os (withLocal F b q d j (valueOf k v) ∷ fs)
+  meaning (Give k v) = give fs w os (valueOf k v)
+  meaning (Finish v) = ok (record { world = w; objects = os; frames = []; result = some v })
+  meaning (Field d o j k v) = take? (existing os o) (Word 14) >>= λ x. leaves (set os o (withField x j (valueOf k v))) (frameOf F b q d ∷ fs)
+  meaning (Enter d c j o k v) = leaves os (entryFrame c j o (valueOf k v) ∷ frameOf F b q d ∷ fs)
+  meaning (Make d c) = leaves (os ++ (newObject (w .base) c ∷ [])) (withAbove F b q d (objectValue (length os)) ∷ fs)
+
+-- What carrying a plan out asks, where task k of the tables has m frames below its top frame and B gives the classes' fields: operands, locals,
+-- fields, frames and objects that it writes have room
+abbrev pub Fit : Base → Tables → ℕ → ℕ → Plan → Type 0
+Fit B t k m (Refuse r) = Unit {0}
+Fit B t k m (Keep d) = Unit {0}
+Fit B t k m (Above d kind v) = d < 16
+Fit B t k m (Local d j kind v) = j < 8
+Fit B t k m (Give kind v) = (0 < m) × (getD (t .frames) (frameBase k (m - 1) + 3) 0 < 16)
+Fit B t k m (Finish v) = m ≡ 0
+Fit B t k m (Field d o j kind v) = (o < getD (t .counts) 5 0) × (j < usedFields B (objectAt B (t .objects) o .class))
+Fit B t k m (Enter d c j o kind v) = suc m < 32
+Fit B t k m (Make d c) = (d < 16) × (getD (t .counts) 5 0 < 256) × (sizeOf B c ≤ 16)
+
+-- The plan r is right for the instruction i of a frame with d operands, whatever world, objects, frames below, class, point and size there are
+
+pub record FrameOnly (F : List ℕ) (b d : ℕ) (i : Instruction) (r : Plan) : Type 0 where
+  pub says : (w : World) (os : List Object) (fs : List Frame) (k : Class) (p n : ℕ)
+      → meaning w os fs F b (p + n) r ≡ execute w os (frameOf F b p d) fs k (decoded i n) i
+  pub fits : d ≤ 16 → (B : Base) (t : Tables) (k m : ℕ) → Fit B t k m r
+
+-- and of a return, where the frames below are the m lowest of task k
+
+pub record Returning (F : List ℕ) (k m b d : ℕ) (i : Instruction) (r : Plan) : Type 0 where
+  pub says : (w : World) (os : List Object) (c : Class) (p n : ℕ)
+      → meaning w os (stack (frameIn F k) m) F b (p + n) r ≡ execute w os (frameOf F b p d) (stack (frameIn F k) m) c (decoded i n) i
+  pub fits : (B : Base) (t : Tables) → t .frames ≡ F → Fit B t k m r
