@@ -478,3 +478,9 @@ pub fn run(counts: &mut [u16], classes: &[u16], kept: &[u8], cache: &[u16], ties
     }
     steps(counts, classes, kept, cache, ties, subtypes, objects, frames, n as u16)
 }
+
+// What a start decides: a refusal, or an object's class, and the class and the place of the first frame's method.
+enum Opening {
+    Deny(Refusal),
+    First(u32, u32, u32),
+}
