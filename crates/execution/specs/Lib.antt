@@ -5,3 +5,5 @@ pub mod Agreeing
 pub mod Decisions
 pub mod Steps
 pub mod Turns
+pub mod Runs
+pub mod Starts

@@ -73,7 +73,7 @@ module _ (t : Tables) (h : broken t ≡ false) where
   unfolding stepTables wrap
   unwrapped = rw (h, wrap)
 
-  same-world : worldOf (view t) ≡ worldIn (quickOf t) t
+  pub same-world : worldOf (view t) ≡ worldIn (quickOf t) t
   unfolding view viewOver
   same-world = rw (quick-base t h)
 

@@ -1,0 +1,82 @@
+-- A run, step by step: it stops at the first answer other than ran, or when its steps are used up.
+use mathlib.Core.Path.{_≡_, refl, sym, ap, _∙_}
+use mathlib.Core.Bool.{Bool, true, false, false≢true, true≢false, _&&_}
+use mathlib.Core.Logic.{_≢_}
+use Prim.Native.Nat.{ℕ, zero, suc, _+_, _-_, _<_, _≤_}
+use native.Mathlib.Omega.{arith}
+use native.Mathlib.Numerals.{add-one}
+use lib.Dec.{leb}
+use borrow.Author.Tests.{le-leb, lt-leb}
+use Rattle.definition.specs.declared.Answer.{Answer}
+use Rattle.definition.specs.declared.Answer.the-variants.{Idle, Ran, Finished, Refused}
+use Rattle.definition.specs.declared.Reply.{Reply}
+use Rattle.definition.specs.declared.Reply.the-variants.{RanFor, Denied}
+use Rattle.definition.specs.declared.Refusal.the-variants.{Word}
+use Rattle.definition.specs.Tables.{Tables}
+use Rattle.definition.specs.Broken.{broken}
+use Rattle.definition.specs.Calls.{Done, done, stepTables, goOn, runFrom, run}
+use Rattle.unbroken.specs.Unbroken.{step-unbroken}
+
+-- a run goes on after this answer
+abbrev pub goesOn : Answer → Bool
+goesOn Idle = false
+goesOn (Ran k) = true
+goesOn (Finished k n) = false
+goesOn (Refused w) = false
+
+-- of n steps k ran, the last answer was a, and the tables are t
+module _ (n k : ℕ) (a b : Answer) (t u : Tables) (steps : done b u ≡ stepTables t) where
+  one-more : k < n → runFrom stepTables (n - k) k a t ≡ goOn (runFrom stepTables (n - (k + 1))) k b u
+  unfolding runFrom
+  one-more l =
+      let e : n - k ≡ suc (n - (k + 1)) = omega arith in
+      ap (λ (z : ℕ). runFrom stepTables z k a t) e ∙ (λ i. goOn (runFrom stepTables (n - (k + 1))) k (sym steps i .answer) (sym steps i .tables))
+
+  pub run-stops : k < n → goesOn b ≡ false → done (RanFor k b) u ≡ runFrom stepTables (n - k) k a t
+  run-stops l h = sym (one-more l ∙ go b h)
+    where
+      go : (b : Answer) → goesOn b ≡ false → goOn (runFrom stepTables (n - (k + 1))) k b u ≡ done (RanFor k b) u
+      go Idle e = refl
+      go (Ran j) e = absurd (true≢false e)
+      go (Finished j v) e = refl
+      go (Refused w) e = refl
+
+  pub run-on : k < n → goesOn b ≡ true → runFrom stepTables (n - (k + 1)) (k + 1) b u ≡ runFrom stepTables (n - k) k a t
+  run-on l h = sym (one-more l ∙ go b h)
+    where
+      go : (b : Answer) → goesOn b ≡ true → goOn (runFrom stepTables (n - (k + 1))) k b u ≡ runFrom stepTables (n - (k + 1)) (k + 1) b u
+      go Idle e = absurd (false≢true e)
+      go (Ran j) e = rw (add-one k)
+      go (Finished j v) e = absurd (false≢true e)
+      go (Refused w) e = absurd (false≢true e)
+
+  -- a store that is not broken stays so
+  pub still-whole : broken t ≡ false → broken u ≡ false
+  still-whole h = rw (← ap (λ (d : Done Answer). d .tables) steps) at (step-unbroken t h)
+
+pub run-ends : (n k : ℕ) (a : Answer) (t : Tables) → n ≤ k → done (RanFor k a) t ≡ runFrom stepTables (n - k) k a t
+unfolding runFrom
+run-ends n k a t l = let e : n - k ≡ 0 = omega arith in rw e
+
+pub run-begins : (n : ℕ) (t : Tables) → runFrom stepTables (n - 0) 0 Idle t ≡ runFrom stepTables n 0 Idle t
+run-begins n t = let e : n - 0 ≡ n = omega arith in rw e
+
+-- Run
+
+module _ (n : ℕ) (t : Tables) where
+  pub run-broken : broken t ≡ true → done (Denied (Word 1)) t ≡ run n t
+  unfolding run
+  run-broken h = rw (h, run)
+
+  module _ (whole : broken t ≡ false) where
+    pub run-none : n ≡ 0 → done (Denied (Word 3)) t ≡ run n t
+    unfolding run
+    run-none e = rw (whole, run, e)
+
+    pub run-many : 65535 < n → done (Denied (Word 3)) t ≡ run n t
+    unfolding run
+    run-many e = rw (whole, run, le-leb 1 n (omega arith), lt-leb n 65535 e)
+
+    pub run-some : n ≢ 0 → n ≤ 65535 → (d : Done Reply) → d ≡ runFrom stepTables n 0 Idle t → d ≡ run n t
+    unfolding run
+    run-some e l d h = h ∙ rw (whole, run, le-leb 1 n (omega arith), le-leb n 65535 l)

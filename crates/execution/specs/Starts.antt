@@ -1,0 +1,183 @@
+-- The start of a task: what is decided on it, and what it writes.
+use mathlib.Core.Path.{_≡_, refl, sym, ap, _∙_}
+use mathlib.Core.Bool.{Bool, true, false, _&&_}
+use mathlib.Core.Option.{Option, none, some}
+use mathlib.Core.List.{List, [], _∷_, _++_}
+use mathlib.Core.Logic.{_≢_}
+use Prim.Native.Nat.{ℕ, zero, suc, _+_, _<_, _≤_}
+use native.Mathlib.Omega.{arith}
+use lib.ListN.{length, getD, set}
+use lib.Dec.{leb, ltb}
+use borrow.Author.Tests.{lt-ltb, le-ltb, le-leb, lt-leb}
+use Rattle.definition.specs.Lists.{indexOf, stack}
+use Rattle.definition.specs.Requests.{at}
+use Rattle.definition.specs.Superclasses.{nearest}
+use Rattle.definition.specs.Classes.{Base, find, superOf, alike, methodsOf, hasMethod}
+use Rattle.definition.specs.Constraints.{World}
+use Rattle.definition.specs.declared.Refusal.{Refusal}
+use Rattle.definition.specs.declared.Refusal.the-variants.{Wanted, Word}
+use Rattle.definition.specs.declared.Reply.{Reply}
+use Rattle.definition.specs.declared.Reply.the-variants.{Accepted, Denied}
+use Rattle.definition.specs.Answers.{Result, refused, ok, _>>=_, need, take?}
+use Rattle.definition.specs.Machine.{intValue, Object, Frame, newObject, entryFrame, Progress}
+use Rattle.definition.specs.Loading.{started}
+use Rattle.definition.specs.Tables.{Tables, tables, Rows, putObject, putFrame, frameBase, frameIn, worldOf, objectsOf, framesOf, viewOver, view}
+use Rattle.definition.specs.Broken.{broken}
+use Rattle.definition.specs.Calls.{Given, given, progressed, framesIn, startRows, done, carried, wrap, callStart, perform}
+use Rattle.layout.specs.Places.{stack-length}
+use Rattle.layout.specs.View.{countAt, objects-fill, object-made, quiet-writes, first-entered}
+use Rattle.resolution.specs.Quick.{quickBase, quickOf}
+use Rattle.resolution.specs.Unbroken.{quick-rows}
+use Rattle.access.specs.Accesses.{worldIn}
+use Rattle.execution.specs.Turns.{same-world}
+pub use Rattle.execution.specs.declared.Opening.{Opening}
+pub use Rattle.execution.specs.declared.Opening.the-variants.{Deny, First}
+
+-- an answer's meaning: a refusal, or an object of class c and a first frame in method j of class s
+unfoldable pub openedAs : World → List Object → ℕ → Opening → Result Progress
+openedAs w os v (Deny r) = refused r
+openedAs w os v (First c s j) =
+    ok (record { world = w; objects = os ++ (newObject (w .base) c ∷ []); frames = entryFrame s j (length os) (intValue v) ∷ []; result = none })
+
+-- what carrying it out asks
+abbrev pub OpeningFits : List ℕ → Base → ℕ → ℕ → ℕ → Opening → Type 0
+OpeningFits N B k l n (Deny r) = Unit {0}
+OpeningFits N B k l n (First c s j) = (k < 2) × (getD N 5 0 < 256) × (find (B .cache) (at l n) ≡ some c)
+
+-- The answer r is right for a start of task k in method m of class n under loader l, whatever constraints, objects and frames there are
+
+pub record Opened (N L K E : List ℕ) (k l n m : ℕ) (r : Opening) : Type 0 where
+  pub says : (I S O F : List ℕ) (v : ℕ)
+      → (let B = quickBase N L K E in let t = tables N L K E I S O F in
+      openedAs (worldIn B t) (objectsOf B t) v r
+      ≡ (need (ltb k 2) (Word 3) >>= λ _. started l n m v (worldIn B t) (objectsOf B t) (framesIn k (viewOver B t))))
+  pub fits : OpeningFits N (quickBase N L K E) k l n r
+
+-- how many frames a task has
+frames-count : (B : Base) (t : Tables) (k : ℕ) → k < 2 → length (framesIn k (viewOver B t)) ≡ countAt t (6 + k)
+unfolding viewOver framesOf
+frames-count B t zero h = stack-length (frameIn (t .frames) 0) (countAt t 6)
+frames-count B t (suc zero) h = stack-length (frameIn (t .frames) 1) (countAt t 7)
+frames-count B t (suc (suc k)) h = absurd (omega arith)
+
+-- The cases, in order
+
+module _ (N L K E : List ℕ) (k l n m : ℕ) where
+  abbrev B : Base
+  B = quickBase N L K E
+
+  pub open-no-task : 2 ≤ k → Opened N L K E k l n m (Deny (Word 3))
+  unfolding openedAs need _>>=_
+  open-no-task h = record { says = λ I S O F v. rw (le-ltb k 2 h); fits = tt }
+
+  module _ (two : k < 2) where
+    pub open-unknown : (ltb l 16 && leb 2 n && leb 1 m) ≡ false → Opened N L K E k l n m (Deny (Word 3))
+    unfolding openedAs need _>>=_ started
+    open-unknown h = record { says = λ I S O F v. rw (lt-ltb k 2 two, h); fits = tt }
+
+    module _ (known : (ltb l 16 && leb 2 n && leb 1 m) ≡ true) where
+      pub open-busy : getD N (6 + k) 0 ≢ 0 → Opened N L K E k l n m (Deny (Word 12))
+      unfolding openedAs need _>>=_ started
+      open-busy h = record {
+        says = λ I S O F v. rw (lt-ltb k 2 two, known, frames-count B (tables N L K E I S O F) k two, lt-leb (getD N (6 + k) 0) 0 (omega arith));
+        fits = tt;
+      }
+
+      module _ (free : getD N (6 + k) 0 ≡ 0) where
+        pub open-wanted : find (B .cache) (at l n) ≡ none → Opened N L K E k l n m (Deny (Wanted l n))
+        unfolding openedAs need _>>=_ take? started
+        open-wanted h = record { says = λ I S O F v. rw (lt-ltb k 2 two, known, frames-count B (tables N L K E I S O F) k two, free, h); fits = tt }
+
+        module _ (c : ℕ) (there : find (B .cache) (at l n) ≡ some c) where
+          pub open-absent : nearest (superOf B) (hasMethod B m 1 1) c ≡ none → Opened N L K E k l n m (Deny (Word 7))
+          unfolding openedAs need _>>=_ take? started
+          open-absent h = record { says = λ I S O F v. rw (lt-ltb k 2 two, known, frames-count B (tables N L K E I S O F) k two, free, there, h); fits = tt }
+
+          module _ (s : ℕ) (declares : nearest (superOf B) (hasMethod B m 1 1) c ≡ some s) where
+            pub open-missing : indexOf (alike m 1 1) (methodsOf B s) ≡ none → Opened N L K E k l n m (Deny (Word 7))
+            unfolding openedAs need _>>=_ take? started
+            open-missing h = record { says = λ I S O F v. rw (lt-ltb k 2 two, known, frames-count B (tables N L K E I S O F) k two, free, there, declares, h); fits = tt }
+
+            module _ (j : ℕ) (place : indexOf (alike m 1 1) (methodsOf B s) ≡ some j) where
+              pub open-full : 256 ≤ getD N 5 0 → Opened N L K E k l n m (Deny (Word 10))
+              unfolding openedAs need _>>=_ take? started
+              open-full h = record {
+                says = λ I S O F v.
+                    rw (
+                      lt-ltb k 2 two,
+                      known,
+                      frames-count B (tables N L K E I S O F) k two,
+                      free,
+                      there,
+                      declares,
+                      place,
+                      objects-fill (tables N L K E I S O F) B .count,
+                      le-ltb (getD N 5 0) 256 h,
+                    );
+                fits = tt;
+              }
+
+              pub open-first : getD N 5 0 < 256 → Opened N L K E k l n m (First c s j)
+              unfolding openedAs need _>>=_ take? started
+              open-first h = record {
+                says = λ I S O F v.
+                    rw (
+                      lt-ltb k 2 two,
+                      known,
+                      frames-count B (tables N L K E I S O F) k two,
+                      free,
+                      there,
+                      declares,
+                      place,
+                      objects-fill (tables N L K E I S O F) B .count,
+                      lt-ltb (getD N 5 0) 256 h,
+                    );
+                fits = (two, h, there);
+              }
+
+-- On tables
+
+sequence : (k l n m v : ℕ) (r : Rows)
+    → startRows k l n m v r
+    ≡ ((need (ltb k 2) (Word 3) >>= λ _. started l n m v (worldOf r) (r .objects) (framesIn k r)) >>= λ o. given Accepted (progressed k r o))
+unfolding startRows
+sequence k l n m v r = go (ltb k 2)
+  where
+    go : (u : Bool)
+        → _≡_ {A = Result (Given Reply)} (need u (Word 3) >>= λ _. started l n m v (worldOf r) (r .objects) (framesIn k r) >>= λ o. given Accepted (progressed k r o))
+        ((need u (Word 3) >>= λ _. started l n m v (worldOf r) (r .objects) (framesIn k r)) >>= λ o. given Accepted (progressed k r o))
+    go true = unfold need _>>=_ in refl
+    go false = unfold need _>>=_ in refl
+
+pub start-broken : (k l n m v : ℕ) (t : Tables) → broken t ≡ true → done (Denied (Word 1)) t ≡ perform (callStart k l n m v) t
+unfolding perform wrap
+start-broken k l n m v t h = rw (h, wrap)
+
+module _ (N L K E I S O F : List ℕ) (whole : broken (tables N L K E I S O F) ≡ false) (k l n m v : ℕ) (r : Opening) (opened : Opened N L K E k l n m r) where
+  abbrev T : Tables
+  T = tables N L K E I S O F
+
+  abbrev base : Base
+  base = quickBase N L K E
+
+  starts : perform (callStart k l n m v) T ≡ carried Denied T (openedAs (worldIn base T) (objectsOf base T) v r >>= λ o. given Accepted (progressed k (viewOver base T) o))
+  unfolding perform wrap
+  starts =
+      rw (whole, wrap)
+      (ap (carried Denied T)
+      (sequence k l n m v (view T)
+      ∙ ((λ i. (need (ltb k 2) (Word 3) >>= λ _. started l n m v (same-world T whole i) (sym (quick-rows T whole) i .objects) (framesIn k (sym (quick-rows T whole) i)))
+      >>= λ o. given Accepted (progressed k (sym (quick-rows T whole) i) o))
+      ∙ ap (λ (x : Result Progress). x >>= λ o. given Accepted (progressed k (viewOver base T) o)) (unfold viewOver in sym (opened .says I S O F v)))))
+
+  pub start-denied : (w : Refusal) → r ≡ Deny w → done (Denied w) T ≡ perform (callStart k l n m v) T
+  start-denied w e = sym (starts ∙ (unfold openedAs _>>=_ carried in rw e))
+
+  pub start-first : (c s j : ℕ) (C P G : List ℕ) → r ≡ First c s j → C ≡ set (set N 5 (getD N 5 0 + 1)) (6 + k) 1 → P ≡ putObject O (getD N 5 0) (newObject base c)
+      → G ≡ putFrame F (frameBase k 0) (entryFrame s j (getD N 5 0) (intValue v)) → done Accepted (tables C L K E I S P G) ≡ perform (callStart k l n m v) T
+  unfolding openedAs _>>=_ carried
+  start-first c s j C P G e x y z =
+      let f : (k < 2) × (getD N 5 0 < 256) × (find (base .cache) (at l n) ≡ some c) = rw e at (opened .fits) in
+      sym (starts ∙ (rw (e, objects-fill T base .count, x, y, z) (ap (done Accepted) (
+      quiet-writes base T k _ (getD N 5 0 + 1) 1 (putObject O (getD N 5 0) (newObject base c)) (putFrame F (frameBase k 0) (entryFrame s j (getD N 5 0) (intValue v))) (f .0) refl
+      (object-made T base (newObject base c)) (first-entered T k (entryFrame s j (getD N 5 0) (intValue v)) (omega arith) (omega arith))))))
