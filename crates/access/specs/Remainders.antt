@@ -13,7 +13,7 @@ use Rattle.definition.specs.Superclasses.{nearest, below}
 use Rattle.definition.specs.Classes.{Base, superOf, slots, slotIs, hasField, alike, methodsOf, hasMethod}
 use Rattle.definition.specs.declared.Refusal.the-variants.{Word}
 use Rattle.definition.specs.Answers.{refused, ok, _>>=_, take?}
-use Rattle.definition.specs.Machine.{object!}
+use Rattle.definition.specs.Machine.{object! }
 use Rattle.definition.specs.Tables.{Tables, tables, valueOf, objectAt, fieldAt, operandAt, usedFields, frameOf, objectsOf}
 use Rattle.layout.specs.Cells.{used-few, object-field-past}
 use Rattle.layout.specs.Places.{set-there}

@@ -39,7 +39,16 @@ fn no_object(kind: u32, bits: u32) -> u8
 }
 
 // A receiver must be an object that exists, of class e or below it.
-fn received(counts: &[u16], classes: &[u16], kept: &[u8], cache: &[u16], objects: &[u32], e: u32, kind: u32, bits: u32) -> Receiver
+fn received(
+    counts: &[u16],
+    classes: &[u16],
+    kept: &[u8],
+    cache: &[u16],
+    objects: &[u32],
+    e: u32,
+    kind: u32,
+    bits: u32,
+) -> Receiver
     ensures { λ r. ⌜ ((I S F : List ℕ) → Received (quickBase (now (counts .entry)) (now (classes .entry)) (now (kept .entry)) (now (cache .entry))) (tables (now (counts .entry)) (now (classes .entry)) (now (kept .entry)) (now (cache .entry)) I S (now (objects .entry)) F) e kind bits r) ⌝ }
 {
     if kind != 3 {
@@ -48,14 +57,34 @@ fn received(counts: &[u16], classes: &[u16], kept: &[u8], cache: &[u16], objects
     if cells::from16(cells::at16(counts, 5)) <= bits {
         return Receiver::Wrong(14);
     }
-    if !resolution::is_below(counts, classes, kept, cache, frames::object_class(objects, bits), e) {
+    if !resolution::is_below(
+        counts,
+        classes,
+        kept,
+        cache,
+        frames::object_class(objects, bits),
+        e,
+    ) {
         return Receiver::Wrong(14);
     }
     Receiver::Right(bits)
 }
 
 // getfield, once class s is found to declare the field: the value of an object's field takes the object's place.
-fn read_field(counts: &[u16], classes: &[u16], kept: &[u8], cache: &[u16], objects: &[u32], frames: &[u32], b: u32, d: u32, e: u32, s: u32, name: u16, of: u16) -> Plan
+fn read_field(
+    counts: &[u16],
+    classes: &[u16],
+    kept: &[u8],
+    cache: &[u16],
+    objects: &[u32],
+    frames: &[u32],
+    b: u32,
+    d: u32,
+    e: u32,
+    s: u32,
+    name: u16,
+    of: u16,
+) -> Plan
     requires { ⌜ (let B = quickBase (now counts) (now classes) (now kept) (now cache) in nearest (superOf B) (hasField B name of) e ≡ some s) ⌝ }
     ensures { λ r. ⌜ Rest (now (counts .entry)) (now (classes .entry)) (now (kept .entry)) (now (cache .entry)) (now (objects .entry)) (now (frames .entry)) b d unlimited (λ B os f fs i. readField B os f fs i e s name of) r ⌝ }
 {
@@ -80,7 +109,20 @@ fn read_field(counts: &[u16], classes: &[u16], kept: &[u8], cache: &[u16], objec
 }
 
 // putfield, once class s is found to declare the field: the value above the object goes into the object's field.
-fn set_field(counts: &[u16], classes: &[u16], kept: &[u8], cache: &[u16], objects: &[u32], frames: &[u32], b: u32, d: u32, e: u32, s: u32, name: u16, of: u16) -> Plan
+fn set_field(
+    counts: &[u16],
+    classes: &[u16],
+    kept: &[u8],
+    cache: &[u16],
+    objects: &[u32],
+    frames: &[u32],
+    b: u32,
+    d: u32,
+    e: u32,
+    s: u32,
+    name: u16,
+    of: u16,
+) -> Plan
     requires { ⌜ (let B = quickBase (now counts) (now classes) (now kept) (now cache) in nearest (superOf B) (hasField B name of) e ≡ some s) ⌝ }
     ensures { λ r. ⌜ Rest (now (counts .entry)) (now (classes .entry)) (now (kept .entry)) (now (cache .entry)) (now (objects .entry)) (now (frames .entry)) b d unlimited (λ B os f fs i. writeField B os f fs i e s name of) r ⌝ }
 {
@@ -112,7 +154,18 @@ fn set_field(counts: &[u16], classes: &[u16], kept: &[u8], cache: &[u16], object
 }
 
 // The class whose method is selected from class c; from class e it is class s.
-fn selected(counts: &[u16], classes: &[u16], kept: &[u8], cache: &[u16], c: u32, e: u32, s: u32, name: u16, argument: u16, result: u16) -> Found
+fn selected(
+    counts: &[u16],
+    classes: &[u16],
+    kept: &[u8],
+    cache: &[u16],
+    c: u32,
+    e: u32,
+    s: u32,
+    name: u16,
+    argument: u16,
+    result: u16,
+) -> Found
     requires { ⌜ (let B = quickBase (now counts) (now classes) (now kept) (now cache) in nearest (superOf B) (hasMethod B name argument result) e ≡ some s) ⌝ }
     ensures { λ r. ⌜ (let B = quickBase (now (counts .entry)) (now (classes .entry)) (now (kept .entry)) (now (cache .entry)) in r ≡ found (nearest (superOf B) (hasMethod B name argument result) c)) ⌝ }
 {
@@ -123,7 +176,21 @@ fn selected(counts: &[u16], classes: &[u16], kept: &[u8], cache: &[u16], c: u32,
 }
 
 // invokevirtual, once class s is found to declare the method: a frame is entered in the method selected from the object's own class.
-fn call_method(counts: &[u16], classes: &[u16], kept: &[u8], cache: &[u16], objects: &[u32], frames: &[u32], b: u32, d: u32, e: u32, s: u32, name: u16, argument: u16, result: u16) -> Plan
+fn call_method(
+    counts: &[u16],
+    classes: &[u16],
+    kept: &[u8],
+    cache: &[u16],
+    objects: &[u32],
+    frames: &[u32],
+    b: u32,
+    d: u32,
+    e: u32,
+    s: u32,
+    name: u16,
+    argument: u16,
+    result: u16,
+) -> Plan
     requires { ⌜ (let B = quickBase (now counts) (now classes) (now kept) (now cache) in nearest (superOf B) (hasMethod B name argument result) e ≡ some s) ⌝ }
     ensures { λ r. ⌜ Rest (now (counts .entry)) (now (classes .entry)) (now (kept .entry)) (now (cache .entry)) (now (objects .entry)) (now (frames .entry)) b d framesLeft (λ B os f fs i. callMethod B os f fs i e name argument result) r ⌝ }
 {
@@ -144,10 +211,29 @@ fn call_method(counts: &[u16], classes: &[u16], kept: &[u8], cache: &[u16], obje
         Receiver::Wrong(word) => instructions::refuse(word),
         Receiver::Right(o) => {
             let c = frames::object_class(objects, o);
-            let Found::At(a) = selected(counts, classes, kept, cache, c, e, s, name, argument, result) else {
+            let Found::At(a) = selected(
+                counts,
+                classes,
+                kept,
+                cache,
+                c,
+                e,
+                s,
+                name,
+                argument,
+                result,
+            ) else {
                 return instructions::refuse(14);
             };
-            let Found::At(j) = resolution::method_index(counts, classes, kept, a, name, argument, result) else {
+            let Found::At(j) = resolution::method_index(
+                counts,
+                classes,
+                kept,
+                a,
+                name,
+                argument,
+                result,
+            ) else {
                 return instructions::refuse(14);
             };
             Plan::Enter(top - 1, a, j, o, v.kind, v.bits)
@@ -157,7 +243,20 @@ fn call_method(counts: &[u16], classes: &[u16], kept: &[u8], cache: &[u16], obje
 
 // The instructions: `loader` is the frame class's, the names stand inline.
 
-pub fn getfield(counts: &[u16], classes: &[u16], kept: &[u8], cache: &[u16], objects: &[u32], frames: &[u32], b: u32, d: u32, loader: u8, class: u16, name: u16, of: u16) -> Access
+pub fn getfield(
+    counts: &[u16],
+    classes: &[u16],
+    kept: &[u8],
+    cache: &[u16],
+    objects: &[u32],
+    frames: &[u32],
+    b: u32,
+    d: u32,
+    loader: u8,
+    class: u16,
+    name: u16,
+    of: u16,
+) -> Access
     ensures { λ r. ⌜ Accessing (now (counts .entry)) (now (classes .entry)) (now (kept .entry)) (now (cache .entry)) (now (objects .entry)) (now (frames .entry)) b d loader always of 1 (Instruction.Getfield class name of) r ⌝ }
 {
     let Found::At(e) = resolution::find(counts, cache, cells::from8(loader), class) else {
@@ -167,10 +266,39 @@ pub fn getfield(counts: &[u16], classes: &[u16], kept: &[u8], cache: &[u16], obj
         return Access::Unresolved(Refusal::Word(7));
     };
     let one = resolution::loader_of(counts, classes, s);
-    Access::Resolved(one, read_field(counts, classes, kept, cache, objects, frames, b, d, e, s, name, of))
+    Access::Resolved(
+        one,
+        read_field(
+            counts,
+            classes,
+            kept,
+            cache,
+            objects,
+            frames,
+            b,
+            d,
+            e,
+            s,
+            name,
+            of,
+        ),
+    )
 }
 
-pub fn putfield(counts: &[u16], classes: &[u16], kept: &[u8], cache: &[u16], objects: &[u32], frames: &[u32], b: u32, d: u32, loader: u8, class: u16, name: u16, of: u16) -> Access
+pub fn putfield(
+    counts: &[u16],
+    classes: &[u16],
+    kept: &[u8],
+    cache: &[u16],
+    objects: &[u32],
+    frames: &[u32],
+    b: u32,
+    d: u32,
+    loader: u8,
+    class: u16,
+    name: u16,
+    of: u16,
+) -> Access
     ensures { λ r. ⌜ Accessing (now (counts .entry)) (now (classes .entry)) (now (kept .entry)) (now (cache .entry)) (now (objects .entry)) (now (frames .entry)) b d loader always of 1 (Instruction.Putfield class name of) r ⌝ }
 {
     let Found::At(e) = resolution::find(counts, cache, cells::from8(loader), class) else {
@@ -180,23 +308,90 @@ pub fn putfield(counts: &[u16], classes: &[u16], kept: &[u8], cache: &[u16], obj
         return Access::Unresolved(Refusal::Word(7));
     };
     let one = resolution::loader_of(counts, classes, s);
-    Access::Resolved(one, set_field(counts, classes, kept, cache, objects, frames, b, d, e, s, name, of))
+    Access::Resolved(
+        one,
+        set_field(
+            counts,
+            classes,
+            kept,
+            cache,
+            objects,
+            frames,
+            b,
+            d,
+            e,
+            s,
+            name,
+            of,
+        ),
+    )
 }
 
-pub fn invokevirtual(counts: &[u16], classes: &[u16], kept: &[u8], cache: &[u16], objects: &[u32], frames: &[u32], b: u32, d: u32, loader: u8, class: u16, name: u16, argument: u16, result: u16) -> Access
+pub fn invokevirtual(
+    counts: &[u16],
+    classes: &[u16],
+    kept: &[u8],
+    cache: &[u16],
+    objects: &[u32],
+    frames: &[u32],
+    b: u32,
+    d: u32,
+    loader: u8,
+    class: u16,
+    name: u16,
+    argument: u16,
+    result: u16,
+) -> Access
     ensures { λ r. ⌜ Accessing (now (counts .entry)) (now (classes .entry)) (now (kept .entry)) (now (cache .entry)) (now (objects .entry)) (now (frames .entry)) b d loader frameRoom argument result (Instruction.Invokevirtual class name argument result) r ⌝ }
 {
     let Found::At(e) = resolution::find(counts, cache, cells::from8(loader), class) else {
         return Access::Unresolved(Refusal::Wanted(loader, class));
     };
-    let Found::At(s) = resolution::nearest_method(counts, classes, kept, cache, e, name, argument, result) else {
+    let Found::At(s) = resolution::nearest_method(
+        counts,
+        classes,
+        kept,
+        cache,
+        e,
+        name,
+        argument,
+        result,
+    ) else {
         return Access::Unresolved(Refusal::Word(7));
     };
     let one = resolution::loader_of(counts, classes, s);
-    Access::Resolved(one, call_method(counts, classes, kept, cache, objects, frames, b, d, e, s, name, argument, result))
+    Access::Resolved(
+        one,
+        call_method(
+            counts,
+            classes,
+            kept,
+            cache,
+            objects,
+            frames,
+            b,
+            d,
+            e,
+            s,
+            name,
+            argument,
+            result,
+        ),
+    )
 }
 
-pub fn new_object(counts: &[u16], classes: &[u16], kept: &[u8], cache: &[u16], objects: &[u32], frames: &[u32], b: u32, d: u32, loader: u8, class: u16) -> Plan
+pub fn new_object(
+    counts: &[u16],
+    classes: &[u16],
+    kept: &[u8],
+    cache: &[u16],
+    objects: &[u32],
+    frames: &[u32],
+    b: u32,
+    d: u32,
+    loader: u8,
+    class: u16,
+) -> Plan
     ensures { λ r. ⌜ Making (now (counts .entry)) (now (classes .entry)) (now (kept .entry)) (now (cache .entry)) (now (objects .entry)) (now (frames .entry)) b d loader class r ⌝ }
 {
     let Found::At(e) = resolution::find(counts, cache, cells::from8(loader), class) else {

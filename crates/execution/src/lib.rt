@@ -132,7 +132,15 @@ fn copy_rows(to: &mut [u16], from: &[u16])
 }
 
 // Whether the store agrees with ties that are to be posted, tried on a copy of the ties.
-fn agrees_with(counts: &[u16], classes: &[u16], kept: &[u8], cache: &[u16], ties: &[u16], subtypes: &[u16], posting: Posting) -> bool
+fn agrees_with(
+    counts: &[u16],
+    classes: &[u16],
+    kept: &[u8],
+    cache: &[u16],
+    ties: &[u16],
+    subtypes: &[u16],
+    posting: Posting,
+) -> bool
     requires { ⌜ Counts (now counts) × (length (now ties) ≡ 768) × (getD (now counts) 3 0 + length (toPost posting) ≤ 256) ⌝ }
     ensures { λ r. ⌜ r ≡ agrees (posted (worldIn (quickBase (now (counts .entry)) (now (classes .entry)) (now (kept .entry)) (now (cache .entry))) (tables (now (counts .entry)) (now (classes .entry)) (now (kept .entry)) (now (cache .entry)) (now (ties .entry)) (now (subtypes .entry)) [] [])) (toPost posting)) ⌝ }
 {
@@ -142,7 +150,15 @@ fn agrees_with(counts: &[u16], classes: &[u16], kept: &[u8], cache: &[u16], ties
     write_ties(&mut tried, n, posting);
     let mut supers = [0u8; 64];
     resolution::fill_supers(&mut supers, counts, classes, kept, cache);
-    constraints::agree(&supers, cache, cells::at16(counts, 2), &tried, n + tie_number(posting), subtypes, cells::at16(counts, 4))
+    constraints::agree(
+        &supers,
+        cache,
+        cells::at16(counts, 2),
+        &tried,
+        n + tie_number(posting),
+        subtypes,
+        cells::at16(counts, 4),
+    )
 }
 
 // What is posted with a plan: nothing with a refusal.
@@ -187,7 +203,20 @@ fn decided(posting: Posting, plan: Plan) -> Decision
 }
 
 // A plan with its ties on two names between two loaders, or the refusal that comes before it: no room, or a clash.
-fn settle(counts: &[u16], classes: &[u16], kept: &[u8], cache: &[u16], ties: &[u16], subtypes: &[u16], room: bool, one: u8, two: u8, first: u16, second: u16, plan: Plan) -> Decision
+fn settle(
+    counts: &[u16],
+    classes: &[u16],
+    kept: &[u8],
+    cache: &[u16],
+    ties: &[u16],
+    subtypes: &[u16],
+    room: bool,
+    one: u8,
+    two: u8,
+    first: u16,
+    second: u16,
+    plan: Plan,
+) -> Decision
     requires { ⌜ Counts (now counts) × (length (now ties) ≡ 768) ⌝ }
     ensures { λ r. ⌜ Settled (now (counts .entry)) (now (classes .entry)) (now (kept .entry)) (now (cache .entry)) (now (ties .entry)) (now (subtypes .entry)) room (tiesOn (rows (tieAt (now (ties .entry))) (getD (now (counts .entry)) 3 0) 0) one two first second) plan (r .posting) (r .plan) ⌝ }
 {
@@ -220,18 +249,61 @@ fn plain(plan: Plan) -> Decision
 }
 
 // What is missing is refused; what was found is settled with its ties.
-fn settle_access(counts: &[u16], classes: &[u16], kept: &[u8], cache: &[u16], ties: &[u16], subtypes: &[u16], room: bool, loader: u8, first: u16, second: u16, found: Access) -> Decision
+fn settle_access(
+    counts: &[u16],
+    classes: &[u16],
+    kept: &[u8],
+    cache: &[u16],
+    ties: &[u16],
+    subtypes: &[u16],
+    room: bool,
+    loader: u8,
+    first: u16,
+    second: u16,
+    found: Access,
+) -> Decision
     requires { ⌜ Counts (now counts) × (length (now ties) ≡ 768) × Narrow found ⌝ }
     ensures { λ r. ⌜ AccessSettled (now (counts .entry)) (now (classes .entry)) (now (kept .entry)) (now (cache .entry)) (now (ties .entry)) (now (subtypes .entry)) room loader first second found (r .posting) (r .plan) ⌝ }
 {
     match found {
-        Access::Unresolved(r) => Decision { posting: Posting::Nothing, plan: Plan::Refuse(r) },
-        Access::Resolved(one, plan) => settle(counts, classes, kept, cache, ties, subtypes, room, one as u8, loader, first, second, plan),
+        Access::Unresolved(r) => Decision {
+            posting: Posting::Nothing,
+            plan: Plan::Refuse(r),
+        },
+        Access::Resolved(one, plan) => settle(
+            counts,
+            classes,
+            kept,
+            cache,
+            ties,
+            subtypes,
+            room,
+            one as u8,
+            loader,
+            first,
+            second,
+            plan,
+        ),
     }
 }
 
 // The decision on an instruction of the top frame of a task, in row m: the frame has d operands, and its class that loader.
-fn act(counts: &[u16], classes: &[u16], kept: &[u8], cache: &[u16], ties: &[u16], subtypes: &[u16], objects: &[u32], frames: &[u32], task: u8, m: u16, b: u32, d: u32, loader: u8, i: Instruction) -> Decision
+fn act(
+    counts: &[u16],
+    classes: &[u16],
+    kept: &[u8],
+    cache: &[u16],
+    ties: &[u16],
+    subtypes: &[u16],
+    objects: &[u32],
+    frames: &[u32],
+    task: u8,
+    m: u16,
+    b: u32,
+    d: u32,
+    loader: u8,
+    i: Instruction,
+) -> Decision
     requires { ⌜ Usable (now counts) (now classes) (now kept) (now cache) (now ties) × (m < 32) ⌝ }
     ensures { λ r. ⌜ Acted (now (counts .entry)) (now (classes .entry)) (now (kept .entry)) (now (cache .entry)) (now (ties .entry)) (now (subtypes .entry)) (now (objects .entry)) (now (frames .entry)) task m b d loader i (r .posting) (r .plan) ⌝ }
 {
@@ -246,10 +318,97 @@ fn act(counts: &[u16], classes: &[u16], kept: &[u8], cache: &[u16], ties: &[u16]
         Instruction::Dup => plain(instructions::dup(frames, b, d)),
         Instruction::Iadd => plain(instructions::iadd(frames, b, d)),
         Instruction::Isub => plain(instructions::isub(frames, b, d)),
-        Instruction::Getfield(class, name, of) => settle_access(counts, classes, kept, cache, ties, subtypes, true, loader, of, 1, access::getfield(counts, classes, kept, cache, objects, frames, b, d, loader, class, name, of)),
-        Instruction::Putfield(class, name, of) => settle_access(counts, classes, kept, cache, ties, subtypes, true, loader, of, 1, access::putfield(counts, classes, kept, cache, objects, frames, b, d, loader, class, name, of)),
-        Instruction::Invokevirtual(class, name, argument, result) => settle_access(counts, classes, kept, cache, ties, subtypes, m + 1 < 32, loader, argument, result, access::invokevirtual(counts, classes, kept, cache, objects, frames, b, d, loader, class, name, argument, result)),
-        Instruction::New(class) => plain(access::new_object(counts, classes, kept, cache, objects, frames, b, d, loader, class)),
+        Instruction::Getfield(class, name, of) => settle_access(
+            counts,
+            classes,
+            kept,
+            cache,
+            ties,
+            subtypes,
+            true,
+            loader,
+            of,
+            1,
+            access::getfield(
+                counts,
+                classes,
+                kept,
+                cache,
+                objects,
+                frames,
+                b,
+                d,
+                loader,
+                class,
+                name,
+                of,
+            ),
+        ),
+        Instruction::Putfield(class, name, of) => settle_access(
+            counts,
+            classes,
+            kept,
+            cache,
+            ties,
+            subtypes,
+            true,
+            loader,
+            of,
+            1,
+            access::putfield(
+                counts,
+                classes,
+                kept,
+                cache,
+                objects,
+                frames,
+                b,
+                d,
+                loader,
+                class,
+                name,
+                of,
+            ),
+        ),
+        Instruction::Invokevirtual(class, name, argument, result) => settle_access(
+            counts,
+            classes,
+            kept,
+            cache,
+            ties,
+            subtypes,
+            m + 1 < 32,
+            loader,
+            argument,
+            result,
+            access::invokevirtual(
+                counts,
+                classes,
+                kept,
+                cache,
+                objects,
+                frames,
+                b,
+                d,
+                loader,
+                class,
+                name,
+                argument,
+                result,
+            ),
+        ),
+        Instruction::New(class) => plain(access::new_object(
+            counts,
+            classes,
+            kept,
+            cache,
+            objects,
+            frames,
+            b,
+            d,
+            loader,
+            class,
+        )),
         Instruction::Ireturn => plain(instructions::ireturn(frames, task, m, b, d)),
         Instruction::Areturn => plain(instructions::areturn(frames, task, m, b, d)),
     }
@@ -263,7 +422,19 @@ struct Choice {
 }
 
 // The choice for the top frame of a task, in row m, which begins at cell b.
-fn choose(counts: &[u16], classes: &[u16], kept: &[u8], cache: &[u16], ties: &[u16], subtypes: &[u16], objects: &[u32], frames: &[u32], task: u8, m: u16, b: u32) -> Choice
+fn choose(
+    counts: &[u16],
+    classes: &[u16],
+    kept: &[u8],
+    cache: &[u16],
+    ties: &[u16],
+    subtypes: &[u16],
+    objects: &[u32],
+    frames: &[u32],
+    task: u8,
+    m: u16,
+    b: u32,
+) -> Choice
     requires { ⌜ (broken (tables (now counts) (now classes) (now kept) (now cache) (now ties) (now subtypes) (now objects) (now frames)) ≡ false) × (task < 2) × (getD (now counts) (6 + task) 0 ≡ suc m) × (b ≡ frameBase task m) ⌝ }
     ensures { λ r. ⌜ Chosen (now (counts .entry)) (now (classes .entry)) (now (kept .entry)) (now (cache .entry)) (now (ties .entry)) (now (subtypes .entry)) (now (objects .entry)) (now (frames .entry)) task m b (r .posting) (r .plan) (r .next) ⌝ }
 {
@@ -271,10 +442,29 @@ fn choose(counts: &[u16], classes: &[u16], kept: &[u8], cache: &[u16], ties: &[u
     let p = frames::point(frames, b);
     let code = resolution::method_code(counts, classes, kept, c, frames::frame_method(frames, b));
     let Reading::At(i, n) = verifier::decode(code, cells::wide32(p)) else {
-        return Choice { posting: Posting::Nothing, plan: instructions::refuse(14), next: 0 };
+        return Choice {
+            posting: Posting::Nothing,
+            plan: instructions::refuse(14),
+            next: 0,
+        };
     };
     let loader = resolution::loader_of(counts, classes, c);
-    let r = act(counts, classes, kept, cache, ties, subtypes, objects, frames, task, m, b, frames::depth(frames, b), loader as u8, i);
+    let r = act(
+        counts,
+        classes,
+        kept,
+        cache,
+        ties,
+        subtypes,
+        objects,
+        frames,
+        task,
+        m,
+        b,
+        frames::depth(frames, b),
+        loader as u8,
+        i,
+    );
     let posting = r.posting;
     let plan = r.plan;
     Choice {
@@ -315,7 +505,20 @@ fn give(counts: &mut [u16], frames: &mut [u32], task: u8, m: u16, kind: u32, bit
 }
 
 // A frame entered in row m + 1 of a task, above the one that goes on at point q with d operands.
-fn enter(counts: &mut [u16], frames: &mut [u32], task: u8, m: u16, b: u32, q: u32, d: u32, c: u32, j: u32, o: u32, kind: u32, bits: u32)
+fn enter(
+    counts: &mut [u16],
+    frames: &mut [u32],
+    task: u8,
+    m: u16,
+    b: u32,
+    q: u32,
+    d: u32,
+    c: u32,
+    j: u32,
+    o: u32,
+    kind: u32,
+    bits: u32,
+)
     requires { ⌜ m < 32 ⌝ }
     ensures counted { λ _. ⌜ now (counts .exit) ≡ set (now (counts .entry)) (6 + task) (m + 2) ⌝ }
     ensures written { λ _. ⌜ now (frames .exit) ≡ putFrame (moved (now (frames .entry)) b q d) (frameBase task (m + 1)) (entryFrame c j o (valueOf kind bits)) ⌝ }
@@ -326,7 +529,15 @@ fn enter(counts: &mut [u16], frames: &mut [u32], task: u8, m: u16, b: u32, q: u3
 }
 
 // The row of a new object of class c.
-fn write_new(counts: &[u16], classes: &[u16], kept: &[u8], cache: &[u16], objects: &mut [u32], o: u32, c: u32)
+fn write_new(
+    counts: &[u16],
+    classes: &[u16],
+    kept: &[u8],
+    cache: &[u16],
+    objects: &mut [u32],
+    o: u32,
+    c: u32,
+)
     requires { ⌜ sizeOf (quickBase (now counts) (now classes) (now kept) (now cache)) c ≤ 16 ⌝ }
     ensures { λ _. ⌜ now (objects .exit) ≡ putObject (now (objects .entry)) o (newObject (quickBase (now (counts .entry)) (now (classes .entry)) (now (kept .entry)) (now (cache .entry))) c) ⌝ }
 {
@@ -336,7 +547,18 @@ fn write_new(counts: &[u16], classes: &[u16], kept: &[u8], cache: &[u16], object
 }
 
 // An object of class c made, with the next number, which is pushed.
-fn make(counts: &mut [u16], classes: &[u16], kept: &[u8], cache: &[u16], objects: &mut [u32], frames: &mut [u32], b: u32, q: u32, d: u32, c: u32)
+fn make(
+    counts: &mut [u16],
+    classes: &[u16],
+    kept: &[u8],
+    cache: &[u16],
+    objects: &mut [u32],
+    frames: &mut [u32],
+    b: u32,
+    q: u32,
+    d: u32,
+    c: u32,
+)
     requires { ⌜ (d < 16) × (getD (now counts) 5 0 < 256) × (sizeOf (quickBase (now counts) (now classes) (now kept) (now cache)) c ≤ 16) ⌝ }
     ensures counted { λ _. ⌜ now (counts .exit) ≡ set (now (counts .entry)) 5 (getD (now (counts .entry)) 5 0 + 1) ⌝ }
     ensures made { λ _. ⌜ now (objects .exit) ≡ putObject (now (objects .entry)) (getD (now (counts .entry)) 5 0) (newObject (quickBase (now (counts .entry)) (now (classes .entry)) (now (kept .entry)) (now (cache .entry))) c) ⌝ }
@@ -349,7 +571,22 @@ fn make(counts: &mut [u16], classes: &[u16], kept: &[u8], cache: &[u16], objects
 }
 
 // The one place that writes: ties are posted, then the plan is carried out. The top frame of the task, in row m, goes on at point q.
-fn carry_out(counts: &mut [u16], classes: &[u16], kept: &[u8], cache: &[u16], ties: &mut [u16], subtypes: &[u16], objects: &mut [u32], frames: &mut [u32], task: u8, m: u16, b: u32, q: u32, posting: Posting, plan: Plan) -> Answer
+fn carry_out(
+    counts: &mut [u16],
+    classes: &[u16],
+    kept: &[u8],
+    cache: &[u16],
+    ties: &mut [u16],
+    subtypes: &[u16],
+    objects: &mut [u32],
+    frames: &mut [u32],
+    task: u8,
+    m: u16,
+    b: u32,
+    q: u32,
+    posting: Posting,
+    plan: Plan,
+) -> Answer
     requires { ⌜ Ready (quickBase (now counts) (now classes) (now kept) (now cache)) (tables (now counts) (now classes) (now kept) (now cache) (now ties) (now subtypes) (now objects) (now frames)) task m b (toPost posting) plan ⌝ }
     ensures { λ r. ⌜ done r (tables (now (counts .exit)) (now (classes .entry)) (now (kept .entry)) (now (cache .entry)) (now (ties .exit)) (now (subtypes .entry)) (now (objects .exit)) (now (frames .exit))) ≡ planned (quickBase (now (counts .entry)) (now (classes .entry)) (now (kept .entry)) (now (cache .entry))) (tables (now (counts .entry)) (now (classes .entry)) (now (kept .entry)) (now (cache .entry)) (now (ties .entry)) (now (subtypes .entry)) (now (objects .entry)) (now (frames .entry))) task m q (toPost posting) plan ⌝ }
 {
@@ -393,15 +630,53 @@ fn carry_out(counts: &mut [u16], classes: &[u16], kept: &[u8], cache: &[u16], ti
 }
 
 // A step of a task whose top frame is in row m.
-fn step_task(counts: &mut [u16], classes: &[u16], kept: &[u8], cache: &[u16], ties: &mut [u16], subtypes: &[u16], objects: &mut [u32], frames: &mut [u32], task: u8, m: u16) -> Answer
+fn step_task(
+    counts: &mut [u16],
+    classes: &[u16],
+    kept: &[u8],
+    cache: &[u16],
+    ties: &mut [u16],
+    subtypes: &[u16],
+    objects: &mut [u32],
+    frames: &mut [u32],
+    task: u8,
+    m: u16,
+) -> Answer
     requires { ⌜ (broken (tables (now counts) (now classes) (now kept) (now cache) (now ties) (now subtypes) (now objects) (now frames)) ≡ false) × (task < 2) × (getD (now counts) (6 + task) 0 ≡ suc m) ⌝ }
     ensures { λ r. ⌜ done r (tables (now (counts .exit)) (now (classes .entry)) (now (kept .entry)) (now (cache .entry)) (now (ties .exit)) (now (subtypes .entry)) (now (objects .exit)) (now (frames .exit))) ≡ taken (quickBase (now (counts .entry)) (now (classes .entry)) (now (kept .entry)) (now (cache .entry))) (tables (now (counts .entry)) (now (classes .entry)) (now (kept .entry)) (now (cache .entry)) (now (ties .entry)) (now (subtypes .entry)) (now (objects .entry)) (now (frames .entry))) task m ⌝ }
 {
     let b = frames::row(task, m);
-    let r = choose(counts, classes, kept, cache, ties, subtypes, objects, frames, task, m, b);
+    let r = choose(
+        counts,
+        classes,
+        kept,
+        cache,
+        ties,
+        subtypes,
+        objects,
+        frames,
+        task,
+        m,
+        b,
+    );
     let posting = r.posting;
     let plan = r.plan;
-    carry_out(counts, classes, kept, cache, ties, subtypes, objects, frames, task, m, b, r.next, posting, plan)
+    carry_out(
+        counts,
+        classes,
+        kept,
+        cache,
+        ties,
+        subtypes,
+        objects,
+        frames,
+        task,
+        m,
+        b,
+        r.next,
+        posting,
+        plan,
+    )
 }
 
 // Whose turn it is: the quote's if it has a frame, else the report's.
@@ -412,7 +687,16 @@ fn turn(counts: &[u16]) -> u8
 }
 
 // A step of a store that is not broken.
-fn step_unbroken(counts: &mut [u16], classes: &[u16], kept: &[u8], cache: &[u16], ties: &mut [u16], subtypes: &[u16], objects: &mut [u32], frames: &mut [u32]) -> Answer
+fn step_unbroken(
+    counts: &mut [u16],
+    classes: &[u16],
+    kept: &[u8],
+    cache: &[u16],
+    ties: &mut [u16],
+    subtypes: &[u16],
+    objects: &mut [u32],
+    frames: &mut [u32],
+) -> Answer
     requires { ⌜ broken (tables (now counts) (now classes) (now kept) (now cache) (now ties) (now subtypes) (now objects) (now frames)) ≡ false ⌝ }
     ensures { λ r. ⌜ done r (tables (now (counts .exit)) (now (classes .entry)) (now (kept .entry)) (now (cache .entry)) (now (ties .exit)) (now (subtypes .entry)) (now (objects .exit)) (now (frames .exit))) ≡ stepTables (tables (now (counts .entry)) (now (classes .entry)) (now (kept .entry)) (now (cache .entry)) (now (ties .entry)) (now (subtypes .entry)) (now (objects .entry)) (now (frames .entry))) ⌝ }
 {
@@ -421,17 +705,55 @@ fn step_unbroken(counts: &mut [u16], classes: &[u16], kept: &[u8], cache: &[u16]
     if n == 0 {
         return Answer::Idle;
     }
-    step_task(counts, classes, kept, cache, ties, subtypes, objects, frames, task, n - 1)
+    step_task(
+        counts,
+        classes,
+        kept,
+        cache,
+        ties,
+        subtypes,
+        objects,
+        frames,
+        task,
+        n - 1,
+    )
 }
 
 // One instruction of the quote if it has a frame, else of the report.
-pub fn step(counts: &mut [u16], classes: &[u16], kept: &[u8], cache: &[u16], ties: &mut [u16], subtypes: &[u16], objects: &mut [u32], frames: &mut [u32]) -> Answer
+pub fn step(
+    counts: &mut [u16],
+    classes: &[u16],
+    kept: &[u8],
+    cache: &[u16],
+    ties: &mut [u16],
+    subtypes: &[u16],
+    objects: &mut [u32],
+    frames: &mut [u32],
+) -> Answer
     ensures { λ r. ⌜ done r (tables (now (counts .exit)) (now (classes .entry)) (now (kept .entry)) (now (cache .entry)) (now (ties .exit)) (now (subtypes .entry)) (now (objects .exit)) (now (frames .exit))) ≡ stepTables (tables (now (counts .entry)) (now (classes .entry)) (now (kept .entry)) (now (cache .entry)) (now (ties .entry)) (now (subtypes .entry)) (now (objects .entry)) (now (frames .entry))) ⌝ }
 {
-    if store::is_broken(counts, classes, kept, cache, ties, subtypes, objects, frames) {
+    if store::is_broken(
+        counts,
+        classes,
+        kept,
+        cache,
+        ties,
+        subtypes,
+        objects,
+        frames,
+    ) {
         return Answer::Refused(Refusal::Word(1));
     }
-    step_unbroken(counts, classes, kept, cache, ties, subtypes, objects, frames)
+    step_unbroken(
+        counts,
+        classes,
+        kept,
+        cache,
+        ties,
+        subtypes,
+        objects,
+        frames,
+    )
 }
 
 fn is_ran(a: Answer) -> bool
@@ -446,14 +768,33 @@ fn is_ran(a: Answer) -> bool
 }
 
 // Up to n steps of a store that is not broken: a step leaves it so, and it isn't tested again.
-fn steps(counts: &mut [u16], classes: &[u16], kept: &[u8], cache: &[u16], ties: &mut [u16], subtypes: &[u16], objects: &mut [u32], frames: &mut [u32], n: u16) -> Reply
+fn steps(
+    counts: &mut [u16],
+    classes: &[u16],
+    kept: &[u8],
+    cache: &[u16],
+    ties: &mut [u16],
+    subtypes: &[u16],
+    objects: &mut [u32],
+    frames: &mut [u32],
+    n: u16,
+) -> Reply
     requires { ⌜ broken (tables (now counts) (now classes) (now kept) (now cache) (now ties) (now subtypes) (now objects) (now frames)) ≡ false ⌝ }
     ensures { λ r. ⌜ done r (tables (now (counts .exit)) (now (classes .entry)) (now (kept .entry)) (now (cache .entry)) (now (ties .exit)) (now (subtypes .entry)) (now (objects .exit)) (now (frames .exit))) ≡ runFrom stepTables n 0 Answer.Idle (tables (now (counts .entry)) (now (classes .entry)) (now (kept .entry)) (now (cache .entry)) (now (ties .entry)) (now (subtypes .entry)) (now (objects .entry)) (now (frames .entry))) ⌝ }
 {
     let mut k: u16 = 0;
     let mut last = Answer::Idle;
     while k < n {
-        let a = step_unbroken(counts, classes, kept, cache, ties, subtypes, objects, frames);
+        let a = step_unbroken(
+            counts,
+            classes,
+            kept,
+            cache,
+            ties,
+            subtypes,
+            objects,
+            frames,
+        );
         if !is_ran(a) {
             return Reply::RanFor(k, a);
         }
@@ -464,10 +805,29 @@ fn steps(counts: &mut [u16], classes: &[u16], kept: &[u8], cache: &[u16], ties: 
 }
 
 // Up to n steps, n from 1 to 65,535, ended by the first answer other than ran.
-pub fn run(counts: &mut [u16], classes: &[u16], kept: &[u8], cache: &[u16], ties: &mut [u16], subtypes: &[u16], objects: &mut [u32], frames: &mut [u32], n: u32) -> Reply
+pub fn run(
+    counts: &mut [u16],
+    classes: &[u16],
+    kept: &[u8],
+    cache: &[u16],
+    ties: &mut [u16],
+    subtypes: &[u16],
+    objects: &mut [u32],
+    frames: &mut [u32],
+    n: u32,
+) -> Reply
     ensures { λ r. ⌜ done r (tables (now (counts .exit)) (now (classes .entry)) (now (kept .entry)) (now (cache .entry)) (now (ties .exit)) (now (subtypes .entry)) (now (objects .exit)) (now (frames .exit))) ≡ run n (tables (now (counts .entry)) (now (classes .entry)) (now (kept .entry)) (now (cache .entry)) (now (ties .entry)) (now (subtypes .entry)) (now (objects .entry)) (now (frames .entry))) ⌝ }
 {
-    if store::is_broken(counts, classes, kept, cache, ties, subtypes, objects, frames) {
+    if store::is_broken(
+        counts,
+        classes,
+        kept,
+        cache,
+        ties,
+        subtypes,
+        objects,
+        frames,
+    ) {
         return Reply::Denied(Refusal::Word(1));
     }
     if n == 0 {
@@ -476,7 +836,17 @@ pub fn run(counts: &mut [u16], classes: &[u16], kept: &[u8], cache: &[u16], ties
     if 65535 < n {
         return Reply::Denied(Refusal::Word(3));
     }
-    steps(counts, classes, kept, cache, ties, subtypes, objects, frames, n as u16)
+    steps(
+        counts,
+        classes,
+        kept,
+        cache,
+        ties,
+        subtypes,
+        objects,
+        frames,
+        n as u16,
+    )
 }
 
 // What a start decides: a refusal, or an object's class, and the class and the place of the first frame's method.

@@ -19,7 +19,7 @@ enter-requires : tie.Need-enter-requires
 enter-requires c κs = c .before .before .before .before .before .before .before .before .before .before .before .before .before .before .before .before .before .before .before .before .pre .low
 
 make-requires : tie.Need-make-requires
-make-requires c κs = make-ready _ _ _ _ _ _ _ _ _ _ _ (c .before .before .before .before .before .before .before .before .before .before .before .before .before .before .before .before .before .before .before .before .before .args .q) _ _ (c .before .before .before .before .before .before .before .before .before .before .before .before .before .before .before .before .before .before .before .before .before .pre) _ _ (c .before .before .before .before .before .before .before .before .before .before .post-ties .ensures .0) (c .before .before .before .before .before .before .before .before .before .before .post-ties .ensures .1) _ _ (c .before .before .before .before .plan9 .given .1) 
+make-requires c κs = make-ready _ _ _ _ _ _ _ _ _ _ _ (c .before .before .before .before .before .before .before .before .before .before .before .before .before .before .before .before .before .before .before .before .before .args .q) _ _ (c .before .before .before .before .before .before .before .before .before .before .before .before .before .before .before .before .before .before .before .before .before .pre) _ _ (c .before .before .before .before .before .before .before .before .before .before .post-ties .ensures .0) (c .before .before .before .before .before .before .before .before .before .before .post-ties .ensures .1) _ _ (c .before .before .before .before .plan9 .given .1)
 
 returns : tie.Need-returns
 returns c = out-refuse _ _ _ _ _ _ _ _ _ _ _ _ _ _ _ (c .before .before .before .before .before .before .before .before .before .before .before .before .before .before .before .before .before .before .pre) _ _ (c .before .before .before .before .before .before .before .post-ties .ensures .0) (c .before .before .before .before .before .before .before .post-ties .ensures .1) _ (c .before .plan .given .1)
