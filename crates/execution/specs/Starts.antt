@@ -1,6 +1,6 @@
 -- The start of a task: what is decided on it, and what it writes.
 use mathlib.Core.Path.{_≡_, refl, sym, ap, _∙_}
-use mathlib.Core.Bool.{Bool, true, false, _&&_}
+use mathlib.Core.Bool.{Bool, true, false, false≢true, _&&_}
 use mathlib.Core.Option.{Option, none, some}
 use mathlib.Core.List.{List, [], _∷_, _++_}
 use mathlib.Core.Logic.{_≢_}
@@ -8,7 +8,7 @@ use Prim.Native.Nat.{ℕ, zero, suc, _+_, _<_, _≤_}
 use native.Mathlib.Omega.{arith}
 use lib.ListN.{length, getD, set}
 use lib.Dec.{leb, ltb}
-use borrow.Author.Tests.{lt-ltb, le-ltb, le-leb, lt-leb}
+use borrow.Author.Tests.{lt-ltb, le-ltb, lt-leb, ltb-true}
 use Rattle.definition.specs.Lists.{indexOf, stack}
 use Rattle.definition.specs.Requests.{at}
 use Rattle.definition.specs.Superclasses.{nearest}
@@ -181,3 +181,11 @@ module _ (N L K E I S O F : List ℕ) (whole : broken (tables N L K E I S O F) �
       sym (starts ∙ (rw (e, objects-fill T base .count, x, y, z) (ap (done Accepted) (
       quiet-writes base T k _ (getD N 5 0 + 1) 1 (putObject O (getD N 5 0) (newObject base c)) (putFrame F (frameBase k 0) (entryFrame s j (getD N 5 0) (intValue v))) (f .0) refl
       (object-made T base (newObject base c)) (first-entered T k (entryFrame s j (getD N 5 0) (intValue v)) (omega arith) (omega arith))))))
+
+-- a loader that is there
+pub known-loader : (l n m : ℕ) → (ltb l 16 && leb 2 n && leb 1 m) ≡ true → l < 16
+known-loader l n m h = go (ltb l 16) refl h
+  where
+    go : (u : Bool) → ltb l 16 ≡ u → (u && leb 2 n && leb 1 m) ≡ true → l < 16
+    go true e q = ltb-true l 16 e
+    go false e q = absurd (false≢true q)
