@@ -872,7 +872,16 @@ fn are_known(loader: u32, name: u16, method: u16) -> bool
 }
 
 // The decision on a start: an object of the cached class, and a first frame in the method selected for that name, int and int.
-fn decide_start(counts: &[u16], classes: &[u16], kept: &[u8], cache: &[u16], task: u32, loader: u32, name: u16, method: u16) -> Opening
+fn decide_start(
+    counts: &[u16],
+    classes: &[u16],
+    kept: &[u8],
+    cache: &[u16],
+    task: u32,
+    loader: u32,
+    name: u16,
+    method: u16,
+) -> Opening
     ensures { λ r. ⌜ Opened (now (counts .entry)) (now (classes .entry)) (now (kept .entry)) (now (cache .entry)) task loader name method r ⌝ }
 {
     if 2 <= task {
@@ -887,7 +896,8 @@ fn decide_start(counts: &[u16], classes: &[u16], kept: &[u8], cache: &[u16], tas
     let Found::At(c) = resolution::find(counts, cache, loader as u16, name) else {
         return Opening::Deny(Refusal::Wanted(loader as u8, name));
     };
-    let Found::At(s) = resolution::nearest_method(counts, classes, kept, cache, c, method, 1, 1) else {
+    let Found::At(s) = resolution::nearest_method(counts, classes, kept, cache, c, method, 1, 1)
+    else {
         return Opening::Deny(Refusal::Word(7));
     };
     let Found::At(j) = resolution::method_index(counts, classes, kept, s, method, 1, 1) else {
@@ -900,7 +910,19 @@ fn decide_start(counts: &[u16], classes: &[u16], kept: &[u8], cache: &[u16], tas
 }
 
 // A task begun: a new object of class c, and a first frame in method j of class s with that object and an int.
-fn begin(counts: &mut [u16], classes: &[u16], kept: &[u8], cache: &[u16], objects: &mut [u32], frames: &mut [u32], task: u8, c: u32, s: u32, j: u32, value: u32)
+fn begin(
+    counts: &mut [u16],
+    classes: &[u16],
+    kept: &[u8],
+    cache: &[u16],
+    objects: &mut [u32],
+    frames: &mut [u32],
+    task: u8,
+    c: u32,
+    s: u32,
+    j: u32,
+    value: u32,
+)
     requires { ⌜ (getD (now counts) 5 0 < 256) × (sizeOf (quickBase (now counts) (now classes) (now kept) (now cache)) c ≤ 16) ⌝ }
     ensures counted { λ _. ⌜ now (counts .exit) ≡ set (set (now (counts .entry)) 5 (getD (now (counts .entry)) 5 0 + 1)) (6 + task) 1 ⌝ }
     ensures made { λ _. ⌜ now (objects .exit) ≡ putObject (now (objects .entry)) (getD (now (counts .entry)) 5 0) (newObject (quickBase (now (counts .entry)) (now (classes .entry)) (now (kept .entry)) (now (cache .entry))) c) ⌝ }
@@ -908,23 +930,66 @@ fn begin(counts: &mut [u16], classes: &[u16], kept: &[u8], cache: &[u16], object
 {
     let n = cells::at16(counts, 5);
     write_new(counts, classes, kept, cache, objects, cells::from16(n), c);
-    frames::write_entry(frames, frames::row(task, 0), s, j, cells::from16(n), 1, value);
+    frames::write_entry(
+        frames,
+        frames::row(task, 0),
+        s,
+        j,
+        cells::from16(n),
+        1,
+        value,
+    );
     cells::put16(counts, 5, n + 1);
     cells::put16(counts, 6 + cells::wide8(task), 1);
 }
 
 // Makes a new object of the cached class and a first frame in the method selected for that name, int and int, with that object and int.
-pub fn start(counts: &mut [u16], classes: &[u16], kept: &[u8], cache: &[u16], ties: &[u16], subtypes: &[u16], objects: &mut [u32], frames: &mut [u32], task: u32, loader: u32, name: u16, method: u16, value: u32) -> Reply
+pub fn start(
+    counts: &mut [u16],
+    classes: &[u16],
+    kept: &[u8],
+    cache: &[u16],
+    ties: &[u16],
+    subtypes: &[u16],
+    objects: &mut [u32],
+    frames: &mut [u32],
+    task: u32,
+    loader: u32,
+    name: u16,
+    method: u16,
+    value: u32,
+) -> Reply
     ensures { λ r. ⌜ done r (tables (now (counts .exit)) (now (classes .entry)) (now (kept .entry)) (now (cache .entry)) (now (ties .entry)) (now (subtypes .entry)) (now (objects .exit)) (now (frames .exit))) ≡ perform (callStart task loader name method value) (tables (now (counts .entry)) (now (classes .entry)) (now (kept .entry)) (now (cache .entry)) (now (ties .entry)) (now (subtypes .entry)) (now (objects .entry)) (now (frames .entry))) ⌝ }
 {
-    if store::is_broken(counts, classes, kept, cache, ties, subtypes, objects, frames) {
+    if store::is_broken(
+        counts,
+        classes,
+        kept,
+        cache,
+        ties,
+        subtypes,
+        objects,
+        frames,
+    ) {
         return Reply::Denied(Refusal::Word(1));
     }
     let r = decide_start(counts, classes, kept, cache, task, loader, name, method);
     match r {
         Opening::Deny(w) => Reply::Denied(w),
         Opening::First(c, s, j) => {
-            begin(counts, classes, kept, cache, objects, frames, task as u8, c, s, j, value);
+            begin(
+                counts,
+                classes,
+                kept,
+                cache,
+                objects,
+                frames,
+                task as u8,
+                c,
+                s,
+                j,
+                value,
+            );
             Reply::Accepted
         }
     }

@@ -21,10 +21,10 @@ returns-3 : tie.Need-returns-3
 returns-3 c = open-busy _ _ _ _ _ _ _ _ (c .before .before .before .before .before .if1 .left) (sym (c .before .before .before .before .are-known .ensures) ∙ not-false _ (c .before .before .before .if2 .left)) (λ e. c .if3 .taken (c .before .at16 .ensures ∙ rw (c .before .before .wide32 .ensures .0) e))
 
 cast-find : tie.Need-cast-find
-cast-find c = omega (arith, known-loader (c .before .before .before .before .before .before .before .before .before .before .args .loader) (c .before .before .before .before .before .before .before .before .before .before .args .name) (c .before .before .before .before .before .before .before .before .before .before .args .method) (sym (c .before .before .before .before .are-known .ensures) ∙ not-false _ (c .before .before .before .if2 .left)) )
+cast-find c = omega (arith, known-loader (c .before .before .before .before .before .before .before .before .before .before .args .loader) (c .before .before .before .before .before .before .before .before .before .before .args .name) (c .before .before .before .before .before .before .before .before .before .before .args .method) (sym (c .before .before .before .before .are-known .ensures) ∙ not-false _ (c .before .before .before .if2 .left)))
 
 cast-t21 : tie.Need-cast-t21
-cast-t21 c = omega (arith, known-loader (c .before .before .before .before .before .before .before .before .before .before .before .before .before .args .loader) (c .before .before .before .before .before .before .before .before .before .before .before .before .before .args .name) (c .before .before .before .before .before .before .before .before .before .before .before .before .before .args .method) (sym (c .before .before .before .before .before .before .before .are-known .ensures) ∙ not-false _ (c .before .before .before .before .before .before .if2 .left)) )
+cast-t21 c = omega (arith, known-loader (c .before .before .before .before .before .before .before .before .before .before .before .before .before .args .loader) (c .before .before .before .before .before .before .before .before .before .before .before .before .before .args .name) (c .before .before .before .before .before .before .before .before .before .before .before .before .before .args .method) (sym (c .before .before .before .before .before .before .before .are-known .ensures) ∙ not-false _ (c .before .before .before .before .before .before .if2 .left)))
 
 returns-4 : tie.Need-returns-4
 returns-4 c = open-wanted _ _ _ _ _ _ _ _ (c .before .before .before .before .before .before .before .before .if1 .left) (sym (c .before .before .before .before .before .before .before .are-known .ensures) ∙ not-false _ (c .before .before .before .before .before .before .if2 .left)) (rw (c .before .before .before .before .before .wide32 .ensures .0, c .before .before .before .if3 .left) at (sym (c .before .before .before .before .at16 .ensures))) (uncached _ _ _ _ _ _ _ _ (c .before .before .find .ensures) refl (c .enum-told .given .1))
