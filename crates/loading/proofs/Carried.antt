@@ -26,8 +26,8 @@ use Rattle.layout.specs.Cells.{tie-rows, subtype-rows}
 use Rattle.layout.specs.View.{countAt, kept-fill, classes-fill, class-writes}
 use Rattle.classfile.specs.Reading.{className, quickFile}
 use Rattle.classfile.specs.Laws.{file-readable}
-use Rattle.loading.specs.declared.Defining.{Defining}
-use Rattle.loading.specs.declared.Defining.the-variants.{Refuse, Add}
+use Rattle.loading.specs.declared.constraining.Defining.{Defining}
+use Rattle.loading.specs.declared.constraining.Defining.the-variants.{Refuse, Add}
 use Rattle.loading.specs.World.{quickWorld, quick-world}
 use Rattle.loading.specs.Stages.{definedFrom, Adding, Decided}
 use Rattle.loading.specs.Writing.{LoadTables, loadTables, putCounts, classWritten, LoadDone, loadDone, carriedOut, FileFits}

@@ -30,7 +30,7 @@ use Rattle.verifier.specs.Trace.{Verification, verification, verified, classTra
 use Rattle.verifier.proofs.NoteLaws.{note-rows}
 use Rattle.verifier.proofs.ClassLaws.{class-few, class-says}
 use Rattle.constraints.specs.Posting.{noteAt}
-use Rattle.loading.specs.declared.Defining.{Defining}
+use Rattle.loading.specs.declared.constraining.Defining.{Defining}
 use Rattle.loading.specs.Stages.{superFor, postedFor, placedFor, definedFrom, define-stages, Decided}
 use Rattle.loading.specs.Posting.{methodLike}
 

@@ -22,8 +22,8 @@ use Rattle.definition.specs.Calls.{Given, Done, done, addEntry, recordRows, cal
 use Rattle.layout.specs.View.{countAt, put-view, entry-writes}
 use Rattle.resolution.specs.Quick.{quickClass}
 use Rattle.resolution.specs.Lookups.{nameIn}
-use Rattle.loading.specs.declared.Recording.{Recording}
-use Rattle.loading.specs.declared.Recording.the-variants.{Refuse, Keep, Add}
+use Rattle.loading.specs.declared.recording.Recording.{Recording}
+use Rattle.loading.specs.declared.recording.Recording.the-variants.{Refuse, Keep, Add}
 use Rattle.loading.specs.World.{quickWorld, quick-world}
 use Rattle.loading.specs.Stages.{entered, recordedBy, EntryDone, entryDone, entryWritten}
 use Rattle.loading.proofs.Laws.{wrap-broken, wrap-refused, wrap-given}

@@ -20,10 +20,10 @@ use Rattle.definition.specs.Answers.{wanted, Result, refused, ok, _>>=_, need, 
 use Rattle.definition.specs.File.{readFile, classOf}
 use Rattle.definition.specs.Loading.{hides, overrideTies, newSubtypes, withClass, withEntry, define, recorded}
 use Rattle.classfile.specs.Reading.{fieldCount}
-use Rattle.loading.specs.declared.Above.{Above}
-use Rattle.loading.specs.declared.Defining.{Defining}
-use Rattle.loading.specs.declared.Recording.{Recording}
-use Rattle.loading.specs.declared.Recording.the-variants.{Refuse, Keep, Add}
+use Rattle.loading.specs.declared.superclasses.Above.{Above}
+use Rattle.loading.specs.declared.constraining.Defining.{Defining}
+use Rattle.loading.specs.declared.recording.Recording.{Recording}
+use Rattle.loading.specs.declared.recording.Recording.the-variants.{Refuse, Keep, Add}
 
 -- record: the entry of a request for a class that bears its name. Refusals: 4 10 9
 unfoldable pub entered : ℕ → ℕ → ℕ → World → Result World

@@ -7,8 +7,8 @@ use Rattle.definition.specs.Tables.{putThree}
 use Rattle.definition.specs.declared.Reply.{Reply}
 use Rattle.definition.specs.declared.Reply.the-variants.{Defined, Denied}
 use Rattle.classfile.specs.Reading.{className}
-use Rattle.loading.specs.declared.Defining.{Defining}
-use Rattle.loading.specs.declared.Defining.the-variants.{Refuse, Add}
+use Rattle.loading.specs.declared.constraining.Defining.{Defining}
+use Rattle.loading.specs.declared.constraining.Defining.the-variants.{Refuse, Add}
 
 -- the tables that loads write
 pub record LoadTables : Type 0 where

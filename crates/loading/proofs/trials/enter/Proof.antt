@@ -1,0 +1,18 @@
+-- Both tables are copied, then the count and the row are set.
+use mathlib.Core.Path.{_∙_}
+use Prim.Native.Nat.{_+_}
+use lib.ListN.{set}
+use Rattle.definition.specs.Tables.{putThree}
+use Rattle.loading.proofs.Trial.{copied}
+use borrow.Author.Needs.{needs}
+use Rattle.loading.proofs.trials.enter.Statement.{statement}
+use Rattle.loading.proofs.trials.enter.Tie as tie
+
+returns : tie.Need-returns
+returns c = (
+  c .before .before .before .before .before .before .put16 .ensures ∙ (λ i. set ((c .before .before .before .before .before .before .before .before .before .before .before .before .before .before .before .write-cells .ensures ∙ copied _ _ (c .before .before .before .before .before .before .before .before .before .before .before .before .before .before .before .before .before .before .before .before .before .pre .1)) i) 2 (c .before .before .before .before .before .before .before .before .at16 .ensures i + 1)),
+  c .before .before .put-three .ensures ∙ (λ i. putThree ((c .before .before .before .before .before .before .before .before .before .before .before .write-cells2 .ensures ∙ copied _ _ (c .before .before .before .before .before .before .before .before .before .before .before .before .before .before .before .before .before .before .before .before .before .pre .2)) i) (c .before .before .before .before .before .before .before .before .at16 .ensures i) (c .before .before .before .before .before .before .before .before .before .before .before .before .before .before .before .before .before .before .before .before .before .args .loader) (c .before .before .before .before .before .before .before .before .before .before .before .before .before .before .before .before .before .before .before .before .before .args .name) (c .before .before .before .before .before .before .before .before .before .before .before .before .before .before .before .before .before .before .before .before .before .args .class)),
+)
+
+pub enter-spec : {M : Type 1} → statement M
+enter-spec = tie.close (tie.spec (λ c κs. search needs) (λ c κs. search needs) (λ c κs. search needs) (λ c. search needs) (λ c κs. search needs) (λ c κs. search needs) (λ c. search needs) (λ c. search needs) returns)
