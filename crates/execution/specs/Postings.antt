@@ -11,8 +11,8 @@ use Rattle.definition.specs.Lists.{any, rows, writeRows}
 use Rattle.definition.specs.Constraints.{Tie, tieIs, newTie}
 use Rattle.definition.specs.Tables.{tie, tieAt, putTie}
 use Rattle.access.specs.Accesses.{tiesOn}
-pub use Rattle.execution.specs.declared.Posting.{Posting}
-pub use Rattle.execution.specs.declared.Posting.the-variants.{Nothing, One, Two}
+pub use Rattle.execution.specs.declared.posting.Posting.{Posting}
+pub use Rattle.execution.specs.declared.posting.Posting.the-variants.{Nothing, One, Two}
 
 unfoldable pub toPost : Posting → List Tie
 toPost Nothing = []

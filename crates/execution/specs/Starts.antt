@@ -30,8 +30,8 @@ use Rattle.resolution.specs.Quick.{quickBase, quickOf}
 use Rattle.resolution.specs.Unbroken.{quick-rows}
 use Rattle.access.specs.Accesses.{worldIn}
 use Rattle.execution.specs.Turns.{same-world}
-pub use Rattle.execution.specs.declared.Opening.{Opening}
-pub use Rattle.execution.specs.declared.Opening.the-variants.{Deny, First}
+pub use Rattle.execution.specs.declared.starting.Opening.{Opening}
+pub use Rattle.execution.specs.declared.starting.Opening.the-variants.{Deny, First}
 
 -- an answer's meaning: a refusal, or an object of class c and a first frame in method j of class s
 unfoldable pub openedAs : World → List Object → ℕ → Opening → Result Progress

@@ -1,0 +1,138 @@
+-- Each instruction is decided as the machine does: an arm hands on what the function of its instruction ensures.
+use mathlib.Core.Path.{refl}
+use native.Mathlib.Omega.{arith}
+use denote.Ref.{now}
+use borrow.Author.Needs.{needs}
+use Rattle.execution.specs.Decisions.{acted-frame, acted-return, acted-make, acted-access, narrow, frames-room}
+use Rattle.execution.proofs.deciding.act.Statement.{statement}
+use Rattle.execution.proofs.deciding.act.Tie as tie
+
+settle-access-requires : tie.Need-settle-access-requires
+settle-access-requires c κs = (c .before .before .before .before .before .before .before .before .before .before .before .before .pre .0 .counts, c .before .before .before .before .before .before .before .before .before .before .before .before .pre .0 .ties, narrow _ _ _ _ _ (c .before .before .before .before .before .before .before .before .before .before .before .before .pre .0) (c .getfield .result) (c .getfield .ensures .declared))
+
+settle-access-requires-2 : tie.Need-settle-access-requires-2
+settle-access-requires-2 c κs = (c .before .before .before .before .before .before .before .before .before .before .before .before .pre .0 .counts, c .before .before .before .before .before .before .before .before .before .before .before .before .pre .0 .ties, narrow _ _ _ _ _ (c .before .before .before .before .before .before .before .before .before .before .before .before .pre .0) (c .putfield .result) (c .putfield .ensures .declared))
+
+add-settle-access : tie.Need-add-settle-access
+add-settle-access c = omega (arith, c .before .before .before .before .before .before .before .before .before .before .before .pre .1)
+
+settle-access-requires-3 : tie.Need-settle-access-requires-3
+settle-access-requires-3 c κs = (c .before .before .before .before .before .before .before .before .before .before .before .before .pre .0 .counts, c .before .before .before .before .before .before .before .before .before .before .before .before .pre .0 .ties, narrow _ _ _ _ _ (c .before .before .before .before .before .before .before .before .before .before .before .before .pre .0) (c .invokevirtual .result) (c .invokevirtual .ensures .declared))
+
+returns : tie.Need-returns
+returns c = rw (c .plain .ensures .0, c .plain .ensures .1, c .before .before .enum-told .given .1) (acted-frame _ _ _ _ _ _ _ _ _ _ _ _ _ _ _ (c .before .before .before .before .before .before .before .before .before .before .before .before .pre .0 .counts .ties) (c .before .aconst-null .ensures (now (c .before .before .before .before .before .before .before .before .before .before .before .before .args .frames)) (c .before .before .before .before .before .before .before .before .before .before .before .before .args .b)))
+
+returns-2 : tie.Need-returns-2
+returns-2 c = rw (c .plain2 .ensures .0, c .plain2 .ensures .1, c .before .before .before .i .given .1) (acted-frame _ _ _ _ _ _ _ _ _ _ _ _ _ _ _ (c .before .before .before .before .before .before .before .before .before .before .before .before .before .pre .0 .counts .ties) (c .before .sipush .ensures (now (c .before .before .before .before .before .before .before .before .before .before .before .before .before .args .frames)) (c .before .before .before .before .before .before .before .before .before .before .before .before .before .args .b)))
+
+returns-3 : tie.Need-returns-3
+returns-3 c = rw (c .plain3 .ensures .0, c .plain3 .ensures .1, c .before .before .before .i2 .given .1) (acted-frame _ _ _ _ _ _ _ _ _ _ _ _ _ _ _ (c .before .before .before .before .before .before .before .before .before .before .before .before .before .pre .0 .counts .ties) (c .before .iload .ensures))
+
+returns-4 : tie.Need-returns-4
+returns-4 c = rw (c .plain4 .ensures .0, c .plain4 .ensures .1, c .before .before .before .i3 .given .1) (acted-frame _ _ _ _ _ _ _ _ _ _ _ _ _ _ _ (c .before .before .before .before .before .before .before .before .before .before .before .before .before .pre .0 .counts .ties) (c .before .aload .ensures))
+
+returns-5 : tie.Need-returns-5
+returns-5 c = rw (c .plain5 .ensures .0, c .plain5 .ensures .1, c .before .before .before .i4 .given .1) (acted-frame _ _ _ _ _ _ _ _ _ _ _ _ _ _ _ (c .before .before .before .before .before .before .before .before .before .before .before .before .before .pre .0 .counts .ties) (c .before .istore .ensures))
+
+returns-6 : tie.Need-returns-6
+returns-6 c = rw (c .plain6 .ensures .0, c .plain6 .ensures .1, c .before .before .before .i5 .given .1) (acted-frame _ _ _ _ _ _ _ _ _ _ _ _ _ _ _ (c .before .before .before .before .before .before .before .before .before .before .before .before .before .pre .0 .counts .ties) (c .before .astore .ensures))
+
+returns-7 : tie.Need-returns-7
+returns-7 c = rw (c .plain7 .ensures .0, c .plain7 .ensures .1, c .before .before .enum-told2 .given .1) (acted-frame _ _ _ _ _ _ _ _ _ _ _ _ _ _ _ (c .before .before .before .before .before .before .before .before .before .before .before .before .pre .0 .counts .ties) (c .before .pop .ensures (now (c .before .before .before .before .before .before .before .before .before .before .before .before .args .frames)) (c .before .before .before .before .before .before .before .before .before .before .before .before .args .b)))
+
+returns-8 : tie.Need-returns-8
+returns-8 c = rw (c .plain8 .ensures .0, c .plain8 .ensures .1, c .before .before .enum-told3 .given .1) (acted-frame _ _ _ _ _ _ _ _ _ _ _ _ _ _ _ (c .before .before .before .before .before .before .before .before .before .before .before .before .pre .0 .counts .ties) (c .before .dup .ensures))
+
+returns-9 : tie.Need-returns-9
+returns-9 c = rw (c .plain9 .ensures .0, c .plain9 .ensures .1, c .before .before .enum-told4 .given .1) (acted-frame _ _ _ _ _ _ _ _ _ _ _ _ _ _ _ (c .before .before .before .before .before .before .before .before .before .before .before .before .pre .0 .counts .ties) (c .before .iadd .ensures))
+
+returns-10 : tie.Need-returns-10
+returns-10 c = rw (c .plain10 .ensures .0, c .plain10 .ensures .1, c .before .before .enum-told5 .given .1) (acted-frame _ _ _ _ _ _ _ _ _ _ _ _ _ _ _ (c .before .before .before .before .before .before .before .before .before .before .before .before .pre .0 .counts .ties) (c .before .isub .ensures))
+
+returns-11 : tie.Need-returns-11
+returns-11 c = rw (c .before .before .before .i6 .given .1) (acted-access _ _ _ _ _ _ _ _ _ _ _ _ _ _ _ _ _ _ _ _ _ (c .before .before .before .before .before .before .before .before .before .before .before .before .before .pre .0 .counts .ties) (c .before .getfield .ensures) refl (c .settle-access .ensures))
+
+returns-12 : tie.Need-returns-12
+returns-12 c = rw (c .before .before .before .i7 .given .1) (acted-access _ _ _ _ _ _ _ _ _ _ _ _ _ _ _ _ _ _ _ _ _ (c .before .before .before .before .before .before .before .before .before .before .before .before .before .pre .0 .counts .ties) (c .before .putfield .ensures) refl (c .settle-access2 .ensures))
+
+returns-13 : tie.Need-returns-13
+returns-13 c = rw (c .before .before .before .i8 .given .1) (acted-access _ _ _ _ _ _ _ _ _ _ _ _ _ _ _ _ _ _ _ _ _ (c .before .before .before .before .before .before .before .before .before .before .before .before .before .pre .0 .counts .ties) (c .before .invokevirtual .ensures) (frames-room (now (c .before .before .before .before .before .before .before .before .before .before .before .before .before .args .frames)) (c .before .before .before .before .before .before .before .before .before .before .before .before .before .args .task) (c .before .before .before .before .before .before .before .before .before .before .before .before .before .args .m)) (c .settle-access3 .ensures))
+
+returns-14 : tie.Need-returns-14
+returns-14 c = rw (c .plain11 .ensures .0, c .plain11 .ensures .1, c .before .before .before .i9 .given .1) (acted-make _ _ _ _ _ _ _ _ _ _ _ _ _ _ _ (c .before .before .before .before .before .before .before .before .before .before .before .before .before .pre .0 .counts .ties) _ refl (c .before .new-object .ensures) (λ e. c .before .before .before .before .before .before .before .before .before .before .before .before .before .pre .0 .sizes _ e))
+
+returns-15 : tie.Need-returns-15
+returns-15 c = rw (c .plain12 .ensures .0, c .plain12 .ensures .1, c .before .before .enum-told6 .given .1) (acted-return _ _ _ _ _ _ _ _ _ _ _ _ _ _ _ (c .before .before .before .before .before .before .before .before .before .before .before .before .pre .0 .counts .ties) (c .before .ireturn .ensures))
+
+returns-16 : tie.Need-returns-16
+returns-16 c = rw (c .plain13 .ensures .0, c .plain13 .ensures .1, c .before .before .enum-told7 .given .1) (acted-return _ _ _ _ _ _ _ _ _ _ _ _ _ _ _ (c .before .before .before .before .before .before .before .before .before .before .before .before .pre .0 .counts .ties) (c .before .areturn .ensures))
+
+pub act-spec : {M : Type 1} → statement M
+act-spec =
+    tie.close
+    (tie.spec
+    (λ c. search needs)
+    (λ c κs. search needs)
+    (λ c κs. search needs)
+    (λ c. search needs)
+    (λ c κs. search needs)
+    (λ c κs. search needs)
+    (λ c. search needs)
+    (λ c κs. search needs)
+    (λ c κs. search needs)
+    (λ c. search needs)
+    (λ c κs. search needs)
+    (λ c κs. search needs)
+    (λ c. search needs)
+    (λ c κs. search needs)
+    (λ c κs. search needs)
+    (λ c. search needs)
+    (λ c κs. search needs)
+    (λ c κs. search needs)
+    (λ c. search needs)
+    (λ c κs. search needs)
+    (λ c κs. search needs)
+    (λ c. search needs)
+    (λ c κs. search needs)
+    (λ c κs. search needs)
+    (λ c. search needs)
+    (λ c κs. search needs)
+    (λ c κs. search needs)
+    (λ c. search needs)
+    (λ c κs. search needs)
+    (λ c κs. search needs)
+    (λ c. search needs)
+    (λ c κs. search needs)
+    settle-access-requires
+    (λ c. search needs)
+    (λ c κs. search needs)
+    settle-access-requires-2
+    (λ c. search needs)
+    add-settle-access
+    (λ c κs. search needs)
+    settle-access-requires-3
+    (λ c. search needs)
+    (λ c κs. search needs)
+    (λ c κs. search needs)
+    (λ c. search needs)
+    (λ c κs. search needs)
+    (λ c κs. search needs)
+    (λ c. search needs)
+    (λ c κs. search needs)
+    (λ c κs. search needs)
+    returns
+    returns-2
+    returns-3
+    returns-4
+    returns-5
+    returns-6
+    returns-7
+    returns-8
+    returns-9
+    returns-10
+    returns-11
+    returns-12
+    returns-13
+    returns-14
+    returns-15
+    returns-16)

@@ -1,0 +1,97 @@
+-- The run of steps: the loop has taken k of them, what is left of the run is the whole run, and the store is not broken.
+use Prim.Native.Nat.{_-_, _≤_}
+use mathlib.Core.Path.{_≡_, refl, sym, _∙_}
+use mathlib.Core.Bool.{false}
+use native.Mathlib.Omega.{arith}
+use borrow.Author.Needs.{needs}
+use lib.ListN.{length}
+use borrow.Author.Tests.{not-true, not-false}
+use Rattle.execution.specs.Runs.{run-stops, run-on, still-whole, run-ends, run-begins}
+use Rattle.definition.specs.declared.Answer.the-variants.{Idle}
+use Rattle.definition.specs.Broken.{broken}
+use Rattle.definition.specs.Calls.{stepTables, runFrom}
+use Rattle.definition.specs.Tables.{tables}
+use Rattle.execution.proofs.runs.steps.Statement.{statement}
+use Rattle.execution.proofs.runs.steps.Tie as tie
+
+abbrev Inv-loop : tie.InvT-loop
+Inv-loop counts₀ classes kept cache ties₀ subtypes objects₀ frames₀ n k₀ last₀ counts ties objects frames k last =
+    (k ≤ n)
+    × (runFrom stepTables (n - k) k last (tables counts classes kept cache ties subtypes objects frames)
+    ≡ runFrom stepTables n 0 Idle (tables counts₀ classes kept cache ties₀ subtypes objects₀ frames₀))
+    × (broken (tables counts classes kept cache ties subtypes objects frames) ≡ false)
+    × (length counts ≡ length counts₀)
+    × (length ties ≡ length ties₀)
+    × (length objects ≡ length objects₀)
+    × (length frames ≡ length frames₀)
+
+abbrev μ-loop : tie.MeasureT-loop
+μ-loop counts₀ classes kept cache ties₀ subtypes objects₀ frames₀ n k₀ last₀ counts ties objects frames k last = n - k
+
+loop-holds : tie.Need-loop-holds Inv-loop μ-loop
+loop-holds c = (omega arith, run-begins _ _, c .before .before .before .before .before .before .before .before .pre, refl, refl, refl, refl)
+
+step-unbroken-requires : tie.Need-step-unbroken-requires Inv-loop μ-loop
+step-unbroken-requires c κs = c .before .before .before .before .before .loop .inv .2
+
+same-length : tie.Need-same-length Inv-loop μ-loop
+same-length c = c .before .before .before .before .before .before .before .before .before .before .step-unbroken .kept .0 ∙ c .before .before .before .before .before .before .before .before .before .before .before .before .before .before .before .before .loop .inv .3
+
+same-length-2 : tie.Need-same-length-2 Inv-loop μ-loop
+same-length-2 c = c .before .before .before .before .before .before .before .before .before .before .step-unbroken .kept .1 .1 .1 .1 .0 ∙ c .before .before .before .before .before .before .before .before .before .before .before .before .before .before .before .before .loop .inv .4
+
+same-length-3 : tie.Need-same-length-3 Inv-loop μ-loop
+same-length-3 c = c .before .before .before .before .before .before .before .before .before .before .step-unbroken .kept .1 .1 .1 .1 .1 .1 .0 ∙ c .before .before .before .before .before .before .before .before .before .before .before .before .before .before .before .before .loop .inv .5
+
+same-length-4 : tie.Need-same-length-4 Inv-loop μ-loop
+same-length-4 c = c .before .before .before .before .before .before .before .before .before .before .step-unbroken .kept .1 .1 .1 .1 .1 .1 .1 .0 ∙ c .before .before .before .before .before .before .before .before .before .before .before .before .before .before .before .before .loop .inv .6
+
+returns : tie.Need-returns Inv-loop μ-loop
+returns c = run-stops _ _ _ _ _ _ (c .before .before .before .before .before .before .before .before .before .before .step-unbroken .ensures) (c .before .before .before .before .before .before .before .before .before .before .before .before .before .before .before .loop-test .taken) (sym (c .before .is-ran .ensures) ∙ not-true _ (c .if1 .taken)) ∙ c .before .before .before .before .before .before .before .before .before .before .before .before .before .before .before .before .loop .inv .1
+
+add-k : tie.Need-add-k Inv-loop μ-loop
+add-k c = omega (arith, c .before .before .before .before .before .before .before .before .before .before .before .before .before .before .before .loop-test .taken)
+
+loop-less : tie.Need-loop-less Inv-loop μ-loop
+loop-less c = omega (arith, c .before .before .before .before .before .before .before .before .before .before .before .before .before .before .before .loop-test .taken)
+
+loop-again : tie.Need-loop-again Inv-loop μ-loop
+loop-again c = (omega (arith, c .before .before .before .before .before .before .before .before .before .before .before .before .before .before .before .loop-test .taken), run-on _ _ _ _ _ _ (c .before .before .before .before .before .before .before .before .before .before .step-unbroken .ensures) (c .before .before .before .before .before .before .before .before .before .before .before .before .before .before .before .loop-test .taken) (sym (c .before .is-ran .ensures) ∙ not-false _ (c .if1 .left)) ∙ c .before .before .before .before .before .before .before .before .before .before .before .before .before .before .before .before .loop .inv .1, still-whole (c .before .before .before .before .before .before .before .before .before .before .before .before .before .before .before .before .before .before .before .before .before .before .before .before .before .args .n) (c .before .before .before .before .before .before .before .before .before .before .before .before .before .before .before .before .loop .k) (c .before .before .before .before .before .before .before .before .before .before .before .before .before .before .before .before .loop .last) _ _ _ (c .before .before .before .before .before .before .before .before .before .before .step-unbroken .ensures) (c .before .before .before .before .before .before .before .before .before .before .before .before .before .before .before .before .loop .inv .2), c .before .before .before .before .before .before .before .before .before .before .step-unbroken .kept .0 ∙ c .before .before .before .before .before .before .before .before .before .before .before .before .before .before .before .before .loop .inv .3, c .before .before .before .before .before .before .before .before .before .before .step-unbroken .kept .1 .1 .1 .1 .0 ∙ c .before .before .before .before .before .before .before .before .before .before .before .before .before .before .before .before .loop .inv .4, c .before .before .before .before .before .before .before .before .before .before .step-unbroken .kept .1 .1 .1 .1 .1 .1 .0 ∙ c .before .before .before .before .before .before .before .before .before .before .before .before .before .before .before .before .loop .inv .5, c .before .before .before .before .before .before .before .before .before .before .step-unbroken .kept .1 .1 .1 .1 .1 .1 .1 .0 ∙ c .before .before .before .before .before .before .before .before .before .before .before .before .before .before .before .before .loop .inv .6)
+
+same-length-5 : tie.Need-same-length-5 Inv-loop μ-loop
+same-length-5 c = c .before .loop .inv .3
+
+same-length-6 : tie.Need-same-length-6 Inv-loop μ-loop
+same-length-6 c = c .before .loop .inv .4
+
+same-length-7 : tie.Need-same-length-7 Inv-loop μ-loop
+same-length-7 c = c .before .loop .inv .5
+
+same-length-8 : tie.Need-same-length-8 Inv-loop μ-loop
+same-length-8 c = c .before .loop .inv .6
+
+returns-2 : tie.Need-returns-2 Inv-loop μ-loop
+returns-2 c = run-ends _ _ _ _ (c .loop-test .left) ∙ c .before .loop .inv .1
+
+pub steps-spec : {M : Type 1} → statement M
+steps-spec =
+    tie.close
+    (tie.spec
+    Inv-loop
+    μ-loop
+    loop-holds
+    step-unbroken-requires
+    (λ c κs. search needs)
+    same-length
+    same-length-2
+    same-length-3
+    same-length-4
+    returns
+    add-k
+    loop-less
+    loop-again
+    same-length-5
+    same-length-6
+    same-length-7
+    same-length-8
+    returns-2)

@@ -1,0 +1,49 @@
+-- No room, then full, then a clash, and else the plan with its ties.
+use mathlib.Core.Path.{sym, _∙_}
+use native.Mathlib.Omega.{arith}
+use borrow.Author.Needs.{needs}
+use borrow.Author.Tests.{not-true, not-false}
+use Rattle.execution.specs.Decisions.{settle-no-room, settle-none, settle-full, settle-clash, settle-agrees}
+use Rattle.execution.proofs.settling.settle.Statement.{statement}
+use Rattle.execution.proofs.settling.settle.Tie as tie
+
+returns : tie.Need-returns
+returns c = rw (c .refused .ensures .0, c .refused .ensures .1) (settle-no-room _ _ _ _ _ _ _ (c .before .before .before .before .before .before .before .before .pre .0 .ties) _ _ (not-true _ (c .before .if1 .taken)))
+
+returns-2 : tie.Need-returns-2
+returns-2 c = rw (c .decided .ensures .0, c .decided .ensures .1) (settle-none _ _ _ _ _ _ _ (c .before .before .before .before .before .before .before .before .before .before .before .before .pre .0 .ties) _ _ (c .before .before .before .new-ties .ensures ∙ rw (c .before .before .before .before .at16 .ensures)) _ (not-false _ (c .before .before .before .before .before .if1 .left)) (sym (c .before .before .tie-number .ensures .0) ∙ c .before .if2 .taken))
+
+add-if3 : tie.Need-add-if3
+add-if3 c = omega (arith, c .before .tie-number .ensures .1, c .before .before .before .at16 .ensures, c .before .before .before .before .before .before .before .before .before .before .before .pre .0 .ties)
+
+returns-3 : tie.Need-returns-3
+returns-3 c = rw (c .refused2 .ensures .0, c .refused2 .ensures .1) (settle-full _ _ _ _ _ _ _ (c .before .before .before .before .before .before .before .before .before .before .before .before .before .pre .0 .ties) _ _ (c .before .before .before .before .new-ties .ensures ∙ rw (c .before .before .before .before .before .at16 .ensures)) _ (not-false _ (c .before .before .before .before .before .before .if1 .left)) (rw (← c .before .before .before .before .before .at16 .ensures, ← c .before .before .before .tie-number .ensures .0) (c .before .if3 .taken)))
+
+agrees-with-requires : tie.Need-agrees-with-requires
+agrees-with-requires c κs = (c .before .before .before .before .before .before .before .before .before .before .before .before .pre .0, c .before .before .before .before .before .before .before .before .before .before .before .before .pre .1, rw (← c .before .before .before .before .at16 .ensures, ← c .before .before .tie-number .ensures .0) (c .if3 .left))
+
+returns-4 : tie.Need-returns-4
+returns-4 c = rw (c .refused3 .ensures .0, c .refused3 .ensures .1) (settle-clash _ _ _ _ _ _ _ (c .before .before .before .before .before .before .before .before .before .before .before .before .before .before .before .pre .0 .ties) _ _ (c .before .before .before .before .before .before .new-ties .ensures ∙ rw (c .before .before .before .before .before .before .before .at16 .ensures)) _ (not-false _ (c .before .before .before .before .before .before .before .before .if1 .left)) (rw (← c .before .before .before .before .before .before .before .at16 .ensures, ← c .before .before .before .before .before .tie-number .ensures .0) (c .before .before .before .if3 .left)) (λ e. c .before .before .before .before .if2 .left (c .before .before .before .before .before .tie-number .ensures .0 ∙ e)) (sym (c .before .before .agrees-with .ensures) ∙ not-true _ (c .before .if4 .taken)))
+
+returns-5 : tie.Need-returns-5
+returns-5 c = rw (c .decided2 .ensures .0, c .decided2 .ensures .1) (settle-agrees _ _ _ _ _ _ _ (c .before .before .before .before .before .before .before .before .before .before .before .before .before .before .before .pre .0 .ties) _ _ (c .before .before .before .before .before .before .new-ties .ensures ∙ rw (c .before .before .before .before .before .before .before .at16 .ensures)) _ (not-false _ (c .before .before .before .before .before .before .before .before .if1 .left)) (rw (← c .before .before .before .before .before .before .before .at16 .ensures, ← c .before .before .before .before .before .tie-number .ensures .0) (c .before .before .before .if3 .left)) (sym (c .before .before .agrees-with .ensures) ∙ not-false _ (c .before .if4 .left)))
+
+pub settle-spec : {M : Type 1} → statement M
+settle-spec =
+    tie.close
+    (tie.spec
+    (λ c κs. search needs)
+    returns
+    (λ c κs. search needs)
+    (λ c κs. search needs)
+    (λ c κs. search needs)
+    (λ c κs. search needs)
+    returns-2
+    add-if3
+    (λ c κs. search needs)
+    returns-3
+    agrees-with-requires
+    (λ c κs. search needs)
+    returns-4
+    (λ c κs. search needs)
+    returns-5)

@@ -1,0 +1,170 @@
+// The one place that writes: ties posted, then a plan carried out.
+use crate::posting::Posting;
+use crate::posting::post_ties;
+use definition::Answer;
+use instructions::Plan;
+ghost use mathlib.Core.Path.{_≡_};
+ghost use Prim.Native.Nat.{_+_, _-_, _<_, _≤_};
+ghost use lib.ListN.{getD, set};
+ghost use Rattle.definition.specs.Machine.{objectValue, newObject, entryFrame};
+ghost use Rattle.definition.specs.Tables.{tables, valueOf, sizeOf, putObject, putOperand, putLocal, putFrame, frameBase};
+ghost use Rattle.layout.specs.Cells.{moved};
+ghost use Rattle.resolution.specs.Quick.{quickBase};
+ghost use Rattle.definition.specs.Calls.{done};
+ghost use Rattle.execution.specs.Carried.{Ready, planned};
+ghost use Rattle.execution.specs.Postings.{toPost};
+
+// A value pushed: the frame goes on at point q with d operands and the value above them.
+fn push(frames: &mut [u32], b: u32, q: u32, d: u32, kind: u32, bits: u32)
+    requires { ⌜ d < 16 ⌝ }
+    ensures { λ _. ⌜ now (frames .exit) ≡ putOperand b (moved (now (frames .entry)) b q (d + 1)) d (valueOf kind bits) ⌝ }
+{
+    frames::write_moved(frames, b, q, d + 1);
+    frames::write_operand(frames, b, d, kind, bits);
+}
+
+// A local set: the frame goes on at point q with d operands.
+fn store(frames: &mut [u32], b: u32, q: u32, d: u32, j: u8, kind: u32, bits: u32)
+    ensures { λ _. ⌜ now (frames .exit) ≡ putLocal b (moved (now (frames .entry)) b q d) j (valueOf kind bits) ⌝ }
+{
+    frames::write_moved(frames, b, q, d);
+    frames::write_local(frames, b, j, kind, bits);
+}
+
+// A value given back to the frame in row m - 1 of a task, which is then its top frame.
+fn give(counts: &mut [u16], frames: &mut [u32], task: u8, m: u16, kind: u32, bits: u32)
+    requires { ⌜ (0 < m) × (getD (now frames) (frameBase task (m - 1) + 3) 0 < 16) ⌝ }
+    ensures counted { λ _. ⌜ now (counts .exit) ≡ set (now (counts .entry)) (6 + task) m ⌝ }
+    ensures written { λ _. ⌜ (let a = frameBase task (m - 1) in let d = getD (now (frames .entry)) (a + 3) 0 in now (frames .exit) ≡ putOperand a (set (now (frames .entry)) (a + 3) (d + 1)) d (valueOf kind bits)) ⌝ }
+{
+    let a = frames::row(task, m - 1);
+    let d = frames::depth(frames, a);
+    frames::write_depth(frames, a, d + 1);
+    frames::write_operand(frames, a, d, kind, bits);
+    cells::put16(counts, 6 + cells::wide8(task), m);
+}
+
+// A frame entered in row m + 1 of a task, above the one that goes on at point q with d operands.
+fn enter(
+    counts: &mut [u16],
+    frames: &mut [u32],
+    task: u8,
+    m: u16,
+    b: u32,
+    q: u32,
+    d: u32,
+    c: u32,
+    j: u32,
+    o: u32,
+    kind: u32,
+    bits: u32,
+)
+    requires { ⌜ m < 32 ⌝ }
+    ensures counted { λ _. ⌜ now (counts .exit) ≡ set (now (counts .entry)) (6 + task) (m + 2) ⌝ }
+    ensures written { λ _. ⌜ now (frames .exit) ≡ putFrame (moved (now (frames .entry)) b q d) (frameBase task (m + 1)) (entryFrame c j o (valueOf kind bits)) ⌝ }
+{
+    frames::write_moved(frames, b, q, d);
+    frames::write_entry(frames, frames::row(task, m + 1), c, j, o, kind, bits);
+    cells::put16(counts, 6 + cells::wide8(task), m + 2);
+}
+
+// The row of a new object of class c.
+pub(crate) fn write_new(
+    counts: &[u16],
+    classes: &[u16],
+    kept: &[u8],
+    cache: &[u16],
+    objects: &mut [u32],
+    o: u32,
+    c: u32,
+)
+    requires { ⌜ sizeOf (quickBase (now counts) (now classes) (now kept) (now cache)) c ≤ 16 ⌝ }
+    ensures { λ _. ⌜ now (objects .exit) ≡ putObject (now (objects .entry)) o (newObject (quickBase (now (counts .entry)) (now (classes .entry)) (now (kept .entry)) (now (cache .entry))) c) ⌝ }
+{
+    let mut types = [0u16; 16];
+    let n = resolution::slot_types(&mut types, counts, classes, kept, cache, c);
+    frames::write_object(objects, o, c, &types, n as u8);
+}
+
+// An object of class c made, with the next number, which is pushed.
+fn make(
+    counts: &mut [u16],
+    classes: &[u16],
+    kept: &[u8],
+    cache: &[u16],
+    objects: &mut [u32],
+    frames: &mut [u32],
+    b: u32,
+    q: u32,
+    d: u32,
+    c: u32,
+)
+    requires { ⌜ (d < 16) × (getD (now counts) 5 0 < 256) × (sizeOf (quickBase (now counts) (now classes) (now kept) (now cache)) c ≤ 16) ⌝ }
+    ensures counted { λ _. ⌜ now (counts .exit) ≡ set (now (counts .entry)) 5 (getD (now (counts .entry)) 5 0 + 1) ⌝ }
+    ensures made { λ _. ⌜ now (objects .exit) ≡ putObject (now (objects .entry)) (getD (now (counts .entry)) 5 0) (newObject (quickBase (now (counts .entry)) (now (classes .entry)) (now (kept .entry)) (now (cache .entry))) c) ⌝ }
+    ensures pushed { λ _. ⌜ now (frames .exit) ≡ putOperand b (moved (now (frames .entry)) b q (d + 1)) d (objectValue (getD (now (counts .entry)) 5 0)) ⌝ }
+{
+    let n = cells::at16(counts, 5);
+    write_new(counts, classes, kept, cache, objects, cells::from16(n), c);
+    push(frames, b, q, d, 3, cells::from16(n));
+    cells::put16(counts, 5, n + 1);
+}
+
+// The one place that writes: ties are posted, then the plan is carried out. The top frame of the task, in row m, goes on at point q.
+pub(crate) fn carry_out(
+    counts: &mut [u16],
+    classes: &[u16],
+    kept: &[u8],
+    cache: &[u16],
+    ties: &mut [u16],
+    subtypes: &[u16],
+    objects: &mut [u32],
+    frames: &mut [u32],
+    task: u8,
+    m: u16,
+    b: u32,
+    q: u32,
+    posting: Posting,
+    plan: Plan,
+) -> Answer
+    requires { ⌜ Ready (quickBase (now counts) (now classes) (now kept) (now cache)) (tables (now counts) (now classes) (now kept) (now cache) (now ties) (now subtypes) (now objects) (now frames)) task m b (toPost posting) plan ⌝ }
+    ensures { λ r. ⌜ done r (tables (now (counts .exit)) (now (classes .entry)) (now (kept .entry)) (now (cache .entry)) (now (ties .exit)) (now (subtypes .entry)) (now (objects .exit)) (now (frames .exit))) ≡ planned (quickBase (now (counts .entry)) (now (classes .entry)) (now (kept .entry)) (now (cache .entry))) (tables (now (counts .entry)) (now (classes .entry)) (now (kept .entry)) (now (cache .entry)) (now (ties .entry)) (now (subtypes .entry)) (now (objects .entry)) (now (frames .entry))) task m q (toPost posting) plan ⌝ }
+{
+    post_ties(counts, ties, posting);
+    match plan {
+        Plan::Refuse(r) => Answer::Refused(r),
+        Plan::Keep(d) => {
+            frames::write_moved(frames, b, q, d);
+            Answer::Ran(task)
+        }
+        Plan::Above(d, kind, bits) => {
+            push(frames, b, q, d, kind, bits);
+            Answer::Ran(task)
+        }
+        Plan::Local(d, j, kind, bits) => {
+            store(frames, b, q, d, j, kind, bits);
+            Answer::Ran(task)
+        }
+        Plan::Give(kind, bits) => {
+            give(counts, frames, task, m, kind, bits);
+            Answer::Ran(task)
+        }
+        Plan::Finish(bits) => {
+            cells::put16(counts, 6 + cells::wide8(task), 0);
+            Answer::Finished(task, bits)
+        }
+        Plan::Field(d, o, j, kind, bits) => {
+            frames::write_moved(frames, b, q, d);
+            frames::write_field(objects, o, j, kind, bits);
+            Answer::Ran(task)
+        }
+        Plan::Enter(d, c, j, o, kind, bits) => {
+            enter(counts, frames, task, m, b, q, d, c, j, o, kind, bits);
+            Answer::Ran(task)
+        }
+        Plan::Make(d, c) => {
+            make(counts, classes, kept, cache, objects, frames, b, q, d, c);
+            Answer::Ran(task)
+        }
+    }
+}

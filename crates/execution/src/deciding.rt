@@ -1,0 +1,203 @@
+// The decision on the instruction of a task's top frame, on shared tables.
+use crate::posting::Posting;
+use crate::settling::Decision;
+use crate::settling::plain;
+use crate::settling::settle_access;
+use definition::Instruction;
+use instructions::Plan;
+use verifier::Reading;
+ghost use mathlib.Core.Path.{_≡_};
+ghost use mathlib.Core.Bool.{false};
+ghost use Prim.Native.Nat.{suc, _+_, _<_};
+ghost use lib.ListN.{getD};
+ghost use Rattle.definition.specs.Tables.{tables, frameBase};
+ghost use Rattle.definition.specs.Broken.{broken};
+ghost use Rattle.execution.specs.Steps.{Chosen};
+ghost use Rattle.execution.specs.Decisions.{Usable, Acted};
+
+// The decision on an instruction of the top frame of a task, in row m: the frame has d operands, and its class that loader.
+fn act(
+    counts: &[u16],
+    classes: &[u16],
+    kept: &[u8],
+    cache: &[u16],
+    ties: &[u16],
+    subtypes: &[u16],
+    objects: &[u32],
+    frames: &[u32],
+    task: u8,
+    m: u16,
+    b: u32,
+    d: u32,
+    loader: u8,
+    i: Instruction,
+) -> Decision
+    requires { ⌜ Usable (now counts) (now classes) (now kept) (now cache) (now ties) × (m < 32) ⌝ }
+    ensures { λ r. ⌜ Acted (now (counts .entry)) (now (classes .entry)) (now (kept .entry)) (now (cache .entry)) (now (ties .entry)) (now (subtypes .entry)) (now (objects .entry)) (now (frames .entry)) task m b d loader i (r .posting) (r .plan) ⌝ }
+{
+    match i {
+        Instruction::AconstNull => plain(instructions::aconst_null(d)),
+        Instruction::Sipush(n) => plain(instructions::sipush(d, n)),
+        Instruction::Iload(j) => plain(instructions::iload(frames, b, d, j)),
+        Instruction::Aload(j) => plain(instructions::aload(frames, b, d, j)),
+        Instruction::Istore(j) => plain(instructions::istore(frames, b, d, j)),
+        Instruction::Astore(j) => plain(instructions::astore(frames, b, d, j)),
+        Instruction::Pop => plain(instructions::pop(d)),
+        Instruction::Dup => plain(instructions::dup(frames, b, d)),
+        Instruction::Iadd => plain(instructions::iadd(frames, b, d)),
+        Instruction::Isub => plain(instructions::isub(frames, b, d)),
+        Instruction::Getfield(class, name, of) => settle_access(
+            counts,
+            classes,
+            kept,
+            cache,
+            ties,
+            subtypes,
+            true,
+            loader,
+            of,
+            1,
+            access::getfield(
+                counts,
+                classes,
+                kept,
+                cache,
+                objects,
+                frames,
+                b,
+                d,
+                loader,
+                class,
+                name,
+                of,
+            ),
+        ),
+        Instruction::Putfield(class, name, of) => settle_access(
+            counts,
+            classes,
+            kept,
+            cache,
+            ties,
+            subtypes,
+            true,
+            loader,
+            of,
+            1,
+            access::putfield(
+                counts,
+                classes,
+                kept,
+                cache,
+                objects,
+                frames,
+                b,
+                d,
+                loader,
+                class,
+                name,
+                of,
+            ),
+        ),
+        Instruction::Invokevirtual(class, name, argument, result) => settle_access(
+            counts,
+            classes,
+            kept,
+            cache,
+            ties,
+            subtypes,
+            m + 1 < 32,
+            loader,
+            argument,
+            result,
+            access::invokevirtual(
+                counts,
+                classes,
+                kept,
+                cache,
+                objects,
+                frames,
+                b,
+                d,
+                loader,
+                class,
+                name,
+                argument,
+                result,
+            ),
+        ),
+        Instruction::New(class) => plain(access::new_object(
+            counts,
+            classes,
+            kept,
+            cache,
+            objects,
+            frames,
+            b,
+            d,
+            loader,
+            class,
+        )),
+        Instruction::Ireturn => plain(instructions::ireturn(frames, task, m, b, d)),
+        Instruction::Areturn => plain(instructions::areturn(frames, task, m, b, d)),
+    }
+}
+
+// What a step chooses: ties, a plan, and the point at which the frame goes on.
+pub struct Choice {
+    pub posting: Posting,
+    pub plan: Plan,
+    pub next: u32,
+}
+
+// The choice for the top frame of a task, in row m, which begins at cell b.
+pub(crate) fn choose(
+    counts: &[u16],
+    classes: &[u16],
+    kept: &[u8],
+    cache: &[u16],
+    ties: &[u16],
+    subtypes: &[u16],
+    objects: &[u32],
+    frames: &[u32],
+    task: u8,
+    m: u16,
+    b: u32,
+) -> Choice
+    requires { ⌜ (broken (tables (now counts) (now classes) (now kept) (now cache) (now ties) (now subtypes) (now objects) (now frames)) ≡ false) × (task < 2) × (getD (now counts) (6 + task) 0 ≡ suc m) × (b ≡ frameBase task m) ⌝ }
+    ensures { λ r. ⌜ Chosen (now (counts .entry)) (now (classes .entry)) (now (kept .entry)) (now (cache .entry)) (now (ties .entry)) (now (subtypes .entry)) (now (objects .entry)) (now (frames .entry)) task m b (r .posting) (r .plan) (r .next) ⌝ }
+{
+    let c = frames::frame_class(frames, b);
+    let p = frames::point(frames, b);
+    let code = resolution::method_code(counts, classes, kept, c, frames::frame_method(frames, b));
+    let Reading::At(i, n) = verifier::decode(code, cells::wide32(p)) else {
+        return Choice {
+            posting: Posting::Nothing,
+            plan: instructions::refuse(14),
+            next: 0,
+        };
+    };
+    let loader = resolution::loader_of(counts, classes, c);
+    let r = act(
+        counts,
+        classes,
+        kept,
+        cache,
+        ties,
+        subtypes,
+        objects,
+        frames,
+        task,
+        m,
+        b,
+        frames::depth(frames, b),
+        loader as u8,
+        i,
+    );
+    let posting = r.posting;
+    let plan = r.plan;
+    Choice {
+        posting,
+        plan,
+        next: (cells::wide32(p) + n) as u32,
+    }
+}

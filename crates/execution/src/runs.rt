@@ -1,0 +1,104 @@
+// A run of steps.
+use crate::turns::step_unbroken;
+use definition::Answer;
+use definition::Refusal;
+use definition::Reply;
+ghost use mathlib.Core.Path.{_≡_};
+ghost use mathlib.Core.Bool.{false};
+ghost use Rattle.definition.specs.Tables.{tables};
+ghost use Rattle.definition.specs.Broken.{broken};
+ghost use Rattle.definition.specs.Calls.{done, stepTables, runFrom, run};
+ghost use Rattle.execution.specs.Runs.{goesOn};
+
+fn is_ran(a: Answer) -> bool
+    ensures { λ r. ⌜ r ≡ goesOn a ⌝ }
+{
+    match a {
+        Answer::Idle => false,
+        Answer::Ran(_) => true,
+        Answer::Finished(_, _) => false,
+        Answer::Refused(_) => false,
+    }
+}
+
+// Up to n steps of a store that is not broken: a step leaves it so, and it isn't tested again.
+fn steps(
+    counts: &mut [u16],
+    classes: &[u16],
+    kept: &[u8],
+    cache: &[u16],
+    ties: &mut [u16],
+    subtypes: &[u16],
+    objects: &mut [u32],
+    frames: &mut [u32],
+    n: u16,
+) -> Reply
+    requires { ⌜ broken (tables (now counts) (now classes) (now kept) (now cache) (now ties) (now subtypes) (now objects) (now frames)) ≡ false ⌝ }
+    ensures { λ r. ⌜ done r (tables (now (counts .exit)) (now (classes .entry)) (now (kept .entry)) (now (cache .entry)) (now (ties .exit)) (now (subtypes .entry)) (now (objects .exit)) (now (frames .exit))) ≡ runFrom stepTables n 0 Answer.Idle (tables (now (counts .entry)) (now (classes .entry)) (now (kept .entry)) (now (cache .entry)) (now (ties .entry)) (now (subtypes .entry)) (now (objects .entry)) (now (frames .entry))) ⌝ }
+{
+    let mut k: u16 = 0;
+    let mut last = Answer::Idle;
+    while k < n {
+        let a = step_unbroken(
+            counts,
+            classes,
+            kept,
+            cache,
+            ties,
+            subtypes,
+            objects,
+            frames,
+        );
+        if !is_ran(a) {
+            return Reply::RanFor(k, a);
+        }
+        last = a;
+        k += 1;
+    }
+    Reply::RanFor(k, last)
+}
+
+// Up to n steps, n from 1 to 65,535, ended by the first answer other than ran.
+pub fn run(
+    counts: &mut [u16],
+    classes: &[u16],
+    kept: &[u8],
+    cache: &[u16],
+    ties: &mut [u16],
+    subtypes: &[u16],
+    objects: &mut [u32],
+    frames: &mut [u32],
+    n: u32,
+) -> Reply
+    ensures { λ r. ⌜ done r (tables (now (counts .exit)) (now (classes .entry)) (now (kept .entry)) (now (cache .entry)) (now (ties .exit)) (now (subtypes .entry)) (now (objects .exit)) (now (frames .exit))) ≡ run n (tables (now (counts .entry)) (now (classes .entry)) (now (kept .entry)) (now (cache .entry)) (now (ties .entry)) (now (subtypes .entry)) (now (objects .entry)) (now (frames .entry))) ⌝ }
+{
+    if store::is_broken(
+        counts,
+        classes,
+        kept,
+        cache,
+        ties,
+        subtypes,
+        objects,
+        frames,
+    ) {
+        return Reply::Denied(Refusal::Word(1));
+    }
+    if n == 0 {
+        return Reply::Denied(Refusal::Word(3));
+    }
+    if 65535 < n {
+        return Reply::Denied(Refusal::Word(3));
+    }
+    steps(
+        counts,
+        classes,
+        kept,
+        cache,
+        ties,
+        subtypes,
+        objects,
+        frames,
+        n as u16,
+    )
+}
