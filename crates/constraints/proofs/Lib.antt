@@ -6,5 +6,5 @@ pub mod Agreeing
 pub mod Filling
 pub mod Searching
 pub mod Supers
-pub mod Posting
+pub mod Posted
 pub mod Notes

@@ -18,7 +18,7 @@ use Rattle.constraints.specs.declared.Added.the-variants.{Count, Full}
 use Rattle.constraints.specs.Posting.{note, noteAt, newSubtypesIn, subtypesAfter, roomy, counted, notesPosted}
 use Rattle.layout.specs.Places.{rows-step, rows-none, rows-start}
 use Rattle.layout.specs.Cells.{subtype-rows, rows-snoc, rows-after-last}
-use Rattle.constraints.proofs.Posting.{note-there, note-new}
+use Rattle.constraints.proofs.Posted.{note-there, note-new}
 
 -- Posting notes
 

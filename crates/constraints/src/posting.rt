@@ -1,0 +1,168 @@
+// Posting ties and subtype constraints.
+use crate::Added;
+use cells::at16;
+use cells::from8;
+use cells::from16;
+use cells::put16;
+use cells::wide16;
+ghost use mathlib.Core.Path.{_≡_};
+ghost use Prim.Native.Nat.{_+_, _<_};
+ghost use lib.ListN.{length};
+ghost use lib.Dec.{eqb};
+ghost use mathlib.Core.Bool.{_&&_};
+ghost use mathlib.Core.List.{[], _∷_};
+ghost use Rattle.definition.specs.Lists.{rows, any};
+ghost use Rattle.definition.specs.Constraints.{tieIs};
+ghost use Rattle.definition.specs.Loading.{subtypeIs};
+ghost use Rattle.definition.specs.Tables.{tieAt, subtypeAt, putThree};
+ghost use Rattle.constraints.specs.Posting.{newTieIn, newSubtypesIn, newNotesIn, note, tiesAfter, subtypesAfter, roomy, counted, notesPosted};
+
+// Two cells are these two.
+fn are(a: u16, b: u16, x: u16, y: u16) -> bool
+    ensures { λ r. ⌜ r ≡ (eqb a x && eqb b y) ⌝ }
+{
+    if a == x { b == y } else { false }
+}
+
+// A row of three cells written, as far as the table has them.
+fn put_row(t: &mut [u16], i: usize, a: u16, b: u16, c: u16)
+    requires { ⌜ i < 65536 ⌝ }
+    ensures { λ _. ⌜ now (t .exit) ≡ putThree (now (t .entry)) i a b c ⌝ }
+{
+    put16(t, i * 3, a);
+    put16(t, i * 3 + 1, b);
+    put16(t, i * 3 + 2, c);
+}
+
+// Row i is a tie of two loaders, in either order, on a name.
+fn tie_is(ties: &[u16], i: usize, one: u8, two: u8, name: u16) -> bool
+    requires { ⌜ i < 65536 ⌝ }
+    ensures { λ r. ⌜ r ≡ tieIs one two name (tieAt (now (ties .entry)) i) ⌝ }
+{
+    let first = at16(ties, i * 3);
+    let second = at16(ties, i * 3 + 1);
+    let near = from8(one);
+    let far = from8(two);
+    if at16(ties, i * 3 + 2) != name {
+        return false;
+    }
+    if are(first, second, near, far) {
+        return true;
+    }
+    are(first, second, far, near)
+}
+
+// A tie is among the first rows.
+pub fn tie_known(ties: &[u16], count: u16, one: u8, two: u8, name: u16) -> bool
+    ensures { λ r. ⌜ r ≡ any (tieIs one two name) (rows (tieAt (now (ties .entry))) count 0) ⌝ }
+{
+    let n = wide16(count);
+    let mut i = 0;
+    while i < n {
+        if tie_is(ties, i, one, two, name) {
+            return true;
+        }
+        i += 1;
+    }
+    false
+}
+
+// Adds a tie behind the first rows, unless its loaders are one, its name is int or it is there. Answers the new count.
+pub fn add_tie(ties: &mut [u16], count: u16, one: u8, two: u8, name: u16) -> u32
+    ensures { λ r. ⌜ r ≡ count + length (newTieIn (now (ties .entry)) count one two name) ⌝ }
+    ensures { λ _. ⌜ now (ties .exit) ≡ tiesAfter (now (ties .entry)) count (newTieIn (now (ties .entry)) count one two name) ⌝ }
+{
+    let rows = from16(count);
+    if one == two {
+        return rows;
+    }
+    if name == 1 {
+        return rows;
+    }
+    if tie_known(ties, count, one, two, name) {
+        return rows;
+    }
+    put_row(ties, wide16(count), from8(one), from8(two), name);
+    rows + 1
+}
+
+// Row i is a loader's subtype constraint on two names.
+fn subtype_is(subtypes: &[u16], i: usize, loader: u8, low: u16, high: u16) -> bool
+    requires { ⌜ i < 65536 ⌝ }
+    ensures { λ r. ⌜ r ≡ subtypeIs loader (note low high) (subtypeAt (now (subtypes .entry)) i) ⌝ }
+{
+    if are(
+        at16(subtypes, i * 3),
+        at16(subtypes, i * 3 + 1),
+        from8(loader),
+        low,
+    ) {
+        return at16(subtypes, i * 3 + 2) == high;
+    }
+    false
+}
+
+// A subtype constraint is among the first rows.
+pub fn subtype_known(subtypes: &[u16], count: u16, loader: u8, low: u16, high: u16) -> bool
+    ensures { λ r. ⌜ r ≡ any (subtypeIs loader (note low high)) (rows (subtypeAt (now (subtypes .entry))) count 0) ⌝ }
+{
+    let n = wide16(count);
+    let mut i = 0;
+    while i < n {
+        if subtype_is(subtypes, i, loader, low, high) {
+            return true;
+        }
+        i += 1;
+    }
+    false
+}
+
+// Adds a subtype constraint behind the first rows, unless it is there. Answers the new count.
+pub fn add_subtype(subtypes: &mut [u16], count: u16, loader: u8, low: u16, high: u16) -> u32
+    ensures { λ r. ⌜ r ≡ count + length (newSubtypesIn (now (subtypes .entry)) count loader (note low high ∷ [])) ⌝ }
+    ensures { λ _. ⌜ now (subtypes .exit) ≡ subtypesAfter (now (subtypes .entry)) count (newSubtypesIn (now (subtypes .entry)) count loader (note low high ∷ [])) ⌝ }
+{
+    let rows = from16(count);
+    if subtype_known(subtypes, count, loader, low, high) {
+        return rows;
+    }
+    put_row(subtypes, wide16(count), from8(loader), low, high);
+    rows + 1
+}
+
+// Adds the notes of a verifier, two cells each, as subtype constraints of a loader, those that are not there yet.
+pub fn add_subtypes(
+    subtypes: &mut [u16],
+    count: u16,
+    loader: u8,
+    notes: &[u16],
+    note_count: u16,
+) -> Added
+    ensures { λ r. ⌜ r ≡ counted (roomy (now (subtypes .entry))) (count + length (newNotesIn (now (subtypes .entry)) count loader (now (notes .entry)) «note_count»)) ⌝ }
+    ensures { λ _. ⌜ now (subtypes .exit) ≡ notesPosted (now (subtypes .entry)) count (newNotesIn (now (subtypes .entry)) count loader (now (notes .entry)) «note_count») ⌝ }
+{
+    if subtypes.len() < 768 {
+        return Added::Full;
+    }
+    if 256 < count {
+        return Added::Full;
+    }
+    let n = wide16(note_count);
+    let mut total = count;
+    let mut i = 0;
+    while i < n {
+        let next = add_subtype(
+            subtypes,
+            total,
+            loader,
+            at16(notes, i * 2),
+            at16(notes, i * 2 + 1),
+        );
+        if 256 < next {
+            return Added::Full;
+        }
+        total = next as u16;
+        i += 1;
+    }
+    Added::Count(total)
+}
