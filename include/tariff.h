@@ -1,0 +1,159 @@
+/* The tariff class machine for programs in C: seven calls on a store that the program owns. docs/HOST.md tells how to build and link.
+
+   A store is eight tables (docs/STORE.md). Every call is lent all eight, each as a pointer and its number of cells, then takes its
+   own arguments, then a table for the answer. It returns 0 if it is accepted, else the number of its refusal. A refused call changes
+   nothing but the answer table. Tables may hold anything, and be of any length: what is no store is refused with TARIFF_BROKEN.
+
+   The program sees to it that each pointer is good for that many cells, that no two tables overlap, and that nothing else uses them
+   while the call runs. A length of 0 may come with any pointer. */
+#ifndef TARIFF_H
+#define TARIFF_H
+
+#include <stddef.h>
+#include <stdint.h>
+
+#ifdef __cplusplus
+extern "C" {
+#endif
+
+/* How many cells each table has. */
+enum {
+    TARIFF_COUNTS = 8,
+    TARIFF_CLASSES = 192,
+    TARIFF_KEPT = 16384,
+    TARIFF_CACHE = 768,
+    TARIFF_TIES = 768,
+    TARIFF_SUBTYPES = 768,
+    TARIFF_OBJECTS = 8448,
+    TARIFF_FRAMES = 3328,
+    TARIFF_ANSWER = 6
+};
+
+/* A store in one piece, 68,496 bytes. A program may as well keep its tables apart. */
+struct tariff_store {
+    uint16_t counts[TARIFF_COUNTS];
+    uint16_t classes[TARIFF_CLASSES];
+    uint8_t kept[TARIFF_KEPT];
+    uint16_t cache[TARIFF_CACHE];
+    uint16_t ties[TARIFF_TIES];
+    uint16_t subtypes[TARIFF_SUBTYPES];
+    uint32_t objects[TARIFF_OBJECTS];
+    uint32_t frames[TARIFF_FRAMES];
+};
+
+/* The eight tables of a store as a call takes them: tariff_step(TARIFF_LEND(&store), answer, TARIFF_ANSWER). */
+#define TARIFF_LEND(store)                                                                                                          \
+    (store)->counts, TARIFF_COUNTS, (store)->classes, TARIFF_CLASSES, (store)->kept, TARIFF_KEPT, (store)->cache, TARIFF_CACHE,     \
+        (store)->ties, TARIFF_TIES, (store)->subtypes, TARIFF_SUBTYPES, (store)->objects, TARIFF_OBJECTS, (store)->frames, TARIFF_FRAMES
+
+/* The cells of the answer. Of a shorter table the first ones are written, of a longer one the first six. */
+enum tariff_cell {
+    TARIFF_CELL_KIND = 0,   /* one of enum tariff_kind */
+    TARIFF_CELL_WORD = 1,   /* one of enum tariff_word: of a run, that of its last answer */
+    TARIFF_CELL_ONE = 2,    /* three details: see enum tariff_kind */
+    TARIFF_CELL_TWO = 3,
+    TARIFF_CELL_THREE = 4,
+    TARIFF_CELL_STEPS = 5   /* how many steps of a run ran, else 0 */
+};
+
+/* What a call answers. Details that are not named are 0. Of a refusal by TARIFF_WANTED, one and two are the loader and the name that
+   are wanted, three the task whose step wants them, 0 if no step does; other refusals have no details. */
+enum tariff_kind {
+    TARIFF_ACCEPTED = 0,    /* boot, record, start or drop */
+    TARIFF_DEFINED = 1,     /* define; one: the number of the new class */
+    TARIFF_STEPPED = 2,     /* step, refused or not; one: enum tariff_done; two: the task; three: of a task that finished, its int */
+    TARIFF_RAN_FOR = 3,     /* run; the word and the details are those of its last step */
+    TARIFF_DENIED = 4       /* any call but step, refused */
+};
+
+/* What a step did. */
+enum tariff_done {
+    TARIFF_IDLE = 0,        /* nothing: no task has a frame */
+    TARIFF_RAN = 1,         /* one instruction of the task */
+    TARIFF_FINISHED = 2     /* one instruction, by which the task returned its int and has no frame left */
+};
+
+/* Tasks. A step is one of the quote's while it has a frame. */
+enum tariff_task { TARIFF_QUOTE = 0, TARIFF_REPORT = 1 };
+
+/* Words of refusal. */
+enum tariff_word {
+    TARIFF_BROKEN = 1,      /* the tables are no store */
+    TARIFF_FILE = 2,        /* the file rules fail */
+    TARIFF_UNKNOWN = 3,     /* loader, task, class number or n not there; a class name below 2, or a method name 0 */
+    TARIFF_TAKEN = 4,       /* define: request cached; record: cached with another class */
+    TARIFF_WANTED = 5,      /* a request needed isn't cached; it is named */
+    TARIFF_UNVERIFIED = 6,  /* the verifier rejects */
+    TARIFF_ABSENT = 7,      /* no such field or method upward */
+    TARIFF_HIDDEN = 8,      /* define: a field name that a superclass has */
+    TARIFF_CLASH = 9,       /* the call adds a cache entry or constraint, and the new store wouldn't agree */
+    TARIFF_FULL = 10,       /* a limit would be passed */
+    TARIFF_NULL = 11,       /* receiver null */
+    TARIFF_BUSY = 12,       /* start on a task with frames */
+    TARIFF_MISNAMED = 13,   /* record: the class has another name */
+    TARIFF_STUCK = 14       /* step: no instruction, or no operand, local, class or method, as the instruction needs it */
+};
+
+/* boot: makes a store of the tables, whatever they held. Class 0 is Object, known to loader 0 alone. Refusal: 1, for the lengths. */
+uint8_t tariff_boot(uint16_t *counts, size_t counts_length, uint16_t *classes, size_t classes_length,
+                    const uint8_t *kept, size_t kept_length, uint16_t *cache, size_t cache_length,
+                    const uint16_t *ties, size_t ties_length, const uint16_t *subtypes, size_t subtypes_length,
+                    const uint32_t *objects, size_t objects_length, const uint32_t *frames, size_t frames_length,
+                    uint32_t *answer, size_t answer_length);
+
+/* define: a class of that loader, 0 to 15, from its file, which is kept. Answers the class's number. Refusals: 1 3 2 6 4 5 8 10 9, the
+   first that applies. */
+uint8_t tariff_define(uint16_t *counts, size_t counts_length, uint16_t *classes, size_t classes_length,
+                      uint8_t *kept, size_t kept_length, uint16_t *cache, size_t cache_length,
+                      uint16_t *ties, size_t ties_length, uint16_t *subtypes, size_t subtypes_length,
+                      const uint32_t *objects, size_t objects_length, const uint32_t *frames, size_t frames_length,
+                      uint32_t loader, const uint8_t *file, size_t file_length,
+                      uint32_t *answer, size_t answer_length);
+
+/* record: under that loader the name means the class of that number, as another loader defined it. Refusals: 1 3 13 4 10 9. */
+uint8_t tariff_record(uint16_t *counts, size_t counts_length, const uint16_t *classes, size_t classes_length,
+                      const uint8_t *kept, size_t kept_length, uint16_t *cache, size_t cache_length,
+                      const uint16_t *ties, size_t ties_length, const uint16_t *subtypes, size_t subtypes_length,
+                      const uint32_t *objects, size_t objects_length, const uint32_t *frames, size_t frames_length,
+                      uint32_t loader, uint32_t name, uint32_t class_number,
+                      uint32_t *answer, size_t answer_length);
+
+/* start: the task gets a new object of the class of that name under that loader, and a first frame in its method (int to int) of that
+   name, called with that object and `value`, the 32 bits of an int. Nothing runs yet. Refusals: 1 3 12 5 7 10. */
+uint8_t tariff_start(uint16_t *counts, size_t counts_length, const uint16_t *classes, size_t classes_length,
+                     const uint8_t *kept, size_t kept_length, const uint16_t *cache, size_t cache_length,
+                     const uint16_t *ties, size_t ties_length, const uint16_t *subtypes, size_t subtypes_length,
+                     uint32_t *objects, size_t objects_length, uint32_t *frames, size_t frames_length,
+                     uint32_t task, uint32_t loader, uint16_t name, uint16_t method, uint32_t value,
+                     uint32_t *answer, size_t answer_length);
+
+/* step: one instruction of the quote if it has a frame, else of the report. Refusals: 1, unreadable 14, 5 7 10 9, other 14, 11. A step
+   that wants a class is tried again once the class is loaded. */
+uint8_t tariff_step(uint16_t *counts, size_t counts_length, const uint16_t *classes, size_t classes_length,
+                    const uint8_t *kept, size_t kept_length, const uint16_t *cache, size_t cache_length,
+                    uint16_t *ties, size_t ties_length, const uint16_t *subtypes, size_t subtypes_length,
+                    uint32_t *objects, size_t objects_length, uint32_t *frames, size_t frames_length,
+                    uint32_t *answer, size_t answer_length);
+
+/* run: up to n steps, 1 to 65,535, ended by the first answer other than TARIFF_RAN. Refusals: 1 3. A run that a refused step ends is
+   itself accepted: it returns 0, and the step's word stands in the answer. */
+uint8_t tariff_run(uint16_t *counts, size_t counts_length, const uint16_t *classes, size_t classes_length,
+                   const uint8_t *kept, size_t kept_length, const uint16_t *cache, size_t cache_length,
+                   uint16_t *ties, size_t ties_length, const uint16_t *subtypes, size_t subtypes_length,
+                   uint32_t *objects, size_t objects_length, uint32_t *frames, size_t frames_length,
+                   uint32_t n,
+                   uint32_t *answer, size_t answer_length);
+
+/* drop: clears the task's frames, if it has any. Refusals: 1 3. */
+uint8_t tariff_drop(uint16_t *counts, size_t counts_length, const uint16_t *classes, size_t classes_length,
+                    const uint8_t *kept, size_t kept_length, const uint16_t *cache, size_t cache_length,
+                    const uint16_t *ties, size_t ties_length, const uint16_t *subtypes, size_t subtypes_length,
+                    const uint32_t *objects, size_t objects_length, const uint32_t *frames, size_t frames_length,
+                    uint32_t task,
+                    uint32_t *answer, size_t answer_length);
+
+#ifdef __cplusplus
+}
+#endif
+
+#endif

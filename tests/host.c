@@ -1,0 +1,317 @@
+/* The seven calls from C: tables of wrong lengths, damaged stores, every word of refusal, numbers at their limits, answer tables of every
+   length, a run beside its steps; and the desk beside define. */
+#define _GNU_SOURCE
+#include "host.h"
+
+#include "desk.h"
+
+/* A booted store in which loaders 1, 2 and 3 know Object. */
+static void ready(void)
+{
+    accepts("boot", boot());
+    for (uint32_t loader = 1; loader <= 3; loader++)
+        accepts("Object recorded", record(loader, 2, 0));
+}
+
+/* Also class 10 of loader 1, number 1, with that code, and a quote of it with the int 7. */
+static void quoting(size_t size, const uint8_t *code)
+{
+    ready();
+    defines("class 10", define(1, 10, 2, 5, 1, size, code), 1);
+    accepts("a quote", start(TARIFF_QUOTE, 1, 10, 20, 7));
+}
+
+/* One of each call, which a store with a quote under way accepts. */
+static struct call each(int name)
+{
+    struct call calls[CALLS] = {
+        boot(), define(1, 11, 2, 0, 1, IDENTITY), record(2, 10, 1), start(TARIFF_REPORT, 1, 10, 20, 9), step(), run(65535), drop(TARIFF_QUOTE),
+    };
+    return calls[name];
+}
+
+/* Of tables full of ones boot writes the counts and the two rows of Object, and nothing else. */
+static void booting(void)
+{
+    for (int i = 0; i < TABLES; i++)
+        memset(memory[i], 0xFF, room[i]);
+    for (int name = 1; name < CALLS; name++)
+        refuses("not booted", each(name), TARIFF_BROKEN);
+    keep(&first);
+    accepts("boot", boot());
+    keep(&after);
+    put_back(&first);
+    for (size_t i = 0; i < TARIFF_COUNTS; i++)
+        set(0, i, i == 0 || i == 2 ? 1 : 0);
+    for (size_t i = 0; i < 3; i++) {
+        set(1, i, 0);
+        set(3, i, i == 1 ? 2 : 0);
+    }
+    check("what boot writes", same(&after));
+}
+
+static void wrong_lengths(void)
+{
+    for (int name = 0; name < CALLS; name++) {
+        quoting(IDENTITY);
+        for (int i = 0; i < TABLES; i++) {
+            size_t lengths[] = {0, 1, cells[i] - 1, cells[i] + 1};
+            for (int k = 0; k < 4; k++) {
+                lend(i, lengths[k]);
+                refuses("a table of a wrong length", each(name), TARIFF_BROKEN);
+            }
+            table[i] = NULL;
+            length[i] = 0;
+            refuses("no table", each(name), TARIFF_BROKEN);
+            lend(i, cells[i]);
+        }
+        for (int i = 0; i < TABLES; i++)
+            lend(i, 0);
+        refuses("no table at all", each(name), TARIFF_BROKEN);
+        lend_all();
+        struct call c = each(name);
+        check("accepted with the right lengths", performed(&c) == 0);
+    }
+}
+
+static void damage(void)
+{
+    enum { COUNTS, CLASSES, KEPT, CACHE, TIES, SUBTYPES, OBJECTS, FRAMES };
+    static const struct { int table; size_t cell; uint32_t value; } harm[] = {
+        {COUNTS, 0, 65}, {COUNTS, 0, 65535}, {COUNTS, 0, 1}, {COUNTS, 1, 16385}, {COUNTS, 1, 23}, {COUNTS, 2, 257}, {COUNTS, 2, 1},
+        {COUNTS, 3, 257}, {COUNTS, 4, 257}, {COUNTS, 5, 257}, {COUNTS, 5, 0}, {COUNTS, 6, 33}, {COUNTS, 7, 33}, {COUNTS, 7, 65535},
+        {CLASSES, 0, 1}, {CLASSES, 1, 1}, {CLASSES, 2, 1}, {CLASSES, 3, 16}, {CLASSES, 4, 1}, {CLASSES, 4, 65535}, {CLASSES, 5, 23},
+        {CLASSES, 5, 65535}, {KEPT, 0, 2}, {KEPT, 4, 1}, {KEPT, 7, 9}, {CACHE, 0, 16}, {CACHE, 2, 2}, {CACHE, 5, 1}, {CACHE, 14, 65535},
+        {OBJECTS, 0, 2}, {OBJECTS, 0, 4294967295}, {OBJECTS, 1, 0}, {OBJECTS, 1, 4}, {FRAMES, 0, 2}, {FRAMES, 0, 4294967295},
+        {FRAMES, 3, 17}, {FRAMES, 3, 4294967295}, {FRAMES, 4, 4}, {FRAMES, 5, 1}, {FRAMES, 6, 2}, {FRAMES, 8, 4294967295},
+    };
+    quoting(IDENTITY);
+    keep(&first);
+    for (size_t i = 0; i < sizeof harm / sizeof *harm; i++) {
+        put_back(&first);
+        set(harm[i].table, harm[i].cell, harm[i].value);
+        for (int name = 1; name < CALLS; name++)
+            refuses("a damaged store", each(name), TARIFF_BROKEN);
+        accepts("a damaged store booted", boot());
+    }
+    for (int t = TIES; t <= SUBTYPES; t++) {
+        put_back(&first);
+        set(COUNTS, t == TIES ? 3 : 4, 1);
+        set(t, 0, 16);
+        for (int name = 1; name < CALLS; name++)
+            refuses("a constraint of loader 16", each(name), TARIFF_BROKEN);
+    }
+    put_back(&first);
+    set(FRAMES, 2, 3);
+    refuses("a point past the code", step(), TARIFF_STUCK);
+    put_back(&first);
+    set(FRAMES, 6, 0);
+    set(FRAMES, 7, 0);
+    refuses("an empty local", step(), TARIFF_STUCK);
+}
+
+/* A file that define refuses, with the desk's number for it. */
+static void no_class(const char *what, struct call c, uint8_t word)
+{
+    refuses(what, c, word);
+    check(what, tariff_check(c.file, c.size) == word);
+}
+
+static void loading_words(void)
+{
+    ready();
+    struct call cut = define(1, 10, 2, 0, 1, IDENTITY);
+    check("the desk accepts it", tariff_check(cut.file, cut.size) == 0);
+    cut.size--;
+    no_class("a file cut off", cut, TARIFF_FILE);
+    cut.size = 0;
+    no_class("no file", cut, TARIFF_FILE);
+    cut.file = NULL;
+    no_class("no file at all", cut, TARIFF_FILE);
+    no_class("an unset local", define(1, 10, 2, 0, 1, CODE(0x15, 2, 0xAC)), TARIFF_UNVERIFIED);
+    wants("define of a loader without Object", define(4, 10, 2, 0, 1, IDENTITY), 4, 2);
+    defines("class 10", define(1, 10, 2, 5, 12, ZERO), 1);
+    refuses("class 10 again", define(1, 10, 2, 0, 1, IDENTITY), TARIFF_TAKEN);
+    refuses("a field that the superclass has", define(1, 11, 10, 5, 0, 0, NULL), TARIFF_HIDDEN);
+    refuses("another name", record(2, 11, 1), TARIFF_MISNAMED);
+    defines("another class 10", define(3, 10, 2, 0, 0, 0, NULL), 2);
+    accepts("loader 2 asks loader 1 for 10", record(2, 10, 1));
+    keep(&first);
+    accepts("once more", record(2, 10, 1));
+    check("the second record changes nothing", same(&first));
+    refuses("with another class", record(2, 10, 2), TARIFF_TAKEN);
+
+    /* method 20 is overridden under loader 2: its argument 12 is tied between 1 and 2 */
+    defines("an override", define(2, 13, 10, 0, 12, ZERO), 3);
+    defines("loader 1's 12", define(1, 12, 2, 0, 0, 0, NULL), 4);
+    refuses("loader 2's own 12", define(2, 12, 2, 0, 0, 0, NULL), TARIFF_CLASH);
+    accepts("loader 1's 12 under loader 2", record(2, 12, 4));
+
+    for (unsigned n = 5; n < 64; n++)
+        defines("a class", define(3, 100 + n, 2, 0, 0, 0, NULL), n);
+    refuses("a 65th class", define(3, 99, 2, 0, 0, 0, NULL), TARIFF_FULL);
+}
+
+static void task_words(void)
+{
+    quoting(IDENTITY);
+    refuses("a second quote", start(TARIFF_QUOTE, 1, 10, 20, 7), TARIFF_BUSY);
+    wants("a class not loaded", start(TARIFF_REPORT, 1, 11, 20, 7), 1, 11);
+    refuses("no such method", start(TARIFF_REPORT, 1, 10, 21, 7), TARIFF_ABSENT);
+    accepts("a report", start(TARIFF_REPORT, 1, 10, 20, 8));
+    runs("the quote comes first", TARIFF_QUOTE);
+    finishes("the quote", TARIFF_QUOTE, 7);
+    runs("then the report", TARIFF_REPORT);
+    accepts("the report dropped", drop(TARIFF_REPORT));
+    accepts("once more", drop(TARIFF_REPORT));
+    expect("nothing left", step(), 0, SIX(TARIFF_STEPPED, 0, TARIFF_IDLE, 0, 0, 0));
+    expect("nothing left to run", run(9), 0, SIX(TARIFF_RAN_FOR, 0, TARIFF_IDLE, 0, 0, 0));
+    for (int n = 2; n < 256; n++) {
+        accepts("an object", start(TARIFF_QUOTE, 1, 10, 20, 7));
+        accepts("a drop", drop(TARIFF_QUOTE));
+    }
+    refuses("a 257th object", start(TARIFF_QUOTE, 1, 10, 20, 7), TARIFF_FULL);
+
+    quoting(CODE(0x01, 0xB4, 0, 10, 0, 5, 0, 1, 0xAC));
+    runs("null pushed", TARIFF_QUOTE);
+    refuses("a field of null", step(), TARIFF_NULL);
+    expect("a run into it", run(9), 0, SIX(TARIFF_RAN_FOR, TARIFF_NULL, 0, 0, 0, 0));
+
+    quoting(CODE(0x01, 0xB4, 0, 10, 0, 6, 0, 1, 0xAC));
+    runs("null pushed", TARIFF_QUOTE);
+    refuses("no such field", step(), TARIFF_ABSENT);
+
+    for (uint32_t task = TARIFF_QUOTE; task <= TARIFF_REPORT; task++) {
+        quoting(CODE(0x15, 1, 0xBB, 0, 30, 0x57, 0xAC));
+        accepts("the quote dropped", drop(TARIFF_QUOTE));
+        accepts("either task", start(task, 1, 10, 20, 4294967295));
+        expect("a run that ends in 'wanted'", run(9), 0, SIX(TARIFF_RAN_FOR, TARIFF_WANTED, 1, 30, task, 1));
+        expect("a step that wants", step(), TARIFF_WANTED, SIX(TARIFF_STEPPED, TARIFF_WANTED, 1, 30, task, 0));
+        defines("what it wanted", define(1, 30, 2, 0, 0, 0, NULL), 2);
+        expect("it goes on", run(9), 0, SIX(TARIFF_RAN_FOR, 0, TARIFF_FINISHED, task, 4294967295, 2));
+    }
+}
+
+/* A call of loader 1's method by loader 2's class ties its argument 12 between them. */
+static void tie_by_a_step(void)
+{
+    static const uint16_t tie[] = {1, 2, 12};
+    ready();
+    defines("loader 1's method", define(1, 10, 2, 0, 12, ZERO), 1);
+    accepts("loader 2 asks for it", record(2, 10, 1));
+    defines("its caller", define(2, 13, 2, 0, 1, CODE(0xBB, 0, 10, 0x01, 0xB6, 0, 10, 0, 20, 0, 12, 0, 1, 0xAC)), 2);
+    accepts("a quote", start(TARIFF_QUOTE, 2, 13, 20, 7));
+    keep(&first);
+    expect("a call across loaders", run(9), 0, SIX(TARIFF_RAN_FOR, 0, TARIFF_FINISHED, TARIFF_QUOTE, 0, 5));
+    check("its tie", ((uint16_t *)table[0])[3] == 1 && memcmp(table[4], tie, sizeof tie) == 0);
+    put_back(&first);
+    defines("loader 1's 12", define(1, 12, 2, 0, 0, 0, NULL), 3);
+    defines("loader 2's 12", define(2, 12, 2, 0, 0, 0, NULL), 4);
+    expect("the tie clashes", run(9), 0, SIX(TARIFF_RAN_FOR, TARIFF_CLASH, 0, 0, 0, 2));
+    refuses("and again", step(), TARIFF_CLASH);
+}
+
+static void limits(void)
+{
+    static const uint32_t loaders[] = {16, 255, 256, 65536, 65537, 2147483648, 4294967295};
+    static const uint32_t tasks[] = {2, 255, 256, 65536, 2147483648, 4294967295};
+    static const uint32_t numbers[] = {2, 63, 64, 256, 65535, 65536, 65537, 4294967295};
+    static const uint32_t counts[] = {0, 65536, 65537, 131071, 4294967295};
+    static const uint32_t names[] = {3, 65535, 65536, 65538, 4294967295};
+    static const uint32_t values[] = {0, 1, 2147483647, 2147483648, 4294967295};
+    quoting(IDENTITY);
+    for (size_t i = 0; i < sizeof loaders / 4; i++) {
+        refuses("define under no loader", define(loaders[i], 11, 2, 0, 1, IDENTITY), TARIFF_UNKNOWN);
+        refuses("record under no loader", record(loaders[i], 2, 0), TARIFF_UNKNOWN);
+        refuses("start under no loader", start(TARIFF_REPORT, loaders[i], 10, 20, 7), TARIFF_UNKNOWN);
+    }
+    for (size_t i = 0; i < sizeof tasks / 4; i++) {
+        refuses("start of no task", start(tasks[i], 1, 10, 20, 7), TARIFF_UNKNOWN);
+        refuses("drop of no task", drop(tasks[i]), TARIFF_UNKNOWN);
+    }
+    for (size_t i = 0; i < sizeof numbers / 4; i++)
+        refuses("record of no class", record(2, 10, numbers[i]), TARIFF_UNKNOWN);
+    for (size_t i = 0; i < sizeof counts / 4; i++)
+        refuses("a run of no such count", run(counts[i]), TARIFF_UNKNOWN);
+    for (size_t i = 0; i < sizeof names / 4; i++)
+        refuses("Object under another name", record(1, names[i], 0), TARIFF_MISNAMED);
+    for (uint32_t name = 0; name < 2; name++) {
+        refuses("record of a name below 2", record(1, name, 0), TARIFF_UNKNOWN);
+        refuses("start of a name below 2", start(TARIFF_REPORT, 1, (uint16_t)name, 20, 7), TARIFF_UNKNOWN);
+    }
+    refuses("method 0", start(TARIFF_REPORT, 1, 10, 0, 7), TARIFF_UNKNOWN);
+    refuses("method 65,535", start(TARIFF_REPORT, 1, 10, 65535, 7), TARIFF_ABSENT);
+    wants("class 65,535", start(TARIFF_REPORT, 15, 65535, 20, 7), 15, 65535);
+    accepts("loader 15", record(15, 2, 0));
+    defines("loader 15", define(15, 65535, 2, 0, 1, IDENTITY), 2);
+    defines("loader 0", define(0, 65535, 2, 0, 1, IDENTITY), 3);
+    accepts("the quote dropped", drop(TARIFF_QUOTE));
+    for (size_t i = 0; i < sizeof values / 4; i++) {
+        accepts("an int", start(TARIFF_REPORT, 15, 65535, 20, values[i]));
+        expect("that int", run(65535), 0, SIX(TARIFF_RAN_FOR, 0, TARIFF_FINISHED, TARIFF_REPORT, values[i], 1));
+    }
+}
+
+/* A run of n steps beside n steps: 201 that run, then one that finishes. */
+static void runs_and_steps(void)
+{
+    static const uint32_t counts[] = {1, 2, 100, 200, 201, 202, 203, 65535};
+    uint8_t code[303];
+    for (size_t i = 0; i < 300; i += 3)
+        memcpy(code + i, (uint8_t[]){0x15, 1, 0x57}, 3);
+    memcpy(code + 300, (uint8_t[]){0x15, 1, 0xAC}, 3);
+    quoting(sizeof code, code);
+    keep(&first);
+    for (size_t i = 0; i < sizeof counts / 4; i++) {
+        uint32_t n = counts[i];
+        put_back(&first);
+        if (n <= 201)
+            expect("a run", run(n), 0, SIX(TARIFF_RAN_FOR, 0, TARIFF_RAN, TARIFF_QUOTE, 0, n));
+        else
+            expect("a whole run", run(n), 0, SIX(TARIFF_RAN_FOR, 0, TARIFF_FINISHED, TARIFF_QUOTE, 7, 201));
+        keep(&after);
+        put_back(&first);
+        for (uint32_t k = 0; k < n && k < 201; k++)
+            runs("a step of it", TARIFF_QUOTE);
+        if (n > 201)
+            finishes("its last step", TARIFF_QUOTE, 7);
+        check("a run leaves what its steps leave", same(&after));
+    }
+}
+
+static void answer_tables(void)
+{
+    for (size_t n = 0; n <= 8; n++) {
+        lend(ANSWER, n);
+        quoting(CODE(0x15, 1, 0xBB, 0, 30, 0x57, 0xAC));
+        wants("refused", define(5, 10, 2, 0, 1, IDENTITY), 5, 2);
+        expect("a run", run(9), 0, SIX(TARIFF_RAN_FOR, TARIFF_WANTED, 1, 30, 0, 1));
+    }
+    length[ANSWER] = 0;
+    table[ANSWER] = NULL;
+    quoting(IDENTITY);
+    runs("no answer table", TARIFF_QUOTE);
+    lend_all();
+}
+
+int main(void)
+{
+    static const char *const names[] = {"boot", "define", "record", "start", "step", "run", "drop"};
+    make_tables();
+    booting();
+    wrong_lengths();
+    damage();
+    loading_words();
+    task_words();
+    tie_by_a_step();
+    limits();
+    runs_and_steps();
+    answer_tables();
+    printf("host: bytes of stack:");
+    for (int i = 0; i < CALLS; i++) {
+        printf(" %s %zu", names[i], deepest[i]);
+        check("the stack is as promised", deepest[i] <= PROMISED);
+    }
+    printf("\nhost: %d checks, %d wrong\n", checked, wrong);
+    return wrong == 0 ? 0 : 1;
+}

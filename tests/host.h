@@ -1,0 +1,254 @@
+/* For tests/host.c: tables and files that end where their memory ends, calls on a painted stack, and what a call is expected to answer. */
+#include <stdio.h>
+#include <stdlib.h>
+#include <string.h>
+#include <sys/mman.h>
+#include <ucontext.h>
+
+#include "tariff.h"
+
+_Static_assert(sizeof(struct tariff_store) == 68496, "a store's bytes, as published");
+
+static int checked = 0;
+static int wrong = 0;
+
+static void check(const char *what, int good)
+{
+    checked++;
+    if (!good) {
+        wrong++;
+        printf("host: wrong: %s\n", what);
+    }
+}
+
+/* The eight tables and the answer's, each lent from the very end of memory that may be used. */
+
+enum { TABLES = 8, ANSWER = 8, PAGE = 4096 };
+
+static const size_t width[] = {2, 2, 1, 2, 2, 2, 4, 4, 4};
+static const size_t cells[] = {TARIFF_COUNTS, TARIFF_CLASSES, TARIFF_KEPT,   TARIFF_CACHE, TARIFF_TIES,
+                               TARIFF_SUBTYPES, TARIFF_OBJECTS, TARIFF_FRAMES, TARIFF_ANSWER};
+static uint8_t *memory[TABLES + 1];
+static size_t room[TABLES + 1];
+static void *table[TABLES + 1];
+static size_t length[TABLES + 1];
+
+static uint8_t *guarded(size_t bytes)
+{
+    uint8_t *start = mmap(NULL, bytes + PAGE, PROT_READ | PROT_WRITE, MAP_PRIVATE | MAP_ANONYMOUS, -1, 0);
+    if (start == MAP_FAILED || mprotect(start + bytes, PAGE, PROT_NONE) != 0) {
+        perror("host");
+        exit(2);
+    }
+    return start;
+}
+
+static void lend(int i, size_t n)
+{
+    length[i] = n;
+    table[i] = memory[i] + room[i] - n * width[i];
+}
+
+static void lend_all(void)
+{
+    for (int i = 0; i <= TABLES; i++)
+        lend(i, cells[i]);
+}
+
+static void set(int i, size_t cell, uint32_t value)
+{
+    memcpy(memory[i] + room[i] - (cells[i] - cell) * width[i], &value, width[i]);
+}
+
+/* All tables at one time, with the memory before them. */
+struct image {
+    uint8_t *bytes[TABLES];
+};
+
+static struct image before, first, after;
+
+static void keep(struct image *m)
+{
+    for (int i = 0; i < TABLES; i++)
+        memcpy(m->bytes[i], memory[i], room[i]);
+}
+
+static void put_back(const struct image *m)
+{
+    for (int i = 0; i < TABLES; i++)
+        memcpy(memory[i], m->bytes[i], room[i]);
+}
+
+static int same(const struct image *m)
+{
+    for (int i = 0; i < TABLES; i++)
+        if (memcmp(m->bytes[i], memory[i], room[i]) != 0)
+            return 0;
+    return 1;
+}
+
+static void make_tables(void)
+{
+    for (int i = 0; i <= TABLES; i++) {
+        room[i] = (cells[i] * width[i] / PAGE + 2) * PAGE;
+        memory[i] = guarded(room[i]);
+    }
+    for (int i = 0; i < TABLES; i++) {
+        before.bytes[i] = malloc(room[i]);
+        first.bytes[i] = malloc(room[i]);
+        after.bytes[i] = malloc(room[i]);
+    }
+    lend_all();
+}
+
+/* Calls */
+
+enum { BOOT, DEFINE, RECORD, START, STEP, RUN, DROP, CALLS };
+
+struct call {
+    int name;
+    uint32_t one, two, three, four, five;
+    const uint8_t *file;
+    size_t size;
+};
+
+static struct call boot(void) { return (struct call){.name = BOOT}; }
+static struct call step(void) { return (struct call){.name = STEP}; }
+static struct call run(uint32_t n) { return (struct call){.name = RUN, .one = n}; }
+static struct call drop(uint32_t task) { return (struct call){.name = DROP, .one = task}; }
+
+static struct call record(uint32_t loader, uint32_t name, uint32_t number)
+{
+    return (struct call){.name = RECORD, .one = loader, .two = name, .three = number};
+}
+
+static struct call start(uint32_t task, uint32_t loader, uint16_t name, uint16_t method, uint32_t value)
+{
+    return (struct call){.name = START, .one = task, .two = loader, .three = name, .four = method, .five = value};
+}
+
+static uint8_t file[PAGE];
+static size_t written;
+
+static void byte(unsigned n) { file[written++] = (uint8_t)n; }
+
+static void pair(unsigned n)
+{
+    byte(n / 256);
+    byte(n % 256);
+}
+
+/* A file with the int field of that name, if it isn't 0, and with method 20 of that argument and an int as its result, if there is code. */
+static struct call define(uint32_t loader, unsigned name, unsigned super, unsigned field, unsigned argument, size_t size, const uint8_t *code)
+{
+    static uint8_t *end = NULL;
+    end = end ? end : guarded(PAGE) + PAGE;
+    written = 0;
+    byte(1);
+    pair(6 + (field ? 4 : 0) + (size ? 8 + (unsigned)size : 0));
+    pair(name);
+    pair(super);
+    byte(field ? 1 : 0);
+    if (field) {
+        pair(field);
+        pair(1);
+    }
+    byte(size ? 1 : 0);
+    if (size) {
+        pair(20);
+        pair(argument);
+        pair(1);
+        pair((unsigned)size);
+    }
+    for (size_t i = 0; i < size; i++)
+        byte(code[i]);
+    memcpy(end - written, file, written);
+    return (struct call){.name = DEFINE, .one = loader, .file = end - written, .size = written};
+}
+
+#define CODE(...) sizeof((uint8_t[]){__VA_ARGS__}), (uint8_t[]){__VA_ARGS__}
+#define IDENTITY CODE(0x15, 1, 0xAC)
+#define ZERO CODE(0x11, 0, 0, 0xAC)
+
+#define LEND(i) table[i], length[i]
+#define LENT LEND(0), LEND(1), LEND(2), LEND(3), LEND(4), LEND(5), LEND(6), LEND(7)
+
+static uint8_t perform(const struct call *c)
+{
+    switch (c->name) {
+    case BOOT: return tariff_boot(LENT, LEND(ANSWER));
+    case DEFINE: return tariff_define(LENT, c->one, c->file, c->size, LEND(ANSWER));
+    case RECORD: return tariff_record(LENT, c->one, c->two, c->three, LEND(ANSWER));
+    case START: return tariff_start(LENT, c->one, c->two, (uint16_t)c->three, (uint16_t)c->four, c->five, LEND(ANSWER));
+    case STEP: return tariff_step(LENT, LEND(ANSWER));
+    case RUN: return tariff_run(LENT, c->one, LEND(ANSWER));
+    default: return tariff_drop(LENT, c->one, LEND(ANSWER));
+    }
+}
+
+/* A call on a stack that was painted, so that the deepest byte it used shows. Promised are 96 KiB. */
+
+enum { STACK = 1 << 18, PAINT = 0xA5, PROMISED = 96 * 1024 };
+
+static _Alignas(64) uint8_t stack[STACK];
+static size_t deepest[CALLS];
+static ucontext_t here, there;
+static const struct call *asked;
+static uint8_t returned;
+
+static void on_stack(void) { returned = perform(asked); }
+
+static uint8_t performed(const struct call *c)
+{
+    asked = c;
+    memset(stack, PAINT, STACK);
+    getcontext(&there);
+    there.uc_stack.ss_sp = stack;
+    there.uc_stack.ss_size = STACK;
+    there.uc_link = &here;
+    makecontext(&there, on_stack, 0);
+    swapcontext(&here, &there);
+    size_t unused = 0;
+    while (stack[unused] == PAINT)
+        unused++;
+    if (deepest[c->name] < STACK - unused)
+        deepest[c->name] = STACK - unused;
+    return returned;
+}
+
+/* A call's number and six cells. It writes those cells of the answer table that there is room for, and if it is refused nothing else. */
+static void expect(const char *what, struct call c, uint8_t number, const uint32_t six[])
+{
+    static uint8_t cell[2 * PAGE];
+    keep(&before);
+    memset(memory[ANSWER], 0xEE, room[ANSWER]);
+    memset(cell, 0xEE, sizeof cell);
+    memcpy(cell + room[ANSWER] - length[ANSWER] * 4, six, (length[ANSWER] < 6 ? length[ANSWER] : 6) * 4);
+    check(what, performed(&c) == number);
+    check(what, memcmp(cell, memory[ANSWER], room[ANSWER]) == 0);
+    if (number != 0)
+        check(what, same(&before));
+}
+
+#define SIX(...) (const uint32_t[]){__VA_ARGS__}
+
+static void accepts(const char *what, struct call c) { expect(what, c, 0, SIX(TARIFF_ACCEPTED, 0, 0, 0, 0, 0)); }
+
+static void defines(const char *what, struct call c, uint32_t number) { expect(what, c, 0, SIX(TARIFF_DEFINED, 0, number, 0, 0, 0)); }
+
+static void refuses(const char *what, struct call c, uint8_t word)
+{
+    expect(what, c, word, SIX(c.name == STEP ? TARIFF_STEPPED : TARIFF_DENIED, word, 0, 0, 0, 0));
+}
+
+static void wants(const char *what, struct call c, uint32_t loader, uint32_t name)
+{
+    expect(what, c, TARIFF_WANTED, SIX(TARIFF_DENIED, TARIFF_WANTED, loader, name, 0, 0));
+}
+
+static void runs(const char *what, uint32_t task) { expect(what, step(), 0, SIX(TARIFF_STEPPED, 0, TARIFF_RAN, task, 0, 0)); }
+
+static void finishes(const char *what, uint32_t task, uint32_t value)
+{
+    expect(what, step(), 0, SIX(TARIFF_STEPPED, 0, TARIFF_FINISHED, task, value, 0));
+}
