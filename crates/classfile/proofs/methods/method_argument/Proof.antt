@@ -1,0 +1,12 @@
+-- The argument type stands two bytes after the record's place.
+use Rattle.classfile.specs.Reading.{methodAt}
+use borrow.Author.Needs.{needs}
+use Rattle.classfile.proofs.methods.method_argument.Statement.{statement}
+use Rattle.classfile.proofs.methods.method_argument.Tie as tie
+
+returns : tie.Need-returns
+unfolding methodAt
+returns c = rw (← c .before .wide32 .ensures .0) (c .short-at .ensures)
+
+pub method-argument-spec : {M : Type 1} → statement M
+method-argument-spec = tie.close (tie.spec (λ c κs. search needs) (λ c. search needs) (λ c κs. search needs) returns)

@@ -1,0 +1,15 @@
+-- A record has eight bytes before its code.
+use native.Mathlib.Omega.{arith}
+use Rattle.classfile.specs.Reading.{nextPlace}
+use borrow.Author.Needs.{needs}
+use Rattle.classfile.proofs.methods.next_place.Statement.{statement}
+use Rattle.classfile.proofs.methods.next_place.Tie as tie
+
+returns : tie.Need-returns
+unfolding nextPlace
+returns c = omega arith
+
+pub next-place-spec : {M : Type 1} → statement M
+next-place-spec =
+    tie.close
+    (tie.spec (λ c. search needs) (λ c κs. search needs) (λ c κs. search needs) (λ c. search needs) returns)

@@ -1,0 +1,38 @@
+// The class that a request is cached as.
+use crate::Found;
+ghost use mathlib.Core.Path.{_≡_};
+ghost use lib.ListN.{getD};
+ghost use Rattle.definition.specs.Lists.{rows};
+ghost use Rattle.definition.specs.Requests.{at, sameRequest};
+ghost use Rattle.definition.specs.Classes.{find};
+ghost use Rattle.definition.specs.Tables.{entryAt};
+ghost use Rattle.resolution.specs.Quick.{found};
+
+// Row i of the cache has that request.
+fn is_entry(cache: &[u16], i: u16, loader: u16, name: u16) -> bool
+    ensures { λ r. ⌜ r ≡ sameRequest (entryAt (now (cache .entry)) i .request) (at loader name) ⌝ }
+{
+    let place = cells::wide16(i) * 3;
+    cells::at16(cache, place) == loader && cells::at16(cache, place + 1) == name
+}
+
+fn entry_class(cache: &[u16], i: u16) -> u32
+    ensures { λ r. ⌜ r ≡ entryAt (now (cache .entry)) i .class ⌝ }
+{
+    cells::from16(cells::at16(cache, cells::wide16(i) * 3 + 2))
+}
+
+// The class that a request is cached as; of two rows for one request the lower is read.
+pub fn find(counts: &[u16], cache: &[u16], loader: u16, name: u16) -> Found
+    ensures { λ r. ⌜ r ≡ found (find (rows (entryAt (now (cache .entry))) (getD (now (counts .entry)) 2 0) 0) (at loader name)) ⌝ }
+{
+    let n = cells::at16(counts, 2);
+    let mut i: u16 = 0;
+    while i < n {
+        if is_entry(cache, i, loader, name) {
+            return Found::At(entry_class(cache, i));
+        }
+        i += 1;
+    }
+    Found::Absent
+}

@@ -1,0 +1,116 @@
+// Classes by their number: loader, file, name, superclass.
+use crate::Found;
+use crate::cache::find;
+ghost use mathlib.Core.Path.{_≡_};
+ghost use Prim.Native.Nat.{_+_, _*_};
+ghost use lib.ListN.{getD, set};
+ghost use lib.Dec.{ltb};
+ghost use Rattle.definition.specs.Lists.{rows, writeRows};
+ghost use Rattle.definition.specs.Superclasses.{below};
+ghost use Rattle.definition.specs.Classes.{superOf};
+ghost use Rattle.resolution.specs.Quick.{found, quickBase, fileIn, loaderIn};
+ghost use Rattle.resolution.specs.Lookups.{nameIn, superCell};
+
+// Cells of a class's row.
+fn row_cell(classes: &[u16], c: u32, cell: u8) -> u16
+    ensures { λ r. ⌜ r ≡ getD (now (classes .entry)) (c * 3 + cell) 0 ⌝ }
+{
+    cells::at16(classes, cells::wide32(c) * 3 + cells::wide8(cell))
+}
+
+// Whether there is a class of that number.
+pub fn is_class(counts: &[u16], c: u32) -> bool
+    ensures { λ r. ⌜ r ≡ ltb c (getD (now (counts .entry)) 0 0) ⌝ }
+{
+    c < cells::from16(cells::at16(counts, 0))
+}
+
+// The loader of a class, 0 if there is none of that number.
+pub fn loader_of(counts: &[u16], classes: &[u16], c: u32) -> u16
+    ensures { λ r. ⌜ r ≡ loaderIn (now (counts .entry)) (now (classes .entry)) c ⌝ }
+{
+    if is_class(counts, c) {
+        row_cell(classes, c, 0)
+    } else {
+        0
+    }
+}
+
+// The file of a class, as the part of the kept bytes that it is; no bytes if there is no such class.
+pub fn file_of<'a>(counts: &[u16], classes: &[u16], kept: &'a [u8], c: u32) -> &'a [u8]
+    ensures { λ r. ⌜ now r ≡ fileIn (now (counts .entry)) (now (classes .entry)) (now (kept .entry)) c ⌝ }
+{
+    if is_class(counts, c) {
+        classfile::part(kept, row_cell(classes, c, 1), row_cell(classes, c, 2))
+    } else {
+        &kept[0..0]
+    }
+}
+
+// The name of a class, 0 if there is none of that number. Object has no file, and its name is 2.
+pub fn name_of(counts: &[u16], classes: &[u16], kept: &[u8], c: u32) -> u16
+    ensures { λ r. ⌜ r ≡ nameIn (now (counts .entry)) (now (classes .entry)) (now (kept .entry)) c ⌝ }
+{
+    if !is_class(counts, c) {
+        return 0;
+    }
+    if row_cell(classes, c, 2) == 0 {
+        return 2;
+    }
+    classfile::class_name(file_of(counts, classes, kept, c))
+}
+
+// The direct superclass, looked up under the class's own loader; its number is lower, or there is none.
+pub fn super_of(counts: &[u16], classes: &[u16], kept: &[u8], cache: &[u16], c: u32) -> Found
+    ensures { λ r. ⌜ r ≡ found (superOf (quickBase (now (counts .entry)) (now (classes .entry)) (now (kept .entry)) (now (cache .entry))) c) ⌝ }
+{
+    if !is_class(counts, c) {
+        return Found::Absent;
+    }
+    let name = classfile::super_name(file_of(counts, classes, kept, c));
+    let Found::At(p) = find(counts, cache, row_cell(classes, c, 0), name) else {
+        return Found::Absent;
+    };
+    if p < c { Found::At(p) } else { Found::Absent }
+}
+
+// Whether class c is class d or below it.
+pub fn is_below(counts: &[u16], classes: &[u16], kept: &[u8], cache: &[u16], c: u32, d: u32) -> bool
+    ensures { λ r. ⌜ r ≡ below (superOf (quickBase (now (counts .entry)) (now (classes .entry)) (now (kept .entry)) (now (cache .entry)))) c d ⌝ }
+{
+    let mut at = c;
+    loop {
+        if at == d {
+            return true;
+        }
+        let Found::At(p) = super_of(counts, classes, kept, cache, at) else {
+            return false;
+        };
+        at = p;
+    }
+}
+
+// A class's direct superclass as a cell: 0 for none, else its number and 1.
+fn super_cell(counts: &[u16], classes: &[u16], kept: &[u8], cache: &[u16], c: u8) -> u8
+    ensures { λ r. ⌜ r ≡ superCell (quickBase (now (counts .entry)) (now (classes .entry)) (now (kept .entry)) (now (cache .entry))) c ⌝ }
+{
+    let Found::At(p) = super_of(counts, classes, kept, cache, cells::from16(cells::from8(c))) else {
+        return 0;
+    };
+    (p + 1) as u8
+}
+
+// The cells of classes 0 to 63, written from place 0 on.
+pub fn fill_supers(supers: &mut [u8], counts: &[u16], classes: &[u16], kept: &[u8], cache: &[u16])
+    ensures { λ _. ⌜ now (supers .exit) ≡ writeRows set (rows (superCell (quickBase (now (counts .entry)) (now (classes .entry)) (now (kept .entry)) (now (cache .entry)))) 64 0) 0 (now (supers .entry)) ⌝ }
+{
+    let mut i: u8 = 64;
+    while 0 < i {
+        i -= 1;
+        cells::put8(
+            supers,
+            cells::wide8(i),
+            super_cell(counts, classes, kept, cache, i),
+        );
+    }
+}

@@ -1,0 +1,82 @@
+// The details of an answer, and whose turn it is.
+use crate::Details;
+ghost use mathlib.Core.Path.{_≡_};
+ghost use Rattle.script.specs.Details.{refusalNumbers, stepNumbers, Detailed, turnIn};
+use definition::Answer;
+use definition::Refusal;
+use definition::Reply;
+
+fn refusal_details(task: u8, refusal: Refusal) -> Details
+    ensures { λ r. ⌜ r ≡ refusalNumbers task refusal ⌝ }
+{
+    match refusal {
+        Refusal::Wanted(loader, name) => Details {
+            refusal: 5,
+            one: cells::from16(cells::from8(loader)),
+            two: cells::from16(name),
+            three: cells::from16(cells::from8(task)),
+        },
+        Refusal::Word(number) => Details {
+            refusal: number,
+            one: 0,
+            two: 0,
+            three: 0,
+        },
+    }
+}
+
+fn step_details(turn: u8, answer: Answer) -> Details
+    ensures { λ r. ⌜ r ≡ stepNumbers turn answer ⌝ }
+{
+    match answer {
+        Answer::Idle => Details {
+            refusal: 0,
+            one: 0,
+            two: 0,
+            three: 0,
+        },
+        Answer::Ran(task) => Details {
+            refusal: 0,
+            one: 1,
+            two: cells::from16(cells::from8(task)),
+            three: 0,
+        },
+        Answer::Finished(task, int) => Details {
+            refusal: 0,
+            one: 2,
+            two: cells::from16(cells::from8(task)),
+            three: int,
+        },
+        Answer::Refused(refusal) => refusal_details(turn, refusal),
+    }
+}
+
+// The numbers of a call's answer. `turn` is the task whose turn it was.
+pub fn details_of(turn: u8, reply: Reply) -> Details
+    ensures { λ r. ⌜ Detailed turn reply r ⌝ }
+{
+    match reply {
+        Reply::Accepted => Details {
+            refusal: 0,
+            one: 0,
+            two: 0,
+            three: 0,
+        },
+        Reply::Defined(class) => Details {
+            refusal: 0,
+            one: cells::from16(cells::from8(class)),
+            two: 0,
+            three: 0,
+        },
+        Reply::Stepped(answer) => step_details(turn, answer),
+        Reply::RanFor(_, answer) => step_details(turn, answer),
+        Reply::Denied(refusal) => refusal_details(0, refusal),
+    }
+}
+
+// The task whose turn it is: the quote if it has a frame, else the report.
+pub fn turn_of(counts: &[u16]) -> u8
+    ensures { λ r. ⌜ r ≡ turnIn (now (counts .entry)) ⌝ }
+{
+    if cells::at16(counts, 6) == 0 { 1 } else { 0 }
+}

@@ -1,0 +1,71 @@
+// Decimal numbers and ints.
+use crate::Number;
+use crate::Short;
+use crate::fields::after;
+ghost use mathlib.Core.Path.{_≡_};
+ghost use Rattle.definition.specs.Script.{upTo, short, int};
+ghost use Rattle.script.specs.Parts.{shortIs};
+ghost use Rattle.script.specs.Numbers.{numberIs, extended, negated};
+
+// The number n with one digit more, if that is a digit and the number at most `most`.
+fn extend(n: u32, digit: u8, most: u32) -> Number
+    ensures { λ r. ⌜ r ≡ numberIs (extended most n digit) ⌝ }
+{
+    if digit < 48 {
+        return Number::NoNumber;
+    }
+    if 57 < digit {
+        return Number::NoNumber;
+    }
+    let next = cells::wide32(n) * 10 + cells::wide8(digit - 48);
+    if cells::wide32(most) < next {
+        return Number::NoNumber;
+    }
+    Number::Value(next as u32)
+}
+
+fn up_to(s: &[u8], most: u32) -> Number
+    ensures { λ r. ⌜ r ≡ numberIs (upTo most (now (s .entry))) ⌝ }
+{
+    if s.len() == 0 {
+        return Number::NoNumber;
+    }
+    let mut n: u32 = 0;
+    let mut i = 0;
+    while i < s.len() {
+        let Number::Value(next) = extend(n, s[i], most) else {
+            return Number::NoNumber;
+        };
+        n = next;
+        i += 1;
+    }
+    Number::Value(n)
+}
+
+pub(crate) fn short_number(s: &[u8]) -> Short
+    ensures { λ r. ⌜ r ≡ shortIs (short (now (s .entry))) ⌝ }
+{
+    let Number::Value(n) = up_to(s, 65535) else {
+        return Short::NoShort;
+    };
+    Short::Name(n as u16)
+}
+
+// The bits of an int's negative.
+fn negative(x: Number) -> Number
+    ensures { λ r. ⌜ r ≡ negated x ⌝ }
+{
+    let Number::Value(n) = x else {
+        return Number::NoNumber;
+    };
+    Number::Value(((4294967296 - cells::wide32(n)) % 4294967296) as u32)
+}
+
+pub(crate) fn int_number(s: &[u8]) -> Number
+    ensures { λ r. ⌜ r ≡ numberIs (int (now (s .entry))) ⌝ }
+{
+    if cells::at8(s, 0) == 45 {
+        return negative(up_to(after(s, 1), 2147483648));
+    }
+    up_to(s, 2147483647)
+}

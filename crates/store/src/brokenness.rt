@@ -1,0 +1,120 @@
+// Superclasses, and whether a store is broken.
+use crate::Fields;
+use crate::counts::are_within;
+use crate::counts::is_shaped;
+use crate::sources::rows_fit;
+use crate::sources::sources_fit;
+use crate::values::frames_fit;
+use crate::values::objects_fit;
+ghost use mathlib.Core.Path.{_≡_};
+ghost use mathlib.Core.Bool.{true};
+ghost use Prim.Native.Nat.{_≤_};
+ghost use lib.ListN.{length, getD};
+ghost use Rattle.definition.specs.Tables.{tables, sizeOf};
+ghost use Rattle.definition.specs.Broken.{broken};
+ghost use Rattle.resolution.specs.Quick.{quickBase};
+ghost use Rattle.store.specs.Checks.{linkedSize, linksFit, Sized, valuesFit};
+use resolution::Found;
+
+// The size of class c, where `sizes` has those of the classes below it.
+fn linked_size(
+    sizes: &[u8],
+    counts: &[u16],
+    classes: &[u16],
+    kept: &[u8],
+    cache: &[u16],
+    c: u16,
+) -> Fields
+    requires { ⌜ Sized (quickBase (now counts) (now classes) (now kept) (now cache)) c (now sizes) ⌝ }
+    ensures { λ r. ⌜ r ≡ linkedSize (quickBase (now (counts .entry)) (now (classes .entry)) (now (kept .entry)) (now (cache .entry))) c ⌝ }
+{
+    let number = cells::from16(c);
+    let Found::At(p) = resolution::super_of(counts, classes, kept, cache, number) else {
+        return Fields::Unfit;
+    };
+    let own = classfile::field_count(resolution::file_of(counts, classes, kept, number));
+    let size = cells::wide8(cells::at8(sizes, cells::wide32(p))) + cells::wide8(own);
+    if 16 < size {
+        return Fields::Unfit;
+    }
+    Fields::Count(size as u8)
+}
+
+// Whether each class but the first is linked. If so `sizes` has the sizes of all of them.
+fn links_fit(sizes: &mut [u8], counts: &[u16], classes: &[u16], kept: &[u8], cache: &[u16]) -> bool
+    requires { ⌜ (length (now sizes) ≡ 64) × (getD (now counts) 0 0 ≤ 64) × (sizeOf (quickBase (now counts) (now classes) (now kept) (now cache)) 0 ≡ 0) ⌝ }
+    ensures { λ r. ⌜ (r ≡ linksFit (quickBase (now (counts .entry)) (now (classes .entry)) (now (kept .entry)) (now (cache .entry))) (getD (now (counts .entry)) 0 0)) × (r ≡ true → Sized (quickBase (now (counts .entry)) (now (classes .entry)) (now (kept .entry)) (now (cache .entry))) (getD (now (counts .entry)) 0 0) (now (sizes .exit))) ⌝ }
+{
+    cells::put8(sizes, 0, 0);
+    let n = cells::at16(counts, 0);
+    let mut c: u16 = 1;
+    while c < n {
+        let Fields::Count(size) = linked_size(sizes, counts, classes, kept, cache, c) else {
+            return false;
+        };
+        cells::put8(sizes, cells::wide16(c), size);
+        c += 1;
+    }
+    true
+}
+
+fn values_fit(
+    counts: &[u16],
+    classes: &[u16],
+    kept: &[u8],
+    cache: &[u16],
+    objects: &[u32],
+    frames: &[u32],
+) -> bool
+    requires { ⌜ (getD (now counts) 0 0 ≤ 64) × (sizeOf (quickBase (now counts) (now classes) (now kept) (now cache)) 0 ≡ 0) ⌝ }
+    ensures { λ r. ⌜ r ≡ valuesFit (quickBase (now (counts .entry)) (now (classes .entry)) (now (kept .entry)) (now (cache .entry))) (now (counts .entry)) (now (objects .entry)) (now (frames .entry)) ⌝ }
+{
+    let mut sizes = [0u8; 64];
+    if !links_fit(&mut sizes, counts, classes, kept, cache) {
+        return false;
+    }
+    if !objects_fit(&sizes, counts, objects) {
+        return false;
+    }
+    if !frames_fit(counts, frames, 0) {
+        return false;
+    }
+    frames_fit(counts, frames, 1)
+}
+
+// Whether the tables are broken.
+pub fn is_broken(
+    counts: &[u16],
+    classes: &[u16],
+    kept: &[u8],
+    cache: &[u16],
+    ties: &[u16],
+    subtypes: &[u16],
+    objects: &[u32],
+    frames: &[u32],
+) -> bool
+    ensures { λ r. ⌜ r ≡ broken (tables (now (counts .entry)) (now (classes .entry)) (now (kept .entry)) (now (cache .entry)) (now (ties .entry)) (now (subtypes .entry)) (now (objects .entry)) (now (frames .entry))) ⌝ }
+{
+    if !is_shaped(
+        counts,
+        classes,
+        kept,
+        cache,
+        ties,
+        subtypes,
+        objects,
+        frames,
+    ) {
+        return true;
+    }
+    if !are_within(counts) {
+        return true;
+    }
+    if !sources_fit(counts, classes, kept) {
+        return true;
+    }
+    if !rows_fit(counts, cache, ties, subtypes) {
+        return true;
+    }
+    !values_fit(counts, classes, kept, cache, objects, frames)
+}

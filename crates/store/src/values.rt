@@ -1,0 +1,148 @@
+// Values of objects' fields and of frames.
+ghost use mathlib.Core.Path.{_≡_};
+ghost use lib.ListN.{getD};
+ghost use Rattle.definition.specs.Lists.{all, rows, stack};
+ghost use Rattle.definition.specs.Tables.{valueOf, fieldAt, localAt, operandAt, frameAt};
+ghost use Rattle.store.specs.Checks.{objectSized, valueIn, localIn, objectIn, frameFit, framesFit};
+
+fn value_fits(kind: u32, bits: u32, made: u32) -> bool
+    ensures { λ r. ⌜ r ≡ valueIn made (valueOf kind bits) ⌝ }
+{
+    if kind == 1 {
+        return true;
+    }
+    if kind == 3 {
+        return bits < made;
+    }
+    if kind == 2 {
+        return bits == 0;
+    }
+    false
+}
+
+// A local may be empty.
+fn local_fits(kind: u32, bits: u32, made: u32) -> bool
+    ensures { λ r. ⌜ r ≡ localIn made (valueOf kind bits) ⌝ }
+{
+    if kind == 0 {
+        return bits == 0;
+    }
+    value_fits(kind, bits, made)
+}
+
+// The first `size` fields of object o.
+fn fields_fit(objects: &[u32], o: u16, size: u8, made: u32) -> bool
+    ensures { λ r. ⌜ r ≡ all (valueIn made) (rows (fieldAt (now (objects .entry)) o) size 0) ⌝ }
+{
+    let first = cells::wide16(o) * 33;
+    let mut i: u8 = 0;
+    while i < size {
+        let place = first + (1 + 2 * cells::wide8(i));
+        if !value_fits(
+            cells::at32(objects, place),
+            cells::at32(objects, place + 1),
+            made,
+        ) {
+            return false;
+        }
+        i += 1;
+    }
+    true
+}
+
+// Object o, where `sizes` has the sizes of its class.
+fn object_fits(sizes: &[u8], objects: &[u32], o: u16, classes: u32, made: u32) -> bool
+    ensures { λ r. ⌜ r ≡ objectIn classes made (objectSized (now (sizes .entry)) (now (objects .entry)) o) ⌝ }
+{
+    let class = cells::at32(objects, cells::wide16(o) * 33);
+    if classes <= class {
+        return false;
+    }
+    fields_fit(objects, o, cells::at8(sizes, cells::wide32(class)), made)
+}
+
+pub(crate) fn objects_fit(sizes: &[u8], counts: &[u16], objects: &[u32]) -> bool
+    ensures { λ r. ⌜ r ≡ all (objectIn (getD (now (counts .entry)) 0 0) (getD (now (counts .entry)) 5 0)) (rows (objectSized (now (sizes .entry)) (now (objects .entry))) (getD (now (counts .entry)) 5 0) 0) ⌝ }
+{
+    let classes = cells::from16(cells::at16(counts, 0));
+    let n = cells::at16(counts, 5);
+    let made = cells::from16(n);
+    let mut o: u16 = 0;
+    while o < n {
+        if !object_fits(sizes, objects, o, classes, made) {
+            return false;
+        }
+        o += 1;
+    }
+    true
+}
+
+// The operands of the frame whose row begins at cell b, from the last pushed.
+fn operands_fit(frames: &[u32], b: u32, depth: u32, made: u32) -> bool
+    ensures { λ r. ⌜ r ≡ all (valueIn made) (stack (operandAt (now (frames .entry)) b) depth) ⌝ }
+{
+    let mut i = depth;
+    while 0 < i {
+        let place = cells::wide32(b) + (20 + 2 * cells::wide32(i - 1));
+        if !value_fits(
+            cells::at32(frames, place),
+            cells::at32(frames, place + 1),
+            made,
+        ) {
+            return false;
+        }
+        i -= 1;
+    }
+    true
+}
+
+fn locals_fit(frames: &[u32], b: u32, made: u32) -> bool
+    ensures { λ r. ⌜ r ≡ all (localIn made) (rows (localAt (now (frames .entry)) b) 8 0) ⌝ }
+{
+    let mut i: u8 = 0;
+    while i < 8 {
+        let place = cells::wide32(b) + (4 + 2 * cells::wide8(i));
+        if !local_fits(
+            cells::at32(frames, place),
+            cells::at32(frames, place + 1),
+            made,
+        ) {
+            return false;
+        }
+        i += 1;
+    }
+    true
+}
+
+fn frame_fits(frames: &[u32], b: u32, classes: u32, made: u32) -> bool
+    ensures { λ r. ⌜ r ≡ frameFit classes made (frameAt (now (frames .entry)) b) ⌝ }
+{
+    if classes <= cells::at32(frames, cells::wide32(b)) {
+        return false;
+    }
+    let depth = cells::at32(frames, cells::wide32(b) + 3);
+    if 16 < depth {
+        return false;
+    }
+    if !operands_fit(frames, b, depth, made) {
+        return false;
+    }
+    locals_fit(frames, b, made)
+}
+
+// The frames of a task, from the top.
+pub(crate) fn frames_fit(counts: &[u16], frames: &[u32], task: u8) -> bool
+    ensures { λ r. ⌜ r ≡ framesFit (now (counts .entry)) (now (frames .entry)) task ⌝ }
+{
+    let classes = cells::from16(cells::at16(counts, 0));
+    let made = cells::from16(cells::at16(counts, 5));
+    let first = cells::from16(cells::from8(task)) * 32;
+    let mut i = cells::at16(counts, 6 + cells::wide8(task));
+    while 0 < i {
+        if !frame_fits(frames, (first + cells::from16(i - 1)) * 52, classes, made) {
+            return false;
+        }
+        i -= 1;
+    }
+    true
+}
