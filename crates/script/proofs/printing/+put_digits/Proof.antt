@@ -6,8 +6,8 @@ use borrow.Fn.Kinds.{In}
 use borrow.Fn.PlainCycle.{Measures, is, falls, and}
 use borrow.Author.Needs.{needs}
 use Rattle.script.specs.Printing.{digits-last, digits-one, digits-more, digits-end}
-use Rattle.script.proofs.put_digits.Reads as put-digits
-use Rattle.script.proofs.put_digits.Kinds as put-digits-kinds
+use Rattle.script.proofs.printing.put_digits.Reads as put-digits
+use Rattle.script.proofs.printing.put_digits.Kinds as put-digits-kinds
 use Rattle.script.proofs.printing.+put_digits.Lts-put_digits as put-digits-lts
 use Rattle.cells.proofs.put8.Reads as put8
 use Rattle.script.proofs.printing.+put_digits.{statement}
