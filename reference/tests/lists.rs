@@ -46,9 +46,10 @@ fn sound(store: &Store, reply: Reply, label: &str) {
 }
 
 /// A run is its steps and no more.
-fn as_steps(before: &Store, n: u16, reply: Reply, after: &Store, label: &str) {
+fn as_steps(before: &Store, n: u32, reply: Reply, after: &Store, label: &str) {
     let Reply::RanFor(ran, last) = reply else {
-        assert_eq!((n, reply), (0, Reply::Denied(Refusal::Word(word::UNKNOWN))));
+        assert!(n == 0 || n > 65_535);
+        assert_eq!(reply, Reply::Denied(Refusal::Word(word::UNKNOWN)));
         return;
     };
     let mut store = before.clone();
@@ -56,7 +57,7 @@ fn as_steps(before: &Store, n: u16, reply: Reply, after: &Store, label: &str) {
     let end = loop {
         let answer = step(&mut store);
         steps += u16::from(matches!(answer, Answer::Ran(_)));
-        if steps == n || !matches!(answer, Answer::Ran(_)) {
+        if u32::from(steps) == n || !matches!(answer, Answer::Ran(_)) {
             break answer;
         }
     };

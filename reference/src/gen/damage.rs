@@ -44,19 +44,19 @@ pub fn probes(seed: u64, store: &Store) -> Vec<Call> {
     let blueprint = Blueprint::new(&mut rng);
     let draft = blueprint.draft(&mut rng, 10 + seed as u16 % 7);
     let [loader, name, class] = some_entry(&mut rng, store);
-    let other = rng.below(5) as u16;
+    let other = rng.below(5) as u32;
     let int = rng.draw() as u32;
     vec![
         Call::Boot,
         Call::Define { loader: other, file: draft.file() },
-        Call::Define { loader, file: Draft::new(rng.within(2, 30) as u16).file() },
-        Call::Record { loader: other, name, class },
-        Call::Record { loader: rng.below(17) as u16, name: rng.below(16) as u16, class: rng.below(9) as u16 },
-        Call::Start { task: rng.below(2) as u16, loader, name, method: 20, int },
-        Call::Start { task: rng.below(3) as u16, loader: other, name: rng.below(16) as u16, method: 20, int },
+        Call::Define { loader: loader.into(), file: Draft::new(rng.within(2, 30) as u16).file() },
+        Call::Record { loader: other, name: name.into(), class: class.into() },
+        Call::Record { loader: rng.below(17) as u32, name: rng.below(16) as u32, class: rng.below(9) as u32 },
+        Call::Start { task: rng.below(2) as u32, loader: loader.into(), name, method: 20, int },
+        Call::Start { task: rng.below(3) as u32, loader: other, name: rng.below(16) as u16, method: 20, int },
         Call::Step,
-        Call::Run { n: rng.within(0, 40) as u16 },
-        Call::Drop { task: rng.below(3) as u16 },
+        Call::Run { n: rng.within(0, 40) as u32 },
+        Call::Drop { task: rng.below(3) as u32 },
     ]
 }
 
