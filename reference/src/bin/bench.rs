@@ -44,7 +44,7 @@ struct Case {
 
 impl Case {
     fn new(name: impl Into<String>, store: Store, call: Call) -> Case {
-        Case { name: name.into(), store, call, times: 1, goes_on: false, units: 1.0 }
+        Case { name: name.into(), store, call, times: 20, goes_on: false, units: 1.0 }
     }
 
     /// A case of a hundred steps in a row.
@@ -59,7 +59,7 @@ impl Case {
             panic!("{name} does not finish");
         };
         let steps = f64::from(ran) + 1.0;
-        Case { units: steps, ..Case::new(format!("{name}, a step of {steps}"), store, call) }
+        Case { times: 1, units: steps, ..Case::new(format!("{name}, a step of {steps}"), store, call) }
     }
 
     /// The time of a round, in nanoseconds a unit.
@@ -75,12 +75,12 @@ impl Case {
         clock.elapsed().as_nanos() as f64 / self.times as f64 / self.units
     }
 
-    /// The least times of both sides: at least 15 rounds, and more until a quarter of a second is over.
+    /// The least times of both sides: at least 50 rounds, and more until a quarter of a second is over.
     fn least(&self) -> [f64; 2] {
         let mut store = self.store.clone();
         let mut least = [f64::MAX; 2];
         let (clock, mut rounds) = (Instant::now(), 0);
-        while rounds < 15 || clock.elapsed() < Duration::from_millis(250) {
+        while rounds < 50 || clock.elapsed() < Duration::from_millis(250) {
             for (least, (_, side)) in least.iter_mut().zip(SIDES) {
                 *least = least.min(self.round(side, &mut store));
             }
