@@ -12,7 +12,7 @@ use Rattle.definition.specs.declared.Answer.the-variants.{Idle, Ran, Finished, 
 use Rattle.definition.specs.declared.Reply.{Reply}
 use Rattle.definition.specs.declared.Reply.the-variants.{Accepted, Defined, Stepped, RanFor, Denied}
 use Rattle.definition.specs.Tables.{Tables}
-use Rattle.definition.specs.Calls.{Call, Done, perform}
+use Rattle.definition.specs.Calls.{Call, callStep, callRun, Done, done, stepTables, ofStep, run, perform}
 use Rattle.layout.specs.Cells.{cells-sets}
 use Rattle.script.specs.Details.{refusalNumbers, stepNumbers, replyNumbers, turnIn}
 
@@ -80,3 +80,13 @@ called c t u before after reply r e p = record {
   tables = ap (λ (d : Done Reply). d .tables) e;
   reported = subst (λ (a : Reply). Reported (turnIn (t .counts)) a before after r) (ap (λ (d : Done Reply). d .answer) e) p;
 }
+
+-- a step and a run as calls
+
+pub stepped : (t u : Tables) (a : Answer) → done a u ≡ stepTables t → done (Stepped a) u ≡ perform callStep t
+unfolding perform
+stepped t u a e = ap ofStep e
+
+pub ran : (n : ℕ) (t u : Tables) (r : Reply) → done r u ≡ run n t → done r u ≡ perform (callRun n) t
+unfolding perform
+ran n t u r e = e

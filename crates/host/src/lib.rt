@@ -157,6 +157,105 @@ pub extern "C" fn tariff_record(
     report(answer, turn, reply)
 }
 
+// start: a new object of the cached class, and a first frame in its method with that int.
+#[no_mangle]
+pub extern "C" fn tariff_start(
+    counts: &mut [u16],
+    classes: &[u16],
+    kept: &[u8],
+    cache: &[u16],
+    ties: &[u16],
+    subtypes: &[u16],
+    objects: &mut [u32],
+    frames: &mut [u32],
+    task: u32,
+    loader: u32,
+    name: u16,
+    method: u16,
+    value: u32,
+    answer: &mut [u32],
+) -> u8
+    ensures { λ r. ⌜ Called (callStart task loader name method value) (tables (now (counts .entry)) (now (classes .entry)) (now (kept .entry)) (now (cache .entry)) (now (ties .entry)) (now (subtypes .entry)) (now (objects .entry)) (now (frames .entry))) (tables (now (counts .exit)) (now (classes .entry)) (now (kept .entry)) (now (cache .entry)) (now (ties .entry)) (now (subtypes .entry)) (now (objects .exit)) (now (frames .exit))) (now (answer .entry)) (now (answer .exit)) r ⌝ }
+{
+    let turn = script::turn_of(counts);
+    let reply = execution::start(
+        counts,
+        classes,
+        kept,
+        cache,
+        ties,
+        subtypes,
+        objects,
+        frames,
+        task,
+        loader,
+        name,
+        method,
+        value,
+    );
+    report(answer, turn, reply)
+}
+
+// step: one instruction of the quote if it has a frame, else of the report.
+#[no_mangle]
+pub extern "C" fn tariff_step(
+    counts: &mut [u16],
+    classes: &[u16],
+    kept: &[u8],
+    cache: &[u16],
+    ties: &mut [u16],
+    subtypes: &[u16],
+    objects: &mut [u32],
+    frames: &mut [u32],
+    answer: &mut [u32],
+) -> u8
+    ensures { λ r. ⌜ Called callStep (tables (now (counts .entry)) (now (classes .entry)) (now (kept .entry)) (now (cache .entry)) (now (ties .entry)) (now (subtypes .entry)) (now (objects .entry)) (now (frames .entry))) (tables (now (counts .exit)) (now (classes .entry)) (now (kept .entry)) (now (cache .entry)) (now (ties .exit)) (now (subtypes .entry)) (now (objects .exit)) (now (frames .exit))) (now (answer .entry)) (now (answer .exit)) r ⌝ }
+{
+    let turn = script::turn_of(counts);
+    let result = execution::step(
+        counts,
+        classes,
+        kept,
+        cache,
+        ties,
+        subtypes,
+        objects,
+        frames,
+    );
+    report(answer, turn, Reply::Stepped(result))
+}
+
+// run: up to n steps, ended by the first answer other than ran.
+#[no_mangle]
+pub extern "C" fn tariff_run(
+    counts: &mut [u16],
+    classes: &[u16],
+    kept: &[u8],
+    cache: &[u16],
+    ties: &mut [u16],
+    subtypes: &[u16],
+    objects: &mut [u32],
+    frames: &mut [u32],
+    n: u32,
+    answer: &mut [u32],
+) -> u8
+    ensures { λ r. ⌜ Called (callRun n) (tables (now (counts .entry)) (now (classes .entry)) (now (kept .entry)) (now (cache .entry)) (now (ties .entry)) (now (subtypes .entry)) (now (objects .entry)) (now (frames .entry))) (tables (now (counts .exit)) (now (classes .entry)) (now (kept .entry)) (now (cache .entry)) (now (ties .exit)) (now (subtypes .entry)) (now (objects .exit)) (now (frames .exit))) (now (answer .entry)) (now (answer .exit)) r ⌝ }
+{
+    let turn = script::turn_of(counts);
+    let reply = execution::run(
+        counts,
+        classes,
+        kept,
+        cache,
+        ties,
+        subtypes,
+        objects,
+        frames,
+        n,
+    );
+    report(answer, turn, reply)
+}
+
 // drop: the task's frames are cleared.
 #[no_mangle]
 pub extern "C" fn tariff_drop(
