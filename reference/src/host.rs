@@ -6,7 +6,7 @@
 use crate::answer::{Answer, Refusal, Reply};
 
 #[cfg(feature = "host")]
-pub use library::{apply, check, make};
+pub use library::{check, make};
 
 /// Cells of the answer table.
 pub const CELLS: usize = 6;
@@ -61,7 +61,6 @@ fn refused(kind: u32, refusal: Refusal, turn: u32, ran: u32) -> [u32; CELLS] {
 
 #[cfg(feature = "host")]
 mod library {
-    use super::{Told, CELLS};
     use crate::gen::Call;
     use crate::store::Store;
 
@@ -135,13 +134,6 @@ mod library {
                 Call::Drop { task } => lend!(tariff_drop, store, answer, task),
             }
         }
-    }
-
-    /// Makes the call by the library: what it tells.
-    pub fn apply(call: &Call, store: &mut Store) -> Told {
-        let mut cells = [0; CELLS];
-        let number = make(call, store, &mut cells);
-        Told { number, cells }
     }
 
     /// The desk's check by the library.

@@ -3,6 +3,7 @@
 pub mod blueprint;
 pub mod build;
 pub mod cases;
+pub mod chains;
 pub mod codes;
 pub mod damage;
 pub mod files;
