@@ -34,8 +34,8 @@ struct Case {
     name: String,
     store: Store,
     call: Call,
-    /// How often a round makes the call.
-    times: usize,
+    /// How often a round makes the call, if that is fixed; else as often as fits a quarter of a millisecond, at least once.
+    times: Option<usize>,
     /// Does the call go on from the store that it left? Otherwise the counts are set back before the next: rows past them are free.
     goes_on: bool,
     /// By what the time of one call is divided.
@@ -44,12 +44,12 @@ struct Case {
 
 impl Case {
     fn new(name: impl Into<String>, store: Store, call: Call) -> Case {
-        Case { name: name.into(), store, call, times: 20, goes_on: false, units: 1.0 }
+        Case { name: name.into(), store, call, times: None, goes_on: false, units: 1.0 }
     }
 
     /// A case of a hundred steps in a row.
     fn steps(name: &str, store: Store) -> Case {
-        Case { times: 100, goes_on: true, ..Case::new(name, store, Call::Step) }
+        Case { times: Some(100), goes_on: true, ..Case::new(name, store, Call::Step) }
     }
 
     /// A case of a whole run, by its steps.
@@ -59,30 +59,35 @@ impl Case {
             panic!("{name} does not finish");
         };
         let steps = f64::from(ran) + 1.0;
-        Case { times: 1, units: steps, ..Case::new(format!("{name}, a step of {steps}"), store, call) }
+        Case { times: Some(1), units: steps, ..Case::new(format!("{name}, a step of {steps}"), store, call) }
     }
 
-    /// The time of a round, in nanoseconds a unit.
-    fn round(&self, side: Side, store: &mut Store) -> f64 {
+    /// The time of a round of so many calls, in nanoseconds a unit.
+    fn round(&self, side: Side, store: &mut Store, times: usize) -> f64 {
         store.clone_from(&self.store);
         let clock = Instant::now();
-        for _ in 0..self.times {
+        for _ in 0..times {
             side(&self.call, store);
             if !self.goes_on {
                 store.counts.copy_from_slice(&self.store.counts);
             }
         }
-        clock.elapsed().as_nanos() as f64 / self.times as f64 / self.units
+        clock.elapsed().as_nanos() as f64 / times as f64 / self.units
     }
 
-    /// The least times of both sides: at least 50 rounds, and more until a quarter of a second is over.
+    fn times(&self, side: Side, store: &mut Store) -> usize {
+        self.times.unwrap_or_else(|| (250_000.0 / self.round(side, store, 1)).clamp(1.0, 100.0) as usize)
+    }
+
+    /// The least times of both sides: at least 50 rounds, and more until half a second is over.
     fn least(&self) -> [f64; 2] {
         let mut store = self.store.clone();
         let mut least = [f64::MAX; 2];
+        let times = SIDES.map(|(_, side)| self.times(side, &mut store));
         let (clock, mut rounds) = (Instant::now(), 0);
-        while rounds < 50 || clock.elapsed() < Duration::from_millis(250) {
-            for (least, (_, side)) in least.iter_mut().zip(SIDES) {
-                *least = least.min(self.round(side, &mut store));
+        while rounds < 50 || clock.elapsed() < Duration::from_millis(500) {
+            for (at, (_, side)) in SIDES.iter().enumerate() {
+                least[at] = least[at].min(self.round(*side, &mut store, times[at]));
             }
             rounds += 1;
         }
@@ -156,9 +161,10 @@ fn profile(side: &str, name: &str) {
     let all = runs().into_iter().chain(steps()).chain(loads()).chain(growth());
     let case = all.into_iter().find(|case| case.name.starts_with(name)).expect("a name of a case");
     let mut store = case.store.clone();
+    let times = case.times(*side, &mut store);
     let clock = Instant::now();
     while clock.elapsed() < Duration::from_secs(5) {
-        case.round(*side, &mut store);
+        case.round(*side, &mut store, times);
     }
 }
 
