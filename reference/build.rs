@@ -13,7 +13,11 @@ fn main() {
     let directory = env::var("TARIFF_LIB").expect("TARIFF_LIB names the directory of the libraries");
     let libraries = env::var("TARIFF_LINK").unwrap_or_else(|_| "static=host,static=desk".into());
     println!("cargo:rustc-link-search=native={directory}");
-    libraries.split(',').for_each(|library| println!("cargo:rustc-link-lib={library}"));
+    for library in libraries.split(',') {
+        let (kind, name) = library.split_once('=').expect("a kind, =, and a name");
+        let ending = if kind == "static" { "a" } else { "so" };
+        println!("cargo:rustc-link-lib={library}");
+        println!("cargo:rerun-if-changed={directory}/lib{name}.{ending}");
+    }
     println!("cargo:rustc-link-arg=-Wl,-rpath,{directory}");
-    println!("cargo:rerun-if-changed={directory}");
 }

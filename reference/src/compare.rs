@@ -177,7 +177,7 @@ impl Comparison {
             (large::tree(), run.clone()), (large::tall_tree(), run.clone()), (full[0].clone(), run.clone()),
             (full[1].clone(), Call::Run { n: 100 }), (chain.clone(), large::chain_define()),
             (chain, large::chain_record()), (grid, large::grid_record()), (usual.clone(), large::usual_define()),
-            (usual, large::usual_record()),
+            (usual, large::usual_record()), (large::posting(), Call::Step),
         ];
         for (at, (store, call)) in calls.iter().enumerate() {
             self.call(store, call, CELLS, &format!("large store {at}"));

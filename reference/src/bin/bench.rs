@@ -7,7 +7,7 @@
 use std::time::{Duration, Instant};
 
 use reference::gen::large::{
-    chain, chain_define, chain_record, full, grid, grid_record, tall_tree, tree, usual, usual_define, usual_record, Repeated,
+    chain, chain_define, chain_record, full, grid, grid_record, posting, tall_tree, tree, usual, usual_define, usual_record, Repeated,
 };
 use reference::gen::{Call, Trial};
 use reference::host::{self, CELLS};
@@ -122,6 +122,7 @@ fn steps() -> Vec<Case> {
         Case::steps("tree, its first 100", tree()),
         Case::steps("full store, null and pop", full(Repeated::NullPop)),
         Case::steps("full store, aload, getfield and pop", full(Repeated::AloadGetfieldPop)),
+        Case { times: Some(1), ..Case::new("getfield that posts a tie, longest chain", posting(), Call::Step) },
     ]
 }
 

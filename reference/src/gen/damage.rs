@@ -9,9 +9,10 @@ use super::Call;
 use crate::store::{cell, count, frame_base, Store, FRAME_ROW, LIMITS, OBJECT_ROW, ROW};
 
 /// Kinds of damage, each a way to change a good store.
-const KINDS: [fn(&mut Rng, &mut Store); 16] = [
+const KINDS: [fn(&mut Rng, &mut Store); 17] = [
     any_cells, a_count, uniform_table, wrong_length, second_cache_row, overlapping_files, superclass_not_lower,
     code_bytes, kept_byte, top_frame, operand_count, a_value, constraints, full_frames, uniform_store, file_place,
+    nested_file,
 ];
 
 /// A store from a boot with some damage, from one change to three.
@@ -213,6 +214,21 @@ fn overlapping_files(rng: &mut Rng, store: &mut Store) {
     }
     let (from, to) = (rng.within(1, classes - 1) * ROW, rng.within(1, classes - 1) * ROW);
     store.classes.copy_within(from + 1..from + ROW, to + 1);
+}
+
+/// A class whose file stands within another's code.
+fn nested_file(rng: &mut Rng, store: &mut Store) {
+    let Some(code) = some_code(rng, store) else {
+        return;
+    };
+    let bytes = Draft::new(rng.within(2, 16) as u16).file();
+    if bytes.len() > code.len() {
+        return;
+    }
+    let class = rng.within(1, store.count(count::CLASSES) - 1);
+    store.kept[code.start..code.start + bytes.len()].copy_from_slice(&bytes);
+    let place = [code.start as u16, bytes.len() as u16];
+    store.classes[class * ROW + 1..(class + 1) * ROW].copy_from_slice(&place);
 }
 
 /// A cache row of a superclass with a number that isn't lower.

@@ -67,18 +67,34 @@ pub fn chain(entries: usize, links: usize) -> Store {
     let mut trial = Trial::ready([5]);
     trial.define(5, &Draft::new(CHAIN));
     let mut store = trial.store;
+    add_chain(&mut store, entries - 1, links);
+    store
+}
+
+/// Adds the links of a chain, and entries until there are so many.
+fn add_chain(store: &mut Store, entries: usize, links: usize) {
     for i in 0..links as u16 {
         let (near, far) = (i % 2, 1 - i % 2);
         store.add_tie([near, far, CHAIN + i]);
         store.add_subtype([far, CHAIN + i, CHAIN + i + 1]);
     }
-    for i in 1..entries as u16 {
+    for i in (1..).take(entries.saturating_sub(store.count(count::CACHE))) {
         let loader = if usize::from(i) < links { i % 2 } else { 2 };
-        if store.count(count::CACHE) + 1 < entries {
-            store.add_cached([loader, CHAIN + i, 0]);
-        }
+        store.add_cached([loader, CHAIN + i, 0]);
     }
-    store
+}
+
+/// A chain of 255 ties and as many subtype constraints with 256 entries, and the quote before a getfield that posts one more tie.
+pub fn posting() -> Store {
+    let mut trial = Trial::ready([5, 6]);
+    trial.define(5, &Draft::new(50).field(30, CHAIN));
+    trial.record(6, 50, 1);
+    let code = Code::new().object(50).getfield(50, 30, CHAIN).pop().iload(1).ireturn();
+    trial.define(6, &Draft::new(51).main(ROOT, &code));
+    trial.start(0, 6, 51, ROOT, 3);
+    trial.step();
+    add_chain(&mut trial.store, 256, 255);
+    trial.store
 }
 
 /// The call that loads the first request of a chain by a class of its own.
@@ -236,6 +252,11 @@ mod tests {
             assert_eq!(chain_define().apply(&mut store.clone()), Reply::Defined(2));
             assert_eq!(chain_record().apply(&mut store), Reply::Accepted);
         }
+        let mut posting = posting();
+        sound(&posting, "posting");
+        assert_eq!(last(&posting), [256, 255, 255]);
+        assert_eq!(crate::step(&mut posting), Answer::Ran(0));
+        assert_eq!(last(&posting), [256, 256, 255]);
         let (mut grid, mut usual) = (grid(), usual());
         sound(&grid, "grid");
         assert_eq!(last(&grid), [255, 256, 256]);
