@@ -1,8 +1,8 @@
 //! The verified machine beside this one, on the same input, in one run. Prints the tables of docs/BENCHMARKS.md.
 //!
-//! Every figure is the least of several rounds, in which the two sides take turns. Before each round a prepared store is copied into the
-//! same tables, outside the clock, so the tables lie in the processor's caches as far as they fit. With the argument `verified` or
-//! `second` and a name, one call is made over and over by that side alone, for a profiler.
+//! Every figure is the least of many rounds, in which the two sides take turns, in five passes over all cases. Before each round a prepared
+//! store is copied into the same tables, outside the clock, so the tables lie in the processor's caches as far as they fit. The clock
+//! is that of the thread's own time, so that other work on the machine counts less. With the argument `verified` or `second` and a name, one case is measured by that side alone, for a profiler.
 
 use std::time::{Duration, Instant};
 
@@ -13,6 +13,26 @@ use reference::gen::{Call, Trial};
 use reference::host::{self, CELLS};
 use reference::store::{LENGTHS, LIMITS};
 use reference::{Answer, Reply, Store};
+
+#[repr(C)]
+struct Time {
+    seconds: i64,
+    nanoseconds: i64,
+}
+
+extern "C" {
+    fn clock_gettime(clock: i32, time: *mut Time) -> i32;
+}
+
+/// The time in nanoseconds for which this thread had a processor.
+fn own_time() -> f64 {
+    const THREAD: i32 = 3;
+    let mut time = Time { seconds: 0, nanoseconds: 0 };
+    // SAFETY: the pointer is to a time that lives through the call.
+    let failed = unsafe { clock_gettime(THREAD, &mut time) };
+    assert_eq!(failed, 0, "this system has no clock of a thread's time");
+    time.seconds as f64 * 1e9 + time.nanoseconds as f64
+}
 
 /// A side makes a call on a store.
 type Side = fn(&Call, &mut Store);
@@ -40,11 +60,13 @@ struct Case {
     goes_on: bool,
     /// By what the time of one call is divided.
     units: f64,
+    /// The least times of both sides so far, in nanoseconds a unit.
+    least: [f64; 2],
 }
 
 impl Case {
     fn new(name: impl Into<String>, store: Store, call: Call) -> Case {
-        Case { name: name.into(), store, call, times: None, goes_on: false, units: 1.0 }
+        Case { name: name.into(), store, call, times: None, goes_on: false, units: 1.0, least: [f64::MAX; 2] }
     }
 
     /// A case of a hundred steps in a row.
@@ -65,37 +87,35 @@ impl Case {
     /// The time of a round of so many calls, in nanoseconds a unit.
     fn round(&self, side: Side, store: &mut Store, times: usize) -> f64 {
         store.clone_from(&self.store);
-        let clock = Instant::now();
+        let before = own_time();
         for _ in 0..times {
             side(&self.call, store);
             if !self.goes_on {
                 store.counts.copy_from_slice(&self.store.counts);
             }
         }
-        clock.elapsed().as_nanos() as f64 / times as f64 / self.units
+        (own_time() - before) / times as f64 / self.units
     }
 
     fn times(&self, side: Side, store: &mut Store) -> usize {
         self.times.unwrap_or_else(|| (250_000.0 / self.round(side, store, 1)).clamp(1.0, 100.0) as usize)
     }
 
-    /// The least times of both sides: at least 50 rounds, and more until half a second is over.
-    fn least(&self) -> [f64; 2] {
+    /// A pass: at least ten rounds of both sides, and more until a fifth of a second is over.
+    fn pass(&mut self) {
         let mut store = self.store.clone();
-        let mut least = [f64::MAX; 2];
         let times = SIDES.map(|(_, side)| self.times(side, &mut store));
         let (clock, mut rounds) = (Instant::now(), 0);
-        while rounds < 50 || clock.elapsed() < Duration::from_millis(500) {
+        while rounds < 10 || clock.elapsed() < Duration::from_millis(200) {
             for (at, (_, side)) in SIDES.iter().enumerate() {
-                least[at] = least[at].min(self.round(*side, &mut store, times[at]));
+                self.least[at] = self.least[at].min(self.round(*side, &mut store, times[at]));
             }
             rounds += 1;
         }
-        least
     }
 
     fn print(&self) {
-        let [verified, second] = self.least();
+        let [verified, second] = self.least;
         println!("| {} | {} | {} | {:.2} |", self.name, figure(verified), figure(second), verified / second);
     }
 }
@@ -108,17 +128,13 @@ fn figure(nanoseconds: f64) -> String {
     }
 }
 
-fn head(what: &str) {
-    println!("\n| {what} | verified | second | verified ÷ second |\n|---|---|---|---|");
-}
-
 fn runs() -> Vec<Case> {
     vec![Case::run("tree", tree()), Case::run("tall tree", tall_tree())]
 }
 
 fn steps() -> Vec<Case> {
     vec![
-        Case::steps("idle, after boot", Trial::booted().store),
+        Case { times: Some(2_000), ..Case::steps("idle, after boot", Trial::booted().store) },
         Case::steps("tree, its first 100", tree()),
         Case::steps("full store, null and pop", full(Repeated::NullPop)),
         Case::steps("full store, aload, getfield and pop", full(Repeated::AloadGetfieldPop)),
@@ -162,11 +178,13 @@ fn profile(side: &str, name: &str) {
     let all = runs().into_iter().chain(steps()).chain(loads()).chain(growth());
     let case = all.into_iter().find(|case| case.name.starts_with(name)).expect("a name of a case");
     let mut store = case.store.clone();
-    let times = case.times(*side, &mut store);
-    let clock = Instant::now();
+    let times = case.times.unwrap_or(20);
+    let (clock, mut rounds) = (Instant::now(), 0);
     while clock.elapsed() < Duration::from_secs(5) {
         case.round(*side, &mut store, times);
+        rounds += 1;
     }
+    println!("{}: {} calls", case.name, rounds * times);
 }
 
 fn main() {
@@ -174,9 +192,13 @@ fn main() {
     if let [side, name] = &arguments[..] {
         return profile(side, name);
     }
+    let mut tables = [("run", runs()), ("step", steps()), ("record and define", loads()), ("record, one chain", growth())];
+    for _ in 0..5 {
+        tables.iter_mut().flat_map(|(_, cases)| cases).for_each(Case::pass);
+    }
     println!("Bytes of all tables: {}. Limits: {LIMITS:?}.", bytes());
-    for (what, cases) in [("run", runs()), ("step", steps()), ("record and define", loads()), ("record, one chain", growth())] {
-        head(what);
+    for (what, cases) in tables {
+        println!("\n| {what} | verified | second | verified ÷ second |\n|---|---|---|---|");
         cases.iter().for_each(Case::print);
     }
 }
