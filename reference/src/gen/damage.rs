@@ -9,10 +9,10 @@ use super::Call;
 use crate::store::{cell, count, frame_base, Store, FRAME_ROW, LIMITS, OBJECT_ROW, ROW};
 
 /// Kinds of damage, each a way to change a good store.
-const KINDS: [fn(&mut Rng, &mut Store); 17] = [
+const KINDS: [fn(&mut Rng, &mut Store); 18] = [
     any_cells, a_count, uniform_table, wrong_length, second_cache_row, overlapping_files, superclass_not_lower,
     code_bytes, kept_byte, top_frame, operand_count, a_value, constraints, full_frames, uniform_store, file_place,
-    nested_file,
+    nested_file, full_rows,
 ];
 
 /// A store from a boot with some damage, from one change to three.
@@ -366,6 +366,22 @@ fn constraints(rng: &mut Rng, store: &mut Store) {
             store.add_tie([one, other, low]);
         } else if !store.is_full(count::SUBTYPES) {
             store.add_subtype([one, low, high]);
+        }
+    }
+}
+
+/// The cache, the ties or the subtype constraints filled, but for a row or two at times, by rows that say nothing of other requests.
+fn full_rows(rng: &mut Rng, store: &mut Store) {
+    let (which, left) = (rng.within(count::CACHE, count::SUBTYPES), rng.pick(&[0, 0, 1, 2]));
+    if !is_whole(store) || store.counts[count::CLASSES] == 0 {
+        return;
+    }
+    while store.counts[which] + left < LIMITS[which] {
+        let name = 60_000 + store.counts[which];
+        match which {
+            count::CACHE => store.add_cached([15, name, 0]),
+            count::TIES => store.add_tie([15, 14, name]),
+            _ => store.add_subtype([15, 2, name]),
         }
     }
 }
