@@ -1,18 +1,23 @@
-//! With the feature `host`, links the C library `tariff` of the directory TARIFF_LIB.
+//! With the feature `host`, links the C libraries of the verified machine, or one that stands in for them.
+//!
+//! TARIFF_LIB names their directory. TARIFF_LINK says what to link, with a comma between: `static=host,static=desk` if it isn't set.
 
 use std::env;
 
 fn main() {
     println!("cargo:rerun-if-env-changed=TARIFF_LIB");
-    println!("cargo:rerun-if-env-changed=TARIFF_KIND");
+    println!("cargo:rerun-if-env-changed=TARIFF_LINK");
     if env::var_os("CARGO_FEATURE_HOST").is_none() {
         return;
     }
-    let directory = env::var("TARIFF_LIB").expect("TARIFF_LIB names the directory of the library");
-    // `static` for libtariff.a, `dylib` for libtariff.so.
-    let kind = env::var("TARIFF_KIND").unwrap_or_else(|_| "static".into());
+    let directory = env::var("TARIFF_LIB").expect("TARIFF_LIB names the directory of the libraries");
+    let libraries = env::var("TARIFF_LINK").unwrap_or_else(|_| "static=host,static=desk".into());
     println!("cargo:rustc-link-search=native={directory}");
-    println!("cargo:rustc-link-lib={kind}=tariff");
+    for library in libraries.split(',') {
+        let (kind, name) = library.split_once('=').expect("a kind, =, and a name");
+        let ending = if kind == "static" { "a" } else { "so" };
+        println!("cargo:rustc-link-lib={library}");
+        println!("cargo:rerun-if-changed={directory}/lib{name}.{ending}");
+    }
     println!("cargo:rustc-link-arg=-Wl,-rpath,{directory}");
-    println!("cargo:rerun-if-changed={directory}");
 }

@@ -8,6 +8,8 @@ pub mod answer;
 pub mod broken;
 pub mod classes;
 pub mod code;
+#[cfg(feature = "host")]
+pub mod compare;
 pub mod file;
 pub mod gen;
 pub mod host;

@@ -18,18 +18,19 @@ pub fn boot(store: &mut Store) -> Reply {
     Reply::Accepted
 }
 
-pub fn define(store: &mut Store, loader: u16, bytes: &[u8]) -> Reply {
+pub fn define(store: &mut Store, loader: u32, bytes: &[u8]) -> Reply {
     match try_define(store, loader, bytes) {
         Ok(class) => Reply::Defined(class as u8),
         Err(refusal) => Reply::Denied(refusal),
     }
 }
 
-fn try_define(store: &mut Store, loader: u16, bytes: &[u8]) -> Result<u16, Refusal> {
+fn try_define(store: &mut Store, loader: u32, bytes: &[u8]) -> Result<u16, Refusal> {
     let mut classes = unbroken(store).ok_or(Refusal::Word(word::BROKEN))?;
-    if loader >= LOADERS {
+    if loader >= LOADERS.into() {
         return Err(Refusal::Word(word::UNKNOWN));
     }
+    let loader = loader as u16;
     let file = File::read(bytes).ok_or(Refusal::Word(word::FILE))?;
     let mut notes = Vec::new();
     let verified = verify(file, &mut |lower, higher| notes.push([loader, lower, higher]));
@@ -97,16 +98,17 @@ fn overriding_ties(store: &Store, classes: &Classes, loader: u16, superclass: u1
     new
 }
 
-pub fn record(store: &mut Store, loader: u16, name: u16, class: u16) -> Reply {
+pub fn record(store: &mut Store, loader: u32, name: u32, class: u32) -> Reply {
     let Some(classes) = unbroken(store) else {
         return denied(word::BROKEN);
     };
-    if loader >= LOADERS || name < 2 || !classes.has(u32::from(class)) {
+    if loader >= LOADERS.into() || name < 2 || !classes.has(class) {
         return denied(word::UNKNOWN);
     }
-    if store.name_of(class) != name {
+    if u32::from(store.name_of(class as u16)) != name {
         return denied(word::MISNAMED);
     }
+    let [loader, name, class] = [loader, name, class].map(|number| number as u16);
     match store.cached(loader, name) {
         Some(there) if there == class => return Reply::Accepted,
         Some(_) => return denied(word::TAKEN),

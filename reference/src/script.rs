@@ -93,10 +93,12 @@ fn details(reply: Reply, task: u8) -> [i64; 4] {
 /// Makes the call of a line: its letter, refusal number and details.
 pub fn answer_line(store: &mut Store, line: &Line) -> (char, [i64; 4]) {
     let (letter, reply) = match *line {
-        Line::Record { loader, name, class } => ('R', record(store, loader, name, class)),
-        Line::Define { loader, ref file } => ('D', define(store, loader, file)),
-        Line::Start { task, loader, name, method, int } => ('S', start(store, task, loader, name, method, int)),
-        Line::Drop { task } => ('X', drop_task(store, task)),
+        Line::Record { loader, name, class } => ('R', record(store, loader.into(), name.into(), class.into())),
+        Line::Define { loader, ref file } => ('D', define(store, loader.into(), file)),
+        Line::Start { task, loader, name, method, int } => {
+            ('S', start(store, task.into(), loader.into(), name, method, int))
+        }
+        Line::Drop { task } => ('X', drop_task(store, task.into())),
         Line::Step => {
             let task = store.turn().unwrap_or(0) as u8;
             return ('N', details(Reply::Stepped(step(store)), task));

@@ -8,6 +8,31 @@ use crate::gen::{Call, CALLS};
 use crate::step::{instruction_of, take_step};
 use crate::store::{cell, frame_base, Store};
 
+/// The words that a call is given on lists from a boot; 0 is accepted.
+pub const FROM_A_BOOT: [(&str, &[usize]); 7] = [
+    ("boot", &[0]),
+    ("define", &[0, 2, 3, 4, 5, 6, 8, 9, 10]),
+    ("record", &[0, 3, 4, 9, 10, 13]),
+    ("start", &[0, 3, 5, 7, 10, 12]),
+    ("step", &[0, 5, 7, 9, 10, 11]),
+    ("run", &[0, 3]),
+    ("drop", &[0, 3]),
+];
+
+/// The words that only damage brings.
+pub const ONLY_DAMAGE: [(&str, &[usize]); 7] = [
+    ("boot", &[1]),
+    ("define", &[1]),
+    ("record", &[1]),
+    ("start", &[1]),
+    ("step", &[1, 14]),
+    ("run", &[1]),
+    ("drop", &[1]),
+];
+
+/// How runs end on lists from a boot; damage brings word 14 too.
+pub const ENDS_FROM_A_BOOT: [usize; 8] = [5, 7, 9, 10, 11, IDLE, RAN, FINISHED];
+
 #[derive(Clone)]
 pub struct Tally {
     /// By call and refusal number; 0 is accepted.
@@ -97,6 +122,11 @@ impl Tally {
     pub fn given(&self, call: &str) -> Vec<usize> {
         let kind = CALLS.iter().position(|&name| name == call).expect("a call");
         (0..15).filter(|&number| self.words[kind][number] > 0).collect()
+    }
+
+    /// The ends of runs that occurred.
+    pub fn ended(&self) -> Vec<usize> {
+        (0..18).filter(|&end| self.run_ends[end] > 0).collect()
     }
 
     /// The opcodes that never ran.

@@ -6,6 +6,9 @@ use crate::classes::Classes;
 use crate::step::take_step;
 use crate::store::{count, Store, Value, INT, LOADERS, OBJECT_ROW, TASKS};
 
+/// The most steps of a run.
+const MOST_STEPS: u32 = 65_535;
+
 /// Makes an object with all fields 0 or null; the caller has seen that there is room.
 pub fn make_object(store: &mut Store, classes: &Classes, class: u16) -> Value {
     let object = u32::from(store.counts[count::OBJECTS]);
@@ -18,14 +21,14 @@ pub fn make_object(store: &mut Store, classes: &Classes, class: u16) -> Value {
     Value::Object(object)
 }
 
-pub fn start(store: &mut Store, task: u16, loader: u16, name: u16, method: u16, int: u32) -> Reply {
+pub fn start(store: &mut Store, task: u32, loader: u32, name: u16, method: u16, int: u32) -> Reply {
     let Some(classes) = unbroken(store) else {
         return denied(word::BROKEN);
     };
-    if task >= TASKS || loader >= LOADERS || name < 2 || method == 0 {
+    if task >= TASKS.into() || loader >= LOADERS.into() || name < 2 || method == 0 {
         return denied(word::UNKNOWN);
     }
-    let task = usize::from(task);
+    let (task, loader) = (task as usize, loader as u16);
     if store.frame_count(task) > 0 {
         return denied(word::BUSY);
     }
@@ -45,11 +48,11 @@ pub fn start(store: &mut Store, task: u16, loader: u16, name: u16, method: u16, 
 }
 
 /// Steps leave a store that isn't broken so, and leave its classes and cache: both are looked at once.
-pub fn run(store: &mut Store, n: u16) -> Reply {
+pub fn run(store: &mut Store, n: u32) -> Reply {
     let Some(classes) = unbroken(store) else {
         return denied(word::BROKEN);
     };
-    if n == 0 {
+    if n == 0 || n > MOST_STEPS {
         return denied(word::UNKNOWN);
     }
     let mut ran = 0;
@@ -59,19 +62,19 @@ pub fn run(store: &mut Store, n: u16) -> Reply {
             return Reply::RanFor(ran, answer);
         };
         ran += 1;
-        if ran == n {
+        if u32::from(ran) == n {
             return Reply::RanFor(ran, answer);
         }
     }
 }
 
-pub fn drop_task(store: &mut Store, task: u16) -> Reply {
+pub fn drop_task(store: &mut Store, task: u32) -> Reply {
     if unbroken(store).is_none() {
         return denied(word::BROKEN);
     }
-    if task >= TASKS {
+    if task >= TASKS.into() {
         return denied(word::UNKNOWN);
     }
-    store.counts[count::FRAMES + usize::from(task)] = 0;
+    store.counts[count::FRAMES + task as usize] = 0;
     Reply::Accepted
 }

@@ -7,21 +7,10 @@ use reference::gen::stuck::stuck;
 use reference::gen::sweep::sweep;
 use reference::gen::Call;
 use reference::store::{Store, LENGTHS};
-use reference::tally::Tally;
+use reference::tally::{Tally, ONLY_DAMAGE};
 use reference::{broken, misplaced, Refusal};
 
 const SEEDS: u64 = 6_000;
-
-/// The words that only damage brings to a call.
-const ONLY_DAMAGE: [(&str, &[usize]); 7] = [
-    ("boot", &[1]),
-    ("define", &[1]),
-    ("record", &[1]),
-    ("start", &[1]),
-    ("step", &[1, 14]),
-    ("run", &[1]),
-    ("drop", &[1]),
-];
 
 /// The words of each call on damaged stores that this test meets; 0 is accepted.
 const ON_DAMAGE: [(&str, &[usize]); 7] = [

@@ -3,12 +3,13 @@
 use reference::agree::{agrees, Added};
 use reference::answer::{word, Answer, Refusal, Reply};
 use reference::broken::unbroken;
+use reference::gen::chains::chains;
 use reference::gen::limits::LIMITS;
 use reference::gen::list::list;
 use reference::gen::rng::Rng;
 use reference::gen::{cases, Call, Trial};
 use reference::store::Store;
-use reference::tally::{Tally, FINISHED, IDLE, RAN};
+use reference::tally::{Tally, ENDS_FROM_A_BOOT, FROM_A_BOOT};
 use reference::{misplaced, step};
 
 const SEEDS: u64 = 400;
@@ -46,9 +47,10 @@ fn sound(store: &Store, reply: Reply, label: &str) {
 }
 
 /// A run is its steps and no more.
-fn as_steps(before: &Store, n: u16, reply: Reply, after: &Store, label: &str) {
+fn as_steps(before: &Store, n: u32, reply: Reply, after: &Store, label: &str) {
     let Reply::RanFor(ran, last) = reply else {
-        assert_eq!((n, reply), (0, Reply::Denied(Refusal::Word(word::UNKNOWN))));
+        assert!(n == 0 || n > 65_535);
+        assert_eq!(reply, Reply::Denied(Refusal::Word(word::UNKNOWN)));
         return;
     };
     let mut store = before.clone();
@@ -56,7 +58,7 @@ fn as_steps(before: &Store, n: u16, reply: Reply, after: &Store, label: &str) {
     let end = loop {
         let answer = step(&mut store);
         steps += u16::from(matches!(answer, Answer::Ran(_)));
-        if steps == n || !matches!(answer, Answer::Ran(_)) {
+        if u32::from(steps) == n || !matches!(answer, Answer::Ran(_)) {
             break answer;
         }
     };
@@ -100,17 +102,6 @@ fn amid_noise(seed: u64, trial: &Trial) {
     }
 }
 
-/// The words that a call can be given from a boot; 0 is accepted.
-const FROM_A_BOOT: [(&str, &[usize]); 7] = [
-    ("boot", &[0]),
-    ("define", &[0, 2, 3, 4, 5, 6, 8, 9, 10]),
-    ("record", &[0, 3, 4, 9, 10, 13]),
-    ("start", &[0, 3, 5, 7, 10, 12]),
-    ("step", &[0, 5, 7, 9, 10, 11]),
-    ("run", &[0, 3]),
-    ("drop", &[0, 3]),
-];
-
 #[test]
 fn random_lists() {
     let mut tally = Tally::default();
@@ -118,8 +109,9 @@ fn random_lists() {
         let trial = list(seed, CALLS);
         watch(&trial, &format!("list {seed}"), &mut tally);
         amid_noise(seed, &trial);
+        watch(&chains(seed, 30), &format!("chains {seed}"), &mut tally);
     }
-    println!("{SEEDS} random lists\n{tally}");
+    println!("{SEEDS} random lists, and as many about constraints\n{tally}");
     for trial in cases::cases() {
         watch(&trial, "a case", &mut tally);
     }
@@ -130,9 +122,7 @@ fn random_lists() {
     for (call, words) in FROM_A_BOOT {
         assert_eq!(tally.given(call), words, "{call}: words from a boot");
     }
-    let ends = [5, 7, 9, 10, 11, IDLE, RAN, FINISHED];
-    let seen: Vec<usize> = (0..18).filter(|&end| tally.run_ends[end] > 0).collect();
-    assert_eq!(seen, ends, "the ends of runs");
+    assert_eq!(tally.ended(), ENDS_FROM_A_BOOT, "the ends of runs");
     assert_eq!(tally.idle_opcodes(), Vec::<&str>::new(), "opcodes that never ran");
 }
 

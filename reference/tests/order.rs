@@ -1,7 +1,9 @@
 //! The first word that applies, and places of document 01 that were read one way.
 
 use reference::gen::build::{Code, Draft};
-use reference::gen::cases::{across, caller, f, null_reader, override_apart, overriding, reader, ready, subtype, tie, MAIN};
+use reference::gen::cases::{
+    across, caller, f, null_reader, override_apart, overriding, reader, ready, subtype, tie, wide_numbers, MAIN,
+};
 use reference::gen::{Call, Trial};
 use reference::store::{count, Store, INT, LIMITS};
 use reference::{Answer, Refusal, Reply};
@@ -27,6 +29,13 @@ fn fill(store: &mut Store, which: usize) {
             _ => store.add_subtype([15, 2, 60_000 + store.counts[which]]),
         }
     }
+}
+
+#[test]
+fn numbers_are_read_whole() {
+    let trial = wide_numbers();
+    let numbers: Vec<Option<Refusal>> = trial.replies[5..].iter().map(|reply| reply.refusal()).collect();
+    assert_eq!(numbers, [3, 3, 13, 3, 3, 3, 3, 3, 3].map(|number| Some(Refusal::Word(number))));
 }
 
 #[test]

@@ -1,150 +1,204 @@
-//! The proved machine beside this one, on the same input, in one run. Every figure is the least of several rounds, the two sides taking
-//! turns; a store is copied from a prepared one before each call, outside the clock.
+//! The verified machine beside this one, on the same input, in one run. Prints the tables of docs/BENCHMARKS.md.
+//!
+//! Every figure is the least of many rounds, in which the two sides take turns, in five passes over all cases. Before each round a prepared
+//! store is copied into the same tables, outside the clock, so the tables lie in the processor's caches as far as they fit. The clock
+//! is that of the thread's own time, so that other work on the machine counts less. With the argument `verified` or `second` and a name, one case is measured by that side alone, for a profiler.
 
-use std::time::Instant;
+use std::time::{Duration, Instant};
 
-use reference::gen::build::{Code, Draft};
-use reference::gen::Call;
-use reference::host;
+use reference::gen::large::{
+    chain, chain_define, chain_record, full, grid, grid_record, posting, tall_tree, tree, usual, usual_define, usual_record, Repeated,
+};
+use reference::gen::{Call, Trial};
+use reference::host::{self, CELLS};
+use reference::store::{LENGTHS, LIMITS};
 use reference::{Answer, Reply, Store};
 
-const ROUNDS: usize = 15;
-const TREE: u16 = 10;
-const TOTAL: u16 = 5;
-const FIRST: u16 = 20;
-const INT: u16 = 1;
+#[repr(C)]
+struct Time {
+    seconds: i64,
+    nanoseconds: i64,
+}
 
-/// A side: makes a call on a store.
+extern "C" {
+    fn clock_gettime(clock: i32, time: *mut Time) -> i32;
+}
+
+/// The time in nanoseconds for which this thread had a processor.
+fn own_time() -> f64 {
+    const THREAD: i32 = 3;
+    let mut time = Time { seconds: 0, nanoseconds: 0 };
+    // SAFETY: the pointer is to a time that lives through the call.
+    let failed = unsafe { clock_gettime(THREAD, &mut time) };
+    assert_eq!(failed, 0, "this system has no clock of a thread's time");
+    time.seconds as f64 * 1e9 + time.nanoseconds as f64
+}
+
+/// A side makes a call on a store.
 type Side = fn(&Call, &mut Store);
 
-fn proved(call: &Call, store: &mut Store) {
-    host::apply(call, store);
+const SIDES: [(&str, Side); 2] = [("verified", verified), ("second", second)];
+
+fn verified(call: &Call, store: &mut Store) {
+    let mut answer = [0; CELLS];
+    host::make(call, store, &mut answer);
+    std::hint::black_box(answer);
 }
 
 fn second(call: &Call, store: &mut Store) {
-    call.apply(store);
+    std::hint::black_box(call.apply(store));
 }
 
-/// The least time in nanoseconds that the calls take from the prepared store, `times` of them a round.
-fn least(side: Side, prepared: &Store, calls: &[Call], times: usize) -> f64 {
-    let mut best = f64::MAX;
-    for _ in 0..ROUNDS {
-        let mut spent = 0.0;
+/// What is measured: a call on a store, so many times in a row.
+struct Case {
+    name: String,
+    store: Store,
+    call: Call,
+    /// How often a round makes the call, if that is fixed; else as often as fits a quarter of a millisecond, at least once.
+    times: Option<usize>,
+    /// Does the call go on from the store that it left? Otherwise the counts are set back before the next: rows past them are free.
+    goes_on: bool,
+    /// By what the time of one call is divided.
+    units: f64,
+    /// The least times of both sides so far, in nanoseconds a unit.
+    least: [f64; 2],
+}
+
+impl Case {
+    fn new(name: impl Into<String>, store: Store, call: Call) -> Case {
+        Case { name: name.into(), store, call, times: None, goes_on: false, units: 1.0, least: [f64::MAX; 2] }
+    }
+
+    /// A case of a hundred steps in a row.
+    fn steps(name: &str, store: Store) -> Case {
+        Case { times: Some(100), goes_on: true, ..Case::new(name, store, Call::Step) }
+    }
+
+    /// A case of a whole run, by its steps.
+    fn run(name: &str, store: Store) -> Case {
+        let call = Call::Run { n: 65_535 };
+        let Reply::RanFor(ran, Answer::Finished(..)) = call.apply(&mut store.clone()) else {
+            panic!("{name} does not finish");
+        };
+        let steps = f64::from(ran) + 1.0;
+        Case { times: Some(1), units: steps, ..Case::new(format!("{name}, a step of {steps}"), store, call) }
+    }
+
+    /// The time of a round of so many calls, in nanoseconds a unit.
+    fn round(&self, side: Side, store: &mut Store, times: usize) -> f64 {
+        store.clone_from(&self.store);
+        let before = own_time();
         for _ in 0..times {
-            let mut store = prepared.clone();
-            let clock = Instant::now();
-            for call in calls {
-                side(call, &mut store);
+            side(&self.call, store);
+            if !self.goes_on {
+                store.counts.copy_from_slice(&self.store.counts);
             }
-            spent += clock.elapsed().as_nanos() as f64;
         }
-        best = f64::min(best, spent / times as f64);
+        (own_time() - before) / times as f64 / self.units
     }
-    best
-}
 
-fn compare(what: &str, prepared: &Store, calls: &[Call], times: usize, units: f64) {
-    let ours = least(proved, prepared, calls, times) / units;
-    let theirs = least(second, prepared, calls, times) / units;
-    println!("| {what} | {ours:.1} | {theirs:.1} | {:.2} |", theirs / ours);
-}
-
-/// A class whose methods call the next twice, seven levels deep: getfield, putfield and iadd at each level, new in the leaves.
-fn tree() -> Draft {
-    let mut draft = Draft::new(TREE).field(TOTAL, INT);
-    for level in 0..7 {
-        let next = FIRST + level + 1;
-        let code = Code::new()
-            .aload(0)
-            .aload(0)
-            .getfield(TREE, TOTAL, INT)
-            .iload(1)
-            .iadd()
-            .putfield(TREE, TOTAL, INT)
-            .aload(0)
-            .iload(1)
-            .invoke(TREE, next, INT, INT)
-            .aload(0)
-            .iload(1)
-            .invoke(TREE, next, INT, INT)
-            .iadd()
-            .ireturn();
-        draft = draft.main(FIRST + level, &code);
+    fn times(&self, side: Side, store: &mut Store) -> usize {
+        self.times.unwrap_or_else(|| (250_000.0 / self.round(side, store, 1)).clamp(1.0, 100.0) as usize)
     }
-    let leaf = Code::new().object(TREE).astore(2).aload(0).getfield(TREE, TOTAL, INT).iload(1).iadd().ireturn();
-    draft.main(FIRST + 7, &leaf)
-}
 
-fn booted() -> Store {
-    let mut store = Store::zeros();
-    Call::Boot.apply(&mut store);
-    store
-}
-
-fn with_tree() -> Store {
-    let mut store = booted();
-    Call::Record { loader: 1, name: 2, class: 0 }.apply(&mut store);
-    Call::Define { loader: 1, file: tree().file() }.apply(&mut store);
-    Call::Start { task: 0, loader: 1, name: TREE, method: FIRST, int: 3 }.apply(&mut store);
-    store
-}
-
-/// One chain through n ties and n subtype constraints, and n cache entries along it, all of class 0.
-fn chained(n: usize) -> Store {
-    let mut store = booted();
-    let mut request = (0u16, 3_000u16);
-    let mut requests = vec![request];
-    let (mut ties, mut subtypes) = (0, 0);
-    while ties < n || subtypes < n {
-        if ties < n && requests.len() % 16 != 0 {
-            let next = (request.0 ^ 1, request.1);
-            let other = if requests.len() % 2 == 1 { next } else { ((request.0 + 2) % 16, request.1) };
-            store.add_tie([request.0, other.0, request.1]);
-            ties += 1;
-            request = other;
-        } else if subtypes < n {
-            store.add_subtype([request.0, request.1, request.1 + 1]);
-            subtypes += 1;
-            request = (request.0, request.1 + 1);
-        } else {
-            request = (request.0, request.1 + 1);
-        }
-        requests.push(request);
-    }
-    for &(loader, name) in &requests {
-        if store.count(2) >= n {
-            break;
-        }
-        if store.cached(loader, name).is_none() {
-            store.add_cached([loader, name, 0]);
+    /// A pass: at least ten rounds of both sides, and more until a fifth of a second is over.
+    fn pass(&mut self) {
+        let mut store = self.store.clone();
+        let times = SIDES.map(|(_, side)| self.times(side, &mut store));
+        let (clock, mut rounds) = (Instant::now(), 0);
+        while rounds < 10 || clock.elapsed() < Duration::from_millis(200) {
+            for (at, (_, side)) in SIDES.iter().enumerate() {
+                self.least[at] = self.least[at].min(self.round(*side, &mut store, times[at]));
+            }
+            rounds += 1;
         }
     }
-    store
+
+    fn print(&self) {
+        let [verified, second] = self.least;
+        println!("| {} | {} | {} | {:.2} |", self.name, figure(verified), figure(second), verified / second);
+    }
 }
 
-fn steps_of(prepared: &Store) -> f64 {
-    let mut store = prepared.clone();
-    match (Call::Run { n: 65_535 }).apply(&mut store) {
-        Reply::RanFor(ran, Answer::Finished(..)) => f64::from(ran) + 1.0,
-        other => panic!("the tree does not finish: {other:?}"),
+fn figure(nanoseconds: f64) -> String {
+    match nanoseconds {
+        ..=999.5 => format!("{nanoseconds:.1} ns"),
+        ..=999_500.0 => format!("{:.2} µs", nanoseconds / 1e3),
+        _ => format!("{:.2} ms", nanoseconds / 1e6),
     }
+}
+
+fn runs() -> Vec<Case> {
+    vec![Case::run("tree", tree()), Case::run("tall tree", tall_tree())]
+}
+
+fn steps() -> Vec<Case> {
+    vec![
+        Case { times: Some(2_000), ..Case::steps("idle, after boot", Trial::booted().store) },
+        Case::steps("tree, its first 100", tree()),
+        Case::steps("full store, null and pop", full(Repeated::NullPop)),
+        Case::steps("full store, aload, getfield and pop", full(Repeated::AloadGetfieldPop)),
+        Case { times: Some(1), ..Case::new("getfield that posts a tie, longest chain", posting(), Call::Step) },
+    ]
+}
+
+fn loads() -> Vec<Case> {
+    let empty = Trial::ready([1]).store;
+    vec![
+        Case::new("record, after boot", Trial::booted().store, Call::Record { loader: 1, name: 2, class: 0 }),
+        Case::new("define, Object alone", empty, Call::Define { loader: 1, file: reference::gen::cases::f().file() }),
+        Case::new("record, usual store", usual(), usual_record()),
+        Case::new("define, usual store", usual(), usual_define()),
+        Case::new("record, longest chain", chain(256, 256), chain_record()),
+        Case::new("define, longest chain", chain(256, 256), chain_define()),
+        Case::new("record, grid", grid(), grid_record()),
+    ]
+}
+
+/// How the cost grows: entries after the call, and ties, with as many subtype constraints.
+fn growth() -> Vec<Case> {
+    let mut all = Vec::new();
+    for entries in [16, 64, 256] {
+        for links in [0, 16, 64, 256] {
+            let name = format!("{entries} entries, {links} + {links} constraints");
+            all.push(Case::new(name, chain(entries, links), chain_record()));
+        }
+    }
+    all
+}
+
+/// The bytes of all tables.
+fn bytes() -> usize {
+    const WIDTHS: [usize; 8] = [2, 2, 1, 2, 2, 2, 4, 4];
+    LENGTHS.iter().zip(WIDTHS).map(|(length, width)| length * width).sum()
+}
+
+fn profile(side: &str, name: &str) {
+    let (_, side) = SIDES.iter().find(|(label, _)| *label == side).expect("verified or second");
+    let all = runs().into_iter().chain(steps()).chain(loads()).chain(growth());
+    let case = all.into_iter().find(|case| case.name.starts_with(name)).expect("a name of a case");
+    let mut store = case.store.clone();
+    let times = case.times.unwrap_or(20);
+    let (clock, mut rounds) = (Instant::now(), 0);
+    while clock.elapsed() < Duration::from_secs(5) {
+        case.round(*side, &mut store, times);
+        rounds += 1;
+    }
+    println!("{}: {} calls", case.name, rounds * times);
 }
 
 fn main() {
-    println!("| what | proved, ns | second, ns | second ÷ proved |");
-    println!("|---|---|---|---|");
-    let quote = with_tree();
-    let steps = steps_of(&quote);
-    compare(&format!("run, a step of {steps}"), &quote, &[Call::Run { n: 65_535 }], 40, steps);
-    compare("step, idle, booted store", &booted(), &[Call::Step], 400, 1.0);
-    compare("step, the tree's first", &quote, &[Call::Step], 400, 1.0);
-    let file = Draft::new(900).under(2).file();
-    for n in [1, 16, 32, 64, 128, 255] {
-        let store = chained(n);
-        compare(&format!("step, {n} entries and constraints"), &store, &[Call::Step], 100, 1.0);
-        let record = Call::Record { loader: 7, name: 2, class: 0 };
-        compare(&format!("record, {n} entries and constraints"), &store, &[record], 20, 1.0);
-        let define = Call::Define { loader: 0, file: file.clone() };
-        compare(&format!("define, {n} entries and constraints"), &store, &[define], 20, 1.0);
+    let arguments: Vec<String> = std::env::args().skip(1).collect();
+    if let [side, name] = &arguments[..] {
+        return profile(side, name);
+    }
+    let mut tables = [("run", runs()), ("step", steps()), ("record and define", loads()), ("record, one chain", growth())];
+    for _ in 0..5 {
+        tables.iter_mut().flat_map(|(_, cases)| cases).for_each(Case::pass);
+    }
+    println!("Bytes of all tables: {}. Limits: {LIMITS:?}.", bytes());
+    for (what, cases) in tables {
+        println!("\n| {what} | verified | second | verified ÷ second |\n|---|---|---|---|");
+        cases.iter().for_each(Case::print);
     }
 }

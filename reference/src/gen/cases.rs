@@ -1,7 +1,7 @@
 //! Short call lists with a purpose: document 01's cases and chains of constraints.
 
 use super::build::{Code, Draft};
-use super::Trial;
+use super::{Call, Trial};
 use crate::answer::Reply;
 use crate::store::{Store, INT};
 
@@ -139,9 +139,30 @@ pub fn whole() -> Store {
     trial.store
 }
 
+/// Numbers whose lowest 16 bits would do: each call is refused.
+pub fn wide_numbers() -> Trial {
+    let mut trial = ready();
+    trial.define(1, &f());
+    let file = Draft::new(12).file();
+    for call in [
+        Call::Define { loader: 0x1_0001, file },
+        Call::Record { loader: 0x1_0002, name: 10, class: 1 },
+        Call::Record { loader: 2, name: 0x1_000A, class: 1 },
+        Call::Record { loader: 2, name: 10, class: 0x1_0001 },
+        Call::Start { task: 0x1_0000, loader: 1, name: 10, method: MAIN, int: 7 },
+        Call::Start { task: 0, loader: 0x1_0001, name: 10, method: MAIN, int: 7 },
+        Call::Run { n: 0x1_0000 },
+        Call::Run { n: 0x1_0001 },
+        Call::Drop { task: 0x1_0000 },
+    ] {
+        trial.call(call);
+    }
+    trial
+}
+
 /// Every list here, run to its end.
 pub fn cases() -> Vec<Trial> {
-    let mut all = vec![far_ends_of_ties(), subtype_then_tie(), overriding(), override_apart()];
+    let mut all = vec![far_ends_of_ties(), subtype_then_tie(), overriding(), override_apart(), wide_numbers()];
     for code in [reader(), caller(), null_reader()] {
         for (first, second) in [(false, false), (false, true), (true, false), (true, true)] {
             let mut trial = across(&code, first, second);

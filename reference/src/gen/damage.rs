@@ -9,9 +9,10 @@ use super::Call;
 use crate::store::{cell, count, frame_base, Store, FRAME_ROW, LIMITS, OBJECT_ROW, ROW};
 
 /// Kinds of damage, each a way to change a good store.
-const KINDS: [fn(&mut Rng, &mut Store); 16] = [
+const KINDS: [fn(&mut Rng, &mut Store); 18] = [
     any_cells, a_count, uniform_table, wrong_length, second_cache_row, overlapping_files, superclass_not_lower,
     code_bytes, kept_byte, top_frame, operand_count, a_value, constraints, full_frames, uniform_store, file_place,
+    nested_file, full_rows,
 ];
 
 /// A store from a boot with some damage, from one change to three.
@@ -44,19 +45,19 @@ pub fn probes(seed: u64, store: &Store) -> Vec<Call> {
     let blueprint = Blueprint::new(&mut rng);
     let draft = blueprint.draft(&mut rng, 10 + seed as u16 % 7);
     let [loader, name, class] = some_entry(&mut rng, store);
-    let other = rng.below(5) as u16;
+    let other = rng.below(5) as u32;
     let int = rng.draw() as u32;
     vec![
         Call::Boot,
         Call::Define { loader: other, file: draft.file() },
-        Call::Define { loader, file: Draft::new(rng.within(2, 30) as u16).file() },
-        Call::Record { loader: other, name, class },
-        Call::Record { loader: rng.below(17) as u16, name: rng.below(16) as u16, class: rng.below(9) as u16 },
-        Call::Start { task: rng.below(2) as u16, loader, name, method: 20, int },
-        Call::Start { task: rng.below(3) as u16, loader: other, name: rng.below(16) as u16, method: 20, int },
+        Call::Define { loader: loader.into(), file: Draft::new(rng.within(2, 30) as u16).file() },
+        Call::Record { loader: other, name: name.into(), class: class.into() },
+        Call::Record { loader: rng.below(17) as u32, name: rng.below(16) as u32, class: rng.below(9) as u32 },
+        Call::Start { task: rng.below(2) as u32, loader: loader.into(), name, method: 20, int },
+        Call::Start { task: rng.below(3) as u32, loader: other, name: rng.below(16) as u16, method: 20, int },
         Call::Step,
-        Call::Run { n: rng.within(0, 40) as u16 },
-        Call::Drop { task: rng.below(3) as u16 },
+        Call::Run { n: rng.within(0, 40) as u32 },
+        Call::Drop { task: rng.below(3) as u32 },
     ]
 }
 
@@ -215,6 +216,21 @@ fn overlapping_files(rng: &mut Rng, store: &mut Store) {
     store.classes.copy_within(from + 1..from + ROW, to + 1);
 }
 
+/// A class whose file stands within another's code.
+fn nested_file(rng: &mut Rng, store: &mut Store) {
+    let Some(code) = some_code(rng, store) else {
+        return;
+    };
+    let bytes = Draft::new(rng.within(2, 16) as u16).file();
+    if bytes.len() > code.len() {
+        return;
+    }
+    let class = rng.within(1, store.count(count::CLASSES) - 1);
+    store.kept[code.start..code.start + bytes.len()].copy_from_slice(&bytes);
+    let place = [code.start as u16, bytes.len() as u16];
+    store.classes[class * ROW + 1..(class + 1) * ROW].copy_from_slice(&place);
+}
+
 /// A cache row of a superclass with a number that isn't lower.
 fn superclass_not_lower(rng: &mut Rng, store: &mut Store) {
     let classes = store.counts.first().map_or(0, |&n| n);
@@ -350,6 +366,22 @@ fn constraints(rng: &mut Rng, store: &mut Store) {
             store.add_tie([one, other, low]);
         } else if !store.is_full(count::SUBTYPES) {
             store.add_subtype([one, low, high]);
+        }
+    }
+}
+
+/// The cache, the ties or the subtype constraints filled, but for a row or two at times, by rows that say nothing of other requests.
+fn full_rows(rng: &mut Rng, store: &mut Store) {
+    let (which, left) = (rng.within(count::CACHE, count::SUBTYPES), rng.pick(&[0, 0, 1, 2]));
+    if !is_whole(store) || store.counts[count::CLASSES] == 0 {
+        return;
+    }
+    while store.counts[which] + left < LIMITS[which] {
+        let name = 60_000 + store.counts[which];
+        match which {
+            count::CACHE => store.add_cached([15, name, 0]),
+            count::TIES => store.add_tie([15, 14, name]),
+            _ => store.add_subtype([15, 2, name]),
         }
     }
 }

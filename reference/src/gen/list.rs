@@ -95,7 +95,7 @@ impl Lister {
             return;
         }
         let file = self.blueprint.draft(&mut self.rng, name).file();
-        let call = Call::Define { loader, file };
+        let call = Call::Define { loader: loader.into(), file };
         for left in (0..patience).rev() {
             let Reply::Denied(Refusal::Wanted(loader, name)) = self.trial.call(call.clone()) else {
                 return;
@@ -164,21 +164,23 @@ impl Lister {
 
     /// A call with arguments that may be anything.
     fn stray(&mut self) {
-        let number = |rng: &mut Rng| match rng.below(4) {
-            0 => rng.word(),
-            1 => rng.pick(&[0, 1, 2, 15, 16, 64]),
-            _ => rng.below(14) as u16,
+        let number = |rng: &mut Rng| match rng.below(8) {
+            0 => rng.word().into(),
+            1 => rng.pick(&[0x1_0000, 0x1_0001, 0x1_0002, u32::MAX, 256, 257]),
+            2 | 3 => rng.pick(&[0, 1, 2, 15, 16, 64]),
+            _ => rng.below(14) as u32,
         };
         let mut some = || number(&mut self.rng);
         let (a, b, c, d) = (some(), some(), some(), some());
         let call = match self.rng.below(12) {
             0 => Call::Boot,
             1 | 2 => Call::Record { loader: a, name: b, class: c },
-            3 | 4 => Call::Start { task: a % 3, loader: b, name: c, method: d, int: self.rng.draw() as u32 },
-            5 => Call::Run { n: a % 2 },
+            3 => Call::Start { task: a, loader: b, name: c as u16, method: d as u16, int: self.rng.draw() as u32 },
+            4 => Call::Start { task: a % 3, loader: b % 17, name: c as u16, method: d as u16, int: b },
+            5 => Call::Run { n: self.rng.pick(&[0, 1, 0x1_0000, 0x1_0001, u32::MAX]) },
             6 => Call::Drop { task: a },
             7..=9 => Call::Define { loader: a, file: self.some_file() },
-            _ => Call::Define { loader: self.loader(), file: self.some_file() },
+            _ => Call::Define { loader: self.loader().into(), file: self.some_file() },
         };
         self.trial.call(call);
     }

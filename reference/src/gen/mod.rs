@@ -3,9 +3,11 @@
 pub mod blueprint;
 pub mod build;
 pub mod cases;
+pub mod chains;
 pub mod codes;
 pub mod damage;
 pub mod files;
+pub mod large;
 pub mod limits;
 pub mod list;
 pub mod rng;
@@ -22,12 +24,12 @@ use crate::{boot, define, drop_task, record, run, start, step};
 #[derive(Clone, Debug, PartialEq, Eq)]
 pub enum Call {
     Boot,
-    Define { loader: u16, file: Vec<u8> },
-    Record { loader: u16, name: u16, class: u16 },
-    Start { task: u16, loader: u16, name: u16, method: u16, int: u32 },
+    Define { loader: u32, file: Vec<u8> },
+    Record { loader: u32, name: u32, class: u32 },
+    Start { task: u32, loader: u32, name: u16, method: u16, int: u32 },
     Step,
-    Run { n: u16 },
-    Drop { task: u16 },
+    Run { n: u32 },
+    Drop { task: u32 },
 }
 
 pub const CALLS: [&str; 7] = ["boot", "define", "record", "start", "step", "run", "drop"];
@@ -93,15 +95,15 @@ impl Trial {
     }
 
     pub fn define(&mut self, loader: u16, draft: &build::Draft) -> Reply {
-        self.call(Call::Define { loader, file: draft.file() })
+        self.call(Call::Define { loader: loader.into(), file: draft.file() })
     }
 
     pub fn record(&mut self, loader: u16, name: u16, class: u16) -> Reply {
-        self.call(Call::Record { loader, name, class })
+        self.call(Call::Record { loader: loader.into(), name: name.into(), class: class.into() })
     }
 
     pub fn start(&mut self, task: u16, loader: u16, name: u16, method: u16, int: i32) -> Reply {
-        self.call(Call::Start { task, loader, name, method, int: int as u32 })
+        self.call(Call::Start { task: task.into(), loader: loader.into(), name, method, int: int as u32 })
     }
 
     pub fn step(&mut self) -> Reply {
@@ -109,10 +111,10 @@ impl Trial {
     }
 
     pub fn run(&mut self, n: u16) -> Reply {
-        self.call(Call::Run { n })
+        self.call(Call::Run { n: n.into() })
     }
 
     pub fn drop_task(&mut self, task: u16) -> Reply {
-        self.call(Call::Drop { task })
+        self.call(Call::Drop { task: task.into() })
     }
 }

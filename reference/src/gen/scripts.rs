@@ -26,7 +26,7 @@ fn lines(rng: &mut Rng, call: &Call) -> Vec<String> {
     let zeros = if rng.percent(5) { "00" } else { "" };
     match *call {
         Call::Boot => vec![],
-        Call::Run { n } => vec!["N".into(); usize::from(n).min(20)],
+        Call::Run { n } => vec!["N".into(); n.min(20) as usize],
         Call::Step => vec!["N".into()],
         Call::Drop { task } => vec![format!("X {zeros}{task}")],
         Call::Record { loader, name, class } => vec![format!("R {zeros}{loader} {zeros}{name} {class}")],

@@ -1,0 +1,259 @@
+//! The verified machine beside this one: call by call, answer by answer, cell by cell. The first difference panics and says where it was.
+
+use std::fmt;
+use std::sync::atomic::{AtomicU64, Ordering};
+use std::thread;
+use std::time::{Duration, Instant};
+
+use crate::agree::{agrees, Added};
+use crate::answer::{Answer, Reply};
+use crate::broken::unbroken;
+use crate::gen::chains::chains;
+use crate::gen::codes::{rejected, taken};
+use crate::gen::damage::{damaged, probes};
+use crate::gen::files::file;
+use crate::gen::limits::LIMITS;
+use crate::gen::list::list;
+use crate::gen::rng::Rng;
+use crate::gen::stuck::stuck;
+use crate::gen::sweep::sweep;
+use crate::gen::{cases, large, Call, Trial};
+use crate::host::{self, expected, CELLS};
+use crate::placed::misplaced;
+use crate::store::{Store, LENGTHS};
+use crate::tally::{Tally, ENDS_FROM_A_BOOT, FROM_A_BOOT, ONLY_DAMAGE};
+
+/// Damaged stores and files that go with a seed.
+const STORES: u64 = 8;
+const FILES: u64 = 40;
+
+/// What was compared so far.
+#[derive(Clone, Default)]
+pub struct Comparison {
+    /// Calls of lists from a boot.
+    pub booted: Tally,
+    /// Calls on other stores.
+    pub damaged: Tally,
+    /// Calls on tables of a wrong length, by call.
+    pub misshapen: [u64; 7],
+    /// What the desk answered to so many files, by number.
+    pub desk: [u64; 7],
+    pub seeds: u64,
+}
+
+/// The task whose turn it is, which a 'wanted' names; tables of a wrong length answer as if their cells were 0.
+fn turn(store: &Store) -> u32 {
+    u32::from(store.counts.get(6).is_none_or(|&frames| frames == 0))
+}
+
+/// The tables that differ.
+fn differences(one: &Store, other: &Store) -> Vec<&'static str> {
+    let same = [
+        ("counts", one.counts == other.counts),
+        ("classes", one.classes == other.classes),
+        ("kept", one.kept == other.kept),
+        ("cache", one.cache == other.cache),
+        ("ties", one.ties == other.ties),
+        ("subtypes", one.subtypes == other.subtypes),
+        ("objects", one.objects == other.objects),
+        ("frames", one.frames == other.frames),
+    ];
+    same.iter().filter(|(_, same)| !same).map(|(name, _)| *name).collect()
+}
+
+/// Makes the call on both stores, which are alike, and compares answers and tables. The answer table has so many cells of noise: the
+/// library writes as many of the answer's cells as there is room for, and no others.
+fn both(ours: &mut Store, theirs: &mut Store, call: &Call, cells: usize, label: &str) -> Reply {
+    const NOISE: u32 = 0x5EED;
+    let turn = turn(ours);
+    let reply = call.apply(ours);
+    let told = expected(reply, turn);
+    let mut answer = vec![NOISE; cells];
+    let number = host::make(call, theirs, &mut answer);
+    let wanted: Vec<u32> = (0..cells).map(|cell| *told.cells.get(cell).unwrap_or(&NOISE)).collect();
+    assert!(number == told.number, "{label}: {call:?} differs: returns {number}, not {}", told.number);
+    assert!(answer == wanted, "{label}: {call:?} differs: answers {answer:?}, not {wanted:?}");
+    let tables = differences(ours, theirs);
+    assert!(tables.is_empty(), "{label}: {call:?} differs in {tables:?} after {reply:?}");
+    reply
+}
+
+/// What demand 3 says of a store from a boot, and what the call answered there.
+fn sound(store: &Store, reply: Reply, label: &str) {
+    let Some(classes) = unbroken(store) else {
+        panic!("{label}: broken after {reply:?}")
+    };
+    assert_eq!(misplaced(store), 0, "{label}: misplaced values");
+    assert!(agrees(store, &Added::default(), &classes), "{label}: the store disagrees");
+    let refusal = match reply {
+        Reply::RanFor(_, Answer::Refused(refusal)) => Some(refusal),
+        _ => reply.refusal(),
+    };
+    assert!(!refusal.is_some_and(|refusal| [1, 14].contains(&refusal.number())), "{label}: {reply:?} from a boot");
+}
+
+impl Comparison {
+    /// A call list from a boot.
+    fn play(&mut self, trial: &Trial, label: &str) {
+        let (mut ours, mut theirs) = (Store::zeros(), Store::zeros());
+        for (at, call) in trial.calls.iter().enumerate() {
+            let label = format!("{label}, call {at}");
+            let before = ours.clone();
+            let reply = both(&mut ours, &mut theirs, call, CELLS, &label);
+            sound(&theirs, reply, &label);
+            self.booted.count(&before, call, reply);
+        }
+    }
+
+    /// A call on any tables; gives those after it.
+    fn call(&mut self, before: &Store, call: &Call, cells: usize, label: &str) -> Store {
+        let (mut ours, mut theirs) = (before.clone(), before.clone());
+        let reply = both(&mut ours, &mut theirs, call, cells, label);
+        self.damaged.count(before, call, reply);
+        self.misshapen[call.kind()] += u64::from(before.lengths() != LENGTHS);
+        ours
+    }
+
+    fn damage(&mut self, seed: u64) {
+        let store = damaged(seed);
+        let mut going = store.clone();
+        for (at, call) in probes(seed, &store).iter().enumerate() {
+            let label = format!("damage {seed}, call {at}");
+            self.call(&store, call, (seed as usize + at) % 9, &label);
+            if *call != Call::Boot {
+                going = self.call(&going, call, CELLS, &label);
+            }
+        }
+    }
+
+    fn check(&mut self, bytes: &[u8], label: &str) {
+        let (theirs, ours) = (host::check(bytes), crate::check(bytes));
+        assert!(theirs == ours, "{label}: the desk differs: {theirs}, not {ours}, for {bytes:02X?}");
+        self.desk[usize::from(ours)] += 1;
+    }
+
+    /// A file through the desk's check, and through define on a store where classes stand.
+    fn file(&mut self, store: &Store, bytes: Vec<u8>, label: &str) {
+        self.check(&bytes, label);
+        let loader = bytes.len() as u32 % 4;
+        self.call(store, &Call::Define { loader, file: bytes }, CELLS, label);
+    }
+
+    /// What a seed stands for.
+    fn seed(&mut self, seed: u64) {
+        self.seeds += 1;
+        self.play(&list(seed, 120), &format!("list {seed}"));
+        self.play(&chains(seed, 30), &format!("chains {seed}"));
+        (STORES * seed..STORES * (seed + 1)).for_each(|seed| self.damage(seed));
+        let store = cases::whole();
+        (FILES * seed..FILES * (seed + 1)).for_each(|seed| self.file(&store, file(seed), &format!("file {seed}")));
+    }
+
+    /// What needs no seed.
+    fn fixed(&mut self) {
+        for (at, trial) in cases::cases().iter().enumerate() {
+            self.play(trial, &format!("case {at}"));
+        }
+        for seed in 0..4 {
+            LIMITS.iter().for_each(|(name, limit)| self.play(&limit(&mut Rng::new(seed)), name));
+        }
+        for (what, store, _) in stuck() {
+            self.call(&store, &Call::Step, CELLS, &what);
+            self.call(&store, &Call::Run { n: 5 }, CELLS, &what);
+        }
+        let store = cases::whole();
+        for draft in rejected().iter().chain(&taken()) {
+            self.file(&store, draft.file(), "a method");
+        }
+        self.large();
+    }
+
+    /// The stores of the benchmark.
+    fn large(&mut self) {
+        let run = Call::Run { n: 65_535 };
+        let (chain, grid, usual) = (large::chain(256, 256), large::grid(), large::usual());
+        let full = [large::full(large::Repeated::NullPop), large::full(large::Repeated::AloadGetfieldPop)];
+        let calls = [
+            (large::tree(), run.clone()), (large::tall_tree(), run.clone()), (full[0].clone(), run.clone()),
+            (full[1].clone(), Call::Run { n: 100 }), (chain.clone(), large::chain_define()),
+            (chain, large::chain_record()), (grid, large::grid_record()), (usual.clone(), large::usual_define()),
+            (usual, large::usual_record()), (large::posting(), Call::Step),
+        ];
+        for (at, (store, call)) in calls.iter().enumerate() {
+            self.call(store, call, CELLS, &format!("large store {at}"));
+        }
+    }
+
+    /// Every cell of a store changed alone.
+    fn sweep(&mut self) {
+        let record = Call::Record { loader: 3, name: 11, class: 2 };
+        sweep(&cases::whole(), |store, label| {
+            self.call(store, &Call::Step, CELLS, label);
+            self.call(store, &record, CELLS, label);
+        });
+    }
+
+    fn add(&mut self, other: &Comparison) {
+        self.booted.add(&other.booted);
+        self.damaged.add(&other.damaged);
+        (0..7).for_each(|call| self.misshapen[call] += other.misshapen[call]);
+        (0..7).for_each(|number| self.desk[number] += other.desk[number]);
+        self.seeds += other.seeds;
+    }
+
+    /// What can occur and did not, and what can't and did.
+    pub fn odd(&self) -> Vec<String> {
+        let mut odd = Vec::new();
+        let mut demand = |holds: bool, what: String| odd.extend((!holds).then_some(what));
+        for ((call, words), (_, damage)) in FROM_A_BOOT.into_iter().zip(ONLY_DAMAGE) {
+            let (booted, damaged) = (self.booted.given(call), self.damaged.given(call));
+            demand(booted == words, format!("{call} from a boot was given {booted:?}, not {words:?}"));
+            let missing: Vec<_> = damage.iter().filter(|word| !damaged.contains(word)).collect();
+            demand(missing.is_empty(), format!("{call} on damaged stores was not given {missing:?}"));
+            let strange: Vec<_> = damaged.iter().filter(|word| !words.contains(word) && !damage.contains(word)).collect();
+            demand(strange.is_empty(), format!("{call} on damaged stores was given {strange:?}"));
+        }
+        let (booted, damaged) = (self.booted.ended(), self.damaged.ended());
+        demand(booted == ENDS_FROM_A_BOOT, format!("runs from a boot ended with {booted:?}"));
+        demand(damaged.contains(&14) && !damaged.contains(&1), format!("runs on damaged stores ended with {damaged:?}"));
+        demand(self.booted.idle_opcodes().is_empty(), format!("never ran: {:?}", self.booted.idle_opcodes()));
+        demand(self.misshapen.iter().all(|&calls| calls > 0), format!("calls on misshapen tables: {:?}", self.misshapen));
+        demand([0, 2, 6].iter().all(|&number| self.desk[number] > 0), format!("the desk answered {:?}", self.desk));
+        odd
+    }
+}
+
+impl fmt::Display for Comparison {
+    fn fmt(&self, f: &mut fmt::Formatter) -> fmt::Result {
+        let [sound, .., unverified] = self.desk;
+        writeln!(f, "{} seeds\n\nCall lists from a boot\n{}", self.seeds, self.booted)?;
+        writeln!(f, "Single calls, mostly on damaged stores\n{}", self.damaged)?;
+        writeln!(f, "Calls on tables of a wrong length: {:?}", self.misshapen)?;
+        writeln!(f, "The desk: {sound} sound, {} no files, {unverified} unverified", self.desk[2])
+    }
+}
+
+/// Compares for so many seeds from 0, and for more until so much time is over, on all processors.
+pub fn all(seeds: u64, time: Duration) -> Comparison {
+    let (next, clock) = (AtomicU64::new(0), Instant::now());
+    let work = || {
+        let mut own = Comparison::default();
+        loop {
+            let seed = next.fetch_add(1, Ordering::Relaxed);
+            match seed {
+                0 => own.fixed(),
+                1 => own.sweep(),
+                _ if seed - 2 < seeds || clock.elapsed() < time => own.seed(seed - 2),
+                _ => return own,
+            }
+        }
+    };
+    let mut whole = Comparison::default();
+    thread::scope(|scope| {
+        let workers: Vec<_> = (0..thread::available_parallelism().map_or(1, usize::from)).map(|_| scope.spawn(work)).collect();
+        for worker in workers {
+            whole.add(&worker.join().expect("the machines are the same"));
+        }
+    });
+    whole
+}

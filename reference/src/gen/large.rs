@@ -1,0 +1,279 @@
+//! Stores to measure on: call trees, chains of constraints, a usual store, a full one. None is broken; all agree.
+
+use super::build::{Code, Draft};
+use super::files::of_length;
+use super::{Call, Trial};
+use crate::broken::unbroken;
+use crate::store::{cell, count, frame_base, Store, Value, INT, OPERANDS};
+use crate::task::make_object;
+
+/// The class of the trees, and of the upper half of the tall one.
+const TREE: u16 = 10;
+const UPPER: u16 = 11;
+const TOTAL: u16 = 5;
+const ROOT: u16 = 20;
+
+/// The first name of the chains, the names of the grid.
+const CHAIN: u16 = 3_000;
+const GRID: u16 = 100;
+
+/// Adds to the total, calls the next method twice, and adds what they give.
+fn inner(class: u16, next: u16) -> Code {
+    let twice = |code: Code| code.aload(0).iload(1).invoke(class, next, INT, INT);
+    let total = Code::new().aload(0).aload(0).getfield(class, TOTAL, INT).iload(1).iadd().putfield(class, TOTAL, INT);
+    twice(twice(total)).iadd().ireturn()
+}
+
+fn leaf(code: Code) -> Code {
+    code.aload(0).getfield(TREE, TOTAL, INT).iload(1).iadd().ireturn()
+}
+
+fn started(drafts: &[Draft], name: u16) -> Store {
+    let mut trial = Trial::ready([1]);
+    for draft in drafts {
+        trial.define(1, draft);
+    }
+    trial.start(0, 1, name, ROOT, 3);
+    trial.store
+}
+
+/// The quote at the root of a tree of calls: eight levels of one class, an object made in each leaf.
+pub fn tree() -> Store {
+    let inner = (0..7).fold(Draft::new(TREE).field(TOTAL, INT), |draft, level| {
+        draft.main(ROOT + level, &inner(TREE, ROOT + level + 1))
+    });
+    started(&[inner.main(ROOT + 7, &leaf(Code::new().object(TREE).astore(2)))], TREE)
+}
+
+/// The same with twelve levels, the upper six in a class below that of the others; objects are made on level six.
+pub fn tall_tree() -> Store {
+    let mut lower = Draft::new(TREE).field(TOTAL, INT);
+    let mut upper = Draft::new(UPPER).under(TREE);
+    for level in 0..6 {
+        upper = upper.main(ROOT + level, &inner(UPPER, ROOT + level + 1));
+    }
+    for level in 6..11 {
+        let code = inner(TREE, ROOT + level + 1);
+        let made = Code::new().object(TREE).astore(2);
+        let code = if level == 6 { Code { bytes: [made.bytes, code.bytes].concat() } } else { code };
+        lower = lower.main(ROOT + level, &code);
+    }
+    started(&[lower.main(ROOT + 11, &leaf(Code::new())), upper], UPPER)
+}
+
+/// One chain of so many ties and as many subtype constraints in turn; every second of its requests is loaded, as Object, until there are
+/// so many entries, 8 or more, with the one of `chain_define` or `chain_record`, which loads the first request.
+pub fn chain(entries: usize, links: usize) -> Store {
+    let mut trial = Trial::ready([5]);
+    trial.define(5, &Draft::new(CHAIN));
+    let mut store = trial.store;
+    add_chain(&mut store, entries - 1, links);
+    store
+}
+
+/// Adds the links of a chain, and entries until there are so many.
+fn add_chain(store: &mut Store, entries: usize, links: usize) {
+    for i in 0..links as u16 {
+        let (near, far) = (i % 2, 1 - i % 2);
+        store.add_tie([near, far, CHAIN + i]);
+        store.add_subtype([far, CHAIN + i, CHAIN + i + 1]);
+    }
+    for i in (1..).take(entries.saturating_sub(store.count(count::CACHE))) {
+        let loader = if usize::from(i) < links { i % 2 } else { 2 };
+        store.add_cached([loader, CHAIN + i, 0]);
+    }
+}
+
+/// A chain of 255 ties and as many subtype constraints with 256 entries, and the quote before a getfield that posts one more tie.
+pub fn posting() -> Store {
+    let mut trial = Trial::ready([5, 6]);
+    trial.define(5, &Draft::new(50).field(30, CHAIN));
+    trial.record(6, 50, 1);
+    let code = Code::new().object(50).getfield(50, 30, CHAIN).pop().iload(1).ireturn();
+    trial.define(6, &Draft::new(51).main(ROOT, &code));
+    trial.start(0, 6, 51, ROOT, 3);
+    trial.step();
+    add_chain(&mut trial.store, 256, 255);
+    trial.store
+}
+
+/// The call that loads the first request of a chain by a class of its own.
+pub fn chain_define() -> Call {
+    Call::Define { loader: 0, file: Draft::new(CHAIN).file() }
+}
+
+/// The call that loads the first request of a chain by the class that is there.
+pub fn chain_record() -> Call {
+    Call::Record { loader: 0, name: CHAIN.into(), class: 1 }
+}
+
+/// 16 names under 16 loaders, each name's class below the next's; 256 ties and 256 subtype constraints lead from every request of a name to
+/// every one of the higher names. All but two are loaded, which makes 255 entries; `grid_record` loads one more.
+pub fn grid() -> Store {
+    let mut trial = Trial::booted();
+    for k in 0..16 {
+        trial.define(0, &Draft::new(GRID + k).under(if k == 0 { 2 } else { GRID + k - 1 }));
+    }
+    let mut store = trial.store;
+    for name in GRID..GRID + 16 {
+        (0..16).for_each(|loader| store.add_tie([loader, (loader + 1) % 16, name]));
+    }
+    for loader in 0..16 {
+        (1..16).for_each(|k| store.add_subtype([loader, GRID + k, GRID + k - 1]));
+        store.add_subtype([loader, GRID + 15, GRID]);
+    }
+    for loader in 1..16 {
+        let loaded = (0..16).filter(|&k| (loader, k) != (7, 7) && (loader, k) != (15, 15));
+        loaded.for_each(|k| store.add_cached([loader, GRID + k, k + 1]));
+    }
+    store
+}
+
+pub fn grid_record() -> Call {
+    Call::Record { loader: 7, name: u32::from(GRID) + 7, class: 8 }
+}
+
+/// 30 entries, 12 ties and 8 subtype constraints: loader 1's six classes, each below the one before, delegated to by 2, 3 and 4.
+pub fn usual() -> Store {
+    let mut trial = Trial::ready(1..6);
+    for k in 0..6 {
+        trial.define(1, &Draft::new(10 + k).under(if k == 0 { 2 } else { 9 + k }).field(30 + k, INT));
+    }
+    for loader in 2..5 {
+        for k in 0..6 {
+            trial.record(loader, 10 + k, k + 1);
+        }
+    }
+    let mut store = trial.store;
+    for loader in 1..4 {
+        (10..14).for_each(|name| store.add_tie([loader, loader + 1, name]));
+    }
+    for [loader, low, high] in
+        [[2, 11, 10], [2, 12, 11], [2, 13, 12], [2, 14, 13], [3, 15, 14], [3, 13, 10], [4, 14, 12], [4, 15, 10]]
+    {
+        store.add_subtype([loader, low, high]);
+    }
+    store
+}
+
+/// Loader 5 delegates a class of the chain of ties.
+pub fn usual_record() -> Call {
+    Call::Record { loader: 5, name: 12, class: 3 }
+}
+
+/// Loader 5 defines a class below Object.
+pub fn usual_define() -> Call {
+    Call::Define { loader: 5, file: Draft::new(40).field(30, INT).main(ROOT, &Code::new().iload(1).ireturn()).file() }
+}
+
+/// What the quote of the full store repeats: two instructions that change only their frame, or three with a getfield.
+#[derive(Clone, Copy)]
+pub enum Repeated {
+    NullPop,
+    AloadGetfieldPop,
+}
+
+/// Every table full: 64 classes of 16 fields below each other, all bytes, entries, constraints, objects and frames, 15 operands in each
+/// frame. The quote can run 100 steps.
+pub fn full(repeated: Repeated) -> Store {
+    let mut trial = Trial::booted();
+    let part = match repeated {
+        Repeated::NullPop => Code::new().null().pop(),
+        Repeated::AloadGetfieldPop => Code::new().aload(0).getfield(11, 37, INT).pop(),
+    };
+    let fields = |draft: Draft, first: u16| (0..8).fold(draft, |draft, i| draft.field(first + i, INT));
+    let code = Code { bytes: part.bytes.repeat(50) }.end(INT);
+    trial.define(0, &fields(Draft::new(11), 30).main(ROOT, &code));
+    trial.define(0, &fields(Draft::new(12), 40).under(11));
+    let mut store = trial.store;
+    for class in 3..64 {
+        let left = store.kept.len() - store.count(count::KEPT);
+        let mut file = of_length(10 + class, left / (64 - usize::from(class)));
+        file[5..7].copy_from_slice(&(9 + class).to_be_bytes());
+        store.add_class(0, &file);
+        store.add_cached([0, 10 + class, class]);
+    }
+    for i in 0..256 {
+        store.add_tie([i % 2, 1 - i % 2, CHAIN + i]);
+        store.add_subtype([1 - i % 2, CHAIN + i, CHAIN + i + 1]);
+        if !store.is_full(count::CACHE) {
+            store.add_cached([i % 2, CHAIN + i, 0]);
+        }
+    }
+    let classes = unbroken(&store).expect("a store");
+    while !store.is_full(count::OBJECTS) {
+        make_object(&mut store, &classes, 63);
+    }
+    for task in 0..2 {
+        (0..32).for_each(|depth| fill_frame(&mut store, task, depth));
+    }
+    store
+}
+
+fn fill_frame(store: &mut Store, task: usize, depth: usize) {
+    store.enter(task, 1, 0, Value::Object(255), Value::Int(7));
+    let base = frame_base(task, depth);
+    store.frames[base + cell::OPERANDS] = OPERANDS as u32 - 1;
+    for place in 0..OPERANDS - 1 {
+        Value::Object(place as u32).write(&mut store.frames, base + cell::OPERAND_0 + 2 * place);
+    }
+    for local in 2..8 {
+        Value::Object(local).write(&mut store.frames, base + cell::LOCAL_0 + 2 * local as usize);
+    }
+}
+
+#[cfg(test)]
+mod tests {
+    use super::*;
+    use crate::agree::{agrees, Added};
+    use crate::answer::{Answer, Reply};
+
+    fn sound(store: &Store, label: &str) {
+        let classes = unbroken(store).unwrap_or_else(|| panic!("{label}: broken"));
+        assert!(agrees(store, &Added::default(), &classes), "{label}: the store disagrees");
+    }
+
+    #[test]
+    fn trees_finish() {
+        for (mut store, steps) in [(tree(), 2_674), (tall_tree(), 39_026)] {
+            sound(&store, "a tree");
+            let reply = crate::run(&mut store, 65_535);
+            assert!(matches!(reply, Reply::RanFor(ran, Answer::Finished(0, _)) if ran == steps - 1), "{reply:?}");
+        }
+    }
+
+    #[test]
+    fn stores_have_their_counts_and_take_the_calls() {
+        let last = |store: &Store| store.counts[2..5].to_vec();
+        for (entries, links) in [(8, 0), (16, 256), (256, 16), (256, 256)] {
+            let mut store = chain(entries, links);
+            sound(&store, "chain");
+            assert_eq!(last(&store), [entries as u16 - 1, links as u16, links as u16]);
+            assert_eq!(chain_define().apply(&mut store.clone()), Reply::Defined(2));
+            assert_eq!(chain_record().apply(&mut store), Reply::Accepted);
+        }
+        let mut posting = posting();
+        sound(&posting, "posting");
+        assert_eq!(last(&posting), [256, 255, 255]);
+        assert_eq!(crate::step(&mut posting), Answer::Ran(0));
+        assert_eq!(last(&posting), [256, 256, 255]);
+        let (mut grid, mut usual) = (grid(), usual());
+        sound(&grid, "grid");
+        assert_eq!(last(&grid), [255, 256, 256]);
+        assert_eq!(grid_record().apply(&mut grid), Reply::Accepted);
+        sound(&usual, "usual");
+        assert_eq!(last(&usual), [30, 12, 8]);
+        assert!(matches!(usual_define().apply(&mut usual.clone()), Reply::Defined(_)));
+        assert_eq!(usual_record().apply(&mut usual), Reply::Accepted);
+    }
+
+    #[test]
+    fn the_full_store_is_full_and_runs() {
+        for repeated in [Repeated::NullPop, Repeated::AloadGetfieldPop] {
+            let mut store = full(repeated);
+            sound(&store, "full");
+            assert_eq!(store.counts, crate::store::LIMITS);
+            assert_eq!(crate::run(&mut store, 100), Reply::RanFor(100, Answer::Ran(0)));
+        }
+    }
+}

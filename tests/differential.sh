@@ -1,0 +1,29 @@
+#!/usr/bin/env bash
+# The verified libraries beside the second implementation, on the same calls: answers and tables must be the same. Then a mirror of the
+# second implementation in place of the libraries: it must pass, and each of its faults must be seen.
+#
+#   tests/differential.sh            fixed seeds
+#   tests/differential.sh SECONDS    the same, and more seeds until the time is over
+set -e
+cd "$(dirname "$0")/.."
+reference/libraries.sh
+cd reference
+log=../target/differential.log
+compare() { # LIBRARIES LINKED SEEDS WORDS...
+    TARIFF_LIB=$1 TARIFF_LINK=$2 TARIFF_SEEDS=$3 cargo test --offline --release --quiet --features host --test host "${@:4}"
+}
+
+TARIFF_SECONDS=${1:-0} compare "$PWD/../target/staticlib" static=host,static=desk 8000 -- --nocapture
+
+mirror=$PWD/target/mirror/release
+cargo build --offline --release --quiet -p mirror --target-dir target/mirror
+compare "$mirror" dylib=tariff 40 --target-dir target/mirror >"$log" 2>&1 || { cat "$log"; exit 1; }
+faults=$(sed -n 's/^    ("\([a-z-]*\)",.*/\1/p; s/^const DESK: &str = "\(.*\)";/\1/p' mirror/src/faults.rs)
+for fault in $faults; do
+    if MIRROR_FAULT=$fault compare "$mirror" dylib=tariff 40 --target-dir target/mirror >"$log" 2>&1 || ! grep -q differs "$log"; then
+        cat "$log"
+        echo "not seen: $fault"
+        exit 1
+    fi
+    echo "seen: $fault"
+done
