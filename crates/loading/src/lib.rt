@@ -1,15 +1,109 @@
-// Boot, define, record and drop: the calls that load classes and clear tasks.
-mod writing; // writing.rt: rows and runs of cells written to a table
-mod clearing; // clearing.rt: boot and drop
-mod trials; // trials.rt: a new entry tried on copies of the tables
-mod recording; // recording.rt: record
-mod superclasses; // superclasses.rt: the direct superclass of a new class
-mod overrides; // overrides.rt: the ties of methods that override
-mod constraining; // constraining.rt: a new class's constraints, limits and agreement
-mod adding; // adding.rt: what define writes
-mod defining; // defining.rt: define
-
-pub use clearing::boot;
-pub use clearing::drop_task;
+// The calls that load classes and clear tasks: boot and drop, and define and record of the crates below.
+use definition::Refusal;
+use definition::Reply;
 pub use defining::define;
 pub use recording::record;
+ghost use mathlib.Core.Path.{_≡_};
+ghost use Rattle.definition.specs.Tables.{tables, shaped};
+ghost use Rattle.definition.specs.Calls.{done, callBoot, callDrop, perform};
+
+// The tables have the published lengths.
+fn has_lengths(
+    counts: &[u16],
+    classes: &[u16],
+    kept: &[u8],
+    cache: &[u16],
+    ties: &[u16],
+    subtypes: &[u16],
+    objects: &[u32],
+    frames: &[u32],
+) -> bool
+    ensures { λ r. ⌜ r ≡ shaped (tables (now (counts .entry)) (now (classes .entry)) (now (kept .entry)) (now (cache .entry)) (now (ties .entry)) (now (subtypes .entry)) (now (objects .entry)) (now (frames .entry))) ⌝ }
+{
+    if counts.len() != 8 {
+        return false;
+    }
+    if classes.len() != 192 {
+        return false;
+    }
+    if kept.len() != 16384 {
+        return false;
+    }
+    if cache.len() != 768 {
+        return false;
+    }
+    if ties.len() != 768 {
+        return false;
+    }
+    if subtypes.len() != 768 {
+        return false;
+    }
+    if objects.len() != 8448 {
+        return false;
+    }
+    frames.len() == 3328
+}
+
+// Class 0 is Object of loader 0, the cache holds only (0, 2), all other rows are emptied.
+pub fn boot(
+    counts: &mut [u16],
+    classes: &mut [u16],
+    kept: &[u8],
+    cache: &mut [u16],
+    ties: &[u16],
+    subtypes: &[u16],
+    objects: &[u32],
+    frames: &[u32],
+) -> Reply
+    ensures { λ r. ⌜ done r (tables (now (counts .exit)) (now (classes .exit)) (now (kept .entry)) (now (cache .exit)) (now (ties .entry)) (now (subtypes .entry)) (now (objects .entry)) (now (frames .entry))) ≡ perform callBoot (tables (now (counts .entry)) (now (classes .entry)) (now (kept .entry)) (now (cache .entry)) (now (ties .entry)) (now (subtypes .entry)) (now (objects .entry)) (now (frames .entry))) ⌝ }
+{
+    if !has_lengths(
+        counts,
+        classes,
+        kept,
+        cache,
+        ties,
+        subtypes,
+        objects,
+        frames,
+    ) {
+        return Reply::Denied(Refusal::Word(1));
+    }
+    entries::write_cells(counts, 0, &[1, 0, 1, 0, 0, 0, 0, 0]);
+    entries::put_three(classes, 0, 0, 0, 0);
+    entries::put_three(cache, 0, 0, 2, 0);
+    Reply::Accepted
+}
+
+// The task's frames are cleared. Refusals: 1 3
+pub fn drop_task(
+    counts: &mut [u16],
+    classes: &[u16],
+    kept: &[u8],
+    cache: &[u16],
+    ties: &[u16],
+    subtypes: &[u16],
+    objects: &[u32],
+    frames: &[u32],
+    task: u32,
+) -> Reply
+    ensures { λ r. ⌜ done r (tables (now (counts .exit)) (now (classes .entry)) (now (kept .entry)) (now (cache .entry)) (now (ties .entry)) (now (subtypes .entry)) (now (objects .entry)) (now (frames .entry))) ≡ perform (callDrop task) (tables (now (counts .entry)) (now (classes .entry)) (now (kept .entry)) (now (cache .entry)) (now (ties .entry)) (now (subtypes .entry)) (now (objects .entry)) (now (frames .entry))) ⌝ }
+{
+    if store::is_broken(
+        counts,
+        classes,
+        kept,
+        cache,
+        ties,
+        subtypes,
+        objects,
+        frames,
+    ) {
+        return Reply::Denied(Refusal::Word(1));
+    }
+    if 2 <= task {
+        return Reply::Denied(Refusal::Word(3));
+    }
+    cells::put16(counts, 6 + cells::wide32(task), 0);
+    Reply::Accepted
+}

@@ -1,0 +1,190 @@
+-- define, test by test: what each refusal says of the definition.
+use mathlib.Core.Path.{_≡_, refl, sym, ap, _∙_}
+use mathlib.Core.Bool.{Bool, true, false, true≢false}
+use mathlib.Core.Option.{Option, none, some}
+use mathlib.Core.List.{List}
+use Prim.Native.Nat.{ℕ, _≤_, _<_}
+use native.Mathlib.Omega.{arith}
+use lib.ListN.{length}
+use Rattle.definition.specs.declared.Refusal.{Refusal}
+use Rattle.definition.specs.declared.Refusal.the-variants.{Wanted, Word}
+use borrow.Author.Tests.{lt-ltb, le-ltb}
+use Rattle.definition.specs.Lists.{any, isNone, isSome, rows, writeRows}
+use Rattle.definition.specs.Requests.{at}
+use Rattle.definition.specs.Classes.{Base, Class, find}
+use Rattle.definition.specs.Constraints.{Tie, World}
+use Rattle.definition.specs.Instructions.{pick}
+use Rattle.definition.specs.Verifier.{Note}
+use Rattle.definition.specs.File.{File, readFile, classOf}
+use Rattle.definition.specs.Answers.{wanted, Result, refused, ok, _>>=_, need, take?}
+use Rattle.definition.specs.Loading.{hides, overrideTie}
+use Rattle.laws.specs.Results.{bind-ok, ok-inj, take-ok}
+use Rattle.layout.specs.Cells.{rows-back}
+use Rattle.classfile.specs.declared.MethodFound.{MethodFound}
+use Rattle.classfile.specs.Reading.{methodCount, methodPlace, methodIn, methodAt, methodFound, numbered, quickFile}
+use Rattle.classfile.specs.Searches.{numbered-in, method-at, method-absent}
+use Rattle.classfile.specs.Laws.{reads-some}
+use Rattle.verifier.specs.declared.methods.Verified.{Verified}
+use Rattle.verifier.specs.declared.methods.Verified.the-variants.{Notes, Rejected}
+use Rattle.verifier.specs.Trace.{Verification, verification, verified, classTrace, acceptedNotes, granted, putNote, noteAt as noteIn}
+use Rattle.verifier.proofs.NoteLaws.{note-rows}
+use Rattle.verifier.proofs.ClassLaws.{class-few, class-says}
+use Rattle.constraints.specs.Posting.{noteAt}
+use Rattle.defining.specs.declared.constraining.Defining.{Defining}
+use Rattle.defining.specs.Stages.{superFor, postedFor, placedFor, definedFrom, define-stages, Decided}
+use Rattle.defining.specs.Posting.{methodLike}
+
+-- The superclass
+
+module _ (k : Class) (b : Base) (l n m : ℕ) (el : l ≡ k .loader) (en : n ≡ k .name) (em : m ≡ k .super) where
+  own : (o : Option ℕ) → find (b .cache) (at l n) ≡ o → find (b .cache) (at (k .loader) (k .name)) ≡ o
+  own o h = sym (λ i. find (b .cache) (at (el i) (en i))) ∙ h
+
+  above : (o : Option ℕ) → find (b .cache) (at l m) ≡ o → find (b .cache) (at (k .loader) (k .super)) ≡ o
+  above o h = sym (λ i. find (b .cache) (at (el i) (em i))) ∙ h
+
+  pub super-taken : (d : ℕ) → find (b .cache) (at l n) ≡ some d → refused (Word 4) ≡ superFor k b
+  unfolding superFor isNone need _>>=_
+  super-taken d h = rw (own (some d) h)
+
+  module _ (free : find (b .cache) (at l n) ≡ none) where
+    pub super-wanted : find (b .cache) (at l m) ≡ none → refused (Wanted (k .loader) m) ≡ superFor k b
+    unfolding superFor isNone need take? _>>=_
+    super-wanted h = (λ i. refused (Wanted (k .loader) (em i))) ∙ (rw (own none free, above none h))
+
+    module _ (p : ℕ) (h : find (b .cache) (at l m) ≡ some p) where
+      pub super-hidden : any (hides b p) (k .fields) ≡ true → refused (Word 8) ≡ superFor k b
+      unfolding superFor isNone need take? _>>=_
+      super-hidden e = rw (own none free, above (some p) h, e)
+
+      pub super-fits : any (hides b p) (k .fields) ≡ false → ok p ≡ superFor k b
+      unfolding superFor isNone need take? _>>=_
+      super-fits e = rw (own none free, above (some p) h, e)
+
+-- A file's method
+
+module _ (bs : List ℕ) (j : ℕ) (h : j < methodCount bs) (r : MethodFound) (e : r ≡ methodFound bs (numbered (methodCount bs) j)) where
+  pub method-there : r ≡ MethodFound.Absent → ⊥
+  method-there q =
+      let z : _≡_ {A = ℕ} 0 1 = cc (method-absent bs (numbered (methodCount bs) j) (sym e ∙ q), numbered-in (methodCount bs) j h) in
+      omega arith
+
+  -- what its place gives is what posting goes by
+  pub method-like : (i p n a x : ℕ) → r ≡ MethodFound.At i p → n ≡ methodAt bs p .name → a ≡ methodAt bs p .argument → x ≡ methodAt bs p .result
+      → (b : Base) (l q : ℕ) (ts : List Tie) → overrideTie b l q ts (methodLike n a x) ≡ overrideTie b l q ts (methodIn bs j)
+  unfolding overrideTie methodIn
+  method-like i p n a x q en ea ex b l c ts =
+      let o = method-at bs (numbered (methodCount bs) j) i p (sym e ∙ q) in
+      let s : some j ≡ some i = sym (numbered-in (methodCount bs) j h) ∙ o .0 in
+      let z : i ≡ j = cc in
+      let w : p ≡ methodPlace bs j = o .1 ∙ ap (methodPlace bs) z in
+      (λ t. overrideTie b l c ts (methodLike (en t) (ea t) (ex t))) ∙ (ap (λ (y : ℕ). overrideTie b l c ts (methodAt bs y)) w)
+
+-- The stages joined
+
+pub super-cached : (k : Class) (b : Base) (p : ℕ) → ok p ≡ superFor k b → find (b .cache) (at (k .loader) (k .super)) ≡ some p
+unfolding superFor
+super-cached k b p h =
+    let x = bind-ok _ _ (sym h) in
+    let y = bind-ok _ _ (x .2) in
+    let z = bind-ok _ _ (y .2) in
+    take-ok (find (b .cache) (at (k .loader) (k .super))) (wanted (at (k .loader) (k .super))) (y .1) ∙ ap some (ok-inj (z .2))
+
+module _ (room : Bool) (k : Class) (w : World) (ns : List Note) where
+  pub placed-refused : (r : Refusal) → refused r ≡ superFor k (w .base) → refused r ≡ placedFor room k w ns
+  unfolding placedFor _>>=_
+  placed-refused r h = rw (sym h)
+
+  pub placed-below : (p : ℕ) → ok p ≡ superFor k (w .base) → postedFor room k w ns p ≡ placedFor room k w ns
+  unfolding placedFor _>>=_
+  placed-below p h = rw (sym h)
+
+-- a decision means the same of equal results
+pub decided-same : (d : Defining) {o q : Result World} (n t s u v : List ℕ) (w : World) (k : Class) → o ≡ q → Decided d o n t s u v w k → Decided d q n t s u v w k
+unfolding Decided
+decided-same (Defining.Refuse r) n t s u v w k e h = h ∙ e
+decided-same (Defining.Add l i j) n t s u v w k e h = record {
+  loader = h .loader;
+  ties = h .ties;
+  subtypes = h .subtypes;
+  whole = h .whole ∙ e;
+  tied = h .tied;
+  noted = h .noted;
+  few = h .few;
+  tieCells = h .tieCells;
+  subtypeCells = h .subtypeCells;
+}
+
+-- The file, as it is read and verified: a is the verifier's answer and t its table of notes
+
+module _ (bs : List ℕ) (e : isSome (readFile bs) ≡ true) where
+  read : readFile bs ≡ some (quickFile bs)
+  read = reads-some bs e
+
+  module _ (a : Verified) (t z : List ℕ) (long : length z ≡ 8192) (v : verification a t ≡ verified 0 (classTrace bs) z) where
+    answer : a ≡ pick (classTrace bs .accepts) (Notes (length (classTrace bs .notes))) Rejected
+    unfolding verified
+    answer = ap (λ (x : Verification). x .answer) v
+
+    table : t ≡ writeRows putNote (classTrace bs .notes) 0 z
+    unfolding verified
+    table = ap (λ (x : Verification). x .table) v
+
+    rejects : a ≡ Rejected → classTrace bs .accepts ≡ false
+    unfolding pick
+    rejects q = go (classTrace bs .accepts) (sym answer ∙ q)
+      where
+        go : (b : Bool) → pick b (Notes (length (classTrace bs .notes))) Rejected ≡ Rejected → b ≡ false
+        go true r = cc
+        go false r = refl
+
+    module _ (n : ℕ) (q : a ≡ Notes n) where
+      accepts : (classTrace bs .accepts ≡ true) × (n ≡ length (classTrace bs .notes))
+      unfolding pick
+      accepts = go (classTrace bs .accepts) (sym answer ∙ q)
+        where
+          go : (b : Bool) → pick b (Notes (length (classTrace bs .notes))) Rejected ≡ Notes n → (b ≡ true) × (n ≡ length (classTrace bs .notes))
+          go true r = (refl, cc)
+          go false r = absurd (let o : _≡_ {A = ℕ} 0 1 = cc in omega arith)
+
+      pub notes-few : n ≤ 4096
+      notes-few = omega (arith, accepts .1, class-few bs (quickFile bs) read)
+
+      notes-are : rows (noteAt t) n 0 ≡ classTrace bs .notes
+      unfolding noteAt noteIn
+      notes-are =
+          (λ i. rows (noteIn (table i)) (accepts .1 i) 0)
+          ∙ rows-back note-rows (classTrace bs .notes) z (omega (arith, class-few bs (quickFile bs) read))
+
+-- The call on the world
+
+module _ (l : ℕ) (bs : List ℕ) (room : Bool) (w : World) where
+  pub no-loader : 16 ≤ l → refused (Word 3) ≡ definedFrom l bs room w
+  unfolding definedFrom need _>>=_
+  no-loader h = rw (le-ltb l 16 h)
+
+  module _ (h : l < 16) where
+    pub no-file : isSome (readFile bs) ≡ false → refused (Word 2) ≡ definedFrom l bs room w
+    unfolding definedFrom need take? _>>=_ isSome
+    no-file e = rw (lt-ltb l 16 h, not-some (readFile bs) e)
+      where
+        not-some : (o : Option File) → isSome o ≡ false → o ≡ none
+        not-some none q = refl
+        not-some (some f) q = absurd (true≢false q)
+
+    module _ (e : isSome (readFile bs) ≡ true) where
+      stages : definedFrom l bs room w ≡ (take? (acceptedNotes (classTrace bs)) (Word 6) >>= λ ns. placedFor room (classOf l (quickFile bs)) w ns)
+      unfolding definedFrom need take? _>>=_ placedFor
+      stages =
+          rw (lt-ltb l 16 h, read bs e) (define-stages room (classOf l (quickFile bs)) w
+          ∙ ap (λ (o : Option (List Note)). take? o (Word 6) >>= λ ns. placedFor room (classOf l (quickFile bs)) w ns) (class-says l bs (quickFile bs) (read bs e)))
+
+      module _ (a : Verified) (t z : List ℕ) (long : length z ≡ 8192) (v : verification a t ≡ verified 0 (classTrace bs) z) where
+        pub unverified : a ≡ Rejected → refused (Word 6) ≡ definedFrom l bs room w
+        unfolding acceptedNotes granted take? _>>=_
+        unverified q = sym (stages ∙ rw (rejects bs e a t z long v q))
+
+        pub verified-as : (n : ℕ) → a ≡ Notes n → placedFor room (classOf l (quickFile bs)) w (rows (noteAt t) n 0) ≡ definedFrom l bs room w
+        unfolding acceptedNotes granted take? _>>=_
+        verified-as n q =
+            ap (placedFor room (classOf l (quickFile bs)) w) (notes-are bs e a t z long v n q) ∙ sym (stages ∙ rw (accepts bs e a t z long v n q .0))

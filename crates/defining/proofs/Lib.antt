@@ -1,0 +1,5 @@
+-- Laws that the proofs of several functions cite.
+pub mod Posted
+pub mod Defined
+pub mod Constrained
+pub mod Carried

@@ -1,0 +1,162 @@
+-- Ties posted one method after another behind the rows that a table has: the rows that were written, and the ties that they stand for.
+use mathlib.Core.Path.{_≡_, refl, sym, ap, _∙_}
+use mathlib.Core.Bool.{Bool, true, false, _||_}
+use mathlib.Core.Option.{Option, none, some}
+use mathlib.Core.List.{List, [], _∷_, _++_}
+use Prim.Native.Nat.{ℕ, suc, _+_, _*_, _-_, _≤_, _<_}
+use native.Mathlib.Omega.{arith}
+use lib.ListN.{length, length-append}
+use lib.Dec.{eqb}
+use Rattle.definition.specs.Lists.{any, rows, writeRows}
+use Rattle.definition.specs.Superclasses.{nearest}
+use Rattle.definition.specs.Classes.{Base, Method, superOf, loaderOf, hasMethod}
+use Rattle.definition.specs.Constraints.{Tie, newTie, tieIs}
+use Rattle.definition.specs.Loading.{overrideTie, overrideTies}
+use Rattle.definition.specs.Tables.{tieAt, putTie}
+use Rattle.layout.specs.Places.{rows-step, rows-none, rows-start, writeRows-length}
+use Rattle.layout.specs.Cells.{RowLaws, rows-first, rows-after-more, tie-rows}
+use Rattle.constraints.specs.Posting.{newTieIn, tiesAfter}
+use Rattle.defining.specs.Posting.{TiesPosted, methodLike}
+
+-- rows written in two parts, the second behind the first
+pub write-more : {A : Type 0} {at : List ℕ → ℕ → A} {p : List ℕ → ℕ → A → List ℕ} {w : ℕ} (laws : RowLaws at p w) (xs ys : List A) (i : ℕ) (t : List ℕ)
+    → writeRows p (xs ++ ys) i t ≡ writeRows p ys (i + length xs) (writeRows p xs i t)
+unfolding writeRows
+write-more {p = p} laws [] ys i t = let e : i + 0 ≡ i = omega arith in rw e
+write-more {p = p} laws (x ∷ xs) ys i t =
+    let e : i + suc (length xs) ≡ suc i + length xs = omega arith in
+    rows-first laws x (xs ++ ys) i t
+    ∙ (write-more laws xs ys (suc i) (p t i x)
+    ∙ (λ j. writeRows p ys (sym e j) (sym (rows-first laws x xs i t) j)))
+
+-- At most one tie is new, and at most two for a method
+
+new-few : (ts : List Tie) (l m n : ℕ) → length (newTie ts l m n) ≤ 1
+unfolding newTie
+new-few ts l m n = go (eqb l m || eqb n 1 || any (tieIs l m n) ts)
+  where
+    go : (b : Bool) → length {A = Tie} (elim b as (λ _. List Tie) [ true ↦ [] | false ↦ record { one = l; two = m; name = n } ∷ [] ]) ≤ 1
+    go true = omega arith
+    go false = omega arith
+
+pub override-few : (b : Base) (l p : ℕ) (ts : List Tie) (m : Method) → length (overrideTie b l p ts m) ≤ 2
+unfolding overrideTie
+override-few b l p ts m = go (nearest (superOf b) (hasMethod b (m .name) (m .argument) (m .result)) p)
+  where
+    go : (o : Option ℕ)
+        → length {A = Tie} (elim o as (λ _. List Tie) [
+          | none ↦ []
+          | some y ↦ (let us = newTie ts l (loaderOf b y) (m .argument) in us ++ newTie (ts ++ us) l (loaderOf b y) (m .result))
+        ]) ≤ 2
+    go none = omega arith
+    go (some y) =
+        let us : List Tie = newTie ts l (loaderOf b y) (m .argument) in
+        let vs : List Tie = newTie (ts ++ us) l (loaderOf b y) (m .result) in
+        omega (arith, length-append us vs, new-few ts l (loaderOf b y) (m .argument), new-few (ts ++ us) l (loaderOf b y) (m .result))
+
+-- One method
+
+module _ (b : Base) (l p n a r : ℕ) (t : List ℕ) (k : ℕ) where
+  abbrev ts : List Tie
+  ts = rows (tieAt t) k 0
+
+  -- no superclass has a method alike
+  pub posts-none : nearest (superOf b) (hasMethod b n a r) p ≡ none → TiesPosted (overrideTie b l p ts (methodLike n a r)) t k t k
+  unfolding overrideTie writeRows
+  posts-none e = rw (e, overrideTie) (record { count = sym (omega arith); cells = refl })
+
+  -- one has: two ties, one after the other
+  pub posts-two : (y m : ℕ) (u v : List ℕ) (i j : ℕ) → nearest (superOf b) (hasMethod b n a r) p ≡ some y → loaderOf b y ≡ m → (k + 1) * 3 ≤ length t
+      → i ≡ k + length (newTieIn t k l m a) → u ≡ tiesAfter t k (newTieIn t k l m a) → j ≡ i + length (newTieIn u i l m r)
+      → v ≡ tiesAfter u i (newTieIn u i l m r) → TiesPosted (overrideTie b l p ts (methodLike n a r)) t k v j
+  unfolding overrideTie newTieIn tiesAfter
+  posts-two y m u v i j e q h ei eu ej ev = rw (e, overrideTie) (rw q (record { count = count; cells = cells }))
+    where
+      us : List Tie
+      us = newTie ts l m a
+
+      few : length us ≤ 1
+      few = new-few ts l m a
+
+      same : rows (tieAt u) i 0 ≡ ts ++ us
+      same = ap (λ (x : List ℕ). rows (tieAt x) i 0) eu ∙ (ap (λ (x : ℕ). rows (tieAt (writeRows putTie us k t)) x 0) ei ∙ rows-after-more tie-rows us t k (omega (arith, few)))
+
+      vs : List Tie
+      vs = newTie (ts ++ us) l m r
+
+      next : newTie (rows (tieAt u) i 0) l m r ≡ vs
+      next = ap (λ (x : List Tie). newTie x l m r) same
+
+      count : j ≡ k + length (us ++ vs)
+      count = omega (arith, ej, ei, length-append us vs, ap length next)
+
+      cells : v ≡ writeRows putTie (us ++ vs) k t
+      cells = ev ∙ ((λ x. writeRows putTie (next x) (ei x) (eu x)) ∙ sym (write-more tie-rows us vs k t))
+
+-- One method after another: N rows that leave X are what the methods from j on post behind the k rows of t
+
+module _ (b : Base) (l p : ℕ) (g : ℕ → Method) (n : ℕ) where
+  abbrev left : List ℕ → ℕ → ℕ → List Tie
+  left t k j = overrideTies b l p (rows (tieAt t) k 0) (rows g (n - j) j)
+
+  pub posts-start : (t : List ℕ) (k : ℕ)
+      → TiesPosted (left t k 0) t k (writeRows putTie (overrideTies b l p (rows (tieAt t) k 0) (rows g n 0)) k t) (k + length (overrideTies b l p (rows (tieAt t) k 0) (rows g n 0)))
+  posts-start t k = rw (rows-start g n) (record { count = refl; cells = refl })
+
+  pub posts-on : (t u X : List ℕ) (k i j N : ℕ) → j < n → (k + 2) * 3 ≤ length t → TiesPosted (left t k j) t k X N
+      → TiesPosted (overrideTie b l p (rows (tieAt t) k 0) (g j)) t k u i → TiesPosted (left u i (j + 1)) u i X N
+  unfolding overrideTies
+  posts-on t u X k i j N h room inv one = record { count = count; cells = cells }
+    where
+      ts : List Tie
+      ts = rows (tieAt t) k 0
+
+      us : List Tie
+      us = overrideTie b l p ts (g j)
+
+      vs : List Tie
+      vs = overrideTies b l p (ts ++ us) (rows g (n - (j + 1)) (j + 1))
+
+      few : length us ≤ 2
+      few = override-few b l p ts (g j)
+
+      all : left t k j ≡ us ++ vs
+      all = ap (overrideTies b l p ts) (rows-step g n j h)
+
+      same : rows (tieAt u) i 0 ≡ ts ++ us
+      same =
+          ap (λ (x : List ℕ). rows (tieAt x) i 0) (one .cells)
+          ∙ (ap (λ (x : ℕ). rows (tieAt (writeRows putTie us k t)) x 0) (one .count) ∙ rows-after-more tie-rows us t k (omega (arith, few)))
+
+      rest : left u i (j + 1) ≡ vs
+      rest = ap (λ (x : List Tie). overrideTies b l p x (rows g (n - (j + 1)) (j + 1))) same
+
+      count : N ≡ i + length (left u i (j + 1))
+      count = omega (arith, inv .count, one .count, ap length rest, ap length all, length-append us vs)
+
+      cells : X ≡ writeRows putTie (left u i (j + 1)) i u
+      cells =
+          inv .cells
+          ∙ (ap (λ (x : List Tie). writeRows putTie x k t) all
+          ∙ (write-more tie-rows us vs k t ∙ (λ x. writeRows putTie (sym rest x) (sym (one .count) x) (sym (one .cells) x))))
+
+  pub posts-end : (t X : List ℕ) (k j N : ℕ) → n ≤ j → TiesPosted (left t k j) t k X N → (k ≡ N) × (t ≡ X)
+  unfolding overrideTies writeRows
+  posts-end t X k j N h inv =
+      let e : left t k j ≡ [] = ap (overrideTies b l p (rows (tieAt t) k 0)) (rows-none g n j h) in
+      (omega (arith, inv .count, ap length e), sym (inv .cells ∙ ap (λ (x : List Tie). writeRows putTie x k t) e))
+
+-- a table has at most one tie more
+pub tie-few : (t : List ℕ) (k l m n : ℕ) → length (newTieIn t k l m n) ≤ 1
+unfolding newTieIn
+tie-few t k l m n = new-few (rows (tieAt t) k 0) l m n
+
+pub two-few : (t u : List ℕ) (k l m a r i j : ℕ) → i ≡ k + length (newTieIn t k l m a) → j ≡ i + length (newTieIn u i l m r) → j ≤ k + 2
+two-few t u k l m a r i j e q = omega (arith, tie-few t k l m a, tie-few u i l m r)
+
+-- what a method posts: at most two rows, and the table keeps its length
+pub posted-few : (b : Base) (l p : ℕ) (ts : List Tie) (m : Method) (t : List ℕ) (k : ℕ) (u : List ℕ) (j : ℕ) → TiesPosted (overrideTie b l p ts m) t k u j → j ≤ k + 2
+posted-few b l p ts m t k u j h = omega (arith, h .count, override-few b l p ts m)
+
+pub posted-long : (us : List Tie) (t : List ℕ) (k : ℕ) (u : List ℕ) (j : ℕ) → TiesPosted us t k u j → length u ≡ length t
+posted-long us t k u j h = ap length (h .cells) ∙ writeRows-length putTie (tie-rows .long) us k t

@@ -1,0 +1,109 @@
+-- define in stages, each of which may refuse: what a function of its own decides.
+use mathlib.Core.Path.{_≡_, refl}
+use mathlib.Core.Bool.{Bool, true, false, not}
+use mathlib.Core.Option.{Option, none, some}
+use mathlib.Core.List.{List, [], _∷_, _++_}
+use Prim.Native.Nat.{ℕ, _+_, _≤_}
+use lib.ListN.{length, getD, take}
+use lib.Dec.{leb, ltb}
+use Rattle.definition.specs.Tables.{putTie, putSubtype}
+use Rattle.definition.specs.Lists.{every, any, isNone, writeRows}
+use Rattle.definition.specs.Requests.{at}
+use Rattle.definition.specs.Classes.{Base, Class, find, slots}
+use Rattle.definition.specs.Constraints.{World, Tie, Subtype, agrees}
+use Rattle.definition.specs.Verifier.{Note, notesOf}
+use Rattle.definition.specs.declared.Refusal.the-variants.{Word}
+use Rattle.definition.specs.Answers.{wanted, Result, refused, ok, _>>=_, need, take?}
+use Rattle.definition.specs.File.{readFile, classOf}
+use Rattle.definition.specs.Loading.{hides, overrideTies, newSubtypes, withClass, define}
+use Rattle.classfile.specs.Reading.{fieldCount}
+use Rattle.defining.specs.declared.superclasses.Above.{Above}
+use Rattle.defining.specs.declared.constraining.Defining.{Defining}
+
+-- define: the direct superclass. Refusals: 4 5 8
+unfoldable pub superFor : Class → Base → Result ℕ
+superFor k b =
+    need (isNone (find (b .cache) (at (k .loader) (k .name)))) (Word 4) >>= λ _.
+    take? (find (b .cache) (at (k .loader) (k .super))) (wanted (at (k .loader) (k .super))) >>= λ p.
+    need (not (any (hides b p) (k .fields))) (Word 8) >>= λ _. ok p
+
+unfoldable pub aboveOf : Above → Result ℕ
+aboveOf (Above.Class p) = ok p
+aboveOf (Above.Refuse r) = refused r
+
+-- define: the constraints of a class below p, whose code has these notes. Refusals: 10 9
+unfoldable pub postedFor : Bool → Class → World → List Note → ℕ → Result World
+postedFor room k w ns p =
+    (let us = overrideTies (w .base) (k .loader) p (w .ties) (k .methods) in
+    let ss = newSubtypes (w .subtypes) (k .loader) ns in
+    need (every
+    (room
+    ∷ ltb (length (w .base .classes)) 64
+    ∷ ltb (length (w .base .cache)) 256
+    ∷ leb (length (w .ties ++ us)) 256
+    ∷ leb (length (w .subtypes ++ ss)) 256
+    ∷ leb (length (slots (w .base) p) + length (k .fields)) 16
+    ∷ [])) (Word 10) >>= λ _.
+    need (agrees (withClass w k us ss)) (Word 9) >>= λ _. ok (withClass w k us ss))
+
+-- room for the file's bytes, the class, its entry, so many ties in all, and the fields of its objects, by the counts n
+unfoldable pub roomFor : Base → List ℕ → List ℕ → ℕ → ℕ → Bool
+roomFor b n bs p tied = every
+    (leb (getD n 1 0 + length bs) 16384
+    ∷ ltb (getD n 0 0) 64
+    ∷ ltb (getD n 2 0) 256
+    ∷ leb tied 256
+    ∷ leb (length (slots b p) + fieldCount bs) 16
+    ∷ [])
+
+-- the constraints of a class below p that are new
+abbrev pub newTies : Class → World → ℕ → List Tie
+newTies k w p = overrideTies (w .base) (k .loader) p (w .ties) (k .methods)
+
+abbrev pub newNotes : Class → World → List Note → List Subtype
+newNotes k w ns = newSubtypes (w .subtypes) (k .loader) ns
+
+pub define-stages : (room : Bool) (k : Class) (w : World)
+    → define room k w ≡ (take? (notesOf k (k .methods)) (Word 6) >>= λ ns. superFor k (w .base) >>= λ p. postedFor room k w ns p)
+unfolding define superFor postedFor _>>=_ need take?
+define-stages room k w = go (notesOf k (k .methods)) (isNone (find (w .base .cache) (at (k .loader) (k .name)))) (find (w .base .cache) (at (k .loader) (k .super)))
+  where
+    go : (o : Option (List Note)) (a : Bool) (q : Option ℕ)
+        → (take? o (Word 6) >>= λ ns. need a (Word 4) >>= λ _. take? q (wanted (at (k .loader) (k .super))) >>= λ p.
+        need (not (any (hides (w .base) p) (k .fields))) (Word 8) >>= λ _. postedFor room k w ns p)
+        ≡ (take? o (Word 6) >>= λ ns. (need a (Word 4) >>= λ _. take? q (wanted (at (k .loader) (k .super))) >>= λ p.
+        need (not (any (hides (w .base) p) (k .fields))) (Word 8) >>= λ _. ok p) >>= λ p. postedFor room k w ns p)
+    go none a q = refl
+    go (some ns) false q = refl
+    go (some ns) true none = refl
+    go (some ns) true (some p) = after (not (any (hides (w .base) p) (k .fields)))
+      where
+        after : (b : Bool) → (need b (Word 8) >>= λ _. postedFor room k w ns p) ≡ ((need b (Word 8) >>= λ _. ok p) >>= λ p. postedFor room k w ns p)
+        after true = refl
+        after false = refl
+
+-- the superclass, then the constraints
+unfoldable pub placedFor : Bool → Class → World → List Note → Result World
+placedFor room k w ns = superFor k (w .base) >>= λ p. postedFor room k w ns p
+
+-- define as a whole, of the bytes of a file
+unfoldable pub definedFrom : ℕ → List ℕ → Bool → World → Result World
+definedFrom l bs room w = need (ltb l 16) (Word 3) >>= λ _. take? (readFile bs) (Word 2) >>= λ f. define room (classOf l f) w
+
+-- What a decision of define means, of tables n, t and s, where u and v hold its constraints: the whole is refused, or it is the store with the class
+-- and with the new ties and subtype constraints, so many in all
+
+pub record Adding (o : Result World) (w : World) (k : Class) (n t s u v : List ℕ) (l i j : ℕ) : Type 0 where
+  pub loader : l ≡ k .loader
+  pub ties : List Tie
+  pub subtypes : List Subtype
+  pub whole : ok (withClass w k ties subtypes) ≡ o
+  pub tied : i ≡ getD n 3 0 + length ties
+  pub noted : j ≡ getD n 4 0 + length subtypes
+  pub few : (i ≤ 256) × (j ≤ 256)
+  pub tieCells : take 768 u ≡ writeRows putTie ties (getD n 3 0) t
+  pub subtypeCells : v ≡ writeRows putSubtype subtypes (getD n 4 0) s
+
+unfoldable pub Decided : Defining → Result World → List ℕ → List ℕ → List ℕ → List ℕ → List ℕ → World → Class → Type 0
+Decided (Defining.Refuse r) o n t s u v w k = refused r ≡ o
+Decided (Defining.Add l i j) o n t s u v w k = Adding o w k n t s u v l i j

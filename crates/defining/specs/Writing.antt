@@ -1,0 +1,41 @@
+-- What define writes, and what the whole call is by a decision.
+use mathlib.Core.Path.{_≡_}
+use mathlib.Core.List.{List, [], _∷_}
+use Prim.Native.Nat.{ℕ, _+_, _≤_}
+use lib.ListN.{length, getD, set, take}
+use Rattle.definition.specs.Lists.{writeRows}
+use Rattle.definition.specs.Tables.{Tables, tables, putThree}
+use Rattle.definition.specs.declared.Reply.{Reply}
+use Rattle.definition.specs.declared.Reply.the-variants.{Defined, Denied}
+use Rattle.definition.specs.Calls.{Done, done, callDefine, perform}
+use Rattle.classfile.specs.Reading.{className}
+use Rattle.defining.specs.declared.constraining.Defining.{Defining}
+use Rattle.defining.specs.declared.constraining.Defining.the-variants.{Refuse, Add}
+
+-- the next class, of loader l, with its file bs behind the kept ones, its entry, and the tables of constraints u and v, of i and j rows
+unfoldable pub classWritten : Tables → ℕ → List ℕ → List ℕ → ℕ → List ℕ → ℕ → Tables
+classWritten t l bs u i v j =
+    let n = t .counts in
+    tables (writeRows set ((getD n 0 0 + 1) ∷ (getD n 1 0 + length bs) ∷ (getD n 2 0 + 1) ∷ i ∷ j ∷ []) 0 n)
+    (putThree (t .classes) (getD n 0 0) l (getD n 1 0) (length bs))
+    (writeRows set bs (getD n 1 0) (t .kept))
+    (putThree (t .cache) (getD n 2 0) l (className bs) (getD n 0 0))
+    (writeRows set (take 768 u) 0 (t .ties))
+    (writeRows set v 0 (t .subtypes))
+    (t .objects)
+    (t .frames)
+
+-- what is answered and written by a decision
+unfoldable pub defineDone : Defining → Tables → List ℕ → List ℕ → List ℕ → Done Reply
+defineDone (Refuse r) t bs u v = done (Denied r) t
+defineDone (Add l i j) t bs u v = done (Defined (getD (t .counts) 0 0)) (classWritten t l bs u i v j)
+
+-- a class is added only to counts within their limits, of a file of at most 4,096 bytes
+unfoldable pub Room : Defining → List ℕ → List ℕ → Type 0
+Room (Refuse r) n bs = Unit {0}
+Room (Add l i j) n bs = (getD n 0 0 ≤ 64) × (getD n 1 0 ≤ 16384) × (getD n 2 0 ≤ 256) × (length bs ≤ 4096)
+
+-- a decision on the tables t, with constraints in u and v: carried out, it is the call
+pub record Planned (d : Defining) (t : Tables) (l : ℕ) (bs u v : List ℕ) : Type 0 where
+  pub whole : defineDone d t bs u v ≡ perform (callDefine l bs) t
+  pub room : Room d (t .counts) bs

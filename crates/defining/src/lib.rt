@@ -1,0 +1,175 @@
+// define: a class from its file.
+mod superclasses; // superclasses.rt: the direct superclass of a new class
+mod overrides; // overrides.rt: the ties of methods that override
+mod constraining; // constraining.rt: a new class's constraints, limits and agreement
+
+use constraining::Defining;
+use constraining::decide_constraints;
+use definition::Refusal;
+use definition::Reply;
+use superclasses::Above;
+use superclasses::find_super;
+use verifier::Verified;
+ghost use mathlib.Core.Path.{_≡_};
+ghost use Prim.Native.Nat.{_+_, _≤_};
+ghost use lib.ListN.{length, getD};
+ghost use lib.Dec.{leb};
+ghost use Rattle.definition.specs.Lists.{rows};
+ghost use Rattle.definition.specs.Tables.{tables};
+ghost use Rattle.definition.specs.Calls.{done, callDefine, perform};
+ghost use Rattle.definition.specs.File.{classOf};
+ghost use Rattle.classfile.specs.Reading.{methodCount, quickFile};
+ghost use Rattle.constraints.specs.Posting.{noteAt};
+ghost use Rattle.entries.specs.World.{worldIn, Loadable};
+ghost use Rattle.defining.specs.Stages.{placedFor, Decided};
+ghost use Rattle.defining.specs.Writing.{Planned};
+
+// The superclass, then the constraints, of a file that was read and verified.
+fn decide_class(
+    counts: &[u16],
+    classes: &[u16],
+    kept: &[u8],
+    cache: &[u16],
+    ties: &[u16],
+    subtypes: &[u16],
+    loader: u8,
+    file: &[u8],
+    notes: &[u16],
+    note_count: u16,
+    new_ties: &mut [u16],
+    new_subtypes: &mut [u16],
+) -> Defining
+    requires { ⌜ Loadable (now counts) (now classes) (now kept) (now cache) (now ties) (now subtypes) × (length (now file) ≤ 4096) × (methodCount (now file) ≤ 8) × (length (now «new_ties») ≡ 816) × (length (now «new_subtypes») ≡ 768) ⌝ }
+    ensures { λ r. ⌜ Decided r (placedFor (leb (getD (now (counts .entry)) 1 0 + length (now (file .entry))) 16384) (classOf loader (quickFile (now (file .entry)))) (worldIn (now (counts .entry)) (now (classes .entry)) (now (kept .entry)) (now (cache .entry)) (now (ties .entry)) (now (subtypes .entry))) (rows (noteAt (now (notes .entry))) «note_count» 0)) (now (counts .entry)) (now (ties .entry)) (now (subtypes .entry)) (now («new_ties» .exit)) (now («new_subtypes» .exit)) (worldIn (now (counts .entry)) (now (classes .entry)) (now (kept .entry)) (now (cache .entry)) (now (ties .entry)) (now (subtypes .entry))) (classOf loader (quickFile (now (file .entry)))) ⌝ }
+{
+    let above = find_super(counts, classes, kept, cache, loader, file);
+    match above {
+        Above::Refuse(r) => Defining::Refuse(r),
+        Above::Class(p) => decide_constraints(
+            counts,
+            classes,
+            kept,
+            cache,
+            ties,
+            subtypes,
+            loader,
+            file,
+            p,
+            notes,
+            note_count,
+            new_ties,
+            new_subtypes,
+        ),
+    }
+}
+
+// The decision, on tables that are only read, and on copies of the tables of constraints.
+fn decide_define(
+    counts: &[u16],
+    classes: &[u16],
+    kept: &[u8],
+    cache: &[u16],
+    ties: &[u16],
+    subtypes: &[u16],
+    objects: &[u32],
+    frames: &[u32],
+    loader: u32,
+    file: &[u8],
+    new_ties: &mut [u16],
+    new_subtypes: &mut [u16],
+) -> Defining
+    requires { ⌜ (length (now «new_ties») ≡ 816) × (length (now «new_subtypes») ≡ 768) ⌝ }
+    ensures { λ r. ⌜ Planned r (tables (now (counts .entry)) (now (classes .entry)) (now (kept .entry)) (now (cache .entry)) (now (ties .entry)) (now (subtypes .entry)) (now (objects .entry)) (now (frames .entry))) loader (now (file .entry)) (now («new_ties» .exit)) (now («new_subtypes» .exit)) ⌝ }
+{
+    if store::is_broken(
+        counts,
+        classes,
+        kept,
+        cache,
+        ties,
+        subtypes,
+        objects,
+        frames,
+    ) {
+        return Defining::Refuse(Refusal::Word(1));
+    }
+    if 16 <= loader {
+        return Defining::Refuse(Refusal::Word(3));
+    }
+    if !classfile::reads(file) {
+        return Defining::Refuse(Refusal::Word(2));
+    }
+    let mut notes = [0u16; 8192];
+    let Verified::Notes(n) = verifier::verify_class(file, &mut notes) else {
+        return Defining::Refuse(Refusal::Word(6));
+    };
+    decide_class(
+        counts,
+        classes,
+        kept,
+        cache,
+        ties,
+        subtypes,
+        loader as u8,
+        file,
+        &notes,
+        n as u16,
+        new_ties,
+        new_subtypes,
+    )
+}
+
+// A class is added, with its defining loader, from its file, and cached under its own request. Answers its number.
+// Refusals: 1 3 2 6 4 5 8 10 9
+pub fn define(
+    counts: &mut [u16],
+    classes: &mut [u16],
+    kept: &mut [u8],
+    cache: &mut [u16],
+    ties: &mut [u16],
+    subtypes: &mut [u16],
+    objects: &[u32],
+    frames: &[u32],
+    loader: u32,
+    file: &[u8],
+) -> Reply
+    ensures { λ r. ⌜ done r (tables (now (counts .exit)) (now (classes .exit)) (now (kept .exit)) (now (cache .exit)) (now (ties .exit)) (now (subtypes .exit)) (now (objects .entry)) (now (frames .entry))) ≡ perform (callDefine loader (now (file .entry))) (tables (now (counts .entry)) (now (classes .entry)) (now (kept .entry)) (now (cache .entry)) (now (ties .entry)) (now (subtypes .entry)) (now (objects .entry)) (now (frames .entry))) ⌝ }
+{
+    let mut new_ties = [0u16; 816];
+    let mut new_subtypes = [0u16; 768];
+    let plan = decide_define(
+        counts,
+        classes,
+        kept,
+        cache,
+        ties,
+        subtypes,
+        objects,
+        frames,
+        loader,
+        file,
+        &mut new_ties,
+        &mut new_subtypes,
+    );
+    match plan {
+        Defining::Refuse(r) => Reply::Denied(r),
+        Defining::Add(under, tied, noted) => {
+            entries::write_cells(ties, 0, &new_ties[0..768]);
+            entries::write_cells(subtypes, 0, &new_subtypes);
+            let class = cells::at16(counts, 0);
+            let start = cells::at16(counts, 1);
+            let row = cells::at16(counts, 2);
+            let size = file.len() as u16;
+            let own = cells::from8(under);
+            entries::put_three(classes, class, own, start, size);
+            entries::write_bytes(kept, start, file);
+            entries::put_three(cache, row, own, classfile::class_name(file), class);
+            let next = class + 1;
+            let end = start + size;
+            let rows = row + 1;
+            entries::write_cells(counts, 0, &[next, end, rows, tied, noted]);
+            let number = class as u8;
+            Reply::Defined(number)
+        }
+    }
+}

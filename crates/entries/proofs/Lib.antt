@@ -1,0 +1,4 @@
+-- Laws that the proofs of several functions cite.
+pub mod Laws
+pub mod Trial
+pub mod Calls

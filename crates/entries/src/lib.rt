@@ -1,0 +1,59 @@
+// Cells and rows written one after another, and a cache with one more entry on copies: what every call that loads goes by.
+ghost use mathlib.Core.Path.{_≡_};
+ghost use lib.ListN.{set};
+ghost use Rattle.definition.specs.Lists.{writeRows};
+ghost use Rattle.definition.specs.Tables.{putThree};
+ghost use Rattle.entries.specs.Entering.{Entered};
+
+// Cells written one after another from a place on; past the end nothing is written.
+pub fn write_cells(t: &mut [u16], from: u16, cells: &[u16])
+    ensures { λ _. ⌜ now (t .exit) ≡ writeRows set (now (cells .entry)) from (now (t .entry)) ⌝ }
+{
+    let start = cells::wide16(from);
+    let mut i = 0;
+    while i < cells.len() {
+        cells::put16(t, start + i, cells[i]);
+        i += 1;
+    }
+}
+
+// Bytes written one after another from a place on; past the end nothing is written.
+pub fn write_bytes(t: &mut [u8], from: u16, bytes: &[u8])
+    ensures { λ _. ⌜ now (t .exit) ≡ writeRows set (now (bytes .entry)) from (now (t .entry)) ⌝ }
+{
+    let start = cells::wide16(from);
+    let mut i = 0;
+    while i < bytes.len() {
+        cells::put8(t, start + i, bytes[i]);
+        i += 1;
+    }
+}
+
+// A row of three cells.
+pub fn put_three(t: &mut [u16], i: u16, a: u16, b: u16, c: u16)
+    ensures { λ _. ⌜ now (t .exit) ≡ putThree (now (t .entry)) i a b c ⌝ }
+{
+    let place = cells::wide16(i) * 3;
+    cells::put16(t, place, a);
+    cells::put16(t, place + 1, b);
+    cells::put16(t, place + 2, c);
+}
+
+// The counts and the cache with one more entry, on copies of their lengths.
+pub fn enter(
+    counts: &[u16],
+    cache: &[u16],
+    loader: u16,
+    name: u16,
+    class: u16,
+    counted: &mut [u16],
+    trial: &mut [u16],
+)
+    ensures { λ _. ⌜ Entered (now (counts .entry)) (now (cache .entry)) loader name class (now (counted .entry)) (now (trial .entry)) (now (counted .exit)) (now (trial .exit)) ⌝ }
+{
+    write_cells(counted, 0, counts);
+    write_cells(trial, 0, cache);
+    let entries = cells::at16(counts, 2);
+    cells::put16(counted, 2, std::num::wrapping_add_u16(entries, 1));
+    put_three(trial, entries, loader, name, class);
+}

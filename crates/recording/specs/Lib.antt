@@ -1,0 +1,2 @@
+-- What the decisions of record mean.
+pub mod Deciding
