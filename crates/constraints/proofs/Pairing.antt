@@ -1,7 +1,7 @@
 -- All pairs agree where tied requests do and the pairs that the searches mark do: what a request leads to beyond a cached one, that one leads
 -- to, and below is transitive.
 use mathlib.Core.Path.{_≡_, refl, sym, ap, _∙_}
-use mathlib.Core.Bool.{Bool, true, false, false≢true}
+use mathlib.Core.Bool.{Bool, true, false, not, false≢true}
 use mathlib.Core.Option.{Option}
 use mathlib.Core.List.{List, [], List·Memᴰ}
 use mathlib.Core.Logic.{_⊎_, inl, inr}
@@ -9,7 +9,7 @@ use Prim.Native.Nat.{ℕ, _+_, _<_, _≤_}
 use native.Mathlib.Omega.{arith}
 use lib.ListN.{length, getD, replicate, length-replicate, List·getD-eq-default, getD-replicate}
 use lib.Dec.{eqb, ltb}
-use borrow.Author.Tests.{eqb-true, eqb-false, eq-eqb, ne-eqb, ltb-true, ltb-false}
+use borrow.Author.Tests.{eqb-true, eq-eqb, ne-eqb, ltb-true, ltb-false, not-true, not-false}
 use Rattle.definition.specs.Lists.{rows, all}
 use Rattle.definition.specs.Requests.{Request, at, Edge, Chain, stay, hop, leads}
 use Rattle.definition.specs.Superclasses.{Below, Falls, below, same}
@@ -41,8 +41,10 @@ module _ (sup : ℕ → Option ℕ) (marks classes : List ℕ) (stamp a b : ℕ)
   unfolding pairMarked
   unmarked-pair n = rw (ne-eqb (getD marks b 0) stamp n, pairMarked) refl
 
-  pub marked-fits : Falls sup → pairMarked sup marks classes stamp a b ≡ true → Marked stamp marks b → Below sup (getD classes b 0) (getD classes a 0)
-  marked-fits falls h m = below-true sup falls (getD classes a 0) (getD classes b 0) (sym (marked-pair m) ∙ h)
+  -- a test that passed
+  pub marked-fits : (r : Bool) → r ≡ pairMarked sup marks classes stamp a b → not r ≡ false → Falls sup → Marked stamp marks b
+      → Below sup (getD classes b 0) (getD classes a 0)
+  marked-fits r e h falls m = below-true sup falls (getD classes a 0) (getD classes b 0) (sym (marked-pair m) ∙ sym e ∙ not-false r h)
 
   pub marked-unfit : pairMarked sup marks classes stamp a b ≡ false → Marked stamp marks b × (below sup (getD classes a 0) (getD classes b 0) ≡ false)
   unfolding pairMarked
@@ -171,14 +173,14 @@ module _ (sup : ℕ → Option ℕ) (falls : Falls sup) (groups classes : List �
         go false q = rw (o, end, chain-leads (linksOf groups n noted) (at 0 a) (at 0 b) c) h
 
     pub not-agreed : (stamp a b : ℕ) (marks : List ℕ) → a < n → b < n → group a ≡ a → Searched groups n noted stamp a marks
-        → pairMarked sup marks classes stamp a b ≡ false → agreeOn sup groups classes n noted ≡ false
+        → (r : Bool) → r ≡ pairMarked sup marks classes stamp a b → not r ≡ true → false ≡ agreeOn sup groups classes n noted
     unfolding agreeOn
-    not-agreed stamp a b marks f g o s h = go (agreeOn sup groups classes n noted) refl
+    not-agreed stamp a b marks f g o s r d h = go (agreeOn sup groups classes n noted) refl
       where
         u : Marked stamp marks b × (below sup (class a) (class b) ≡ false)
-        u = marked-unfit sup marks classes stamp a b h
+        u = marked-unfit sup marks classes stamp a b (sym d ∙ not-true r h)
 
-        go : (t : Bool) → agreeOn sup groups classes n noted ≡ t → t ≡ false
+        go : (t : Bool) → agreeOn sup groups classes n noted ≡ t → false ≡ t
         go true e = absurd (false≢true (sym (pair-false a b o (s .sound b (u .0)) (u .1))
             ∙ all-places (pairOn sup groups classes n noted a) n
             (all-places (λ a. all (pairOn sup groups classes n noted a) (rows (λ i. i) n 0)) n e a f) b g))
@@ -194,11 +196,11 @@ module _ (sup : ℕ → Option ℕ) (falls : Falls sup) (groups classes : List �
             (all-places (pairOn sup groups classes n noted (group a)) n
             (all-places (λ a. all (pairOn sup groups classes n noted a) (rows (λ i. i) n 0)) n h (group a) (omega arith)) a f)
 
-    pub not-tied : tiedOn groups classes n ≡ false → agreeOn sup groups classes n noted ≡ false
-    not-tied h = go (agreeOn sup groups classes n noted) refl
+    pub not-tied : (r : Bool) → r ≡ tiedOn groups classes n → not r ≡ true → false ≡ agreeOn sup groups classes n noted
+    not-tied r d h = go (agreeOn sup groups classes n noted) refl
       where
-        go : (t : Bool) → agreeOn sup groups classes n noted ≡ t → t ≡ false
-        go true e = absurd (false≢true (sym h ∙ tied-agree e))
+        go : (t : Bool) → agreeOn sup groups classes n noted ≡ t → false ≡ t
+        go true e = absurd (false≢true (sym (not-true r h) ∙ d ∙ tied-agree e))
         go false e = refl
 
     -- all firsts of groups have passed

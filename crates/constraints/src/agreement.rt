@@ -17,7 +17,9 @@ ghost use lib.ListN.{length};
 ghost use Rattle.definition.specs.Superclasses.{below};
 ghost use Rattle.constraints.specs.Agreement.{superIn, agreeIn};
 ghost use Rattle.constraints.specs.Groups.{Rooted};
+ghost use Rattle.constraints.specs.Joining.{Joined};
 ghost use Rattle.constraints.specs.Pairs.{agreeOn, tiedOn, pairMarked, NextStart};
+ghost use Rattle.constraints.specs.Search.{startOf};
 
 // Class c is d or below it.
 fn is_below(supers: &[u8], c: usize, d: usize) -> bool
@@ -87,25 +89,30 @@ fn pair_agrees(
 
 // Every pair of cached requests agrees, where tied ones do. What a group leads to is searched once, from its first request; the first pair
 // that does not agree ends the test.
-fn pairs_agree(supers: &[u8], groups: &[u16], classes: &[u16], cached: usize, noted: usize) -> bool
-    requires { ⌜ (cached ≤ 256) × (noted ≤ 256) × Rooted (now groups) (cached + noted + noted) × (tiedOn (now groups) (now classes) cached ≡ true) ⌝ }
+fn pairs_agree(
+    supers: &[u8],
+    groups: &[u16],
+    classes: &[u16],
+    cached: usize,
+    noted: usize,
+    heads: &[u16],
+    nexts: &[u16],
+) -> bool
+    requires { ⌜ (cached ≤ 256) × (noted ≤ 256) × Rooted (now groups) (cached + noted + noted) × Joined (startOf (now groups) cached) noted (now heads) (now nexts) × (tiedOn (now groups) (now classes) cached ≡ true) ⌝ }
     ensures { λ r. ⌜ r ≡ agreeOn (superIn (now (supers .entry))) (now (groups .entry)) (now (classes .entry)) cached noted ⌝ }
 {
-    let mut heads = [0u16; 1280];
-    let mut nexts = [0u16; 1280];
-    join(groups, cached, noted, &mut heads, &mut nexts);
     let mut marks = [0u16; 1280];
     let mut queue = [0u16; 1280];
     let mut agreed = true;
-    let mut a = next_start(groups, &heads, cached, 0);
+    let mut a = next_start(groups, heads, cached, 0);
     'pairs: while a < cached {
         let stamp = (a + 1) as u16;
         search(
             groups,
             cached,
             noted,
-            &heads,
-            &nexts,
+            heads,
+            nexts,
             a,
             stamp,
             &mut marks,
@@ -119,9 +126,29 @@ fn pairs_agree(supers: &[u8], groups: &[u16], classes: &[u16], cached: usize, no
             }
             b += 1;
         }
-        a = next_start(groups, &heads, cached, a + 1);
+        a = next_start(groups, heads, cached, a + 1);
     }
     agreed
+}
+
+// Every pair of cached requests agrees, tied ones and others.
+fn requests_agree(
+    supers: &[u8],
+    groups: &[u16],
+    classes: &[u16],
+    cached: usize,
+    noted: usize,
+) -> bool
+    requires { ⌜ (cached ≤ 256) × (noted ≤ 256) × Rooted (now groups) (cached + noted + noted) ⌝ }
+    ensures { λ r. ⌜ r ≡ agreeOn (superIn (now (supers .entry))) (now (groups .entry)) (now (classes .entry)) cached noted ⌝ }
+{
+    if !groups_agree(groups, classes, cached) {
+        return false;
+    }
+    let mut heads = [0u16; 1280];
+    let mut nexts = [0u16; 1280];
+    join(groups, cached, noted, &mut heads, &mut nexts);
+    pairs_agree(supers, groups, classes, cached, noted, &heads, &nexts)
 }
 
 // The store of these tables agrees: tied cached requests mean one class, and where one leads to another, its class is the other's or below.
@@ -148,8 +175,5 @@ pub fn agree(
     list_classes(cache, &nodes, cached, &mut classes);
     let mut groups = [0u16; 1280];
     group_places(&mut nodes, ones, tied, &mut groups);
-    if !groups_agree(&groups, &classes, cached) {
-        return false;
-    }
-    pairs_agree(supers, &groups, &classes, cached, noted)
+    requests_agree(supers, &groups, &classes, cached, noted)
 }

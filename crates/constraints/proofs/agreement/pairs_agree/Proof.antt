@@ -6,11 +6,9 @@ use native.Mathlib.Omega.{arith}
 use lib.ListN.{getD}
 use denote.Ref.{now}
 use borrow.Author.Count.{below-more}
-use borrow.Author.Tests.{not-true, not-false}
 use Rattle.definition.specs.Superclasses.{Below}
 use Rattle.constraints.specs.Agreement.{superIn}
-use Rattle.constraints.specs.Search.{startOf, Marked}
-use Rattle.constraints.proofs.Filling.{joined-none}
+use Rattle.constraints.specs.Search.{Marked}
 use Rattle.constraints.proofs.Pairing.{Tested, tested-start, tested-next, classed-all, marked-fits, not-agreed, all-agree}
 use Rattle.constraints.proofs.Supers.{super-falls}
 use borrow.Author.Needs.{needs}
@@ -32,69 +30,61 @@ Inv-pairs supers groups classes cached noted heads nexts marks₀ queue₀ agree
 abbrev μ-pairs : tie.MeasureT-pairs
 μ-pairs supers groups classes cached noted heads nexts marks₀ queue₀ agreed₀ a₀ marks queue agreed a = cached - a
 
-join-requires : tie.Need-join-requires Inv-loop μ-loop Inv-pairs μ-pairs
-unfolding startOf
-join-requires c κs =
-    let args = c .before .before .before .before .before .args in
-    let pre = c .before .before .before .before .before .pre in
-    (omega arith, omega arith, λ e h. omega (arith, pre .2 .low (args .cached + e) (omega arith)), joined-none _)
-
 pairs-holds : tie.Need-pairs-holds Inv-loop μ-loop Inv-pairs μ-pairs
 pairs-holds c =
-    (refl, tested-start _ _ _ _ _ _ _ (omega arith) (c .before .before .before .before .join .ensures) (c .next-start .ensures))
+    (refl, tested-start _ _ _ _ _ _ _ (omega arith) (c .before .before .before .before .before .before .pre .3) (c .next-start .ensures))
 
 search-requires : tie.Need-search-requires Inv-loop μ-loop Inv-pairs μ-pairs
 search-requires c κs =
-    let pairs = c .before .before .before .before .before .pairs in
-    let pre = c .before .before .before .before .before .before .before .before .before .before .before .before .before .before .before .before .pre in
-    (omega arith, omega arith, omega arith, pre .2, c .before .before .before .before .before .before .before .before .before .before .join .ensures, pairs .inv .1 .stamped, omega arith, pairs .inv .1 .queueLong)
+    let pairs = c .before .before .before .pairs in
+    let pre = c .before .before .before .before .before .before .before .before .before .before .pre in
+    (omega arith, omega arith, omega arith, pre .2, pre .3, pairs .inv .1 .stamped, omega arith, pairs .inv .1 .queueLong)
 
 loop-holds : tie.Need-loop-holds Inv-loop μ-loop Inv-pairs μ-pairs
 loop-holds c =
-    (c .before .before .before .before .before .before .before .before .pairs .inv .0, omega arith, λ d h. absurd (omega arith))
+    (c .before .before .before .before .before .before .pairs .inv .0, omega arith, λ d h. absurd (omega arith))
 
 loop-again : tie.Need-loop-again Inv-loop μ-loop Inv-pairs μ-pairs
 loop-again c =
     let loop = c .before .before .before .before .loop in
-    let args = c .before .before .before .before .before .before .before .before .before .before .before .before .before .before .before .before .before .before .before .before .before .before .before .before .args in (
+    let args = c .before .before .before .before .before .before .before .before .before .before .before .before .before .before .before .before .before .before .args in (
       loop .inv .0,
       omega arith,
       below-more _ _ (loop .inv .2)
-          (marked-fits _ _ _ _ _ _ (super-falls (now (args .supers))) (sym (c .before .pair-agrees .ensures) ∙ not-false _ (c .if1 .left))),
+          (marked-fits _ _ _ _ _ _ _ (c .before .pair-agrees .ensures) (c .if1 .left) (super-falls (now (args .supers)))),
     )
 
 next-start-requires-2 : tie.Need-next-start-requires-2 Inv-loop μ-loop Inv-pairs μ-pairs
-next-start-requires-2 c κs =
-    omega (arith, c .before .before .before .before .before .before .before .before .before .before .pairs-test .taken)
+next-start-requires-2 c κs = omega (arith, c .before .before .before .before .before .before .before .pairs-test .taken)
 
 pairs-less : tie.Need-pairs-less Inv-loop μ-loop Inv-pairs μ-pairs
 pairs-less c =
-    omega (arith, c .next-start2 .ensures .low, c .before .before .before .before .before .before .before .before .before .before .before .pairs-test .taken)
+    omega (arith, c .next-start2 .ensures .low, c .before .before .before .before .before .before .before .before .pairs-test .taken)
 
 pairs-again : tie.Need-pairs-again Inv-loop μ-loop Inv-pairs μ-pairs
 pairs-again c =
-    let loop = c .before .before .before .loop in
-    let pairs = c .before .before .before .before .before .before .before .before .before .before .before .before .pairs in (
+    let loop = c .before .before .loop in
+    let pairs = c .before .before .before .before .before .before .before .before .before .pairs in (
       loop .inv .0,
-      tested-next _ _ _ _ _ _ _ (omega arith) (c .before .before .before .before .before .before .before .before .before .before .before .before .before .before .before .before .before .join .ensures) refl (c .before .before .before .before .before .before .before .before .before .before .before .pairs-test .taken) (pairs .inv .1) (c .before .before .before .before .before .before .search .ensures) (c .before .before .before .before .before .before .search .kept .1 .1 .1 .1 .1 .1 .1 .1 .0 ∙ pairs .inv .1 .queueLong)
+      tested-next _ _ _ _ _ _ _ (omega arith) (c .before .before .before .before .before .before .before .before .before .before .before .before .before .before .before .before .pre .3) refl (c .before .before .before .before .before .before .before .before .pairs-test .taken) (pairs .inv .1) (c .before .before .before .before .before .search .ensures) (c .before .before .before .before .before .search .kept .1 .1 .1 .1 .1 .1 .1 .1 .0 ∙ pairs .inv .1 .queueLong)
           (λ b h. loop .inv .2 b (omega arith)) (c .next-start2 .ensures),
     )
 
 returns : tie.Need-returns Inv-loop μ-loop Inv-pairs μ-pairs
 returns c =
     let pairs = c .before .pairs in
-    let args = c .before .before .before .before .before .before .before .before .before .before .before .before .args in
-    let pre = c .before .before .before .before .before .before .before .before .before .before .before .before .pre in
+    let args = c .before .before .before .before .before .before .before .before .args in
+    let pre = c .before .before .before .before .before .before .before .before .pre in
     pairs .inv .0
-    ∙ sym (all-agree _ (super-falls (now (args .supers))) _ _ _ _ (pre .2) (classed-all _ _ _ (pre .3)) (λ m h o. pairs .inv .1 .done m (omega arith) h o))
+    ∙ sym (all-agree _ (super-falls (now (args .supers))) _ _ _ _ (pre .2) (classed-all _ _ _ (pre .4)) (λ m h o. pairs .inv .1 .done m (omega arith) h o))
 
 returns-2 : tie.Need-returns-2 Inv-loop μ-loop Inv-pairs μ-pairs
 returns-2 c =
-    let pairs = c .before .before .before .before .before .before .before .before .before .before .before .before .before .pairs in
-    let args = c .before .before .before .before .before .before .before .before .before .before .before .before .before .before .before .before .before .before .before .before .before .before .before .before .args in
-    let pre = c .before .before .before .before .before .before .before .before .before .before .before .before .before .before .before .before .before .before .before .before .before .before .before .before .pre in
-    sym (not-agreed _ (super-falls (now (args .supers))) _ _ _ _ (pre .2) _ _ _ _ (c .before .before .before .before .before .before .before .before .before .before .before .before .pairs-test .taken) (c .before .before .before .loop-test .taken)
-    (pairs .inv .1 .own (c .before .before .before .before .before .before .before .before .before .before .before .before .pairs-test .taken)) (c .before .before .before .before .before .before .before .search .ensures) (sym (c .before .pair-agrees .ensures) ∙ not-true _ (c .if1 .taken)))
+    let pairs = c .before .before .before .before .before .before .before .before .before .before .before .pairs in
+    let args = c .before .before .before .before .before .before .before .before .before .before .before .before .before .before .before .before .before .before .args in
+    let pre = c .before .before .before .before .before .before .before .before .before .before .before .before .before .before .before .before .before .before .pre in
+    not-agreed _ (super-falls (now (args .supers))) _ _ _ _ (pre .2) _ _ _ _ (c .before .before .before .before .before .before .before .before .before .before .pairs-test .taken) (c .before .before .before .loop-test .taken)
+    (pairs .inv .1 .own (c .before .before .before .before .before .before .before .before .before .before .pairs-test .taken)) (c .before .before .before .before .before .before .before .search .ensures) _ (c .before .pair-agrees .ensures) (c .if1 .taken)
 
 pub pairs-agree-spec : {M : Type 1} → statement M
 pairs-agree-spec =
@@ -104,14 +94,8 @@ pairs-agree-spec =
     μ-loop
     Inv-pairs
     μ-pairs
-    (λ c. search needs)
-    (λ c. search needs)
-    join-requires
-    (λ c. search needs)
     (λ c κs. search needs)
     pairs-holds
-    (λ c. search needs)
-    (λ c. search needs)
     (λ c. search needs)
     (λ c. search needs)
     (λ c. search needs)
@@ -123,7 +107,6 @@ pairs-agree-spec =
     (λ c. search needs)
     (λ c. search needs)
     loop-again
-    (λ c. search needs)
     (λ c. search needs)
     next-start-requires-2
     pairs-less
