@@ -2,9 +2,11 @@
 pub mod Rows
 pub mod Renaming
 pub mod Edges
-pub mod Agreeing
 pub mod Filling
+pub mod Rooting
+pub mod Agreeing
 pub mod Searching
 pub mod Supers
+pub mod Pairing
 pub mod Posted
 pub mod Notes

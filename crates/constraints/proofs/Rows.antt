@@ -1,4 +1,4 @@
--- What stands in rows, and tests of rows.
+-- What stands in rows, tests of rows, and the order of numbers.
 use mathlib.Core.Path.{_≡_, refl, sym, ap}
 use mathlib.Core.Bool.{Bool, true, false}
 use mathlib.Core.List.{_∷_, List·Memᴰ, List·Memᴰ·head, List·Memᴰ·tail, List·Memᴰ·not-nil}
@@ -6,8 +6,24 @@ use mathlib.Core.Logic.{_⊎_, inl, inr}
 use Prim.Native.Nat.{ℕ, zero, suc, _+_, _-_, _<_, _≤_}
 use native.Mathlib.Nat.{eq-or-lt-of-le}
 use native.Mathlib.Omega.{arith}
+use lib.Dec.{ltb}
+use borrow.Author.Tests.{ltb-true, ltb-false}
 use Rattle.definition.specs.Lists.{rows, all, any}
 use Rattle.layout.specs.Places.{rows-start}
+
+-- two numbers
+pub data Order (a b : ℕ) : Type 0 where
+  less : a < b → Order a b
+  equal : a ≡ b → Order a b
+  more : b < a → Order a b
+
+pub order : (a b : ℕ) → Order a b
+order a b = go (ltb a b) refl (ltb b a) refl
+  where
+    go : (s : Bool) → ltb a b ≡ s → (t : Bool) → ltb b a ≡ t → Order a b
+    go true p t q = less (ltb-true a b p)
+    go false p true q = more (ltb-true b a q)
+    go false p false q = equal (omega (arith, ltb-false a b p, ltb-false b a q))
 
 -- a place of the rows
 pub record Place {A : Type 0} (g : ℕ → A) (k i : ℕ) (x : A) : Type 0 where

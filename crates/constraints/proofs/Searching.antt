@@ -1,99 +1,113 @@
--- The search: a node is marked and queued once; the links that start at a node are visited one after the other; and once each queued node's
--- links were visited, the marks hold the start, hold only what it leads to and are closed, so they decide what it leads to.
+-- The search: a group is marked once, and queued once if it has no cached request; the links that start at a group are visited one after the
+-- other; and once each queued group's links were visited, the marks hold only what is led to and are closed up to cached requests.
 use mathlib.Core.Path.{_≡_, refl, sym, ap, _∙_}
 use mathlib.Core.Bool.{Bool, true, false}
-use mathlib.Core.Option.{Option}
 use mathlib.Core.List.{List, [], _∷_, List·Memᴰ}
 use mathlib.Core.Logic.{_⊎_, inl, inr}
-use Prim.Native.Nat.{ℕ, zero, suc, _+_, _-_, _<_, _≤_}
+use Prim.Native.Nat.{ℕ, zero, suc, _+_, _<_, _≤_}
 use native.Mathlib.Nat.{eq-or-lt-of-le}
 use native.Mathlib.Omega.{arith}
-use lib.ListN.{length, getD, set, replicate, length-set, length-replicate, List·getD-eq-default, getD-replicate}
+use lib.ListN.{length, getD, set, length-set, List·getD-eq-default}
 use lib.Seq.{getD-set-same, getD-set-other}
 use lib.Dec.{eqb, ltb}
 use borrow.Author.Tests.{eqb-true, eqb-false, eq-eqb, ne-eqb, ltb-true, ltb-false}
-use Rattle.definition.specs.Requests.{Request, at, Edge, Chain, stay, hop, leads}
-use Rattle.laws.specs.Chains.{leads-chain, chain-leads}
-use Rattle.constraints.specs.Nodes.{startOf, endOf, linkOf, linksFrom, leadsFrom, pairMarked, pairOn}
-use Rattle.constraints.specs.Search.{Last, marked, Marked, Queued, Grown, Visited, Link, Expanded, Searched}
-use Rattle.constraints.proofs.Rows.{in-rows, rows-in}
-use Rattle.constraints.proofs.Renaming.{same-truth}
+use Rattle.definition.specs.Requests.{at, stay, hop}
+use Rattle.constraints.specs.Joining.{Last}
+use Rattle.constraints.specs.Search.{startOf, endOf, linkOf, linksOf, Led, Link, Marked, marked, Stamped, Queued, Grown, Visited, Expanded, Searched}
+use Rattle.constraints.proofs.Rows.{Order, less, equal, more, order, in-rows}
 use Rattle.constraints.proofs.Edges.{edge, edge-at}
 
 -- Counting marks
 
-pub marked-le : (l : List ℕ) → marked l ≤ length l
-unfolding marked
-marked-le [] = omega arith
-marked-le (x ∷ xs) = go (eqb x 1) (marked-le xs)
-  where
-    go : (t : Bool) → marked xs ≤ length xs → (elim t as (λ _. ℕ) [ true ↦ suc (marked xs) | false ↦ marked xs ]) ≤ suc (length xs)
-    go true h = omega arith
-    go false h = omega arith
+module _ (stamp : ℕ) where
+  marked-le : (l : List ℕ) → marked stamp l ≤ length l
+  unfolding marked
+  marked-le [] = omega arith
+  marked-le (x ∷ xs) = go (eqb x stamp) (marked-le xs)
+    where
+      go : (t : Bool) → marked stamp xs ≤ length xs
+          → (elim t as (λ _. ℕ) [ true ↦ suc (marked stamp xs) | false ↦ marked stamp xs ]) ≤ suc (length xs)
+      go true h = omega arith
+      go false h = omega arith
 
-pub marked-set : (l : List ℕ) (i : ℕ) → i < length l → (getD l i 0 ≡ 1 → ⊥) → marked (set l i 1) ≡ suc (marked l)
-unfolding marked
-marked-set [] i h n = absurd (omega arith)
-marked-set (x ∷ xs) zero h n = rw (ne-eqb x 1 n, marked) refl
-marked-set (x ∷ xs) (suc i) h n = go (eqb x 1) (marked-set xs i (omega arith) n)
-  where
-    go : (t : Bool) → marked (set xs i 1) ≡ suc (marked xs)
-        → _≡_ {A = ℕ} (elim t as (λ _. ℕ) [ true ↦ suc (marked (set xs i 1)) | false ↦ marked (set xs i 1) ])
-        (suc (elim t as (λ _. ℕ) [ true ↦ suc (marked xs) | false ↦ marked xs ]))
-    go true e = ap suc e
-    go false e = e
+  marked-set : (l : List ℕ) (i : ℕ) → i < length l → (getD l i 0 ≡ stamp → ⊥) → marked stamp (set l i stamp) ≡ suc (marked stamp l)
+  unfolding marked
+  marked-set [] i h n = absurd (omega arith)
+  marked-set (x ∷ xs) zero h n = rw (ne-eqb x stamp n, eq-eqb stamp stamp refl, marked) refl
+  marked-set (x ∷ xs) (suc i) h n = go (eqb x stamp) (marked-set xs i (omega arith) n)
+    where
+      go : (t : Bool) → marked stamp (set xs i stamp) ≡ suc (marked stamp xs)
+          → _≡_ {A = ℕ} (elim t as (λ _. ℕ) [ true ↦ suc (marked stamp (set xs i stamp)) | false ↦ marked stamp (set xs i stamp) ])
+          (suc (elim t as (λ _. ℕ) [ true ↦ suc (marked stamp xs) | false ↦ marked stamp xs ]))
+      go true e = ap suc e
+      go false e = e
 
-pub marked-none : (n : ℕ) → marked (replicate n 0) ≡ 0
-unfolding marked
-marked-none zero = refl
-marked-none (suc n) = marked-none n
+-- Visiting a group
 
--- a marked node is one of the table
-mark-low : (marks : List ℕ) (x : ℕ) → Marked marks x → x < length marks
-mark-low marks x m = go (ltb x (length marks)) refl
-  where
-    go : (t : Bool) → ltb x (length marks) ≡ t → x < length marks
-    go true e = ltb-true x (length marks) e
-    go false e = let z : _≡_ {A = ℕ} 0 1 = sym (List·getD-eq-default marks 0 (ltb-false x (length marks) e)) ∙ m in absurd (omega arith)
-
--- a mark after one was set
-set-mark : (marks : List ℕ) (x y : ℕ) → Marked (set marks x 1) y → Marked marks y ⊎ (y ≡ x)
-set-mark marks x y m = go (eqb y x) refl
-  where
-    go : (t : Bool) → eqb y x ≡ t → Marked marks y ⊎ (y ≡ x)
-    go true e = inr (eqb-true y x e)
-    go false e = inl (sym (getD-set-other marks x y 1 0 (eqb-false y x e)) ∙ m)
-
-keep-mark : (marks : List ℕ) (x y : ℕ) → x < length marks → Marked marks y → Marked (set marks x 1) y
-keep-mark marks x y h m = go (eqb y x) refl
-  where
-    go : (t : Bool) → eqb y x ≡ t → Marked (set marks x 1) y
-    go true e = rw (eqb-true y x e) (getD-set-same marks x 1 0 h)
-    go false e = getD-set-other marks x y 1 0 (eqb-false y x e) ∙ m
-
--- Visiting a node
-
-pub grown-same : {marks queue : List ℕ} {tail : ℕ} → Grown marks queue tail marks queue tail
+pub grown-same : {stamp : ℕ} {marks queue : List ℕ} {tail : ℕ} → Grown stamp marks queue tail marks queue tail
 grown-same = record { more = omega arith; still = λ x m. m; place = λ p h. refl }
 
-pub grown-on : {m q m′ q′ m″ q″ : List ℕ} {t t′ t″ : ℕ} → Grown m q t m′ q′ t′ → Grown m′ q′ t′ m″ q″ t″ → Grown m q t m″ q″ t″
+grown-on : {stamp : ℕ} {m q m′ q′ m″ q″ : List ℕ} {t t′ t″ : ℕ} → Grown stamp m q t m′ q′ t′ → Grown stamp m′ q′ t′ m″ q″ t″ → Grown stamp m q t m″ q″ t″
 grown-on a b = record {
   more = omega (arith, a .more, b .more);
   still = λ x m. b .still x (a .still x m);
   place = λ p h. b .place p (omega (arith, a .more)) ∙ a .place p h;
 }
 
-module _ (x : ℕ) (marks queue : List ℕ) (tail : ℕ) (s : Queued marks queue tail) where
-  pub visit-old : Marked marks x → Visited x marks queue tail marks queue tail
+pub tail-low : {cached stamp : ℕ} {marks queue : List ℕ} {tail : ℕ} → Queued cached stamp marks queue tail → tail ≤ 1280
+tail-low {cached} {stamp} {marks} s = omega (arith, marked-le stamp marks, s .few, s .stamped .long)
+
+module _ (cached stamp x : ℕ) (marks queue : List ℕ) (tail : ℕ) (s : Queued cached stamp marks queue tail) where
+  pub visit-old : Marked stamp marks x → Visited cached stamp x marks queue tail marks queue tail
   visit-old m = record { queued = s; grown = grown-same; it = m; only = λ y k. inl k }
 
-  module _ (h : x < 1792) (n : Marked marks x → ⊥) where
+  module _ (h : x < 1280) (n : Marked stamp marks x → ⊥) where
     long : x < length marks
-    long = omega (arith, s .marksLong)
+    long = omega (arith, s .stamped .long)
 
-    pub room : tail < 1792
+    -- a mark after this one was set
+    set-mark : (y : ℕ) → Marked stamp (set marks x stamp) y → Marked stamp marks y ⊎ (y ≡ x)
+    set-mark y m = go (eqb y x) refl
+      where
+        go : (t : Bool) → eqb y x ≡ t → Marked stamp marks y ⊎ (y ≡ x)
+        go true e = inr (eqb-true y x e)
+        go false e = inl (sym (getD-set-other marks x y stamp 0 (eqb-false y x e)) ∙ m)
+
+    keep-mark : (y : ℕ) → Marked stamp marks y → Marked stamp (set marks x stamp) y
+    keep-mark y m = go (eqb y x) refl
+      where
+        go : (t : Bool) → eqb y x ≡ t → Marked stamp (set marks x stamp) y
+        go true e = rw (eqb-true y x e) (getD-set-same marks x stamp 0 long)
+        go false e = getD-set-other marks x y stamp 0 (eqb-false y x e) ∙ m
+
+    new-stamped : Stamped stamp (set marks x stamp)
+    new-stamped = record { long = length-set marks x stamp ∙ s .stamped .long; most = λ y. go y (eqb y x) refl }
+      where
+        go : (y : ℕ) (t : Bool) → eqb y x ≡ t → getD (set marks x stamp) y 0 ≤ stamp
+        go y true e = rw (eqb-true y x e, getD-set-same marks x stamp 0 long) (omega arith)
+        go y false e = rw (getD-set-other marks x y stamp 0 (eqb-false y x e)) (s .stamped .most y)
+
+    pub visit-cached : x < cached → Visited cached stamp x marks queue tail (set marks x stamp) queue tail
+    visit-cached l = record {
+      queued = record {
+        stamped = new-stamped;
+        queueLong = s .queueLong;
+        few = omega (arith, marked-set stamp marks x long n, s .few);
+        isMarked = λ p m. keep-mark (getD queue p 0) (s .isMarked p m);
+        isQueued = λ y c m. one y c (set-mark y m);
+      };
+      grown = record { more = omega arith; still = keep-mark; place = λ p m. refl };
+      it = getD-set-same marks x stamp 0 long;
+      only = set-mark;
+    }
+      where
+        one : (y : ℕ) → cached ≤ y → Marked stamp marks y ⊎ (y ≡ x) → (p : ℕ) × (p < tail) × (getD queue p 0 ≡ y)
+        one y c (inl m) = s .isQueued y c m
+        one y c (inr e) = absurd (omega arith)
+
+    pub room : tail < 1280
     room =
-        omega (arith, marked-le (set marks x 1), marked-set marks x long n, length-set marks x 1, s .marksLong, s .counted)
+        omega (arith, marked-le stamp (set marks x stamp), marked-set stamp marks x long n, length-set marks x stamp, s .stamped .long, s .few)
 
     queue-at : (p : ℕ) → p < tail → getD (set queue tail x) p 0 ≡ getD queue p 0
     queue-at p l = getD-set-other queue tail p x 0 (λ e. omega arith)
@@ -101,197 +115,166 @@ module _ (x : ℕ) (marks queue : List ℕ) (tail : ℕ) (s : Queued marks queue
     queue-end : getD (set queue tail x) tail 0 ≡ x
     queue-end = getD-set-same queue tail x 0 (omega (arith, room, s .queueLong))
 
-    pub visit-new : Visited x marks queue tail (set marks x 1) (set queue tail x) (tail + 1)
+    pub visit-new : Visited cached stamp x marks queue tail (set marks x stamp) (set queue tail x) (tail + 1)
     visit-new = record {
       queued = record {
-        marksLong = length-set marks x 1 ∙ s .marksLong;
+        stamped = new-stamped;
         queueLong = length-set queue tail x ∙ s .queueLong;
-        counted = omega (arith, marked-set marks x long n, s .counted);
+        few = omega (arith, marked-set stamp marks x long n, s .few);
         isMarked = λ p l. one p (eq-or-lt-of-le (below p l));
-        isQueued = λ y m. two y (set-mark marks x y m);
+        isQueued = λ y c m. two y c (set-mark y m);
       };
-      grown = record { more = omega arith; still = λ y m. keep-mark marks x y long m; place = queue-at };
-      it = getD-set-same marks x 1 0 long;
-      only = set-mark marks x;
+      grown = record { more = omega arith; still = keep-mark; place = queue-at };
+      it = getD-set-same marks x stamp 0 long;
+      only = set-mark;
     }
       where
         below : (p : ℕ) → p < tail + 1 → p ≤ tail
         below p l = omega arith
 
-        one : (p : ℕ) → (p ≡ tail) ⊎ (p < tail) → Marked (set marks x 1) (getD (set queue tail x) p 0)
-        one p (inl e) = rw (e, queue-end) (getD-set-same marks x 1 0 long)
-        one p (inr l) = rw (queue-at p l) (keep-mark marks x (getD queue p 0) long (s .isMarked p l))
+        one : (p : ℕ) → (p ≡ tail) ⊎ (p < tail) → Marked stamp (set marks x stamp) (getD (set queue tail x) p 0)
+        one p (inl e) = rw (e, queue-end) (getD-set-same marks x stamp 0 long)
+        one p (inr l) = rw (queue-at p l) (keep-mark (getD queue p 0) (s .isMarked p l))
 
-        two : (y : ℕ) → Marked marks y ⊎ (y ≡ x) → (p : ℕ) × (p < tail + 1) × (getD (set queue tail x) p 0 ≡ y)
-        two y (inl m) = let r = s .isQueued y m in (r .0, omega (arith, r .1), queue-at (r .0) (r .1) ∙ r .2)
-        two y (inr e) = (tail, omega arith, queue-end ∙ sym e)
+        two : (y : ℕ) → cached ≤ y → Marked stamp marks y ⊎ (y ≡ x) → (p : ℕ) × (p < tail + 1) × (getD (set queue tail x) p 0 ≡ y)
+        two y c (inl m) = let r = s .isQueued y c m in (r .0, omega (arith, r .1), queue-at (r .0) (r .1) ∙ r .2)
+        two y c (inr e) = (tail, omega arith, queue-end ∙ sym e)
 
-pub tail-low : {marks queue : List ℕ} {tail : ℕ} → Queued marks queue tail → tail ≤ 1792
-tail-low {marks} s = omega (arith, marked-le marks, s .counted, s .marksLong)
+-- a marked group is one of the table
+mark-low : (stamp : ℕ) (marks : List ℕ) (x : ℕ) → 0 < stamp → Marked stamp marks x → x < length marks
+mark-low stamp marks x h m = go (ltb x (length marks)) refl
+  where
+    go : (t : Bool) → ltb x (length marks) ≡ t → x < length marks
+    go true e = ltb-true x (length marks) e
+    go false e = let z : 0 ≡ stamp = sym (List·getD-eq-default marks 0 (ltb-false x (length marks) e)) ∙ m in absurd (omega arith)
 
--- what is queued is a node
-pub queue-low : {marks queue : List ℕ} {tail : ℕ} → Queued marks queue tail → (p : ℕ) → p < tail → getD queue p 0 < 1792
-queue-low {marks} {queue} s p h = rw (s .marksLong) at (mark-low marks (getD queue p 0) (s .isMarked p h))
+-- what is queued is a group
+pub queue-low : {cached stamp : ℕ} {marks queue : List ℕ} {tail : ℕ} → 0 < stamp → Queued cached stamp marks queue tail → (p : ℕ) → p < tail
+    → getD queue p 0 < 1280
+queue-low {cached} {stamp} {marks} {queue} h s p l = rw (s .stamped .long) at (mark-low stamp marks (getD queue p 0) h (s .isMarked p l))
 
--- nothing is marked yet
-pub none-marked : (x : ℕ) → Marked (replicate 1792 0) x → ⊥
-none-marked x m =
-    let z : _≡_ {A = ℕ} 0 1 = sym (getD-replicate {A = ℕ} 1792 x 0 0
-    (omega (arith, mark-low (replicate 1792 0) x m, length-replicate {A = ℕ} 1792 0))) ∙ m in
-    omega arith
+-- nothing is marked with a new stamp yet
+module _ (a stamp : ℕ) (marks queue : List ℕ) (new : a < stamp) (s : Stamped a marks) (long : length queue ≡ 1280) where
+  pub none-marked : (x : ℕ) → Marked stamp marks x → ⊥
+  none-marked x m = omega (arith, s .most x)
 
-pub queued-none : Queued (replicate 1792 0) (replicate 1792 0) 0
-queued-none = record {
-  marksLong = length-replicate {A = ℕ} 1792 0;
-  queueLong = length-replicate {A = ℕ} 1792 0;
-  counted = marked-none 1792;
-  isMarked = λ p l. absurd (omega arith);
-  isQueued = λ x m. absurd (none-marked x m);
-}
+  pub queued-none : (cached : ℕ) → Queued cached stamp marks queue 0
+  queued-none cached = record {
+    stamped = record { long = s .long; most = λ x. omega (arith, s .most x) };
+    queueLong = long;
+    few = omega arith;
+    isMarked = λ p l. absurd (omega arith);
+    isQueued = λ x c m. absurd (none-marked x m);
+  }
 
--- Visiting the ends of a node's links, the last link first
+-- Visiting the ends of a group's links, the last link first
 
 -- the links from number f on were visited; f is 0, or one more than a link that starts at x
-pub record Expanding (nodes : List ℕ) (cached links base x f : ℕ) (marks queue : List ℕ) (tail : ℕ) (marks′ queue′ : List ℕ) (tail′ : ℕ)
+pub record Expanding (groups : List ℕ) (cached noted stamp x f : ℕ) (marks queue : List ℕ) (tail : ℕ) (marks′ queue′ : List ℕ) (tail′ : ℕ)
     : Type 0 where
-  pub high : f ≤ links
-  pub here : (e : ℕ) → f ≡ suc e → startOf nodes cached e ≡ x
-  pub queued : Queued marks′ queue′ tail′
-  pub grown : Grown marks queue tail marks′ queue′ tail′
-  pub all : (y : ℕ) (l : Link nodes cached links base x y) → f ≤ l .number → Marked marks′ y
-  pub only : (y : ℕ) → Marked marks′ y → Marked marks y ⊎ Link nodes cached links base x y
+  pub high : f ≤ noted
+  pub here : (e : ℕ) → f ≡ suc e → startOf groups cached e ≡ x
+  pub queued : Queued cached stamp marks′ queue′ tail′
+  pub grown : Grown stamp marks queue tail marks′ queue′ tail′
+  pub all : (y : ℕ) (l : Link groups cached noted x y) → f ≤ l .number → Marked stamp marks′ y
+  pub only : (y : ℕ) → Marked stamp marks′ y → Marked stamp marks y ⊎ Link groups cached noted x y
 
-module _ (nodes : List ℕ) (cached links base x : ℕ) where
-  pub expanding-none : {f : ℕ} {marks queue : List ℕ} {tail : ℕ} → Last nodes cached x links f → Queued marks queue tail
-      → Expanding nodes cached links base x f marks queue tail marks queue tail
+module _ (groups : List ℕ) (cached noted stamp x : ℕ) where
+  pub expanding-none : {f : ℕ} {marks queue : List ℕ} {tail : ℕ} → Last (startOf groups cached) x noted f → Queued cached stamp marks queue tail
+      → Expanding groups cached noted stamp x f marks queue tail marks queue tail
   expanding-none {f} last s = record {
     high = last .high;
     here = last .here;
     queued = s;
     grown = grown-same;
-    all = λ y l h. absurd (last .none (l .number) h (l .high) (l .start));
+    all = λ y l h. absurd (last .none (l .number) h (l .fits) (l .start));
     only = λ y m. inl m;
   }
 
-  pub expanding-one : {f e g : ℕ} {m q m′ q′ m″ q″ : List ℕ} {t t′ t″ : ℕ} → f ≡ suc e → base ≤ e → Last nodes cached (startOf nodes cached e) e g
-      → Expanding nodes cached links base x f m q t m′ q′ t′ → Visited (endOf nodes cached links e) m′ q′ t′ m″ q″ t″
-      → Expanding nodes cached links base x g m q t m″ q″ t″
-  expanding-one {f} {e} {g} {m} {q} {m′} {q′} {m″} {q″} i b last s v = record {
+  pub expanding-one : {f e g : ℕ} {m q m′ q′ m″ q″ : List ℕ} {t t′ t″ : ℕ} → f ≡ suc e → Last (startOf groups cached) (startOf groups cached e) e g
+      → Expanding groups cached noted stamp x f m q t m′ q′ t′ → Visited cached stamp (endOf groups cached noted e) m′ q′ t′ m″ q″ t″
+      → Expanding groups cached noted stamp x g m q t m″ q″ t″
+  expanding-one {f} {e} {g} {m} {q} {m′} {q′} {m″} {q″} i last s v = record {
     high = omega (arith, last .high, s .high);
     here = λ d k. last .here d k ∙ start;
     queued = v .queued;
     grown = grown-on (s .grown) (v .grown);
-    all = λ y l h. later y l (ltb (l .number) e) refl (ltb e (l .number)) refl h;
+    all = λ y l h. later y l h (order (l .number) e);
     only = λ y k. new y (v .only y k);
   }
     where
-      start : startOf nodes cached e ≡ x
+      start : startOf groups cached e ≡ x
       start = s .here e i
 
-      between : (k : ℕ) → (ltb k e ≡ false) → (ltb e k ≡ false) → k ≡ e
-      between k p r = omega (arith, ltb-false k e p, ltb-false e k r)
+      later : (y : ℕ) (l : Link groups cached noted x y) → g ≤ l .number → Order (l .number) e → Marked stamp m″ y
+      later y l h (less p) = absurd (last .none (l .number) h p (l .start ∙ sym start))
+      later y l h (equal p) = rw (sym (l .end), p) (v .it)
+      later y l h (more p) = v .grown .still y (s .all y l (omega arith))
 
-      later : (y : ℕ) (l : Link nodes cached links base x y) (a : Bool) → ltb (l .number) e ≡ a → (c : Bool) → ltb e (l .number) ≡ c
-          → g ≤ l .number → Marked m″ y
-      later y l true p c r h = absurd (last .none (l .number) h (ltb-true (l .number) e p) (l .start ∙ sym start))
-      later y l false p true r h = v .grown .still y (s .all y l (omega (arith, ltb-true e (l .number) r)))
-      later y l false p false r h = rw (sym (l .end), between (l .number) p r) (v .it)
-
-      new : (y : ℕ) → Marked m′ y ⊎ (y ≡ endOf nodes cached links e) → Marked m y ⊎ Link nodes cached links base x y
+      new : (y : ℕ) → Marked stamp m′ y ⊎ (y ≡ endOf groups cached noted e) → Marked stamp m y ⊎ Link groups cached noted x y
       new y (inl k) = s .only y k
-      new y (inr k) = inr (record { number = e; low = b; high = omega (arith, s .high); start = start; end = sym k })
+      new y (inr k) = inr (record { number = e; fits = omega (arith, s .high); start = start; end = sym k })
 
-  pub expanding-all : {f : ℕ} {m q m′ q′ : List ℕ} {t t′ : ℕ} → f ≤ base → Expanding nodes cached links base x f m q t m′ q′ t′
-      → Expanded nodes cached links base x m q t m′ q′ t′
-  expanding-all h s = record {
-    queued = s .queued;
-    grown = s .grown;
-    all = λ y l. s .all y l (omega (arith, l .low));
-    only = s .only;
-  }
+  pub expanding-all : {f : ℕ} {m q m′ q′ : List ℕ} {t t′ : ℕ} → f ≤ 0 → Expanding groups cached noted stamp x f m q t m′ q′ t′
+      → Expanded groups cached noted stamp x m q t m′ q′ t′
+  expanding-all h s = record { queued = s .queued; grown = s .grown; all = λ y l. s .all y l (omega arith); only = s .only }
 
--- Searching from node a: the links of the queue's first `done` nodes were visited
+-- Searching from a: its links and those of the queue's first `done` groups were visited
 
-pub record Searching (nodes : List ℕ) (cached links base a done : ℕ) (marks queue : List ℕ) (tail : ℕ) : Type 0 where
+pub record Searching (groups : List ℕ) (cached noted stamp a done : ℕ) (marks queue : List ℕ) (tail : ℕ) : Type 0 where
   pub high : done ≤ tail
-  pub queued : Queued marks queue tail
-  pub start : Marked marks a
-  pub sound : (y : ℕ) → Marked marks y → Chain (linksFrom nodes cached links base) (at 0 a) (at 0 y)
-  pub closed : (p : ℕ) → p < done → (y : ℕ) → Link nodes cached links base (getD queue p 0) y → Marked marks y
+  pub queued : Queued cached stamp marks queue tail
+  pub sound : (y : ℕ) → Marked stamp marks y → Led groups cached noted a y
+  pub first : (y : ℕ) → Link groups cached noted a y → Marked stamp marks y
+  pub closed : (p : ℕ) → p < done → (y : ℕ) → Link groups cached noted (getD queue p 0) y → Marked stamp marks y
 
-module _ (nodes : List ℕ) (n links base a : ℕ) where
-  abbrev Led : ℕ → Type 0
-  Led y = Chain (linksFrom nodes n links base) (at 0 a) (at 0 y)
-
-  link-edge : (x y : ℕ) → Link nodes n links base x y → List·Memᴰ (edge (at 0 x) (at 0 y)) (linksFrom nodes n links base)
-  unfolding linksFrom linkOf
+module _ (groups : List ℕ) (n noted stamp a : ℕ) where
+  link-edge : (x y : ℕ) → Link groups n noted x y → List·Memᴰ (edge (at 0 x) (at 0 y)) (linksOf groups n noted)
+  unfolding linksOf linkOf
   link-edge x y l =
       edge-at (ap (λ (z : ℕ). at 0 z) (sym (l .start))) (ap (λ (z : ℕ). at 0 z) (sym (l .end)))
-      (in-rows (linkOf nodes n links) (links - base) base (l .number) (l .low) (omega (arith, l .low, l .high)))
+      (in-rows (linkOf groups n noted) noted 0 (l .number) (omega arith) (omega (arith, l .fits)))
 
-  pub searching-start : {m q m′ q′ : List ℕ} {t t′ : ℕ} → ((x : ℕ) → Marked m x → ⊥) → Visited a m q t m′ q′ t′
-      → Searching nodes n links base a 0 m′ q′ t′
+  pub searching-start : {m q m′ q′ : List ℕ} {t t′ : ℕ} → ((x : ℕ) → Marked stamp m x → ⊥) → Expanded groups n noted stamp a m q t m′ q′ t′
+      → Searching groups n noted stamp a 0 m′ q′ t′
   searching-start {m} none v = record {
     high = omega arith;
     queued = v .queued;
-    start = v .it;
-    sound = λ y k. first y (v .only y k);
+    sound = λ y k. new y (v .only y k);
+    first = v .all;
     closed = λ p h. absurd (omega arith);
   }
     where
-      first : (y : ℕ) → Marked m y ⊎ (y ≡ a) → Led y
-      first y (inl k) = absurd (none y k)
-      first y (inr e) = stay (ap (λ (z : ℕ). at 0 z) (sym e))
+      new : (y : ℕ) → Marked stamp m y ⊎ Link groups n noted a y → Led groups n noted a y
+      new y (inl k) = absurd (none y k)
+      new y (inr l) = hop (stay refl) (link-edge a y l)
 
-  pub searching-one : {d : ℕ} {m q m′ q′ : List ℕ} {t t′ : ℕ} → d < t → Searching nodes n links base a d m q t
-      → Expanded nodes n links base (getD q d 0) m q t m′ q′ t′ → Searching nodes n links base a (d + 1) m′ q′ t′
+  pub searching-one : {d : ℕ} {m q m′ q′ : List ℕ} {t t′ : ℕ} → d < t → Searching groups n noted stamp a d m q t
+      → Expanded groups n noted stamp (getD q d 0) m q t m′ q′ t′ → Searching groups n noted stamp a (d + 1) m′ q′ t′
   searching-one {d} {m} {q} {m′} {q′} {t} {t′} h s v = record {
     high = omega (arith, v .grown .more);
     queued = v .queued;
-    start = v .grown .still a (s .start);
     sound = λ y k. new y (v .only y k);
+    first = λ y l. v .grown .still y (s .first y l);
     closed = λ p l y k. old p y (eq-or-lt-of-le (low p l)) (rw (v .grown .place p (omega arith)) at k);
   }
     where
       low : (p : ℕ) → p < d + 1 → p ≤ d
       low p l = omega arith
 
-      new : (y : ℕ) → Marked m y ⊎ Link nodes n links base (getD q d 0) y → Led y
+      new : (y : ℕ) → Marked stamp m y ⊎ Link groups n noted (getD q d 0) y → Led groups n noted a y
       new y (inl k) = s .sound y k
       new y (inr l) = hop (s .sound (getD q d 0) (s .queued .isMarked d h)) (link-edge (getD q d 0) y l)
 
-      old : (p y : ℕ) → (p ≡ d) ⊎ (p < d) → Link nodes n links base (getD q p 0) y → Marked m′ y
+      old : (p y : ℕ) → (p ≡ d) ⊎ (p < d) → Link groups n noted (getD q p 0) y → Marked stamp m′ y
       old p y (inl e) l = v .all y (rw e at l)
       old p y (inr k) l = v .grown .still y (s .closed p k y l)
 
-  module _ {d : ℕ} {marks queue : List ℕ} {tail : ℕ} (h : tail ≤ d) (s : Searching nodes n links base a d marks queue tail) where
-    all-closed : (x y : ℕ) → Marked marks x → Link nodes n links base x y → Marked marks y
-    all-closed x y m l = let r = s .queued .isQueued x m in s .closed (r .0) (omega (arith, r .1)) y (rw (sym (r .2)) at l)
-
-    -- a chain ends at a marked node
-    complete : {z : Request} → Chain (linksFrom nodes n links base) (at 0 a) z → (y : ℕ) × (z ≡ at 0 y) × Marked marks y
-    unfolding linksFrom linkOf
-    complete {z} (stay e) = (a, sym e, s .start)
-    complete {z} (hop {b} c m) =
-        let r = complete c in
-        let p = rows-in (linkOf nodes n links) (links - base) base (edge b z) m in
-        let x : startOf nodes n (p .number) ≡ r .0 = ap (λ (k : Request). k .name) (sym (ap (λ (k : Edge). k .from) (p .is)) ∙ r .1) in
-        let l : Link nodes n links base (r .0) (endOf nodes n links (p .number)) =
-        record { number = p .number; low = p .low; high = omega (arith, p .low, p .high); start = x; end = refl } in
-        (endOf nodes n links (p .number), ap (λ (k : Edge). k .to) (p .is), all-closed (r .0) (endOf nodes n links (p .number)) (r .2) l)
-
-    pub searched : Searched nodes n links base a marks
-    unfolding leadsFrom
-    searched b = same-truth (eqb (getD marks b 0) 1) (leads (linksFrom nodes n links base) (at 0 a) (at 0 b))
-        (λ q. chain-leads (linksFrom nodes n links base) (at 0 a) (at 0 b) (s .sound b (eqb-true (getD marks b 0) 1 q)))
-        (λ q. there (complete (leads-chain (linksFrom nodes n links base) (at 0 a) (at 0 b) q)))
-      where
-        there : (y : ℕ) × (at 0 b ≡ at 0 y) × Marked marks y → eqb (getD marks b 0) 1 ≡ true
-        there r = eq-eqb (getD marks b 0) 1 (rw (sym (ap (λ (k : Request). k .name) (r .1))) at (r .2))
-
--- a pair, by the marks of the searches from the first
-pub pair-marks : (sup : ℕ → Option ℕ) (nodes classes : List ℕ) (n links noted a b s : ℕ) (tied led : List ℕ) → s ≡ getD nodes a 0
-    → Searched nodes n links noted s tied → Searched nodes n links 0 s led
-    → pairMarked sup nodes classes tied led a b ≡ pairOn sup nodes classes n links noted a b
-unfolding pairMarked pairOn
-pair-marks sup nodes classes n links noted a b s tied led e p q = rw (p (getD nodes b 0), q (getD nodes b 0), e) refl
+  pub searched : {d : ℕ} {marks queue : List ℕ} {tail : ℕ} → tail ≤ d → Searching groups n noted stamp a d marks queue tail
+      → Searched groups n noted stamp a marks
+  searched h s = record {
+    stamped = s .queued .stamped;
+    sound = s .sound;
+    first = s .first;
+    closed = λ x y c m l. let r = s .queued .isQueued x c m in s .closed (r .0) (omega (arith, r .1)) y (rw (sym (r .2)) at l);
+  }

@@ -1,6 +1,9 @@
 -- Agreement over tables, the search behind it, and what posting writes.
 pub mod Agreement
 pub mod Nodes
+pub mod Joining
+pub mod Groups
 pub mod Search
+pub mod Pairs
 pub mod Posting
 pub mod Laws

@@ -1,76 +1,88 @@
--- The search from a node: links joined into lists by the node at which they start, marks, and a queue of the marked nodes.
+-- The search from a cached request over the groups that subtype constraints lead to. It does not go on from a group with a cached request.
+-- Link e leads from the group at place `cached` + e, of the constraint's lower name, to the group `noted` places behind, of its higher.
 use mathlib.Core.Path.{_≡_}
-use mathlib.Core.Bool.{true, false}
+use mathlib.Core.Bool.{Bool, true, false}
 use mathlib.Core.List.{List, [], _∷_}
 use mathlib.Core.Logic.{_⊎_}
 use Prim.Native.Nat.{ℕ, suc, _+_, _<_, _≤_}
 use lib.ListN.{length, getD}
 use lib.Dec.{eqb}
-use Rattle.constraints.specs.Nodes.{startOf, endOf, leadsFrom}
+use Rattle.definition.specs.Lists.{rows}
+use Rattle.definition.specs.Requests.{at, Edge, Chain, leads}
 
--- f is one more than the last of the first n links that starts at x, or 0
-pub record Last (nodes : List ℕ) (cached x n f : ℕ) : Type 0 where
-  pub high : f ≤ n
-  pub here : (e : ℕ) → f ≡ suc e → startOf nodes cached e ≡ x
-  pub none : (e : ℕ) → f ≤ e → e < n → startOf nodes cached e ≡ x → ⊥
+-- Links
 
--- the first n links are joined: `heads` has for each node its last link, `nexts` for each link the last before it with the same start
-pub record Joined (nodes : List ℕ) (cached n : ℕ) (heads nexts : List ℕ) : Type 0 where
-  pub headsLong : length heads ≡ 1792
-  pub nextsLong : length nexts ≡ 768
-  pub head : (x : ℕ) → x < 1792 → Last nodes cached x n (getD heads x 0)
-  pub next : (e : ℕ) → e < n → Last nodes cached (startOf nodes cached e) e (getD nexts e 0)
+unfoldable pub startOf : List ℕ → ℕ → ℕ → ℕ
+startOf groups cached e = getD groups (cached + e) 0
 
--- there is room for all places, and each has a node
-pub record Small (nodes : List ℕ) (cached links : ℕ) : Type 0 where
-  pub cachedFit : cached ≤ 256
-  pub linksFit : links ≤ 768
-  pub node : (p : ℕ) → p < cached + links + links → getD nodes p 0 < 1792
+unfoldable pub endOf : List ℕ → ℕ → ℕ → ℕ → ℕ
+endOf groups cached noted e = getD groups (cached + noted + e) 0
 
--- how many are marked
-unfoldable pub marked : List ℕ → ℕ
-marked [] = 0
-marked (x ∷ xs) = elim (eqb x 1) [ true ↦ suc (marked xs) | false ↦ marked xs ]
+unfoldable pub linkOf : List ℕ → ℕ → ℕ → ℕ → Edge
+linkOf groups cached noted e = record { from = at 0 (startOf groups cached e); to = at 0 (endOf groups cached noted e) }
 
-abbrev pub Marked : List ℕ → ℕ → Type 0
-Marked marks x = getD marks x 0 ≡ 1
+unfoldable pub linksOf : List ℕ → ℕ → ℕ → List Edge
+linksOf groups cached noted = rows (linkOf groups cached noted) noted 0
 
--- the queue's first `tail` places hold the marked nodes
-pub record Queued (marks queue : List ℕ) (tail : ℕ) : Type 0 where
-  pub marksLong : length marks ≡ 1792
-  pub queueLong : length queue ≡ 1792
-  pub counted : marked marks ≡ tail
-  pub isMarked : (p : ℕ) → p < tail → Marked marks (getD queue p 0)
-  pub isQueued : (x : ℕ) → Marked marks x → (p : ℕ) × (p < tail) × (getD queue p 0 ≡ x)
+-- a chain of links goes from group a to group b
+abbrev pub Led : List ℕ → ℕ → ℕ → ℕ → ℕ → Type 0
+Led groups cached noted a b = Chain (linksOf groups cached noted) (at 0 a) (at 0 b)
+
+unfoldable pub leadsOn : List ℕ → ℕ → ℕ → ℕ → ℕ → Bool
+leadsOn groups cached noted a b = leads (linksOf groups cached noted) (at 0 a) (at 0 b)
+
+-- a link from x to y
+pub record Link (groups : List ℕ) (cached noted x y : ℕ) : Type 0 where
+  pub number : ℕ
+  pub fits : number < noted
+  pub start : startOf groups cached number ≡ x
+  pub end : endOf groups cached noted number ≡ y
+
+-- Marks: a cell with the search's stamp, a number above those of earlier searches
+
+abbrev pub Marked : ℕ → List ℕ → ℕ → Type 0
+Marked stamp marks x = getD marks x 0 ≡ stamp
+
+unfoldable pub marked : ℕ → List ℕ → ℕ
+marked stamp [] = 0
+marked stamp (x ∷ xs) = elim (eqb x stamp) [ true ↦ suc (marked stamp xs) | false ↦ marked stamp xs ]
+
+-- marks up to a stamp
+pub record Stamped (stamp : ℕ) (marks : List ℕ) : Type 0 where
+  pub long : length marks ≡ 1280
+  pub most : (x : ℕ) → getD marks x 0 ≤ stamp
+
+-- the queue's first `tail` places hold the marked groups without a cached request
+pub record Queued (cached stamp : ℕ) (marks queue : List ℕ) (tail : ℕ) : Type 0 where
+  pub stamped : Stamped stamp marks
+  pub queueLong : length queue ≡ 1280
+  pub few : tail ≤ marked stamp marks
+  pub isMarked : (p : ℕ) → p < tail → Marked stamp marks (getD queue p 0)
+  pub isQueued : (x : ℕ) → cached ≤ x → Marked stamp marks x → (p : ℕ) × (p < tail) × (getD queue p 0 ≡ x)
 
 -- marks and queue grew
-pub record Grown (marks queue : List ℕ) (tail : ℕ) (marks′ queue′ : List ℕ) (tail′ : ℕ) : Type 0 where
+pub record Grown (stamp : ℕ) (marks queue : List ℕ) (tail : ℕ) (marks′ queue′ : List ℕ) (tail′ : ℕ) : Type 0 where
   pub more : tail ≤ tail′
-  pub still : (x : ℕ) → Marked marks x → Marked marks′ x
+  pub still : (x : ℕ) → Marked stamp marks x → Marked stamp marks′ x
   pub place : (p : ℕ) → p < tail → getD queue′ p 0 ≡ getD queue p 0
 
--- a node was marked and queued, if it was not yet
-pub record Visited (x : ℕ) (marks queue : List ℕ) (tail : ℕ) (marks′ queue′ : List ℕ) (tail′ : ℕ) : Type 0 where
-  pub queued : Queued marks′ queue′ tail′
-  pub grown : Grown marks queue tail marks′ queue′ tail′
-  pub it : Marked marks′ x
-  pub only : (y : ℕ) → Marked marks′ y → Marked marks y ⊎ (y ≡ x)
+-- a group was marked, and queued if it has no cached request
+pub record Visited (cached stamp x : ℕ) (marks queue : List ℕ) (tail : ℕ) (marks′ queue′ : List ℕ) (tail′ : ℕ) : Type 0 where
+  pub queued : Queued cached stamp marks′ queue′ tail′
+  pub grown : Grown stamp marks queue tail marks′ queue′ tail′
+  pub it : Marked stamp marks′ x
+  pub only : (y : ℕ) → Marked stamp marks′ y → Marked stamp marks y ⊎ (y ≡ x)
 
--- the links that start at x, from number `base` on
-pub record Link (nodes : List ℕ) (cached links base x y : ℕ) : Type 0 where
-  pub number : ℕ
-  pub low : base ≤ number
-  pub high : number < links
-  pub start : startOf nodes cached number ≡ x
-  pub end : endOf nodes cached links number ≡ y
+-- the ends of the links from x were visited
+pub record Expanded (groups : List ℕ) (cached noted stamp x : ℕ) (marks queue : List ℕ) (tail : ℕ) (marks′ queue′ : List ℕ) (tail′ : ℕ) : Type 0 where
+  pub queued : Queued cached stamp marks′ queue′ tail′
+  pub grown : Grown stamp marks queue tail marks′ queue′ tail′
+  pub all : (y : ℕ) → Link groups cached noted x y → Marked stamp marks′ y
+  pub only : (y : ℕ) → Marked stamp marks′ y → Marked stamp marks y ⊎ Link groups cached noted x y
 
--- the ends of a node's links, from number `base` on, were visited
-pub record Expanded (nodes : List ℕ) (cached links base x : ℕ) (marks queue : List ℕ) (tail : ℕ) (marks′ queue′ : List ℕ) (tail′ : ℕ) : Type 0 where
-  pub queued : Queued marks′ queue′ tail′
-  pub grown : Grown marks queue tail marks′ queue′ tail′
-  pub all : (y : ℕ) → Link nodes cached links base x y → Marked marks′ y
-  pub only : (y : ℕ) → Marked marks′ y → Marked marks y ⊎ Link nodes cached links base x y
-
--- the marks are those of the nodes that a leads to
-abbrev pub Searched : List ℕ → ℕ → ℕ → ℕ → ℕ → List ℕ → Type 0
-Searched nodes cached links base a marks = (b : ℕ) → eqb (getD marks b 0) 1 ≡ leadsFrom nodes cached links base a b
+-- what is marked from a: only what it leads to; the ends of its links; and of the links from marked groups without a cached request
+pub record Searched (groups : List ℕ) (cached noted stamp a : ℕ) (marks : List ℕ) : Type 0 where
+  pub stamped : Stamped stamp marks
+  pub sound : (y : ℕ) → Marked stamp marks y → Led groups cached noted a y
+  pub first : (y : ℕ) → Link groups cached noted a y → Marked stamp marks y
+  pub closed : (x y : ℕ) → cached ≤ x → Marked stamp marks x → Link groups cached noted x y → Marked stamp marks y

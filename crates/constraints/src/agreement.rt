@@ -1,18 +1,25 @@
 // The test of agreement.
+use crate::grouping::group_places;
+use crate::joining::join;
+use crate::joining::place;
 use crate::numbering::at_most;
 use crate::numbering::list_classes;
 use crate::numbering::number_nodes;
 use crate::numbering::number_places;
-use crate::numbering::place;
-use crate::search::join;
 use crate::search::search;
 use cells::at8;
+use cells::at16;
 use cells::wide8;
 ghost use mathlib.Core.Path.{_≡_};
+ghost use mathlib.Core.Bool.{true};
+ghost use Prim.Native.Nat.{_+_, _≤_};
+ghost use lib.ListN.{length};
 ghost use Rattle.definition.specs.Superclasses.{below};
 ghost use Rattle.constraints.specs.Agreement.{superIn, agreeIn};
-ghost use Rattle.constraints.specs.Nodes.{pairIs, pairMarked, agreeOn};
-ghost use Rattle.constraints.specs.Search.{Joined, Small};
+ghost use Rattle.constraints.specs.Groups.{Rooted};
+ghost use Rattle.constraints.specs.Joining.{Joined};
+ghost use Rattle.constraints.specs.Pairs.{agreeOn, tiedOn, pairMarked, NextStart};
+ghost use Rattle.constraints.specs.Search.{startOf};
 
 // Class c is d or below it.
 fn is_below(supers: &[u8], c: usize, d: usize) -> bool
@@ -32,75 +39,116 @@ fn is_below(supers: &[u8], c: usize, d: usize) -> bool
     true
 }
 
-// A pair of classes, whose requests are tied, or of which one leads to the other, or neither.
-fn pair_agrees(supers: &[u8], tied: bool, led: bool, c: usize, d: usize) -> bool
-    ensures { λ r. ⌜ r ≡ pairIs (superIn (now (supers .entry))) tied led c d ⌝ }
+// Tied cached requests mean one class: each that of the first of its group.
+fn groups_agree(groups: &[u16], classes: &[u16], cached: usize) -> bool
+    ensures { λ r. ⌜ r ≡ tiedOn (now (groups .entry)) (now (classes .entry)) cached ⌝ }
 {
-    if tied {
-        return c == d;
-    }
-    if led {
-        return is_below(supers, c, d);
+    let mut a = 0;
+    while a < cached {
+        if at16(classes, place(groups, a)) != at16(classes, a) {
+            return false;
+        }
+        a += 1;
     }
     true
 }
 
-// The pair of cached requests a and b, where the marks are those of what a is tied to and of what it leads to.
-fn marks_agree(
+// The next cached request, from a place on, that is the first of its group and at which links start; `cached` if there is none.
+fn next_start(groups: &[u16], heads: &[u16], cached: usize, from: usize) -> usize
+    requires { ⌜ from ≤ cached ⌝ }
+    ensures { λ r. ⌜ NextStart (now (groups .entry)) (now (heads .entry)) cached from r ⌝ }
+{
+    let mut a = from;
+    while a < cached {
+        if place(groups, a) == a {
+            if at16(heads, a) != 0 {
+                return a;
+            }
+        }
+        a += 1;
+    }
+    a
+}
+
+// The pair of cached requests a and b, where the marks are those of what a leads to.
+fn pair_agrees(
     supers: &[u8],
-    nodes: &[usize],
-    classes: &[usize],
-    tied: &[u8],
-    led: &[u8],
+    marks: &[u16],
+    classes: &[u16],
+    stamp: u16,
     a: usize,
     b: usize,
 ) -> bool
-    ensures { λ r. ⌜ r ≡ pairMarked (superIn (now (supers .entry))) (now (nodes .entry)) (now (classes .entry)) (now (tied .entry)) (now (led .entry)) a b ⌝ }
+    ensures { λ r. ⌜ r ≡ pairMarked (superIn (now (supers .entry))) (now (marks .entry)) (now (classes .entry)) stamp a b ⌝ }
 {
-    let node = place(nodes, b);
-    let is_tied = at8(tied, node) == 1;
-    let is_led = at8(led, node) == 1;
-    pair_agrees(
-        supers,
-        is_tied,
-        is_led,
-        place(classes, a),
-        place(classes, b),
-    )
+    if at16(marks, b) == stamp {
+        return is_below(supers, place(classes, a), place(classes, b));
+    }
+    true
 }
 
-// Every pair of cached requests agrees. What a request leads to is searched once; the first pair that does not agree ends the test. The
-// links from number `noted` on are ties.
+// Every pair of cached requests agrees, where tied ones do. What a group leads to is searched once, from its first request; the first pair
+// that does not agree ends the test.
 fn pairs_agree(
     supers: &[u8],
-    nodes: &[usize],
-    classes: &[usize],
+    groups: &[u16],
+    classes: &[u16],
     cached: usize,
-    links: usize,
     noted: usize,
-    heads: &[usize],
-    nexts: &[usize],
+    heads: &[u16],
+    nexts: &[u16],
 ) -> bool
-    requires { ⌜ Small (now nodes) cached links × Joined (now nodes) cached links (now heads) (now nexts) ⌝ }
-    ensures { λ r. ⌜ r ≡ agreeOn (superIn (now (supers .entry))) (now (nodes .entry)) (now (classes .entry)) cached links noted ⌝ }
+    requires { ⌜ (cached ≤ 256) × (noted ≤ 256) × Rooted (now groups) (cached + noted + noted) × Joined (startOf (now groups) cached) noted (now heads) (now nexts) × (tiedOn (now groups) (now classes) cached ≡ true) ⌝ }
+    ensures { λ r. ⌜ r ≡ agreeOn (superIn (now (supers .entry))) (now (groups .entry)) (now (classes .entry)) cached noted ⌝ }
 {
+    let mut marks = [0u16; 1280];
+    let mut queue = [0u16; 1280];
     let mut agreed = true;
-    let mut a = 0;
+    let mut a = next_start(groups, heads, cached, 0);
     'pairs: while a < cached {
-        let start = place(nodes, a);
-        let tied = search(nodes, cached, links, heads, nexts, noted, start);
-        let led = search(nodes, cached, links, heads, nexts, 0, start);
+        let stamp = (a + 1) as u16;
+        search(
+            groups,
+            cached,
+            noted,
+            heads,
+            nexts,
+            a,
+            stamp,
+            &mut marks,
+            &mut queue,
+        );
         let mut b = 0;
         while b < cached {
-            if !marks_agree(supers, nodes, classes, &tied, &led, a, b) {
+            if !pair_agrees(supers, &marks, classes, stamp, a, b) {
                 agreed = false;
                 break 'pairs;
             }
             b += 1;
         }
-        a += 1;
+        a = next_start(groups, heads, cached, a + 1);
     }
     agreed
+}
+
+// Every pair of cached requests agrees, tied ones and others.
+fn requests_agree(
+    supers: &[u8],
+    groups: &[u16],
+    classes: &[u16],
+    cached: usize,
+    noted: usize,
+) -> bool
+    requires { ⌜ (cached ≤ 256) × (noted ≤ 256) × Rooted (now groups) (cached + noted + noted) ⌝ }
+    ensures { λ r. ⌜ r ≡ agreeOn (superIn (now (supers .entry))) (now (groups .entry)) (now (classes .entry)) cached noted ⌝ }
+{
+    if !groups_agree(groups, classes, cached) {
+        return false;
+    }
+    let mut heads = [0u16; 1280];
+    let mut nexts = [0u16; 1280];
+    join(groups, cached, noted, &mut heads, &mut nexts);
+    pairs_agree(supers, groups, classes, cached, noted, &heads, &nexts)
 }
 
 // The store of these tables agrees: tied cached requests mean one class, and where one leads to another, its class is the other's or below.
@@ -118,24 +166,14 @@ pub fn agree(
     let cached = at_most(entries);
     let tied = at_most(tie_count);
     let noted = at_most(subtype_count);
-    let links = noted + tied + tied;
-    let mut numbers = [0usize; 1792];
+    let ones = cached + noted + noted;
+    let mut numbers = [0u32; 1280];
     number_places(cache, cached, ties, tied, subtypes, noted, &mut numbers);
-    let mut nodes = [0usize; 1792];
-    number_nodes(&numbers, cached + links + links, &mut nodes);
-    let mut classes = [0usize; 256];
+    let mut nodes = [0u16; 1280];
+    number_nodes(&numbers, ones + tied + tied, &mut nodes);
+    let mut classes = [0u16; 256];
     list_classes(cache, &nodes, cached, &mut classes);
-    let mut heads = [0usize; 1792];
-    let mut nexts = [0usize; 768];
-    join(&nodes, cached, links, &mut heads, &mut nexts);
-    pairs_agree(
-        supers,
-        &nodes,
-        &classes,
-        cached,
-        links,
-        noted,
-        &heads,
-        &nexts,
-    )
+    let mut groups = [0u16; 1280];
+    group_places(&mut nodes, ones, tied, &mut groups);
+    requests_agree(supers, &groups, &classes, cached, noted)
 }

@@ -1,7 +1,9 @@
 // Posting ties and subtype constraints, and the test of agreement.
 mod posting; // posting.rt: rows added to the tables of ties and of subtype constraints
+mod joining; // joining.rt: places joined into lists by a key
 mod numbering; // numbering.rt: the requests of a store as numbers and as nodes
-mod search; // search.rt: the search from a node
+mod grouping; // grouping.rt: groups of tied requests
+mod search; // search.rt: the search from a cached request, over groups
 mod agreement; // agreement.rt: the test of agreement
 
 pub use agreement::agree;

@@ -1,93 +1,106 @@
-// The search from a node, over links joined into lists.
-use crate::numbering::place;
-ghost use Prim.Native.Nat.{_<_};
-ghost use Rattle.constraints.specs.Search.{Joined, Small, Queued, Visited, Expanded, Searched};
+// The search from a cached request, over groups.
+use crate::joining::place;
+use cells::at16;
+use cells::put16;
+ghost use mathlib.Core.Path.{_≡_};
+ghost use Prim.Native.Nat.{_+_, _<_, _≤_};
+ghost use lib.ListN.{length};
+ghost use Rattle.constraints.specs.Groups.{Rooted};
+ghost use Rattle.constraints.specs.Joining.{Joined};
+ghost use Rattle.constraints.specs.Search.{startOf, Stamped, Queued, Visited, Expanded, Searched};
 
-// Joins each link to the last before it that starts at the same node.
-pub(crate) fn join(nodes: &[usize], cached: usize, links: usize, heads: &mut [usize], nexts: &mut [usize])
-    requires { ⌜ Small (now nodes) cached links × Joined (now nodes) cached 0 (now heads) (now nexts) ⌝ }
-    ensures { λ _. ⌜ Joined (now (nodes .entry)) cached links (now (heads .exit)) (now (nexts .exit)) ⌝ }
+// Marks a group with the stamp and, if it has no cached request, queues it, if it isn't marked yet. Answers how many are queued.
+fn visit(
+    group: usize,
+    cached: usize,
+    stamp: u16,
+    marks: &mut [u16],
+    queue: &mut [u16],
+    tail: usize,
+) -> usize
+    requires { ⌜ (group < 1280) × (0 < stamp) × Queued cached stamp (now marks) (now queue) tail ⌝ }
+    ensures { λ r. ⌜ Visited cached stamp group (now (marks .entry)) (now (queue .entry)) tail (now (marks .exit)) (now (queue .exit)) r ⌝ }
 {
-    let mut e = 0;
-    while e < links {
-        let start = place(nodes, cached + e);
-        nexts[e] = place(heads, start);
-        heads[start] = e + 1;
-        e += 1;
-    }
-}
-
-// Marks a node and queues it, if it isn't marked yet. Answers how many are queued.
-fn visit(node: usize, marks: &mut [u8], queue: &mut [usize], tail: usize) -> usize
-    requires { ⌜ (node < 1792) × Queued (now marks) (now queue) tail ⌝ }
-    ensures { λ r. ⌜ Visited node (now (marks .entry)) (now (queue .entry)) tail (now (marks .exit)) (now (queue .exit)) r ⌝ }
-{
-    if marks[node] == 1 {
+    if at16(marks, group) == stamp {
         return tail;
     }
-    marks[node] = 1;
-    queue[tail] = node;
+    put16(marks, group, stamp);
+    if group < cached {
+        return tail;
+    }
+    put16(queue, tail, group as u16);
     tail + 1
 }
 
-// Visits the end of each link from number `base` on that starts at a node.
+// Visits the end of each link that starts at a group.
 fn expand(
-    nodes: &[usize],
+    groups: &[u16],
     cached: usize,
-    links: usize,
-    heads: &[usize],
-    nexts: &[usize],
-    base: usize,
-    node: usize,
-    marks: &mut [u8],
-    queue: &mut [usize],
+    noted: usize,
+    heads: &[u16],
+    nexts: &[u16],
+    group: usize,
+    stamp: u16,
+    marks: &mut [u16],
+    queue: &mut [u16],
     tail: usize,
 ) -> usize
-    requires { ⌜ (node < 1792) × Small (now nodes) cached links × Joined (now nodes) cached links (now heads) (now nexts) × Queued (now marks) (now queue) tail ⌝ }
-    ensures { λ r. ⌜ Expanded (now (nodes .entry)) cached links base node (now (marks .entry)) (now (queue .entry)) tail (now (marks .exit)) (now (queue .exit)) r ⌝ }
+    requires { ⌜ (group < 1280) × (cached + noted + noted ≤ 1280) × (0 < stamp) × Rooted (now groups) (cached + noted + noted) × Joined (startOf (now groups) cached) noted (now heads) (now nexts) × Queued cached stamp (now marks) (now queue) tail ⌝ }
+    ensures { λ r. ⌜ Expanded (now (groups .entry)) cached noted stamp group (now (marks .entry)) (now (queue .entry)) tail (now (marks .exit)) (now (queue .exit)) r ⌝ }
 {
     let mut queued = tail;
-    let mut follow = place(heads, node);
-    while base < follow {
+    let mut follow = place(heads, group);
+    while 0 < follow {
         let e = follow - 1;
-        queued = visit(place(nodes, cached + links + e), marks, queue, queued);
+        let end = place(groups, cached + noted + e);
+        queued = visit(end, cached, stamp, marks, queue, queued);
         follow = place(nexts, e);
     }
     queued
 }
 
-// The marks of what a node leads to, by links from number `base` on.
+// Marks with the stamp what a cached request leads to, as far as the next cached ones.
 pub(crate) fn search(
-    nodes: &[usize],
+    groups: &[u16],
     cached: usize,
-    links: usize,
-    heads: &[usize],
-    nexts: &[usize],
-    base: usize,
-    start: usize,
-) -> [u8; 1792]
-    requires { ⌜ (start < 1792) × Small (now nodes) cached links × Joined (now nodes) cached links (now heads) (now nexts) ⌝ }
-    ensures { λ r. ⌜ Searched (now (nodes .entry)) cached links base start r ⌝ }
+    noted: usize,
+    heads: &[u16],
+    nexts: &[u16],
+    a: usize,
+    stamp: u16,
+    marks: &mut [u16],
+    queue: &mut [u16],
+)
+    requires { ⌜ (a < 1280) × (cached + noted + noted ≤ 1280) × (0 < stamp) × Rooted (now groups) (cached + noted + noted) × Joined (startOf (now groups) cached) noted (now heads) (now nexts) × Stamped a (now marks) × (a < stamp) × (length (now queue) ≡ 1280) ⌝ }
+    ensures { λ _. ⌜ Searched (now (groups .entry)) cached noted stamp a (now (marks .exit)) ⌝ }
 {
-    let mut marks = [0u8; 1792];
-    let mut queue = [0usize; 1792];
-    let mut tail = visit(start, &mut marks, &mut queue, 0);
+    let mut tail = expand(
+        groups,
+        cached,
+        noted,
+        heads,
+        nexts,
+        a,
+        stamp,
+        marks,
+        queue,
+        0,
+    );
     let mut done = 0;
     while done < tail {
-        let node = queue[done];
+        let group = place(queue, done);
         tail = expand(
-            nodes,
+            groups,
             cached,
-            links,
+            noted,
             heads,
             nexts,
-            base,
-            node,
-            &mut marks,
-            &mut queue,
+            group,
+            stamp,
+            marks,
+            queue,
             tail,
         );
         done += 1;
     }
-    marks
 }

@@ -1,109 +1,90 @@
--- The pairs that were passed agree, so what is left of the test is the whole of it; a pair that does not agree decides it.
-use Prim.Native.Nat.{_-_, _≤_}
+-- The requests that were passed agree with all that they lead to; a marked pair that does not agree decides the test.
+use Prim.Native.Nat.{ℕ, _+_, _-_, _<_, _≤_}
 use mathlib.Core.Bool.{true}
 use mathlib.Core.Path.{_≡_, refl, sym, _∙_}
 use native.Mathlib.Omega.{arith}
+use lib.ListN.{getD}
 use denote.Ref.{now}
-use borrow.Author.Needs.{needs}
-use borrow.Author.Tests.{not-true, not-false}
-use Rattle.definition.specs.Lists.{rows, all}
-use Rattle.layout.specs.Places.{rows-on, rows-hit, rows-end}
+use borrow.Author.Count.{below-more}
+use Rattle.definition.specs.Superclasses.{Below}
 use Rattle.constraints.specs.Agreement.{superIn}
-use Rattle.constraints.specs.Nodes.{pairOn, agreeOn}
-use Rattle.constraints.proofs.Rows.{all-start}
-use Rattle.constraints.proofs.Searching.{pair-marks}
+use Rattle.constraints.specs.Search.{Marked}
+use Rattle.constraints.proofs.Pairing.{Tested, tested-start, tested-next, classed-all, marked-fits, not-agreed, all-agree}
+use Rattle.constraints.proofs.Supers.{super-falls}
+use borrow.Author.Needs.{needs}
 use Rattle.constraints.proofs.agreement.pairs_agree.Statement.{statement}
 use Rattle.constraints.proofs.agreement.pairs_agree.Tie as tie
 
 abbrev Inv-loop : tie.InvT-loop
-Inv-loop supers nodes classes cached links noted heads nexts agreed₀ a start tied led b₀ agreed b =
+Inv-loop supers groups classes cached noted heads nexts marks queue agreed₀ a stamp b₀ agreed b =
     (agreed ≡ true)
     × (b ≤ cached)
-    × (all (pairOn (superIn supers) nodes classes cached links noted a) (rows (λ i. i) (cached - b) b)
-    ≡ all (pairOn (superIn supers) nodes classes cached links noted a) (rows (λ i. i) cached 0))
+    × ((d : ℕ) → d < b → Marked stamp marks d → Below (superIn supers) (getD classes d 0) (getD classes a 0))
 
 abbrev μ-loop : tie.MeasureT-loop
-μ-loop supers nodes classes cached links noted heads nexts agreed₀ a start tied led b₀ agreed b = cached - b
+μ-loop supers groups classes cached noted heads nexts marks queue agreed₀ a stamp b₀ agreed b = cached - b
 
 abbrev Inv-pairs : tie.InvT-pairs
-Inv-pairs supers nodes classes cached links noted heads nexts agreed₀ a₀ agreed a =
-    (agreed ≡ true)
-    × (a ≤ cached)
-    × (all (λ a. all (pairOn (superIn supers) nodes classes cached links noted a) (rows (λ i. i) cached 0)) (rows (λ i. i) (cached - a) a)
-    ≡ agreeOn (superIn supers) nodes classes cached links noted)
+Inv-pairs supers groups classes cached noted heads nexts marks₀ queue₀ agreed₀ a₀ marks queue agreed a = (agreed ≡ true) × Tested (superIn supers) groups classes cached noted a marks queue
 
 abbrev μ-pairs : tie.MeasureT-pairs
-μ-pairs supers nodes classes cached links noted heads nexts agreed₀ a₀ agreed a = cached - a
-
--- the test of a pair
-module _ (c : tie.After-marks-agree Inv-loop μ-loop Inv-pairs μ-pairs) where
-  abbrev turn : tie.At-loop Inv-loop μ-loop Inv-pairs μ-pairs
-  turn = c .before .before .before .before
-
-  abbrev row : tie.At-pairs Inv-loop μ-loop Inv-pairs μ-pairs
-  row = turn .before .before .before .before .before
-
-  abbrev entry : tie.Start Inv-loop μ-loop Inv-pairs μ-pairs
-  entry = row .before .before .before .before .before .before
-
-  decided :
-      pairOn (superIn (now (entry .args .supers))) (now (entry .args .nodes)) (now (entry .args .classes)) (entry .args .cached)
-      (entry .args .links) (entry .args .noted) (row .pairs .a) (turn .loop .b)
-      ≡ c .marks-agree .result
-  decided =
-      let led = turn .before .search2 in
-      let tied = turn .before .before .search in
-      let place = turn .before .before .before .place in
-      sym (pair-marks _ _ _ _ _ _ _ _ _ (tied .result) (led .result) (place .ensures) (tied .ensures) (led .ensures)) ∙ sym (c .marks-agree .ensures)
+μ-pairs supers groups classes cached noted heads nexts marks₀ queue₀ agreed₀ a₀ marks queue agreed a = cached - a
 
 pairs-holds : tie.Need-pairs-holds Inv-loop μ-loop Inv-pairs μ-pairs
-unfolding agreeOn
-pairs-holds c = (refl, omega arith, all-start _ (λ i. i) _)
+pairs-holds c =
+    (refl, tested-start _ _ _ _ _ _ _ (omega arith) (c .before .before .before .before .before .before .pre .3) (c .next-start .ensures))
 
 search-requires : tie.Need-search-requires Inv-loop μ-loop Inv-pairs μ-pairs
 search-requires c κs =
-    let pairs = c .before .before .pairs in
-    let pre = c .before .before .before .before .before .before .before .before .pre in
-    (rw (c .place .ensures) (pre .0 .node (pairs .a) (omega (arith, c .before .pairs-test .taken))), pre .0, pre .1)
-
-search-requires-2 : tie.Need-search-requires-2 Inv-loop μ-loop Inv-pairs μ-pairs
-search-requires-2 c κs =
-    let pairs-test = c .before .before .pairs-test in
     let pairs = c .before .before .before .pairs in
-    let pre = c .before .before .before .before .before .before .before .before .before .pre in
-    (rw (c .before .place .ensures) (pre .0 .node (pairs .a) (omega (arith, pairs-test .taken))), pre .0, pre .1)
+    let pre = c .before .before .before .before .before .before .before .before .before .before .pre in
+    (omega arith, omega arith, omega arith, pre .2, pre .3, pairs .inv .1 .stamped, omega arith, pairs .inv .1 .queueLong)
 
 loop-holds : tie.Need-loop-holds Inv-loop μ-loop Inv-pairs μ-pairs
 loop-holds c =
-    let pairs = c .before .before .before .before .pairs in
-    (pairs .inv .0, omega arith, all-start _ (λ i. i) _)
+    (c .before .before .before .before .before .before .pairs .inv .0, omega arith, λ d h. absurd (omega arith))
 
 loop-again : tie.Need-loop-again Inv-loop μ-loop Inv-pairs μ-pairs
 loop-again c =
-    let test = c .before .before .before .before .loop-test in
-    let loop = c .before .before .before .before .before .loop in
-    let one = decided (c .before) ∙ not-false _ (c .if1 .left) in
-    (loop .inv .0, omega arith, sym (rows-on _ (λ i. i) _ _ (test .taken) one) ∙ loop .inv .2)
+    let loop = c .before .before .before .before .loop in
+    let args = c .before .before .before .before .before .before .before .before .before .before .before .before .before .before .before .before .before .before .args in (
+      loop .inv .0,
+      omega arith,
+      below-more _ _ (loop .inv .2)
+          (marked-fits _ _ _ _ _ _ _ (c .before .pair-agrees .ensures) (c .if1 .left) (super-falls (now (args .supers)))),
+    )
+
+next-start-requires-2 : tie.Need-next-start-requires-2 Inv-loop μ-loop Inv-pairs μ-pairs
+next-start-requires-2 c κs = omega (arith, c .before .before .before .before .before .before .before .pairs-test .taken)
+
+pairs-less : tie.Need-pairs-less Inv-loop μ-loop Inv-pairs μ-pairs
+pairs-less c =
+    omega (arith, c .next-start2 .ensures .low, c .before .before .before .before .before .before .before .before .pairs-test .taken)
 
 pairs-again : tie.Need-pairs-again Inv-loop μ-loop Inv-pairs μ-pairs
 pairs-again c =
-    let pairs-test = c .before .before .before .before .before .pairs-test in
-    let pairs = c .before .before .before .before .before .before .pairs in
-    let row = sym (c .before .loop .inv .2) ∙ rows-end _ (λ i. i) _ _ (c .loop-test .left) in
-    (c .before .loop .inv .0, omega arith, sym (rows-on _ (λ i. i) _ _ (pairs-test .taken) row) ∙ pairs .inv .2)
+    let loop = c .before .before .loop in
+    let pairs = c .before .before .before .before .before .before .before .before .before .pairs in (
+      loop .inv .0,
+      tested-next _ _ _ _ _ _ _ (omega arith) (c .before .before .before .before .before .before .before .before .before .before .before .before .before .before .before .before .pre .3) refl (c .before .before .before .before .before .before .before .before .pairs-test .taken) (pairs .inv .1) (c .before .before .before .before .before .search .ensures) (c .before .before .before .before .before .search .kept .1 .1 .1 .1 .1 .1 .1 .1 .0 ∙ pairs .inv .1 .queueLong)
+          (λ b h. loop .inv .2 b (omega arith)) (c .next-start2 .ensures),
+    )
 
 returns : tie.Need-returns Inv-loop μ-loop Inv-pairs μ-pairs
-returns c = c .before .pairs .inv .0 ∙ sym (rows-end _ (λ i. i) _ _ (c .pairs-test .left)) ∙ c .before .pairs .inv .2
+returns c =
+    let pairs = c .before .pairs in
+    let args = c .before .before .before .before .before .before .before .before .args in
+    let pre = c .before .before .before .before .before .before .before .before .pre in
+    pairs .inv .0
+    ∙ sym (all-agree _ (super-falls (now (args .supers))) _ _ _ _ (pre .2) (classed-all _ _ _ (pre .4)) (λ m h o. pairs .inv .1 .done m (omega arith) h o))
 
 returns-2 : tie.Need-returns-2 Inv-loop μ-loop Inv-pairs μ-pairs
 returns-2 c =
-    let test = c .before .before .before .before .loop-test in
-    let loop = c .before .before .before .before .before .loop in
-    let pairs-test = c .before .before .before .before .before .before .before .before .before .pairs-test in
-    let pairs = c .before .before .before .before .before .before .before .before .before .before .pairs in
-    let one = decided (c .before) ∙ not-true _ (c .if1 .taken) in
-    let row = sym (loop .inv .2) ∙ rows-hit _ (λ i. i) _ _ (test .taken) one in
-    sym (rows-hit _ (λ i. i) _ _ (pairs-test .taken) row) ∙ pairs .inv .2
+    let pairs = c .before .before .before .before .before .before .before .before .before .before .before .pairs in
+    let args = c .before .before .before .before .before .before .before .before .before .before .before .before .before .before .before .before .before .before .args in
+    let pre = c .before .before .before .before .before .before .before .before .before .before .before .before .before .before .before .before .before .before .pre in
+    not-agreed _ (super-falls (now (args .supers))) _ _ _ _ (pre .2) _ _ _ _ (c .before .before .before .before .before .before .before .before .before .before .pairs-test .taken) (c .before .before .before .loop-test .taken)
+    (pairs .inv .1 .own (c .before .before .before .before .before .before .before .before .before .before .pairs-test .taken)) (c .before .before .before .before .before .before .before .search .ensures) _ (c .before .pair-agrees .ensures) (c .if1 .taken)
 
 pub pairs-agree-spec : {M : Type 1} → statement M
 pairs-agree-spec =
@@ -113,19 +94,22 @@ pairs-agree-spec =
     μ-loop
     Inv-pairs
     μ-pairs
-    pairs-holds
     (λ c κs. search needs)
-    search-requires
-    search-requires-2
-    loop-holds
+    pairs-holds
     (λ c. search needs)
+    (λ c. search needs)
+    (λ c. search needs)
+    (λ c. search needs)
+    search-requires
+    loop-holds
     (λ c. search needs)
     (λ c κs. search needs)
     (λ c. search needs)
     (λ c. search needs)
     loop-again
     (λ c. search needs)
-    (λ c. search needs)
+    next-start-requires-2
+    pairs-less
     pairs-again
     returns
     returns-2)

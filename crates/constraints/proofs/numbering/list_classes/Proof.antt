@@ -4,9 +4,9 @@ use mathlib.Core.Path.{_≡_, refl, _∙_}
 use native.Mathlib.Omega.{arith}
 use lib.ListN.{length, getD, length-set}
 use denote.Ref.{now}
-use borrow.Author.Needs.{needs}
 use Rattle.constraints.specs.Nodes.{ClassesOf}
 use Rattle.constraints.proofs.Filling.{fill-more}
+use borrow.Author.Needs.{needs}
 use Rattle.constraints.proofs.numbering.list_classes.Statement.{statement}
 use Rattle.constraints.proofs.numbering.list_classes.Tie as tie
 
@@ -21,18 +21,17 @@ loop-holds c = (omega arith, λ p h. absurd (omega arith), refl)
 
 class-at-requires : tie.Need-class-at-requires Inv-loop μ-loop
 class-at-requires c κs =
-    let loop = c .before .before .loop in
-    let pre = c .before .before .before .before .before .before .pre in
-    rw (c .place .ensures) (pre .1 (loop .p) (c .before .loop-test .taken))
+    rw (c .place .ensures .0) (c .before .before .before .before .before .before .before .pre .1 (c .before .before .before .loop .p) (c .before .before .loop-test .taken))
 
 loop-again : tie.Need-loop-again Inv-loop μ-loop
 loop-again c =
-    let loop = c .before .before .before .loop in
-    let args = c .before .before .before .before .before .before .before .args in (
+    let loop = c .before .before .before .before .before .before .before .loop in
+    let args = c .before .before .before .before .before .before .before .before .before .before .before .args in
+    rw (c .before .before .put16 .ensures) (
       omega arith,
       fill-more (λ p. p) (λ p v. v ≡ getD (now (args .cache)) (getD (now (args .nodes)) p 0 * 3 + 2) 0) (loop .classes) (loop .p)
-          (c .class-at .result) (omega (arith, loop .inv .2)) (λ p h q. omega arith) (loop .inv .1)
-          (rw (c .before .place .ensures) at (c .class-at .ensures)),
+          (c .before .before .before .class-at .result) (omega (arith, loop .inv .2)) (λ p h q. omega arith) (loop .inv .1)
+          (rw (c .before .before .before .before .place .ensures .0) at (c .before .before .before .class-at .ensures)),
       length-set (loop .classes) _ _ ∙ loop .inv .2,
     )
 
@@ -41,8 +40,7 @@ same-length c = c .before .loop .inv .2
 
 returns : tie.Need-returns Inv-loop μ-loop
 returns c =
-    let args = c .before .before .before .before .before .args in
-    let e : c .before .loop .p ≡ args .cached = omega arith in rw e at (c .before .loop .inv .1)
+    let e : c .before .loop .p ≡ c .before .before .before .before .before .args .cached = omega arith in rw e at (c .before .loop .inv .1)
 
 pub list-classes-spec : {M : Type 1} → statement M
 list-classes-spec =
@@ -53,8 +51,7 @@ list-classes-spec =
     loop-holds
     (λ c κs. search needs)
     class-at-requires
-    (λ c. search needs)
-    (λ c. search needs)
+    (λ c κs. search needs)
     (λ c. search needs)
     (λ c. search needs)
     loop-again

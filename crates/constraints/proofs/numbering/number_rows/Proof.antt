@@ -4,9 +4,9 @@ use mathlib.Core.Path.{_≡_, refl, _∙_}
 use native.Mathlib.Omega.{arith}
 use lib.ListN.{length, length-set}
 use denote.Ref.{now}
-use borrow.Author.Needs.{needs}
 use Rattle.constraints.specs.Nodes.{requestOf, requestIn, Numbers, Kept}
 use Rattle.constraints.proofs.Filling.{fill-more, kept-set}
+use borrow.Author.Needs.{needs}
 use Rattle.constraints.proofs.numbering.number_rows.Statement.{statement}
 use Rattle.constraints.proofs.numbering.number_rows.Tie as tie
 
@@ -22,11 +22,12 @@ loop-holds c = (omega arith, λ i h. absurd (omega arith), λ p h. refl, refl)
 
 loop-again : tie.Need-loop-again Inv-loop μ-loop
 loop-again c =
-    let loop = c .before .before .loop in
-    let args = c .before .before .before .before .before .args in (
+    let loop = c .before .before .before .before .before .before .loop in
+    let args = c .before .before .before .before .before .before .before .before .before .args in
+    rw (c .before .before .put32 .ensures) (
       omega arith,
       fill-more (λ p. args .from + p) (λ p v. requestOf v ≡ requestIn (now (args .t)) (args .loader) (args .name) p) (loop .numbers) (loop .i)
-          (c .row-number .result) (omega (arith, loop .inv .3)) (λ p h q. omega arith) (loop .inv .1) (c .row-number .ensures),
+          (c .before .before .before .row-number .result) (omega (arith, loop .inv .3)) (λ p h q. omega arith) (loop .inv .1) (c .before .before .before .row-number .ensures),
       kept-set (now (args .numbers)) (loop .numbers) _ _ _ (omega arith) (loop .inv .2),
       length-set (loop .numbers) _ _ ∙ loop .inv .3,
     )
@@ -36,8 +37,8 @@ same-length c = c .before .loop .inv .3
 
 returns : tie.Need-returns Inv-loop μ-loop
 returns c =
-    let args = c .before .before .before .before .args in
-    let e : c .before .loop .i ≡ args .count = omega arith in record { put = rw e at (c .before .loop .inv .1); kept = c .before .loop .inv .2 }
+    let e : c .before .loop .i ≡ c .before .before .before .before .args .count = omega arith in
+    record { put = rw e at (c .before .loop .inv .1); kept = c .before .loop .inv .2 }
 
 pub number-rows-spec : {M : Type 1} → statement M
 number-rows-spec =
@@ -46,10 +47,9 @@ number-rows-spec =
     Inv-loop
     μ-loop
     loop-holds
+    (λ c. search needs)
     (λ c κs. search needs)
-    (λ c. search needs)
-    (λ c. search needs)
-    (λ c. search needs)
+    (λ c κs. search needs)
     (λ c. search needs)
     (λ c. search needs)
     loop-again

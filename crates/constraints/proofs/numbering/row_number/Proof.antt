@@ -1,14 +1,12 @@
 -- The two cells of a row are those of its request.
-use borrow.Author.Needs.{needs}
 use Rattle.constraints.specs.Nodes.{requestIn}
+use borrow.Author.Needs.{needs}
 use Rattle.constraints.proofs.numbering.row_number.Statement.{statement}
 use Rattle.constraints.proofs.numbering.row_number.Tie as tie
 
 returns : tie.Need-returns
 unfolding requestIn
-returns c =
-    let at16 = c .before .before .at16 in
-    rw (at16 .ensures, c .before .at162 .ensures) at (c .request-number .ensures)
+returns c = rw (c .before .before .at16 .ensures, c .before .at162 .ensures) at (c .request-number .ensures)
 
 pub row-number-spec : {M : Type 1} → statement M
 row-number-spec =

@@ -1,55 +1,55 @@
--- The node's links from `follow` on were visited.
-use Prim.Native.Nat.{_+_, _-_}
+-- The group's links from `follow` on were visited.
+use Prim.Native.Nat.{_+_, _-_, _<_}
+use mathlib.Core.Path.{sym, _∙_}
 use native.Mathlib.Omega.{arith}
-use borrow.Author.Needs.{needs}
-use Rattle.constraints.specs.Nodes.{endOf}
+use Rattle.constraints.specs.Search.{endOf}
 use Rattle.constraints.proofs.Searching.{Expanding, expanding-none, expanding-one, expanding-all}
+use borrow.Author.Needs.{needs}
 use Rattle.constraints.proofs.search.expand.Statement.{statement}
 use Rattle.constraints.proofs.search.expand.Tie as tie
 
 abbrev Inv-loop : tie.InvT-loop
-Inv-loop nodes cached links heads nexts base node marks₀ queue₀ tail queued₀ follow₀ marks queue queued follow = Expanding nodes cached links base node follow marks₀ queue₀ tail marks queue queued
+Inv-loop groups cached noted heads nexts group stamp marks₀ queue₀ tail queued₀ follow₀ marks queue queued follow = Expanding groups cached noted stamp group follow marks₀ queue₀ tail marks queue queued
 
 abbrev μ-loop : tie.MeasureT-loop
-μ-loop nodes cached links heads nexts base node marks₀ queue₀ tail queued₀ follow₀ marks queue queued follow = follow
+μ-loop groups cached noted heads nexts group stamp marks₀ queue₀ tail queued₀ follow₀ marks queue queued follow = follow
 
 loop-holds : tie.Need-loop-holds Inv-loop μ-loop
 loop-holds c =
-    let args = c .before .before .before .before .before .before .args in
     let pre = c .before .before .before .before .before .before .pre in
-    expanding-none _ _ _ _ _ (rw (c .place .ensures) (pre .2 .head (args .node) (pre .0))) (pre .3)
+    expanding-none _ _ _ _ _ (rw (c .place .ensures .0) (pre .4 .head (c .before .before .before .before .before .before .args .group) (pre .0))) (pre .5)
 
 visit-requires : tie.Need-visit-requires Inv-loop μ-loop
 visit-requires c κs =
-    let place2 = c .before .before .place2 in
-    let test = c .before .before .before .loop-test in
     let loop = c .before .before .before .before .loop in
+    let test = c .before .before .before .loop-test in
     let args = c .before .before .before .before .before .before .before .before .before .before .before .args in
-    let pre = c .before .before .before .before .before .before .before .before .before .before .before .pre in (
-      rw (place2 .ensures) (pre .1 .node (args .cached + args .links + (loop .follow - 1))
-          (omega (arith, loop .inv .high, test .taken))),
-      loop .inv .queued,
-    )
+    let pre = c .before .before .before .before .before .before .before .before .before .before .before .pre in
+    let fits : args .cached + args .noted + (loop .follow - 1) < args .cached + args .noted + args .noted = omega (arith, loop .inv .high, test .taken) in
+    (omega (arith, pre .3 .low (args .cached + args .noted + (loop .follow - 1)) fits, c .before .before .place2 .ensures .0), pre .2, loop .inv .queued)
 
 loop-less : tie.Need-loop-less Inv-loop μ-loop
 loop-less c =
-    let test = c .before .before .before .before .before .before .before .before .before .loop-test in
     let loop = c .before .before .before .before .before .before .before .before .before .before .loop in
-    let pre = c .before .before .before .before .before .before .before .before .before .before .before .before .before .before .before .before .before .pre in
-    let n = pre .2 .next (loop .follow - 1) (omega (arith, loop .inv .high, test .taken)) in
-    omega (arith, n .high, c .place3 .ensures, test .taken)
+    let test = c .before .before .before .before .before .before .before .before .before .loop-test in
+    let n = c .before .before .before .before .before .before .before .before .before .before .before .before .before .before .before .before .before .pre .4 .next (loop .follow - 1) (omega (arith, loop .inv .high, test .taken)) in
+    omega (arith, n .high, c .place3 .ensures .0, test .taken)
 
 loop-again : tie.Need-loop-again Inv-loop μ-loop
 unfolding endOf
 loop-again c =
-    let visit = c .before .before .before .before .before .visit in
-    let place2 = c .before .before .before .before .before .before .before .before .place2 in
-    let test = c .before .before .before .before .before .before .before .before .before .loop-test in
     let loop = c .before .before .before .before .before .before .before .before .before .before .loop in
-    let pre = c .before .before .before .before .before .before .before .before .before .before .before .before .before .before .before .before .before .pre in
-    let n = pre .2 .next (loop .follow - 1) (omega (arith, loop .inv .high, test .taken)) in
-    rw (c .place3 .ensures)
-    (expanding-one _ _ _ _ _ (omega (arith, test .taken)) (omega (arith, test .taken)) n (loop .inv) (rw (place2 .ensures) at (visit .ensures)))
+    let test = c .before .before .before .before .before .before .before .before .before .loop-test in
+    let n = c .before .before .before .before .before .before .before .before .before .before .before .before .before .before .before .before .before .pre .4 .next (loop .follow - 1) (omega (arith, loop .inv .high, test .taken)) in
+    rw (c .place3 .ensures .0) (expanding-one _ _ _ _ _ (omega (arith, test .taken)) n (loop .inv) (rw (c .before .before .before .before .before .before .before .before .place2 .ensures .0) at (c .before .before .before .before .before .visit .ensures)))
+
+same-length : tie.Need-same-length Inv-loop μ-loop
+same-length c =
+    c .before .loop .inv .queued .stamped .long ∙ sym (c .before .before .before .before .before .before .before .before .pre .5 .stamped .long)
+
+same-length-2 : tie.Need-same-length-2 Inv-loop μ-loop
+same-length-2 c =
+    c .before .loop .inv .queued .queueLong ∙ sym (c .before .before .before .before .before .before .before .before .pre .5 .queueLong)
 
 returns : tie.Need-returns Inv-loop μ-loop
 returns c = expanding-all _ _ _ _ _ (c .loop-test .left) (c .before .loop .inv)
@@ -70,6 +70,6 @@ expand-spec =
     (λ c κs. search needs)
     loop-less
     loop-again
-    (λ c. search needs)
-    (λ c. search needs)
+    same-length
+    same-length-2
     returns)

@@ -1,57 +1,55 @@
--- What is marked is led to, and the links of the first `done` queued nodes were visited; once these are all, the marks decide what is led to.
+-- What is marked is led to, and the links of the request and of the first `done` queued groups were visited.
 use Prim.Native.Nat.{_-_}
+use mathlib.Core.Path.{sym, _∙_}
 use native.Mathlib.Omega.{arith}
-use borrow.Author.Needs.{needs}
+use denote.Ref.{now}
 use Rattle.constraints.proofs.Searching.{Searching, searching-start, searching-one, searched, queued-none, none-marked, tail-low, queue-low}
+use borrow.Author.Needs.{needs}
 use Rattle.constraints.proofs.search.search.Statement.{statement}
 use Rattle.constraints.proofs.search.search.Tie as tie
 
 abbrev Inv-loop : tie.InvT-loop
-Inv-loop nodes cached links heads nexts base start marks₀ queue₀ tail₀ done₀ marks queue tail done = Searching nodes cached links base start done marks queue tail
+Inv-loop groups cached noted heads nexts a stamp marks₀ queue₀ tail₀ done₀ marks queue tail done = Searching groups cached noted stamp a done marks queue tail
 
 abbrev μ-loop : tie.MeasureT-loop
-μ-loop nodes cached links heads nexts base start marks₀ queue₀ tail₀ done₀ marks queue tail done = 1792 - done
-
-visit-requires : tie.Need-visit-requires Inv-loop μ-loop
-visit-requires c κs =
-    let pre = c .before .before .before .before .before .pre in
-    (pre .0, queued-none)
-
-loop-holds : tie.Need-loop-holds Inv-loop μ-loop
-loop-holds c =
-    let visit = c .before .before .visit in
-    searching-start _ _ _ _ _ none-marked (visit .ensures)
-
-mul-node : tie.Need-mul-node Inv-loop μ-loop
-mul-node c = omega (arith, tail-low (c .before .loop .inv .queued))
-
-array-read-node : tie.Need-array-read-node Inv-loop μ-loop
-array-read-node c = omega (arith, tail-low (c .before .loop .inv .queued))
+μ-loop groups cached noted heads nexts a stamp marks₀ queue₀ tail₀ done₀ marks queue tail done = 1280 - done
 
 expand-requires : tie.Need-expand-requires Inv-loop μ-loop
 expand-requires c κs =
-    let test = c .before .before .loop-test in
-    let loop = c .before .before .before .loop in
+    let pre = c .before .before .before .before .before .before .before .pre in
+    (pre .0, pre .1, pre .2, pre .3, pre .4, queued-none _ _ _ _ (pre .6) (pre .5) (pre .7) _)
+
+loop-holds : tie.Need-loop-holds Inv-loop μ-loop
+loop-holds c =
+    let args = c .before .before .before .before .before .before .before .before .before .before .before .before .args in
     let pre = c .before .before .before .before .before .before .before .before .before .before .before .before .pre in
-    (queue-low (loop .inv .queued) (loop .done) (test .taken), pre .1, pre .2, loop .inv .queued)
+    searching-start _ _ _ _ _ (none-marked (args .a) (args .stamp) (now (args .marks)) (now (args .queue)) (pre .6) (pre .5) (pre .7)) (c .before .before .before .before .expand .ensures)
+
+expand-requires-2 : tie.Need-expand-requires-2 Inv-loop μ-loop
+expand-requires-2 c κs =
+    let loop = c .before .before .before .before .before .loop in
+    let pre = c .before .before .before .before .before .before .before .before .before .before .before .before .before .before .before .before .before .before .pre in
+    (rw (c .before .before .place .ensures .0) (queue-low (pre .2) (loop .inv .queued) (loop .done) (c .before .before .before .before .loop-test .taken)), pre .1, pre .2, pre .3, pre .4, loop .inv .queued)
 
 add-done : tie.Need-add-done Inv-loop μ-loop
 add-done c =
-    let loop = c .before .before .before .before .before .before .loop in
-    omega (arith, tail-low (loop .inv .queued))
+    omega (arith, tail-low (c .before .before .before .before .before .before .before .before .before .before .loop .inv .queued), c .before .before .before .before .before .before .before .before .before .loop-test .taken)
 
 loop-less : tie.Need-loop-less Inv-loop μ-loop
 loop-less c =
-    let test = c .before .before .before .before .before .loop-test in
-    let loop = c .before .before .before .before .before .before .loop in
-    omega (arith, tail-low (loop .inv .queued), test .taken)
+    omega (arith, tail-low (c .before .before .before .before .before .before .before .before .before .before .loop .inv .queued), c .before .before .before .before .before .before .before .before .before .loop-test .taken)
 
 loop-again : tie.Need-loop-again Inv-loop μ-loop
 loop-again c =
-    let expand = c .before .before .expand in
-    let test = c .before .before .before .before .before .loop-test in
-    let loop = c .before .before .before .before .before .before .loop in
-    searching-one _ _ _ _ _ (test .taken) (loop .inv) (expand .ensures)
+    searching-one _ _ _ _ _ (c .before .before .before .before .before .before .before .before .before .loop-test .taken) (c .before .before .before .before .before .before .before .before .before .before .loop .inv) (rw (c .before .before .before .before .before .before .before .place .ensures .0) at (c .before .before .before .before .expand2 .ensures))
+
+same-length : tie.Need-same-length Inv-loop μ-loop
+same-length c =
+    c .before .loop .inv .queued .stamped .long ∙ sym (c .before .before .before .before .before .before .before .before .before .before .before .before .before .before .pre .5 .long)
+
+same-length-2 : tie.Need-same-length-2 Inv-loop μ-loop
+same-length-2 c =
+    c .before .loop .inv .queued .queueLong ∙ sym (c .before .before .before .before .before .before .before .before .before .before .before .before .before .before .pre .7)
 
 returns : tie.Need-returns Inv-loop μ-loop
 returns c = searched _ _ _ _ _ (c .loop-test .left) (c .before .loop .inv)
@@ -62,16 +60,13 @@ search-spec =
     (tie.spec
     Inv-loop
     μ-loop
-    (λ c. search needs)
-    (λ c. search needs)
-    visit-requires
-    loop-holds
-    mul-node
-    array-read-node
-    (λ c. search needs)
-    (λ c. search needs)
     expand-requires
+    loop-holds
+    (λ c κs. search needs)
+    expand-requires-2
     add-done
     loop-less
     loop-again
+    same-length
+    same-length-2
     returns)
