@@ -7,6 +7,8 @@ pub mod Agreement
 pub mod Tests
 pub mod Growth
 pub mod Slots
+pub mod Sized
+pub mod Objects
 pub mod Stable
 pub mod Refusals
 pub mod Wrapped

@@ -23,6 +23,7 @@ use Rattle.definition.specs.Tables.{Tables, shaped, Rows, worldOf, view, put}
 use Rattle.definition.specs.Broken.{broken}
 use Rattle.definition.specs.Calls.{Given, bootRows, defineRows, recordRows, startRows, dropRows, answerOf, stepTask, stepOn, stepRows, Done, done, wrap, boot, stepTables, goOn, runFrom, run, Call, callBoot, callDefine, callRecord, callStart, callStep, callRun, callDrop, stepRefusals, refusalsOf, perform}
 use Rattle.laws.specs.Wrapped.{wrapped, Ok, then, ok-at}
+use Rattle.laws.specs.Runs.{run-is}
 use Rattle.laws.specs.Refusals.{Refuses, Needs, Due, due-listed, step-due, define-due, record-due, start-due, drop-due}
 
 -- the refusal of a call, if it is one. A run that ends in a refused step is itself accepted.
@@ -101,7 +102,7 @@ module _ {A : Type 0} (c : Call) (t : Tables) (deny : Refusal → A) (says : A �
   wrap-refusing w = wrapped deny f t (λ a z. says a ≡ some w → Refusing c t z w)
       (λ _ q. record { same = refl; due = subst (Due c (view t)) (some-inj (Word 1) w (sym (is (Word 1)) ∙ q)) one })
       (λ v e q. record { same = refl; due = subst (Due c (view t)) (some-inj v w (sym (is v) ∙ q)) (refuses-at (Due c (view t)) (f (view t)) due v e) })
-      (λ g e q. never w _ (ok-at (λ g. says (g .answer) ≡ none) _ taken g e) q)
+      (λ _ g e q. never w _ (ok-at (λ g. says (g .answer) ≡ none) _ taken g e) q)
 
 boot-refusing : (t : Tables) (w : Refusal) → refusal (boot t .answer) ≡ some w → Refusing callBoot t (boot t .tables) w
 unfolding boot refusalsOf any
@@ -114,16 +115,8 @@ boot-refusing t w = go (shaped t)
     go true q = never w none refl q
     go false q = record { same = refl; due = subst (Due callBoot (view t)) (some-inj (Word 1) w q) refl }
 
-runs-taken : (n k : ℕ) (a : Answer) (t : Tables) → refusal (runFrom stepTables n k a t .answer) ≡ none
-unfolding runFrom
-runs-taken zero k a t = refl
-runs-taken (suc n) k a t = go (stepTables t .answer) (stepTables t .tables) (λ k a t. runs-taken n k a t)
-  where
-    go : (x : Answer) (z : Tables) → ((k : ℕ) (a : Answer) (t : Tables) → refusal (runFrom stepTables n k a t .answer) ≡ none) → refusal (goOn (runFrom stepTables n) k x z .answer) ≡ none
-    go Idle z ih = refl
-    go (Ran j) z ih = ih (suc k) (Ran j) z
-    go (Finished j v) z ih = refl
-    go (Refused w) z ih = refl
+runs-taken : (n : ℕ) (t : Tables) → refusal (runFrom stepTables n 0 Idle t .answer) ≡ none
+runs-taken n t = ap (λ (d : Done Reply). refusal (d .answer)) (run-is stepTables n 0 Idle t .gives)
 
 run-refusing : (n : ℕ) (t : Tables) (w : Refusal) → refusal (run n t .answer) ≡ some w → Refusing (callRun n) t (run n t .tables) w
 unfolding run refusalsOf any
@@ -134,7 +127,7 @@ run-refusing n t w = go (broken t) (leb 1 n && leb n 65535)
 
     go : (b c : Bool) → refusal (D b c .answer) ≡ some w → Refusing (callRun n) t (D b c .tables) w
     go true c q = record { same = refl; due = subst (Due (callRun n) (view t)) (some-inj (Word 1) w q) refl }
-    go false true q = never w _ (runs-taken n 0 Idle t) q
+    go false true q = never w _ (runs-taken n t) q
     go false false q = record { same = refl; due = subst (Due (callRun n) (view t)) (some-inj (Word 3) w q) refl }
 
 step-refusing : (t : Tables) (w : Refusal) → refusal (Stepped (stepTables t .answer)) ≡ some w → Refusing callStep t (stepTables t .tables) w

@@ -1,5 +1,4 @@
 -- Demand 3.
-pub mod Sized
 pub mod Store
 pub mod Typing
 pub mod Conform

@@ -25,7 +25,7 @@ use Rattle.definition.specs.Lists.{Each}
 use Rattle.laws.specs.Options.{each-reverse}
 use Rattle.definition.specs.Maybe.{need}
 use Rattle.definition.specs.Verifier.{entryTypes}
-use Rattle.safety.specs.Sized.{within}
+use Rattle.laws.specs.Sized.{within}
 use Rattle.safety.specs.Typing.{known}
 use borrow.Author.Tests.{lt-ltb}
 use lib.Dec.{ltb}

@@ -30,6 +30,7 @@ use Rattle.safety.specs.Typing.{verified-here}
 use Rattle.safety.specs.Valid.{Heap, Later, Linked, Stack, later-stack, rooted}
 use Rattle.laws.specs.Growth.{Grows}
 use Rattle.laws.specs.Growth.{grows-class, grows-entry}
+use Rattle.laws.specs.Objects.{numbered-same}
 use Rattle.safety.specs.Heap.{heap-grows}
 
 pub none-is : {A : Type 0} (o : Option A) → isNone o ≡ true → o ≡ none
@@ -127,7 +128,7 @@ start-kept l n m x v os fs lk hp =
 pub valid-world : (s : Store) (r : Result World) → Valid s → Wp r (Loaded (s .world)) → Valid (inWorld s r)
 valid-world s (refused w) v h = v
 valid-world s (ok w) v h =
-    let z : Later (s .world) (s .objects) w (s .objects) = record { grows = h .grows; objects = λ o b e. (b, e, refl) } in
+    let z : Later (s .world) (s .objects) w (s .objects) = record { grows = h .grows; objects = numbered-same (s .objects) } in
     record { linked = h .linked; heap = heap-grows (s .world) w (rooted (v .linked)) (h .grows) (s .objects) (v .heap) z; quote = later-stack z (s .quote) (v .quote); report = later-stack z (s .report) (v .report) }
 
 pub valid-quote : (s : Store) (r : Result Progress) → Valid s → Wp r (Kept (s .world) (s .objects)) → Valid (inQuote s r)

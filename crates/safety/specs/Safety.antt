@@ -24,6 +24,7 @@ use Rattle.definition.specs.Calls.{Given, bootRows, progressed, framesIn, withF
 use Rattle.definition.specs.Misplaced.{misplaced}
 use Rattle.definition.specs.Safety.{Safe}
 use Rattle.laws.specs.Results.{NotStuck, Wp, not-word, ok-inj, wp-need, wp-take}
+use Rattle.laws.specs.Runs.{runs-end}
 use Rattle.laws.specs.Wrapped.{wrapped, Ok, ok-at}
 use Rattle.layout.specs.Tests.{All}
 use Rattle.layout.specs.Whole.{Whole, Framed}
@@ -161,7 +162,7 @@ wrap-sane deny F f t s n k j =
     let h = j (view t) (u .1) (s .valid) in
     wrapped deny f t (λ a z. F a × Sane z) (λ e. absurd (false≢true (sym (s .unbroken) ∙ e)))
     (λ w e. (n w (wp-refused (λ g. Good (g .rows) × F (g .answer)) _ h w e), s))
-    (λ g e. let x = wp-at (λ g. Good (g .rows) × F (g .answer)) _ h g e in (x .1, put-sane (g .rows) t (u .0) (ok-at (λ g. Whole (g .rows)) _ (k (view t) (u .1)) g e) (x .0)))
+    (λ _ g e. let x = wp-at (λ g. Good (g .rows) × F (g .answer)) _ h g e in (x .1, put-sane (g .rows) t (u .0) (ok-at (λ g. Whole (g .rows)) _ (k (view t) (u .1)) g e) (x .0)))
 
 refused-fine : (w : Refusal) → NotStuck w → FineStep (Refused w)
 unfolding numberOfStep
@@ -175,17 +176,11 @@ step-sane : (t : Tables) → Sane t → FineStep (stepTables t .answer) × Sane 
 unfolding stepTables
 step-sane t s = wrap-sane Refused FineStep stepRows t s refused-fine step-whole step-good
 
-runs-sane : (n k : ℕ) (a : Answer) (t : Tables) → FineStep a → Sane t → Fine (runFrom stepTables n k a t .answer) × Sane (runFrom stepTables n k a t .tables)
-unfolding runFrom numberOf endsIn
-runs-sane zero k a t f s = ((zero-fine, f), s)
-runs-sane (suc n) k a t f s = let d = step-sane t s in go (stepTables t .answer) (stepTables t .tables) (d .0) (d .1) (λ k a t f s. runs-sane n k a t f s)
-  where
-    go : (x : Answer) (z : Tables) → FineStep x → Sane z → ((k : ℕ) (a : Answer) (t : Tables) → FineStep a → Sane t → Fine (runFrom stepTables n k a t .answer) × Sane (runFrom stepTables n k a t .tables))
-        → Fine (goOn (runFrom stepTables n) k x z .answer) × Sane (goOn (runFrom stepTables n) k x z .tables)
-    go Idle z p q ih = ((zero-fine, p), q)
-    go (Ran j) z p q ih = ih (suc k) (Ran j) z p q
-    go (Finished j v) z p q ih = ((zero-fine, p), q)
-    go (Refused w) z p q ih = ((zero-fine, p), q)
+runs-sane : (n : ℕ) (t : Tables) → Sane t → Fine (runFrom stepTables n 0 Idle t .answer) × Sane (runFrom stepTables n 0 Idle t .tables)
+unfolding numberOf endsIn numberOfStep
+runs-sane n t s =
+    let r = runs-end stepTables Sane (λ a z. FineStep a × Sane z) step-sane (λ z _ i _. step-sane z i .1) n 0 Idle t s (zero-fine, s) in
+    (rw (r .answers) (zero-fine, r .holds .0), r .holds .1)
 
 run-sane : (n : ℕ) (t : Tables) → Sane t → Fine (run n t .answer) × Sane (run n t .tables)
 unfolding run
@@ -195,7 +190,7 @@ run-sane n t s = rw (s .unbroken, run) (go (leb 1 n && leb n 65535))
     D b = elim b as (λ _. Done Reply) [ true ↦ runFrom stepTables n 0 Idle t | false ↦ done (Denied (Word 3)) t ]
 
     go : (b : Bool) → Fine (D b .answer) × Sane (D b .tables)
-    go true = runs-sane n 0 Idle t (unfold numberOfStep in zero-fine) s
+    go true = runs-sane n t s
     go false = (denied-fine (Word 3) (not-word 3 (omega arith)), s)
 
 boot-sane : (t : Tables) → shaped t ≡ true → Fine (boot t .answer) × Sane (boot t .tables)

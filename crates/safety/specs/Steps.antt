@@ -34,7 +34,7 @@ use Rattle.definition.specs.Maybe as Maybe
 use Rattle.laws.specs.Growth.{Grows, grows-join, grows-self, tie-edges-more}
 use Rattle.laws.specs.Slots.{slots-below, slots-own}
 use Rattle.definition.specs.Lists.{Each}
-use Rattle.laws.specs.Agreement.{nth-more}
+use Rattle.laws.specs.Objects.{changed, numbered-same, numbered-join, numbered-changed, numbered-more}
 
 -- Operands against their types
 
@@ -214,10 +214,10 @@ pub record Kept (v : World) (os : List Object) (out : Progress) : Type 0 where
   pub later : Later v os (out .world) (out .objects)
 
 pub later-same : (w : World) (os : List Object) → Later w os w os
-later-same w os = record { grows = grows-self w; objects = λ o b h. (b, h, refl) }
+later-same w os = record { grows = grows-self w; objects = numbered-same os }
 
 later-posted : (w : World) (os : List Object) (us : List Tie) → Later w os (posted w us) os
-later-posted w os us = record { grows = grows-posted w us; objects = λ o b h. (b, h, refl) }
+later-posted w os us = record { grows = grows-posted w us; objects = numbered-same os }
 
 heap-posted : (w : World) (os : List Object) (us : List Tie) → Heap w os → Heap (posted w us) os
 heap-posted w os us h o b e = let x = h o b e in record { theClass = x .theClass; isClass = x .isClass; filled = each-more (λ s v. later-conforms (later-posted w os us) (loaderOf (w .base) (s .owner)) (typeOfName (s .type)) v) (slots (w .base) (b .class)) (b .values) (x .filled) }
@@ -233,20 +233,11 @@ linked-posted w us k g = record {
   overRes = λ n a r x p y h s q z. chain-more (ties-more w us) (k .overRes n a r x p y h s q z);
 }
 
--- an object with one value changed
-abbrev changed : List Object → ℕ → Object → List Value → List Object
-changed os o b vs = set os o (record { class = b .class; values = vs })
-
 later-changed : (w : World) (os : List Object) (o : ℕ) (b : Object) (vs : List Value) → getElem? os o ≡ some b → Later w os w (changed os o b vs)
-later-changed w os o b vs h = record { grows = grows-self w; objects = λ x y e. go x y e (nth-set os o (record { class = b .class; values = vs }) x y e) }
-  where
-    go : (x : ℕ) (y : Object) → getElem? os x ≡ some y → (d : Object) × (getElem? (changed os o b vs) x ≡ some d) × ((d ≡ y) ⊎ ((x ≡ o) × (d ≡ record { class = b .class; values = vs })))
-        → (d : Object) × (getElem? (changed os o b vs) x ≡ some d) × (d .class ≡ y .class)
-    go x y e (d, a, inl z) = (d, a, ap (λ (q : Object). q .class) z)
-    go x y e (d, a, inr z) = let s : b ≡ y = Option·some-injective b y (sym h ∙ sym (ap (getElem? os) (z .0)) ∙ e) in (d, a, ap (λ (q : Object). q .class) (z .1) ∙ ap (λ (q : Object). q .class) s)
+later-changed w os o b vs h = record { grows = grows-self w; objects = numbered-changed os o b vs h }
 
 pub later-join : {u v w : World} {os ps qs : List Object} → Later u os v ps → Later v ps w qs → Later u os w qs
-later-join y z = record { grows = grows-join (y .grows) (z .grows); objects = λ o b h. let c = y .objects o b h in let d = z .objects o (c .0) (c .1) in (d .0, d .1, d .2 ∙ c .2) }
+later-join {os} {ps} {qs} y z = record { grows = grows-join (y .grows) (z .grows); objects = numbered-join os ps qs (y .objects) (z .objects) }
 
 pub object-later : {w : World} {os qs : List Object} → Later w os w qs → (b : Object) → ObjectSound w os b → ObjectSound w qs b
 object-later {w} z b x = record {
@@ -268,7 +259,7 @@ heap-changed w os o b vs h hp ea x y e = go (set-nth os o (record { class = b .c
 
 -- one object more
 pub later-more : (w : World) (os : List Object) (b : Object) → Later w os w (os ++ (b ∷ []))
-later-more w os b = record { grows = grows-self w; objects = λ x y e. (y, nth-more os (b ∷ []) x y e, refl) }
+later-more w os b = record { grows = grows-self w; objects = numbered-more os b }
 
 pub heap-more : (w : World) (os : List Object) (b : Object) → Heap w os → ObjectSound w os b → Heap w (os ++ (b ∷ []))
 heap-more w os b hp ob x y e = elim (nth-snoc os b x y e)

@@ -16,6 +16,7 @@ use Rattle.laws.specs.Chains.{chain-more}
 use Rattle.laws.specs.Options.{each-more}
 use Rattle.safety.specs.Conform.{Fits, Tied, grows-fits}
 use Rattle.laws.specs.Growth.{Grows}
+use Rattle.laws.specs.Objects.{Numbered}
 use Rattle.laws.specs.Stable.{Rooted}
 use Rattle.definition.specs.Lists.{Each}
 
@@ -117,7 +118,7 @@ Stack w os (f ∷ fs) = (k : Class) × (m : Method) × Top w os f k m × Under w
 
 pub record Later (v : World) (os : List Object) (w : World) (qs : List Object) : Type 0 where
   pub grows : Grows v w
-  pub objects : (o : ℕ) (b : Object) → getElem? os o ≡ some b → (d : Object) × (getElem? qs o ≡ some d) × (d .class ≡ b .class)
+  pub objects : Numbered os qs
 
 module _ {v w : World} {os qs : List Object} (z : Later v os w qs) where
   pub later-conforms : (l : ℕ) (t : VerifierType) (x : Value) → Conforms v os l t x → Conforms w qs l t x

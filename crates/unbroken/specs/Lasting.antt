@@ -21,11 +21,11 @@ use Rattle.definition.specs.Calls.{Given, progressed, withFrames, wrap, defineR
 use Rattle.definition.specs.Constraints.{World}
 use Rattle.definition.specs.Machine.{Frame, Progress}
 use Rattle.laws.specs.Agreement.{find-more, nth-more}
+use Rattle.laws.specs.Runs.{run-keeps}
 use Rattle.laws.specs.Wrapped.{Ok, ok-at, then}
 use Rattle.unbroken.specs.Calls.{Entered, recorded-is, defined-is, define-whole, record-whole, start-whole, step-whole, drop-whole}
 use Rattle.definition.specs.Answers.{Result}
-use Rattle.unbroken.specs.Unbroken.{Keeps}
-use Rattle.unbroken.specs.Tasks.{shown}
+use Rattle.unbroken.specs.Unbroken.{Keeps, shown}
 
 -- the later rows have every cache entry, class row and kept byte of the earlier
 pub record Lasts (r s : Rows) : Type 0 where
@@ -99,29 +99,6 @@ one-lasts : (t : Tables) → Lasts (view t) (view (stepTables t .tables))
 unfolding stepTables
 one-lasts t = wrap-lasts Refused stepRows t step-whole step-lasts
 
-runs-last : (n k : ℕ) (a : Answer) (t : Tables) → Lasts (view t) (view (runFrom stepTables n k a t .tables))
-unfolding runFrom
-runs-last zero k a t = lasts-same (view t)
-runs-last (suc n) k a t = go (stepTables t .answer) (λ k a s. runs-last n k a s)
-  where
-    s : Tables
-    s = stepTables t .tables
-
-    go : (x : Answer) → ((k : ℕ) (a : Answer) (t : Tables) → Lasts (view t) (view (runFrom stepTables n k a t .tables))) → Lasts (view t) (view (goOn (runFrom stepTables n) k x (stepTables t .tables) .tables))
-    go Idle ih = one-lasts t
-    go (Ran j) ih = lasts-join (one-lasts t) (ih (suc k) (Ran j) (stepTables t .tables))
-    go (Finished j v) ih = one-lasts t
-    go (Refused w) ih = one-lasts t
-
-run-lasts : (n : ℕ) (t : Tables) → Lasts (view t) (view (run n t .tables))
-unfolding run
-run-lasts n t = go (broken t) (leb 1 n && leb n 65535)
-  where
-    go : (b c : Bool) → Lasts (view t) (view ((elim b as (λ _. Done Reply) [ true ↦ done (Denied (Word 1)) t | false ↦ elim c as (λ _. Done Reply) [ true ↦ runFrom stepTables n 0 Idle t | false ↦ done (Denied (Word 3)) t ] ]) .tables))
-    go true c = lasts-same (view t)
-    go false true = runs-last n 0 Idle t
-    go false false = lasts-same (view t)
-
 abbrev pub IsBoot : Call → Type 0
 IsBoot callBoot = Unit {0}
 IsBoot (callDefine l bs) = ⊥
@@ -139,5 +116,5 @@ lasting (callDefine l bs) h t = wrap-lasts Denied (defineRows l bs) t (λ r w. d
 lasting (callRecord l n c) h t = wrap-lasts Denied (recordRows l n c) t (λ r w. record-whole r w l n c) (record-lasts l n c)
 lasting (callStart k l n m v) h t = wrap-lasts Denied (startRows k l n m v) t (λ r w. start-whole r w k l n m v) (start-lasts k l n m v)
 lasting callStep h t = one-lasts t
-lasting (callRun n) h t = run-lasts n t
+lasting (callRun n) h t = run-keeps (λ s. Lasts (view t) (view s)) (λ s l. lasts-join l (one-lasts s)) n t (lasts-same (view t))
 lasting (callDrop k) h t = wrap-lasts Denied (dropRows k) t (λ r w. drop-whole r w k) (drop-lasts k)

@@ -1,5 +1,6 @@
 -- Every call on a store that is not broken leaves one that is not broken.
 pub mod Steps
+pub mod Progress
 pub mod Calls
 pub mod Unbroken
 pub mod OnRows

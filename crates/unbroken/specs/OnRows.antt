@@ -37,7 +37,7 @@ module _ {A : Type 0} (deny : Refusal → A) (f : Rows → Result (Given A)) (k 
   same-wrap t r s = subst (λ (x : Rows). Same (wrap deny f t .answer) (wrap deny f t .tables) (onRows deny f x)) (s .rows)
       (wrapped deny f t (λ a z. Same a z (onRows deny f (view t))) (λ e. absurd (false≢true (sym (s .unbroken) ∙ e)))
       (λ w e. rw (e, onRows) (refl, record { unbroken = s .unbroken; rows = refl }))
-      (λ g e. let h = ok-at (λ g. Whole (g .rows)) _ (k (view t) (u .1)) g e in rw (e, onRows) (refl, record { unbroken = true-whole (g .rows) t (u .0) h; rows = view-put (g .rows) t (u .0) h })))
+      (λ _ g e. let h = ok-at (λ g. Whole (g .rows)) _ (k (view t) (u .1)) g e in rw (e, onRows) (refl, record { unbroken = true-whole (g .rows) t (u .0) h; rows = view-put (g .rows) t (u .0) h })))
     where
       u : Lengths t × Whole (view t)
       u = broken-false t (s .unbroken)
@@ -107,7 +107,7 @@ same-booted cs t h = same-all cs (boot t .tables) bootRows (same-boot t h .1)
 still : {A : Type 0} (deny : Refusal → A) (f : Rows → Result (Given A)) (t : Tables) → onRows deny f (view t) .rows ≡ view t → wrap deny f t .tables ≡ t
 unfolding onRows settle
 still deny f t q = wrapped deny f t (λ _ z. z ≡ t) (λ _. refl) (λ _ _. refl)
-    (λ g e. ap (λ (x : Rows). put x t) (sym (ap (λ (o : Result (Given _)). settle deny (view t) o .rows) e) ∙ q) ∙ put-view t)
+    (λ _ g e. ap (λ (x : Rows). put x t) (sym (ap (λ (o : Result (Given _)). settle deny (view t) o .rows) e) ∙ q) ∙ put-view t)
 
 abbrev pub OneStep : Call → Type 0
 OneStep callBoot = ⊥

@@ -35,7 +35,7 @@ there-same l n c d w v h e =
 
 pub record-there : (l n c d : ℕ) (t : Tables) → find (view t .cache) (at l n) ≡ some d → perform (callRecord l n c) t .tables ≡ t
 unfolding perform recordRows
-record-there l n c d t h = wrapped Denied (recordRows l n c) t (λ _ z. z ≡ t) (λ _. refl) (λ _ _. refl) (λ g e.
+record-there l n c d t h = wrapped Denied (recordRows l n c) t (λ _ z. z ≡ t) (λ _. refl) (λ _ _. refl) (λ _ g e.
     let a = bind-ok _ _ e in
     let z : addEntry (view t) (a .0) ≡ g .rows = ap (λ (x : Given Reply). x .rows) (ok-inj (a .2)) in
     ap (λ (r : Rows). put r t) (sym z ∙ ap (addEntry (view t)) (there-same l n c d (worldOf (view t)) (a .0) h (a .1))) ∙ put-view t)
