@@ -4,7 +4,7 @@ use mathlib.Core.Path.{_≡_, refl, sym, ap, _∙_, subst}
 use mathlib.Core.Bool.{Bool, true, false, _&&_}
 use mathlib.Core.Option.{Option, none, some}
 use mathlib.Core.List.{List, [], _∷_}
-use Prim.Native.Nat.{ℕ, zero, suc}
+use Prim.Native.Nat.{ℕ}
 use native.Mathlib.Omega.{arith}
 use lib.Dec.{eqb, leb}
 use Rattle.definition.specs.declared.Refusal.{Refusal}
@@ -21,7 +21,7 @@ use Rattle.definition.specs.Constraints.{World}
 use Rattle.definition.specs.Machine.{Frame}
 use Rattle.definition.specs.Tables.{Tables, shaped, Rows, worldOf, view, put}
 use Rattle.definition.specs.Broken.{broken}
-use Rattle.definition.specs.Calls.{Given, bootRows, defineRows, recordRows, startRows, dropRows, answerOf, stepTask, stepOn, stepRows, Done, done, wrap, boot, stepTables, goOn, runFrom, run, Call, callBoot, callDefine, callRecord, callStart, callStep, callRun, callDrop, stepRefusals, refusalsOf, perform}
+use Rattle.definition.specs.Calls.{Given, bootRows, defineRows, recordRows, startRows, dropRows, answerOf, stepTask, stepOn, stepRows, Done, done, wrap, boot, stepTables, runFrom, run, Call, callBoot, callDefine, callRecord, callStart, callStep, callRun, callDrop, stepRefusals, refusalsOf, perform}
 use Rattle.laws.specs.Wrapped.{wrapped, Ok, then, ok-at}
 use Rattle.laws.specs.Runs.{run-is}
 use Rattle.laws.specs.Refusals.{Refuses, Needs, Due, due-listed, step-due, define-due, record-due, start-due, drop-due}

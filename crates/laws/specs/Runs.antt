@@ -6,6 +6,7 @@ use Prim.Native.Nat.{ℕ, zero, suc, _+_, _<_}
 use native.Mathlib.Omega.{arith}
 use Rattle.definition.specs.declared.Answer.{Answer}
 use Rattle.definition.specs.declared.Answer.the-variants.{Idle, Ran, Finished, Refused}
+use Rattle.definition.specs.declared.Refusal.{Refusal}
 use Rattle.definition.specs.declared.Refusal.the-variants.{Word}
 use Rattle.definition.specs.declared.Reply.{Reply}
 use Rattle.definition.specs.declared.Reply.the-variants.{RanFor, Denied}
@@ -134,3 +135,9 @@ pub run-steps : (n : ℕ) (t : Tables) → broken t ≡ false → leb 1 n && leb
     → (k : ℕ) × (a : Answer) × (s : Tables) × (perform (callRun n) t ≡ done (RanFor k a) s) × Run stepTables n Idle t k a s
 unfolding perform run
 run-steps n t h l = let r = run-is stepTables n 0 Idle t in (r .count, r .last, r .left, rw (h, run) (rw l (r .gives ∙ (let z : 0 + r .count ≡ r .count = omega arith in ap (λ (k : ℕ). done (RanFor k (r .last)) (r .left)) z))), r .steps)
+
+-- and if its first step is refused, that is its answer
+pub run-refused : (n : ℕ) (t : Tables) (w : Refusal) → broken t ≡ false → leb 1 n && leb n 65535 ≡ true → stepTables t ≡ done (Refused w) t → perform (callRun n) t ≡ done (RanFor 0 (Refused w)) t
+unfolding perform run runFrom
+run-refused zero t w h l e = cc
+run-refused (suc n) t w h l e = rw (h, run) (rw l (ap (λ (d : Done Answer). goOn (runFrom stepTables n) 0 (d .answer) (d .tables)) e))

@@ -6,7 +6,7 @@ use Prim.Native.Nat.{ℕ, zero, suc, _+_, _-_, _≤_, _<_}
 use native.Mathlib.Omega.{arith}
 use lib.ListN.{getElem?}
 use Rattle.definition.specs.Classes.{Base, Slot, ownSlots, slots, slotsIn, superOf}
-use Rattle.definition.specs.Superclasses.{Below, below, same, up}
+use Rattle.definition.specs.Superclasses.{Below, same, up}
 use Rattle.laws.specs.Agreement.{super-falls}
 use Rattle.laws.specs.Agreement.{nth-more}
 

@@ -10,7 +10,7 @@ use Rattle.definition.specs.declared.Answer.{Answer}
 use Rattle.definition.specs.declared.Answer.the-variants.{Idle, Ran, Finished, Refused}
 use Rattle.definition.specs.Answers.{ok}
 use Rattle.definition.specs.Constraints.{World}
-use Rattle.definition.specs.Machine.{Frame, step}
+use Rattle.definition.specs.Machine.{Frame}
 use Rattle.definition.specs.Tables.{Tables, Rows, worldOf, view}
 use Rattle.definition.specs.Broken.{broken}
 use Rattle.definition.specs.Calls.{Given, Done, carried, answerOf, stepTask, stepOn, stepRows, stepTables}

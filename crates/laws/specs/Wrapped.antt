@@ -26,6 +26,10 @@ module _ {A : Type 0} (deny : Refusal → A) (f : Rows → Result (Given A)) (t 
       go true e = x e
       go false e = res e (f (view t)) refl
 
+pub wrap-broken : {A : Type 0} (deny : Refusal → A) (f : Rows → Result (Given A)) (t : Tables) → broken t ≡ true → wrap deny f t ≡ done (deny (Word 1)) t
+unfolding wrap
+wrap-broken deny f t h = rw (h, wrap) refl
+
 -- on a store that isn't broken the test makes no difference
 pub wrap-carried : {A : Type 0} (deny : Refusal → A) (f : Rows → Result (Given A)) (t : Tables) → broken t ≡ false → wrap deny f t ≡ carried deny t (f (view t))
 unfolding wrap

@@ -11,7 +11,7 @@ use borrow.Author.Tests.{ltb-true}
 use Rattle.definition.specs.declared.Refusal.{Refusal}
 use Rattle.definition.specs.declared.Refusal.the-variants.{Wanted, Word}
 use Rattle.definition.specs.declared.Answer.{Answer}
-use Rattle.definition.specs.declared.Answer.the-variants.{Idle, Ran, Finished, Refused}
+use Rattle.definition.specs.declared.Answer.the-variants.{Idle, Refused}
 use Rattle.definition.specs.declared.Reply.{Reply}
 use Rattle.definition.specs.declared.Reply.the-variants.{Accepted, Denied}
 use Rattle.definition.specs.Answers.{number, numberOf, endsIn, numberOfStep, Result, refused, ok, _>>=_}
@@ -20,7 +20,7 @@ use Rattle.definition.specs.File.{classOf}
 use Rattle.definition.specs.Machine.{Frame, Progress}
 use Rattle.definition.specs.Tables.{Tables, shaped, Rows, worldOf, view, put}
 use Rattle.definition.specs.Broken.{broken}
-use Rattle.definition.specs.Calls.{Given, bootRows, progressed, framesIn, withFrames, defineRows, recordRows, startRows, dropRows, answerOf, stepTask, stepOn, stepRows, Done, done, wrap, boot, stepTables, goOn, runFrom, run, Call, callBoot, callDefine, callRecord, callStart, callStep, callRun, callDrop, perform, performAll, ComesFromBoot}
+use Rattle.definition.specs.Calls.{Given, bootRows, progressed, framesIn, withFrames, defineRows, recordRows, startRows, dropRows, answerOf, stepTask, stepOn, stepRows, Done, done, wrap, boot, stepTables, runFrom, run, Call, callBoot, callDefine, callRecord, callStart, callStep, callRun, callDrop, perform, performAll, ComesFromBoot}
 use Rattle.definition.specs.Misplaced.{misplaced}
 use Rattle.definition.specs.Safety.{Safe}
 use Rattle.laws.specs.Results.{NotStuck, Wp, not-word, ok-inj, wp-need, wp-take}

@@ -1,5 +1,5 @@
 -- A step keeps the invariant, and is never stuck.
-use mathlib.Core.Path.{_≡_, refl, sym, ap, _∙_}
+use mathlib.Core.Path.{_≡_, refl, sym, ap}
 use mathlib.Core.Bool.{Bool, true, false, _&&_}
 use mathlib.Core.Option.{Option, none, some, Option·none-ne-some, Option·some-injective}
 use mathlib.Core.List.{List, [], _∷_, _++_, map, append-assoc, List·Memᴰ, List·Memᴰ·not-nil, Memᴰ·append-left, Memᴰ·append-right}
@@ -16,13 +16,13 @@ use Rattle.definition.specs.Instructions.{Decoded}
 use Rattle.definition.specs.Lists.{any, indexOf}
 use Rattle.definition.specs.Machine.{Frame, Object, Progress, Value, entryFrame, execute, give, initialValue, int!, intValue, kind!, newObject, now, nullValue, object!, objectValue, past, pop!, reference!, room!, step, under!, unsetValue, unlistedValue, existing}
 use Rattle.definition.specs.Requests.{Chain, Edge, at}
-use Rattle.definition.specs.Superclasses.{Below, below, nearest, same}
+use Rattle.definition.specs.Superclasses.{Below, nearest, same}
 use Rattle.definition.specs.Verifier.{Flow, Note, VerifierType, asReference, effect, entryTypes, flow, meetClass, meetInt, meets, pop, returns, typeClass, typeInt, typeNull, typeOfName, typesAt}
 use Rattle.definition.specs.declared.Instruction.{Instruction}
 use Rattle.definition.specs.declared.Instruction.the-variants.{AconstNull, Aload, Areturn, Astore, Dup, Getfield, Iadd, Iload, Invokevirtual, Ireturn, Istore, Isub, New, Pop, Putfield, Sipush}
 use Rattle.laws.specs.Agreement.{super-falls}
 use Rattle.laws.specs.Chains.{chain-join, chain-more}
-use Rattle.laws.specs.Options.{bind-some, each-at, each-both, each-more, each-set, nth-last, nth-set, nth-snoc, set-nth, need-true}
+use Rattle.laws.specs.Options.{bind-some, each-at, each-both, each-more, each-set, nth-last, nth-snoc, set-nth, need-true}
 use Rattle.laws.specs.Results.{Wp, not-wanted, not-word, wp-bind, wp-known, wp-need, wp-sure, wp-take, wp-there}
 use Rattle.laws.specs.Tests.{and-true, any-found, any-right, any-true}
 use Rattle.laws.specs.Upward.{below-trans, nearest-below, nearest-finds, true-below}

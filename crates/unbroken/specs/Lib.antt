@@ -7,3 +7,4 @@ pub mod OnRows
 pub mod Record
 pub mod Tasks
 pub mod Lasting
+pub mod Waiting

@@ -1,8 +1,8 @@
 -- What an accepted instruction leaves: every object keeps its number and class, and unless the task gives a result it has a frame and its frames moved.
-use mathlib.Core.Path.{_≡_, refl, sym, ap, _∙_}
+use mathlib.Core.Path.{_≡_, sym, ap}
 use mathlib.Core.Option.{Option, none, some}
-use mathlib.Core.List.{List, [], _∷_, _++_}
-use Prim.Native.Nat.{ℕ, suc, _+_, _<_}
+use mathlib.Core.List.{List, [], _∷_}
+use Prim.Native.Nat.{ℕ, _+_, _<_}
 use native.Mathlib.Omega.{arith}
 use lib.ListN.{length}
 use Rattle.definition.specs.declared.Instruction.{Instruction}
@@ -10,7 +10,7 @@ use Rattle.definition.specs.declared.Instruction.the-variants.{AconstNull, Sipu
 use Rattle.definition.specs.Answers.{ok}
 use Rattle.definition.specs.Classes.{Class}
 use Rattle.definition.specs.Constraints.{World}
-use Rattle.definition.specs.Instructions.{Decoded, decode}
+use Rattle.definition.specs.Instructions.{Decoded}
 use Rattle.definition.specs.Machine.{Value, Object, Frame, Progress, Now, past, now, give, execute, step}
 use Rattle.laws.specs.Results.{bind-ok, ok-inj, take-ok}
 use Rattle.laws.specs.Sized.{sized}

@@ -1,4 +1,4 @@
--- While the quote has a frame, no call but a boot, a start or a drop of the report changes the report's frames.
+-- While the quote has a frame, no call but a boot, a start or a drop of the report changes the report's frames. A step that ran moved its task's frames.
 use mathlib.Core.Path.{_≡_, refl, sym, ap, _∙_, subst}
 use mathlib.Core.Bool.{Bool, true, false, _&&_}
 use mathlib.Core.Option.{Option, none, some}
@@ -7,27 +7,20 @@ use Prim.Native.Nat.{ℕ, zero, suc}
 use native.Mathlib.Omega.{arith}
 use lib.Dec.{leb}
 use borrow.Author.Tests.{ltb-true}
-use Rattle.definition.specs.declared.Refusal.{Refusal}
 use Rattle.definition.specs.declared.Refusal.the-variants.{Word}
-use Rattle.definition.specs.declared.Instruction.{Instruction}
-use Rattle.definition.specs.declared.Instruction.the-variants.{AconstNull, Sipush, Iload, Aload, Istore, Astore, Pop, Dup, Iadd, Isub, Getfield, Putfield, Invokevirtual, New, Ireturn, Areturn}
 use Rattle.definition.specs.declared.Answer.{Answer}
-use Rattle.definition.specs.declared.Answer.the-variants.{Idle, Ran, Finished, Refused}
+use Rattle.definition.specs.declared.Answer.the-variants.{Idle, Ran, Refused}
 use Rattle.definition.specs.declared.Reply.{Reply}
 use Rattle.definition.specs.declared.Reply.the-variants.{Denied}
-use Rattle.definition.specs.Answers.{Result, refused, ok}
-use Rattle.definition.specs.Classes.{Class}
+use Rattle.definition.specs.Answers.{ok}
 use Rattle.definition.specs.Constraints.{World}
-use Rattle.definition.specs.Instructions.{Decoded}
-use Rattle.definition.specs.Machine.{Value, Object, Frame, Progress, give, execute, step}
+use Rattle.definition.specs.Machine.{Frame, Progress, step}
 use Rattle.definition.specs.Tables.{Tables, Rows, worldOf, view}
 use Rattle.definition.specs.Broken.{broken}
-use Rattle.definition.specs.Calls.{Given, progressed, defineRows, recordRows, startRows, dropRows, answerOf, stepTask, stepOn, stepRows, Done, done, carried, wrap, stepTables, goOn, runFrom, run, Call, callBoot, callDefine, callRecord, callStart, callStep, callRun, callDrop, perform}
+use Rattle.definition.specs.Calls.{Given, progressed, framesIn, defineRows, recordRows, startRows, dropRows, answerOf, stepTask, stepOn, stepRows, Done, done, stepTables, runFrom, run, Call, callBoot, callDefine, callRecord, callStart, callStep, callRun, callDrop, perform}
 use Rattle.laws.specs.Results.{bind-ok, need-ok}
 use Rattle.laws.specs.Runs.{runs-end}
 use Rattle.laws.specs.Wrapped.{Ok, ok-at, then}
-use Rattle.layout.specs.Whole.{Whole}
-use Rattle.layout.specs.Unbroken.{view-put, broken-false}
 use Rattle.unbroken.specs.Calls.{define-whole, record-whole, start-whole, step-whole, drop-whole}
 use Rattle.unbroken.specs.Progress.{Advances, step-advances}
 use Rattle.unbroken.specs.Unbroken.{shown}
@@ -35,9 +28,9 @@ use Rattle.unbroken.specs.Unbroken.{shown}
 abbrev Kept : Tables → Answer → Rows → Type 0
 Kept t a r = (r .report ≡ view t .report) × ((k : ℕ) → a ≡ Ran k → r .quote ≡ [] → ⊥)
 
-same-result : (k j : ℕ) (o : Option ℕ) → answerOf k o ≡ Ran j → o ≡ none
+same-result : (k j : ℕ) (o : Option ℕ) → answerOf k o ≡ Ran j → (o ≡ none) × (k ≡ j)
 unfolding answerOf
-same-result k j none e = refl
+same-result k j none e = (refl, cc)
 same-result k j (some n) e = let z : _≡_ {A = ℕ} 0 1 = cc in absurd (omega arith)
 
 task-ok : (k : ℕ) (w : World) (f : Frame) (fs : List Frame) (r : Rows) (g : Given Answer) → stepTask k w f fs r ≡ ok g
@@ -61,9 +54,34 @@ step-kept t h = shown Refused stepRows (Kept t) t step-whole (λ w. (refl, λ k 
         let y : progressed 0 r (a .0) ≡ g .rows = cc (a .2) in (
           ap (λ (z : Rows). z .report) (sym y),
           λ k q n.
-              ok-at (Advances (r .objects) (f ∷ fs)) _ (step-advances (worldOf r) (r .objects) f fs) (a .0) (a .1) .left (same-result 0 k (a .0 .result) (x ∙ q))
+              ok-at (Advances (r .objects) (f ∷ fs)) _ (step-advances (worldOf r) (r .objects) f fs) (a .0) (a .1) .left (same-result 0 k (a .0 .result) (x ∙ q) .0)
               (ap (λ (z : Rows). z .quote) y ∙ n),
         )
+
+-- a step that ran moved the frames of its task
+pub ran-moves : (t : Tables) (k : ℕ) → stepTables t .answer ≡ Ran k → framesIn k (view (stepTables t .tables)) ≡ framesIn k (view t) → ⊥
+unfolding stepTables stepRows
+ran-moves t k = shown Refused stepRows (λ a z. a ≡ Ran k → framesIn k z ≡ framesIn k r → ⊥) t step-whole (λ w e. let z : _≡_ {A = ℕ} 0 1 = cc in absurd (omega arith))
+    (λ g e. go (r .quote) (r .report) refl refl g e)
+  where
+    r : Rows
+    r = view t
+
+    moved : (j : ℕ) (f : Frame) (fs : List Frame) → framesIn j r ≡ f ∷ fs → ((o : Progress) → framesIn j (progressed j r o) ≡ o .frames)
+        → (g : Given Answer) → stepTask j (worldOf r) f fs r ≡ ok g → g .answer ≡ Ran k → framesIn k (g .rows) ≡ framesIn k r → ⊥
+    moved j f fs q is g e a s =
+        let o = task-ok j (worldOf r) f fs r g e in
+        let x : answerOf j (o .0 .result) ≡ g .answer = cc (o .2) in
+        let y : progressed j r (o .0) ≡ g .rows = cc (o .2) in
+        let n = same-result j k (o .0 .result) (x ∙ a) in
+        let z : framesIn j (g .rows) ≡ framesIn j r = subst (λ (i : ℕ). framesIn i (g .rows) ≡ framesIn i r) (sym (n .1)) s in
+        ok-at (Advances (r .objects) (f ∷ fs)) _ (step-advances (worldOf r) (r .objects) f fs) (o .0) (o .1) .moved (n .0)
+        (sym (is (o .0)) ∙ ap (framesIn j) y ∙ z ∙ q)
+
+    go : (q p : List Frame) → r .quote ≡ q → r .report ≡ p → (g : Given Answer) → stepOn q p (worldOf r) r ≡ ok g → g .answer ≡ Ran k → framesIn k (g .rows) ≡ framesIn k r → ⊥
+    go (f ∷ fs) p x y g e = moved 0 f fs x (λ o. refl) g (unfold stepOn in e)
+    go [] (f ∷ fs) x y g e = moved 1 f fs y (λ o. refl) g (unfold stepOn in e)
+    go [] [] x y g e = λ a. let z : ok (record { answer = Idle; rows = r }) ≡ ok g = unfold stepOn in e in let n : _≡_ {A = ℕ} 0 1 = cc in absurd (omega arith)
 
 -- a run, which goes on only while the quote runs
 run-kept : (n : ℕ) (t : Tables) → (view t .quote ≡ [] → ⊥) → view (run n t .tables) .report ≡ view t .report

@@ -1,18 +1,14 @@
--- From any store that is not broken, every call leaves one that is not broken; so a run may test for it once.
-use mathlib.Core.Path.{_≡_, refl, sym, ap, _∙_, subst}
-use mathlib.Core.Bool.{Bool, true, false, _&&_}
-use Prim.Native.Nat.{ℕ, zero, suc}
-use lib.Dec.{leb}
+-- From any store that is not broken, every call leaves one that is not broken, and so does each step of a run, which may therefore test for it once.
+use mathlib.Core.Path.{_≡_, sym, subst}
+use mathlib.Core.Bool.{true, false}
 use Rattle.definition.specs.declared.Refusal.{Refusal}
 use Rattle.definition.specs.declared.Refusal.the-variants.{Word}
-use Rattle.definition.specs.declared.Answer.{Answer}
-use Rattle.definition.specs.declared.Answer.the-variants.{Idle, Ran, Finished, Refused}
-use Rattle.definition.specs.declared.Reply.{Reply}
+use Rattle.definition.specs.declared.Answer.the-variants.{Refused}
 use Rattle.definition.specs.declared.Reply.the-variants.{Denied}
 use Rattle.definition.specs.Answers.{Result, ok}
 use Rattle.definition.specs.Tables.{Tables, shaped, Rows, view}
 use Rattle.definition.specs.Broken.{broken}
-use Rattle.definition.specs.Calls.{Given, bootRows, defineRows, recordRows, startRows, dropRows, stepRows, Done, done, wrap, boot, stepTables, goOn, runFrom, run, Call, callBoot, callDefine, callRecord, callStart, callStep, callRun, callDrop, perform}
+use Rattle.definition.specs.Calls.{Given, bootRows, defineRows, recordRows, startRows, dropRows, stepRows, wrap, boot, stepTables, Call, callBoot, callDefine, callRecord, callStart, callStep, callRun, callDrop, perform}
 use Rattle.laws.specs.Runs.{run-keeps}
 use Rattle.laws.specs.Wrapped.{wrapped, Ok, ok-at}
 use Rattle.layout.specs.Whole.{Whole}
@@ -53,19 +49,3 @@ kept-unbroken (callStart k l n m v) t h = wrap-unbroken Denied (startRows k l n 
 kept-unbroken callStep t h = step-unbroken t h
 kept-unbroken (callRun n) t h = run-keeps (λ z. broken z ≡ false) step-unbroken n t h
 kept-unbroken (callDrop k) t h = wrap-unbroken Denied (dropRows k) t h (λ r w. drop-whole r w k)
-
--- So a run may take its steps by any function that is a step on stores that are not broken
-module _ (raw : Tables → Done Answer) (agrees : (t : Tables) → broken t ≡ false → raw t ≡ stepTables t) where
-  pub run-raw : (n k : ℕ) (a : Answer) (t : Tables) → broken t ≡ false → runFrom raw n k a t ≡ runFrom stepTables n k a t
-  unfolding runFrom
-  run-raw zero k a t h = refl
-  run-raw (suc n) k a t h =
-      ap (λ (d : Done Answer). goOn (runFrom raw n) k (d .answer) (d .tables)) (agrees t h)
-      ∙ go (stepTables t .answer) (stepTables t .tables) (step-unbroken t h) (λ k a t h. run-raw n k a t h)
-    where
-      go : (x : Answer) (z : Tables) → broken z ≡ false → ((k : ℕ) (a : Answer) (t : Tables) → broken t ≡ false → runFrom raw n k a t ≡ runFrom stepTables n k a t)
-          → goOn (runFrom raw n) k x z ≡ goOn (runFrom stepTables n) k x z
-      go Idle z q ih = refl
-      go (Ran j) z q ih = ih (suc k) (Ran j) z q
-      go (Finished j v) z q ih = refl
-      go (Refused w) z q ih = refl

@@ -7,10 +7,9 @@ use Rattle.definition.specs.declared.Refusal.the-variants.{Word}
 use Rattle.definition.specs.declared.Answer.the-variants.{Refused}
 use Rattle.definition.specs.declared.Reply.{Reply}
 use Rattle.definition.specs.declared.Reply.the-variants.{Accepted, Denied}
-use Rattle.definition.specs.Answers.{Result, refused, ok}
+use Rattle.definition.specs.Answers.{Result, ok}
 use Rattle.definition.specs.Tables.{Tables, shaped, Rows, view, put}
-use Rattle.definition.specs.Broken.{broken}
-use Rattle.definition.specs.Calls.{Given, bootRows, defineRows, recordRows, startRows, dropRows, stepRows, Done, done, carried, wrap, boot, stepTables, Call, callBoot, callDefine, callRecord, callStart, callStep, callRun, callDrop, perform}
+use Rattle.definition.specs.Calls.{Given, bootRows, defineRows, recordRows, startRows, dropRows, stepRows, Done, done, wrap, boot, stepTables, Call, callBoot, callDefine, callRecord, callStart, callStep, callRun, callDrop, perform}
 use Rattle.laws.specs.Wrapped.{wrapped, ok-at}
 use Rattle.layout.specs.Whole.{Whole}
 use Rattle.layout.specs.Unbroken.{broken-false}
