@@ -21,6 +21,7 @@ use Rattle.definition.specs.declared.Refusal.the-variants.{Word}
 use Rattle.laws.specs.Agreement.{agrees-true, find-row, super-falls, super-is}
 use Rattle.laws.specs.Options.{nth-last}
 use Rattle.laws.specs.Results.{Wp, not-wanted, not-word, wp-need, wp-take}
+use Rattle.laws.specs.Tests.{none-is}
 use Rattle.laws.specs.Upward.{nearest-below}
 use Rattle.safety.specs.Conform.{fits-own}
 use Rattle.safety.specs.Store.{Store, booted, inQuote, inReport, inWorld}
@@ -32,11 +33,6 @@ use Rattle.laws.specs.Growth.{Grows}
 use Rattle.laws.specs.Growth.{grows-class, grows-entry}
 use Rattle.laws.specs.Objects.{numbered-same}
 use Rattle.safety.specs.Heap.{heap-grows}
-
-pub none-is : {A : Type 0} (o : Option A) → isNone o ≡ true → o ≡ none
-unfolding isNone
-none-is none h = refl
-none-is (some a) h = absurd (false≢true h)
 
 boot-agrees : agrees (booted .world) ≡ true
 unfolding agrees agreesOver reach all rowAgrees pairAgrees find edges tieEdges subtypeEdges has grow fires rest sameRequest

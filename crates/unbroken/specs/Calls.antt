@@ -9,7 +9,7 @@ use native.Mathlib.Omega.{arith}
 use lib.ListN.{length, getElem?, drop, length-append, length-map, length-drop}
 use lib.Seq.{take-append-le, drop-append-le, drop-at, take-length}
 use lib.Dec.{eqb, leb, ltb}
-use borrow.Author.Tests.{leb-true, ltb-true, le-leb}
+use borrow.Author.Tests.{eqb-true, leb-true, ltb-true, le-leb}
 use Rattle.definition.specs.Answers.{Result, _>>=_, need, ok}
 use Rattle.definition.specs.Calls.{Given, addEntry, addFile, bootRows, defineRows, dropRows, recordRows, startRows, stepOn, stepRows, withFrames, stepTask, progressed, framesIn}
 use Rattle.definition.specs.Classes.{Base, Class, Entry, Method, find, hasMethod, loaderOf, ownSlots, slots, superOf}
@@ -29,7 +29,7 @@ use Rattle.laws.specs.Options.{bind-some, need-true, nth-last, some-bind}
 use Rattle.laws.specs.Results.{bind-ok, need-ok, ok-inj, take-ok}
 use Rattle.laws.specs.Slots.{slots-up}
 use Rattle.laws.specs.Stable.{own-is, slots-stable}
-use Rattle.laws.specs.Tests.{and-true}
+use Rattle.laws.specs.Tests.{and-true, none-is}
 use Rattle.layout.specs.Tests.{All, all-both, all-more, every-true}
 use Rattle.layout.specs.Unbroken.{object-class}
 use Rattle.layout.specs.Whole.{Between, ClassSound, Classes, First, Framed, From, Listed, ObjectSound, Whole}
@@ -250,27 +250,34 @@ map-last {A} {B} f (y ∷ xs) x = ap {B = List B} (λ r. f y ∷ r) (map-last f 
 pub record Entered (l n c : ℕ) (w v : World) : Type 0 where
   pub loader : l < 16
   pub class : c < length (w .base .classes)
+  pub fresh : find (w .base .cache) (at l n) ≡ none
   pub room : length (w .base .cache) < 256
   pub is : withEntry w (at l n) c ≡ v
 
-pub recorded-is : (l n c : ℕ) (w v : World) → recorded l n c w ≡ ok v → (w ≡ v) ⊎ Entered l n c w v
+-- the entry was there
+pub record Stood (l n c : ℕ) (w v : World) : Type 0 where
+  pub cached : find (w .base .cache) (at l n) ≡ some c
+  pub is : w ≡ v
+
+pub recorded-is : (l n c : ℕ) (w v : World) → recorded l n c w ≡ ok v → Stood l n c w v ⊎ Entered l n c w v
 unfolding recorded
 recorded-is l n c w v e =
     let a = bind-ok _ _ e in
     let b = bind-ok _ _ (a .2) in
     let d = bind-ok _ _ (b .2) in
-    go (ltb-true l 16 (and-true (ltb l 16) (leb 2 n) (need-ok _ _ (a .1)) .0)) (nth-lt (w .base .classes) c (b .0) (take-ok _ _ (b .1))) (find (w .base .cache) (at l n)) (d .2)
+    go (ltb-true l 16 (and-true (ltb l 16) (leb 2 n) (need-ok _ _ (a .1)) .0)) (nth-lt (w .base .classes) c (b .0) (take-ok _ _ (b .1))) (find (w .base .cache) (at l n)) refl (d .2)
   where
-    go : l < 16 → c < length (w .base .classes) → (o : Option ℕ)
+    go : l < 16 → c < length (w .base .classes) → (o : Option ℕ) → find (w .base .cache) (at l n) ≡ o
         → (elim o as (λ _. Result World) [ some d ↦ need (eqb d c) (Word 4) >>= λ _. ok w | none ↦ need (ltb (length (w .base .cache)) 256) (Word 10) >>= λ _. need (agrees (withEntry w (at l n) c)) (Word 9) >>= λ _. ok (withEntry w (at l n) c) ]) ≡ ok v
-        → (w ≡ v) ⊎ Entered l n c w v
-    go x y none h = let p = bind-ok _ _ h in let q = bind-ok _ _ (p .2) in inr (record { loader = x; class = y; room = ltb-true (length (w .base .cache)) 256 (need-ok _ _ (p .1)); is = ok-inj (q .2) })
-    go x y (some d) h = let p = bind-ok _ _ h in inl (ok-inj (p .2))
+        → Stood l n c w v ⊎ Entered l n c w v
+    go x y none q h = let p = bind-ok _ _ h in let u = bind-ok _ _ (p .2) in inr (record { loader = x; class = y; fresh = q; room = ltb-true (length (w .base .cache)) 256 (need-ok _ _ (p .1)); is = ok-inj (u .2) })
+    go x y (some d) q h = let p = bind-ok _ _ h in inl (record { cached = q ∙ ap some (eqb-true d c (need-ok _ _ (p .1))); is = ok-inj (p .2) })
 
 pub record DefineAccepted (room : Bool) (k : Class) (w v : World) : Type 0 where
   pub super : ℕ
   pub cached : find (w .base .cache) (at (k .loader) (k .super)) ≡ some super
   pub notes : List Note
+  pub fresh : find (w .base .cache) (at (k .loader) (k .name)) ≡ none
   pub kept : room ≡ true
   pub classes : length (w .base .classes) < 64
   pub cache : length (w .base .cache) < 256
@@ -293,6 +300,7 @@ defined-is room k w v e =
       super = c .0;
       cached = take-ok _ _ (c .1);
       notes = a .0;
+      fresh = none-is _ (need-ok _ _ (b .1));
       kept = p .0;
       classes = ltb-true _ _ (p .1 .0);
       cache = ltb-true _ _ (p .1 .1 .0);
@@ -350,13 +358,13 @@ module _ (r : Rows) (w : Whole r) where
 
   pub whole-record : (l n c : ℕ) (v : World) → recorded l n c (W r w) ≡ ok v → Whole (addEntry r v)
   whole-record l n c v e = elim (recorded-is l n c (W r w) v e) [
-    | inl q ↦ subst (λ (z : World). Whole (addEntry r z)) q w
+    | inl q ↦ subst (λ (z : World). Whole (addEntry r z)) (q .is) w
     | inr x ↦ subst (λ (z : World). Whole (addEntry r z)) (x .is) (whole-entry l n c (x .loader) (x .class) (x .room))
   ]
 
   pub world-recorded : (l n c : ℕ) (v : World) → recorded l n c (W r w) ≡ ok v → worldOf (addEntry r v) ≡ v
   world-recorded l n c v e = elim (recorded-is l n c (W r w) v e) [
-    | inl q ↦ subst (λ (z : World). worldOf (addEntry r z) ≡ z) q refl
+    | inl q ↦ subst (λ (z : World). worldOf (addEntry r z) ≡ z) (q .is) refl
     | inr x ↦ subst (λ (z : World). worldOf (addEntry r z) ≡ z) (x .is) refl
   ]
 

@@ -22,7 +22,7 @@ use Rattle.laws.specs.Objects.{Numbered, numbered-same, numbered-join, numbered
 use Rattle.laws.specs.Runs.{run-keeps}
 use Rattle.laws.specs.Wrapped.{Ok, ok-at, then}
 use Rattle.layout.specs.Tests.{All}
-use Rattle.unbroken.specs.Calls.{Entered, recorded-is, defined-is, define-whole, record-whole, start-whole, step-whole, drop-whole}
+use Rattle.unbroken.specs.Calls.{Entered, Stood, recorded-is, defined-is, define-whole, record-whole, start-whole, step-whole, drop-whole}
 use Rattle.definition.specs.Answers.{Result}
 use Rattle.unbroken.specs.Progress.{Advances, step-advances}
 use Rattle.unbroken.specs.Unbroken.{Keeps, shown}
@@ -66,8 +66,8 @@ record-lasts l n c r = then (λ (g : Given Reply). Lasts r (g .rows)) _ _ (λ v 
   objects = numbered-same (r .objects);
 })
   where
-    cache : (v : World) → (worldOf r ≡ v) ⊎ Entered l n c (worldOf r) v → (q : Request) (d : ℕ) → find (r .cache) q ≡ some d → find (v .base .cache) q ≡ some d
-    cache v (inl z) q d h = subst (λ (w : World). find (w .base .cache) q ≡ some d) z h
+    cache : (v : World) → Stood l n c (worldOf r) v ⊎ Entered l n c (worldOf r) v → (q : Request) (d : ℕ) → find (r .cache) q ≡ some d → find (v .base .cache) q ≡ some d
+    cache v (inl z) q d h = subst (λ (w : World). find (w .base .cache) q ≡ some d) (z .is) h
     cache v (inr x) q d h = subst (λ (w : World). find (w .base .cache) q ≡ some d) (x .is) (find-more (r .cache) _ q d h)
 
 progress-lasts : (k : ℕ) (r : Rows) (o : Progress) → Numbered (r .objects) (o .objects) → Lasts r (progressed k r o)
@@ -112,7 +112,7 @@ step-lasts r = go (r .quote) (r .report)
     go [] [] = unfold stepOn in lasts-same r
 
 wrap-lasts : {A : Type 0} (deny : Refusal → A) (f : Rows → Result (Given A)) (t : Tables) → Keeps f → ((r : Rows) → Ok (f r) (λ g. Lasts r (g .rows))) → Lasts (view t) (view (wrap deny f t .tables))
-wrap-lasts {A} deny f t k h = shown deny f (λ _ r. Lasts (view t) r) t k (λ w. lasts-same (view t)) (λ g e. ok-at (λ (g : Given A). Lasts (view t) (g .rows)) _ (h (view t)) g e)
+wrap-lasts {A} deny f t k h = shown deny f (λ _ r. Lasts (view t) r) t k (λ w. lasts-same (view t)) (λ _ g e. ok-at (λ (g : Given A). Lasts (view t) (g .rows)) _ (h (view t)) g e)
 
 one-lasts : (t : Tables) → Lasts (view t) (view (stepTables t .tables))
 unfolding stepTables

@@ -5,6 +5,8 @@ pub mod Calls
 pub mod Unbroken
 pub mod OnRows
 pub mod Record
+pub mod Loaded
 pub mod Tasks
 pub mod Lasting
+pub mod Resolution
 pub mod Waiting

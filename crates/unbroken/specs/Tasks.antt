@@ -40,7 +40,7 @@ task-ok k w f fs r g e = bind-ok _ _ e
 
 step-kept : (t : Tables) → (view t .quote ≡ [] → ⊥) → Kept t (stepTables t .answer) (view (stepTables t .tables))
 unfolding stepTables stepRows
-step-kept t h = shown Refused stepRows (Kept t) t step-whole (λ w. (refl, λ k e. let z : _≡_ {A = ℕ} 0 1 = cc in absurd (omega arith))) (λ g e. go (view t .quote) (view t .report) h g e)
+step-kept t h = shown Refused stepRows (Kept t) t step-whole (λ w. (refl, λ k e. let z : _≡_ {A = ℕ} 0 1 = cc in absurd (omega arith))) (λ _ g e. go (view t .quote) (view t .report) h g e)
   where
     r : Rows
     r = view t
@@ -62,7 +62,7 @@ step-kept t h = shown Refused stepRows (Kept t) t step-whole (λ w. (refl, λ k 
 pub ran-moves : (t : Tables) (k : ℕ) → stepTables t .answer ≡ Ran k → framesIn k (view (stepTables t .tables)) ≡ framesIn k (view t) → ⊥
 unfolding stepTables stepRows
 ran-moves t k = shown Refused stepRows (λ a z. a ≡ Ran k → framesIn k z ≡ framesIn k r → ⊥) t step-whole (λ w e. let z : _≡_ {A = ℕ} 0 1 = cc in absurd (omega arith))
-    (λ g e. go (r .quote) (r .report) refl refl g e)
+    (λ _ g e. go (r .quote) (r .report) refl refl g e)
   where
     r : Rows
     r = view t
@@ -140,10 +140,10 @@ pub report-stays : (c : Call) (t : Tables) → (view t .quote ≡ [] → ⊥) �
 unfolding perform
 report-stays callBoot t h m = absurd (m tt)
 report-stays (callDefine l bs) t h m = shown Denied (defineRows l bs) (Stays t) t (λ r w. define-whole r w l bs) (λ w. refl)
-    (λ g e. ok-at _ _ (define-stays l bs (view t)) g e)
+    (λ _ g e. ok-at _ _ (define-stays l bs (view t)) g e)
 report-stays (callRecord l n c) t h m = shown Denied (recordRows l n c) (Stays t) t (λ r w. record-whole r w l n c) (λ w. refl)
-    (λ g e. ok-at _ _ (record-stays l n c (view t)) g e)
-report-stays (callStart k l n m v) t h x = shown Denied (startRows k l n m v) (Stays t) t (λ r w. start-whole r w k l n m v) (λ w. refl) (λ g e. ok-at _ _ (start-stays k l n m v (view t) x) g e)
+    (λ _ g e. ok-at _ _ (record-stays l n c (view t)) g e)
+report-stays (callStart k l n m v) t h x = shown Denied (startRows k l n m v) (Stays t) t (λ r w. start-whole r w k l n m v) (λ w. refl) (λ _ g e. ok-at _ _ (start-stays k l n m v (view t) x) g e)
 report-stays callStep t h m = step-kept t h .0
 report-stays (callRun n) t h m = run-kept n t h
-report-stays (callDrop k) t h x = shown Denied (dropRows k) (Stays t) t (λ r w. drop-whole r w k) (λ w. refl) (λ g e. ok-at _ _ (drop-stays k (view t) x) g e)
+report-stays (callDrop k) t h x = shown Denied (dropRows k) (Stays t) t (λ r w. drop-whole r w k) (λ w. refl) (λ _ g e. ok-at _ _ (drop-stays k (view t) x) g e)

@@ -21,10 +21,10 @@ Keeps {A} f = (r : Rows) → Whole r → Ok (f r) (λ g. Whole (g .rows))
 
 -- what holds of an accepted call's rows holds of what the tables then show
 pub shown : {A : Type 0} (deny : Refusal → A) (f : Rows → Result (Given A)) (P : A → Rows → Type 0) (t : Tables) → Keeps f → ((w : Refusal) → P (deny w) (view t))
-    → ((g : Given A) → f (view t) ≡ ok g → P (g .answer) (g .rows)) → P (wrap deny f t .answer) (view (wrap deny f t .tables))
+    → (Whole (view t) → (g : Given A) → f (view t) ≡ ok g → P (g .answer) (g .rows)) → P (wrap deny f t .answer) (view (wrap deny f t .tables))
 shown deny f P t k denied accepted = wrapped deny f t (λ a z. P a (view z)) (λ _. denied (Word 1)) (λ w _. denied w) (λ h g e.
     let u = broken-false t h in
-    subst (P (g .answer)) (sym (view-put (g .rows) t (u .0) (ok-at (λ g. Whole (g .rows)) _ (k (view t) (u .1)) g e))) (accepted g e))
+    subst (P (g .answer)) (sym (view-put (g .rows) t (u .0) (ok-at (λ g. Whole (g .rows)) _ (k (view t) (u .1)) g e))) (accepted (u .1) g e))
 
 pub wrap-unbroken : {A : Type 0} (deny : Refusal → A) (f : Rows → Result (Given A)) (t : Tables) → broken t ≡ false → Keeps f → broken (wrap deny f t .tables) ≡ false
 wrap-unbroken deny f t h k =

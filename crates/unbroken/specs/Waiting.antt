@@ -35,7 +35,6 @@ use Rattle.laws.specs.Wrapped.{wrap-broken, wrap-carried, Ok, ok-at, then}
 use Rattle.laws.specs.Runs.{run-keeps}
 use Rattle.layout.specs.Tests.{All, all-more}
 use Rattle.layout.specs.Whole.{Whole}
-use Rattle.layout.specs.Unbroken.{broken-false}
 use Rattle.unbroken.specs.Calls.{defined-is, world-defined, define-whole, record-whole, start-whole, drop-whole}
 use Rattle.unbroken.specs.Unbroken.{Keeps, shown, kept-unbroken}
 use Rattle.unbroken.specs.Lasting.{Lasts, IsBoot, lasting-all}
@@ -166,18 +165,18 @@ module _ (f : Frame) (fs : List Frame) (l c : ℕ) where
   abbrev Waits : Rows → Type 0
   Waits s = find (s .cache) (at l c) ≡ none → QuoteWants f fs l c s
 
-  wrap-waits : (g : Rows → Result (Given Reply)) (t : Tables) → Keeps g → Ok (g (view t)) Q → QuoteWants f fs l c (view t) → Waits (view (wrap Denied g t .tables))
-  wrap-waits g t k h q = shown Denied g (λ _ s. Waits s) t k (λ _ _. q) (λ x e. ok-at Q _ h x e)
+  wrap-waits : (g : Rows → Result (Given Reply)) (t : Tables) → Keeps g → (Whole (view t) → Ok (g (view t)) Q) → QuoteWants f fs l c (view t) → Waits (view (wrap Denied g t .tables))
+  wrap-waits g t k h q = shown Denied g (λ _ s. Waits s) t k (λ _ _. q) (λ w x e. ok-at Q _ (h w) x e)
 
   call-waits : (d : Call) → KeepsQuote d → (t : Tables) → broken t ≡ false → QuoteWants f fs l c (view t) → Waits (view (perform d t .tables))
   unfolding perform
   call-waits callBoot b t h q = absurd b
-  call-waits (callDefine m bs) b t h q = wrap-waits (defineRows m bs) t (λ r w. define-whole r w m bs) (define-waits m bs (view t) (broken-false t h .1) q) q
-  call-waits (callRecord m n d) b t h q = wrap-waits (recordRows m n d) t (λ r w. record-whole r w m n d) (record-waits m n d (view t) q) q
-  call-waits (callStart j m n x v) b t h q = wrap-waits (startRows j m n x v) t (λ r w. start-whole r w j m n x v) (start-waits j m n x v (view t) q) q
+  call-waits (callDefine m bs) b t h q = wrap-waits (defineRows m bs) t (λ r w. define-whole r w m bs) (λ w. define-waits m bs (view t) w q) q
+  call-waits (callRecord m n d) b t h q = wrap-waits (recordRows m n d) t (λ r w. record-whole r w m n d) (λ _. record-waits m n d (view t) q) q
+  call-waits (callStart j m n x v) b t h q = wrap-waits (startRows j m n x v) t (λ r w. start-whole r w j m n x v) (λ _. start-waits j m n x v (view t) q) q
   call-waits callStep b t h q = subst (λ (s : Tables). Waits (view s)) (sym (ap (λ (d : Done Answer). d .tables) (wants-tables t h q))) (λ _. q)
   call-waits (callRun n) b t h q = subst (λ (s : Tables). Waits (view s)) (sym (run-same n t (Wanted l c) (wants-tables t h q))) (λ _. q)
-  call-waits (callDrop j) b t h q = wrap-waits (dropRows j) t (λ r w. drop-whole r w j) (drop-waits j (view t) b q) q
+  call-waits (callDrop j) b t h q = wrap-waits (dropRows j) t (λ r w. drop-whole r w j) (λ _. drop-waits j (view t) b q) q
 
   all-wait : (cs : List Call) → All KeepsQuote cs → (t : Tables) → broken t ≡ false → QuoteWants f fs l c (view t) → find (view (performAll cs t .tables) .cache) (at l c) ≡ none
       → (broken (performAll cs t .tables) ≡ false) × QuoteWants f fs l c (view (performAll cs t .tables))

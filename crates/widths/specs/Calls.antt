@@ -77,7 +77,7 @@ define-world room k w h f =
 
 record-world : (l n c : ℕ) (w v : World) → n < 65536 → WorldFits w → recorded l n c w ≡ ok v → WorldFits v
 record-world l n c w v h f e = elim (recorded-is l n c w v e) [
-  | inl q ↦ subst WorldFits q f
+  | inl q ↦ subst WorldFits (q .is) f
   | inr x ↦ subst WorldFits (x .is) (record { cache = all-both EntryFits (w .base .cache) _ (f .cache) (h, tt); ties = f .ties; subtypes = f .subtypes })
 ]
 
