@@ -37,27 +37,27 @@ refusal (Stepped (Refused w)) = some w
 refusal (RanFor k s) = none
 refusal (Denied w) = some w
 
-abbrev Taken : Given Reply → Type 0
+abbrev pub Taken : Given Reply → Type 0
 Taken g = refusal (g .answer) ≡ none
 
-abbrev Went : Given Answer → Type 0
+abbrev pub Went : Given Answer → Type 0
 Went g = refusal (Stepped (g .answer)) ≡ none
 
 -- What is accepted on rows answers no refusal
 
-define-taken : (l : ℕ) (bs : List ℕ) (r : Rows) → Ok (defineRows l bs r) Taken
+pub define-taken : (l : ℕ) (bs : List ℕ) (r : Rows) → Ok (defineRows l bs r) Taken
 unfolding defineRows
 define-taken l bs r = then Taken _ _ (λ _ _. then Taken _ _ (λ _ _. then Taken _ _ (λ _ _. refl)))
 
-record-taken : (l n c : ℕ) (r : Rows) → Ok (recordRows l n c r) Taken
+pub record-taken : (l n c : ℕ) (r : Rows) → Ok (recordRows l n c r) Taken
 unfolding recordRows
 record-taken l n c r = then Taken _ _ (λ _ _. refl)
 
-start-taken : (k l n m v : ℕ) (r : Rows) → Ok (startRows k l n m v r) Taken
+pub start-taken : (k l n m v : ℕ) (r : Rows) → Ok (startRows k l n m v r) Taken
 unfolding startRows
 start-taken k l n m v r = then Taken _ _ (λ _ _. then Taken _ _ (λ _ _. refl))
 
-drop-taken : (k : ℕ) (r : Rows) → Ok (dropRows k r) Taken
+pub drop-taken : (k : ℕ) (r : Rows) → Ok (dropRows k r) Taken
 unfolding dropRows
 drop-taken k r = then Taken _ _ (λ _ _. refl)
 
@@ -70,7 +70,7 @@ task-went : (k : ℕ) (w : World) (f : Frame) (fs : List Frame) (r : Rows) → O
 unfolding stepTask
 task-went k w f fs r = then Went _ _ (λ o _. answer-went k (o .result))
 
-step-went : (r : Rows) → Ok (stepRows r) Went
+pub step-went : (r : Rows) → Ok (stepRows r) Went
 unfolding stepRows
 step-went r = go (r .quote) (r .report)
   where
@@ -115,7 +115,7 @@ boot-refusing t w = go (shaped t)
     go true q = never w none refl q
     go false q = record { same = refl; due = subst (Due callBoot (view t)) (some-inj (Word 1) w q) refl }
 
-runs-taken : (n : ℕ) (t : Tables) → refusal (runFrom stepTables n 0 Idle t .answer) ≡ none
+pub runs-taken : (n : ℕ) (t : Tables) → refusal (runFrom stepTables n 0 Idle t .answer) ≡ none
 runs-taken n t = ap (λ (d : Done Reply). refusal (d .answer)) (run-is stepTables n 0 Idle t .gives)
 
 run-refusing : (n : ℕ) (t : Tables) (w : Refusal) → refusal (run n t .answer) ≡ some w → Refusing (callRun n) t (run n t .tables) w

@@ -1,9 +1,8 @@
 -- The invariant is kept by loads, starts and steps.
 use mathlib.Core.Path.{_≡_, refl, sym, ap, _∙_}
-use mathlib.Core.Bool.{Bool, true, false≢true}
+use mathlib.Core.Bool.{Bool, true}
 use mathlib.Core.Option.{Option, none, some, Option·none-ne-some, Option·some-injective}
 use mathlib.Core.List.{List, [], _∷_, _++_, map, List·Memᴰ·eq-of-singleton}
-use mathlib.Core.Logic.{_≢_}
 use Prim.Native.Nat.{ℕ, zero, suc, _+_}
 use native.Mathlib.Omega.{arith}
 use lib.ListN.{length, getElem?}
@@ -11,7 +10,7 @@ use lib.Dec.{eqb, ltb}
 use Rattle.definition.specs.Answers.{Result, _>>=_, need, ok, refused}
 use Rattle.definition.specs.Classes.{Class, Entry, alike, find, hasMethod, methodsOf, slots, superOf}
 use Rattle.definition.specs.Constraints.{World, agrees, edges, pairAgrees, rowAgrees, subtypeEdges, tieEdges, agreesOver}
-use Rattle.definition.specs.Lists.{all, indexOf, isNone}
+use Rattle.definition.specs.Lists.{all, indexOf}
 use Rattle.definition.specs.Loading.{define, recorded, started, withEntry}
 use Rattle.definition.specs.Machine.{Frame, Object, Progress, entryFrame, initialValue, intValue, newObject}
 use Rattle.definition.specs.Requests.{at, fires, grow, has, rest, sameRequest, reach}
@@ -19,6 +18,7 @@ use Rattle.definition.specs.Superclasses.{nearest}
 use Rattle.definition.specs.Verifier.{entryTypes}
 use Rattle.definition.specs.declared.Refusal.the-variants.{Word}
 use Rattle.laws.specs.Agreement.{agrees-true, find-row, super-falls, super-is}
+use Rattle.laws.specs.Members.{method-at}
 use Rattle.laws.specs.Options.{nth-last}
 use Rattle.laws.specs.Results.{Wp, not-wanted, not-word, wp-need, wp-take}
 use Rattle.laws.specs.Tests.{none-is}
@@ -26,7 +26,7 @@ use Rattle.laws.specs.Upward.{nearest-below}
 use Rattle.safety.specs.Conform.{fits-own}
 use Rattle.safety.specs.Store.{Store, booted, inQuote, inReport, inWorld}
 use Rattle.safety.specs.Loads.{linked-class, linked-entry, ss, us}
-use Rattle.safety.specs.Steps.{Kept, as-int, heap-more, later-more, later-same, method-at, zeros-conform}
+use Rattle.safety.specs.Steps.{Kept, as-int, heap-more, later-more, later-same, zeros-conform}
 use Rattle.safety.specs.Typing.{verified-here}
 use Rattle.safety.specs.Valid.{Heap, Later, Linked, Stack, later-stack, rooted}
 use Rattle.laws.specs.Growth.{Grows}

@@ -1,8 +1,8 @@
 -- A step keeps the invariant, and is never stuck.
 use mathlib.Core.Path.{_≡_, refl, sym, ap}
-use mathlib.Core.Bool.{Bool, true, false, _&&_}
+use mathlib.Core.Bool.{Bool, true, false}
 use mathlib.Core.Option.{Option, none, some, Option·none-ne-some, Option·some-injective}
-use mathlib.Core.List.{List, [], _∷_, _++_, map, append-assoc, List·Memᴰ, List·Memᴰ·not-nil, Memᴰ·append-left, Memᴰ·append-right}
+use mathlib.Core.List.{List, [], _∷_, _++_, map, append-assoc, List·Memᴰ, Memᴰ·append-left, Memᴰ·append-right}
 use mathlib.Core.Logic.{_⊎_, inl, inr, _≢_}
 use Prim.Native.Nat.{ℕ, suc, _+_, _-_, _%_}
 use native.Mathlib.Omega.{arith}
@@ -10,10 +10,9 @@ use lib.ListN.{length, getElem?, set}
 use lib.Dec.{eqb, ltb}
 use borrow.Author.Tests.{eqb-true, eqb-false}
 use Rattle.definition.specs.Answers.{Result, _>>=_, ok, take?}
-use Rattle.definition.specs.Classes.{Base, Class, Method, Slot, alike, find, hasField, hasMethod, loaderOf, methodsOf, ownSlots, slotIs, slots, superOf}
+use Rattle.definition.specs.Classes.{Class, Method, Slot, find, hasField, hasMethod, loaderOf, slots, superOf}
 use Rattle.definition.specs.Constraints.{Agrees, Tie, World, newTie, post, posted, tieEdges}
 use Rattle.definition.specs.Instructions.{Decoded}
-use Rattle.definition.specs.Lists.{any, indexOf}
 use Rattle.definition.specs.Machine.{Frame, Object, Progress, Value, entryFrame, execute, give, initialValue, int!, intValue, kind!, newObject, now, nullValue, object!, objectValue, past, pop!, reference!, room!, step, under!, unsetValue, unlistedValue, existing}
 use Rattle.definition.specs.Requests.{Chain, Edge, at}
 use Rattle.definition.specs.Superclasses.{Below, nearest, same}
@@ -24,7 +23,6 @@ use Rattle.laws.specs.Agreement.{super-falls}
 use Rattle.laws.specs.Chains.{chain-join, chain-more}
 use Rattle.laws.specs.Options.{bind-some, each-at, each-both, each-more, each-set, nth-last, nth-snoc, set-nth, need-true}
 use Rattle.laws.specs.Results.{Wp, not-wanted, not-word, wp-bind, wp-known, wp-need, wp-sure, wp-take, wp-there}
-use Rattle.laws.specs.Tests.{and-true, any-found, any-right, any-true}
 use Rattle.laws.specs.Upward.{below-trans, nearest-below, nearest-finds, true-below}
 use Rattle.safety.specs.Conform.{Tied, fits-below, fits-own, override, tied-turn}
 use Rattle.safety.specs.Places.{Noted, agrees-after, carry, meet-class, meet-name, of-class, of-int, tie-there}
@@ -32,8 +30,8 @@ use Rattle.safety.specs.Typing.{Known, known, verified-here}
 use Rattle.safety.specs.Valid.{Conforms, Heap, Later, Linked, Local, ObjectSound, Stack, Top, Under, Verified, later-conforms, later-local, later-ops, later-under}
 use Rattle.definition.specs.Maybe as Maybe
 use Rattle.laws.specs.Growth.{Grows, grows-join, grows-self, tie-edges-more}
-use Rattle.laws.specs.Slots.{slots-below, slots-own}
 use Rattle.definition.specs.Lists.{Each}
+use Rattle.laws.specs.Members.{FieldPlace, MethodAt, field-place, method-at}
 use Rattle.laws.specs.Objects.{changed, numbered-same, numbered-join, numbered-changed, numbered-more}
 
 -- Operands against their types
@@ -126,75 +124,16 @@ wp-object w os l c e (objectValue o) Q g f h q =
 
 -- the field that class d declares, in an object of a class below d
 record FieldAt (w : World) (os : List Object) (b : Object) (d n t : ℕ) : Type 0 where
-  place : ℕ
-  slot : Slot
+  field : FieldPlace (w .base) (b .class) d n t
   value : Value
-  index : indexOf (slotIs d n t) (slots (w .base) d) ≡ some place
-  isSlot : getElem? (slots (w .base) (b .class)) place ≡ some slot
-  there : getElem? (b .values) place ≡ some value
-  owner : slot .owner ≡ d
-  type : slot .type ≡ t
+  there : getElem? (b .values) (field .place) ≡ some value
   conforms : Conforms w os (loaderOf (w .base) d) (typeOfName t) value
 
 field-at : (w : World) (os : List Object) (b : Object) (d n t : ℕ) → hasField (w .base) n t d ≡ true → Below (superOf (w .base)) d (b .class) → ObjectSound w os b → FieldAt w os b d n t
-unfolding hasField slotIs
 field-at w os b d n t h bl ob =
-    let so = slots-own (w .base) d in
-    let hs : any (slotIs d n t) (slots (w .base) d) ≡ true = rw (so .1) (any-right (slotIs d n t) (so .0) (ownSlots (w .base) d) h) in
-    let fo = any-found (slotIs d n t) (slots (w .base) d) hs in
-    let s = fo .item in
-    let pa = and-true (eqb (s .owner) d && eqb (s .name) n) (eqb (s .type) t) (fo .passes) in
-    let pb = and-true (eqb (s .owner) d) (eqb (s .name) n) (pa .0) in
-    let is = slots-below (w .base) bl (fo .place) s (fo .there) in
-    let x = each-at (λ s v. Conforms w os (loaderOf (w .base) (s .owner)) (typeOfName (s .type)) v) (slots (w .base) (b .class)) (b .values) (ob .filled) (fo .place) s is in
-    record {
-      place = fo .place;
-      slot = s;
-      value = x .0;
-      index = fo .index;
-      isSlot = is;
-      there = x .1;
-      owner = eqb-true (s .owner) d (pb .0);
-      type = eqb-true (s .type) t (pa .1);
-      conforms = rw (eqb-true (s .owner) d (pb .0), eqb-true (s .type) t (pa .1)) at (x .2);
-    }
-
--- the method that class s declares
-pub record MethodAt (b : Base) (s n t r : ℕ) : Type 0 where
-  pub place : ℕ
-  pub theClass : Class
-  pub method : Method
-  pub index : indexOf (alike n t r) (methodsOf b s) ≡ some place
-  pub isClass : getElem? (b .classes) s ≡ some theClass
-  pub isMethod : getElem? (theClass .methods) place ≡ some method
-  pub argument : method .argument ≡ t
-  pub result : method .result ≡ r
-  pub loader : loaderOf b s ≡ theClass .loader
-
-pub method-at : (b : Base) (s n t r : ℕ) → hasMethod b n t r s ≡ true → MethodAt b s n t r
-unfolding hasMethod methodsOf alike loaderOf
-method-at b s n t r h = go (getElem? (b .classes) s) refl h
-  where
-    Ms : Option Class → List Method
-    Ms o = elim o as (λ _. List Method) [ none ↦ [] | some k ↦ k .methods ]
-
-    go : (o : Option Class) → getElem? (b .classes) s ≡ o → any (alike n t r) (Ms o) ≡ true → MethodAt b s n t r
-    go none e q = absurd (List·Memᴰ·not-nil (any-true (alike n t r) [] q .1))
-    go (some k) e q =
-        let fo = any-found (alike n t r) (k .methods) q in
-        let x = fo .item in
-        let pa = and-true (eqb (x .name) n && eqb (x .argument) t) (eqb (x .result) r) (fo .passes) in
-        record {
-          place = fo .place;
-          theClass = k;
-          method = x;
-          index = rw (e, methodsOf) (fo .index);
-          isClass = e;
-          isMethod = fo .there;
-          argument = eqb-true (x .argument) t (and-true (eqb (x .name) n) (eqb (x .argument) t) (pa .0) .1);
-          result = eqb-true (x .result) r (pa .1);
-          loader = rw (e, loaderOf) refl;
-        }
+    let p = field-place (w .base) (b .class) d n t h bl in
+    let x = each-at (λ s v. Conforms w os (loaderOf (w .base) (s .owner)) (typeOfName (s .type)) v) (slots (w .base) (b .class)) (b .values) (ob .filled) (p .place) (p .slot) (p .isSlot) in
+    record { field = p; value = x .0; there = x .1; conforms = rw (p .owner, p .type) at (x .2) }
 
 -- the two ties of a call
 abbrev pub ties2 : List Tie → ℕ → ℕ → ℕ → ℕ → List Tie
@@ -457,7 +396,7 @@ module _ (w : World) (os : List Object) (f : Frame) (fs : List Frame) (k : Class
         wp-known (Kept w os) _ _ (q .1) (wp-bind (Kept w os) _ _ (wp-object w os (k .loader) c x (q .0 .top) _ (lk .agreed) fx cf (λ o z th bl ve.
         let nb = nearest-below (superOf (w .base)) (super-falls (w .base)) (hasField (w .base) n t) x d fd in
         let fa = field-at w os z d n t (nb .1) (below-trans bl (nb .0)) (hp o z th) in
-        wp-there (Kept w os) _ _ _ (fa .index) (wp-there (Kept w os) _ _ _ (fa .there)
+        wp-there (Kept w os) _ _ _ (fa .field .index) (wp-there (Kept w os) _ _ _ (fa .there)
         (moved (posted w us) os (later-posted w os us) (linked-posted w us lk g) (heap-posted w os us hp) (typeOfName t ∷ p .more) (tp .τ .locals) ns e (fa .value ∷ q .0 .more) (f .locals) (
           carry (posted w us) os (loaderOf (w .base) d) (k .loader) t (fa .value) (λ h. tie-there (w .ties) (loaderOf (w .base) d) (k .loader) t h) (later-conforms (later-posted w os us) (loaderOf (w .base) d) (typeOfName t) (fa .value) (fa .conforms)),
           later-ops (later-posted w os us) (k .loader) (p .more) (q .0 .more) (q .3),
@@ -483,20 +422,20 @@ module _ (w : World) (os : List Object) (f : Frame) (fs : List Frame) (k : Class
         wp-known (Kept w os) _ _ (x .1) (wp-known (Kept w os) _ _ (y .1) (wp-known (Kept w os) _ _ (kind-of w os (k .loader) t (x .0 .top) cv) (wp-bind (Kept w os) _ _ (wp-object w os (k .loader) c r (y .0 .top) _ (lk .agreed) fr cf (λ o z th bl ve.
         let nb = nearest-below (superOf (w .base)) (super-falls (w .base)) (hasField (w .base) n t) r d fd in
         let fa = field-at w os z d n t (nb .1) (below-trans bl (nb .0)) (hp o z th) in
-        wp-there (Kept w os) _ _ _ (fa .index) (put us d g (λ h. tie-there (w .ties) (loaderOf (w .base) d) (k .loader) t h) o z th (q .more) (ns ++ ms) e (x .0 .top) (y .0 .more) cv (y .3) fa))))))))))
+        wp-there (Kept w os) _ _ _ (fa .field .index) (put us d g (λ h. tie-there (w .ties) (loaderOf (w .base) d) (k .loader) t h) o z th (q .more) (ns ++ ms) e (x .0 .top) (y .0 .more) cv (y .3) fa))))))))))
       where
         put : (us : List Tie) (d : ℕ) → Agrees (posted w us) → (t ≢ 1 → Tied (posted w us) (at (loaderOf (w .base) d) t) (at (k .loader) t)) → (o : ℕ) (z : Object) → getElem? os o ≡ some z → (ts : List VerifierType) (rs : List Note) → flow ts (tp .τ .locals) rs ≡ some fl → (v : Value) (vs : List Value)
             → Conforms w os (k .loader) (typeOfName t) v → Each (Conforms w os (k .loader)) ts vs → (fa : FieldAt w os z d n t)
-            → Kept w os (record { world = posted w us; objects = changed os o z (set (z .values) (fa .place) v); frames = past f i vs (f .locals) ∷ fs; result = none })
+            → Kept w os (record { world = posted w us; objects = changed os o z (set (z .values) (fa .field .place) v); frames = past f i vs (f .locals) ∷ fs; result = none })
         put us d g ti o z th ts rs fe v vs cv ev fa =
             let u = posted w us in
             let y = later-posted w os us in
-            let qs = changed os o z (set (z .values) (fa .place) v) in
+            let qs = changed os o z (set (z .values) (fa .field .place) v) in
             let hu = heap-posted w os us hp in
             let c′ : Conforms u os (loaderOf (w .base) d) (typeOfName t) v = carry u os (k .loader) (loaderOf (w .base) d) t v (λ h. tied-turn u (ti h)) (later-conforms y (k .loader) (typeOfName t) v cv) in
-            let ea = each-set (λ s v. Conforms u os (loaderOf (w .base) (s .owner)) (typeOfName (s .type)) v) (slots (w .base) (z .class)) (z .values) (hu o z th .filled) (fa .place) (fa .slot) v (fa .isSlot) (rw (fa .owner, fa .type) c′) in
-            let x = later-join y (later-changed u os o z (set (z .values) (fa .place) v) th) in
-            moved u qs x (linked-posted w us lk g) (heap-changed u os o z (set (z .values) (fa .place) v) th hu ea) ts (tp .τ .locals) rs fe vs (f .locals)
+            let ea = each-set (λ s v. Conforms u os (loaderOf (w .base) (s .owner)) (typeOfName (s .type)) v) (slots (w .base) (z .class)) (z .values) (hu o z th .filled) (fa .field .place) (fa .field .slot) v (fa .field .isSlot) (rw (fa .field .owner, fa .field .type) c′) in
+            let x = later-join y (later-changed u os o z (set (z .values) (fa .field .place) v) th) in
+            moved u qs x (linked-posted w us lk g) (heap-changed u os o z (set (z .values) (fa .field .place) v) th hu ea) ts (tp .τ .locals) rs fe vs (f .locals)
             (later-ops x (k .loader) ts vs ev) (each-more (later-local x (k .loader)) (tp .τ .locals) (f .locals) (tp .locals))
 
     ex-putf : (c n t : ℕ) → effect (Putfield c n t) (tp .τ) ≡ some fl → Wp (execute w os f fs k i (Putfield c n t)) Q

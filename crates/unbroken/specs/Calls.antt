@@ -43,7 +43,7 @@ all-mem : {A : Type 0} (P : A → Type 0) {xs : List A} {x : A} → All P xs →
 all-mem P {xs = y ∷ ys} {x} h (List·Memᴰ·head e) = rw e (h .0)
 all-mem P {xs = y ∷ ys} {x} h (List·Memᴰ·tail m) = all-mem P (h .1) m
 
-nth-there : {A : Type 0} (xs : List A) (i : ℕ) → i < length xs → (x : A) × (getElem? xs i ≡ some x)
+pub nth-there : {A : Type 0} (xs : List A) (i : ℕ) → i < length xs → (x : A) × (getElem? xs i ≡ some x)
 nth-there [] i h = absurd (omega arith)
 nth-there (x ∷ xs) zero h = (x, refl)
 nth-there (x ∷ xs) (suc i) h = nth-there xs i (omega arith)
