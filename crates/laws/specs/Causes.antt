@@ -12,7 +12,7 @@ use Rattle.definition.specs.Lists.{every, any, isSome, isNone}
 use Rattle.definition.specs.Maybe.{_>>=_}
 use Rattle.definition.specs.Requests.{at}
 use Rattle.definition.specs.Superclasses.{nearest, below}
-use Rattle.definition.specs.Classes.{Base, Class, Method, find, superOf, loaderOf, slots, hasField, hasMethod}
+use Rattle.definition.specs.Classes.{Class, find, superOf, loaderOf, slots, hasField, hasMethod}
 use Rattle.definition.specs.Constraints.{Tie, World, agrees, newTie, agreesAfter}
 use Rattle.definition.specs.Instructions.{decode}
 use Rattle.definition.specs.Verifier.{Note, notesOf}
@@ -21,7 +21,7 @@ use Rattle.definition.specs.Loading.{newSubtypes, overrideTies, hides, withClas
 use Rattle.definition.specs.File.{File, readFile, classOf}
 use Rattle.definition.specs.Tables.{Tables, shaped, Rows, worldOf, view}
 use Rattle.definition.specs.Broken.{broken}
-use Rattle.definition.specs.Calls.{framesIn, Call, callBoot, callDefine, callRecord, callStart, callStep, callRun, callDrop, refusalsOf}
+use Rattle.definition.specs.Calls.{framesIn, Call, callBoot, callDefine, callRecord, callStart, callStep, callRun, callDrop}
 use Rattle.laws.specs.Refusals.{running}
 
 -- a word by its number, and whether it applies

@@ -15,7 +15,7 @@ use Rattle.definition.specs.declared.Answer.the-variants.{Idle, Refused}
 use Rattle.definition.specs.declared.Reply.{Reply}
 use Rattle.definition.specs.declared.Reply.the-variants.{Accepted, Denied}
 use Rattle.definition.specs.Answers.{number, numberOf, endsIn, numberOfStep, Result, refused, ok, _>>=_}
-use Rattle.definition.specs.Constraints.{World}
+use Rattle.definition.specs.Constraints.{World, Agrees}
 use Rattle.definition.specs.File.{classOf}
 use Rattle.definition.specs.Machine.{Frame, Progress}
 use Rattle.definition.specs.Tables.{Tables, shaped, Rows, worldOf, view, put}
@@ -30,6 +30,7 @@ use Rattle.layout.specs.Tests.{All}
 use Rattle.layout.specs.Whole.{Whole, Framed}
 use Rattle.layout.specs.Unbroken.{Lengths, shaped-true, true-shaped, view-put, true-whole, broken-false, object-class}
 use Rattle.unbroken.specs.Steps.{step-moves}
+use Rattle.unbroken.specs.OnRows.{accepted-shaped}
 use Rattle.unbroken.specs.Calls.{ready, start-moves, world-progressed, world-recorded, world-defined, define-whole, record-whole, start-whole, step-whole, drop-whole, boot-whole}
 use Rattle.safety.specs.Store.{Store, storeOf, booted}
 use Rattle.safety.specs.Valid.{Stack}
@@ -217,36 +218,27 @@ all-sane (c ∷ cs) t s = let d = perform-sane c t s in let e = all-sane cs (per
     each f g zero a q = subst Fine (Option·some-injective _ a q) f
     each f g (suc i) a q = g i a q
 
-accepted-shaped : (t : Tables) → boot t .answer ≡ Accepted → shaped t ≡ true
-accepted-shaped t h = shapes (shaped t) refl
-  where
-    refuses : shaped t ≡ false → boot t .answer ≡ Denied (Word 1)
-    refuses e = unfold boot in rw (e, boot) refl
-
-    denied≢ : Path Reply (Denied (Word 1)) Accepted → ⊥
-    denied≢ e = let z : _≡_ {A = ℕ} 0 1 = cc in omega arith
-
-    shapes : (b : Bool) → shaped t ≡ b → shaped t ≡ true
-    shapes true e = e
-    shapes false e = absurd (denied≢ (sym (refuses e) ∙ h))
-
--- for every tables that boot accepts and every list of calls
-pub safety : (t : Tables) → boot t .answer ≡ Accepted → (cs : List Call) → Safe (performAll cs (boot t .tables))
+safe-on : (t : Tables) → Sane t → (cs : List Call) → Safe (performAll cs t)
 unfolding misplaced
-safety t h cs =
-    let s = all-sane cs (boot t .tables) (boot-sane t (accepted-shaped t h) .1) in
-    let r = view (performAll cs (boot t .tables) .tables) in
+safe-on t h cs =
+    let s = all-sane cs t h in
+    let r = view (performAll cs t .tables) in
     let p = valid-placed r (s .1 .valid) in
     record { placed = p; words = placed-words r p; unbroken = s .1 .unbroken; notStuck = s .0 }
 
--- and so for every store that comes from a boot: nothing is misplaced or broken, and no further call is stuck
+-- for every tables that boot accepts and every list of calls
+pub safety : (t : Tables) → boot t .answer ≡ Accepted → (cs : List Call) → Safe (performAll cs (boot t .tables))
+safety t h cs = safe-on (boot t .tables) (boot-sane t (accepted-shaped t h) .1) cs
+
+-- Every store that comes from a boot
+
+from-boot : (t : Tables) → ComesFromBoot t → Sane t
+from-boot t b = subst Sane (b .leaves) (all-sane (b .calls) (boot (b .before) .tables) (boot-sane (b .before) (accepted-shaped (b .before) (b .accepted)) .1) .1)
+
+-- whatever calls follow: nothing is misplaced or broken, and no call is stuck
 pub safe-from-boot : (t : Tables) → ComesFromBoot t → (cs : List Call) → Safe (performAll cs t)
-safe-from-boot t b cs = subst (λ (z : Tables). Safe (performAll cs z)) (b .leaves) (later (b .before) (b .accepted) (b .calls))
-  where
-    later : (s : Tables) → boot s .answer ≡ Accepted → (ds : List Call) → Safe (performAll cs (performAll ds (boot s .tables) .tables))
-    later s h ds =
-        let u = all-sane ds (boot s .tables) (boot-sane s (accepted-shaped s h) .1) in
-        let v = all-sane cs (performAll ds (boot s .tables) .tables) (u .1) in
-        let r = view (performAll cs (performAll ds (boot s .tables) .tables) .tables) in
-        let p = valid-placed r (v .1 .valid) in
-        unfold misplaced in record { placed = p; words = placed-words r p; unbroken = v .1 .unbroken; notStuck = v .0 }
+safe-from-boot t b cs = safe-on t (from-boot t b) cs
+
+-- and the store agrees
+pub agrees-from-boot : (t : Tables) → ComesFromBoot t → Agrees (worldOf (view t))
+agrees-from-boot t b = from-boot t b .valid .linked .agreed

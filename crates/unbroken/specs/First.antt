@@ -9,7 +9,6 @@ use native.Mathlib.Omega.{arith}
 use lib.Dec.{leb}
 use Rattle.definition.specs.declared.Refusal.{Refusal}
 use Rattle.definition.specs.declared.Refusal.the-variants.{Word}
-use Rattle.definition.specs.declared.Answer.{Answer}
 use Rattle.definition.specs.declared.Answer.the-variants.{Idle, Ran, Finished, Refused}
 use Rattle.definition.specs.declared.Reply.{Reply}
 use Rattle.definition.specs.declared.Reply.the-variants.{Accepted, Defined, Stepped, RanFor, Denied}
@@ -26,7 +25,7 @@ use Rattle.layout.specs.Tests.{All}
 use Rattle.layout.specs.Whole.{Whole}
 use Rattle.layout.specs.Unbroken.{broken-false}
 use Rattle.unbroken.specs.Calls.{ready}
-use Rattle.unbroken.specs.Refusing.{numberIn, number-on, number-ok, first-skip, define-first, record-first, start-first, drop-first}
+use Rattle.unbroken.specs.Refusing.{numberIn, number-on, first-skip, define-first, record-first, start-first, drop-first}
 use Rattle.unbroken.specs.RefusingSteps.{step-first}
 
 -- What `first` says

@@ -1,14 +1,13 @@
 -- What an accepted load leaves: the class that a define answers is the next unused, of its file and its loader, and cached under its own request; a record
 -- leaves the request cached as the class recorded.
-use mathlib.Core.Path.{_≡_, refl, sym, ap, _∙_, subst}
-use mathlib.Core.Option.{Option, none, some}
-use mathlib.Core.List.{List, [], _∷_}
+use mathlib.Core.Path.{_≡_, sym, _∙_, subst}
+use mathlib.Core.Option.{some}
+use mathlib.Core.List.{List}
 use mathlib.Core.Logic.{_⊎_, inl, inr}
 use Prim.Native.Nat.{ℕ}
 use native.Mathlib.Omega.{arith}
 use lib.ListN.{length, getElem?, length-map}
 use borrow.Author.Tests.{ltb-true}
-use Rattle.definition.specs.declared.Refusal.{Refusal}
 use Rattle.definition.specs.declared.Reply.{Reply}
 use Rattle.definition.specs.declared.Reply.the-variants.{Accepted, Defined, Denied}
 use Rattle.definition.specs.Requests.{at}

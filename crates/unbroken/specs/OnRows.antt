@@ -3,6 +3,7 @@ use mathlib.Core.Path.{_≡_, refl, sym, ap, _∙_, subst}
 use mathlib.Core.Bool.{Bool, true, false, false≢true, _&&_}
 use mathlib.Core.List.{List, [], _∷_}
 use Prim.Native.Nat.{ℕ, zero, suc}
+use native.Mathlib.Omega.{arith}
 use lib.Dec.{leb}
 use Rattle.definition.specs.declared.Refusal.{Refusal}
 use Rattle.definition.specs.declared.Refusal.the-variants.{Word}
@@ -45,6 +46,17 @@ module _ {A : Type 0} (deny : Refusal → A) (f : Rows → Result (Given A)) (k 
 pub same-boot : (t : Tables) → shaped t ≡ true → Same (boot t .answer) (boot t .tables) (givenRows Accepted bootRows)
 unfolding boot
 same-boot t h = rw (h, boot) (refl, record { unbroken = true-whole bootRows t (shaped-true t h) boot-whole; rows = view-put bootRows t (shaped-true t h) boot-whole })
+
+-- boot accepts only the published lengths
+pub accepted-shaped : (t : Tables) → boot t .answer ≡ Accepted → shaped t ≡ true
+accepted-shaped t h = go (shaped t) refl
+  where
+    refuses : shaped t ≡ false → boot t .answer ≡ Denied (Word 1)
+    refuses e = unfold boot in rw (e, boot) refl
+
+    go : (b : Bool) → shaped t ≡ b → shaped t ≡ true
+    go true e = e
+    go false e = absurd (let z : Path Reply (Denied (Word 1)) Accepted = sym (refuses e) ∙ h in let y : _≡_ {A = ℕ} 0 1 = cc in omega arith)
 
 same-step : (t : Tables) (r : Rows) → Shows t r → Same (stepTables t .answer) (stepTables t .tables) (onRows Refused stepRows r)
 unfolding stepTables

@@ -1,28 +1,24 @@
 -- A define, a record, a start and a drop refuse with the first cause that applies.
-use mathlib.Core.Path.{_≡_, refl, sym, ap, _∙_}
+use mathlib.Core.Path.{_≡_, refl, sym, _∙_}
 use mathlib.Core.Bool.{Bool, true, false, not, _&&_, _||_}
 use mathlib.Core.Option.{Option, none, some}
-use mathlib.Core.List.{List, [], _∷_, _++_}
-use Prim.Native.Nat.{ℕ, zero, suc, _+_}
-use native.Mathlib.Omega.{arith}
+use mathlib.Core.List.{List, [], _∷_}
+use Prim.Native.Nat.{ℕ, _+_}
 use lib.ListN.{length, getElem?}
 use lib.Dec.{eqb, leb, ltb}
 use Rattle.definition.specs.declared.Refusal.{Refusal}
-use Rattle.definition.specs.declared.Refusal.the-variants.{Wanted, Word}
-use Rattle.definition.specs.declared.Reply.{Reply}
+use Rattle.definition.specs.declared.Refusal.the-variants.{Word}
 use Rattle.definition.specs.Requests.{at}
 use Rattle.definition.specs.Superclasses.{nearest}
 use Rattle.definition.specs.Answers.{number, wanted, Result, refused, ok, _>>=_, need, take?}
-use Rattle.definition.specs.Classes.{Class, find, superOf, slots, alike, hasMethod, methodsOf}
+use Rattle.definition.specs.Classes.{find, superOf, alike, hasMethod, methodsOf}
 use Rattle.definition.specs.Constraints.{World, agrees}
-use Rattle.definition.specs.Lists.{every, any, indexOf, isNone}
-use Rattle.definition.specs.Loading.{newSubtypes, overrideTies, hides, withClass, withEntry, define, recorded, started}
-use Rattle.definition.specs.Machine.{Object, Frame, Progress, intValue, newObject, entryFrame}
-use Rattle.definition.specs.Verifier.{Note, notesOf}
+use Rattle.definition.specs.Lists.{any, indexOf, isNone}
+use Rattle.definition.specs.Loading.{hides, withEntry, define, recorded, started}
+use Rattle.definition.specs.Verifier.{notesOf}
 use Rattle.definition.specs.File.{File, readFile, classOf}
 use Rattle.definition.specs.Tables.{Rows, worldOf}
-use Rattle.definition.specs.declared.Reply.the-variants.{Accepted}
-use Rattle.definition.specs.Calls.{given, progressed, framesIn, defineRows, recordRows, startRows, dropRows}
+use Rattle.definition.specs.Calls.{framesIn, defineRows, recordRows, startRows, dropRows}
 use Rattle.definition.specs.Maybe as Maybe
 use Rattle.laws.specs.Agreement.{super-falls}
 use Rattle.laws.specs.Members.{method-at}

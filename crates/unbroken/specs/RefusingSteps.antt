@@ -3,20 +3,19 @@ use mathlib.Core.Path.{_≡_, refl, sym, ap, _∙_}
 use mathlib.Core.Bool.{Bool, true, false, false≢true, not, _&&_}
 use mathlib.Core.Option.{Option, none, some}
 use mathlib.Core.List.{List, [], _∷_, _++_}
-use Prim.Native.Nat.{ℕ, suc, _<_}
+use Prim.Native.Nat.{ℕ}
 use native.Mathlib.Omega.{arith}
 use lib.ListN.{length, getElem?, set}
 use lib.Dec.{eqb, leb, ltb}
-use Rattle.definition.specs.declared.Refusal.{Refusal}
 use Rattle.definition.specs.declared.Refusal.the-variants.{Word}
 use Rattle.definition.specs.declared.Instruction.{Instruction}
 use Rattle.definition.specs.declared.Instruction.the-variants.{AconstNull, Sipush, Iload, Aload, Istore, Astore, Pop, Dup, Iadd, Isub, Getfield, Putfield, Invokevirtual, New, Ireturn, Areturn}
 use Rattle.definition.specs.Requests.{Request, at}
 use Rattle.definition.specs.Superclasses.{Below, below, nearest}
-use Rattle.definition.specs.Answers.{number, wanted, Result, refused, ok, _>>=_, need, take?}
+use Rattle.definition.specs.Answers.{number, wanted, Result, ok, _>>=_, need, take?}
 use Rattle.definition.specs.Classes.{Class, find, superOf, slots, slotIs, hasField, alike, methodsOf, hasMethod}
 use Rattle.definition.specs.Constraints.{Tie, World, posted, agreesAfter, post}
-use Rattle.definition.specs.Instructions.{Decoded, decode}
+use Rattle.definition.specs.Instructions.{Decoded}
 use Rattle.definition.specs.Lists.{indexOf, isSome, isNone}
 use Rattle.definition.specs.Machine.{Value, unsetValue, intValue, nullValue, objectValue, unlistedValue, Object, Frame, Progress, Now, existing, pop!, int!, reference!, kind!, room!, object!, past, entryFrame, now, under!, give, execute, step}
 use Rattle.definition.specs.Verifier.{pop}
@@ -25,7 +24,7 @@ use Rattle.laws.specs.Agreement.{super-falls}
 use Rattle.laws.specs.Growth.{nth-lt}
 use Rattle.laws.specs.Members.{FieldPlace, field-place, method-at}
 use Rattle.laws.specs.Upward.{nearest-below, below-true, below-trans}
-use Rattle.laws.specs.Causes.{Cause, cause, first, isSomeAnd, anInt, aNull, aReference, ofKind, isEmpty, noRoom, noRoomBelow, receives, selects, fieldTies, methodTies, plainly, accessing, named, upward, reading, readCauses, frameCauses, instructionCauses}
+use Rattle.laws.specs.Causes.{Cause, cause, first, isSomeAnd, anInt, aNull, aReference, ofKind, isEmpty, noRoom, noRoomBelow, receives, selects, fieldTies, methodTies, plainly, accessing, reading, readCauses, frameCauses, instructionCauses}
 use Rattle.layout.specs.Whole.{ObjectSound}
 use Rattle.unbroken.specs.Steps.{Ready, all-nth}
 use Rattle.unbroken.specs.Calls.{nth-there}
