@@ -14,7 +14,7 @@ use Rattle.definition.specs.Classes.{Base, superOf}
 use Rattle.definition.specs.Instructions.{pick}
 use Rattle.definition.specs.declared.Refusal.the-variants.{Word}
 use Rattle.definition.specs.Answers.{refused, ok, _>>=_, need, take?}
-use Rattle.definition.specs.Machine.{Value, unsetValue, intValue, nullValue, objectValue, unlistedValue, Object, existing, int!, reference!, object! }
+use Rattle.definition.specs.Machine.{Value, unsetValue, intValue, nullValue, objectValue, unlistedValue, Object, existing, int!, reference!, object!}
 use Rattle.definition.specs.Tables.{valueOf, kindOf}
 use Rattle.definition.specs.Broken.{valueFits, localFits}
 use Rattle.layout.specs.Cells.{kind-value}

@@ -4,8 +4,9 @@ pub mod Typing
 pub mod Conform
 pub mod Valid
 pub mod Places
+pub mod Later
+pub mod Operands
 pub mod Steps
-pub mod Heap
 pub mod Loads
 pub mod Safe
 pub mod Misplaced

@@ -8,7 +8,7 @@ use native.Mathlib.Omega.{arith}
 use lib.ListN.{length, getElem?}
 use lib.Dec.{eqb, ltb}
 use Rattle.definition.specs.Answers.{Result, _>>=_, need, ok, refused}
-use Rattle.definition.specs.Classes.{Class, Entry, alike, find, hasMethod, methodsOf, slots, superOf}
+use Rattle.definition.specs.Classes.{Class, Entry, alike, find, hasMethod, loaderOf, methodsOf, slots, superOf}
 use Rattle.definition.specs.Constraints.{World, agrees, edges, pairAgrees, rowAgrees, subtypeEdges, tieEdges, agreesOver}
 use Rattle.definition.specs.Lists.{all, indexOf}
 use Rattle.definition.specs.Loading.{define, recorded, started, withEntry}
@@ -26,13 +26,12 @@ use Rattle.laws.specs.Upward.{nearest-below}
 use Rattle.safety.specs.Conform.{fits-own}
 use Rattle.safety.specs.Store.{Store, booted, inQuote, inReport, inWorld}
 use Rattle.safety.specs.Loads.{linked-class, linked-entry, ss, us}
-use Rattle.safety.specs.Steps.{Kept, as-int, heap-more, later-more, later-same, zeros-conform}
+use Rattle.safety.specs.Operands.{as-int}
+use Rattle.safety.specs.Later.{Kept, heap-grows, heap-more, later-more, later-same, zeros-conform, entered-top}
 use Rattle.safety.specs.Typing.{verified-here}
 use Rattle.safety.specs.Valid.{Heap, Later, Linked, Stack, later-stack, rooted}
-use Rattle.laws.specs.Growth.{Grows}
-use Rattle.laws.specs.Growth.{grows-class, grows-entry}
+use Rattle.laws.specs.Growth.{Grows, grows-class, grows-entry}
 use Rattle.laws.specs.Objects.{numbered-same}
-use Rattle.safety.specs.Heap.{heap-grows}
 
 boot-agrees : agrees (booted .world) ≡ true
 unfolding agrees agreesOver reach all rowAgrees pairAgrees find edges tieEdges subtypeEdges has grow fires rest sameRequest
@@ -93,7 +92,6 @@ start-kept l n m x v os fs lk hp =
         let nb = nearest-below (superOf (v .base)) (super-falls (v .base)) (hasMethod (v .base) m 1 1) c s fs in
         let ma = method-at (v .base) s m 1 1 (nb .1) in
         let r = lk .real (at l n) c fc in
-        let ve = lk .verified s (ma .place) (ma .theClass) (ma .method) (ma .isClass) (ma .isMethod) in
         let z : j ≡ ma .place = Option·some-injective _ _ (sym ij ∙ ma .index) in
         record {
           linked = lk;
@@ -102,19 +100,7 @@ start-kept l n m x v os fs lk hp =
           stack = (
             ma .theClass,
             ma .method,
-            record {
-              τ = entryTypes (ma .theClass) (ma .method);
-              typed = record {
-                isClass = ma .isClass;
-                isMethod = rw z (ma .isMethod);
-                types = verified-here (ma .method .code) (ma .method .result) (length (ma .method .code)) 0 (entryTypes (ma .theClass) (ma .method)) (ve .notes) (ve .passes);
-              };
-              operands = tt;
-              locals = (
-                record { object = b; there = nth-last os b; fits = fits-own (lk .own s (ma .theClass) (ma .isClass)) (nb .0) },
-                (as-int v qs (ma .theClass .loader) (ma .method .argument) (intValue x) (ma .argument) tt, (tt, (tt, (tt, (tt, (tt, (tt, tt))))))),
-              );
-            },
+            rw z (entered-top v qs lk s m 1 1 ma (length os) b (nth-last os b) (nb .0) (intValue x) (as-int v qs (loaderOf (v .base) s) 1 (intValue x) refl tt)),
             ma .result,
           );
         }

@@ -34,7 +34,8 @@ use Rattle.unbroken.specs.OnRows.{accepted-shaped}
 use Rattle.unbroken.specs.Calls.{ready, start-moves, world-progressed, world-recorded, world-defined, define-whole, record-whole, start-whole, step-whole, drop-whole, boot-whole}
 use Rattle.safety.specs.Store.{Store, storeOf, booted}
 use Rattle.safety.specs.Valid.{Stack}
-use Rattle.safety.specs.Steps.{Kept, step-kept}
+use Rattle.safety.specs.Later.{Kept}
+use Rattle.safety.specs.Steps.{step-kept}
 use Rattle.safety.specs.Safe.{Valid, Loaded, define-kept, record-kept, start-kept, valid-world, valid-quote, valid-report, valid-booted}
 use Rattle.safety.specs.Misplaced.{valid-placed}
 use Rattle.safety.specs.Words.{placed-words}

@@ -1,218 +1,39 @@
 -- A step keeps the invariant, and is never stuck.
 use mathlib.Core.Path.{_≡_, refl, sym, ap}
 use mathlib.Core.Bool.{Bool, true, false}
-use mathlib.Core.Option.{Option, none, some, Option·none-ne-some, Option·some-injective}
-use mathlib.Core.List.{List, [], _∷_, _++_, map, append-assoc, List·Memᴰ, Memᴰ·append-left, Memᴰ·append-right}
-use mathlib.Core.Logic.{_⊎_, inl, inr, _≢_}
+use mathlib.Core.Option.{Option, none, some, Option·none-ne-some}
+use mathlib.Core.List.{List, [], _∷_, _++_, map, Memᴰ·append-left, Memᴰ·append-right}
+use mathlib.Core.Logic.{inl, inr, _≢_}
 use Prim.Native.Nat.{ℕ, suc, _+_, _-_, _%_}
 use native.Mathlib.Omega.{arith}
 use lib.ListN.{length, getElem?, set}
 use lib.Dec.{eqb, ltb}
 use borrow.Author.Tests.{eqb-true, eqb-false}
-use Rattle.definition.specs.Answers.{Result, _>>=_, ok, take?}
-use Rattle.definition.specs.Classes.{Class, Method, Slot, find, hasField, hasMethod, loaderOf, slots, superOf}
-use Rattle.definition.specs.Constraints.{Agrees, Tie, World, newTie, post, posted, tieEdges}
+use Rattle.definition.specs.Answers.{Result, _>>=_, ok}
+use Rattle.definition.specs.Classes.{Class, Method, hasField, hasMethod, loaderOf, slots, superOf}
+use Rattle.definition.specs.Constraints.{Agrees, Tie, World, newTie, posted}
 use Rattle.definition.specs.Instructions.{Decoded}
-use Rattle.definition.specs.Machine.{Frame, Object, Progress, Value, entryFrame, execute, give, initialValue, int!, intValue, kind!, newObject, now, nullValue, object!, objectValue, past, pop!, reference!, room!, step, under!, unsetValue, unlistedValue, existing}
-use Rattle.definition.specs.Requests.{Chain, Edge, at}
+use Rattle.definition.specs.Machine.{Frame, Object, Progress, Value, entryFrame, execute, give, initialValue, int!, intValue, newObject, now, nullValue, objectValue, past, pop!, reference!, step, under!}
+use Rattle.definition.specs.Requests.{at}
 use Rattle.definition.specs.Superclasses.{Below, nearest, same}
 use Rattle.definition.specs.Verifier.{Flow, Note, VerifierType, asReference, effect, entryTypes, flow, meetClass, meetInt, meets, pop, returns, typeClass, typeInt, typeNull, typeOfName, typesAt}
 use Rattle.definition.specs.declared.Instruction.{Instruction}
 use Rattle.definition.specs.declared.Instruction.the-variants.{AconstNull, Aload, Areturn, Astore, Dup, Getfield, Iadd, Iload, Invokevirtual, Ireturn, Istore, Isub, New, Pop, Putfield, Sipush}
 use Rattle.laws.specs.Agreement.{super-falls}
 use Rattle.laws.specs.Chains.{chain-join, chain-more}
-use Rattle.laws.specs.Options.{bind-some, each-at, each-both, each-more, each-set, nth-last, nth-snoc, set-nth, need-true}
-use Rattle.laws.specs.Results.{Wp, not-wanted, not-word, wp-bind, wp-known, wp-need, wp-sure, wp-take, wp-there}
-use Rattle.laws.specs.Upward.{below-trans, nearest-below, nearest-finds, true-below}
-use Rattle.safety.specs.Conform.{Tied, fits-below, fits-own, override, tied-turn}
-use Rattle.safety.specs.Places.{Noted, agrees-after, carry, meet-class, meet-name, of-class, of-int, tie-there}
+use Rattle.laws.specs.Options.{bind-some, each-at, each-both, each-more, each-set, nth-last, need-true}
+use Rattle.laws.specs.Results.{Wp, not-wanted, not-word, wp-bind, wp-known, wp-need, wp-take, wp-there}
+use Rattle.laws.specs.Upward.{below-trans, nearest-below, nearest-finds}
+use Rattle.safety.specs.Conform.{Tied, fits-own, override, tied-turn}
+use Rattle.safety.specs.Places.{Noted, carry, meet-class, meet-name, of-class, of-int, tie-there}
 use Rattle.safety.specs.Typing.{Known, known, verified-here}
-use Rattle.safety.specs.Valid.{Conforms, Heap, Later, Linked, Local, ObjectSound, Stack, Top, Under, Verified, later-conforms, later-local, later-ops, later-under}
+use Rattle.safety.specs.Valid.{Conforms, Heap, Later, Linked, Local, Stack, Top, Under, Verified, later-conforms, later-local, later-ops, later-under}
 use Rattle.definition.specs.Maybe as Maybe
-use Rattle.laws.specs.Growth.{Grows, grows-join, grows-self, tie-edges-more}
 use Rattle.definition.specs.Lists.{Each}
-use Rattle.laws.specs.Members.{FieldPlace, MethodAt, field-place, method-at}
-use Rattle.laws.specs.Objects.{changed, numbered-same, numbered-join, numbered-changed, numbered-more}
-
--- Operands against their types
-
-abbrev Popped : Type 0
-Popped = record { top : Value; more : List Value }
-
-each-pop : (R : VerifierType → Value → Type 0) (ts : List VerifierType) (vs : List Value) (t : VerifierType) (us : List VerifierType) → pop ts ≡ some (record { top = t; more = us }) → Each R ts vs
-    → (q : Popped) × (pop! vs ≡ ok q) × R t (q .top) × Each R us (q .more)
-unfolding pop pop! take?
-each-pop R [] vs t us e h = absurd (Option·none-ne-some _ e)
-each-pop R (x ∷ xs) [] t us e h = absurd h
-each-pop R (x ∷ xs) (v ∷ vs) t us e h =
-    let z = Option·some-injective _ _ e in
-    (record { top = v; more = vs }, refl, rw (ap (λ (p : record { top : VerifierType; more : List VerifierType }). p .top) z) at (h .0), rw (ap (λ (p : record { top : VerifierType; more : List VerifierType }). p .more) z) at (h .1))
-
-int-of : (w : World) (os : List Object) (l : ℕ) (t : VerifierType) (v : Value) {ns : List Note} → meetInt t ≡ some ns → Conforms w os l t v → (n : ℕ) × (int! v ≡ ok n) × Conforms w os l typeInt v
-unfolding meetInt int!
-int-of w os l typeInt unsetValue e h = absurd h
-int-of w os l typeInt (unlistedValue α β) e h = absurd h
-int-of w os l typeInt (intValue n) e h = (n, refl, tt)
-int-of w os l typeInt nullValue e h = absurd h
-int-of w os l typeInt (objectValue o) e h = absurd h
-int-of w os l typeNull v {ns} e h = absurd (Option·none-ne-some ns e)
-int-of w os l (typeClass a) v {ns} e h = absurd (Option·none-ne-some ns e)
-
-ref-of : (w : World) (os : List Object) (l : ℕ) (t : VerifierType) (v : Value) {u : VerifierType} → asReference t ≡ some u → Conforms w os l t v → reference! v ≡ ok v
-unfolding asReference reference!
-ref-of w os l typeInt v {u} e h = absurd (Option·none-ne-some u e)
-ref-of w os l typeNull unsetValue e h = absurd h
-ref-of w os l typeNull (unlistedValue α β) e h = absurd h
-ref-of w os l typeNull (intValue n) e h = absurd h
-ref-of w os l typeNull nullValue e h = refl
-ref-of w os l typeNull (objectValue o) e h = refl
-ref-of w os l (typeClass a) unsetValue e h = absurd h
-ref-of w os l (typeClass a) (unlistedValue α β) e h = absurd h
-ref-of w os l (typeClass a) (intValue n) e h = absurd h
-ref-of w os l (typeClass a) nullValue e h = refl
-ref-of w os l (typeClass a) (objectValue o) e h = refl
-
-flow-is : (o : List VerifierType) (l : List (Option VerifierType)) (n : List Note) (fl : Flow) → flow o l n ≡ some fl → _≡_ {A = Flow} (record { types = record { operands = o; locals = l }; notes = n }) fl
-flow-is o l n fl h = Option·some-injective _ _ (bind-some _ _ h .2)
-
-pub as-int : (w : World) (os : List Object) (l r : ℕ) (v : Value) → r ≡ 1 → Conforms w os l typeInt v → Conforms w os l (typeOfName r) v
-as-int w os l r v e h = rw (e, of-int) h
-
-kind-of : (w : World) (os : List Object) (l t : ℕ) (v : Value) → Conforms w os l (typeOfName t) v → kind! t v ≡ ok tt
-unfolding kind! typeOfName int! reference! _>>=_
-kind-of w os l t v h = go (eqb t 1) v h
-  where
-    go : (z : Bool) (v : Value) → Conforms w os l (elim z as (λ _. VerifierType) [ true ↦ typeInt | false ↦ typeClass t ]) v → (elim z as (λ _. Result (Unit {0})) [ true ↦ int! v >>= λ _. ok tt | false ↦ reference! v >>= λ _. ok tt ]) ≡ ok tt
-    go true unsetValue h = absurd h
-    go true (unlistedValue α β) h = absurd h
-    go true (intValue n) h = refl
-    go true nullValue h = absurd h
-    go true (objectValue o) h = absurd h
-    go false unsetValue h = absurd h
-    go false (unlistedValue α β) h = absurd h
-    go false (intValue n) h = absurd h
-    go false nullValue h = refl
-    go false (objectValue o) h = refl
-
-wp-room : {B : Type 0} (Q : B → Type 0) (vs : List Value) (f : Unit {0} → Result B) → Wp (f tt) Q → Wp (room! vs >>= f) Q
-unfolding room!
-wp-room Q vs f h = wp-need Q _ _ _ (not-word 10 (omega arith)) (λ _. h)
-
--- Posting ties
-
-wp-post : (w : World) (room : Bool) (us : List Tie) (Q : World → Type 0) → Agrees w → (Agrees (posted w us) → Q (posted w us)) → Wp (post w room us) Q
-unfolding post
-wp-post w room us Q g h = wp-need Q _ _ _ (not-word 10 (omega arith)) (λ _. wp-need Q _ _ _ (not-word 9 (omega arith)) (λ e. h (agrees-after w us g e)))
-
-ties-more : (w : World) (us : List Tie) (e : Edge) → List·Memᴰ e (tieEdges (w .ties)) → List·Memᴰ e (tieEdges (w .ties ++ us))
-ties-more w us e m = rw (tie-edges-more (w .ties) us) (Memᴰ·append-left (tieEdges us) m)
-
-grows-posted : (w : World) (us : List Tie) → Grows w (posted w us)
-grows-posted w us = record { classes = λ c k h. h; cache = λ r c h. h; ties = ties-more w us; subtypes = λ e m. m }
-
--- the object behind a receiver
-wp-object : (w : World) (os : List Object) (l c e : ℕ) (v : Value) (Q : record { number : ℕ; object : Object } → Type 0) → Agrees w → find (w .base .cache) (at l c) ≡ some e → Conforms w os l (typeClass c) v
-    → ((o : ℕ) (b : Object) → getElem? os o ≡ some b → Below (superOf (w .base)) e (b .class) → v ≡ objectValue o → Q (record { number = o; object = b })) → Wp (object! (w .base) os e v) Q
-unfolding object! existing
-wp-object w os l c e unsetValue Q g f h q = absurd h
-wp-object w os l c e (unlistedValue α β) Q g f h q = absurd h
-wp-object w os l c e (intValue n) Q g f h q = absurd h
-wp-object w os l c e nullValue Q g f h q = not-word 11 (omega arith)
-wp-object w os l c e (objectValue o) Q g f h q =
-    let b = fits-below g (h .fits) f in
-    wp-there Q _ _ _ (h .there) (wp-sure Q _ _ _ (true-below (superOf (w .base)) (super-falls (w .base)) (h .object .class) e b) (q o (h .object) (h .there) b refl))
-
--- the field that class d declares, in an object of a class below d
-record FieldAt (w : World) (os : List Object) (b : Object) (d n t : ℕ) : Type 0 where
-  field : FieldPlace (w .base) (b .class) d n t
-  value : Value
-  there : getElem? (b .values) (field .place) ≡ some value
-  conforms : Conforms w os (loaderOf (w .base) d) (typeOfName t) value
-
-field-at : (w : World) (os : List Object) (b : Object) (d n t : ℕ) → hasField (w .base) n t d ≡ true → Below (superOf (w .base)) d (b .class) → ObjectSound w os b → FieldAt w os b d n t
-field-at w os b d n t h bl ob =
-    let p = field-place (w .base) (b .class) d n t h bl in
-    let x = each-at (λ s v. Conforms w os (loaderOf (w .base) (s .owner)) (typeOfName (s .type)) v) (slots (w .base) (b .class)) (b .values) (ob .filled) (p .place) (p .slot) (p .isSlot) in
-    record { field = p; value = x .0; there = x .1; conforms = rw (p .owner, p .type) at (x .2) }
-
--- the two ties of a call
-abbrev pub ties2 : List Tie → ℕ → ℕ → ℕ → ℕ → List Tie
-ties2 ts l m a r = newTie ts l m a ++ newTie (ts ++ newTie ts l m a) l m r
-
-pub call-arg : (ts : List Tie) (l m a r : ℕ) → a ≢ 1 → Chain (tieEdges (ts ++ ties2 ts l m a r)) (at l a) (at m a)
-call-arg ts l m a r h = rw (sym (append-assoc ts (newTie ts l m a) (newTie (ts ++ newTie ts l m a) l m r)), tie-edges-more (ts ++ newTie ts l m a) (newTie (ts ++ newTie ts l m a) l m r))
-    (chain-more (λ e i. Memᴰ·append-left (tieEdges (newTie (ts ++ newTie ts l m a) l m r)) i) (tie-there ts l m a h))
-
-pub call-res : (ts : List Tie) (l m a r : ℕ) → r ≢ 1 → Chain (tieEdges (ts ++ ties2 ts l m a r)) (at l r) (at m r)
-call-res ts l m a r h = rw (sym (append-assoc ts (newTie ts l m a) (newTie (ts ++ newTie ts l m a) l m r))) (tie-there (ts ++ newTie ts l m a) l m r h)
-
-pub record Kept (v : World) (os : List Object) (out : Progress) : Type 0 where
-  pub linked : Linked (out .world)
-  pub heap : Heap (out .world) (out .objects)
-  pub stack : Stack (out .world) (out .objects) (out .frames)
-  pub later : Later v os (out .world) (out .objects)
-
-pub later-same : (w : World) (os : List Object) → Later w os w os
-later-same w os = record { grows = grows-self w; objects = numbered-same os }
-
-later-posted : (w : World) (os : List Object) (us : List Tie) → Later w os (posted w us) os
-later-posted w os us = record { grows = grows-posted w us; objects = numbered-same os }
-
-heap-posted : (w : World) (os : List Object) (us : List Tie) → Heap w os → Heap (posted w us) os
-heap-posted w os us h o b e = let x = h o b e in record { theClass = x .theClass; isClass = x .isClass; filled = each-more (λ s v. later-conforms (later-posted w os us) (loaderOf (w .base) (s .owner)) (typeOfName (s .type)) v) (slots (w .base) (b .class)) (b .values) (x .filled) }
-
-linked-posted : (w : World) (us : List Tie) → Linked w → Agrees (posted w us) → Linked (posted w us)
-linked-posted w us k g = record {
-  agreed = g;
-  own = k .own;
-  real = k .real;
-  supers = k .supers;
-  verified = λ c j x m a b. let v = k .verified c j x m a b in record { notes = v .notes; passes = v .passes; posted = v .posted };
-  overArg = λ n a r x p y h s q z. chain-more (ties-more w us) (k .overArg n a r x p y h s q z);
-  overRes = λ n a r x p y h s q z. chain-more (ties-more w us) (k .overRes n a r x p y h s q z);
-}
-
-later-changed : (w : World) (os : List Object) (o : ℕ) (b : Object) (vs : List Value) → getElem? os o ≡ some b → Later w os w (changed os o b vs)
-later-changed w os o b vs h = record { grows = grows-self w; objects = numbered-changed os o b vs h }
-
-pub later-join : {u v w : World} {os ps qs : List Object} → Later u os v ps → Later v ps w qs → Later u os w qs
-later-join {os} {ps} {qs} y z = record { grows = grows-join (y .grows) (z .grows); objects = numbered-join os ps qs (y .objects) (z .objects) }
-
-pub object-later : {w : World} {os qs : List Object} → Later w os w qs → (b : Object) → ObjectSound w os b → ObjectSound w qs b
-object-later {w} z b x = record {
-  theClass = x .theClass;
-  isClass = x .isClass;
-  filled = each-more (λ s u. later-conforms z (loaderOf (w .base) (s .owner)) (typeOfName (s .type)) u) (slots (w .base) (b .class)) (b .values) (x .filled);
-}
-
-heap-changed : (w : World) (os : List Object) (o : ℕ) (b : Object) (vs : List Value) → getElem? os o ≡ some b → Heap w os
-    → Each (λ s v. Conforms w os (loaderOf (w .base) (s .owner)) (typeOfName (s .type)) v) (slots (w .base) (b .class)) vs → Heap w (changed os o b vs)
-heap-changed w os o b vs h hp ea x y e = go (set-nth os o (record { class = b .class; values = vs }) x y e)
-  where
-    z : Later w os w (changed os o b vs)
-    z = later-changed w os o b vs h
-
-    go : (getElem? os x ≡ some y) ⊎ ((x ≡ o) × (y ≡ record { class = b .class; values = vs })) → ObjectSound w (changed os o b vs) y
-    go (inl q) = object-later z y (hp x y q)
-    go (inr q) = rw (q .1) (object-later z (record { class = b .class; values = vs }) (record { theClass = hp o b h .theClass; isClass = hp o b h .isClass; filled = ea }))
-
--- one object more
-pub later-more : (w : World) (os : List Object) (b : Object) → Later w os w (os ++ (b ∷ []))
-later-more w os b = record { grows = grows-self w; objects = numbered-more os b }
-
-pub heap-more : (w : World) (os : List Object) (b : Object) → Heap w os → ObjectSound w os b → Heap w (os ++ (b ∷ []))
-heap-more w os b hp ob x y e = elim (nth-snoc os b x y e)
-    [ inl q ↦ object-later (later-more w os b) y (hp x y q) | inr q ↦ object-later (later-more w os b) y (rw (q .1) ob) ]
-
--- a new object holds zeros and nulls
-pub zeros-conform : (w : World) (os : List Object) (ss : List Slot) → Each (λ s v. Conforms w os (loaderOf (w .base) (s .owner)) (typeOfName (s .type)) v) ss (map initialValue ss)
-unfolding initialValue typeOfName
-zeros-conform w os [] = tt
-zeros-conform w os (s ∷ ss) = (go (eqb (s .type) 1), zeros-conform w os ss)
-  where
-    go : (t : Bool) → Conforms w os (loaderOf (w .base) (s .owner)) (elim t as (λ _. VerifierType) [ true ↦ typeInt | false ↦ typeClass (s .type) ]) (elim t as (λ _. Value) [ true ↦ intValue 0 | false ↦ nullValue ])
-    go true = tt
-    go false = tt
+use Rattle.laws.specs.Members.{MethodAt, method-at}
+use Rattle.laws.specs.Objects.{changed}
+use Rattle.safety.specs.Operands.{Popped, each-pop, int-of, ref-of, flow-is, as-int, kind-of, wp-room, wp-post, wp-object, FieldAt, field-at, ties2, call-arg, call-res}
+use Rattle.safety.specs.Later.{ties-more, Kept, later-same, later-posted, heap-posted, linked-posted, later-changed, later-join, heap-changed, later-more, heap-more, zeros-conform, entered-top}
 
 -- a result is handed to the frame below, or ends the task
 give-kept : (w : World) (os : List Object) (fs : List Frame) (l r : ℕ) (v : Value) → Linked w → Heap w os → Under w os l r fs → Conforms w os l (typeOfName r) v → Wp (give fs w os v) (Kept w os)
@@ -464,7 +285,6 @@ module _ (w : World) (os : List Object) (f : Frame) (fs : List Frame) (k : Class
         → Kept w os (record { world = u; objects = os; frames = entryFrame s (ma .place) o v ∷ past f i vs (f .locals) ∷ fs; result = none })
     enter u y lu hu s n t r ma o z th bl v cv tr ts ns e vs ev =
         let q = flow-is (typeOfName r ∷ ts) (tp .τ .locals) ns fl e in
-        let ve = lu .verified s (ma .place) (ma .theClass) (ma .method) (ma .isClass) (ma .isMethod) in
         record {
           linked = lu;
           heap = hu;
@@ -472,16 +292,7 @@ module _ (w : World) (os : List Object) (f : Frame) (fs : List Frame) (k : Class
           stack = (
             ma .theClass,
             ma .method,
-            record {
-              τ = entryTypes (ma .theClass) (ma .method);
-              typed = record {
-                isClass = ma .isClass;
-                isMethod = ma .isMethod;
-                types = verified-here (ma .method .code) (ma .method .result) (length (ma .method .code)) 0 (entryTypes (ma .theClass) (ma .method)) (ve .notes) (ve .passes);
-              };
-              operands = tt;
-              locals = (record { object = z; there = th; fits = fits-own (lu .own s (ma .theClass) (ma .isClass)) bl }, (rw (ma .argument, sym (ma .loader)) cv, (tt, (tt, (tt, (tt, (tt, (tt, tt))))))));
-            },
+            entered-top u os lu s n t r ma o z th bl v cv,
             (
               k,
               m,

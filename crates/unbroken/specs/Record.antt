@@ -2,26 +2,22 @@
 use mathlib.Core.Path.{_≡_, refl, sym, ap, _∙_}
 use mathlib.Core.Bool.{false}
 use mathlib.Core.Option.{some}
-use Prim.Native.Nat.{ℕ}
+use Prim.Native.Nat.{ℕ, _<_, _≤_}
 use Rattle.definition.specs.declared.Reply.{Reply}
 use Rattle.definition.specs.declared.Reply.the-variants.{Accepted, Denied}
 use Rattle.definition.specs.Requests.{at}
-use Rattle.definition.specs.Answers.{Result, ok, _>>=_}
-use Rattle.definition.specs.Classes.{find}
+use Rattle.definition.specs.Answers.{Result, ok, _>>=_, need, take?}
+use Rattle.definition.specs.Classes.{find, Class}
 use Rattle.definition.specs.Constraints.{World}
 use Rattle.definition.specs.Loading.{recorded}
 use Rattle.definition.specs.Tables.{Tables, Rows, worldOf, view, put}
-use Rattle.definition.specs.Calls.{Given, addEntry, recordRows, callRecord, perform}
+use Rattle.definition.specs.Calls.{Given, addEntry, recordRows, callRecord, perform, Done, carried}
 use Rattle.laws.specs.Results.{bind-ok, ok-inj}
 use Rattle.laws.specs.Wrapped.{wrapped, wrap-carried}
 use Rattle.layout.specs.View.{put-view}
-use Prim.Native.Nat.{_<_, _≤_}
 use lib.ListN.{getElem?}
 use borrow.Author.Tests.{lt-ltb, le-leb, eq-eqb}
-use Rattle.definition.specs.Classes.{Class}
 use Rattle.definition.specs.Broken.{broken}
-use Rattle.definition.specs.Answers.{need, take?}
-use Rattle.definition.specs.Calls.{Done, carried}
 
 -- what is accepted for a cached request leaves classes, cache and constraints as they were
 there-same : (l n c d : ℕ) (w v : World) → find (w .base .cache) (at l n) ≡ some d → recorded l n c w ≡ ok v → v ≡ w
