@@ -22,7 +22,8 @@ use Rattle.laws.specs.Objects.{Numbered, numbered-same, numbered-join, numbered
 use Rattle.laws.specs.Runs.{run-keeps}
 use Rattle.laws.specs.Wrapped.{Ok, ok-at, then}
 use Rattle.layout.specs.Tests.{All}
-use Rattle.unbroken.specs.Calls.{Entered, Stood, recorded-is, defined-is, define-whole, record-whole, start-whole, step-whole, drop-whole}
+use Rattle.unbroken.specs.Accepted.{Entered, Stood, recorded-is, defined-is}
+use Rattle.unbroken.specs.Calls.{define-whole, record-whole, start-whole, step-whole, drop-whole}
 use Rattle.definition.specs.Answers.{Result}
 use Rattle.unbroken.specs.Progress.{Advances, step-advances}
 use Rattle.unbroken.specs.Unbroken.{Keeps, shown}

@@ -21,7 +21,8 @@ use Rattle.laws.specs.Results.{need-ok, take-ok}
 use Rattle.laws.specs.Stable.{find-last}
 use Rattle.laws.specs.Wrapped.{Ok, ok-at, then}
 use Rattle.layout.specs.Whole.{Whole}
-use Rattle.unbroken.specs.Calls.{Entered, Stood, recorded-is, defined-is, world-defined, define-whole, record-whole}
+use Rattle.unbroken.specs.Accepted.{Entered, Stood, recorded-is, defined-is}
+use Rattle.unbroken.specs.Calls.{world-defined, define-whole, record-whole}
 use Rattle.unbroken.specs.Unbroken.{shown}
 
 -- class c was defined by loader l from the bytes; before it there were the classes of r, after it those of s

@@ -25,7 +25,8 @@ use Rattle.laws.specs.Stable.{super-stable, below-stable, field-stable, nearest
 use Rattle.laws.specs.Wrapped.{Ok, ok-at, then}
 use Rattle.layout.specs.Tests.{All}
 use Rattle.layout.specs.Whole.{Whole}
-use Rattle.unbroken.specs.Calls.{ready, Entered, Stood, recorded-is, defined-is, world-recorded, world-defined, define-whole, record-whole, start-whole, step-whole, drop-whole}
+use Rattle.unbroken.specs.Accepted.{Entered, Stood, recorded-is, defined-is}
+use Rattle.unbroken.specs.Calls.{ready, world-recorded, world-defined, define-whole, record-whole, start-whole, step-whole, drop-whole}
 use Rattle.unbroken.specs.Unbroken.{Keeps, shown}
 use Rattle.unbroken.specs.Lasting.{IsBoot}
 

@@ -35,7 +35,8 @@ use Rattle.laws.specs.Wrapped.{wrap-broken, wrap-carried, Ok, ok-at, then}
 use Rattle.laws.specs.Runs.{run-keeps}
 use Rattle.layout.specs.Tests.{All, all-more}
 use Rattle.layout.specs.Whole.{Whole}
-use Rattle.unbroken.specs.Calls.{defined-is, world-defined, define-whole, record-whole, start-whole, drop-whole}
+use Rattle.unbroken.specs.Accepted.{defined-is}
+use Rattle.unbroken.specs.Calls.{world-defined, define-whole, record-whole, start-whole, drop-whole}
 use Rattle.unbroken.specs.Unbroken.{Keeps, shown, kept-unbroken}
 use Rattle.unbroken.specs.Lasting.{Lasts, IsBoot, lasting-all}
 

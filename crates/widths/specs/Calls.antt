@@ -20,7 +20,7 @@ use Rattle.definition.specs.Calls.{Given, bootRows, progressed, withFrames, fra
 use Rattle.definition.specs.Widths.{EachBelow}
 use Rattle.laws.specs.Wrapped.{Ok, then}
 use Rattle.layout.specs.Tests.{All, all-both}
-use Rattle.unbroken.specs.Calls.{recorded-is}
+use Rattle.unbroken.specs.Accepted.{recorded-is}
 use Rattle.widths.specs.Below.{below-both}
 use Rattle.widths.specs.Fits.{EntryFits, TieFits, SubtypeFits, ObjectFits, FrameFits, RowsFit}
 use Rattle.widths.specs.Files.{MethodFits, ClassFits, file-fits, classes-fit}
