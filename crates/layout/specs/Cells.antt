@@ -2,23 +2,22 @@
 -- where it fits, and leaves every other row as it is.
 use mathlib.Core.Path.{_≡_, refl, sym, ap, _∙_}
 use mathlib.Core.Bool.{Bool, true, false}
-use mathlib.Core.Option.{none, some}
 use mathlib.Core.List.{List, [], _∷_, _++_}
 use mathlib.Core.Logic.{_≢_}
 use Prim.Native.Nat.{ℕ, suc, _+_, _*_, _<_, _≤_}
 use native.Mathlib.Nat.{suc-mul, mul-le-mul-right}
 use native.Mathlib.Omega.{arith}
-use lib.ListN.{length, getElem?, getD, set, take, drop, replicate, length-set}
+use lib.ListN.{length, getD, set, take, drop, length-set}
 use lib.Seq.{sets, sets-eq, set-getD, set-out, set-comm, getD-set-same, getD-set-other}
 use lib.Dec.{eqb, leb}
 use borrow.Author.Tests.{eqb-true, leb-true, le-leb}
 use Rattle.definition.specs.Lists.{rows, writeRows, stack, writeStack}
 use Rattle.definition.specs.Classes.{Base}
 use Rattle.definition.specs.Instructions.{pick}
-use Rattle.definition.specs.Machine.{Value, unsetValue, intValue, nullValue, objectValue, unlistedValue, Object, Frame, entryFrame}
+use Rattle.definition.specs.Machine.{Value, unsetValue, intValue, nullValue, objectValue, unlistedValue, Object, Frame}
 use Rattle.definition.specs.Tables.{threeAt, putThree, classRow, entry, tie, subtype, classRowAt, putClassRow, entryAt, putEntry, tieAt, putTie, subtypeAt, putSubtype, valueOf, kindOf, bitsOf, valueAt, putCells, putValue, fieldAt, putField, sizeOf, usedFields, objectAt, putObject, localAt, putLocal, operandAt, putOperand, frame, frameOf, frameAt, putHead, putFrame, frameBase, frameIn, putFrameIn}
 use Rattle.layout.specs.Tests.{All, all-each}
-use Rattle.layout.specs.Places.{rows-length, rows-cong, rows-set, rows-last, rows-both, rows-there, rows-past, writeRows-append, writeRows-below, writeRows-first, writeRows-snoc, writeRows-copy, stack-length, stack-cong, writeRows-same, writeStack-same, writeStack-above, writeStack-two, writeRows-replace, writeRows-last, writeRows-length, rows-written, stack-written}
+use Rattle.layout.specs.Places.{rows-length, rows-cong, rows-last, rows-both, writeRows-append, writeRows-below, writeRows-first, writeRows-snoc, writeRows-copy, stack-length, stack-cong, writeRows-same, writeStack-same, writeStack-above, writeRows-replace, writeRows-last, writeRows-length, rows-written, stack-written}
 
 -- Rows of w cells that hold anything
 
@@ -50,9 +49,6 @@ module _ {A : Type 0} {at : List ℕ → ℕ → A} {put : List ℕ → ℕ → 
   pub row-more : (t : List ℕ) (n : ℕ) (x : A) → writeRows put (rows (at t) n 0 ++ (x ∷ [])) 0 t ≡ put t n x
   row-more t n x = writeRows-last put at (laws .same) below t n x
 
-  pub row-replaced : (t : List ℕ) (n j : ℕ) (x : A) → j < n → writeRows put (set (rows (at t) n 0) j x) 0 t ≡ put t j x
-  row-replaced t n j x l = writeRows-replace put at (laws .same) below t n j x l
-
   -- rows written from the first on, as a loop writes them
   pub rows-first : (x : A) (xs : List A) (i : ℕ) (t : List ℕ) → writeRows put (x ∷ xs) i t ≡ writeRows put xs (suc i) (put t i x)
   rows-first x xs i t = writeRows-first put (laws .commute) x xs i t
@@ -63,12 +59,6 @@ module _ {A : Type 0} {at : List ℕ → ℕ → A} {put : List ℕ → ℕ → 
   pub rows-copy : (xs : List A) (d : A) (i j : ℕ) (t : List ℕ) → j < length xs → writeRows put (take (suc j) xs) i t
       ≡ put (writeRows put (take j xs) i t) (i + j) (getD xs j d)
   rows-copy xs d i j t l = writeRows-copy put (laws .commute) xs d i j t l
-
-  -- what is read after a row is written
-  pub rows-after : (t : List ℕ) (n j : ℕ) (x : A) → j < n → n * w ≤ length t → rows (at (put t j x)) n 0 ≡ set (rows (at t) n 0) j x
-  rows-after t n j x l h =
-      let e : 0 + j ≡ j = omega arith in
-      rows-set (at t) (at (put t j x)) n 0 j x (rw e (laws .back t j x (omega (arith, mul-le-mul-right w l, suc-mul j w)))) (λ m q. laws .other t m j x (λ r. q (r ∙ sym e)))
 
   pub rows-after-last : (t : List ℕ) (n : ℕ) (x : A) → suc n * w ≤ length t → rows (at (put t n x)) (suc n) 0 ≡ rows (at t) n 0 ++ (x ∷ [])
   rows-after-last t n x h =
@@ -240,10 +230,6 @@ bits-value k b = one (eqb k 1)
 abbrev pub Proper : Value → Type 0
 Proper v = valueOf (kindOf v) (bitsOf v) ≡ v
 
--- every value that cells give is such a value
-pub proper-value : (k b : ℕ) → Proper (valueOf k b)
-proper-value k b = rw (kind-value k b, bits-value k b)
-
 pub proper-unset : Proper unsetValue
 unfolding valueOf kindOf bitsOf pick
 proper-unset = refl
@@ -263,18 +249,6 @@ proper-object o = refl
 pub putValue-cells : (t : List ℕ) (i k b : ℕ) → putValue t i (valueOf k b) ≡ putCells t i k b
 unfolding putValue
 putValue-cells t i k b = rw (kind-value k b, bits-value k b)
-
-pub putField-cells : (o : ℕ) (t : List ℕ) (i k b : ℕ) → putField o t i (valueOf k b) ≡ putCells t (o * 33 + (1 + 2 * i)) k b
-unfolding putField
-putField-cells o t i k b = putValue-cells t (o * 33 + (1 + 2 * i)) k b
-
-pub putLocal-cells : (c : ℕ) (t : List ℕ) (i k b : ℕ) → putLocal c t i (valueOf k b) ≡ putCells t (c + (4 + 2 * i)) k b
-unfolding putLocal
-putLocal-cells c t i k b = putValue-cells t (c + (4 + 2 * i)) k b
-
-pub putOperand-cells : (c : ℕ) (t : List ℕ) (i k b : ℕ) → putOperand c t i (valueOf k b) ≡ putCells t (c + (20 + 2 * i)) k b
-unfolding putOperand
-putOperand-cells c t i k b = putValue-cells t (c + (20 + 2 * i)) k b
 
 pub putValue-same : (t : List ℕ) (i : ℕ) → putValue t i (valueAt t i) ≡ t
 unfolding valueAt
@@ -305,16 +279,6 @@ valueAt-back t i v l h =
     let f : getD (set (set t i (kindOf v)) (i + 1) (bitsOf v)) (i + 1) 0 ≡ bitsOf v =
     getD-set-same (set t i (kindOf v)) (i + 1) (bitsOf v) 0 (rw (length-set t i (kindOf v)) l) in
     rw (e, f) h
-
--- values in cells, two and two, may be written in any order
-pub putValue-commute : (t : List ℕ) (i j : ℕ) (x y : Value) → i + 1 < j → putValue (putValue t j y) i x ≡ putValue (putValue t i x) j y
-unfolding putValue
-putValue-commute t i j x y l =
-    ap (λ (s : List ℕ). set s (i + 1) (bitsOf x))
-    (set-comm (set t j (kindOf y)) (j + 1) i (bitsOf y) (kindOf x) (λ e. omega arith)
-    ∙ ap (λ (s : List ℕ). set s (j + 1) (bitsOf y)) (set-comm t j i (kindOf y) (kindOf x) (λ e. omega arith)))
-    ∙ (set-comm (set (set t i (kindOf x)) j (kindOf y)) (j + 1) (i + 1) (bitsOf y) (bitsOf x) (λ e. omega arith)
-    ∙ ap (λ (s : List ℕ). set s (j + 1) (bitsOf y)) (set-comm (set t i (kindOf x)) j (i + 1) (kindOf y) (bitsOf x) (λ e. omega arith)))
 
 -- What is read elsewhere: a read that no cell from lo up to hi bears on
 
@@ -444,13 +408,6 @@ unread-object r o hi un x l t =
     unread-places (o * 33) 1 r (o * 33) hi un (x .values) 0 (set t (o * 33) (x .class)) (omega arith) (omega arith)
     ∙ un t (o * 33) (x .class) (omega arith) (omega arith)
 
--- an object put is its cells written, from its class on
-pub object-row : (t : List ℕ) (o : ℕ) (x : Object) → putObject t o x ≡ writeRows set (x .class ∷ valueCells (x .values)) (o * 33) t
-unfolding putObject putField
-object-row t o x =
-    let e : o * 33 + (1 + 2 * 0) ≡ suc (o * 33) = omega arith in
-    places-cells (o * 33) 1 (x .values) 0 (set t (o * 33) (x .class)) ∙ rw e (sym (rows-first cell-rows (x .class) (valueCells (x .values)) (o * 33) t))
-
 pub putObject-length : (t : List ℕ) (o : ℕ) (x : Object) → length (putObject t o x) ≡ length t
 putObject-length t o x = unread-object length o (o * 33 + (1 + 2 * length (x .values))) (λ s m v a k. length-set s m v) x (omega arith) t
 
@@ -487,14 +444,6 @@ module _ (b : Base) where
   unfolding objectAt
   object-size t o = rows-length (fieldAt t o) (usedFields b (getD t (o * 33) 0)) 0
 
-  pub object-value : (t : List ℕ) (o j : ℕ) → j < usedFields b (objectAt b t o .class) → getElem? (objectAt b t o .values) j ≡ some (fieldAt t o j)
-  unfolding objectAt
-  object-value t o j l = rows-there (fieldAt t o) (usedFields b (getD t (o * 33) 0)) j l
-
-  pub object-no-value : (t : List ℕ) (o j : ℕ) → usedFields b (objectAt b t o .class) ≤ j → getElem? (objectAt b t o .values) j ≡ none
-  unfolding objectAt
-  object-no-value t o j l = rows-past (fieldAt t o) (usedFields b (getD t (o * 33) 0)) 0 j l
-
   -- one field set: two cells written
   pub object-field : (t : List ℕ) (o j : ℕ) (v : Value) → j < usedFields b (objectAt b t o .class) → putObject t o (withField (objectAt b t o) j v)
       ≡ putField o t j v
@@ -527,14 +476,6 @@ frameWith t b p o l = frame (getD t b 0) (getD t (b + 1) 0) p o l
 -- a frame with a value above its operands
 abbrev pub withValue : Frame → Value → Frame
 withValue f v = frame (f .class) (f .method) (f .point) (v ∷ f .operands) (f .locals)
-
-pub local-same : (t : List ℕ) (b i : ℕ) → putLocal b t i (localAt t b i) ≡ t
-unfolding putLocal localAt
-local-same t b i = place-same b 4 t i
-
-pub operand-same : (t : List ℕ) (b i : ℕ) → putOperand b t i (operandAt t b i) ≡ t
-unfolding putOperand operandAt
-operand-same t b i = place-same b 20 t i
 
 -- locals and operands read on where other cells of the row were written
 module _ (t : List ℕ) (b : ℕ) where
@@ -573,14 +514,6 @@ module _ (t : List ℕ) (b p k : ℕ) where
   frame-above v =
       rw (stack-length (placeAt b 20 t) k, head-moved t b p (suc k), locals-kept (suc k), operands-moved (suc k))
       (writeStack-above (putPlace b 20) (placeAt b 20 (moved t b p (suc k))) (moved t b p (suc k)) (place-same b 20 (moved t b p (suc k))) k v)
-
-  -- and two values above them
-  pub frame-two : (v w : Value) → putFrame t b (frameWith t b p (w ∷ v ∷ stack (operandAt t b) k) (rows (localAt t b) 8 0))
-      ≡ putOperand b (putOperand b (moved t b p (suc (suc k))) k v) (suc k) w
-  unfolding putFrame putOperand operandAt putLocal localAt
-  frame-two v w =
-      rw (stack-length (placeAt b 20 t) k, head-moved t b p (suc (suc k)), locals-kept (suc (suc k)), operands-moved (suc (suc k)))
-      (writeStack-two (putPlace b 20) (placeAt b 20 (moved t b p (suc (suc k)))) (moved t b p (suc (suc k))) (place-same b 20 (moved t b p (suc (suc k)))) k v w)
 
   -- the lowest k operands kept and a local set
   pub frame-local : (j : ℕ) (v : Value) → j < 8 → putFrame t b (frameWith t b p (stack (operandAt t b) k) (set (rows (localAt t b) 8 0) j v))
@@ -723,26 +656,3 @@ module _ (t : List ℕ) (b : ℕ) (f : Frame) (room : b + 52 ≤ length t) (fits
       let z : b + 0 ≡ b = omega arith in
       let c0 : getD (putFrame t b f) b 0 ≡ f .class = (rw z at (head-cell 0 (omega arith))) ∙ head-class in
       rw (c0, head-cell 1 (omega arith) ∙ head-method, head-cell 2 (omega arith) ∙ head-point, head-cell 3 (omega arith) ∙ head-depth, operands-back, locals-back)
-
--- two pairs of cells, then the rest
-pairs-first : (x y z w : ℕ) (xs : List ℕ) (i : ℕ) (t : List ℕ) → writeRows set (x ∷ y ∷ z ∷ w ∷ xs) i t
-    ≡ writeRows set xs (i + 4) (putCells (putCells t i x y) (i + 2) z w)
-pairs-first x y z w xs i t =
-    let a : i + 1 ≡ suc i = omega arith in
-    let b : i + 2 ≡ suc (suc i) = omega arith in
-    let c : i + 2 + 1 ≡ suc (suc (suc i)) = omega arith in
-    let d : i + 4 ≡ suc (suc (suc (suc i))) = omega arith in
-    rows-first cell-rows x (y ∷ z ∷ w ∷ xs) i t
-    ∙ (rows-first cell-rows y (z ∷ w ∷ xs) (suc i) (set t i x)
-    ∙ (rows-first cell-rows z (w ∷ xs) (suc (suc i)) (set (set t i x) (suc i) y)
-    ∙ (rows-first cell-rows w xs (suc (suc (suc i))) (set (set (set t i x) (suc i) y) (suc (suc i)) z) ∙ rw (c, a, b, d))))
-
--- a frame entered: its first 20 cells, the 12 of six empty locals last
-pub frame-entered : (t : List ℕ) (b c m o : ℕ) (v : Value)
-    → putFrame t b (entryFrame c m o v) ≡ writeRows set (replicate 12 0) (b + 8) (putCells (putCells (putHead t b c m 0 0) (b + 4) 3 o) (b + 6) (kindOf v) (bitsOf v))
-unfolding putFrame putLocal writeStack valueCells kindOf bitsOf
-frame-entered t b c m o v =
-    let e : b + (4 + 2 * 0) + 4 ≡ b + 8 = omega arith in
-    let f : b + (4 + 2 * 0) + 2 ≡ b + 6 = omega arith in
-    places-cells b 4 (entryFrame c m o v .locals) 0 (putHead t b c m 0 0)
-    ∙ (pairs-first 3 o (kindOf v) (bitsOf v) (replicate 12 0) (b + (4 + 2 * 0)) (putHead t b c m 0 0) ∙ rw (e, f))

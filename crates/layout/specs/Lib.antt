@@ -5,4 +5,3 @@ pub mod Cells
 pub mod Whole
 pub mod Unbroken
 pub mod View
-pub mod Kinds

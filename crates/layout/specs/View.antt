@@ -1,12 +1,12 @@
 -- What a change of rows writes. Rows read off tables and put back change nothing; rows that were appended, replaced or dropped write their own
 -- cells and their count. The classes' fields may be read off any base: the laws ask nothing of it.
 use mathlib.Core.Path.{_≡_, refl, sym, ap, _∙_}
-use mathlib.Core.Option.{Option, none, some}
+use mathlib.Core.Option.{none, some}
 use mathlib.Core.List.{List, [], _∷_, _++_, map, append-nil}
 use Prim.Native.Nat.{ℕ, zero, suc, _+_, _*_, _<_, _≤_}
 use native.Mathlib.Omega.{arith}
-use lib.ListN.{length, getElem?, getD, set, take, drop, length-append, length-map, length-set}
-use lib.Seq.{sets, set-getD, take-length}
+use lib.ListN.{length, getElem?, getD, set, length-append, length-map, length-set}
+use lib.Seq.{sets, set-getD}
 use Rattle.definition.specs.Lists.{rows, writeRows, stack, writeStack}
 use Rattle.definition.specs.Requests.{at}
 use Rattle.definition.specs.Classes.{Base, Class}
@@ -15,8 +15,8 @@ use Rattle.definition.specs.Machine.{Value, Object, Frame, Progress, existing}
 use Rattle.definition.specs.Loading.{withClass, withEntry}
 use Rattle.definition.specs.Tables.{Tables, tables, Rows, classAt, worldOf, putThree, classRowAt, putClassRow, putEntry, putTie, putSubtype, usedFields, objectAt, putObject, putField, localAt, putLocal, operandAt, putOperand, frameOf, putFrame, frameBase, frameIn, putFrameIn, classRowsOf, keptOf, cacheOf, tiesOf, subtypesOf, viewBase, objectsOf, framesOf, viewOver, view, countsOf, put}
 use Rattle.definition.specs.Calls.{bootRows, addFile, addEntry, progressed, withFrames}
-use Rattle.layout.specs.Places.{rows-length, rows-map, rows-there, rows-past, rows-take, rows-part, set-there, writeRows-same, stack-length, stack-cong, writeStack-same, writeStack-above, writeStack-two, written-set}
-use Rattle.layout.specs.Cells.{RowLaws, rows-kept, rows-more, row-more, class-rows, entry-rows, tie-rows, subtype-rows, cell-rows, cells-sets, Unread, withField, object-same, object-field-past, objects-field, objects-made, moved, frameWith, withValue, frame-kept, frame-above, frame-local, frame-given, frameIn-same, frame-unread, unread-value, unread-frame}
+use Rattle.layout.specs.Places.{rows-length, rows-map, rows-there, rows-past, writeRows-same, stack-length, stack-cong, writeStack-same, writeStack-above, writeStack-two, written-set}
+use Rattle.layout.specs.Cells.{RowLaws, rows-kept, rows-more, row-more, class-rows, entry-rows, tie-rows, subtype-rows, cell-rows, cells-sets, Unread, withField, object-same, objects-field, objects-made, moved, frameWith, withValue, frame-kept, frame-above, frame-local, frame-given, frameIn-same, frame-unread, unread-value, unread-frame}
 
 -- the count in cell i
 abbrev pub countAt : Tables → ℕ → ℕ
@@ -130,13 +130,6 @@ module _ (t : Tables) where
       count = length-set (objectsOf b t) o (withField (objectAt b (t .objects) o) j v) ∙ rows-length (objectAt b (t .objects)) (countAt t 5) 0;
       cells = objects-field b (t .objects) (countAt t 5) o j v l h;
     }
-
-    -- a field that isn't there
-    pub object-set-past : (o j : ℕ) (v : Value) → usedFields b (objectAt b (t .objects) o .class) ≤ j
-        → Fills putObject (set (objectsOf b t) o (withField (objectAt b (t .objects) o) j v)) (t .objects) (countAt t 5) (t .objects)
-    unfolding objectsOf
-    object-set-past o j v h =
-        rw (object-field-past b (t .objects) o j v h, set-there (objectAt b (t .objects)) (countAt t 5) o) objects-fill
 
   -- frames as they are
   pub frames-fill : FillsFrames (framesOf t 0) (framesOf t 1) (t .frames) (countAt t 6) (countAt t 7) (t .frames)
@@ -291,20 +284,6 @@ module _ (b : Base) (t : Tables) where
       let z : countAt t 3 + 0 ≡ countAt t 3 = omega arith in
       progress-writes k p [] m n o u two (e ∙ sym (append-nil (tiesOf t))) g h ∙ rw (z, set-getD (t .counts) 3 0)
 
-  -- frames alone, by a step: no tie, no object
-  pub task-writes : (k : ℕ) (fs : List Frame) (x : Option ℕ) (n : ℕ) (u : List ℕ) → k < 2 → FillsTask k fs t n u
-      → put (progressed k (viewOver b t) (record { world = worldOf (viewOver b t); objects = objectsOf b t; frames = fs; result = x })) t
-      ≡ tables (set (t .counts) (6 + k) n) (t .classes) (t .kept) (t .cache) (t .ties) (t .subtypes) (t .objects) u
-  unfolding viewOver
-  task-writes zero fs x n u two h = frames-writes 0 fs n u two h
-  task-writes (suc k) fs x n u two h = frames-writes (suc k) fs n u two h
-
-  -- as many frames as before: no count
-  pub top-writes : (k : ℕ) (fs : List Frame) (x : Option ℕ) (u : List ℕ) → k < 2 → FillsTask k fs t (countAt t (6 + k)) u
-      → put (progressed k (viewOver b t) (record { world = worldOf (viewOver b t); objects = objectsOf b t; frames = fs; result = x })) t
-      ≡ tables (t .counts) (t .classes) (t .kept) (t .cache) (t .ties) (t .subtypes) (t .objects) u
-  top-writes k fs x u two h = task-writes k fs x (countAt t (6 + k)) u two h ∙ rw (set-getD (t .counts) (6 + k) 0)
-
 -- What a task's frames write
 
 -- the report's frames, where cells of the quote's rows are written
@@ -430,16 +409,6 @@ pub first-entered : (t : Tables) (k : ℕ) (f : Frame) → length (f .operands) 
 unfolding stack
 first-entered t k f a c = top-fill t k 0 (omega arith) f a c
 
--- start: an object, a first frame, two counts
-pub start-writes : (b : Base) (t : Tables) (k : ℕ) (x : Object) (f : Frame) (y : Option ℕ) → k < 2 → length (f .operands) ≤ 16 → length (f .locals) ≤ 8
-    → put (progressed k (viewOver b t) (record { world = worldOf (viewOver b t); objects = objectsOf b t ++ (x ∷ []); frames = f ∷ []; result = y })) t
-    ≡ tables (set (set (t .counts) 5 (countAt t 5 + 1)) (6 + k) 1) (t .classes) (t .kept) (t .cache) (t .ties) (t .subtypes)
-    (putObject (t .objects) (countAt t 5) x) (putFrame (t .frames) (frameBase k 0) f)
-unfolding viewOver
-start-writes b t k x f y two a c =
-    quiet-writes b t k (record { world = worldOf (viewOver b t); objects = objectsOf b t ++ (x ∷ []); frames = f ∷ []; result = y })
-    (countAt t 5 + 1) 1 (putObject (t .objects) (countAt t 5) x) (putFrame (t .frames) (frameBase k 0) f) two refl (object-made t b x) (first-entered t k f a c)
-
 -- What the calls read
 
 module _ (t : Tables) where
@@ -470,13 +439,3 @@ module _ (t : Tables) where
   pub frames-top : (k m : ℕ) → countAt t (6 + k) ≡ suc m → framesOf t k ≡ frameIn (t .frames) k m ∷ stack (frameIn (t .frames) k) m
   unfolding framesOf stack
   frames-top k m e = rw e
-
-  -- the kept bytes are the front of their table, and a file's bytes a part of it
-  pub kept-front : countAt t 1 ≤ length (t .kept) → keptOf t ≡ take (countAt t 1) (t .kept)
-  kept-front l = rows-take (t .kept) (countAt t 1) l
-
-  pub kept-part : (s n : ℕ) → s + n ≤ countAt t 1 → countAt t 1 ≤ length (t .kept) → take n (drop s (keptOf t)) ≡ take n (drop s (t .kept))
-  kept-part s n h l =
-      let a : 0 + s ≡ s = omega arith in
-      rows-part (λ i. getD (t .kept) i 0) (countAt t 1) s n 0 h
-      ∙ (sym (rows-part (λ i. getD (t .kept) i 0) (length (t .kept)) s n 0 (omega arith)) ∙ rw (rows-take (t .kept) (length (t .kept)) (omega arith), take-length (t .kept)))

@@ -15,7 +15,6 @@ use Rattle.definition.specs.Loading.{define, recorded, started, withEntry}
 use Rattle.definition.specs.Machine.{Frame, Object, Progress, entryFrame, initialValue, intValue, newObject}
 use Rattle.definition.specs.Requests.{at, fires, grow, has, rest, sameRequest, reach}
 use Rattle.definition.specs.Superclasses.{nearest}
-use Rattle.definition.specs.Verifier.{entryTypes}
 use Rattle.definition.specs.declared.Refusal.the-variants.{Word}
 use Rattle.laws.specs.Agreement.{agrees-true, find-row, super-falls, super-is}
 use Rattle.laws.specs.Members.{method-at}
@@ -23,12 +22,10 @@ use Rattle.laws.specs.Options.{nth-last}
 use Rattle.laws.specs.Results.{Wp, not-wanted, not-word, wp-need, wp-take}
 use Rattle.laws.specs.Tests.{none-is}
 use Rattle.laws.specs.Upward.{nearest-below}
-use Rattle.safety.specs.Conform.{fits-own}
 use Rattle.safety.specs.Store.{Store, booted, inQuote, inReport, inWorld}
 use Rattle.safety.specs.Loads.{linked-class, linked-entry, ss, us}
 use Rattle.safety.specs.Operands.{as-int}
 use Rattle.safety.specs.Later.{Kept, heap-grows, heap-more, later-more, later-same, zeros-conform, entered-top}
-use Rattle.safety.specs.Typing.{verified-here}
 use Rattle.safety.specs.Valid.{Heap, Later, Linked, Stack, later-stack, rooted}
 use Rattle.laws.specs.Growth.{Grows, grows-class, grows-entry}
 use Rattle.laws.specs.Objects.{numbered-same}

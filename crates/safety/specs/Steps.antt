@@ -26,7 +26,7 @@ use Rattle.laws.specs.Results.{Wp, not-wanted, not-word, wp-bind, wp-known, wp-
 use Rattle.laws.specs.Upward.{below-trans, nearest-below, nearest-finds}
 use Rattle.safety.specs.Conform.{Tied, fits-own, override, tied-turn}
 use Rattle.safety.specs.Places.{Noted, carry, meet-class, meet-name, of-class, of-int, tie-there}
-use Rattle.safety.specs.Typing.{Known, known, verified-here}
+use Rattle.safety.specs.Typing.{Known, known}
 use Rattle.safety.specs.Valid.{Conforms, Heap, Later, Linked, Local, Stack, Top, Under, Verified, later-conforms, later-local, later-ops, later-under}
 use Rattle.definition.specs.Maybe as Maybe
 use Rattle.definition.specs.Lists.{Each}

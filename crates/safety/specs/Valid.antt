@@ -168,13 +168,3 @@ module _ {v w : World} {os qs : List Object} (z : Later v os w qs) where
   pub later-stack : (fs : List Frame) → Stack v os fs → Stack w qs fs
   later-stack [] h = h
   later-stack (f ∷ fs) (k, m, t, u) = (k, m, later-top t, later-under (k .loader) (m .result) fs u)
-
--- each value in a place refers to an object that is there
-pub conforms-exists : (w : World) (os : List Object) (l : ℕ) (t : VerifierType) (v : Value) → Conforms w os l t v → Exists os v
-conforms-exists w os l t unsetValue h = tt
-conforms-exists w os l t (unlistedValue α β) h = tt
-conforms-exists w os l t (intValue n) h = tt
-conforms-exists w os l t nullValue h = tt
-conforms-exists w os l typeInt (objectValue o) h = absurd h
-conforms-exists w os l typeNull (objectValue o) h = absurd h
-conforms-exists w os l (typeClass n) (objectValue o) h = (h .object, h .there)
