@@ -1,6 +1,10 @@
 -- Laws of the tables: reading what was written, writing what was read, and what 'broken' means.
 pub mod Tests
 pub mod Places
+pub mod Rows
+pub mod Values
+pub mod ObjectRows
+pub mod FrameRows
 pub mod Cells
 pub mod Whole
 pub mod Unbroken

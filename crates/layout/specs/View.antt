@@ -16,7 +16,10 @@ use Rattle.definition.specs.Loading.{withClass, withEntry}
 use Rattle.definition.specs.Tables.{Tables, tables, Rows, classAt, worldOf, putThree, classRowAt, putClassRow, putEntry, putTie, putSubtype, usedFields, objectAt, putObject, putField, localAt, putLocal, operandAt, putOperand, frameOf, putFrame, frameBase, frameIn, putFrameIn, classRowsOf, keptOf, cacheOf, tiesOf, subtypesOf, viewBase, objectsOf, framesOf, viewOver, view, countsOf, put}
 use Rattle.definition.specs.Calls.{bootRows, addFile, addEntry, progressed, withFrames}
 use Rattle.layout.specs.Places.{rows-length, rows-map, rows-there, rows-past, writeRows-same, stack-length, stack-cong, writeStack-same, writeStack-above, writeStack-two, written-set}
-use Rattle.layout.specs.Cells.{RowLaws, rows-kept, rows-more, row-more, class-rows, entry-rows, tie-rows, subtype-rows, cell-rows, cells-sets, Unread, withField, object-same, objects-field, objects-made, moved, frameWith, withValue, frame-kept, frame-above, frame-local, frame-given, frameIn-same, frame-unread, unread-value, unread-frame}
+use Rattle.layout.specs.Rows.{RowLaws, rows-kept, rows-more, row-more, class-rows, entry-rows, tie-rows, subtype-rows, cell-rows, cells-sets}
+use Rattle.layout.specs.Values.{Unread, unread-value}
+use Rattle.layout.specs.ObjectRows.{withField, object-same, objects-field, objects-made}
+use Rattle.layout.specs.FrameRows.{moved, frameWith, withValue, frame-kept, frame-above, frame-local, frame-given, frameIn-same, frame-unread, unread-frame}
 
 -- the count in cell i
 abbrev pub countAt : Tables → ℕ → ℕ
