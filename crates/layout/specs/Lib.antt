@@ -8,4 +8,5 @@ pub mod FrameRows
 pub mod Cells
 pub mod Whole
 pub mod Unbroken
+pub mod Fills
 pub mod View
