@@ -210,5 +210,5 @@ keeps-turn t l c q e cs b m =
     let n = d .1 in
     let first = first-frame (view t .quote) (view t .report) (n .frame) (n .others) q (n .turn) in
     let w = all-wait (n .frame) (n .others) l c cs b t (not-broken t l c e)
-            (record { quote = first; reads = n .reads; isNow = n .isNow; names = n .names; loader = n .loader; missing = d .2 }) m in
+    (record { quote = first; reads = n .reads; isNow = n .isNow; names = n .names; loader = n .loader; missing = d .2 }) m in
     (wants-tables (n .frame) (n .others) l c (performAll cs t .tables) (w .0) (w .1), w .1 .quote ∙ sym first)
