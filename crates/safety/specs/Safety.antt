@@ -2,7 +2,7 @@
 use mathlib.Core.Path.{_≡_, refl, sym, ap, _∙_, subst}
 use mathlib.Core.Bool.{Bool, true, false, false≢true, _&&_}
 use mathlib.Core.Option.{Option, none, some, Option·none-ne-some, Option·some-injective}
-use mathlib.Core.List.{List, [], _∷_}
+use mathlib.Core.List.{List, [], _∷_, _++_}
 use Prim.Native.Nat.{ℕ, zero, suc, _≤_}
 use native.Mathlib.Omega.{arith}
 use lib.ListN.{length, getElem?}
@@ -243,3 +243,17 @@ safe-from-boot t b cs = safe-on t (from-boot t b) cs
 -- and the store agrees
 pub agrees-from-boot : (t : Tables) → ComesFromBoot t → Agrees (worldOf (view t))
 agrees-from-boot t b = from-boot t b .valid .linked .agreed
+
+-- and what calls make of it comes from that boot too
+calls-join : (ds cs : List Call) (t : Tables) → performAll (ds ++ cs) t .tables ≡ performAll cs (performAll ds t .tables) .tables
+unfolding performAll
+calls-join [] cs t = refl
+calls-join (d ∷ ds) cs t = calls-join ds cs (perform d t .tables)
+
+pub later-from-boot : (t : Tables) → ComesFromBoot t → (cs : List Call) → ComesFromBoot (performAll cs t .tables)
+later-from-boot t b cs = record {
+  before = b .before;
+  accepted = b .accepted;
+  calls = b .calls ++ cs;
+  leaves = calls-join (b .calls) cs (boot (b .before) .tables) ∙ ap (λ (z : Tables). performAll cs z .tables) (b .leaves);
+}

@@ -6,7 +6,9 @@ use mathlib.Core.Option.{none}
 use mathlib.Core.List.{List, [], _∷_, _++_}
 use Prim.Native.Nat.{ℕ, suc}
 use native.Mathlib.Omega.{arith}
-use lib.Dec.{leb}
+use lib.Dec.{eqb, leb}
+use borrow.Author.Tests.{eq-eqb}
+use Rattle.definition.specs.Lists.{any}
 use Rattle.definition.specs.declared.Refusal.{Refusal}
 use Rattle.definition.specs.declared.Refusal.the-variants.{Word}
 use Rattle.definition.specs.declared.Answer.the-variants.{Idle, Ran, Finished, Refused}
@@ -51,6 +53,27 @@ given (c ∷ cs) n h = go (c .applies) refl h (given cs n)
     go : (b : Bool) → c .applies ≡ b → _≡_ {A = ℕ} (elim b as (λ _. ℕ) [ true ↦ c .word | false ↦ first cs ]) (suc n) → (first cs ≡ suc n → First cs (suc n)) → First (c ∷ cs) (suc n)
     go true e q ih = record { before = []; after = cs; is = λ i. record { word = q i; applies = e i } ∷ cs; others = tt }
     go false e q ih = let f = ih q in record { before = c ∷ f .before; after = f .after; is = λ i. c ∷ f .is i; others = (e, f .others) }
+
+-- 0 if none applies
+pub clear : (cs : List Cause) → All (λ c. c .applies ≡ false) cs → first cs ≡ 0
+unfolding first
+clear [] h = refl
+clear (c ∷ cs) h = rw (h .0, first) (clear cs (h .1))
+
+-- a word that is given applies
+pub applied : (cs : List Cause) (n : ℕ) → first cs ≡ suc n → any (λ c. eqb (c .word) (suc n) && c .applies) cs ≡ true
+unfolding first any
+applied [] n h = absurd (omega arith)
+applied (c ∷ cs) n h = go (c .applies) h (applied cs n)
+  where
+    go : (b : Bool) → _≡_ {A = ℕ} (elim b as (λ _. ℕ) [ true ↦ c .word | false ↦ first cs ]) (suc n) → (first cs ≡ suc n → any (λ c. eqb (c .word) (suc n) && c .applies) cs ≡ true)
+        → (elim (eqb (c .word) (suc n) && b) as (λ _. Bool) [ true ↦ true | false ↦ any (λ c. eqb (c .word) (suc n) && c .applies) cs ]) ≡ true
+    go true q ih = rw (eq-eqb (c .word) (suc n) q) refl
+    go false q ih = either (eqb (c .word) (suc n) && false) (ih q)
+      where
+        either : (b : Bool) → any (λ c. eqb (c .word) (suc n) && c .applies) cs ≡ true → (elim b as (λ _. Bool) [ true ↦ true | false ↦ any (λ c. eqb (c .word) (suc n) && c .applies) cs ]) ≡ true
+        either true r = refl
+        either false r = r
 
 -- Steps
 

@@ -6,6 +6,7 @@ pub mod Calls
 pub mod Refusing
 pub mod RefusingSteps
 pub mod First
+pub mod Desk
 pub mod Unbroken
 pub mod OnRows
 pub mod Record
