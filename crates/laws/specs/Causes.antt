@@ -21,7 +21,7 @@ use Rattle.definition.specs.Loading.{newSubtypes, overrideTies, hides, withClas
 use Rattle.definition.specs.File.{File, readFile, classOf}
 use Rattle.definition.specs.Tables.{Tables, shaped, Rows, worldOf, view}
 use Rattle.definition.specs.Broken.{broken}
-use Rattle.definition.specs.Calls.{framesIn, Call, callBoot, callDefine, callRecord, callStart, callStep, callRun, callDrop}
+use Rattle.definition.specs.Calls.{framesIn, Call, callBoot, callDefine, callRecord, callStart, callStep, callRun, callDrop, refusalsOf}
 use Rattle.laws.specs.Refusals.{running}
 
 -- a word by its number, and whether it applies
@@ -248,16 +248,16 @@ causes callStep t = cause 1 (broken t) ∷ frameCauses (worldOf (view t)) (view 
 causes (callRun n) t = cause 1 (broken t) ∷ cause 3 (not (leb 1 n && leb n 65535)) ∷ []
 causes (callDrop k) t = cause 1 (broken t) ∷ cause 3 (not (ltb k 2)) ∷ []
 
--- The paper's order
+-- The paper's order: that of `refusalsOf`, but for a step, where 14 stands twice
 
 unfoldable pub order : Call → List ℕ
-order callBoot = 1 ∷ []
-order (callDefine l bs) = 1 ∷ 3 ∷ 2 ∷ 6 ∷ 4 ∷ 5 ∷ 8 ∷ 10 ∷ 9 ∷ []
-order (callRecord l n c) = 1 ∷ 3 ∷ 13 ∷ 4 ∷ 10 ∷ 9 ∷ []
-order (callStart k l n m v) = 1 ∷ 3 ∷ 12 ∷ 5 ∷ 7 ∷ 10 ∷ []
+order callBoot = refusalsOf callBoot
+order (callDefine l bs) = refusalsOf (callDefine l bs)
+order (callRecord l n c) = refusalsOf (callRecord l n c)
+order (callStart k l n m v) = refusalsOf (callStart k l n m v)
 order callStep = 1 ∷ 14 ∷ 5 ∷ 7 ∷ 10 ∷ 9 ∷ 14 ∷ 11 ∷ []
-order (callRun n) = 1 ∷ 3 ∷ []
-order (callDrop k) = 1 ∷ 3 ∷ []
+order (callRun n) = refusalsOf (callRun n)
+order (callDrop k) = refusalsOf (callDrop k)
 
 -- their words
 abbrev pub words : List Cause → List ℕ
@@ -292,7 +292,7 @@ frame-order w os (f ∷ fs) = go (reading w f)
 
 -- the words that `causes` lists stand in the paper's order
 pub in-order : (c : Call) (t : Tables) → words (causes c t) ≡ order c
-unfolding causes order defineCauses recordCauses startCauses
+unfolding causes order refusalsOf defineCauses recordCauses startCauses
 in-order callBoot t = refl
 in-order (callDefine l bs) t = refl
 in-order (callRecord l n c) t = refl
