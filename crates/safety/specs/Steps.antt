@@ -9,11 +9,12 @@ use native.Mathlib.Omega.{arith}
 use lib.ListN.{length, getElem?, set}
 use lib.Dec.{eqb, ltb}
 use borrow.Author.Tests.{eqb-true, eqb-false}
-use Rattle.definition.specs.Answers.{Result, _>>=_, ok}
+use Rattle.definition.specs.Answers.{Result, _>>=_, ok, take?}
+use Rattle.definition.specs.declared.Refusal.the-variants.{Word}
 use Rattle.definition.specs.Classes.{Class, Method, hasField, hasMethod, loaderOf, slots, superOf}
 use Rattle.definition.specs.Constraints.{Agrees, Tie, World, newTie, posted}
 use Rattle.definition.specs.Instructions.{Decoded}
-use Rattle.definition.specs.Machine.{Frame, Object, Progress, Value, entryFrame, execute, give, initialValue, int!, intValue, newObject, now, nullValue, objectValue, past, pop!, reference!, step, under! }
+use Rattle.definition.specs.Machine.{Frame, Object, Progress, Value, entryFrame, execute, give, initialValue, int!, intValue, newObject, now, room!, nullValue, objectValue, past, pop!, reference!, step, under! }
 use Rattle.definition.specs.Requests.{at}
 use Rattle.definition.specs.Superclasses.{Below, nearest, same}
 use Rattle.definition.specs.Verifier.{Flow, Note, VerifierType, asReference, effect, entryTypes, flow, meetClass, meetInt, meets, pop, returns, typeClass, typeInt, typeNull, typeOfName, typesAt}
@@ -108,16 +109,21 @@ module _ (w : World) (os : List Object) (f : Frame) (fs : List Frame) (k : Class
     unfolding execute effect Q
     ex-ipush n e = wp-room (Kept w os) _ _ (stays (typeInt ∷ tp .τ .operands) (tp .τ .locals) [] e (intValue n ∷ f .operands) (f .locals) (tt, tp .operands) (tp .locals))
 
+    -- a local that passes is pushed
+    load : {A : Type 0} (test : Value → Result A) (j : ℕ) (t : VerifierType) → ((v : Value) → Conforms w os (k .loader) t v → (a : A) × (test v ≡ ok a)) → getElem? (tp .τ .locals) j ≡ some (some t)
+        → flow (t ∷ tp .τ .operands) (tp .τ .locals) [] ≡ some fl
+        → Wp (room! (f .operands) >>= λ _. take? (getElem? (f .locals) j) (Word 14) >>= λ v. test v >>= λ _. ok (record { world = w; objects = os; frames = past f i (v ∷ f .operands) (f .locals) ∷ fs; result = none })) (Kept w os)
+    load test j t passes l e =
+        let y = each-at (Local w os (k .loader)) (tp .τ .locals) (f .locals) (tp .locals) j (some t) l in
+        wp-room (Kept w os) _ _ (wp-there (Kept w os) _ _ _ (y .1) (wp-known (Kept w os) _ _ (passes (y .0) (y .2) .1) (stays (t ∷ tp .τ .operands) (tp .τ .locals) [] e (y .0 ∷ f .operands) (f .locals) (y .2, tp .operands) (tp .locals))))
+
     ex-iload : (j : ℕ) → effect (Iload j) (tp .τ) ≡ some fl → Wp (execute w os f fs k i (Iload j)) Q
     unfolding execute effect Q
     ex-iload j e =
         let a = bind-some _ _ e in
         let b = bind-some _ _ (a .2) in
         let c = bind-some _ _ (b .2) in
-        let y = each-at (Local w os (k .loader)) (tp .τ .locals) (f .locals) (tp .locals) j (some (b .0)) (rw (b .1) at (a .1)) in
-        let cf : Conforms w os (k .loader) (b .0) (y .0) = y .2 in
-        let n = int-of w os (k .loader) (b .0) (y .0) (c .1) cf in
-        wp-room (Kept w os) _ _ (wp-there (Kept w os) _ _ _ (y .1) (wp-known (Kept w os) _ _ (n .1) (stays (b .0 ∷ tp .τ .operands) (tp .τ .locals) [] (c .2) (y .0 ∷ f .operands) (f .locals) (cf, tp .operands) (tp .locals))))
+        load int! j (b .0) (λ v h. let n = int-of w os (k .loader) (b .0) v (c .1) h in (n .0, n .1)) (rw (b .1) at (a .1)) (c .2)
 
     ex-aload : (j : ℕ) → effect (Aload j) (tp .τ) ≡ some fl → Wp (execute w os f fs k i (Aload j)) Q
     unfolding execute effect Q
@@ -125,12 +131,21 @@ module _ (w : World) (os : List Object) (f : Frame) (fs : List Frame) (k : Class
         let a = bind-some _ _ e in
         let b = bind-some _ _ (a .2) in
         let c = bind-some _ _ (b .2) in
-        let y = each-at (Local w os (k .loader)) (tp .τ .locals) (f .locals) (tp .locals) j (some (b .0)) (rw (b .1) at (a .1)) in
-        let cf : Conforms w os (k .loader) (b .0) (y .0) = y .2 in
-        wp-room (Kept w os) _ _ (wp-there (Kept w os) _ _ _ (y .1) (wp-known (Kept w os) _ _ (ref-of w os (k .loader) (b .0) (y .0) (c .1) cf) (stays (b .0 ∷ tp .τ .operands) (tp .τ .locals) [] (c .2) (y .0 ∷ f .operands) (f .locals) (cf, tp .operands) (tp .locals))))
+        load reference! j (b .0) (λ v h. (v, ref-of w os (k .loader) (b .0) v (c .1) h)) (rw (b .1) at (a .1)) (c .2)
 
     popped : {p : record { top : VerifierType; more : List VerifierType }} → pop (tp .τ .operands) ≡ some p → (q : Popped) × (pop! (f .operands) ≡ ok q) × Conforms w os (k .loader) (p .top) (q .top) × Each (Conforms w os (k .loader)) (p .more) (q .more)
     popped {p} e = each-pop (Conforms w os (k .loader)) (tp .τ .operands) (f .operands) (p .top) (p .more) e (tp .operands)
+
+    -- an operand that passes is stored
+    store : {A : Type 0} (test : Value → Result A) (j : ℕ) {p : record { top : VerifierType; more : List VerifierType }} {x : Option VerifierType} → ((v : Value) → Conforms w os (k .loader) (p .top) v → (a : A) × (test v ≡ ok a))
+        → pop (tp .τ .operands) ≡ some p → getElem? (tp .τ .locals) j ≡ some x → flow (p .more) (set (tp .τ .locals) j (some (p .top))) [] ≡ some fl
+        → Wp (pop! (f .operands) >>= λ q. test (q .top) >>= λ _. take? (getElem? (f .locals) j) (Word 14) >>= λ _. ok (record { world = w; objects = os; frames = past f i (q .more) (set (f .locals) j (q .top)) ∷ fs; result = none })) (Kept w os)
+    store test j {p} {x} passes o l e =
+        let q = popped o in
+        let y = each-at (Local w os (k .loader)) (tp .τ .locals) (f .locals) (tp .locals) j x l in
+        wp-known (Kept w os) _ _ (q .1) (wp-known (Kept w os) _ _ (passes (q .0 .top) (q .2) .1) (wp-there (Kept w os) _ _ _ (y .1)
+        (stays (p .more) (set (tp .τ .locals) j (some (p .top))) [] e (q .0 .more) (set (f .locals) j (q .0 .top)) (q .3)
+        (each-both (Local w os (k .loader)) (tp .τ .locals) (f .locals) (tp .locals) j (some (p .top)) (q .0 .top) (q .2)))))
 
     ex-istore : (j : ℕ) → effect (Istore j) (tp .τ) ≡ some fl → Wp (execute w os f fs k i (Istore j)) Q
     unfolding execute effect Q
@@ -138,11 +153,7 @@ module _ (w : World) (os : List Object) (f : Frame) (fs : List Frame) (k : Class
         let a = bind-some _ _ e in
         let b = bind-some _ _ (a .2) in
         let c = bind-some _ _ (b .2) in
-        let q = popped (a .1) in
-        let y = each-at (Local w os (k .loader)) (tp .τ .locals) (f .locals) (tp .locals) j (c .0) (c .1) in
-        wp-known (Kept w os) _ _ (q .1) (wp-known (Kept w os) _ _ (int-of w os (k .loader) (a .0 .top) (q .0 .top) (b .1) (q .2) .1) (wp-there (Kept w os) _ _ _ (y .1)
-        (stays (a .0 .more) (set (tp .τ .locals) j (some (a .0 .top))) [] (c .2) (q .0 .more) (set (f .locals) j (q .0 .top)) (q .3)
-        (each-both (Local w os (k .loader)) (tp .τ .locals) (f .locals) (tp .locals) j (some (a .0 .top)) (q .0 .top) (q .2)))))
+        store int! j (λ v h. let n = int-of w os (k .loader) (a .0 .top) v (b .1) h in (n .0, n .1)) (a .1) (c .1) (c .2)
 
     ex-astore : (j : ℕ) → effect (Astore j) (tp .τ) ≡ some fl → Wp (execute w os f fs k i (Astore j)) Q
     unfolding execute effect Q
@@ -150,11 +161,7 @@ module _ (w : World) (os : List Object) (f : Frame) (fs : List Frame) (k : Class
         let a = bind-some _ _ e in
         let b = bind-some _ _ (a .2) in
         let c = bind-some _ _ (b .2) in
-        let q = popped (a .1) in
-        let y = each-at (Local w os (k .loader)) (tp .τ .locals) (f .locals) (tp .locals) j (c .0) (c .1) in
-        wp-known (Kept w os) _ _ (q .1) (wp-known (Kept w os) _ _ (ref-of w os (k .loader) (a .0 .top) (q .0 .top) (b .1) (q .2)) (wp-there (Kept w os) _ _ _ (y .1)
-        (stays (a .0 .more) (set (tp .τ .locals) j (some (a .0 .top))) [] (c .2) (q .0 .more) (set (f .locals) j (q .0 .top)) (q .3)
-        (each-both (Local w os (k .loader)) (tp .τ .locals) (f .locals) (tp .locals) j (some (a .0 .top)) (q .0 .top) (q .2)))))
+        store reference! j (λ v h. (v, ref-of w os (k .loader) (a .0 .top) v (b .1) h)) (a .1) (c .1) (c .2)
 
     ex-pop : effect Pop (tp .τ) ≡ some fl → Wp (execute w os f fs k i Pop) Q
     unfolding execute effect Q
