@@ -1,4 +1,4 @@
--- P1 to P10: one table of calls and what the last of them answers, by number and values, and one statement.
+-- P1 to P10: one table of calls and what the last of them answers, by number and values, and one statement. Then the paper's worked example.
 use mathlib.Core.Path.{_≡_}
 use mathlib.Core.Bool.{Bool, true, false, _&&_}
 use lib.Dec.{eqb}
@@ -96,3 +96,23 @@ pub record Right (t : Tables) : Type 0 where
   pub answers : map (answered t) table ≡ map (λ c. c .expect) table
   pub unchanged : (i : ℕ) (c : Case) → getElem? table i ≡ some c → c .unchanged ≡ true → left t c ≡ beforeLast t c
   pub changed : (i : ℕ) (c : Case) → getElem? table i ≡ some c → c .unchanged ≡ false → left t c ≡ beforeLast t c → ⊥
+
+-- The paper's worked example as bytes, a line each: R 1 2 0; D 1 with F; S 0 1 10 20 7; N; N; N
+unfoldable pub input : List ℕ
+input =
+    82 ∷ 32 ∷ 49 ∷ 32 ∷ 50 ∷ 32 ∷ 48 ∷ 10
+    ∷ 68 ∷ 32 ∷ 49 ∷ 32 ∷ 48 ∷ 49 ∷ 48 ∷ 48 ∷ 49 ∷ 49 ∷ 48 ∷ 48 ∷ 48 ∷ 65 ∷ 48 ∷ 48 ∷ 48 ∷ 50 ∷ 48 ∷ 48 ∷ 48 ∷ 49 ∷ 48 ∷ 48 ∷ 49 ∷ 52 ∷ 48 ∷ 48 ∷ 48 ∷ 49 ∷ 48 ∷ 48 ∷ 48 ∷ 49 ∷ 48 ∷ 48 ∷ 48 ∷ 51 ∷ 49 ∷ 53 ∷ 48 ∷ 49 ∷ 65 ∷ 67 ∷ 10
+    ∷ 83 ∷ 32 ∷ 48 ∷ 32 ∷ 49 ∷ 32 ∷ 49 ∷ 48 ∷ 32 ∷ 50 ∷ 48 ∷ 32 ∷ 55 ∷ 10
+    ∷ 78 ∷ 10
+    ∷ 78 ∷ 10
+    ∷ 78 ∷ 10 ∷ []
+
+-- R 0 0 0 0; D 0 1 0 0; S 0 0 0 0; N 0 1 0 0; N 0 2 0 7; N 0 0 0 0
+unfoldable pub output : List ℕ
+output =
+    82 ∷ 32 ∷ 48 ∷ 32 ∷ 48 ∷ 32 ∷ 48 ∷ 32 ∷ 48 ∷ 10
+    ∷ 68 ∷ 32 ∷ 48 ∷ 32 ∷ 49 ∷ 32 ∷ 48 ∷ 32 ∷ 48 ∷ 10
+    ∷ 83 ∷ 32 ∷ 48 ∷ 32 ∷ 48 ∷ 32 ∷ 48 ∷ 32 ∷ 48 ∷ 10
+    ∷ 78 ∷ 32 ∷ 48 ∷ 32 ∷ 49 ∷ 32 ∷ 48 ∷ 32 ∷ 48 ∷ 10
+    ∷ 78 ∷ 32 ∷ 48 ∷ 32 ∷ 50 ∷ 32 ∷ 48 ∷ 32 ∷ 55 ∷ 10
+    ∷ 78 ∷ 32 ∷ 48 ∷ 32 ∷ 48 ∷ 32 ∷ 48 ∷ 32 ∷ 48 ∷ 10 ∷ []

@@ -1,3 +1,4 @@
 -- The proved cases.
 pub mod Cases
+pub mod Computed
 pub mod Proved

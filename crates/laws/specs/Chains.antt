@@ -11,8 +11,6 @@ use lib.Dec.{eqb}
 use borrow.Author.Tests.{eqb-true, eq-eqb}
 use Rattle.definition.specs.Requests.{Chain, Edge, Request, fires, grow, has, leads, rest, sameRequest, hop, reach, stay}
 
--- Tests
-
 -- Facts on the tests
 
 pub same-eq : (a b : Request) → sameRequest a b ≡ true → a ≡ b
@@ -207,13 +205,3 @@ turned e = record { from = e .to; to = e .from }
 pub chain-turn : {E : List Edge} {a b : Request} → ((e : Edge) → List·Memᴰ e E → List·Memᴰ (turned e) E) → Chain E a b → Chain E b a
 chain-turn s (stay e) = stay (sym e)
 chain-turn s (hop c m) = chain-join (hop (stay refl) (s _ m)) (chain-turn s c)
-
--- Any list that holds a, holds only what a leads to, and is closed, decides as `leads` does: what a program's search has to show
-
-same-truth : (x y : Bool) → (x ≡ true → y ≡ true) → (y ≡ true → x ≡ true) → x ≡ y
-same-truth true y f g = sym (f refl)
-same-truth false true f g = g refl
-same-truth false false f g = refl
-
-pub marks-lead : (E : List Edge) (a : Request) (R : List Request) → has a R ≡ true → ((x : Request) → has x R ≡ true → Chain E a x) → Closed E R → (b : Request) → has b R ≡ leads E a b
-marks-lead E a R h all cl b = same-truth (has b R) (leads E a b) (λ q. chain-leads E a b (all b q)) (λ q. closed-chain R cl h (leads-chain E a b q))

@@ -6,7 +6,7 @@ use mathlib.Core.Logic.{inl, inr}
 use Prim.Native.Nat.{ℕ, zero, suc, _+_, _<_}
 use native.Mathlib.Omega.{arith}
 use lib.ListN.{length, getElem?}
-use Rattle.definition.specs.Classes.{Class, Entry, find, superOf}
+use Rattle.definition.specs.Classes.{Class, find, superOf}
 use Rattle.definition.specs.Constraints.{Subtype, Tie, World, edges, subtypeEdges, tieEdges}
 use Rattle.definition.specs.Requests.{Edge, Request, at}
 use Rattle.laws.specs.Agreement.{find-more, is-super, nth-more, super-is}
@@ -48,17 +48,6 @@ pub sub-edges-more : (ts us : List Subtype) → subtypeEdges (ts ++ us) ≡ subt
 unfolding subtypeEdges
 sub-edges-more [] us = refl
 sub-edges-more (t ∷ ts) us = rw (sub-edges-more ts us, subtypeEdges) refl
-
-abbrev pub added : World → List Class → List Entry → List Tie → List Subtype → World
-added w ks es ts ss = record { base = record { classes = w .base .classes ++ ks; cache = w .base .cache ++ es }; ties = w .ties ++ ts; subtypes = w .subtypes ++ ss }
-
-pub grows-added : (w : World) (ks : List Class) (es : List Entry) (ts : List Tie) (ss : List Subtype) → Grows w (added w ks es ts ss)
-grows-added w ks es ts ss = record {
-  classes = λ c k h. nth-more (w .base .classes) ks c k h;
-  cache = λ r c h. find-more (w .base .cache) es r c h;
-  ties = λ e m. rw (tie-edges-more (w .ties) ts) (Memᴰ·append-left (tieEdges ts) m);
-  subtypes = λ e m. rw (sub-edges-more (w .subtypes) ss) (Memᴰ·append-left (subtypeEdges ss) m);
-}
 
 pub nth-lt : {A : Type 0} (xs : List A) (i : ℕ) (x : A) → getElem? xs i ≡ some x → i < length xs
 nth-lt [] i x h = absurd (Option·none-ne-some x h)

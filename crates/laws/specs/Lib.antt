@@ -7,8 +7,12 @@ pub mod Agreement
 pub mod Tests
 pub mod Growth
 pub mod Slots
+pub mod Members
+pub mod Sized
+pub mod Objects
 pub mod Stable
 pub mod Refusals
+pub mod Causes
 pub mod Wrapped
 pub mod Runs
 pub mod Turns

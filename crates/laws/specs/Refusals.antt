@@ -1,4 +1,5 @@
--- Every refusal of a call on rows is one of the words that the paper lists for that call.
+-- Every refusal of a call on rows is due: its word is one of those that the paper lists for the call, and a request that it wants is the one that the
+-- call needs, which isn't cached.
 use mathlib.Core.Path.{_≡_, refl}
 use mathlib.Core.Bool.{Bool, true, false}
 use mathlib.Core.Option.{Option, none, some}
@@ -12,208 +13,244 @@ use Rattle.definition.specs.declared.Instruction.{Instruction}
 use Rattle.definition.specs.declared.Instruction.the-variants.{AconstNull, Sipush, Iload, Aload, Istore, Astore, Pop, Dup, Iadd, Isub, Getfield, Putfield, Invokevirtual, New, Ireturn, Areturn}
 use Rattle.definition.specs.Lists.{any}
 use Rattle.definition.specs.Requests.{at}
-use Rattle.definition.specs.Answers.{number, Result, refused, ok, _>>=_, need, take?}
+use Rattle.definition.specs.Answers.{number, wanted, Result, refused, ok, _>>=_, need, take?}
 use Rattle.definition.specs.Classes.{Base, Class, find}
 use Rattle.definition.specs.Constraints.{Tie, World, agrees, post}
+use Rattle.definition.specs.File.{File, readFile}
 use Rattle.definition.specs.Instructions.{Decoded}
-use Rattle.definition.specs.Machine.{Value, unsetValue, intValue, nullValue, objectValue, unlistedValue, Object, Frame, pop!, int!, reference!, kind!, room!, object!, now, under!, give, execute, step}
+use Rattle.definition.specs.Machine.{Value, unsetValue, intValue, nullValue, objectValue, unlistedValue, Object, Frame, Now, pop!, int!, reference!, kind!, room!, object!, now, under!, give, execute, step}
 use Rattle.definition.specs.Loading.{define, recorded, started, withEntry}
 use Rattle.definition.specs.Tables.{Rows, worldOf}
-use Rattle.definition.specs.Calls.{stepRefusals, refusalsOf, callDefine, callRecord, callStart, callDrop, defineRows, recordRows, startRows, dropRows, stepTask, stepOn, stepRows}
+use Rattle.definition.specs.Calls.{stepRefusals, refusalsOf, Call, callBoot, callDefine, callRecord, callStart, callStep, callRun, callDrop, defineRows, recordRows, startRows, dropRows, stepTask, stepOn, stepRows}
 
--- the refusal, if it is one, has a number of the list
-abbrev pub Among : {A : Type 0} → List ℕ → Result A → Type 0
-Among ns (refused w) = any (eqb (number w)) ns ≡ true
-Among ns (ok a) = Unit {0}
+-- what holds of the refusal, if it is one
+abbrev pub Refuses : {A : Type 0} → (Refusal → Type 0) → Result A → Type 0
+Refuses P (refused w) = P w
+Refuses P (ok a) = Unit {0}
 
-module _ (ns : List ℕ) where
-  among-bind : {A B : Type 0} (o : Result A) (f : A → Result B) → Among ns o → ((a : A) → Among ns (f a)) → Among ns (o >>= f)
+-- the class that an instruction names
+abbrev pub classIn : Instruction → Option ℕ
+classIn AconstNull = none
+classIn (Sipush n) = none
+classIn (Iload j) = none
+classIn (Aload j) = none
+classIn (Istore j) = none
+classIn (Astore j) = none
+classIn Pop = none
+classIn Dup = none
+classIn Iadd = none
+classIn Isub = none
+classIn (Getfield c n t) = some c
+classIn (Putfield c n t) = some c
+classIn (Invokevirtual c n t r) = some c
+classIn (New c) = some c
+classIn Ireturn = none
+classIn Areturn = none
+
+module _ (P : Refusal → Type 0) where
+  on-bind : {A B : Type 0} (o : Result A) (f : A → Result B) → Refuses P o → ((a : A) → o ≡ ok a → Refuses P (f a)) → Refuses P (o >>= f)
   unfolding _>>=_
-  among-bind (refused w) f h k = h
-  among-bind (ok a) f h k = k a
+  on-bind (refused w) f h k = h
+  on-bind (ok a) f h k = k a refl
 
-  among-need : {B : Type 0} (t : Bool) (w : Refusal) (f : Unit {0} → Result B) → any (eqb (number w)) ns ≡ true → ((u : Unit {0}) → Among ns (f u)) → Among ns (need t w >>= f)
+  on-need : {B : Type 0} (t : Bool) (w : Refusal) (f : Unit {0} → Result B) → P w → ((u : Unit {0}) → Refuses P (f u)) → Refuses P (need t w >>= f)
   unfolding _>>=_ need
-  among-need true w f h k = k tt
-  among-need false w f h k = h
+  on-need true w f h k = k tt
+  on-need false w f h k = h
 
-  among-take : {A B : Type 0} (o : Option A) (w : Refusal) (f : A → Result B) → any (eqb (number w)) ns ≡ true → ((a : A) → Among ns (f a)) → Among ns (take? o w >>= f)
+  on-take : {A B : Type 0} (o : Option A) (w : Refusal) (f : A → Result B) → (o ≡ none → P w) → ((a : A) → o ≡ some a → Refuses P (f a)) → Refuses P (take? o w >>= f)
   unfolding _>>=_ take?
-  among-take none w f h k = h
-  among-take (some a) w f h k = k a
+  on-take none w f h k = h refl
+  on-take (some a) w f h k = k a refl
 
--- One instruction
+-- One instruction: 14, 10, 9, 7, 11, or 5 with the class that it names, which isn't cached
 
-module _ where
-  S : List ℕ
-  S = stepRefusals
-
-  stuck : any (eqb (number (Word 14))) S ≡ true
-  unfolding S stepRefusals any number
-  stuck = refl
-
-  full : any (eqb (number (Word 10))) S ≡ true
-  unfolding S stepRefusals any number
-  full = refl
-
-  clash : any (eqb (number (Word 9))) S ≡ true
-  unfolding S stepRefusals any number
-  clash = refl
-
-  absent : any (eqb (number (Word 7))) S ≡ true
-  unfolding S stepRefusals any number
-  absent = refl
-
-  null : any (eqb (number (Word 11))) S ≡ true
-  unfolding S stepRefusals any number
-  null = refl
-
-  wants : (l n : ℕ) → any (eqb (number (Wanted l n))) S ≡ true
-  unfolding S stepRefusals any number
-  wants l n = refl
-
-  int-among : (v : Value) → Among S (int! v)
+module _ (P : Refusal → Type 0) (stuck : P (Word 14)) (full : P (Word 10)) (clash : P (Word 9)) (absent : P (Word 7)) (null : P (Word 11)) where
+  int-refuses : (v : Value) → Refuses P (int! v)
   unfolding int!
-  int-among unsetValue = stuck
-  int-among (intValue n) = tt
-  int-among nullValue = stuck
-  int-among (objectValue o) = stuck
-  int-among (unlistedValue k b) = stuck
+  int-refuses unsetValue = stuck
+  int-refuses (intValue n) = tt
+  int-refuses nullValue = stuck
+  int-refuses (objectValue o) = stuck
+  int-refuses (unlistedValue k b) = stuck
 
-  reference-among : (v : Value) → Among S (reference! v)
+  reference-refuses : (v : Value) → Refuses P (reference! v)
   unfolding reference!
-  reference-among unsetValue = stuck
-  reference-among (intValue n) = stuck
-  reference-among nullValue = tt
-  reference-among (objectValue o) = tt
-  reference-among (unlistedValue k b) = stuck
+  reference-refuses unsetValue = stuck
+  reference-refuses (intValue n) = stuck
+  reference-refuses nullValue = tt
+  reference-refuses (objectValue o) = tt
+  reference-refuses (unlistedValue k b) = stuck
 
-  kind-among : (t : ℕ) (v : Value) → Among S (kind! t v)
+  kind-refuses : (t : ℕ) (v : Value) → Refuses P (kind! t v)
   unfolding kind!
-  kind-among t v = go (eqb t 1)
+  kind-refuses t v = go (eqb t 1)
     where
-      go : (b : Bool) → Among {A = Unit {0}} S (elim b as (λ _. Result (Unit {0})) [ true ↦ int! v >>= λ _. ok tt | false ↦ reference! v >>= λ _. ok tt ])
-      go true = among-bind S (int! v) _ (int-among v) (λ _. tt)
-      go false = among-bind S (reference! v) _ (reference-among v) (λ _. tt)
+      go : (b : Bool) → Refuses {A = Unit {0}} P (elim b as (λ _. Result (Unit {0})) [ true ↦ int! v >>= λ _. ok tt | false ↦ reference! v >>= λ _. ok tt ])
+      go true = on-bind P (int! v) _ (int-refuses v) (λ _ _. tt)
+      go false = on-bind P (reference! v) _ (reference-refuses v) (λ _ _. tt)
 
-  room-among : (vs : List Value) → Among S (room! vs)
-  unfolding room! need
-  room-among vs = go (ltb (length vs) 16)
-    where
-      go : (b : Bool) → Among S (need b (Word 10))
-      go true = tt
-      go false = full
-
-  under-among : (fs : List Frame) → Among S (under! fs)
-  unfolding under!
-  under-among [] = tt
-  under-among (g ∷ gs) = room-among (g .operands)
-
-  pop-among : {B : Type 0} (vs : List Value) (f : record { top : Value; more : List Value } → Result B) → ((p : record { top : Value; more : List Value }) → Among S (f p)) → Among S (pop! vs >>= f)
-  unfolding pop!
-  pop-among vs f k = among-take S _ (Word 14) f stuck k
-
-  object-among : (w : Base) (os : List Object) (e : ℕ) (v : Value) → Among S (object! w os e v)
+  object-refuses : (w : Base) (os : List Object) (e : ℕ) (v : Value) → Refuses P (object! w os e v)
   unfolding object!
-  object-among w os e unsetValue = stuck
-  object-among w os e (intValue n) = stuck
-  object-among w os e nullValue = null
-  object-among w os e (objectValue o) = among-take S _ _ _ stuck (λ _. among-need S _ _ _ stuck (λ _. tt))
-  object-among w os e (unlistedValue k b) = stuck
+  object-refuses w os e unsetValue = stuck
+  object-refuses w os e (intValue n) = stuck
+  object-refuses w os e nullValue = null
+  object-refuses w os e (objectValue o) = on-take P _ _ _ (λ _. stuck) (λ _ _. on-need P _ _ _ stuck (λ _. tt))
+  object-refuses w os e (unlistedValue k b) = stuck
 
-  post-among : (w : World) (room : Bool) (us : List Tie) → Among S (post w room us)
-  unfolding post
-  post-among w room us = among-need S _ _ _ full (λ _. among-need S _ _ _ clash (λ _. tt))
-
-  give-among : (fs : List Frame) (w : World) (os : List Object) (v : Value) → Among S (give fs w os v)
+  give-refuses : (fs : List Frame) (w : World) (os : List Object) (v : Value) → Refuses P (give fs w os v)
   unfolding give
-  give-among [] w os v = among-bind S (int! v) _ (int-among v) (λ _. tt)
-  give-among (g ∷ gs) w os v = tt
+  give-refuses [] w os v = on-bind P (int! v) _ (int-refuses v) (λ _ _. tt)
+  give-refuses (g ∷ gs) w os v = tt
 
-  roomy : {B : Type 0} (vs : List Value) (f : Unit {0} → Result B) → ((u : Unit {0}) → Among S (f u)) → Among S (room! vs >>= f)
-  roomy vs f k = among-bind S (room! vs) f (room-among vs) k
+  -- in sequence
+  room : {B : Type 0} (vs : List Value) (f : Unit {0} → Result B) → ((u : Unit {0}) → Refuses P (f u)) → Refuses P (room! vs >>= f)
+  unfolding room!
+  room vs f k = on-need P _ _ f full k
+
+  under : {B : Type 0} (fs : List Frame) (f : Unit {0} → Result B) → ((u : Unit {0}) → Refuses P (f u)) → Refuses P (under! fs >>= f)
+  unfolding under! _>>=_
+  under [] f k = k tt
+  under (g ∷ gs) f k = room (g .operands) f k
+
+  popped : {B : Type 0} (vs : List Value) (f : record { top : Value; more : List Value } → Result B) → ((p : record { top : Value; more : List Value }) → Refuses P (f p)) → Refuses P (pop! vs >>= f)
+  unfolding pop!
+  popped vs f k = on-take P _ (Word 14) f (λ _. stuck) (λ p _. k p)
+
+  local : {A B : Type 0} (o : Option A) (f : A → Result B) → ((a : A) → Refuses P (f a)) → Refuses P (take? o (Word 14) >>= f)
+  local o f k = on-take P o (Word 14) f (λ _. stuck) (λ a _. k a)
+
+  int : {B : Type 0} (v : Value) (f : ℕ → Result B) → ((n : ℕ) → Refuses P (f n)) → Refuses P (int! v >>= f)
+  int v f k = on-bind P (int! v) f (int-refuses v) (λ n _. k n)
+
+  reference : {B : Type 0} (v : Value) (f : Value → Result B) → ((x : Value) → Refuses P (f x)) → Refuses P (reference! v >>= f)
+  reference v f k = on-bind P (reference! v) f (reference-refuses v) (λ x _. k x)
+
+  posting : {B : Type 0} (w : World) (t : Bool) (us : List Tie) (f : World → Result B) → ((v : World) → Refuses P (f v)) → Refuses P (post w t us >>= f)
+  unfolding post
+  posting w t us f k = on-bind P _ f (on-need P _ _ _ full (λ _. on-need P _ _ _ clash (λ _. tt))) (λ v _. k v)
+
+  receiver : {B : Type 0} (w : Base) (os : List Object) (e : ℕ) (v : Value) (f : record { number : ℕ; object : Object } → Result B) → ((o : record { number : ℕ; object : Object }) → Refuses P (f o)) → Refuses P (object! w os e v >>= f)
+  receiver w os e v f k = on-bind P (object! w os e v) f (object-refuses w os e v) (λ o _. k o)
 
   module _ (w : World) (os : List Object) (f : Frame) (fs : List Frame) (k : Class) (i : Decoded) where
-    execute-among : (j : Instruction) → Among S (execute w os f fs k i j)
+    pub execute-refuses : (j : Instruction) → ((c : ℕ) → classIn j ≡ some c → find (w .base .cache) (at (k .loader) c) ≡ none → P (wanted (at (k .loader) c))) → Refuses P (execute w os f fs k i j)
     unfolding execute
-    execute-among AconstNull = roomy _ _ (λ _. tt)
-    execute-among (Sipush n) = roomy _ _ (λ _. tt)
-    execute-among (Iload j) = roomy _ _ (λ _. among-take S _ _ _ stuck (λ v. among-bind S (int! v) _ (int-among v) (λ _. tt)))
-    execute-among (Aload j) = roomy _ _ (λ _. among-take S _ _ _ stuck (λ v. among-bind S (reference! v) _ (reference-among v) (λ _. tt)))
-    execute-among (Istore j) = pop-among _ _ (λ p. among-bind S (int! (p .top)) _ (int-among (p .top)) (λ _. among-take S _ _ _ stuck (λ _. tt)))
-    execute-among (Astore j) = pop-among _ _ (λ p. among-bind S (reference! (p .top)) _ (reference-among (p .top)) (λ _. among-take S _ _ _ stuck (λ _. tt)))
-    execute-among Pop = pop-among _ _ (λ _. tt)
-    execute-among Dup = roomy _ _ (λ _. pop-among _ _ (λ _. tt))
-    execute-among Iadd = pop-among _ _ (λ p. pop-among _ _ (λ q. among-bind S (int! (p .top)) _ (int-among (p .top)) (λ _. among-bind S (int! (q .top)) _ (int-among (q .top)) (λ _. tt))))
-    execute-among Isub = pop-among _ _ (λ p. pop-among _ _ (λ q. among-bind S (int! (p .top)) _ (int-among (p .top)) (λ _. among-bind S (int! (q .top)) _ (int-among (q .top)) (λ _. tt))))
-    execute-among (Getfield c n t) =
-        among-take S _ _ _ (wants _ _) (λ e. among-take S _ _ _ absent (λ d. among-bind S (post w true _) _ (post-among w true _) (λ _.
-        pop-among _ _ (λ p. among-bind S (object! (w .base) os e (p .top)) _ (object-among (w .base) os e (p .top)) (λ _.
-        among-take S _ _ _ stuck (λ _. among-take S _ _ _ stuck (λ _. tt)))))))
-    execute-among (Putfield c n t) =
-        among-take S _ _ _ (wants _ _) (λ e. among-take S _ _ _ absent (λ d. among-bind S (post w true _) _ (post-among w true _) (λ _.
-        pop-among _ _ (λ p. pop-among _ _ (λ q. among-bind S (kind! t (p .top)) _ (kind-among t (p .top)) (λ _.
-        among-bind S (object! (w .base) os e (q .top)) _ (object-among (w .base) os e (q .top)) (λ _. among-take S _ _ _ stuck (λ _. tt))))))))
-    execute-among (Invokevirtual c n t r) =
-        among-take S _ _ _ (wants _ _) (λ e. among-take S _ _ _ absent (λ d. among-bind S (post w (ltb (suc (length fs)) 32) _) _ (post-among w _ _) (λ _.
-        pop-among _ _ (λ p. pop-among _ _ (λ q. among-bind S (kind! t (p .top)) _ (kind-among t (p .top)) (λ _.
-        among-bind S (object! (w .base) os e (q .top)) _ (object-among (w .base) os e (q .top)) (λ _.
-        among-take S _ _ _ stuck (λ _. among-take S _ _ _ stuck (λ _. tt)))))))))
-    execute-among (New c) = among-take S _ _ _ (wants _ _) (λ e. among-need S _ _ _ full (λ _. tt))
-    execute-among Ireturn = among-bind S (under! fs) _ (under-among fs) (λ _. pop-among _ _ (λ p. among-bind S (int! (p .top)) _ (int-among (p .top)) (λ _. give-among fs w os (p .top))))
-    execute-among Areturn = among-bind S (under! fs) _ (under-among fs) (λ _. pop-among _ _ (λ p. among-bind S (reference! (p .top)) _ (reference-among (p .top)) (λ _. give-among fs w os (p .top))))
+    execute-refuses AconstNull h = room _ _ (λ _. tt)
+    execute-refuses (Sipush n) h = room _ _ (λ _. tt)
+    execute-refuses (Iload j) h = room _ _ (λ _. local _ _ (λ v. int v _ (λ _. tt)))
+    execute-refuses (Aload j) h = room _ _ (λ _. local _ _ (λ v. reference v _ (λ _. tt)))
+    execute-refuses (Istore j) h = popped _ _ (λ p. int (p .top) _ (λ _. local _ _ (λ _. tt)))
+    execute-refuses (Astore j) h = popped _ _ (λ p. reference (p .top) _ (λ _. local _ _ (λ _. tt)))
+    execute-refuses Pop h = popped _ _ (λ _. tt)
+    execute-refuses Dup h = room _ _ (λ _. popped _ _ (λ _. tt))
+    execute-refuses Iadd h = popped _ _ (λ p. popped _ _ (λ q. int (p .top) _ (λ _. int (q .top) _ (λ _. tt))))
+    execute-refuses Isub h = popped _ _ (λ p. popped _ _ (λ q. int (p .top) _ (λ _. int (q .top) _ (λ _. tt))))
+    execute-refuses (Getfield c n t) h =
+        on-take P _ _ _ (h c refl) (λ e _. on-take P _ _ _ (λ _. absent) (λ d _. posting w true _ _ (λ _. popped _ _ (λ p. receiver (w .base) os e (p .top) _ (λ _.
+        local _ _ (λ _. local _ _ (λ _. tt)))))))
+    execute-refuses (Putfield c n t) h =
+        on-take P _ _ _ (h c refl) (λ e _. on-take P _ _ _ (λ _. absent) (λ d _. posting w true _ _ (λ _. popped _ _ (λ p. popped _ _ (λ q.
+        on-bind P (kind! t (p .top)) _ (kind-refuses t (p .top)) (λ _ _. receiver (w .base) os e (q .top) _ (λ _. local _ _ (λ _. tt))))))))
+    execute-refuses (Invokevirtual c n t r) h =
+        on-take P _ _ _ (h c refl) (λ e _. on-take P _ _ _ (λ _. absent) (λ d _. posting w (ltb (suc (length fs)) 32) _ _ (λ _. popped _ _ (λ p. popped _ _ (λ q.
+        on-bind P (kind! t (p .top)) _ (kind-refuses t (p .top)) (λ _ _. receiver (w .base) os e (q .top) _ (λ _. local _ _ (λ _. local _ _ (λ _. tt)))))))))
+    execute-refuses (New c) h = on-take P _ _ _ (h c refl) (λ e _. on-need P _ _ _ full (λ _. tt))
+    execute-refuses Ireturn h = under fs _ (λ _. popped _ _ (λ p. int (p .top) _ (λ _. give-refuses fs w os (p .top))))
+    execute-refuses Areturn h = under fs _ (λ _. popped _ _ (λ p. reference (p .top) _ (λ _. give-refuses fs w os (p .top))))
 
-  now-among : (w : World) (f : Frame) → Among S (now w f)
-  unfolding now
-  now-among w f = among-take S _ _ _ stuck (λ _. among-take S _ _ _ stuck (λ _. among-take S _ _ _ stuck (λ _. tt)))
-
-  step-among : (w : World) (os : List Object) (f : Frame) (fs : List Frame) → Among S (step w os f fs)
-  unfolding step
-  step-among w os f fs = among-bind S (now w f) _ (now-among w f) (λ n. execute-among w os f fs (n .theClass) (n .at) (n .at .instruction))
+  -- what the frame whose turn it is needs: at its point an instruction that names class c
+  pub step-refuses : (w : World) (os : List Object) (f : Frame) (fs : List Frame)
+      → ((n : Now) (c : ℕ) → now w f ≡ ok n → classIn (n .at .instruction) ≡ some c → find (w .base .cache) (at (n .theClass .loader) c) ≡ none → P (wanted (at (n .theClass .loader) c)))
+      → Refuses P (step w os f fs)
+  unfolding step now
+  step-refuses w os f fs h =
+      on-bind P (now w f) _ (local _ _ (λ _. local _ _ (λ _. local _ _ (λ _. tt))))
+      (λ n e. execute-refuses w os f fs (n .theClass) (n .at) (n .at .instruction) (λ c. h n c e))
 
 -- The calls
 
-pub step-refusals : (r : Rows) → Among stepRefusals (stepRows r)
-unfolding stepRows S
-step-refusals r = go (r .quote) (r .report)
+-- the frames of the task whose turn it is
+abbrev pub running : List Frame → List Frame → List Frame
+running [] gs = gs
+running (f ∷ fs) gs = f ∷ fs
+
+-- the instruction whose turn it is names class n, and stands in a class of loader l
+pub record StepNeeds (r : Rows) (l n : ℕ) : Type 0 where
+  pub frame : Frame
+  pub others : List Frame
+  pub turn : running (r .quote) (r .report) ≡ frame ∷ others
+  pub reads : Now
+  pub isNow : now (worldOf r) frame ≡ ok reads
+  pub names : classIn (reads .at .instruction) ≡ some n
+  pub loader : reads .theClass .loader ≡ l
+
+-- the one request that a call needs: a definition its superclass, a start its class, a step the class that its instruction names
+abbrev pub Needs : Call → Rows → ℕ → ℕ → Type 0
+Needs callBoot r l n = ⊥
+Needs (callDefine k bs) r l n = (f : File) × (readFile bs ≡ some f) × (l ≡ k) × (n ≡ f .super)
+Needs (callRecord k x c) r l n = ⊥
+Needs (callStart j k x m v) r l n = (l ≡ k) × (n ≡ x)
+Needs callStep r l n = StepNeeds r l n
+Needs (callRun k) r l n = ⊥
+Needs (callDrop j) r l n = ⊥
+
+abbrev pub Due : Call → Rows → Refusal → Type 0
+Due c r (Wanted l n) = (any (eqb 5) (refusalsOf c) ≡ true) × Needs c r l n × (find (r .cache) (at l n) ≡ none)
+Due c r (Word n) = any (eqb n) (refusalsOf c) ≡ true
+
+pub due-listed : (c : Call) (r : Rows) (w : Refusal) → Due c r w → any (eqb (number w)) (refusalsOf c) ≡ true
+unfolding number
+due-listed c r (Wanted l n) d = d .0
+due-listed c r (Word n) d = d
+
+pub step-due : (r : Rows) → Refuses (Due callStep r) (stepRows r)
+unfolding stepRows refusalsOf stepRefusals any
+step-due r = go (r .quote) (r .report) (λ f fs e. e)
   where
-    task : (k : ℕ) (f : Frame) (fs : List Frame) → Among S (stepTask k (worldOf r) f fs r)
-    task k f fs = unfold stepTask in among-bind S (step (worldOf r) (r .objects) f fs) _ (step-among (worldOf r) (r .objects) f fs) (λ _. tt)
+    P : Refusal → Type 0
+    P = Due callStep r
 
-    go : (q p : List Frame) → Among S (stepOn q p (worldOf r) r)
-    go (f ∷ fs) p = unfold stepOn in task 0 f fs
-    go [] (f ∷ fs) = unfold stepOn in task 1 f fs
-    go [] [] = unfold stepOn in tt
+    task : (k : ℕ) (f : Frame) (fs : List Frame) → running (r .quote) (r .report) ≡ f ∷ fs → Refuses P (stepTask k (worldOf r) f fs r)
+    task k f fs q = unfold stepTask in on-bind P (step (worldOf r) (r .objects) f fs) _
+        (step-refuses P refl refl refl refl refl (worldOf r) (r .objects) f fs (λ n c e i m. (refl, record { frame = f; others = fs; turn = q; reads = n; isNow = e; names = i; loader = refl }, m))) (λ _ _. tt)
 
-pub define-refusals : (l : ℕ) (bs : List ℕ) (r : Rows) → Among (refusalsOf (callDefine l bs)) (defineRows l bs r)
-unfolding defineRows define refusalsOf any number
-define-refusals l bs r =
-    let N : List ℕ = refusalsOf (callDefine l bs) in
-    among-need N _ _ _ refl (λ _. among-take N _ _ _ refl (λ f. among-bind N _ _
-    (among-take N _ _ _ refl (λ _. among-need N _ _ _ refl (λ _. among-take N _ _ _ refl (λ _. among-need N _ _ _ refl (λ _. among-need N _ _ _ refl (λ _. among-need N _ _ _ refl (λ _. tt))))))) (λ _. tt)))
+    go : (q p : List Frame) → ((f : Frame) (fs : List Frame) → running q p ≡ f ∷ fs → running (r .quote) (r .report) ≡ f ∷ fs) → Refuses P (stepOn q p (worldOf r) r)
+    go (f ∷ fs) p s = unfold stepOn in task 0 f fs (s f fs refl)
+    go [] (f ∷ fs) s = unfold stepOn in task 1 f fs (s f fs refl)
+    go [] [] s = unfold stepOn in tt
 
-pub record-refusals : (l n c : ℕ) (r : Rows) → Among (refusalsOf (callRecord l n c)) (recordRows l n c r)
-unfolding recordRows recorded refusalsOf any number
-record-refusals l n c r =
-    among-bind N _ _ (among-need N _ _ _ refl (λ _. among-take N _ _ _ refl (λ _. among-need N _ _ _ refl (λ _. go (find (r .cache) (at l n)))))) (λ _. tt)
+pub define-due : (l : ℕ) (bs : List ℕ) (r : Rows) → Refuses (Due (callDefine l bs) r) (defineRows l bs r)
+unfolding defineRows define refusalsOf any
+define-due l bs r =
+    let P : Refusal → Type 0 = Due (callDefine l bs) r in
+    on-need P _ _ _ refl (λ _. on-take P _ _ _ (λ _. refl) (λ f e. on-bind P _ _
+    (on-take P _ _ _ (λ _. refl) (λ _ _. on-need P _ _ _ refl (λ _. on-take P _ _ _ (λ m. (refl, (f, e, refl, refl), m)) (λ _ _.
+    on-need P _ _ _ refl (λ _. on-need P _ _ _ refl (λ _. on-need P _ _ _ refl (λ _. tt))))))) (λ _ _. tt)))
+
+pub record-due : (l n c : ℕ) (r : Rows) → Refuses (Due (callRecord l n c) r) (recordRows l n c r)
+unfolding recordRows recorded refusalsOf any
+record-due l n c r =
+    on-bind P _ _ (on-need P _ _ _ refl (λ _. on-take P _ _ _ (λ _. refl) (λ _ _. on-need P _ _ _ refl (λ _. go (find (r .cache) (at l n)))))) (λ _ _. tt)
   where
-    N : List ℕ
-    N = refusalsOf (callRecord l n c)
+    P : Refusal → Type 0
+    P = Due (callRecord l n c) r
 
-    go : (o : Option ℕ) → Among {A = World} N (elim o as (λ _. Result World) [
+    go : (o : Option ℕ) → Refuses {A = World} P (elim o as (λ _. Result World) [
       | some d ↦ need (eqb d c) (Word 4) >>= λ _. ok (worldOf r)
       | none ↦ need (ltb (length (r .cache)) 256) (Word 10) >>= λ _. need (agrees (withEntry (worldOf r) (at l n) c)) (Word 9) >>= λ _. ok (withEntry (worldOf r) (at l n) c)
     ])
-    go none = among-need N _ _ _ refl (λ _. among-need N _ _ _ refl (λ _. tt))
-    go (some d) = among-need N _ _ _ refl (λ _. tt)
+    go none = on-need P _ _ _ refl (λ _. on-need P _ _ _ refl (λ _. tt))
+    go (some d) = on-need P _ _ _ refl (λ _. tt)
 
-pub start-refusals : (k l n m v : ℕ) (r : Rows) → Among (refusalsOf (callStart k l n m v)) (startRows k l n m v r)
-unfolding startRows started refusalsOf any number
-start-refusals k l n m v r =
-    let N : List ℕ = refusalsOf (callStart k l n m v) in
-    among-need N _ _ _ refl (λ _. among-bind N _ _
-    (among-need N _ _ _ refl (λ _. among-need N _ _ _ refl (λ _. among-take N _ _ _ refl (λ _. among-take N _ _ _ refl (λ _. among-take N _ _ _ refl (λ _. among-need N _ _ _ refl (λ _. tt))))))) (λ _. tt))
+pub start-due : (k l n m v : ℕ) (r : Rows) → Refuses (Due (callStart k l n m v) r) (startRows k l n m v r)
+unfolding startRows started refusalsOf any
+start-due k l n m v r =
+    let P : Refusal → Type 0 = Due (callStart k l n m v) r in
+    on-need P _ _ _ refl (λ _. on-bind P _ _
+    (on-need P _ _ _ refl (λ _. on-need P _ _ _ refl (λ _. on-take P _ _ _ (λ e. (refl, (refl, refl), e)) (λ _ _.
+    on-take P _ _ _ (λ _. refl) (λ _ _. on-take P _ _ _ (λ _. refl) (λ _ _. on-need P _ _ _ refl (λ _. tt))))))) (λ _ _. tt))
 
-pub drop-refusals : (k : ℕ) (r : Rows) → Among (refusalsOf (callDrop k)) (dropRows k r)
-unfolding dropRows refusalsOf any number
-drop-refusals k r = let N : List ℕ = refusalsOf (callDrop k) in among-need N _ _ _ refl (λ _. tt)
+pub drop-due : (k : ℕ) (r : Rows) → Refuses (Due (callDrop k) r) (dropRows k r)
+unfolding dropRows refusalsOf any
+drop-due k r = on-need (Due (callDrop k) r) _ _ _ refl (λ _. tt)

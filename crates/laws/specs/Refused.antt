@@ -1,26 +1,30 @@
--- A call that is refused leaves every table as it was, whatever the tables hold, and its word is one of those that the paper lists for it.
-use mathlib.Core.Path.{_≡_, refl, sym, ap, _∙_}
+-- A call that is refused leaves every table as it was, whatever the tables hold; its word is one of those that the paper lists for it; and where it
+-- wants a request, that is the one it needs, which isn't cached.
+use mathlib.Core.Path.{_≡_, refl, sym, ap, _∙_, subst}
 use mathlib.Core.Bool.{Bool, true, false, _&&_}
 use mathlib.Core.Option.{Option, none, some}
 use mathlib.Core.List.{List, [], _∷_}
-use Prim.Native.Nat.{ℕ, zero, suc}
+use Prim.Native.Nat.{ℕ}
 use native.Mathlib.Omega.{arith}
 use lib.Dec.{eqb, leb}
 use Rattle.definition.specs.declared.Refusal.{Refusal}
-use Rattle.definition.specs.declared.Refusal.the-variants.{Word}
+use Rattle.definition.specs.declared.Refusal.the-variants.{Wanted, Word}
 use Rattle.definition.specs.declared.Answer.{Answer}
 use Rattle.definition.specs.declared.Answer.the-variants.{Idle, Ran, Finished, Refused}
 use Rattle.definition.specs.declared.Reply.{Reply}
 use Rattle.definition.specs.declared.Reply.the-variants.{Accepted, Defined, Stepped, RanFor, Denied}
 use Rattle.definition.specs.Lists.{any}
+use Rattle.definition.specs.Requests.{at}
 use Rattle.definition.specs.Answers.{number, Result, refused, ok}
+use Rattle.definition.specs.Classes.{find}
 use Rattle.definition.specs.Constraints.{World}
 use Rattle.definition.specs.Machine.{Frame}
 use Rattle.definition.specs.Tables.{Tables, shaped, Rows, worldOf, view, put}
 use Rattle.definition.specs.Broken.{broken}
-use Rattle.definition.specs.Calls.{Given, bootRows, defineRows, recordRows, startRows, dropRows, answerOf, stepTask, stepOn, stepRows, Done, done, wrap, boot, stepTables, goOn, runFrom, run, Call, callBoot, callDefine, callRecord, callStart, callStep, callRun, callDrop, stepRefusals, refusalsOf, perform}
+use Rattle.definition.specs.Calls.{Given, bootRows, defineRows, recordRows, startRows, dropRows, answerOf, stepTask, stepOn, stepRows, Done, done, wrap, boot, stepTables, runFrom, run, Call, callBoot, callDefine, callRecord, callStart, callStep, callRun, callDrop, stepRefusals, refusalsOf, perform}
 use Rattle.laws.specs.Wrapped.{wrapped, Ok, then, ok-at}
-use Rattle.laws.specs.Refusals.{Among, step-refusals, define-refusals, record-refusals, start-refusals, drop-refusals}
+use Rattle.laws.specs.Runs.{run-is}
+use Rattle.laws.specs.Refusals.{Refuses, Needs, Due, due-listed, step-due, define-due, record-due, start-due, drop-due}
 
 -- the refusal of a call, if it is one. A run that ends in a refused step is itself accepted.
 abbrev pub refusal : Reply → Option Refusal
@@ -33,27 +37,27 @@ refusal (Stepped (Refused w)) = some w
 refusal (RanFor k s) = none
 refusal (Denied w) = some w
 
-abbrev Taken : Given Reply → Type 0
+abbrev pub Taken : Given Reply → Type 0
 Taken g = refusal (g .answer) ≡ none
 
-abbrev Went : Given Answer → Type 0
+abbrev pub Went : Given Answer → Type 0
 Went g = refusal (Stepped (g .answer)) ≡ none
 
 -- What is accepted on rows answers no refusal
 
-define-taken : (l : ℕ) (bs : List ℕ) (r : Rows) → Ok (defineRows l bs r) Taken
+pub define-taken : (l : ℕ) (bs : List ℕ) (r : Rows) → Ok (defineRows l bs r) Taken
 unfolding defineRows
 define-taken l bs r = then Taken _ _ (λ _ _. then Taken _ _ (λ _ _. then Taken _ _ (λ _ _. refl)))
 
-record-taken : (l n c : ℕ) (r : Rows) → Ok (recordRows l n c r) Taken
+pub record-taken : (l n c : ℕ) (r : Rows) → Ok (recordRows l n c r) Taken
 unfolding recordRows
 record-taken l n c r = then Taken _ _ (λ _ _. refl)
 
-start-taken : (k l n m v : ℕ) (r : Rows) → Ok (startRows k l n m v r) Taken
+pub start-taken : (k l n m v : ℕ) (r : Rows) → Ok (startRows k l n m v r) Taken
 unfolding startRows
 start-taken k l n m v r = then Taken _ _ (λ _ _. then Taken _ _ (λ _ _. refl))
 
-drop-taken : (k : ℕ) (r : Rows) → Ok (dropRows k r) Taken
+pub drop-taken : (k : ℕ) (r : Rows) → Ok (dropRows k r) Taken
 unfolding dropRows
 drop-taken k r = then Taken _ _ (λ _ _. refl)
 
@@ -66,7 +70,7 @@ task-went : (k : ℕ) (w : World) (f : Frame) (fs : List Frame) (r : Rows) → O
 unfolding stepTask
 task-went k w f fs r = then Went _ _ (λ o _. answer-went k (o .result))
 
-step-went : (r : Rows) → Ok (stepRows r) Went
+pub step-went : (r : Rows) → Ok (stepRows r) Went
 unfolding stepRows
 step-went r = go (r .quote) (r .report)
   where
@@ -80,75 +84,75 @@ step-went r = go (r .quote) (r .report)
 never : {A : Type 0} (w : Refusal) (o : Option Refusal) → o ≡ none → o ≡ some w → A
 never w o p q = absurd (let z : _≡_ {A = ℕ} 0 1 = cc in omega arith)
 
--- the same tables, and a word of the list
-pub record Refusing (ns : List ℕ) (t s : Tables) (w : Refusal) : Type 0 where
+-- the same tables, and a refusal that is due
+pub record Refusing (c : Call) (t s : Tables) (w : Refusal) : Type 0 where
   pub same : s ≡ t
-  pub listed : any (eqb (number w)) ns ≡ true
+  pub due : Due c (view t) w
 
 some-inj : (v w : Refusal) → Path (Option Refusal) (some v) (some w) → v ≡ w
 some-inj v w e = cc
 
-among-at : {A : Type 0} (ns : List ℕ) (o : Result A) → Among ns o → (w : Refusal) → o ≡ refused w → any (eqb (number w)) ns ≡ true
-among-at ns (refused v) h w e = let z : v ≡ w = cc in rw (sym z) h
-among-at ns (ok a) h w e = absurd (let z : _≡_ {A = ℕ} 0 1 = cc in omega arith)
+refuses-at : {A : Type 0} (P : Refusal → Type 0) (o : Result A) → Refuses P o → (w : Refusal) → o ≡ refused w → P w
+refuses-at P (refused v) h w e = let z : v ≡ w = cc in subst P z h
+refuses-at P (ok a) h w e = absurd (let z : _≡_ {A = ℕ} 0 1 = cc in omega arith)
 
-module _ {A : Type 0} (ns : List ℕ) (one : any (eqb (number (Word 1))) ns ≡ true) (deny : Refusal → A) (says : A → Option Refusal) (is : (w : Refusal) → says (deny w) ≡ some w)
-    (f : Rows → Result (Given A)) (taken : (r : Rows) → Ok (f r) (λ g. says (g .answer) ≡ none)) (among : (r : Rows) → Among ns (f r)) where
-  wrap-refusing : (t : Tables) (w : Refusal) → says (wrap deny f t .answer) ≡ some w → Refusing ns t (wrap deny f t .tables) w
-  wrap-refusing t w = wrapped deny f t (λ a z. says a ≡ some w → Refusing ns t z w)
-      (λ _ q. record { same = refl; listed = rw (sym (some-inj (Word 1) w (sym (is (Word 1)) ∙ q))) one })
-      (λ v e q. record { same = refl; listed = rw (sym (some-inj v w (sym (is v) ∙ q))) (among-at ns (f (view t)) (among (view t)) v e) })
-      (λ g e q. never w _ (ok-at (λ g. says (g .answer) ≡ none) _ (taken (view t)) g e) q)
+module _ {A : Type 0} (c : Call) (t : Tables) (deny : Refusal → A) (says : A → Option Refusal) (is : (w : Refusal) → says (deny w) ≡ some w)
+    (f : Rows → Result (Given A)) (taken : Ok (f (view t)) (λ g. says (g .answer) ≡ none)) (due : Refuses (Due c (view t)) (f (view t))) (one : Due c (view t) (Word 1)) where
+  wrap-refusing : (w : Refusal) → says (wrap deny f t .answer) ≡ some w → Refusing c t (wrap deny f t .tables) w
+  wrap-refusing w = wrapped deny f t (λ a z. says a ≡ some w → Refusing c t z w)
+      (λ _ q. record { same = refl; due = subst (Due c (view t)) (some-inj (Word 1) w (sym (is (Word 1)) ∙ q)) one })
+      (λ v e q. record { same = refl; due = subst (Due c (view t)) (some-inj v w (sym (is v) ∙ q)) (refuses-at (Due c (view t)) (f (view t)) due v e) })
+      (λ _ g e q. never w _ (ok-at (λ g. says (g .answer) ≡ none) _ taken g e) q)
 
-boot-refusing : (t : Tables) (w : Refusal) → refusal (boot t .answer) ≡ some w → Refusing (refusalsOf callBoot) t (boot t .tables) w
-unfolding boot refusalsOf any number
+boot-refusing : (t : Tables) (w : Refusal) → refusal (boot t .answer) ≡ some w → Refusing callBoot t (boot t .tables) w
+unfolding boot refusalsOf any
 boot-refusing t w = go (shaped t)
   where
     D : Bool → Done Reply
     D b = elim b as (λ _. Done Reply) [ true ↦ done Accepted (put bootRows t) | false ↦ done (Denied (Word 1)) t ]
 
-    go : (b : Bool) → refusal (D b .answer) ≡ some w → Refusing (refusalsOf callBoot) t (D b .tables) w
+    go : (b : Bool) → refusal (D b .answer) ≡ some w → Refusing callBoot t (D b .tables) w
     go true q = never w none refl q
-    go false q = record { same = refl; listed = rw (sym (some-inj (Word 1) w q)) refl }
+    go false q = record { same = refl; due = subst (Due callBoot (view t)) (some-inj (Word 1) w q) refl }
 
-runs-taken : (n k : ℕ) (a : Answer) (t : Tables) → refusal (runFrom stepTables n k a t .answer) ≡ none
-unfolding runFrom
-runs-taken zero k a t = refl
-runs-taken (suc n) k a t = go (stepTables t .answer) (stepTables t .tables) (λ k a t. runs-taken n k a t)
-  where
-    go : (x : Answer) (z : Tables) → ((k : ℕ) (a : Answer) (t : Tables) → refusal (runFrom stepTables n k a t .answer) ≡ none) → refusal (goOn (runFrom stepTables n) k x z .answer) ≡ none
-    go Idle z ih = refl
-    go (Ran j) z ih = ih (suc k) (Ran j) z
-    go (Finished j v) z ih = refl
-    go (Refused w) z ih = refl
+pub runs-taken : (n : ℕ) (t : Tables) → refusal (runFrom stepTables n 0 Idle t .answer) ≡ none
+runs-taken n t = ap (λ (d : Done Reply). refusal (d .answer)) (run-is stepTables n 0 Idle t .gives)
 
-run-refusing : (n : ℕ) (t : Tables) (w : Refusal) → refusal (run n t .answer) ≡ some w → Refusing (refusalsOf (callRun n)) t (run n t .tables) w
-unfolding run refusalsOf any number
+run-refusing : (n : ℕ) (t : Tables) (w : Refusal) → refusal (run n t .answer) ≡ some w → Refusing (callRun n) t (run n t .tables) w
+unfolding run refusalsOf any
 run-refusing n t w = go (broken t) (leb 1 n && leb n 65535)
   where
     D : Bool → Bool → Done Reply
     D b c = elim b as (λ _. Done Reply) [ true ↦ done (Denied (Word 1)) t | false ↦ elim c as (λ _. Done Reply) [ true ↦ runFrom stepTables n 0 Idle t | false ↦ done (Denied (Word 3)) t ] ]
 
-    go : (b c : Bool) → refusal (D b c .answer) ≡ some w → Refusing (refusalsOf (callRun n)) t (D b c .tables) w
-    go true c q = record { same = refl; listed = rw (sym (some-inj (Word 1) w q)) refl }
-    go false true q = never w _ (runs-taken n 0 Idle t) q
-    go false false q = record { same = refl; listed = rw (sym (some-inj (Word 3) w q)) refl }
+    go : (b c : Bool) → refusal (D b c .answer) ≡ some w → Refusing (callRun n) t (D b c .tables) w
+    go true c q = record { same = refl; due = subst (Due (callRun n) (view t)) (some-inj (Word 1) w q) refl }
+    go false true q = never w _ (runs-taken n t) q
+    go false false q = record { same = refl; due = subst (Due (callRun n) (view t)) (some-inj (Word 3) w q) refl }
 
-step-refusing : (t : Tables) (w : Refusal) → refusal (Stepped (stepTables t .answer)) ≡ some w → Refusing stepRefusals t (stepTables t .tables) w
-unfolding stepTables stepRefusals any number
-step-refusing t w = wrap-refusing stepRefusals refl Refused (λ a. refusal (Stepped a)) (λ w. refl) stepRows step-went step-refusals t w
+step-refusing : (t : Tables) (w : Refusal) → refusal (Stepped (stepTables t .answer)) ≡ some w → Refusing callStep t (stepTables t .tables) w
+unfolding stepTables refusalsOf stepRefusals any
+step-refusing t w = wrap-refusing callStep t Refused (λ a. refusal (Stepped a)) (λ w. refl) stepRows (step-went (view t)) (step-due (view t)) refl w
 
--- a refused call: the same tables, a word of its list
-pub refused-same : (c : Call) (t : Tables) (w : Refusal) → refusal (perform c t .answer) ≡ some w → Refusing (refusalsOf c) t (perform c t .tables) w
-unfolding perform refusalsOf any number
+-- a refused call: the same tables, and a refusal that is due
+pub refused-same : (c : Call) (t : Tables) (w : Refusal) → refusal (perform c t .answer) ≡ some w → Refusing c t (perform c t .tables) w
+unfolding perform refusalsOf any
 refused-same callBoot t w q = boot-refusing t w q
-refused-same (callDefine l bs) t w q = wrap-refusing _ refl Denied refusal (λ w. refl) (defineRows l bs) (define-taken l bs) (define-refusals l bs) t w q
-refused-same (callRecord l n c) t w q = wrap-refusing _ refl Denied refusal (λ w. refl) (recordRows l n c) (record-taken l n c) (record-refusals l n c) t w q
-refused-same (callStart k l n m v) t w q = wrap-refusing _ refl Denied refusal (λ w. refl) (startRows k l n m v) (start-taken k l n m v) (start-refusals k l n m v) t w q
+refused-same (callDefine l bs) t w q = wrap-refusing _ t Denied refusal (λ w. refl) (defineRows l bs) (define-taken l bs (view t)) (define-due l bs (view t)) refl w q
+refused-same (callRecord l n c) t w q = wrap-refusing _ t Denied refusal (λ w. refl) (recordRows l n c) (record-taken l n c (view t)) (record-due l n c (view t)) refl w q
+refused-same (callStart k l n m v) t w q = wrap-refusing _ t Denied refusal (λ w. refl) (startRows k l n m v) (start-taken k l n m v (view t)) (start-due k l n m v (view t)) refl w q
 refused-same callStep t w q = step-refusing t w q
 refused-same (callRun n) t w q = run-refusing n t w q
-refused-same (callDrop k) t w q = wrap-refusing _ refl Denied refusal (λ w. refl) (dropRows k) (drop-taken k) (drop-refusals k) t w q
+refused-same (callDrop k) t w q = wrap-refusing _ t Denied refusal (λ w. refl) (dropRows k) (drop-taken k (view t)) (drop-due k (view t)) refl w q
 
--- each step of a run that is refused has a word of a step's list
-pub step-listed : (t : Tables) (w : Refusal) → stepTables t .answer ≡ Refused w → Refusing stepRefusals t (stepTables t .tables) w
-step-listed t w e = step-refusing t w (ap (λ (a : Answer). refusal (Stepped a)) e)
+-- its word is listed
+pub refused-listed : (c : Call) (t : Tables) (w : Refusal) → refusal (perform c t .answer) ≡ some w → any (eqb (number w)) (refusalsOf c) ≡ true
+refused-listed c t w q = due-listed c (view t) w (refused-same c t w q .due)
+
+-- what it wants, it needs, and it isn't cached
+pub wanted-missing : (c : Call) (t : Tables) (l n : ℕ) → refusal (perform c t .answer) ≡ some (Wanted l n) → Needs c (view t) l n × (find (view t .cache) (at l n) ≡ none)
+wanted-missing c t l n q = let d = refused-same c t (Wanted l n) q .due in (d .1, d .2)
+
+-- the same for each step, and so for the last step of a run
+pub step-refused : (t : Tables) (w : Refusal) → stepTables t .answer ≡ Refused w → Refusing callStep t (stepTables t .tables) w
+step-refused t w e = step-refusing t w (ap (λ (a : Answer). refusal (Stepped a)) e)

@@ -1,8 +1,7 @@
 -- Answers: a value, or a refusal with its word.
-use mathlib.Core.Path.{_≡_, refl, ap}
+use mathlib.Core.Path.{_≡_, refl}
 use mathlib.Core.Bool.{Bool, true, false}
 use mathlib.Core.Option.{Option, none, some}
-use mathlib.Core.Logic.{_⊎_, inl, inr}
 use Prim.Native.Nat.{ℕ}
 use Rattle.definition.specs.Answers.{Result, _>>=_, need, take?, wanted, ok, refused}
 use Rattle.definition.specs.Requests.{Request}
@@ -19,12 +18,6 @@ bind-ok (refused w) f {b} h = let z : _≡_ {A = ℕ} 0 1 = cc in absurd (zero-o
     zero-one : _≡_ {A = ℕ} 0 1 → ⊥
     zero-one e = omega native.Mathlib.Omega.arith
 bind-ok (ok a) f h = (a, refl, h)
-
--- where a sequence is refused: at its first part, or after it
-pub bind-refused : {A B : Type 0} (o : Result A) (f : A → Result B) {w : Refusal} → (o >>= f) ≡ refused w → (o ≡ refused w) ⊎ ((a : A) × (o ≡ ok a) × (f a ≡ refused w))
-unfolding _>>=_
-bind-refused (refused v) f h = inl (ap refused (cc))
-bind-refused (ok a) f h = inr (a, refl, h)
 
 pub need-ok : (t : Bool) (w : Refusal) {u : Unit {0}} → need t w ≡ ok u → t ≡ true
 unfolding need

@@ -6,9 +6,12 @@ use Prim.Native.Nat.{ℕ, zero, suc, _+_, _<_}
 use native.Mathlib.Omega.{arith}
 use Rattle.definition.specs.declared.Answer.{Answer}
 use Rattle.definition.specs.declared.Answer.the-variants.{Idle, Ran, Finished, Refused}
-use Rattle.definition.specs.declared.Reply.the-variants.{RanFor}
+use Rattle.definition.specs.declared.Refusal.{Refusal}
+use Rattle.definition.specs.declared.Refusal.the-variants.{Word}
+use Rattle.definition.specs.declared.Reply.{Reply}
+use Rattle.definition.specs.declared.Reply.the-variants.{RanFor, Denied}
 use Rattle.definition.specs.Tables.{Tables}
-use mathlib.Core.Bool.{true, false, _&&_}
+use mathlib.Core.Bool.{Bool, true, false, _&&_}
 use lib.Dec.{leb}
 use Rattle.definition.specs.Broken.{broken}
 use Rattle.definition.specs.Calls.{Done, done, stepTables, goOn, runFrom, run, callRun, perform}
@@ -93,8 +96,48 @@ module _ (one : Tables → Done Answer) where
       go (Finished j m) e ih = stopped n k₀ a₀ (Finished j m) t (one t .tables) (λ i. done (e i) (one t .tables)) (λ h. h) refl (ap (λ (x : Answer). goOn (runFrom one n) k₀ x (one t .tables)) e)
       go (Refused w) e ih = stopped n k₀ a₀ (Refused w) t (one t .tables) (λ i. done (e i) (one t .tables)) (λ h. h) refl (ap (λ (x : Answer). goOn (runFrom one n) k₀ x (one t .tables)) e)
 
+-- What each step keeps, a run keeps: I holds before each step, J of each answer and the tables it leaves
+module _ (one : Tables → Done Answer) (I : Tables → Type 0) (J : Answer → Tables → Type 0)
+    (each : (t : Tables) → I t → J (one t .answer) (one t .tables)) (on : (t : Tables) (j : ℕ) → I t → one t .answer ≡ Ran j → I (one t .tables)) where
+  pub record Ends (d : Done Reply) : Type 0 where
+    pub count : ℕ
+    pub last : Answer
+    pub answers : d .answer ≡ RanFor count last
+    pub holds : J last (d .tables)
+
+  pub runs-end : (n k : ℕ) (a : Answer) (t : Tables) → I t → J a t → Ends (runFrom one n k a t)
+  unfolding runFrom
+  runs-end zero k a t i j = record { count = k; last = a; answers = refl; holds = j }
+  runs-end (suc n) k a t i j = go (one t .answer) refl (each t i) (λ k b h. runs-end n k b (one t .tables) h)
+    where
+      go : (x : Answer) → one t .answer ≡ x → J (one t .answer) (one t .tables) → ((k : ℕ) (b : Answer) → I (one t .tables) → J b (one t .tables) → Ends (runFrom one n k b (one t .tables)))
+          → Ends (goOn (runFrom one n) k x (one t .tables))
+      go Idle e h ih = record { count = k; last = Idle; answers = refl; holds = rw e at h }
+      go (Ran m) e h ih = ih (suc k) (Ran m) (on t m i e) (rw e at h)
+      go (Finished m v) e h ih = record { count = k; last = Finished m v; answers = refl; holds = rw e at h }
+      go (Refused w) e h ih = record { count = k; last = Refused w; answers = refl; holds = rw e at h }
+
+-- on tables alone: what a step keeps, the call keeps
+pub run-keeps : (P : Tables → Type 0) → ((t : Tables) → P t → P (stepTables t .tables)) → (n : ℕ) (t : Tables) → P t → P (run n t .tables)
+unfolding run
+run-keeps P keep n t h = go (broken t) (leb 1 n && leb n 65535)
+  where
+    go : (b c : Bool) → P ((elim b as (λ _. Done Reply) [
+      | true ↦ done (Denied (Word 1)) t
+      | false ↦ elim c as (λ _. Done Reply) [ true ↦ runFrom stepTables n 0 Idle t | false ↦ done (Denied (Word 3)) t ]
+    ]) .tables)
+    go true c = h
+    go false true = runs-end stepTables P (λ _. P) keep (λ t _ i _. keep t i) n 0 Idle t h h .holds
+    go false false = h
+
 -- The call: on a store that isn't broken, for n from 1 to 65,535, it answers and leaves what its steps do
 pub run-steps : (n : ℕ) (t : Tables) → broken t ≡ false → leb 1 n && leb n 65535 ≡ true
     → (k : ℕ) × (a : Answer) × (s : Tables) × (perform (callRun n) t ≡ done (RanFor k a) s) × Run stepTables n Idle t k a s
 unfolding perform run
 run-steps n t h l = let r = run-is stepTables n 0 Idle t in (r .count, r .last, r .left, rw (h, run) (rw l (r .gives ∙ (let z : 0 + r .count ≡ r .count = omega arith in ap (λ (k : ℕ). done (RanFor k (r .last)) (r .left)) z))), r .steps)
+
+-- and if its first step is refused, that is its answer
+pub run-refused : (n : ℕ) (t : Tables) (w : Refusal) → broken t ≡ false → leb 1 n && leb n 65535 ≡ true → stepTables t ≡ done (Refused w) t → perform (callRun n) t ≡ done (RanFor 0 (Refused w)) t
+unfolding perform run runFrom
+run-refused zero t w h l e = cc
+run-refused (suc n) t w h l e = rw (h, run) (rw l (ap (λ (d : Done Answer). goOn (runFrom stepTables n) 0 (d .answer) (d .tables)) e))

@@ -6,9 +6,8 @@ use Prim.Native.Nat.{ℕ, zero, suc, _+_, _-_, _≤_, _<_}
 use native.Mathlib.Omega.{arith}
 use lib.ListN.{getElem?}
 use Rattle.definition.specs.Classes.{Base, Slot, ownSlots, slots, slotsIn, superOf}
-use Rattle.definition.specs.Superclasses.{Below, below, same, up}
-use Rattle.laws.specs.Agreement.{super-falls}
-use Rattle.laws.specs.Agreement.{nth-more}
+use Rattle.definition.specs.Superclasses.{Below, same, up}
+use Rattle.laws.specs.Agreement.{super-falls, nth-more}
 
 module _ (b : Base) where
   slots-fuel : (j k c : ℕ) → c ≤ j → c ≤ k → slotsIn j b c ≡ slotsIn k b c

@@ -7,11 +7,12 @@ use mathlib.Core.Logic.{_⊎_, inl, inr}
 use Prim.Native.Nat.{ℕ, zero, suc, _+_, _<_}
 use native.Mathlib.Omega.{arith}
 use lib.ListN.{getElem?}
-use Rattle.definition.specs.Classes.{Base, Class, Entry, Field, Method, Slot, alike, find, hasMethod, loaderOf, methodsOf, ownSlots, slots, slotsIn, superOf}
+use lib.Dec.{eqb}
+use Rattle.definition.specs.Classes.{Base, Class, Entry, Field, Method, Slot, alike, find, hasField, hasMethod, loaderOf, methodsOf, ownSlots, slotIs, slots, slotsIn, superOf}
 use Rattle.definition.specs.Constraints.{World}
 use Rattle.definition.specs.Lists.{any}
 use Rattle.definition.specs.Requests.{Request, at, sameRequest}
-use Rattle.definition.specs.Superclasses.{nearest, seek}
+use Rattle.definition.specs.Superclasses.{below, nearest, seek}
 use Rattle.laws.specs.Agreement.{super-falls, super-is}
 use Rattle.laws.specs.Chains.{same-refl}
 use Rattle.laws.specs.Growth.{Grows, grows-super}
@@ -123,6 +124,14 @@ module _ (v w : World) (lk : Rooted (v .base)) (gr : Grows v w) where
 
   own-stable : (c : ℕ) → Real c → ownSlots (w .base) c ≡ ownSlots (v .base) c
   own-stable c q = own-is (w .base) c (q .0) (gr .classes c (q .0) (q .1)) ∙ sym (own-is (v .base) c (q .0) (q .1))
+
+  pub field-stable : (n t c : ℕ) → Real c → nearest (superOf (w .base)) (hasField (w .base) n t) c ≡ nearest (superOf (v .base)) (hasField (v .base) n t) c
+  unfolding nearest hasField
+  field-stable n t c q = seek-stable (hasField (v .base) n t) (hasField (w .base) n t) (λ x r. ap (any (slotIs x n t)) (own-stable x r)) (suc c) c q
+
+  pub below-stable : (c d : ℕ) → Real c → below (superOf (w .base)) c d ≡ below (superOf (v .base)) c d
+  unfolding below nearest
+  below-stable c d q = ap (λ (o : Option ℕ). elim o as (λ _. Bool) [ none ↦ false | some _ ↦ true ]) (seek-stable (λ x. eqb x d) (λ x. eqb x d) (λ _ _. refl) (suc c) c q)
 
   slots-in-stable : (j c : ℕ) → Real c → slotsIn j (w .base) c ≡ slotsIn j (v .base) c
   unfolding slotsIn

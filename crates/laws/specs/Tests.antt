@@ -1,12 +1,12 @@
 -- Tests on lists, and what they find.
 use mathlib.Core.Path.{_≡_, refl}
 use mathlib.Core.Bool.{Bool, true, false, false≢true, _&&_, _||_}
-use mathlib.Core.Option.{some}
+use mathlib.Core.Option.{Option, none, some}
 use mathlib.Core.List.{List, [], _∷_, _++_, List·Memᴰ, List·Memᴰ·head, List·Memᴰ·tail}
 use mathlib.Core.Logic.{_⊎_, inl, inr, _≢_}
 use Prim.Native.Nat.{ℕ, suc, _+_, _-_}
 use lib.ListN.{getElem?}
-use Rattle.definition.specs.Lists.{any, indexOf}
+use Rattle.definition.specs.Lists.{any, indexOf, isNone}
 
 pub and-true : (a b : Bool) → (a && b) ≡ true → (a ≡ true) × (b ≡ true)
 and-true true b h = (refl, h)
@@ -15,6 +15,11 @@ and-true false b h = absurd (false≢true h)
 pub or-true : (a b : Bool) → (a || b) ≡ true → (a ≡ true) ⊎ (b ≡ true)
 or-true true b h = inl refl
 or-true false b h = inr h
+
+pub none-is : {A : Type 0} (o : Option A) → isNone o ≡ true → o ≡ none
+unfolding isNone
+none-is none h = refl
+none-is (some a) h = absurd (false≢true h)
 
 pub any-true : {A : Type 0} (f : A → Bool) (xs : List A) → any f xs ≡ true → (x : A) × List·Memᴰ x xs × (f x ≡ true)
 unfolding any

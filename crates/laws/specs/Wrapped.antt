@@ -13,18 +13,22 @@ use Rattle.definition.specs.Calls.{Given, Done, done, carried, wrap}
 
 module _ {A : Type 0} (deny : Refusal → A) (f : Rows → Result (Given A)) (t : Tables) (P : A → Tables → Type 0) where
   pub wrapped : (broken t ≡ true → P (deny (Word 1)) t) → ((w : Refusal) → f (view t) ≡ refused w → P (deny w) t)
-      → ((g : Given A) → f (view t) ≡ ok g → P (g .answer) (put (g .rows) t)) → P (wrap deny f t .answer) (wrap deny f t .tables)
+      → (broken t ≡ false → (g : Given A) → f (view t) ≡ ok g → P (g .answer) (put (g .rows) t)) → P (wrap deny f t .answer) (wrap deny f t .tables)
   unfolding wrap carried
   wrapped x y z = go (broken t) refl
     where
-      res : (o : Result (Given A)) → f (view t) ≡ o → P (carried deny t o .answer) (carried deny t o .tables)
-      res (refused w) e = y w e
-      res (ok g) e = z g e
+      res : broken t ≡ false → (o : Result (Given A)) → f (view t) ≡ o → P (carried deny t o .answer) (carried deny t o .tables)
+      res h (refused w) e = y w e
+      res h (ok g) e = z h g e
 
       go : (b : Bool) → broken t ≡ b → P ((elim b as (λ _. Done A) [ true ↦ done (deny (Word 1)) t | false ↦ carried deny t (f (view t)) ]) .answer)
           ((elim b as (λ _. Done A) [ true ↦ done (deny (Word 1)) t | false ↦ carried deny t (f (view t)) ]) .tables)
       go true e = x e
-      go false e = res (f (view t)) refl
+      go false e = res e (f (view t)) refl
+
+pub wrap-broken : {A : Type 0} (deny : Refusal → A) (f : Rows → Result (Given A)) (t : Tables) → broken t ≡ true → wrap deny f t ≡ done (deny (Word 1)) t
+unfolding wrap
+wrap-broken deny f t h = rw (h, wrap) refl
 
 -- on a store that isn't broken the test makes no difference
 pub wrap-carried : {A : Type 0} (deny : Refusal → A) (f : Rows → Result (Given A)) (t : Tables) → broken t ≡ false → wrap deny f t ≡ carried deny t (f (view t))

@@ -1,8 +1,12 @@
 -- Laws of the tables: reading what was written, writing what was read, and what 'broken' means.
 pub mod Tests
 pub mod Places
+pub mod Rows
+pub mod Values
+pub mod ObjectRows
+pub mod FrameRows
 pub mod Cells
 pub mod Whole
 pub mod Unbroken
+pub mod Fills
 pub mod View
-pub mod Kinds

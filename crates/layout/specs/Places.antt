@@ -11,7 +11,7 @@ use lib.ListN.{length, getElem?, getD, set, take, drop, replicate}
 use lib.Seq.{set-set, set-comm, take-suc, length-take-le}
 use lib.Dec.{eqb}
 use borrow.Author.Tests.{eqb-true, eqb-false}
-use Rattle.definition.specs.Lists.{all, any, allFrom, rows, writeRows, stack, writeStack}
+use Rattle.definition.specs.Lists.{all, any, rows, writeRows, stack, writeStack}
 use Rattle.layout.specs.Tests.{All}
 
 -- Reading: rows upward from a place, a stack downward from the last place
@@ -206,32 +206,6 @@ module _ {A : Type 0} (f : A → Bool) (g : ℕ → A) where
   pub stack-end : (i : ℕ) → i ≤ 0 → all f (stack g i) ≡ true
   unfolding all stack
   stack-end i h = let z : i ≡ 0 = omega arith in rw z
-
-  pub any-stack-hit : (i : ℕ) → 0 < i → f (g (i - 1)) ≡ true → any f (stack g i) ≡ true
-  unfolding any
-  any-stack-hit i h e = rw (stack-top g i h, e, any)
-
-  pub any-stack-on : (i : ℕ) → 0 < i → f (g (i - 1)) ≡ false → any f (stack g i) ≡ any f (stack g (i - 1))
-  unfolding any
-  any-stack-on i h e = ap (any f) (stack-top g i h) ∙ rw e
-
-  pub any-stack-end : (i : ℕ) → i ≤ 0 → any f (stack g i) ≡ false
-  unfolding any stack
-  any-stack-end i h = let z : i ≡ 0 = omega arith in rw z
-
--- each with its place
-module _ {A : Type 0} (f : ℕ → A → Bool) (g : ℕ → A) where
-  pub from-hit : (n i : ℕ) → i < n → f i (g i) ≡ false → allFrom f i (rows g (n - i) i) ≡ false
-  unfolding allFrom
-  from-hit n i h e = rw (rows-step g n i h, e, allFrom)
-
-  pub from-on : (n i : ℕ) → i < n → f i (g i) ≡ true → allFrom f i (rows g (n - i) i) ≡ allFrom f (i + 1) (rows g (n - (i + 1)) (i + 1))
-  unfolding allFrom
-  from-on n i h e = ap (allFrom f i) (rows-step g n i h) ∙ rw (e, add-one i)
-
-  pub from-end : (n i : ℕ) → n ≤ i → allFrom f i (rows g (n - i) i) ≡ true
-  unfolding allFrom
-  from-end n i h = rw (rows-none g n i h)
 
 -- Writing where it was read
 

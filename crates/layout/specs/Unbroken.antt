@@ -19,7 +19,10 @@ use Rattle.definition.specs.Tables.{Tables, shaped, ClassRow, Rows, fileAt, cla
 use Rattle.definition.specs.Broken.{within, whole, broken}
 use Rattle.layout.specs.Tests.{All, From, every-true, true-every, all-more}
 use Rattle.layout.specs.Places.{rows-length, rows-take, stack-length, stack-cong, all-stack, writeRows-length, writeStack-length, writeStack-keeps, rows-written, stack-written}
-use Rattle.layout.specs.Cells.{rows-back, class-rows, entry-rows, tie-rows, subtype-rows, cell-rows, Proper, proper-unset, proper-int, proper-null, proper-object, unread-cell, used-all, putObject-length, object-other, object-back, frame-cells, putFrame-length, FrameProper, unread-row, frame-back}
+use Rattle.layout.specs.Rows.{rows-back, class-rows, entry-rows, tie-rows, subtype-rows, cell-rows}
+use Rattle.layout.specs.Values.{Proper, proper-unset, proper-int, proper-null, proper-object, unread-cell}
+use Rattle.layout.specs.ObjectRows.{used-all, putObject-length, object-other, object-back}
+use Rattle.layout.specs.FrameRows.{frame-cells, putFrame-length, FrameProper, unread-row, frame-back}
 use Rattle.layout.specs.Whole.{Local, ValueSound, ObjectSound, Framed, Objected, Frames, First, ClassSound, Classes, Limits, Whole, Sound, sound-true, sound-is, whole-sound}
 
 -- The published lengths

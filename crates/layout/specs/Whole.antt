@@ -309,6 +309,3 @@ sound-is r s =
         ),
       ),
     )
-
-pub true-sound : (r : Rows) → Whole r → sound r ≡ true
-true-sound r w = sound-is r (whole-sound r w)

@@ -1,12 +1,12 @@
 -- Demand 3.
-pub mod Sized
 pub mod Store
 pub mod Typing
 pub mod Conform
 pub mod Valid
 pub mod Places
+pub mod Later
+pub mod Operands
 pub mod Steps
-pub mod Heap
 pub mod Loads
 pub mod Safe
 pub mod Misplaced

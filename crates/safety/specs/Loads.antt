@@ -22,12 +22,11 @@ use Rattle.laws.specs.Options.{bind-some, nth-last, nth-snoc}
 use Rattle.laws.specs.Tests.{and-true, any-true}
 use Rattle.laws.specs.Upward.{nearest-below}
 use Rattle.safety.specs.Conform.{Tied}
-use Rattle.safety.specs.Steps.{call-arg, call-res}
+use Rattle.safety.specs.Operands.{call-arg, call-res}
 use Rattle.safety.specs.Valid.{Linked, Verified, rooted}
 use Rattle.definition.specs.Maybe as Maybe
-use Rattle.laws.specs.Growth.{Grows, grows-super, sub-edges-more, tie-edges-more}
+use Rattle.laws.specs.Growth.{Grows, grows-super, sub-edges-more, tie-edges-more, grows-class, grows-entry, nth-lt}
 use Rattle.laws.specs.Stable.{find-last, find-snoc, has-class, has-is, has-stable, loader-is, loader-stable, nearest-stable, real-super, super-stable}
-use Rattle.laws.specs.Growth.{grows-class, grows-entry, nth-lt}
 
 nth-mem : {A : Type 0} (xs : List A) (i : ℕ) (x : A) → getElem? xs i ≡ some x → List·Memᴰ x xs
 nth-mem [] i x h = absurd (Option·none-ne-some x h)

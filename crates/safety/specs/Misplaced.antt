@@ -8,24 +8,21 @@ use lib.ListN.{length, getElem?}
 use Rattle.definition.specs.Classes.{Class, Method, find, loaderOf, slots, superOf}
 use Rattle.definition.specs.Constraints.{Agrees, World}
 use Rattle.definition.specs.Machine.{Frame, Object, Value, intValue, nullValue, objectValue, unsetValue, unlistedValue, existing}
-use Rattle.definition.specs.Misplaced.{failures, misplacedFields, misplacedInFrame, misplacedInFrames, placed, placedLocal, typesOf}
+use Rattle.definition.specs.Misplaced.{failures, misplacedFields, misplacedInFrame, misplacedInFrames, placed, placedLocal, typesOf, waitingTypes, misplacedIn}
 use Rattle.definition.specs.Requests.{at}
 use Rattle.definition.specs.Superclasses.{below}
-use Rattle.definition.specs.Verifier.{TypeState, VerifierType, typeClass, typeInt, typeNull, typeOfName}
+use Rattle.definition.specs.Verifier.{TypeState, VerifierType, typeClass, typeInt, typeNull, typeOfName, entryTypes}
 use Rattle.laws.specs.Agreement.{super-falls}
 use Rattle.laws.specs.Upward.{true-below}
 use Rattle.safety.specs.Conform.{fits-below}
 use Rattle.safety.specs.Safe.{Valid}
 use Rattle.safety.specs.Valid.{Conforms, Linked, Local, Stack, Typed, Under}
-use Rattle.laws.specs.Options.{some-bind}
+use Rattle.laws.specs.Options.{some-bind, each-reverse}
 use Rattle.definition.specs.Tables.{Rows, worldOf}
 use Rattle.safety.specs.Store.{storeOf}
-use Rattle.definition.specs.Misplaced.{waitingTypes, misplacedIn}
 use Rattle.definition.specs.Lists.{Each}
-use Rattle.laws.specs.Options.{each-reverse}
 use Rattle.definition.specs.Maybe.{need}
-use Rattle.definition.specs.Verifier.{entryTypes}
-use Rattle.safety.specs.Sized.{within}
+use Rattle.laws.specs.Sized.{within}
 use Rattle.safety.specs.Typing.{known}
 use borrow.Author.Tests.{lt-ltb}
 use lib.Dec.{ltb}

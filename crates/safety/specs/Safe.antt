@@ -1,41 +1,34 @@
 -- The invariant is kept by loads, starts and steps.
 use mathlib.Core.Path.{_≡_, refl, sym, ap, _∙_}
-use mathlib.Core.Bool.{Bool, true, false≢true}
+use mathlib.Core.Bool.{Bool, true}
 use mathlib.Core.Option.{Option, none, some, Option·none-ne-some, Option·some-injective}
 use mathlib.Core.List.{List, [], _∷_, _++_, map, List·Memᴰ·eq-of-singleton}
-use mathlib.Core.Logic.{_≢_}
 use Prim.Native.Nat.{ℕ, zero, suc, _+_}
 use native.Mathlib.Omega.{arith}
 use lib.ListN.{length, getElem?}
 use lib.Dec.{eqb, ltb}
 use Rattle.definition.specs.Answers.{Result, _>>=_, need, ok, refused}
-use Rattle.definition.specs.Classes.{Class, Entry, alike, find, hasMethod, methodsOf, slots, superOf}
+use Rattle.definition.specs.Classes.{Class, Entry, alike, find, hasMethod, loaderOf, methodsOf, slots, superOf}
 use Rattle.definition.specs.Constraints.{World, agrees, edges, pairAgrees, rowAgrees, subtypeEdges, tieEdges, agreesOver}
-use Rattle.definition.specs.Lists.{all, indexOf, isNone}
+use Rattle.definition.specs.Lists.{all, indexOf}
 use Rattle.definition.specs.Loading.{define, recorded, started, withEntry}
 use Rattle.definition.specs.Machine.{Frame, Object, Progress, entryFrame, initialValue, intValue, newObject}
 use Rattle.definition.specs.Requests.{at, fires, grow, has, rest, sameRequest, reach}
 use Rattle.definition.specs.Superclasses.{nearest}
-use Rattle.definition.specs.Verifier.{entryTypes}
 use Rattle.definition.specs.declared.Refusal.the-variants.{Word}
 use Rattle.laws.specs.Agreement.{agrees-true, find-row, super-falls, super-is}
+use Rattle.laws.specs.Members.{method-at}
 use Rattle.laws.specs.Options.{nth-last}
 use Rattle.laws.specs.Results.{Wp, not-wanted, not-word, wp-need, wp-take}
+use Rattle.laws.specs.Tests.{none-is}
 use Rattle.laws.specs.Upward.{nearest-below}
-use Rattle.safety.specs.Conform.{fits-own}
 use Rattle.safety.specs.Store.{Store, booted, inQuote, inReport, inWorld}
 use Rattle.safety.specs.Loads.{linked-class, linked-entry, ss, us}
-use Rattle.safety.specs.Steps.{Kept, as-int, heap-more, later-more, later-same, method-at, zeros-conform}
-use Rattle.safety.specs.Typing.{verified-here}
+use Rattle.safety.specs.Operands.{as-int}
+use Rattle.safety.specs.Later.{Kept, heap-grows, heap-more, later-more, later-same, zeros-conform, entered-top}
 use Rattle.safety.specs.Valid.{Heap, Later, Linked, Stack, later-stack, rooted}
-use Rattle.laws.specs.Growth.{Grows}
-use Rattle.laws.specs.Growth.{grows-class, grows-entry}
-use Rattle.safety.specs.Heap.{heap-grows}
-
-pub none-is : {A : Type 0} (o : Option A) → isNone o ≡ true → o ≡ none
-unfolding isNone
-none-is none h = refl
-none-is (some a) h = absurd (false≢true h)
+use Rattle.laws.specs.Growth.{Grows, grows-class, grows-entry}
+use Rattle.laws.specs.Objects.{numbered-same}
 
 boot-agrees : agrees (booted .world) ≡ true
 unfolding agrees agreesOver reach all rowAgrees pairAgrees find edges tieEdges subtypeEdges has grow fires rest sameRequest
@@ -96,7 +89,6 @@ start-kept l n m x v os fs lk hp =
         let nb = nearest-below (superOf (v .base)) (super-falls (v .base)) (hasMethod (v .base) m 1 1) c s fs in
         let ma = method-at (v .base) s m 1 1 (nb .1) in
         let r = lk .real (at l n) c fc in
-        let ve = lk .verified s (ma .place) (ma .theClass) (ma .method) (ma .isClass) (ma .isMethod) in
         let z : j ≡ ma .place = Option·some-injective _ _ (sym ij ∙ ma .index) in
         record {
           linked = lk;
@@ -105,19 +97,7 @@ start-kept l n m x v os fs lk hp =
           stack = (
             ma .theClass,
             ma .method,
-            record {
-              τ = entryTypes (ma .theClass) (ma .method);
-              typed = record {
-                isClass = ma .isClass;
-                isMethod = rw z (ma .isMethod);
-                types = verified-here (ma .method .code) (ma .method .result) (length (ma .method .code)) 0 (entryTypes (ma .theClass) (ma .method)) (ve .notes) (ve .passes);
-              };
-              operands = tt;
-              locals = (
-                record { object = b; there = nth-last os b; fits = fits-own (lk .own s (ma .theClass) (ma .isClass)) (nb .0) },
-                (as-int v qs (ma .theClass .loader) (ma .method .argument) (intValue x) (ma .argument) tt, (tt, (tt, (tt, (tt, (tt, (tt, tt))))))),
-              );
-            },
+            rw z (entered-top v qs lk s m 1 1 ma (length os) b (nth-last os b) (nb .0) (intValue x) (as-int v qs (loaderOf (v .base) s) 1 (intValue x) refl tt)),
             ma .result,
           );
         }
@@ -127,7 +107,7 @@ start-kept l n m x v os fs lk hp =
 pub valid-world : (s : Store) (r : Result World) → Valid s → Wp r (Loaded (s .world)) → Valid (inWorld s r)
 valid-world s (refused w) v h = v
 valid-world s (ok w) v h =
-    let z : Later (s .world) (s .objects) w (s .objects) = record { grows = h .grows; objects = λ o b e. (b, e, refl) } in
+    let z : Later (s .world) (s .objects) w (s .objects) = record { grows = h .grows; objects = numbered-same (s .objects) } in
     record { linked = h .linked; heap = heap-grows (s .world) w (rooted (v .linked)) (h .grows) (s .objects) (v .heap) z; quote = later-stack z (s .quote) (v .quote); report = later-stack z (s .report) (v .report) }
 
 pub valid-quote : (s : Store) (r : Result Progress) → Valid s → Wp r (Kept (s .world) (s .objects)) → Valid (inQuote s r)

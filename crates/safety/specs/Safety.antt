@@ -2,7 +2,7 @@
 use mathlib.Core.Path.{_≡_, refl, sym, ap, _∙_, subst}
 use mathlib.Core.Bool.{Bool, true, false, false≢true, _&&_}
 use mathlib.Core.Option.{Option, none, some, Option·none-ne-some, Option·some-injective}
-use mathlib.Core.List.{List, [], _∷_}
+use mathlib.Core.List.{List, [], _∷_, _++_}
 use Prim.Native.Nat.{ℕ, zero, suc, _≤_}
 use native.Mathlib.Omega.{arith}
 use lib.ListN.{length, getElem?}
@@ -11,28 +11,31 @@ use borrow.Author.Tests.{ltb-true}
 use Rattle.definition.specs.declared.Refusal.{Refusal}
 use Rattle.definition.specs.declared.Refusal.the-variants.{Wanted, Word}
 use Rattle.definition.specs.declared.Answer.{Answer}
-use Rattle.definition.specs.declared.Answer.the-variants.{Idle, Ran, Finished, Refused}
+use Rattle.definition.specs.declared.Answer.the-variants.{Idle, Refused}
 use Rattle.definition.specs.declared.Reply.{Reply}
 use Rattle.definition.specs.declared.Reply.the-variants.{Accepted, Denied}
 use Rattle.definition.specs.Answers.{number, numberOf, endsIn, numberOfStep, Result, refused, ok, _>>=_}
-use Rattle.definition.specs.Constraints.{World}
+use Rattle.definition.specs.Constraints.{World, Agrees}
 use Rattle.definition.specs.File.{classOf}
 use Rattle.definition.specs.Machine.{Frame, Progress}
 use Rattle.definition.specs.Tables.{Tables, shaped, Rows, worldOf, view, put}
 use Rattle.definition.specs.Broken.{broken}
-use Rattle.definition.specs.Calls.{Given, bootRows, progressed, framesIn, withFrames, defineRows, recordRows, startRows, dropRows, answerOf, stepTask, stepOn, stepRows, Done, done, wrap, boot, stepTables, goOn, runFrom, run, Call, callBoot, callDefine, callRecord, callStart, callStep, callRun, callDrop, perform, performAll, ComesFromBoot}
+use Rattle.definition.specs.Calls.{Given, bootRows, progressed, framesIn, withFrames, defineRows, recordRows, startRows, dropRows, answerOf, stepTask, stepOn, stepRows, Done, done, wrap, boot, stepTables, runFrom, run, Call, callBoot, callDefine, callRecord, callStart, callStep, callRun, callDrop, perform, performAll, ComesFromBoot}
 use Rattle.definition.specs.Misplaced.{misplaced}
 use Rattle.definition.specs.Safety.{Safe}
 use Rattle.laws.specs.Results.{NotStuck, Wp, not-word, ok-inj, wp-need, wp-take}
+use Rattle.laws.specs.Runs.{runs-end}
 use Rattle.laws.specs.Wrapped.{wrapped, Ok, ok-at}
 use Rattle.layout.specs.Tests.{All}
 use Rattle.layout.specs.Whole.{Whole, Framed}
 use Rattle.layout.specs.Unbroken.{Lengths, shaped-true, true-shaped, view-put, true-whole, broken-false, object-class}
 use Rattle.unbroken.specs.Steps.{step-moves}
+use Rattle.unbroken.specs.OnRows.{accepted-shaped}
 use Rattle.unbroken.specs.Calls.{ready, start-moves, world-progressed, world-recorded, world-defined, define-whole, record-whole, start-whole, step-whole, drop-whole, boot-whole}
 use Rattle.safety.specs.Store.{Store, storeOf, booted}
 use Rattle.safety.specs.Valid.{Stack}
-use Rattle.safety.specs.Steps.{Kept, step-kept}
+use Rattle.safety.specs.Later.{Kept}
+use Rattle.safety.specs.Steps.{step-kept}
 use Rattle.safety.specs.Safe.{Valid, Loaded, define-kept, record-kept, start-kept, valid-world, valid-quote, valid-report, valid-booted}
 use Rattle.safety.specs.Misplaced.{valid-placed}
 use Rattle.safety.specs.Words.{placed-words}
@@ -161,7 +164,7 @@ wrap-sane deny F f t s n k j =
     let h = j (view t) (u .1) (s .valid) in
     wrapped deny f t (λ a z. F a × Sane z) (λ e. absurd (false≢true (sym (s .unbroken) ∙ e)))
     (λ w e. (n w (wp-refused (λ g. Good (g .rows) × F (g .answer)) _ h w e), s))
-    (λ g e. let x = wp-at (λ g. Good (g .rows) × F (g .answer)) _ h g e in (x .1, put-sane (g .rows) t (u .0) (ok-at (λ g. Whole (g .rows)) _ (k (view t) (u .1)) g e) (x .0)))
+    (λ _ g e. let x = wp-at (λ g. Good (g .rows) × F (g .answer)) _ h g e in (x .1, put-sane (g .rows) t (u .0) (ok-at (λ g. Whole (g .rows)) _ (k (view t) (u .1)) g e) (x .0)))
 
 refused-fine : (w : Refusal) → NotStuck w → FineStep (Refused w)
 unfolding numberOfStep
@@ -175,17 +178,11 @@ step-sane : (t : Tables) → Sane t → FineStep (stepTables t .answer) × Sane 
 unfolding stepTables
 step-sane t s = wrap-sane Refused FineStep stepRows t s refused-fine step-whole step-good
 
-runs-sane : (n k : ℕ) (a : Answer) (t : Tables) → FineStep a → Sane t → Fine (runFrom stepTables n k a t .answer) × Sane (runFrom stepTables n k a t .tables)
-unfolding runFrom numberOf endsIn
-runs-sane zero k a t f s = ((zero-fine, f), s)
-runs-sane (suc n) k a t f s = let d = step-sane t s in go (stepTables t .answer) (stepTables t .tables) (d .0) (d .1) (λ k a t f s. runs-sane n k a t f s)
-  where
-    go : (x : Answer) (z : Tables) → FineStep x → Sane z → ((k : ℕ) (a : Answer) (t : Tables) → FineStep a → Sane t → Fine (runFrom stepTables n k a t .answer) × Sane (runFrom stepTables n k a t .tables))
-        → Fine (goOn (runFrom stepTables n) k x z .answer) × Sane (goOn (runFrom stepTables n) k x z .tables)
-    go Idle z p q ih = ((zero-fine, p), q)
-    go (Ran j) z p q ih = ih (suc k) (Ran j) z p q
-    go (Finished j v) z p q ih = ((zero-fine, p), q)
-    go (Refused w) z p q ih = ((zero-fine, p), q)
+runs-sane : (n : ℕ) (t : Tables) → Sane t → Fine (runFrom stepTables n 0 Idle t .answer) × Sane (runFrom stepTables n 0 Idle t .tables)
+unfolding numberOf endsIn numberOfStep
+runs-sane n t s =
+    let r = runs-end stepTables Sane (λ a z. FineStep a × Sane z) step-sane (λ z _ i _. step-sane z i .1) n 0 Idle t s (zero-fine, s) in
+    (rw (r .answers) (zero-fine, r .holds .0), r .holds .1)
 
 run-sane : (n : ℕ) (t : Tables) → Sane t → Fine (run n t .answer) × Sane (run n t .tables)
 unfolding run
@@ -195,7 +192,7 @@ run-sane n t s = rw (s .unbroken, run) (go (leb 1 n && leb n 65535))
     D b = elim b as (λ _. Done Reply) [ true ↦ runFrom stepTables n 0 Idle t | false ↦ done (Denied (Word 3)) t ]
 
     go : (b : Bool) → Fine (D b .answer) × Sane (D b .tables)
-    go true = runs-sane n 0 Idle t (unfold numberOfStep in zero-fine) s
+    go true = runs-sane n t s
     go false = (denied-fine (Word 3) (not-word 3 (omega arith)), s)
 
 boot-sane : (t : Tables) → shaped t ≡ true → Fine (boot t .answer) × Sane (boot t .tables)
@@ -222,36 +219,41 @@ all-sane (c ∷ cs) t s = let d = perform-sane c t s in let e = all-sane cs (per
     each f g zero a q = subst Fine (Option·some-injective _ a q) f
     each f g (suc i) a q = g i a q
 
-accepted-shaped : (t : Tables) → boot t .answer ≡ Accepted → shaped t ≡ true
-accepted-shaped t h = shapes (shaped t) refl
-  where
-    refuses : shaped t ≡ false → boot t .answer ≡ Denied (Word 1)
-    refuses e = unfold boot in rw (e, boot) refl
-
-    denied≢ : Path Reply (Denied (Word 1)) Accepted → ⊥
-    denied≢ e = let z : _≡_ {A = ℕ} 0 1 = cc in omega arith
-
-    shapes : (b : Bool) → shaped t ≡ b → shaped t ≡ true
-    shapes true e = e
-    shapes false e = absurd (denied≢ (sym (refuses e) ∙ h))
-
--- for every tables that boot accepts and every list of calls
-pub safety : (t : Tables) → boot t .answer ≡ Accepted → (cs : List Call) → Safe (performAll cs (boot t .tables))
+safe-on : (t : Tables) → Sane t → (cs : List Call) → Safe (performAll cs t)
 unfolding misplaced
-safety t h cs =
-    let s = all-sane cs (boot t .tables) (boot-sane t (accepted-shaped t h) .1) in
-    let r = view (performAll cs (boot t .tables) .tables) in
+safe-on t h cs =
+    let s = all-sane cs t h in
+    let r = view (performAll cs t .tables) in
     let p = valid-placed r (s .1 .valid) in
     record { placed = p; words = placed-words r p; unbroken = s .1 .unbroken; notStuck = s .0 }
 
--- and so for every store that comes from a boot: nothing is misplaced or broken, and no further call is stuck
+-- for every tables that boot accepts and every list of calls
+pub safety : (t : Tables) → boot t .answer ≡ Accepted → (cs : List Call) → Safe (performAll cs (boot t .tables))
+safety t h cs = safe-on (boot t .tables) (boot-sane t (accepted-shaped t h) .1) cs
+
+-- Every store that comes from a boot
+
+from-boot : (t : Tables) → ComesFromBoot t → Sane t
+from-boot t b = subst Sane (b .leaves) (all-sane (b .calls) (boot (b .before) .tables) (boot-sane (b .before) (accepted-shaped (b .before) (b .accepted)) .1) .1)
+
+-- whatever calls follow: nothing is misplaced or broken, and no call is stuck
 pub safe-from-boot : (t : Tables) → ComesFromBoot t → (cs : List Call) → Safe (performAll cs t)
-safe-from-boot t b cs = subst (λ (z : Tables). Safe (performAll cs z)) (b .leaves) (later (b .before) (b .accepted) (b .calls))
-  where
-    later : (s : Tables) → boot s .answer ≡ Accepted → (ds : List Call) → Safe (performAll cs (performAll ds (boot s .tables) .tables))
-    later s h ds =
-        let u = all-sane ds (boot s .tables) (boot-sane s (accepted-shaped s h) .1) in
-        let v = all-sane cs (performAll ds (boot s .tables) .tables) (u .1) in
-        let r = view (performAll cs (performAll ds (boot s .tables) .tables) .tables) in
-        let p = valid-placed r (v .1 .valid) in
-        unfold misplaced in record { placed = p; words = placed-words r p; unbroken = v .1 .unbroken; notStuck = v .0 }
+safe-from-boot t b cs = safe-on t (from-boot t b) cs
+
+-- and the store agrees
+pub agrees-from-boot : (t : Tables) → ComesFromBoot t → Agrees (worldOf (view t))
+agrees-from-boot t b = from-boot t b .valid .linked .agreed
+
+-- and what calls make of it comes from that boot too
+calls-join : (ds cs : List Call) (t : Tables) → performAll (ds ++ cs) t .tables ≡ performAll cs (performAll ds t .tables) .tables
+unfolding performAll
+calls-join [] cs t = refl
+calls-join (d ∷ ds) cs t = calls-join ds cs (perform d t .tables)
+
+pub later-from-boot : (t : Tables) → ComesFromBoot t → (cs : List Call) → ComesFromBoot (performAll cs t .tables)
+later-from-boot t b cs = record {
+  before = b .before;
+  accepted = b .accepted;
+  calls = b .calls ++ cs;
+  leaves = calls-join (b .calls) cs (boot (b .before) .tables) ∙ ap (λ (z : Tables). performAll cs z .tables) (b .leaves);
+}

@@ -1,288 +1,40 @@
 -- A step keeps the invariant, and is never stuck.
-use mathlib.Core.Path.{_≡_, refl, sym, ap, _∙_}
-use mathlib.Core.Bool.{Bool, true, false, _&&_}
-use mathlib.Core.Option.{Option, none, some, Option·none-ne-some, Option·some-injective}
-use mathlib.Core.List.{List, [], _∷_, _++_, map, append-assoc, List·Memᴰ, List·Memᴰ·not-nil, Memᴰ·append-left, Memᴰ·append-right}
-use mathlib.Core.Logic.{_⊎_, inl, inr, _≢_}
+use mathlib.Core.Path.{_≡_, refl, sym, ap}
+use mathlib.Core.Bool.{Bool, true, false}
+use mathlib.Core.Option.{Option, none, some, Option·none-ne-some}
+use mathlib.Core.List.{List, [], _∷_, _++_, map, Memᴰ·append-left, Memᴰ·append-right}
+use mathlib.Core.Logic.{inl, inr, _≢_}
 use Prim.Native.Nat.{ℕ, suc, _+_, _-_, _%_}
 use native.Mathlib.Omega.{arith}
 use lib.ListN.{length, getElem?, set}
 use lib.Dec.{eqb, ltb}
 use borrow.Author.Tests.{eqb-true, eqb-false}
 use Rattle.definition.specs.Answers.{Result, _>>=_, ok, take?}
-use Rattle.definition.specs.Classes.{Base, Class, Method, Slot, alike, find, hasField, hasMethod, loaderOf, methodsOf, ownSlots, slotIs, slots, superOf}
-use Rattle.definition.specs.Constraints.{Agrees, Tie, World, newTie, post, posted, tieEdges}
+use Rattle.definition.specs.declared.Refusal.the-variants.{Word}
+use Rattle.definition.specs.Classes.{Class, Method, hasField, hasMethod, loaderOf, slots, superOf}
+use Rattle.definition.specs.Constraints.{Agrees, Tie, World, newTie, posted}
 use Rattle.definition.specs.Instructions.{Decoded}
-use Rattle.definition.specs.Lists.{any, indexOf}
-use Rattle.definition.specs.Machine.{Frame, Object, Progress, Value, entryFrame, execute, give, initialValue, int!, intValue, kind!, newObject, now, nullValue, object!, objectValue, past, pop!, reference!, room!, step, under!, unsetValue, unlistedValue, existing}
-use Rattle.definition.specs.Requests.{Chain, Edge, at}
-use Rattle.definition.specs.Superclasses.{Below, below, nearest, same}
+use Rattle.definition.specs.Machine.{Frame, Object, Progress, Value, entryFrame, execute, give, initialValue, int!, intValue, newObject, now, room!, nullValue, objectValue, past, pop!, reference!, step, under! }
+use Rattle.definition.specs.Requests.{at}
+use Rattle.definition.specs.Superclasses.{Below, nearest, same}
 use Rattle.definition.specs.Verifier.{Flow, Note, VerifierType, asReference, effect, entryTypes, flow, meetClass, meetInt, meets, pop, returns, typeClass, typeInt, typeNull, typeOfName, typesAt}
 use Rattle.definition.specs.declared.Instruction.{Instruction}
 use Rattle.definition.specs.declared.Instruction.the-variants.{AconstNull, Aload, Areturn, Astore, Dup, Getfield, Iadd, Iload, Invokevirtual, Ireturn, Istore, Isub, New, Pop, Putfield, Sipush}
 use Rattle.laws.specs.Agreement.{super-falls}
 use Rattle.laws.specs.Chains.{chain-join, chain-more}
-use Rattle.laws.specs.Options.{bind-some, each-at, each-both, each-more, each-set, nth-last, nth-set, nth-snoc, set-nth, need-true}
-use Rattle.laws.specs.Results.{Wp, not-wanted, not-word, wp-bind, wp-known, wp-need, wp-sure, wp-take, wp-there}
-use Rattle.laws.specs.Tests.{and-true, any-found, any-right, any-true}
-use Rattle.laws.specs.Upward.{below-trans, nearest-below, nearest-finds, true-below}
-use Rattle.safety.specs.Conform.{Tied, fits-below, fits-own, override, tied-turn}
-use Rattle.safety.specs.Places.{Noted, agrees-after, carry, meet-class, meet-name, of-class, of-int, tie-there}
-use Rattle.safety.specs.Typing.{Known, known, verified-here}
-use Rattle.safety.specs.Valid.{Conforms, Heap, Later, Linked, Local, ObjectSound, Stack, Top, Under, Verified, later-conforms, later-local, later-ops, later-under}
+use Rattle.laws.specs.Options.{bind-some, each-at, each-both, each-more, each-set, nth-last, need-true}
+use Rattle.laws.specs.Results.{Wp, not-wanted, not-word, wp-bind, wp-known, wp-need, wp-take, wp-there}
+use Rattle.laws.specs.Upward.{below-trans, nearest-below, nearest-finds}
+use Rattle.safety.specs.Conform.{Tied, fits-own, override, tied-turn}
+use Rattle.safety.specs.Places.{Noted, carry, meet-class, meet-name, of-class, of-int, tie-there}
+use Rattle.safety.specs.Typing.{Known, known}
+use Rattle.safety.specs.Valid.{Conforms, Heap, Later, Linked, Local, Stack, Top, Under, Verified, later-conforms, later-local, later-ops, later-under}
 use Rattle.definition.specs.Maybe as Maybe
-use Rattle.laws.specs.Growth.{Grows, grows-join, grows-self, tie-edges-more}
-use Rattle.laws.specs.Slots.{slots-below, slots-own}
 use Rattle.definition.specs.Lists.{Each}
-use Rattle.laws.specs.Agreement.{nth-more}
-
--- Operands against their types
-
-abbrev Popped : Type 0
-Popped = record { top : Value; more : List Value }
-
-each-pop : (R : VerifierType → Value → Type 0) (ts : List VerifierType) (vs : List Value) (t : VerifierType) (us : List VerifierType) → pop ts ≡ some (record { top = t; more = us }) → Each R ts vs
-    → (q : Popped) × (pop! vs ≡ ok q) × R t (q .top) × Each R us (q .more)
-unfolding pop pop! take?
-each-pop R [] vs t us e h = absurd (Option·none-ne-some _ e)
-each-pop R (x ∷ xs) [] t us e h = absurd h
-each-pop R (x ∷ xs) (v ∷ vs) t us e h =
-    let z = Option·some-injective _ _ e in
-    (record { top = v; more = vs }, refl, rw (ap (λ (p : record { top : VerifierType; more : List VerifierType }). p .top) z) at (h .0), rw (ap (λ (p : record { top : VerifierType; more : List VerifierType }). p .more) z) at (h .1))
-
-int-of : (w : World) (os : List Object) (l : ℕ) (t : VerifierType) (v : Value) {ns : List Note} → meetInt t ≡ some ns → Conforms w os l t v → (n : ℕ) × (int! v ≡ ok n) × Conforms w os l typeInt v
-unfolding meetInt int!
-int-of w os l typeInt unsetValue e h = absurd h
-int-of w os l typeInt (unlistedValue α β) e h = absurd h
-int-of w os l typeInt (intValue n) e h = (n, refl, tt)
-int-of w os l typeInt nullValue e h = absurd h
-int-of w os l typeInt (objectValue o) e h = absurd h
-int-of w os l typeNull v {ns} e h = absurd (Option·none-ne-some ns e)
-int-of w os l (typeClass a) v {ns} e h = absurd (Option·none-ne-some ns e)
-
-ref-of : (w : World) (os : List Object) (l : ℕ) (t : VerifierType) (v : Value) {u : VerifierType} → asReference t ≡ some u → Conforms w os l t v → reference! v ≡ ok v
-unfolding asReference reference!
-ref-of w os l typeInt v {u} e h = absurd (Option·none-ne-some u e)
-ref-of w os l typeNull unsetValue e h = absurd h
-ref-of w os l typeNull (unlistedValue α β) e h = absurd h
-ref-of w os l typeNull (intValue n) e h = absurd h
-ref-of w os l typeNull nullValue e h = refl
-ref-of w os l typeNull (objectValue o) e h = refl
-ref-of w os l (typeClass a) unsetValue e h = absurd h
-ref-of w os l (typeClass a) (unlistedValue α β) e h = absurd h
-ref-of w os l (typeClass a) (intValue n) e h = absurd h
-ref-of w os l (typeClass a) nullValue e h = refl
-ref-of w os l (typeClass a) (objectValue o) e h = refl
-
-flow-is : (o : List VerifierType) (l : List (Option VerifierType)) (n : List Note) (fl : Flow) → flow o l n ≡ some fl → _≡_ {A = Flow} (record { types = record { operands = o; locals = l }; notes = n }) fl
-flow-is o l n fl h = Option·some-injective _ _ (bind-some _ _ h .2)
-
-pub as-int : (w : World) (os : List Object) (l r : ℕ) (v : Value) → r ≡ 1 → Conforms w os l typeInt v → Conforms w os l (typeOfName r) v
-as-int w os l r v e h = rw (e, of-int) h
-
-kind-of : (w : World) (os : List Object) (l t : ℕ) (v : Value) → Conforms w os l (typeOfName t) v → kind! t v ≡ ok tt
-unfolding kind! typeOfName int! reference! _>>=_
-kind-of w os l t v h = go (eqb t 1) v h
-  where
-    go : (z : Bool) (v : Value) → Conforms w os l (elim z as (λ _. VerifierType) [ true ↦ typeInt | false ↦ typeClass t ]) v → (elim z as (λ _. Result (Unit {0})) [ true ↦ int! v >>= λ _. ok tt | false ↦ reference! v >>= λ _. ok tt ]) ≡ ok tt
-    go true unsetValue h = absurd h
-    go true (unlistedValue α β) h = absurd h
-    go true (intValue n) h = refl
-    go true nullValue h = absurd h
-    go true (objectValue o) h = absurd h
-    go false unsetValue h = absurd h
-    go false (unlistedValue α β) h = absurd h
-    go false (intValue n) h = absurd h
-    go false nullValue h = refl
-    go false (objectValue o) h = refl
-
-wp-room : {B : Type 0} (Q : B → Type 0) (vs : List Value) (f : Unit {0} → Result B) → Wp (f tt) Q → Wp (room! vs >>= f) Q
-unfolding room!
-wp-room Q vs f h = wp-need Q _ _ _ (not-word 10 (omega arith)) (λ _. h)
-
--- Posting ties
-
-wp-post : (w : World) (room : Bool) (us : List Tie) (Q : World → Type 0) → Agrees w → (Agrees (posted w us) → Q (posted w us)) → Wp (post w room us) Q
-unfolding post
-wp-post w room us Q g h = wp-need Q _ _ _ (not-word 10 (omega arith)) (λ _. wp-need Q _ _ _ (not-word 9 (omega arith)) (λ e. h (agrees-after w us g e)))
-
-ties-more : (w : World) (us : List Tie) (e : Edge) → List·Memᴰ e (tieEdges (w .ties)) → List·Memᴰ e (tieEdges (w .ties ++ us))
-ties-more w us e m = rw (tie-edges-more (w .ties) us) (Memᴰ·append-left (tieEdges us) m)
-
-grows-posted : (w : World) (us : List Tie) → Grows w (posted w us)
-grows-posted w us = record { classes = λ c k h. h; cache = λ r c h. h; ties = ties-more w us; subtypes = λ e m. m }
-
--- the object behind a receiver
-wp-object : (w : World) (os : List Object) (l c e : ℕ) (v : Value) (Q : record { number : ℕ; object : Object } → Type 0) → Agrees w → find (w .base .cache) (at l c) ≡ some e → Conforms w os l (typeClass c) v
-    → ((o : ℕ) (b : Object) → getElem? os o ≡ some b → Below (superOf (w .base)) e (b .class) → v ≡ objectValue o → Q (record { number = o; object = b })) → Wp (object! (w .base) os e v) Q
-unfolding object! existing
-wp-object w os l c e unsetValue Q g f h q = absurd h
-wp-object w os l c e (unlistedValue α β) Q g f h q = absurd h
-wp-object w os l c e (intValue n) Q g f h q = absurd h
-wp-object w os l c e nullValue Q g f h q = not-word 11 (omega arith)
-wp-object w os l c e (objectValue o) Q g f h q =
-    let b = fits-below g (h .fits) f in
-    wp-there Q _ _ _ (h .there) (wp-sure Q _ _ _ (true-below (superOf (w .base)) (super-falls (w .base)) (h .object .class) e b) (q o (h .object) (h .there) b refl))
-
--- the field that class d declares, in an object of a class below d
-record FieldAt (w : World) (os : List Object) (b : Object) (d n t : ℕ) : Type 0 where
-  place : ℕ
-  slot : Slot
-  value : Value
-  index : indexOf (slotIs d n t) (slots (w .base) d) ≡ some place
-  isSlot : getElem? (slots (w .base) (b .class)) place ≡ some slot
-  there : getElem? (b .values) place ≡ some value
-  owner : slot .owner ≡ d
-  type : slot .type ≡ t
-  conforms : Conforms w os (loaderOf (w .base) d) (typeOfName t) value
-
-field-at : (w : World) (os : List Object) (b : Object) (d n t : ℕ) → hasField (w .base) n t d ≡ true → Below (superOf (w .base)) d (b .class) → ObjectSound w os b → FieldAt w os b d n t
-unfolding hasField slotIs
-field-at w os b d n t h bl ob =
-    let so = slots-own (w .base) d in
-    let hs : any (slotIs d n t) (slots (w .base) d) ≡ true = rw (so .1) (any-right (slotIs d n t) (so .0) (ownSlots (w .base) d) h) in
-    let fo = any-found (slotIs d n t) (slots (w .base) d) hs in
-    let s = fo .item in
-    let pa = and-true (eqb (s .owner) d && eqb (s .name) n) (eqb (s .type) t) (fo .passes) in
-    let pb = and-true (eqb (s .owner) d) (eqb (s .name) n) (pa .0) in
-    let is = slots-below (w .base) bl (fo .place) s (fo .there) in
-    let x = each-at (λ s v. Conforms w os (loaderOf (w .base) (s .owner)) (typeOfName (s .type)) v) (slots (w .base) (b .class)) (b .values) (ob .filled) (fo .place) s is in
-    record {
-      place = fo .place;
-      slot = s;
-      value = x .0;
-      index = fo .index;
-      isSlot = is;
-      there = x .1;
-      owner = eqb-true (s .owner) d (pb .0);
-      type = eqb-true (s .type) t (pa .1);
-      conforms = rw (eqb-true (s .owner) d (pb .0), eqb-true (s .type) t (pa .1)) at (x .2);
-    }
-
--- the method that class s declares
-pub record MethodAt (b : Base) (s n t r : ℕ) : Type 0 where
-  pub place : ℕ
-  pub theClass : Class
-  pub method : Method
-  pub index : indexOf (alike n t r) (methodsOf b s) ≡ some place
-  pub isClass : getElem? (b .classes) s ≡ some theClass
-  pub isMethod : getElem? (theClass .methods) place ≡ some method
-  pub argument : method .argument ≡ t
-  pub result : method .result ≡ r
-  pub loader : loaderOf b s ≡ theClass .loader
-
-pub method-at : (b : Base) (s n t r : ℕ) → hasMethod b n t r s ≡ true → MethodAt b s n t r
-unfolding hasMethod methodsOf alike loaderOf
-method-at b s n t r h = go (getElem? (b .classes) s) refl h
-  where
-    Ms : Option Class → List Method
-    Ms o = elim o as (λ _. List Method) [ none ↦ [] | some k ↦ k .methods ]
-
-    go : (o : Option Class) → getElem? (b .classes) s ≡ o → any (alike n t r) (Ms o) ≡ true → MethodAt b s n t r
-    go none e q = absurd (List·Memᴰ·not-nil (any-true (alike n t r) [] q .1))
-    go (some k) e q =
-        let fo = any-found (alike n t r) (k .methods) q in
-        let x = fo .item in
-        let pa = and-true (eqb (x .name) n && eqb (x .argument) t) (eqb (x .result) r) (fo .passes) in
-        record {
-          place = fo .place;
-          theClass = k;
-          method = x;
-          index = rw (e, methodsOf) (fo .index);
-          isClass = e;
-          isMethod = fo .there;
-          argument = eqb-true (x .argument) t (and-true (eqb (x .name) n) (eqb (x .argument) t) (pa .0) .1);
-          result = eqb-true (x .result) r (pa .1);
-          loader = rw (e, loaderOf) refl;
-        }
-
--- the two ties of a call
-abbrev pub ties2 : List Tie → ℕ → ℕ → ℕ → ℕ → List Tie
-ties2 ts l m a r = newTie ts l m a ++ newTie (ts ++ newTie ts l m a) l m r
-
-pub call-arg : (ts : List Tie) (l m a r : ℕ) → a ≢ 1 → Chain (tieEdges (ts ++ ties2 ts l m a r)) (at l a) (at m a)
-call-arg ts l m a r h = rw (sym (append-assoc ts (newTie ts l m a) (newTie (ts ++ newTie ts l m a) l m r)), tie-edges-more (ts ++ newTie ts l m a) (newTie (ts ++ newTie ts l m a) l m r))
-    (chain-more (λ e i. Memᴰ·append-left (tieEdges (newTie (ts ++ newTie ts l m a) l m r)) i) (tie-there ts l m a h))
-
-pub call-res : (ts : List Tie) (l m a r : ℕ) → r ≢ 1 → Chain (tieEdges (ts ++ ties2 ts l m a r)) (at l r) (at m r)
-call-res ts l m a r h = rw (sym (append-assoc ts (newTie ts l m a) (newTie (ts ++ newTie ts l m a) l m r))) (tie-there (ts ++ newTie ts l m a) l m r h)
-
-pub record Kept (v : World) (os : List Object) (out : Progress) : Type 0 where
-  pub linked : Linked (out .world)
-  pub heap : Heap (out .world) (out .objects)
-  pub stack : Stack (out .world) (out .objects) (out .frames)
-  pub later : Later v os (out .world) (out .objects)
-
-pub later-same : (w : World) (os : List Object) → Later w os w os
-later-same w os = record { grows = grows-self w; objects = λ o b h. (b, h, refl) }
-
-later-posted : (w : World) (os : List Object) (us : List Tie) → Later w os (posted w us) os
-later-posted w os us = record { grows = grows-posted w us; objects = λ o b h. (b, h, refl) }
-
-heap-posted : (w : World) (os : List Object) (us : List Tie) → Heap w os → Heap (posted w us) os
-heap-posted w os us h o b e = let x = h o b e in record { theClass = x .theClass; isClass = x .isClass; filled = each-more (λ s v. later-conforms (later-posted w os us) (loaderOf (w .base) (s .owner)) (typeOfName (s .type)) v) (slots (w .base) (b .class)) (b .values) (x .filled) }
-
-linked-posted : (w : World) (us : List Tie) → Linked w → Agrees (posted w us) → Linked (posted w us)
-linked-posted w us k g = record {
-  agreed = g;
-  own = k .own;
-  real = k .real;
-  supers = k .supers;
-  verified = λ c j x m a b. let v = k .verified c j x m a b in record { notes = v .notes; passes = v .passes; posted = v .posted };
-  overArg = λ n a r x p y h s q z. chain-more (ties-more w us) (k .overArg n a r x p y h s q z);
-  overRes = λ n a r x p y h s q z. chain-more (ties-more w us) (k .overRes n a r x p y h s q z);
-}
-
--- an object with one value changed
-abbrev changed : List Object → ℕ → Object → List Value → List Object
-changed os o b vs = set os o (record { class = b .class; values = vs })
-
-later-changed : (w : World) (os : List Object) (o : ℕ) (b : Object) (vs : List Value) → getElem? os o ≡ some b → Later w os w (changed os o b vs)
-later-changed w os o b vs h = record { grows = grows-self w; objects = λ x y e. go x y e (nth-set os o (record { class = b .class; values = vs }) x y e) }
-  where
-    go : (x : ℕ) (y : Object) → getElem? os x ≡ some y → (d : Object) × (getElem? (changed os o b vs) x ≡ some d) × ((d ≡ y) ⊎ ((x ≡ o) × (d ≡ record { class = b .class; values = vs })))
-        → (d : Object) × (getElem? (changed os o b vs) x ≡ some d) × (d .class ≡ y .class)
-    go x y e (d, a, inl z) = (d, a, ap (λ (q : Object). q .class) z)
-    go x y e (d, a, inr z) = let s : b ≡ y = Option·some-injective b y (sym h ∙ sym (ap (getElem? os) (z .0)) ∙ e) in (d, a, ap (λ (q : Object). q .class) (z .1) ∙ ap (λ (q : Object). q .class) s)
-
-pub later-join : {u v w : World} {os ps qs : List Object} → Later u os v ps → Later v ps w qs → Later u os w qs
-later-join y z = record { grows = grows-join (y .grows) (z .grows); objects = λ o b h. let c = y .objects o b h in let d = z .objects o (c .0) (c .1) in (d .0, d .1, d .2 ∙ c .2) }
-
-pub object-later : {w : World} {os qs : List Object} → Later w os w qs → (b : Object) → ObjectSound w os b → ObjectSound w qs b
-object-later {w} z b x = record {
-  theClass = x .theClass;
-  isClass = x .isClass;
-  filled = each-more (λ s u. later-conforms z (loaderOf (w .base) (s .owner)) (typeOfName (s .type)) u) (slots (w .base) (b .class)) (b .values) (x .filled);
-}
-
-heap-changed : (w : World) (os : List Object) (o : ℕ) (b : Object) (vs : List Value) → getElem? os o ≡ some b → Heap w os
-    → Each (λ s v. Conforms w os (loaderOf (w .base) (s .owner)) (typeOfName (s .type)) v) (slots (w .base) (b .class)) vs → Heap w (changed os o b vs)
-heap-changed w os o b vs h hp ea x y e = go (set-nth os o (record { class = b .class; values = vs }) x y e)
-  where
-    z : Later w os w (changed os o b vs)
-    z = later-changed w os o b vs h
-
-    go : (getElem? os x ≡ some y) ⊎ ((x ≡ o) × (y ≡ record { class = b .class; values = vs })) → ObjectSound w (changed os o b vs) y
-    go (inl q) = object-later z y (hp x y q)
-    go (inr q) = rw (q .1) (object-later z (record { class = b .class; values = vs }) (record { theClass = hp o b h .theClass; isClass = hp o b h .isClass; filled = ea }))
-
--- one object more
-pub later-more : (w : World) (os : List Object) (b : Object) → Later w os w (os ++ (b ∷ []))
-later-more w os b = record { grows = grows-self w; objects = λ x y e. (y, nth-more os (b ∷ []) x y e, refl) }
-
-pub heap-more : (w : World) (os : List Object) (b : Object) → Heap w os → ObjectSound w os b → Heap w (os ++ (b ∷ []))
-heap-more w os b hp ob x y e = elim (nth-snoc os b x y e)
-    [ inl q ↦ object-later (later-more w os b) y (hp x y q) | inr q ↦ object-later (later-more w os b) y (rw (q .1) ob) ]
-
--- a new object holds zeros and nulls
-pub zeros-conform : (w : World) (os : List Object) (ss : List Slot) → Each (λ s v. Conforms w os (loaderOf (w .base) (s .owner)) (typeOfName (s .type)) v) ss (map initialValue ss)
-unfolding initialValue typeOfName
-zeros-conform w os [] = tt
-zeros-conform w os (s ∷ ss) = (go (eqb (s .type) 1), zeros-conform w os ss)
-  where
-    go : (t : Bool) → Conforms w os (loaderOf (w .base) (s .owner)) (elim t as (λ _. VerifierType) [ true ↦ typeInt | false ↦ typeClass (s .type) ]) (elim t as (λ _. Value) [ true ↦ intValue 0 | false ↦ nullValue ])
-    go true = tt
-    go false = tt
+use Rattle.laws.specs.Members.{MethodAt, method-at}
+use Rattle.laws.specs.Objects.{changed}
+use Rattle.safety.specs.Operands.{Popped, each-pop, int-of, ref-of, flow-is, as-int, kind-of, wp-room, wp-post, wp-object, FieldAt, field-at, ties2, call-arg, call-res}
+use Rattle.safety.specs.Later.{ties-more, Kept, later-same, later-posted, heap-posted, linked-posted, later-changed, later-join, heap-changed, later-more, heap-more, zeros-conform, entered-top}
 
 -- a result is handed to the frame below, or ends the task
 give-kept : (w : World) (os : List Object) (fs : List Frame) (l r : ℕ) (v : Value) → Linked w → Heap w os → Under w os l r fs → Conforms w os l (typeOfName r) v → Wp (give fs w os v) (Kept w os)
@@ -357,16 +109,21 @@ module _ (w : World) (os : List Object) (f : Frame) (fs : List Frame) (k : Class
     unfolding execute effect Q
     ex-ipush n e = wp-room (Kept w os) _ _ (stays (typeInt ∷ tp .τ .operands) (tp .τ .locals) [] e (intValue n ∷ f .operands) (f .locals) (tt, tp .operands) (tp .locals))
 
+    -- a local that passes is pushed
+    load : {A : Type 0} (test : Value → Result A) (j : ℕ) (t : VerifierType) → ((v : Value) → Conforms w os (k .loader) t v → (a : A) × (test v ≡ ok a)) → getElem? (tp .τ .locals) j ≡ some (some t)
+        → flow (t ∷ tp .τ .operands) (tp .τ .locals) [] ≡ some fl
+        → Wp (room! (f .operands) >>= λ _. take? (getElem? (f .locals) j) (Word 14) >>= λ v. test v >>= λ _. ok (record { world = w; objects = os; frames = past f i (v ∷ f .operands) (f .locals) ∷ fs; result = none })) (Kept w os)
+    load test j t passes l e =
+        let y = each-at (Local w os (k .loader)) (tp .τ .locals) (f .locals) (tp .locals) j (some t) l in
+        wp-room (Kept w os) _ _ (wp-there (Kept w os) _ _ _ (y .1) (wp-known (Kept w os) _ _ (passes (y .0) (y .2) .1) (stays (t ∷ tp .τ .operands) (tp .τ .locals) [] e (y .0 ∷ f .operands) (f .locals) (y .2, tp .operands) (tp .locals))))
+
     ex-iload : (j : ℕ) → effect (Iload j) (tp .τ) ≡ some fl → Wp (execute w os f fs k i (Iload j)) Q
     unfolding execute effect Q
     ex-iload j e =
         let a = bind-some _ _ e in
         let b = bind-some _ _ (a .2) in
         let c = bind-some _ _ (b .2) in
-        let y = each-at (Local w os (k .loader)) (tp .τ .locals) (f .locals) (tp .locals) j (some (b .0)) (rw (b .1) at (a .1)) in
-        let cf : Conforms w os (k .loader) (b .0) (y .0) = y .2 in
-        let n = int-of w os (k .loader) (b .0) (y .0) (c .1) cf in
-        wp-room (Kept w os) _ _ (wp-there (Kept w os) _ _ _ (y .1) (wp-known (Kept w os) _ _ (n .1) (stays (b .0 ∷ tp .τ .operands) (tp .τ .locals) [] (c .2) (y .0 ∷ f .operands) (f .locals) (cf, tp .operands) (tp .locals))))
+        load int! j (b .0) (λ v h. let n = int-of w os (k .loader) (b .0) v (c .1) h in (n .0, n .1)) (rw (b .1) at (a .1)) (c .2)
 
     ex-aload : (j : ℕ) → effect (Aload j) (tp .τ) ≡ some fl → Wp (execute w os f fs k i (Aload j)) Q
     unfolding execute effect Q
@@ -374,12 +131,21 @@ module _ (w : World) (os : List Object) (f : Frame) (fs : List Frame) (k : Class
         let a = bind-some _ _ e in
         let b = bind-some _ _ (a .2) in
         let c = bind-some _ _ (b .2) in
-        let y = each-at (Local w os (k .loader)) (tp .τ .locals) (f .locals) (tp .locals) j (some (b .0)) (rw (b .1) at (a .1)) in
-        let cf : Conforms w os (k .loader) (b .0) (y .0) = y .2 in
-        wp-room (Kept w os) _ _ (wp-there (Kept w os) _ _ _ (y .1) (wp-known (Kept w os) _ _ (ref-of w os (k .loader) (b .0) (y .0) (c .1) cf) (stays (b .0 ∷ tp .τ .operands) (tp .τ .locals) [] (c .2) (y .0 ∷ f .operands) (f .locals) (cf, tp .operands) (tp .locals))))
+        load reference! j (b .0) (λ v h. (v, ref-of w os (k .loader) (b .0) v (c .1) h)) (rw (b .1) at (a .1)) (c .2)
 
     popped : {p : record { top : VerifierType; more : List VerifierType }} → pop (tp .τ .operands) ≡ some p → (q : Popped) × (pop! (f .operands) ≡ ok q) × Conforms w os (k .loader) (p .top) (q .top) × Each (Conforms w os (k .loader)) (p .more) (q .more)
     popped {p} e = each-pop (Conforms w os (k .loader)) (tp .τ .operands) (f .operands) (p .top) (p .more) e (tp .operands)
+
+    -- an operand that passes is stored
+    store : {A : Type 0} (test : Value → Result A) (j : ℕ) {p : record { top : VerifierType; more : List VerifierType }} {x : Option VerifierType} → ((v : Value) → Conforms w os (k .loader) (p .top) v → (a : A) × (test v ≡ ok a))
+        → pop (tp .τ .operands) ≡ some p → getElem? (tp .τ .locals) j ≡ some x → flow (p .more) (set (tp .τ .locals) j (some (p .top))) [] ≡ some fl
+        → Wp (pop! (f .operands) >>= λ q. test (q .top) >>= λ _. take? (getElem? (f .locals) j) (Word 14) >>= λ _. ok (record { world = w; objects = os; frames = past f i (q .more) (set (f .locals) j (q .top)) ∷ fs; result = none })) (Kept w os)
+    store test j {p} {x} passes o l e =
+        let q = popped o in
+        let y = each-at (Local w os (k .loader)) (tp .τ .locals) (f .locals) (tp .locals) j x l in
+        wp-known (Kept w os) _ _ (q .1) (wp-known (Kept w os) _ _ (passes (q .0 .top) (q .2) .1) (wp-there (Kept w os) _ _ _ (y .1)
+        (stays (p .more) (set (tp .τ .locals) j (some (p .top))) [] e (q .0 .more) (set (f .locals) j (q .0 .top)) (q .3)
+        (each-both (Local w os (k .loader)) (tp .τ .locals) (f .locals) (tp .locals) j (some (p .top)) (q .0 .top) (q .2)))))
 
     ex-istore : (j : ℕ) → effect (Istore j) (tp .τ) ≡ some fl → Wp (execute w os f fs k i (Istore j)) Q
     unfolding execute effect Q
@@ -387,11 +153,7 @@ module _ (w : World) (os : List Object) (f : Frame) (fs : List Frame) (k : Class
         let a = bind-some _ _ e in
         let b = bind-some _ _ (a .2) in
         let c = bind-some _ _ (b .2) in
-        let q = popped (a .1) in
-        let y = each-at (Local w os (k .loader)) (tp .τ .locals) (f .locals) (tp .locals) j (c .0) (c .1) in
-        wp-known (Kept w os) _ _ (q .1) (wp-known (Kept w os) _ _ (int-of w os (k .loader) (a .0 .top) (q .0 .top) (b .1) (q .2) .1) (wp-there (Kept w os) _ _ _ (y .1)
-        (stays (a .0 .more) (set (tp .τ .locals) j (some (a .0 .top))) [] (c .2) (q .0 .more) (set (f .locals) j (q .0 .top)) (q .3)
-        (each-both (Local w os (k .loader)) (tp .τ .locals) (f .locals) (tp .locals) j (some (a .0 .top)) (q .0 .top) (q .2)))))
+        store int! j (λ v h. let n = int-of w os (k .loader) (a .0 .top) v (b .1) h in (n .0, n .1)) (a .1) (c .1) (c .2)
 
     ex-astore : (j : ℕ) → effect (Astore j) (tp .τ) ≡ some fl → Wp (execute w os f fs k i (Astore j)) Q
     unfolding execute effect Q
@@ -399,11 +161,7 @@ module _ (w : World) (os : List Object) (f : Frame) (fs : List Frame) (k : Class
         let a = bind-some _ _ e in
         let b = bind-some _ _ (a .2) in
         let c = bind-some _ _ (b .2) in
-        let q = popped (a .1) in
-        let y = each-at (Local w os (k .loader)) (tp .τ .locals) (f .locals) (tp .locals) j (c .0) (c .1) in
-        wp-known (Kept w os) _ _ (q .1) (wp-known (Kept w os) _ _ (ref-of w os (k .loader) (a .0 .top) (q .0 .top) (b .1) (q .2)) (wp-there (Kept w os) _ _ _ (y .1)
-        (stays (a .0 .more) (set (tp .τ .locals) j (some (a .0 .top))) [] (c .2) (q .0 .more) (set (f .locals) j (q .0 .top)) (q .3)
-        (each-both (Local w os (k .loader)) (tp .τ .locals) (f .locals) (tp .locals) j (some (a .0 .top)) (q .0 .top) (q .2)))))
+        store reference! j (λ v h. (v, ref-of w os (k .loader) (a .0 .top) v (b .1) h)) (a .1) (c .1) (c .2)
 
     ex-pop : effect Pop (tp .τ) ≡ some fl → Wp (execute w os f fs k i Pop) Q
     unfolding execute effect Q
@@ -466,7 +224,7 @@ module _ (w : World) (os : List Object) (f : Frame) (fs : List Frame) (k : Class
         wp-known (Kept w os) _ _ (q .1) (wp-bind (Kept w os) _ _ (wp-object w os (k .loader) c x (q .0 .top) _ (lk .agreed) fx cf (λ o z th bl ve.
         let nb = nearest-below (superOf (w .base)) (super-falls (w .base)) (hasField (w .base) n t) x d fd in
         let fa = field-at w os z d n t (nb .1) (below-trans bl (nb .0)) (hp o z th) in
-        wp-there (Kept w os) _ _ _ (fa .index) (wp-there (Kept w os) _ _ _ (fa .there)
+        wp-there (Kept w os) _ _ _ (fa .field .index) (wp-there (Kept w os) _ _ _ (fa .there)
         (moved (posted w us) os (later-posted w os us) (linked-posted w us lk g) (heap-posted w os us hp) (typeOfName t ∷ p .more) (tp .τ .locals) ns e (fa .value ∷ q .0 .more) (f .locals) (
           carry (posted w us) os (loaderOf (w .base) d) (k .loader) t (fa .value) (λ h. tie-there (w .ties) (loaderOf (w .base) d) (k .loader) t h) (later-conforms (later-posted w os us) (loaderOf (w .base) d) (typeOfName t) (fa .value) (fa .conforms)),
           later-ops (later-posted w os us) (k .loader) (p .more) (q .0 .more) (q .3),
@@ -492,20 +250,20 @@ module _ (w : World) (os : List Object) (f : Frame) (fs : List Frame) (k : Class
         wp-known (Kept w os) _ _ (x .1) (wp-known (Kept w os) _ _ (y .1) (wp-known (Kept w os) _ _ (kind-of w os (k .loader) t (x .0 .top) cv) (wp-bind (Kept w os) _ _ (wp-object w os (k .loader) c r (y .0 .top) _ (lk .agreed) fr cf (λ o z th bl ve.
         let nb = nearest-below (superOf (w .base)) (super-falls (w .base)) (hasField (w .base) n t) r d fd in
         let fa = field-at w os z d n t (nb .1) (below-trans bl (nb .0)) (hp o z th) in
-        wp-there (Kept w os) _ _ _ (fa .index) (put us d g (λ h. tie-there (w .ties) (loaderOf (w .base) d) (k .loader) t h) o z th (q .more) (ns ++ ms) e (x .0 .top) (y .0 .more) cv (y .3) fa))))))))))
+        wp-there (Kept w os) _ _ _ (fa .field .index) (put us d g (λ h. tie-there (w .ties) (loaderOf (w .base) d) (k .loader) t h) o z th (q .more) (ns ++ ms) e (x .0 .top) (y .0 .more) cv (y .3) fa))))))))))
       where
         put : (us : List Tie) (d : ℕ) → Agrees (posted w us) → (t ≢ 1 → Tied (posted w us) (at (loaderOf (w .base) d) t) (at (k .loader) t)) → (o : ℕ) (z : Object) → getElem? os o ≡ some z → (ts : List VerifierType) (rs : List Note) → flow ts (tp .τ .locals) rs ≡ some fl → (v : Value) (vs : List Value)
             → Conforms w os (k .loader) (typeOfName t) v → Each (Conforms w os (k .loader)) ts vs → (fa : FieldAt w os z d n t)
-            → Kept w os (record { world = posted w us; objects = changed os o z (set (z .values) (fa .place) v); frames = past f i vs (f .locals) ∷ fs; result = none })
+            → Kept w os (record { world = posted w us; objects = changed os o z (set (z .values) (fa .field .place) v); frames = past f i vs (f .locals) ∷ fs; result = none })
         put us d g ti o z th ts rs fe v vs cv ev fa =
             let u = posted w us in
             let y = later-posted w os us in
-            let qs = changed os o z (set (z .values) (fa .place) v) in
+            let qs = changed os o z (set (z .values) (fa .field .place) v) in
             let hu = heap-posted w os us hp in
             let c′ : Conforms u os (loaderOf (w .base) d) (typeOfName t) v = carry u os (k .loader) (loaderOf (w .base) d) t v (λ h. tied-turn u (ti h)) (later-conforms y (k .loader) (typeOfName t) v cv) in
-            let ea = each-set (λ s v. Conforms u os (loaderOf (w .base) (s .owner)) (typeOfName (s .type)) v) (slots (w .base) (z .class)) (z .values) (hu o z th .filled) (fa .place) (fa .slot) v (fa .isSlot) (rw (fa .owner, fa .type) c′) in
-            let x = later-join y (later-changed u os o z (set (z .values) (fa .place) v) th) in
-            moved u qs x (linked-posted w us lk g) (heap-changed u os o z (set (z .values) (fa .place) v) th hu ea) ts (tp .τ .locals) rs fe vs (f .locals)
+            let ea = each-set (λ s v. Conforms u os (loaderOf (w .base) (s .owner)) (typeOfName (s .type)) v) (slots (w .base) (z .class)) (z .values) (hu o z th .filled) (fa .field .place) (fa .field .slot) v (fa .field .isSlot) (rw (fa .field .owner, fa .field .type) c′) in
+            let x = later-join y (later-changed u os o z (set (z .values) (fa .field .place) v) th) in
+            moved u qs x (linked-posted w us lk g) (heap-changed u os o z (set (z .values) (fa .field .place) v) th hu ea) ts (tp .τ .locals) rs fe vs (f .locals)
             (later-ops x (k .loader) ts vs ev) (each-more (later-local x (k .loader)) (tp .τ .locals) (f .locals) (tp .locals))
 
     ex-putf : (c n t : ℕ) → effect (Putfield c n t) (tp .τ) ≡ some fl → Wp (execute w os f fs k i (Putfield c n t)) Q
@@ -534,7 +292,6 @@ module _ (w : World) (os : List Object) (f : Frame) (fs : List Frame) (k : Class
         → Kept w os (record { world = u; objects = os; frames = entryFrame s (ma .place) o v ∷ past f i vs (f .locals) ∷ fs; result = none })
     enter u y lu hu s n t r ma o z th bl v cv tr ts ns e vs ev =
         let q = flow-is (typeOfName r ∷ ts) (tp .τ .locals) ns fl e in
-        let ve = lu .verified s (ma .place) (ma .theClass) (ma .method) (ma .isClass) (ma .isMethod) in
         record {
           linked = lu;
           heap = hu;
@@ -542,16 +299,7 @@ module _ (w : World) (os : List Object) (f : Frame) (fs : List Frame) (k : Class
           stack = (
             ma .theClass,
             ma .method,
-            record {
-              τ = entryTypes (ma .theClass) (ma .method);
-              typed = record {
-                isClass = ma .isClass;
-                isMethod = ma .isMethod;
-                types = verified-here (ma .method .code) (ma .method .result) (length (ma .method .code)) 0 (entryTypes (ma .theClass) (ma .method)) (ve .notes) (ve .passes);
-              };
-              operands = tt;
-              locals = (record { object = z; there = th; fits = fits-own (lu .own s (ma .theClass) (ma .isClass)) bl }, (rw (ma .argument, sym (ma .loader)) cv, (tt, (tt, (tt, (tt, (tt, (tt, tt))))))));
-            },
+            entered-top u os lu s n t r ma o z th bl v cv,
             (
               k,
               m,

@@ -10,7 +10,7 @@ use native.Mathlib.Omega.{arith}
 use lib.ListN.{length}
 use lib.Dec.{eqb}
 use borrow.Author.Tests.{eqb-true, eq-eqb, ne-eqb}
-use Rattle.safety.specs.Sized.{sized}
+use Rattle.laws.specs.Sized.{sized}
 use Rattle.definition.specs.Instructions.{Decoded, decode}
 use Rattle.definition.specs.Maybe.{_>>=_, need}
 use Rattle.definition.specs.Verifier.{Flow, Note, TypeState, effect, isReturn, returns, verify, typesAt}

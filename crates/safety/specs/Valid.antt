@@ -16,6 +16,7 @@ use Rattle.laws.specs.Chains.{chain-more}
 use Rattle.laws.specs.Options.{each-more}
 use Rattle.safety.specs.Conform.{Fits, Tied, grows-fits}
 use Rattle.laws.specs.Growth.{Grows}
+use Rattle.laws.specs.Objects.{Numbered}
 use Rattle.laws.specs.Stable.{Rooted}
 use Rattle.definition.specs.Lists.{Each}
 
@@ -117,7 +118,7 @@ Stack w os (f ∷ fs) = (k : Class) × (m : Method) × Top w os f k m × Under w
 
 pub record Later (v : World) (os : List Object) (w : World) (qs : List Object) : Type 0 where
   pub grows : Grows v w
-  pub objects : (o : ℕ) (b : Object) → getElem? os o ≡ some b → (d : Object) × (getElem? qs o ≡ some d) × (d .class ≡ b .class)
+  pub objects : Numbered os qs
 
 module _ {v w : World} {os qs : List Object} (z : Later v os w qs) where
   pub later-conforms : (l : ℕ) (t : VerifierType) (x : Value) → Conforms v os l t x → Conforms w qs l t x
@@ -167,13 +168,3 @@ module _ {v w : World} {os qs : List Object} (z : Later v os w qs) where
   pub later-stack : (fs : List Frame) → Stack v os fs → Stack w qs fs
   later-stack [] h = h
   later-stack (f ∷ fs) (k, m, t, u) = (k, m, later-top t, later-under (k .loader) (m .result) fs u)
-
--- each value in a place refers to an object that is there
-pub conforms-exists : (w : World) (os : List Object) (l : ℕ) (t : VerifierType) (v : Value) → Conforms w os l t v → Exists os v
-conforms-exists w os l t unsetValue h = tt
-conforms-exists w os l t (unlistedValue α β) h = tt
-conforms-exists w os l t (intValue n) h = tt
-conforms-exists w os l t nullValue h = tt
-conforms-exists w os l typeInt (objectValue o) h = absurd h
-conforms-exists w os l typeNull (objectValue o) h = absurd h
-conforms-exists w os l (typeClass n) (objectValue o) h = (h .object, h .there)

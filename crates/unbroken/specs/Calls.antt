@@ -8,34 +8,33 @@ use Prim.Native.Nat.{ℕ, zero, suc, _+_, _-_, _≤_, _<_}
 use native.Mathlib.Omega.{arith}
 use lib.ListN.{length, getElem?, drop, length-append, length-map, length-drop}
 use lib.Seq.{take-append-le, drop-append-le, drop-at, take-length}
-use lib.Dec.{eqb, leb, ltb}
+use lib.Dec.{leb}
 use borrow.Author.Tests.{leb-true, ltb-true, le-leb}
-use Rattle.definition.specs.Answers.{Result, _>>=_, need, ok}
+use Rattle.definition.specs.Answers.{_>>=_, need, ok}
 use Rattle.definition.specs.Calls.{Given, addEntry, addFile, bootRows, defineRows, dropRows, recordRows, startRows, stepOn, stepRows, withFrames, stepTask, progressed, framesIn}
 use Rattle.definition.specs.Classes.{Base, Class, Entry, Method, find, hasMethod, loaderOf, ownSlots, slots, superOf}
-use Rattle.definition.specs.Constraints.{Subtype, Tie, World, agrees, newTie}
+use Rattle.definition.specs.Constraints.{Subtype, Tie, World, newTie}
 use Rattle.definition.specs.File.{File, classOf, readFile}
 use Rattle.definition.specs.Lists.{any}
 use Rattle.definition.specs.Loading.{define, newSubtypes, overrideTie, overrideTies, recorded, started, subtypeIs, subtypeOf, withClass, withEntry}
-use Rattle.definition.specs.Machine.{Frame, Progress, intValue, newObject}
+use Rattle.definition.specs.Machine.{Object, Frame, Progress, intValue, newObject}
 use Rattle.definition.specs.Requests.{Request, at}
 use Rattle.definition.specs.Superclasses.{nearest}
 use Rattle.definition.specs.Tables.{ClassRow, Rows, baseOf, classAt, fileAt, sizeOf, worldOf}
 use Rattle.definition.specs.Verifier.{Note}
-use Rattle.definition.specs.declared.Refusal.the-variants.{Word}
 use Rattle.laws.specs.Agreement.{find-more, find-row, is-super, super-is}
 use Rattle.laws.specs.Growth.{Grows, grows-class, grows-entry, grows-super, nth-lt}
 use Rattle.laws.specs.Options.{bind-some, need-true, nth-last, some-bind}
-use Rattle.laws.specs.Results.{bind-ok, need-ok, ok-inj, take-ok}
+use Rattle.laws.specs.Results.{need-ok, take-ok}
 use Rattle.laws.specs.Slots.{slots-up}
 use Rattle.laws.specs.Stable.{own-is, slots-stable}
-use Rattle.laws.specs.Tests.{and-true}
-use Rattle.layout.specs.Tests.{All, all-both, all-more, every-true}
+use Rattle.layout.specs.Tests.{All, all-both, all-more}
 use Rattle.layout.specs.Unbroken.{object-class}
 use Rattle.layout.specs.Whole.{Between, ClassSound, Classes, First, Framed, From, Listed, ObjectSound, Whole}
 use Rattle.unbroken.specs.Steps.{Moved, Ready, class-found, class-selected, entered-frame, grow-frame, loader-small, made-objects, new-between, step-moves}
 use Rattle.definition.specs.Maybe as Maybe
 use Rattle.laws.specs.Wrapped.{Ok, ok-at, then}
+use Rattle.unbroken.specs.Accepted.{recorded-is, defined-is}
 
 -- Lists
 
@@ -43,7 +42,7 @@ all-mem : {A : Type 0} (P : A → Type 0) {xs : List A} {x : A} → All P xs →
 all-mem P {xs = y ∷ ys} {x} h (List·Memᴰ·head e) = rw e (h .0)
 all-mem P {xs = y ∷ ys} {x} h (List·Memᴰ·tail m) = all-mem P (h .1) m
 
-nth-there : {A : Type 0} (xs : List A) (i : ℕ) → i < length xs → (x : A) × (getElem? xs i ≡ some x)
+pub nth-there : {A : Type 0} (xs : List A) (i : ℕ) → i < length xs → (x : A) × (getElem? xs i ≡ some x)
 nth-there [] i h = absurd (omega arith)
 nth-there (x ∷ xs) zero h = (x, refl)
 nth-there (x ∷ xs) (suc i) h = nth-there xs i (omega arith)
@@ -113,47 +112,29 @@ module _ (r : Rows) (w : Whole r) where
             | inr z ↦ rw (sym (x .2), cls-loader (r .kept) (x .0) (z .file) (z .reads)) (z .loader)
           ]
 
-  -- One task moves
+  -- Ties, objects and frames change
+
+  tasks-whole : (ts : List Tie) (os : List Object) (q p : List Frame) → length ts ≤ 256 → All Between ts → length os ≤ 256 → All (ObjectSound (W .base) N (length os)) os
+      → length q ≤ 32 → All (Framed N (length os)) q → length p ≤ 32 → All (Framed N (length os)) p
+      → Whole (record { classes = r .classes; kept = r .kept; cache = r .cache; ties = ts; subtypes = r .subtypes; objects = os; quote = q; report = p })
+  tasks-whole ts os q p a b c d e f g h = record {
+    limits = record { classes = w .limits .classes; kept = w .limits .kept; cache = w .limits .cache; ties = a; subtypes = w .limits .subtypes; objects = c; quote = e; report = g };
+    classes = w .classes;
+    cache = w .cache;
+    ties = b;
+    subtypes = w .subtypes;
+    objects = d;
+    quote = f;
+    report = h;
+  }
 
   pub whole-progressed : (k : ℕ) (o : Progress) → Moved W N (r .objects) o → Whole (progressed k r o)
-  whole-progressed zero o m = record {
-    limits = record {
-      classes = w .limits .classes;
-      kept = w .limits .kept;
-      cache = w .limits .cache;
-      ties = m .ties;
-      subtypes = w .limits .subtypes;
-      objects = m .objects;
-      quote = m .many;
-      report = w .limits .report;
-    };
-    classes = w .classes;
-    cache = w .cache;
-    ties = m .between;
-    subtypes = w .subtypes;
-    objects = m .each;
-    quote = m .frames;
-    report = all-more (grow-frame N (length (r .objects)) (length (o .objects)) (m .more)) (r .report) (w .report);
-  }
-  whole-progressed (suc k) o m = record {
-    limits = record {
-      classes = w .limits .classes;
-      kept = w .limits .kept;
-      cache = w .limits .cache;
-      ties = m .ties;
-      subtypes = w .limits .subtypes;
-      objects = m .objects;
-      quote = w .limits .quote;
-      report = m .many;
-    };
-    classes = w .classes;
-    cache = w .cache;
-    ties = m .between;
-    subtypes = w .subtypes;
-    objects = m .each;
-    report = m .frames;
-    quote = all-more (grow-frame N (length (r .objects)) (length (o .objects)) (m .more)) (r .quote) (w .quote);
-  }
+  whole-progressed zero o m =
+      tasks-whole (o .world .ties) (o .objects) (o .frames) (r .report) (m .ties) (m .between) (m .objects) (m .each) (m .many) (m .frames)
+      (w .limits .report) (all-more (grow-frame N (length (r .objects)) (length (o .objects)) (m .more)) (r .report) (w .report))
+  whole-progressed (suc k) o m =
+      tasks-whole (o .world .ties) (o .objects) (r .quote) (o .frames) (m .ties) (m .between) (m .objects) (m .each)
+      (w .limits .quote) (all-more (grow-frame N (length (r .objects)) (length (o .objects)) (m .more)) (r .quote) (w .quote)) (m .many) (m .frames)
 
   -- the rows' classes and constraints are then those of the progress
   pub world-progressed : (k : ℕ) (o : Progress) → Moved W N (r .objects) o → worldOf (progressed k r o) ≡ o .world
@@ -245,63 +226,6 @@ map-last : {A B : Type 0} (f : A → B) (xs : List A) (x : A) → map f (xs ++ (
 map-last f [] x = refl
 map-last {A} {B} f (y ∷ xs) x = ap {B = List B} (λ r. f y ∷ r) (map-last f xs x)
 
--- What an accepted record and an accepted define did
-
-pub record Entered (l n c : ℕ) (w v : World) : Type 0 where
-  pub loader : l < 16
-  pub class : c < length (w .base .classes)
-  pub room : length (w .base .cache) < 256
-  pub is : withEntry w (at l n) c ≡ v
-
-pub recorded-is : (l n c : ℕ) (w v : World) → recorded l n c w ≡ ok v → (w ≡ v) ⊎ Entered l n c w v
-unfolding recorded
-recorded-is l n c w v e =
-    let a = bind-ok _ _ e in
-    let b = bind-ok _ _ (a .2) in
-    let d = bind-ok _ _ (b .2) in
-    go (ltb-true l 16 (and-true (ltb l 16) (leb 2 n) (need-ok _ _ (a .1)) .0)) (nth-lt (w .base .classes) c (b .0) (take-ok _ _ (b .1))) (find (w .base .cache) (at l n)) (d .2)
-  where
-    go : l < 16 → c < length (w .base .classes) → (o : Option ℕ)
-        → (elim o as (λ _. Result World) [ some d ↦ need (eqb d c) (Word 4) >>= λ _. ok w | none ↦ need (ltb (length (w .base .cache)) 256) (Word 10) >>= λ _. need (agrees (withEntry w (at l n) c)) (Word 9) >>= λ _. ok (withEntry w (at l n) c) ]) ≡ ok v
-        → (w ≡ v) ⊎ Entered l n c w v
-    go x y none h = let p = bind-ok _ _ h in let q = bind-ok _ _ (p .2) in inr (record { loader = x; class = y; room = ltb-true (length (w .base .cache)) 256 (need-ok _ _ (p .1)); is = ok-inj (q .2) })
-    go x y (some d) h = let p = bind-ok _ _ h in inl (ok-inj (p .2))
-
-pub record DefineAccepted (room : Bool) (k : Class) (w v : World) : Type 0 where
-  pub super : ℕ
-  pub cached : find (w .base .cache) (at (k .loader) (k .super)) ≡ some super
-  pub notes : List Note
-  pub kept : room ≡ true
-  pub classes : length (w .base .classes) < 64
-  pub cache : length (w .base .cache) < 256
-  pub ties : length (w .ties ++ overrideTies (w .base) (k .loader) super (w .ties) (k .methods)) ≤ 256
-  pub subtypes : length (w .subtypes ++ newSubtypes (w .subtypes) (k .loader) notes) ≤ 256
-  pub size : sizeOf (w .base) super + length (k .fields) ≤ 16
-  pub is : withClass w k (overrideTies (w .base) (k .loader) super (w .ties) (k .methods)) (newSubtypes (w .subtypes) (k .loader) notes) ≡ v
-
-pub defined-is : (room : Bool) (k : Class) (w v : World) → define room k w ≡ ok v → DefineAccepted room k w v
-unfolding define
-defined-is room k w v e =
-    let a = bind-ok _ _ e in
-    let b = bind-ok _ _ (a .2) in
-    let c = bind-ok _ _ (b .2) in
-    let d = bind-ok _ _ (c .2) in
-    let f = bind-ok _ _ (d .2) in
-    let g = bind-ok _ _ (f .2) in
-    let p = every-true _ (need-ok _ _ (f .1)) in
-    record {
-      super = c .0;
-      cached = take-ok _ _ (c .1);
-      notes = a .0;
-      kept = p .0;
-      classes = ltb-true _ _ (p .1 .0);
-      cache = ltb-true _ _ (p .1 .1 .0);
-      ties = leb-true _ _ (p .1 .1 .1 .0);
-      subtypes = leb-true _ _ (p .1 .1 .1 .1 .0);
-      size = leb-true _ _ (p .1 .1 .1 .1 .1 .0);
-      is = ok-inj (g .2);
-    }
-
 -- Constraints that a definition adds lie between loaders
 
 module _ (b : Base) (h : (c : ℕ) (k : Class) → getElem? (b .classes) c ≡ some k → k .loader < 16) (l : ℕ) (a : l < 16) where
@@ -350,13 +274,13 @@ module _ (r : Rows) (w : Whole r) where
 
   pub whole-record : (l n c : ℕ) (v : World) → recorded l n c (W r w) ≡ ok v → Whole (addEntry r v)
   whole-record l n c v e = elim (recorded-is l n c (W r w) v e) [
-    | inl q ↦ subst (λ (z : World). Whole (addEntry r z)) q w
+    | inl q ↦ subst (λ (z : World). Whole (addEntry r z)) (q .is) w
     | inr x ↦ subst (λ (z : World). Whole (addEntry r z)) (x .is) (whole-entry l n c (x .loader) (x .class) (x .room))
   ]
 
   pub world-recorded : (l n c : ℕ) (v : World) → recorded l n c (W r w) ≡ ok v → worldOf (addEntry r v) ≡ v
   world-recorded l n c v e = elim (recorded-is l n c (W r w) v e) [
-    | inl q ↦ subst (λ (z : World). worldOf (addEntry r z) ≡ z) q refl
+    | inl q ↦ subst (λ (z : World). worldOf (addEntry r z) ≡ z) (q .is) refl
     | inr x ↦ subst (λ (z : World). worldOf (addEntry r z) ≡ z) (x .is) refl
   ]
 
@@ -479,44 +403,8 @@ module _ (r : Rows) (w : Whole r) where
       go [] [] a b c d = unfold stepOn in w
 
   dropped-whole : (k : ℕ) → Whole (withFrames k r [])
-  dropped-whole zero = record {
-    limits = record {
-      classes = w .limits .classes;
-      kept = w .limits .kept;
-      cache = w .limits .cache;
-      ties = w .limits .ties;
-      subtypes = w .limits .subtypes;
-      objects = w .limits .objects;
-      quote = omega arith;
-      report = w .limits .report;
-    };
-    classes = w .classes;
-    cache = w .cache;
-    ties = w .ties;
-    subtypes = w .subtypes;
-    objects = w .objects;
-    quote = tt;
-    report = w .report;
-  }
-  dropped-whole (suc k) = record {
-    limits = record {
-      classes = w .limits .classes;
-      kept = w .limits .kept;
-      cache = w .limits .cache;
-      ties = w .limits .ties;
-      subtypes = w .limits .subtypes;
-      objects = w .limits .objects;
-      quote = w .limits .quote;
-      report = omega arith;
-    };
-    classes = w .classes;
-    cache = w .cache;
-    ties = w .ties;
-    subtypes = w .subtypes;
-    objects = w .objects;
-    quote = w .quote;
-    report = tt;
-  }
+  dropped-whole zero = tasks-whole r w (r .ties) (r .objects) [] (r .report) (w .limits .ties) (w .ties) (w .limits .objects) (w .objects) (omega arith) tt (w .limits .report) (w .report)
+  dropped-whole (suc k) = tasks-whole r w (r .ties) (r .objects) (r .quote) [] (w .limits .ties) (w .ties) (w .limits .objects) (w .objects) (w .limits .quote) (w .quote) (omega arith) tt
 
   pub drop-whole : (k : ℕ) → Ok (dropRows k r) Stays
   unfolding dropRows

@@ -3,6 +3,7 @@ use mathlib.Core.Path.{_≡_, refl, sym, ap, _∙_, subst}
 use mathlib.Core.Bool.{Bool, true, false, false≢true, _&&_}
 use mathlib.Core.List.{List, [], _∷_}
 use Prim.Native.Nat.{ℕ, zero, suc}
+use native.Mathlib.Omega.{arith}
 use lib.Dec.{leb}
 use Rattle.definition.specs.declared.Refusal.{Refusal}
 use Rattle.definition.specs.declared.Refusal.the-variants.{Word}
@@ -37,7 +38,7 @@ module _ {A : Type 0} (deny : Refusal → A) (f : Rows → Result (Given A)) (k 
   same-wrap t r s = subst (λ (x : Rows). Same (wrap deny f t .answer) (wrap deny f t .tables) (onRows deny f x)) (s .rows)
       (wrapped deny f t (λ a z. Same a z (onRows deny f (view t))) (λ e. absurd (false≢true (sym (s .unbroken) ∙ e)))
       (λ w e. rw (e, onRows) (refl, record { unbroken = s .unbroken; rows = refl }))
-      (λ g e. let h = ok-at (λ g. Whole (g .rows)) _ (k (view t) (u .1)) g e in rw (e, onRows) (refl, record { unbroken = true-whole (g .rows) t (u .0) h; rows = view-put (g .rows) t (u .0) h })))
+      (λ _ g e. let h = ok-at (λ g. Whole (g .rows)) _ (k (view t) (u .1)) g e in rw (e, onRows) (refl, record { unbroken = true-whole (g .rows) t (u .0) h; rows = view-put (g .rows) t (u .0) h })))
     where
       u : Lengths t × Whole (view t)
       u = broken-false t (s .unbroken)
@@ -45,6 +46,17 @@ module _ {A : Type 0} (deny : Refusal → A) (f : Rows → Result (Given A)) (k 
 pub same-boot : (t : Tables) → shaped t ≡ true → Same (boot t .answer) (boot t .tables) (givenRows Accepted bootRows)
 unfolding boot
 same-boot t h = rw (h, boot) (refl, record { unbroken = true-whole bootRows t (shaped-true t h) boot-whole; rows = view-put bootRows t (shaped-true t h) boot-whole })
+
+-- boot accepts only the published lengths
+pub accepted-shaped : (t : Tables) → boot t .answer ≡ Accepted → shaped t ≡ true
+accepted-shaped t h = go (shaped t) refl
+  where
+    refuses : shaped t ≡ false → boot t .answer ≡ Denied (Word 1)
+    refuses e = unfold boot in rw (e, boot) refl
+
+    go : (b : Bool) → shaped t ≡ b → shaped t ≡ true
+    go true e = e
+    go false e = absurd (let z : Path Reply (Denied (Word 1)) Accepted = sym (refuses e) ∙ h in let y : _≡_ {A = ℕ} 0 1 = cc in omega arith)
 
 same-step : (t : Tables) (r : Rows) → Shows t r → Same (stepTables t .answer) (stepTables t .tables) (onRows Refused stepRows r)
 unfolding stepTables
@@ -107,7 +119,7 @@ same-booted cs t h = same-all cs (boot t .tables) bootRows (same-boot t h .1)
 still : {A : Type 0} (deny : Refusal → A) (f : Rows → Result (Given A)) (t : Tables) → onRows deny f (view t) .rows ≡ view t → wrap deny f t .tables ≡ t
 unfolding onRows settle
 still deny f t q = wrapped deny f t (λ _ z. z ≡ t) (λ _. refl) (λ _ _. refl)
-    (λ g e. ap (λ (x : Rows). put x t) (sym (ap (λ (o : Result (Given _)). settle deny (view t) o .rows) e) ∙ q) ∙ put-view t)
+    (λ _ g e. ap (λ (x : Rows). put x t) (sym (ap (λ (o : Result (Given _)). settle deny (view t) o .rows) e) ∙ q) ∙ put-view t)
 
 abbrev pub OneStep : Call → Type 0
 OneStep callBoot = ⊥

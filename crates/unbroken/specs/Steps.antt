@@ -93,7 +93,7 @@ unfolding pop! pop take?
 pop-all m [] p h e = never _ _ e
 pop-all m (v ∷ vs) p h e = rw (sym (ok-inj e)) (record { top = h .0; more = h .1; less = refl })
 
-object-is : (b : Base) (os : List Object) (e : ℕ) (v : Value) (p : record { number : ℕ; object : Object }) → object! b os e v ≡ ok p → getElem? os (p .number) ≡ some (p .object)
+pub object-is : (b : Base) (os : List Object) (e : ℕ) (v : Value) (p : record { number : ℕ; object : Object }) → object! b os e v ≡ ok p → getElem? os (p .number) ≡ some (p .object)
 unfolding object! existing
 object-is b os e unsetValue p h = never _ _ h
 object-is b os e (unlistedValue α β) p h = never _ _ h

@@ -1,31 +1,35 @@
--- From any store that is not broken, every call leaves one that is not broken; so a run may test for it once.
-use mathlib.Core.Path.{_≡_, refl, ap, _∙_}
-use mathlib.Core.Bool.{Bool, true, false, _&&_}
-use Prim.Native.Nat.{ℕ, zero, suc}
-use lib.Dec.{leb}
+-- From any store that is not broken, every call leaves one that is not broken, and so does each step of a run, which may therefore test for it once.
+use mathlib.Core.Path.{_≡_, sym, subst}
+use mathlib.Core.Bool.{true, false}
 use Rattle.definition.specs.declared.Refusal.{Refusal}
 use Rattle.definition.specs.declared.Refusal.the-variants.{Word}
-use Rattle.definition.specs.declared.Answer.{Answer}
-use Rattle.definition.specs.declared.Answer.the-variants.{Idle, Ran, Finished, Refused}
-use Rattle.definition.specs.declared.Reply.{Reply}
+use Rattle.definition.specs.declared.Answer.the-variants.{Refused}
 use Rattle.definition.specs.declared.Reply.the-variants.{Denied}
-use Rattle.definition.specs.Answers.{Result}
+use Rattle.definition.specs.Answers.{Result, ok}
 use Rattle.definition.specs.Tables.{Tables, shaped, Rows, view}
 use Rattle.definition.specs.Broken.{broken}
-use Rattle.definition.specs.Calls.{Given, bootRows, defineRows, recordRows, startRows, dropRows, stepRows, Done, done, wrap, boot, stepTables, goOn, runFrom, run, Call, callBoot, callDefine, callRecord, callStart, callStep, callRun, callDrop, perform}
+use Rattle.definition.specs.Calls.{Given, bootRows, defineRows, recordRows, startRows, dropRows, stepRows, wrap, boot, stepTables, Call, callBoot, callDefine, callRecord, callStart, callStep, callRun, callDrop, perform}
+use Rattle.laws.specs.Runs.{run-keeps}
 use Rattle.laws.specs.Wrapped.{wrapped, Ok, ok-at}
 use Rattle.layout.specs.Whole.{Whole}
-use Rattle.layout.specs.Unbroken.{shaped-true, true-shaped, true-whole, broken-false}
+use Rattle.layout.specs.Unbroken.{shaped-true, true-shaped, view-put, true-whole, broken-false}
 use Rattle.unbroken.specs.Calls.{define-whole, record-whole, start-whole, step-whole, drop-whole, boot-whole}
 
 -- a call that keeps whole rows whole
 abbrev pub Keeps : {A : Type 0} → (Rows → Result (Given A)) → Type 0
 Keeps {A} f = (r : Rows) → Whole r → Ok (f r) (λ g. Whole (g .rows))
 
+-- what holds of an accepted call's rows holds of what the tables then show
+pub shown : {A : Type 0} (deny : Refusal → A) (f : Rows → Result (Given A)) (P : A → Rows → Type 0) (t : Tables) → Keeps f → ((w : Refusal) → P (deny w) (view t))
+    → (Whole (view t) → (g : Given A) → f (view t) ≡ ok g → P (g .answer) (g .rows)) → P (wrap deny f t .answer) (view (wrap deny f t .tables))
+shown deny f P t k denied accepted = wrapped deny f t (λ a z. P a (view z)) (λ _. denied (Word 1)) (λ w _. denied w) (λ h g e.
+    let u = broken-false t h in
+    subst (P (g .answer)) (sym (view-put (g .rows) t (u .0) (ok-at (λ g. Whole (g .rows)) _ (k (view t) (u .1)) g e))) (accepted (u .1) g e))
+
 pub wrap-unbroken : {A : Type 0} (deny : Refusal → A) (f : Rows → Result (Given A)) (t : Tables) → broken t ≡ false → Keeps f → broken (wrap deny f t .tables) ≡ false
 wrap-unbroken deny f t h k =
     let u = broken-false t h in
-    wrapped deny f t (λ _ z. broken z ≡ false) (λ _. h) (λ w _. h) (λ g e. true-whole (g .rows) t (u .0) (ok-at (λ g. Whole (g .rows)) _ (k (view t) (u .1)) g e))
+    wrapped deny f t (λ _ z. broken z ≡ false) (λ _. h) (λ w _. h) (λ _ g e. true-whole (g .rows) t (u .0) (ok-at (λ g. Whole (g .rows)) _ (k (view t) (u .1)) g e))
 
 pub step-unbroken : (t : Tables) → broken t ≡ false → broken (stepTables t .tables) ≡ false
 unfolding stepTables
@@ -35,26 +39,6 @@ pub boot-unbroken : (t : Tables) → shaped t ≡ true → broken (boot t .table
 unfolding boot
 boot-unbroken t h = rw (h, boot) (true-whole bootRows t (shaped-true t h) boot-whole)
 
-runs-unbroken : (n k : ℕ) (a : Answer) (t : Tables) → broken t ≡ false → broken (runFrom stepTables n k a t .tables) ≡ false
-unfolding runFrom
-runs-unbroken zero k a t h = h
-runs-unbroken (suc n) k a t h = go (stepTables t .answer) (stepTables t .tables) (step-unbroken t h) (λ k a t h. runs-unbroken n k a t h)
-  where
-    go : (s : Answer) (z : Tables) → broken z ≡ false → ((k : ℕ) (a : Answer) (t : Tables) → broken t ≡ false → broken (runFrom stepTables n k a t .tables) ≡ false)
-        → broken (goOn (runFrom stepTables n) k s z .tables) ≡ false
-    go Idle z q ih = q
-    go (Ran j) z q ih = ih (suc k) (Ran j) z q
-    go (Finished j v) z q ih = q
-    go (Refused w) z q ih = q
-
-run-unbroken : (n : ℕ) (t : Tables) → broken t ≡ false → broken (run n t .tables) ≡ false
-unfolding run
-run-unbroken n t h = rw (h, run) (go (leb 1 n && leb n 65535))
-  where
-    go : (b : Bool) → broken ((elim b as (λ _. Done Reply) [ true ↦ runFrom stepTables n 0 Idle t | false ↦ done (Denied (Word 3)) t ]) .tables) ≡ false
-    go true = runs-unbroken n 0 Idle t h
-    go false = h
-
 -- every call, every store that is not broken
 pub kept-unbroken : (c : Call) (t : Tables) → broken t ≡ false → broken (perform c t .tables) ≡ false
 unfolding perform
@@ -63,21 +47,5 @@ kept-unbroken (callDefine l bs) t h = wrap-unbroken Denied (defineRows l bs) t h
 kept-unbroken (callRecord l n c) t h = wrap-unbroken Denied (recordRows l n c) t h (λ r w. record-whole r w l n c)
 kept-unbroken (callStart k l n m v) t h = wrap-unbroken Denied (startRows k l n m v) t h (λ r w. start-whole r w k l n m v)
 kept-unbroken callStep t h = step-unbroken t h
-kept-unbroken (callRun n) t h = run-unbroken n t h
+kept-unbroken (callRun n) t h = run-keeps (λ z. broken z ≡ false) step-unbroken n t h
 kept-unbroken (callDrop k) t h = wrap-unbroken Denied (dropRows k) t h (λ r w. drop-whole r w k)
-
--- So a run may take its steps by any function that is a step on stores that are not broken
-module _ (raw : Tables → Done Answer) (agrees : (t : Tables) → broken t ≡ false → raw t ≡ stepTables t) where
-  pub run-raw : (n k : ℕ) (a : Answer) (t : Tables) → broken t ≡ false → runFrom raw n k a t ≡ runFrom stepTables n k a t
-  unfolding runFrom
-  run-raw zero k a t h = refl
-  run-raw (suc n) k a t h =
-      ap (λ (d : Done Answer). goOn (runFrom raw n) k (d .answer) (d .tables)) (agrees t h)
-      ∙ go (stepTables t .answer) (stepTables t .tables) (step-unbroken t h) (λ k a t h. run-raw n k a t h)
-    where
-      go : (x : Answer) (z : Tables) → broken z ≡ false → ((k : ℕ) (a : Answer) (t : Tables) → broken t ≡ false → runFrom raw n k a t ≡ runFrom stepTables n k a t)
-          → goOn (runFrom raw n) k x z ≡ goOn (runFrom stepTables n) k x z
-      go Idle z q ih = refl
-      go (Ran j) z q ih = ih (suc k) (Ran j) z q
-      go (Finished j v) z q ih = refl
-      go (Refused w) z q ih = refl

@@ -20,7 +20,7 @@ use Rattle.definition.specs.Calls.{Given, bootRows, progressed, withFrames, fra
 use Rattle.definition.specs.Widths.{EachBelow}
 use Rattle.laws.specs.Wrapped.{Ok, then}
 use Rattle.layout.specs.Tests.{All, all-both}
-use Rattle.unbroken.specs.Calls.{recorded-is}
+use Rattle.unbroken.specs.Accepted.{recorded-is}
 use Rattle.widths.specs.Below.{below-both}
 use Rattle.widths.specs.Fits.{EntryFits, TieFits, SubtypeFits, ObjectFits, FrameFits, RowsFit}
 use Rattle.widths.specs.Files.{MethodFits, ClassFits, file-fits, classes-fit}
@@ -77,7 +77,7 @@ define-world room k w h f =
 
 record-world : (l n c : ℕ) (w v : World) → n < 65536 → WorldFits w → recorded l n c w ≡ ok v → WorldFits v
 record-world l n c w v h f e = elim (recorded-is l n c w v e) [
-  | inl q ↦ subst WorldFits q f
+  | inl q ↦ subst WorldFits (q .is) f
   | inr x ↦ subst WorldFits (x .is) (record { cache = all-both EntryFits (w .base .cache) _ (f .cache) (h, tt); ties = f .ties; subtypes = f .subtypes })
 ]
 

@@ -18,7 +18,7 @@ use Rattle.definition.specs.Widths.{EachBelow, Widths}
 use Rattle.laws.specs.Options.{bind-some, need-true}
 use Rattle.layout.specs.Tests.{All}
 use Rattle.layout.specs.Places.{rows-all, stack-all}
-use Rattle.layout.specs.Cells.{bits-value}
+use Rattle.layout.specs.Values.{bits-value}
 use Rattle.layout.specs.Whole.{Local, ValueSound, ObjectSound, Framed, Listed, Between, ClassSound, Classes, Whole}
 use Rattle.widths.specs.Below.{all-zip, from-all, below-cell, below-set, below-read, each-all, below-rows, below-stack}
 

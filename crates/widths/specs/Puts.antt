@@ -7,11 +7,10 @@ use Rattle.definition.specs.declared.Refusal.the-variants.{Word}
 use Rattle.definition.specs.declared.Answer.the-variants.{Refused}
 use Rattle.definition.specs.declared.Reply.{Reply}
 use Rattle.definition.specs.declared.Reply.the-variants.{Accepted, Denied}
-use Rattle.definition.specs.Answers.{Result, refused, ok}
+use Rattle.definition.specs.Answers.{Result, ok}
 use Rattle.definition.specs.Tables.{Tables, shaped, Rows, view, put}
-use Rattle.definition.specs.Broken.{broken}
-use Rattle.definition.specs.Calls.{Given, bootRows, defineRows, recordRows, startRows, dropRows, stepRows, Done, done, carried, wrap, boot, stepTables, Call, callBoot, callDefine, callRecord, callStart, callStep, callRun, callDrop, perform}
-use Rattle.laws.specs.Wrapped.{ok-at}
+use Rattle.definition.specs.Calls.{Given, bootRows, defineRows, recordRows, startRows, dropRows, stepRows, Done, done, wrap, boot, stepTables, Call, callBoot, callDefine, callRecord, callStart, callStep, callRun, callDrop, perform}
+use Rattle.laws.specs.Wrapped.{wrapped, ok-at}
 use Rattle.layout.specs.Whole.{Whole}
 use Rattle.layout.specs.Unbroken.{broken-false}
 use Rattle.unbroken.specs.Calls.{define-whole, record-whole, start-whole, step-whole, drop-whole, boot-whole}
@@ -25,19 +24,8 @@ pub record Put {A : Type 0} (f : Rows → Result (Given A)) (t u : Tables) : Typ
   pub is : u ≡ put (given .rows) t
 
 pub wrap-puts : {A : Type 0} (deny : Refusal → A) (f : Rows → Result (Given A)) (t : Tables) → Keeps f → (wrap deny f t .tables ≡ t) ⊎ Put f t (wrap deny f t .tables)
-unfolding wrap carried
-wrap-puts {A} deny f t keeps = go (broken t) refl
-  where
-    carry : broken t ≡ false → (o : Result (Given A)) → f (view t) ≡ o → (carried deny t o .tables ≡ t) ⊎ Put f t (carried deny t o .tables)
-    carry h (refused w) e = inl refl
-    carry h (ok g) e = inr (record { given = g; accepted = e; whole = ok-at (λ g. Whole (g .rows)) _ (keeps (view t) (broken-false t h .1)) g e; is = refl })
-
-    D : Bool → Tables
-    D b = (elim b as (λ _. Done A) [ true ↦ done (deny (Word 1)) t | false ↦ carried deny t (f (view t)) ]) .tables
-
-    go : (b : Bool) → broken t ≡ b → (D b ≡ t) ⊎ Put f t (D b)
-    go true h = inl refl
-    go false h = carry h (f (view t)) refl
+wrap-puts deny f t keeps = wrapped deny f t (λ _ z. (z ≡ t) ⊎ Put f t z) (λ _. inl refl) (λ _ _. inl refl)
+    (λ h g e. inr (record { given = g; accepted = e; whole = ok-at (λ g. Whole (g .rows)) _ (keeps (view t) (broken-false t h .1)) g e; is = refl }))
 
 -- the tables as they were, or with whole rows put
 abbrev pub Puts : Tables → Tables → Type 0

@@ -13,7 +13,10 @@ use Rattle.definition.specs.Tables.{Tables, Rows, putThree, putClassRow, putEnt
 use Rattle.laws.specs.Growth.{nth-lt}
 use Rattle.layout.specs.Tests.{All, all-more}
 use Rattle.layout.specs.Places.{writeRows-length, writeStack-length}
-use Rattle.layout.specs.Cells.{class-rows, entry-rows, tie-rows, subtype-rows, putValue-cell, putObject-length, putFrame-length}
+use Rattle.layout.specs.Rows.{class-rows, entry-rows, tie-rows, subtype-rows}
+use Rattle.layout.specs.Values.{putValue-cell}
+use Rattle.layout.specs.ObjectRows.{putObject-length}
+use Rattle.layout.specs.FrameRows.{putFrame-length}
 use Rattle.layout.specs.Whole.{Framed, Whole}
 use Rattle.layout.specs.Unbroken.{size-small}
 use Rattle.unbroken.specs.Steps.{all-nth}

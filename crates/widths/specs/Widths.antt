@@ -1,21 +1,18 @@
 -- Every call whose arguments have their widths keeps the widths of cells, whatever the tables hold; so does every list of such calls.
 use mathlib.Core.Path.{sym, subst}
-use mathlib.Core.Bool.{Bool, true, false, _&&_}
+use mathlib.Core.Bool.{Bool, true, false}
 use mathlib.Core.List.{List, [], _∷_}
 use mathlib.Core.Logic.{inl, inr}
-use Prim.Native.Nat.{ℕ, zero, suc}
-use lib.Dec.{leb}
 use Rattle.definition.specs.declared.Refusal.{Refusal}
 use Rattle.definition.specs.declared.Refusal.the-variants.{Word}
-use Rattle.definition.specs.declared.Answer.{Answer}
-use Rattle.definition.specs.declared.Answer.the-variants.{Idle, Ran, Finished, Refused}
+use Rattle.definition.specs.declared.Answer.the-variants.{Refused}
 use Rattle.definition.specs.declared.Reply.{Reply}
 use Rattle.definition.specs.declared.Reply.the-variants.{Accepted, Denied}
 use Rattle.definition.specs.Answers.{Result}
 use Rattle.definition.specs.Tables.{Tables, shaped, Rows, view, put}
-use Rattle.definition.specs.Broken.{broken}
-use Rattle.definition.specs.Calls.{Given, bootRows, defineRows, recordRows, startRows, dropRows, stepRows, Done, done, wrap, boot, stepTables, goOn, runFrom, run, Call, callBoot, callDefine, callRecord, callStart, callStep, callRun, callDrop, perform, performAll}
+use Rattle.definition.specs.Calls.{Given, bootRows, defineRows, recordRows, startRows, dropRows, stepRows, Done, done, wrap, boot, stepTables, Call, callBoot, callDefine, callRecord, callStart, callStep, callRun, callDrop, perform, performAll}
 use Rattle.definition.specs.Widths.{Widths, Fitting}
+use Rattle.laws.specs.Runs.{run-keeps}
 use Rattle.laws.specs.Wrapped.{Ok, ok-at}
 use Rattle.layout.specs.Tests.{All}
 use Rattle.unbroken.specs.Calls.{define-whole, record-whole, start-whole, step-whole, drop-whole, boot-whole}
@@ -48,30 +45,6 @@ step-widths : (t : Tables) → Widths t → Widths (stepTables t .tables)
 unfolding stepTables
 step-widths t w = wrap-widths Refused stepRows t step-whole step-rows-fit w
 
-runs-widths : (n k : ℕ) (a : Answer) (t : Tables) → Widths t → Widths (runFrom stepTables n k a t .tables)
-unfolding runFrom
-runs-widths zero k a t w = w
-runs-widths (suc n) k a t w = go (stepTables t .answer) (stepTables t .tables) (step-widths t w) (λ k a t w. runs-widths n k a t w)
-  where
-    go : (x : Answer) (z : Tables) → Widths z → ((k : ℕ) (a : Answer) (t : Tables) → Widths t → Widths (runFrom stepTables n k a t .tables))
-        → Widths (goOn (runFrom stepTables n) k x z .tables)
-    go Idle z q ih = q
-    go (Ran j) z q ih = ih (suc k) (Ran j) z q
-    go (Finished j v) z q ih = q
-    go (Refused x) z q ih = q
-
-run-widths : (n : ℕ) (t : Tables) → Widths t → Widths (run n t .tables)
-unfolding run
-run-widths n t w = go (broken t) (leb 1 n && leb n 65535)
-  where
-    go : (b c : Bool) → Widths ((elim b as (λ _. Done Reply) [
-      | true ↦ done (Denied (Word 1)) t
-      | false ↦ elim c as (λ _. Done Reply) [ true ↦ runFrom stepTables n 0 Idle t | false ↦ done (Denied (Word 3)) t ]
-    ]) .tables)
-    go true c = w
-    go false true = runs-widths n 0 Idle t w
-    go false false = w
-
 -- every call, whatever the tables hold
 pub widths-kept : (c : Call) (t : Tables) → Widths t → Fitting c → Widths (perform c t .tables)
 unfolding perform
@@ -80,7 +53,7 @@ widths-kept (callDefine l bs) t w f = wrap-widths Denied (defineRows l bs) t (λ
 widths-kept (callRecord l n c) t w f = wrap-widths Denied (recordRows l n c) t (λ r h. record-whole r h l n c) (λ r h. record-fits r h l n c f) w
 widths-kept (callStart k l n m v) t w f = wrap-widths Denied (startRows k l n m v) t (λ r h. start-whole r h k l n m v) (λ r h. start-fits r h k l n m v f) w
 widths-kept callStep t w f = step-widths t w
-widths-kept (callRun n) t w f = run-widths n t w
+widths-kept (callRun n) t w f = run-keeps Widths step-widths n t w
 widths-kept (callDrop k) t w f = wrap-widths Denied (dropRows k) t (λ r h. drop-whole r h k) (λ r h. drop-fits r h k) w
 
 -- every list of calls

@@ -1,0 +1,302 @@
+-- The words of refusal: for each call, each of its words with what the paper says the word is given for, in the paper's order.
+use mathlib.Core.Path.{_≡_, refl}
+use mathlib.Core.Bool.{Bool, true, false, not, _&&_, _||_}
+use mathlib.Core.Option.{Option, none, some}
+use mathlib.Core.List.{List, [], _∷_, _++_, map}
+use Prim.Native.Nat.{ℕ, suc, _+_}
+use lib.ListN.{length, getElem?}
+use lib.Dec.{eqb, leb, ltb}
+use Rattle.definition.specs.declared.Instruction.{Instruction}
+use Rattle.definition.specs.declared.Instruction.the-variants.{AconstNull, Sipush, Iload, Aload, Istore, Astore, Pop, Dup, Iadd, Isub, Getfield, Putfield, Invokevirtual, New, Ireturn, Areturn}
+use Rattle.definition.specs.Lists.{every, any, isSome, isNone}
+use Rattle.definition.specs.Maybe.{_>>=_}
+use Rattle.definition.specs.Requests.{at}
+use Rattle.definition.specs.Superclasses.{nearest, below}
+use Rattle.definition.specs.Classes.{Class, find, superOf, loaderOf, slots, hasField, hasMethod}
+use Rattle.definition.specs.Constraints.{Tie, World, agrees, newTie, agreesAfter}
+use Rattle.definition.specs.Instructions.{decode}
+use Rattle.definition.specs.Verifier.{Note, notesOf}
+use Rattle.definition.specs.Machine.{Value, unsetValue, intValue, nullValue, objectValue, unlistedValue, Object, Frame, Now, existing}
+use Rattle.definition.specs.Loading.{newSubtypes, overrideTies, hides, withClass, withEntry}
+use Rattle.definition.specs.File.{File, readFile, classOf}
+use Rattle.definition.specs.Tables.{Tables, shaped, Rows, worldOf, view}
+use Rattle.definition.specs.Broken.{broken}
+use Rattle.definition.specs.Calls.{framesIn, Call, callBoot, callDefine, callRecord, callStart, callStep, callRun, callDrop, refusalsOf}
+use Rattle.laws.specs.Refusals.{running}
+
+-- a word by its number, and whether it applies
+pub record Cause : Type 0 where
+  pub word : ℕ
+  pub applies : Bool
+
+abbrev pub cause : ℕ → Bool → Cause
+cause n b = record { word = n; applies = b }
+
+-- the word of the first that applies, 0 if none does
+unfoldable pub first : List Cause → ℕ
+first [] = 0
+first (c ∷ cs) = elim (c .applies) [ true ↦ c .word | false ↦ first cs ]
+
+-- there is one, and it passes
+abbrev pub isSomeAnd : {A : Type 0} → Option A → (A → Bool) → Bool
+isSomeAnd none test = false
+isSomeAnd (some a) test = test a
+
+-- define: 3 2 6 4 5 8 10 9, of the file that the bytes are read as, the superclass p and the verifier's notes
+
+module _ (r : Rows) (l : ℕ) (f : File) where
+  -- a limit would be passed
+  unfoldable pub definePasses : List ℕ → ℕ → List Note → Bool
+  definePasses bs p ns = not (every
+      (leb (length (r .kept) + length bs) 16384
+      ∷ ltb (length (worldOf r .base .classes)) 64
+      ∷ ltb (length (r .cache)) 256
+      ∷ leb (length (r .ties ++ overrideTies (worldOf r .base) l p (r .ties) (f .methods))) 256
+      ∷ leb (length (r .subtypes ++ newSubtypes (r .subtypes) l ns)) 256
+      ∷ leb (length (slots (worldOf r .base) p) + length (f .fields)) 16
+      ∷ []))
+
+  -- the new store wouldn't agree
+  unfoldable pub defineClashes : ℕ → List Note → Bool
+  defineClashes p ns = not (agrees (withClass (worldOf r) (classOf l f) (overrideTies (worldOf r .base) l p (r .ties) (f .methods)) (newSubtypes (r .subtypes) l ns)))
+
+unfoldable pub defineCauses : ℕ → List ℕ → Rows → List Cause
+defineCauses l bs r =
+    let file = readFile bs in
+    let super = file >>= λ f. find (r .cache) (at l (f .super)) in
+    let notes = file >>= λ f. notesOf (classOf l f) (f .methods) in
+    cause 3 (not (ltb l 16))
+    ∷ cause 2 (isNone file)
+    ∷ cause 6 (isSomeAnd file (λ f. isNone (notesOf (classOf l f) (f .methods))))
+    ∷ cause 4 (isSomeAnd file (λ f. not (isNone (find (r .cache) (at l (f .name))))))
+    ∷ cause 5 (isSomeAnd file (λ f. isNone (find (r .cache) (at l (f .super)))))
+    ∷ cause 8 (isSomeAnd file (λ f. isSomeAnd super (λ p. any (hides (worldOf r .base) p) (f .fields))))
+    ∷ cause 10 (isSomeAnd file (λ f. isSomeAnd super (λ p. isSomeAnd notes (definePasses r l f bs p))))
+    ∷ cause 9 (isSomeAnd file (λ f. isSomeAnd super (λ p. isSomeAnd notes (defineClashes r l f p))))
+    ∷ []
+
+-- record: 3 13 4 10 9
+unfoldable pub recordCauses : ℕ → ℕ → ℕ → Rows → List Cause
+recordCauses l n c r =
+    let class = getElem? (worldOf r .base .classes) c in
+    let cached = find (r .cache) (at l n) in
+    cause 3 (not (ltb l 16 && leb 2 n) || isNone class)
+    ∷ cause 13 (isSomeAnd class (λ k. not (eqb (k .name) n)))
+    ∷ cause 4 (isSomeAnd cached (λ d. not (eqb d c)))
+    ∷ cause 10 (isNone cached && not (ltb (length (r .cache)) 256))
+    ∷ cause 9 (isNone cached && not (agrees (withEntry (worldOf r) (at l n) c)))
+    ∷ []
+
+-- start: 3 12 5 7 10
+unfoldable pub startCauses : ℕ → ℕ → ℕ → ℕ → Rows → List Cause
+startCauses k l n m r =
+    let cached = find (r .cache) (at l n) in
+    cause 3 (not (ltb k 2) || not (ltb l 16 && leb 2 n && leb 1 m))
+    ∷ cause 12 (not (leb (length (framesIn k r)) 0))
+    ∷ cause 5 (isNone cached)
+    ∷ cause 7 (isSomeAnd cached (λ c. isNone (nearest (superOf (worldOf r .base)) (hasMethod (worldOf r .base) m 1 1) c)))
+    ∷ cause 10 (not (ltb (length (r .objects)) 256))
+    ∷ []
+
+-- step: unreadable 14, 5 7 10 9, other 14, 11
+
+abbrev pub anInt : Value → Bool
+anInt unsetValue = false
+anInt (intValue n) = true
+anInt nullValue = false
+anInt (objectValue o) = false
+anInt (unlistedValue k b) = false
+
+abbrev pub aNull : Value → Bool
+aNull unsetValue = false
+aNull (intValue n) = false
+aNull nullValue = true
+aNull (objectValue o) = false
+aNull (unlistedValue k b) = false
+
+abbrev pub aReference : Value → Bool
+aReference unsetValue = false
+aReference (intValue n) = false
+aReference nullValue = true
+aReference (objectValue o) = true
+aReference (unlistedValue k b) = false
+
+-- an int for int, a reference for a class name
+unfoldable pub ofKind : ℕ → Value → Bool
+ofKind t v = elim (eqb t 1) [ true ↦ anInt v | false ↦ aReference v ]
+
+abbrev pub isEmpty : {A : Type 0} → List A → Bool
+isEmpty [] = true
+isEmpty (x ∷ xs) = false
+
+-- what can be read at the frame's point
+unfoldable pub reading : World → Frame → Option Now
+reading w f =
+    getElem? (w .base .classes) (f .class) >>= λ k. getElem? (k .methods) (f .method) >>= λ m.
+    decode (m .code) (f .point) >>= λ i. some (record { theClass = k; method = m; at = i })
+
+-- no room for one operand more, and none in the frame below for a result
+unfoldable pub noRoom : List Value → Bool
+noRoom vs = not (ltb (length vs) 16)
+
+abbrev pub noRoomBelow : List Frame → Bool
+noRoomBelow [] = false
+noRoomBelow (g ∷ gs) = noRoom (g .operands)
+
+module _ (w : World) (os : List Object) where
+  -- null, or an object whose class is e or below it
+  abbrev pub receives : ℕ → Value → Bool
+  receives e unsetValue = false
+  receives e (intValue n) = false
+  receives e nullValue = true
+  receives e (objectValue o) = isSomeAnd (existing os o) (λ b. below (superOf (w .base)) (b .class) e)
+  receives e (unlistedValue α β) = false
+
+  -- null, or an object from whose class a method is selected
+  abbrev pub selects : ℕ → ℕ → ℕ → Value → Bool
+  selects n t r unsetValue = false
+  selects n t r (intValue m) = false
+  selects n t r nullValue = true
+  selects n t r (objectValue o) = isSomeAnd (existing os o) (λ b. isSome (nearest (superOf (w .base)) (hasMethod (w .base) n t r) (b .class)))
+  selects n t r (unlistedValue α β) = false
+
+-- of an instruction that names no class
+abbrev pub plainly : Bool → Bool → List Cause
+plainly full stuck = cause 5 false ∷ cause 7 false ∷ cause 10 full ∷ cause 9 false ∷ cause 14 stuck ∷ cause 11 false ∷ []
+
+module _ (w : World) (k : Class) where
+  -- what class c means under the loader of k
+  abbrev pub named : ℕ → Option ℕ
+  named c = find (w .base .cache) (at (k .loader) c)
+
+  -- the nearest class upward that passes
+  abbrev pub upward : (ℕ → Bool) → ℕ → Option ℕ
+  upward test e = nearest (superOf (w .base)) test e
+
+  -- the ties that a field of type t posts, and that a method of types t and r posts, where class d declares it
+  abbrev pub fieldTies : ℕ → ℕ → List Tie
+  fieldTies t d = newTie (w .ties) (loaderOf (w .base) d) (k .loader) t
+
+  abbrev pub methodTies : ℕ → ℕ → ℕ → List Tie
+  methodTies t r d = fieldTies t d ++ newTie (w .ties ++ fieldTies t d) (loaderOf (w .base) d) (k .loader) r
+
+  -- of an instruction that names class c, which means e, and looks upward for the class d that declares a member
+  unfoldable pub accessing : Option ℕ → (ℕ → Option ℕ) → (ℕ → List Tie) → Bool → (ℕ → Bool) → Bool → List Cause
+  accessing means looks ties room fits null =
+      let declares = means >>= looks in
+      cause 5 (isNone means)
+      ∷ cause 7 (isSomeAnd means (λ e. isNone (looks e)))
+      ∷ cause 10 (isSomeAnd declares (λ d. not (leb (length (w .ties ++ ties d)) 256 && room)))
+      ∷ cause 9 (isSomeAnd declares (λ d. not (agreesAfter w (ties d))))
+      ∷ cause 14 (isSomeAnd means (λ e. not (fits e)))
+      ∷ cause 11 null
+      ∷ []
+
+-- an instruction of the frame f above the frames fs, in class k; operands are counted from the last pushed
+module _ (w : World) (os : List Object) (f : Frame) (fs : List Frame) (k : Class) where
+  abbrev pub operand : ℕ → Option Value
+  operand n = getElem? (f .operands) n
+
+  abbrev pub local : ℕ → Option Value
+  local n = getElem? (f .locals) n
+
+  unfoldable pub instructionCauses : Instruction → List Cause
+  instructionCauses AconstNull = plainly (noRoom (f .operands)) false
+  instructionCauses (Sipush n) = plainly (noRoom (f .operands)) false
+  instructionCauses (Iload j) = plainly (noRoom (f .operands)) (not (isSomeAnd (local j) anInt))
+  instructionCauses (Aload j) = plainly (noRoom (f .operands)) (not (isSomeAnd (local j) aReference))
+  instructionCauses (Istore j) = plainly false (not (isSomeAnd (operand 0) anInt && isSome (local j)))
+  instructionCauses (Astore j) = plainly false (not (isSomeAnd (operand 0) aReference && isSome (local j)))
+  instructionCauses Pop = plainly false (isNone (operand 0))
+  instructionCauses Dup = plainly (noRoom (f .operands)) (isNone (operand 0))
+  instructionCauses Iadd = plainly false (not (isSomeAnd (operand 0) anInt && isSomeAnd (operand 1) anInt))
+  instructionCauses Isub = plainly false (not (isSomeAnd (operand 0) anInt && isSomeAnd (operand 1) anInt))
+  instructionCauses (Getfield c n t) =
+      accessing w k (named w k c) (upward w k (hasField (w .base) n t)) (fieldTies w k t) true
+      (λ e. isSomeAnd (operand 0) (receives w os e)) (isSomeAnd (operand 0) aNull)
+  instructionCauses (Putfield c n t) =
+      accessing w k (named w k c) (upward w k (hasField (w .base) n t)) (fieldTies w k t) true
+      (λ e. isSomeAnd (operand 0) (ofKind t) && isSomeAnd (operand 1) (receives w os e)) (isSomeAnd (operand 1) aNull)
+  instructionCauses (Invokevirtual c n t r) =
+      accessing w k (named w k c) (upward w k (hasMethod (w .base) n t r)) (methodTies w k t r) (ltb (suc (length fs)) 32)
+      (λ e. isSomeAnd (operand 0) (ofKind t) && isSomeAnd (operand 1) (λ v. receives w os e v && selects w os n t r v)) (isSomeAnd (operand 1) aNull)
+  instructionCauses (New c) =
+      cause 5 (isNone (named w k c)) ∷ cause 7 false ∷ cause 10 (not (ltb (length os) 256 && ltb (length (f .operands)) 16)) ∷ cause 9 false ∷ cause 14 false ∷ cause 11 false ∷ []
+  instructionCauses Ireturn = plainly (noRoomBelow fs) (not (isSomeAnd (operand 0) anInt))
+  instructionCauses Areturn = plainly (noRoomBelow fs) (not (isSomeAnd (operand 0) aReference && not (isEmpty fs)))
+
+-- of an idle step, and of what can't be read, nothing more applies
+abbrev pub nothing : List Cause
+nothing = cause 5 false ∷ cause 7 false ∷ cause 10 false ∷ cause 9 false ∷ cause 14 false ∷ cause 11 false ∷ []
+
+abbrev pub readCauses : World → List Object → Frame → List Frame → Option Now → List Cause
+readCauses w os f fs none = cause 14 true ∷ nothing
+readCauses w os f fs (some n) = cause 14 false ∷ instructionCauses w os f fs (n .theClass) (n .at .instruction)
+
+abbrev pub frameCauses : World → List Object → List Frame → List Cause
+frameCauses w os [] = cause 14 false ∷ nothing
+frameCauses w os (f ∷ fs) = readCauses w os f fs (reading w f)
+
+-- Every call; 1 before all else
+
+unfoldable pub causes : Call → Tables → List Cause
+causes callBoot t = cause 1 (not (shaped t)) ∷ []
+causes (callDefine l bs) t = cause 1 (broken t) ∷ defineCauses l bs (view t)
+causes (callRecord l n c) t = cause 1 (broken t) ∷ recordCauses l n c (view t)
+causes (callStart k l n m v) t = cause 1 (broken t) ∷ startCauses k l n m (view t)
+causes callStep t = cause 1 (broken t) ∷ frameCauses (worldOf (view t)) (view t .objects) (running (view t .quote) (view t .report))
+causes (callRun n) t = cause 1 (broken t) ∷ cause 3 (not (leb 1 n && leb n 65535)) ∷ []
+causes (callDrop k) t = cause 1 (broken t) ∷ cause 3 (not (ltb k 2)) ∷ []
+
+-- The paper's order: that of `refusalsOf`, but for a step, where 14 stands twice
+
+unfoldable pub order : Call → List ℕ
+order callBoot = refusalsOf callBoot
+order (callDefine l bs) = refusalsOf (callDefine l bs)
+order (callRecord l n c) = refusalsOf (callRecord l n c)
+order (callStart k l n m v) = refusalsOf (callStart k l n m v)
+order callStep = 1 ∷ 14 ∷ 5 ∷ 7 ∷ 10 ∷ 9 ∷ 14 ∷ 11 ∷ []
+order (callRun n) = refusalsOf (callRun n)
+order (callDrop k) = refusalsOf (callDrop k)
+
+-- their words
+abbrev pub words : List Cause → List ℕ
+words cs = map (λ c. c .word) cs
+
+instruction-order : (w : World) (os : List Object) (f : Frame) (fs : List Frame) (k : Class) (i : Instruction) → words (instructionCauses w os f fs k i) ≡ 5 ∷ 7 ∷ 10 ∷ 9 ∷ 14 ∷ 11 ∷ []
+unfolding instructionCauses accessing
+instruction-order w os f fs k AconstNull = refl
+instruction-order w os f fs k (Sipush n) = refl
+instruction-order w os f fs k (Iload j) = refl
+instruction-order w os f fs k (Aload j) = refl
+instruction-order w os f fs k (Istore j) = refl
+instruction-order w os f fs k (Astore j) = refl
+instruction-order w os f fs k Pop = refl
+instruction-order w os f fs k Dup = refl
+instruction-order w os f fs k Iadd = refl
+instruction-order w os f fs k Isub = refl
+instruction-order w os f fs k (Getfield c n t) = refl
+instruction-order w os f fs k (Putfield c n t) = refl
+instruction-order w os f fs k (Invokevirtual c n t r) = refl
+instruction-order w os f fs k (New c) = refl
+instruction-order w os f fs k Ireturn = refl
+instruction-order w os f fs k Areturn = refl
+
+frame-order : (w : World) (os : List Object) (fs : List Frame) → words (frameCauses w os fs) ≡ 14 ∷ 5 ∷ 7 ∷ 10 ∷ 9 ∷ 14 ∷ 11 ∷ []
+frame-order w os [] = refl
+frame-order w os (f ∷ fs) = go (reading w f)
+  where
+    go : (o : Option Now) → words (readCauses w os f fs o) ≡ 14 ∷ 5 ∷ 7 ∷ 10 ∷ 9 ∷ 14 ∷ 11 ∷ []
+    go none = refl
+    go (some n) = rw (instruction-order w os f fs (n .theClass) (n .at .instruction)) refl
+
+-- the words that `causes` lists stand in the paper's order
+pub in-order : (c : Call) (t : Tables) → words (causes c t) ≡ order c
+unfolding causes order refusalsOf defineCauses recordCauses startCauses
+in-order callBoot t = refl
+in-order (callDefine l bs) t = refl
+in-order (callRecord l n c) t = refl
+in-order (callStart k l n m v) t = refl
+in-order callStep t = rw (frame-order (worldOf (view t)) (view t .objects) (running (view t .quote) (view t .report))) refl
+in-order (callRun n) t = refl
+in-order (callDrop k) t = refl

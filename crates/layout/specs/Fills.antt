@@ -1,0 +1,181 @@
+-- Rows that fill a table: as they were read, with others behind them, or replaced. Rows read off tables and put back change nothing. The classes'
+-- fields may be read off any base: the laws ask nothing of it.
+use mathlib.Core.Path.{_≡_, refl, sym, ap, _∙_}
+use mathlib.Core.List.{List, [], _∷_, _++_}
+use Prim.Native.Nat.{ℕ, _+_, _<_}
+use native.Mathlib.Omega.{arith}
+use lib.ListN.{length, getD, set, length-append, length-set}
+use Rattle.definition.specs.Lists.{rows, writeRows, stack, writeStack}
+use Rattle.definition.specs.Requests.{at}
+use Rattle.definition.specs.Classes.{Base}
+use Rattle.definition.specs.Constraints.{Tie, Subtype}
+use Rattle.definition.specs.Machine.{Value, Object, Frame}
+use Rattle.definition.specs.Tables.{Tables, tables, Rows, putClassRow, putEntry, putTie, putSubtype, usedFields, objectAt, putObject, putField, frameIn, putFrameIn, classRowsOf, keptOf, cacheOf, tiesOf, subtypesOf, viewBase, objectsOf, framesOf, viewOver, view, countsOf, put}
+use Rattle.layout.specs.Places.{rows-length, writeRows-same, stack-length, writeStack-same, written-set}
+use Rattle.layout.specs.Rows.{RowLaws, rows-kept, rows-more, row-more, class-rows, entry-rows, tie-rows, subtype-rows, cell-rows}
+use Rattle.layout.specs.ObjectRows.{withField, object-same, objects-field, objects-made}
+use Rattle.layout.specs.FrameRows.{frameIn-same}
+
+-- the count in cell i
+abbrev pub countAt : Tables → ℕ → ℕ
+countAt t i = getD (t .counts) i 0
+
+-- A list of rows, n of them, that leaves the table u when it is written into t
+
+pub record Fills {A : Type 0} (p : List ℕ → ℕ → A → List ℕ) (xs : List A) (t : List ℕ) (n : ℕ) (u : List ℕ) : Type 0 where
+  pub count : length xs ≡ n
+  pub cells : writeRows p xs 0 t ≡ u
+
+-- Both tasks' frames
+
+pub record FillsFrames (qs rs : List Frame) (t : List ℕ) (m n : ℕ) (u : List ℕ) : Type 0 where
+  pub quote : length qs ≡ m
+  pub report : length rs ≡ n
+  pub cells : writeStack (putFrameIn 1) rs (writeStack (putFrameIn 0) qs t) ≡ u
+
+-- the tables that rows leave, part by part, the counts last
+pub put-fills : (r : Rows) (t : Tables) {n0 n1 n2 n3 n4 n5 n6 n7 : ℕ} {n c k e i s o f : List ℕ}
+    → Fills putClassRow (r .classes) (t .classes) n0 c → Fills set (r .kept) (t .kept) n1 k → Fills putEntry (r .cache) (t .cache) n2 e
+    → Fills putTie (r .ties) (t .ties) n3 i → Fills putSubtype (r .subtypes) (t .subtypes) n4 s → Fills putObject (r .objects) (t .objects) n5 o
+    → FillsFrames (r .quote) (r .report) (t .frames) n6 n7 f
+    → Fills set (n0 ∷ n1 ∷ n2 ∷ n3 ∷ n4 ∷ n5 ∷ n6 ∷ n7 ∷ []) (t .counts) 8 n
+    → put r t ≡ tables n c k e i s o f
+unfolding put countsOf
+put-fills r t a b c d e f g n =
+    (λ j. record {
+      counts = writeRows set (a .count j ∷ b .count j ∷ c .count j ∷ d .count j ∷ e .count j ∷ f .count j ∷ g .quote j ∷ g .report j ∷ []) 0 (t .counts);
+      classes = a .cells j;
+      kept = b .cells j;
+      cache = c .cells j;
+      ties = d .cells j;
+      subtypes = e .cells j;
+      objects = f .cells j;
+      frames = g .cells j;
+    })
+    ∙ rw (n .cells)
+
+-- Rows as they were read, and with others behind them
+
+module _ {A : Type 0} {at : List ℕ → ℕ → A} {p : List ℕ → ℕ → A → List ℕ} {w : ℕ} (laws : RowLaws at p w) (t : List ℕ) (n : ℕ) where
+  pub fill-kept : Fills p (rows (at t) n 0) t n t
+  fill-kept = record { count = rows-length (at t) n 0; cells = rows-kept laws t n }
+
+  pub fill-more : (xs : List A) → Fills p (rows (at t) n 0 ++ xs) t (n + length xs) (writeRows p xs n t)
+  fill-more xs = record { count = length-append (rows (at t) n 0) xs ∙ rw (rows-length (at t) n 0); cells = rows-more laws t n xs }
+
+  pub fill-last : (x : A) → Fills p (rows (at t) n 0 ++ (x ∷ [])) t (n + 1) (p t n x)
+  fill-last x = record { count = length-append (rows (at t) n 0) (x ∷ []) ∙ rw (rows-length (at t) n 0); cells = row-more laws t n x }
+
+-- one of the eight counts set
+pub count-set : {xs c d : List ℕ} (j x : ℕ) → j < 8 → Fills set xs c 8 d → Fills set (set xs j x) c 8 (set d j x)
+count-set {xs} {c} {d} j x l h =
+    let e : 0 + j ≡ j = omega arith in
+    record {
+      count = length-set xs j x ∙ h .count;
+      cells = (rw e at (written-set xs 0 j x c (omega (arith, h .count)))) ∙ ap (λ (z : List ℕ). set z j x) (h .cells);
+    }
+
+module _ (t : Tables) where
+  abbrev pub countsOn : List ℕ
+  countsOn = countAt t 0 ∷ countAt t 1 ∷ countAt t 2 ∷ countAt t 3 ∷ countAt t 4 ∷ countAt t 5 ∷ countAt t 6 ∷ countAt t 7 ∷ []
+
+  pub counts-fill : Fills set countsOn (t .counts) 8 (t .counts)
+  unfolding rows
+  counts-fill = fill-kept cell-rows (t .counts) 8
+
+  pub classes-fill : Fills putClassRow (classRowsOf t) (t .classes) (countAt t 0) (t .classes)
+  classes-fill = fill-kept class-rows (t .classes) (countAt t 0)
+
+  pub kept-fill : Fills set (keptOf t) (t .kept) (countAt t 1) (t .kept)
+  kept-fill = fill-kept cell-rows (t .kept) (countAt t 1)
+
+  pub cache-fill : Fills putEntry (cacheOf t) (t .cache) (countAt t 2) (t .cache)
+  cache-fill = fill-kept entry-rows (t .cache) (countAt t 2)
+
+  pub ties-fill : Fills putTie (tiesOf t) (t .ties) (countAt t 3) (t .ties)
+  ties-fill = fill-kept tie-rows (t .ties) (countAt t 3)
+
+  pub ties-more : (us : List Tie) → Fills putTie (tiesOf t ++ us) (t .ties) (countAt t 3 + length us) (writeRows putTie us (countAt t 3) (t .ties))
+  ties-more us = fill-more tie-rows (t .ties) (countAt t 3) us
+
+  pub subtypes-fill : Fills putSubtype (subtypesOf t) (t .subtypes) (countAt t 4) (t .subtypes)
+  subtypes-fill = fill-kept subtype-rows (t .subtypes) (countAt t 4)
+
+  pub subtypes-more : (ss : List Subtype)
+      → Fills putSubtype (subtypesOf t ++ ss) (t .subtypes) (countAt t 4 + length ss) (writeRows putSubtype ss (countAt t 4) (t .subtypes))
+  subtypes-more ss = fill-more subtype-rows (t .subtypes) (countAt t 4) ss
+
+  -- objects, where b gives the classes' fields: as they are, one made, a field of one set
+  module _ (b : Base) where
+    pub objects-fill : Fills putObject (objectsOf b t) (t .objects) (countAt t 5) (t .objects)
+    unfolding objectsOf
+    objects-fill = record {
+      count = rows-length (objectAt b (t .objects)) (countAt t 5) 0;
+      cells = writeRows-same putObject (objectAt b (t .objects)) (t .objects) (object-same b (t .objects)) (countAt t 5) 0;
+    }
+
+    pub object-made : (x : Object) → Fills putObject (objectsOf b t ++ (x ∷ [])) (t .objects) (countAt t 5 + 1) (putObject (t .objects) (countAt t 5) x)
+    unfolding objectsOf
+    object-made x = record {
+      count = length-append (objectsOf b t) (x ∷ []) ∙ rw (rows-length (objectAt b (t .objects)) (countAt t 5) 0);
+      cells = objects-made b (t .objects) (countAt t 5) x;
+    }
+
+    pub object-set : (o j : ℕ) (v : Value) → o < countAt t 5 → j < usedFields b (objectAt b (t .objects) o .class)
+        → Fills putObject (set (objectsOf b t) o (withField (objectAt b (t .objects) o) j v)) (t .objects) (countAt t 5) (putField o (t .objects) j v)
+    unfolding objectsOf
+    object-set o j v l h = record {
+      count = length-set (objectsOf b t) o (withField (objectAt b (t .objects) o) j v) ∙ rows-length (objectAt b (t .objects)) (countAt t 5) 0;
+      cells = objects-field b (t .objects) (countAt t 5) o j v l h;
+    }
+
+  -- frames as they are
+  pub frames-fill : FillsFrames (framesOf t 0) (framesOf t 1) (t .frames) (countAt t 6) (countAt t 7) (t .frames)
+  unfolding framesOf
+  frames-fill = record {
+    quote = stack-length (frameIn (t .frames) 0) (countAt t 6);
+    report = stack-length (frameIn (t .frames) 1) (countAt t 7);
+    cells =
+        ap (writeStack (putFrameIn 1) (framesOf t 1)) (writeStack-same (putFrameIn 0) (frameIn (t .frames) 0) (t .frames) (frameIn-same (t .frames) 0) (countAt t 6))
+        ∙ writeStack-same (putFrameIn 1) (frameIn (t .frames) 1) (t .frames) (frameIn-same (t .frames) 1) (countAt t 7);
+  }
+
+-- What was read and is put back changes nothing
+
+pub put-over : (b : Base) (t : Tables) → put (viewOver b t) t ≡ t
+unfolding viewOver
+put-over b t =
+    put-fills (viewOver b t) t (classes-fill t) (kept-fill t) (cache-fill t) (ties-fill t) (subtypes-fill t) (objects-fill t b) (frames-fill t) (counts-fill t)
+
+pub put-view : (t : Tables) → put (view t) t ≡ t
+unfolding view
+put-view t = put-over (viewBase t) t
+
+-- The frames of task k replaced, n of them, that leave u where they are written. The report's rows lie behind the quote's: frames put for the quote must
+-- not reach them.
+
+pub record FillsTask (k : ℕ) (fs : List Frame) (t : Tables) (n : ℕ) (u : List ℕ) : Type 0 where
+  pub count : length fs ≡ n
+  pub cells : writeStack (putFrameIn k) fs (t .frames) ≡ u
+  pub apart : k ≡ 0 → stack (frameIn u 1) (countAt t 7) ≡ stack (frameIn (t .frames) 1) (countAt t 7)
+
+module _ (t : Tables) (fs : List Frame) (n : ℕ) (u : List ℕ) where
+  pub quote-fill : FillsTask 0 fs t n u → FillsFrames fs (framesOf t 1) (t .frames) n (countAt t 7) u
+  unfolding framesOf
+  quote-fill h = record {
+    quote = h .count;
+    report = stack-length (frameIn (t .frames) 1) (countAt t 7);
+    cells =
+        (λ i. writeStack (putFrameIn 1) (sym (h .apart refl) i) (h .cells i))
+        ∙ writeStack-same (putFrameIn 1) (frameIn u 1) u (frameIn-same u 1) (countAt t 7);
+  }
+
+  pub report-fill : FillsTask 1 fs t n u → FillsFrames (framesOf t 0) fs (t .frames) (countAt t 6) n u
+  unfolding framesOf
+  report-fill h = record {
+    quote = stack-length (frameIn (t .frames) 0) (countAt t 6);
+    report = h .count;
+    cells =
+        ap (writeStack (putFrameIn 1) fs) (writeStack-same (putFrameIn 0) (frameIn (t .frames) 0) (t .frames) (frameIn-same (t .frames) 0) (countAt t 6))
+        ∙ h .cells;
+  }

@@ -1,0 +1,135 @@
+-- What a step finds on the operands and behind a receiver, where values conform to their types.
+use mathlib.Core.Path.{_≡_, refl, sym, ap}
+use mathlib.Core.Bool.{Bool, true, false}
+use mathlib.Core.Option.{Option, some, Option·none-ne-some, Option·some-injective}
+use mathlib.Core.List.{List, [], _∷_, _++_, append-assoc, Memᴰ·append-left}
+use mathlib.Core.Logic.{_≢_}
+use Prim.Native.Nat.{ℕ, _+_, _-_}
+use native.Mathlib.Omega.{arith}
+use lib.ListN.{getElem?}
+use lib.Dec.{eqb}
+use Rattle.definition.specs.Answers.{Result, _>>=_, ok, take?}
+use Rattle.definition.specs.Classes.{find, hasField, loaderOf, slots, superOf}
+use Rattle.definition.specs.Constraints.{Agrees, Tie, World, newTie, post, posted, tieEdges}
+use Rattle.definition.specs.Machine.{Object, Value, int!, intValue, kind!, nullValue, object!, objectValue, pop!, reference!, room!, unsetValue, unlistedValue, existing}
+use Rattle.definition.specs.Requests.{Chain, at}
+use Rattle.definition.specs.Superclasses.{Below}
+use Rattle.definition.specs.Verifier.{Flow, Note, VerifierType, asReference, flow, meetInt, pop, typeClass, typeInt, typeNull, typeOfName}
+use Rattle.laws.specs.Agreement.{super-falls}
+use Rattle.laws.specs.Chains.{chain-more}
+use Rattle.laws.specs.Options.{bind-some, each-at}
+use Rattle.laws.specs.Results.{Wp, not-word, wp-need, wp-sure, wp-there}
+use Rattle.laws.specs.Upward.{true-below}
+use Rattle.safety.specs.Conform.{fits-below}
+use Rattle.safety.specs.Places.{agrees-after, of-int, tie-there}
+use Rattle.safety.specs.Valid.{Conforms, ObjectSound}
+use Rattle.definition.specs.Maybe as Maybe
+use Rattle.laws.specs.Growth.{tie-edges-more}
+use Rattle.definition.specs.Lists.{Each}
+use Rattle.laws.specs.Members.{FieldPlace, field-place}
+
+-- Operands against their types
+
+abbrev pub Popped : Type 0
+Popped = record { top : Value; more : List Value }
+
+pub each-pop : (R : VerifierType → Value → Type 0) (ts : List VerifierType) (vs : List Value) (t : VerifierType) (us : List VerifierType) → pop ts ≡ some (record { top = t; more = us }) → Each R ts vs
+    → (q : Popped) × (pop! vs ≡ ok q) × R t (q .top) × Each R us (q .more)
+unfolding pop pop! take?
+each-pop R [] vs t us e h = absurd (Option·none-ne-some _ e)
+each-pop R (x ∷ xs) [] t us e h = absurd h
+each-pop R (x ∷ xs) (v ∷ vs) t us e h =
+    let z = Option·some-injective _ _ e in
+    (record { top = v; more = vs }, refl, rw (ap (λ (p : record { top : VerifierType; more : List VerifierType }). p .top) z) at (h .0), rw (ap (λ (p : record { top : VerifierType; more : List VerifierType }). p .more) z) at (h .1))
+
+pub int-of : (w : World) (os : List Object) (l : ℕ) (t : VerifierType) (v : Value) {ns : List Note} → meetInt t ≡ some ns → Conforms w os l t v → (n : ℕ) × (int! v ≡ ok n) × Conforms w os l typeInt v
+unfolding meetInt int!
+int-of w os l typeInt unsetValue e h = absurd h
+int-of w os l typeInt (unlistedValue α β) e h = absurd h
+int-of w os l typeInt (intValue n) e h = (n, refl, tt)
+int-of w os l typeInt nullValue e h = absurd h
+int-of w os l typeInt (objectValue o) e h = absurd h
+int-of w os l typeNull v {ns} e h = absurd (Option·none-ne-some ns e)
+int-of w os l (typeClass a) v {ns} e h = absurd (Option·none-ne-some ns e)
+
+pub ref-of : (w : World) (os : List Object) (l : ℕ) (t : VerifierType) (v : Value) {u : VerifierType} → asReference t ≡ some u → Conforms w os l t v → reference! v ≡ ok v
+unfolding asReference reference!
+ref-of w os l typeInt v {u} e h = absurd (Option·none-ne-some u e)
+ref-of w os l typeNull unsetValue e h = absurd h
+ref-of w os l typeNull (unlistedValue α β) e h = absurd h
+ref-of w os l typeNull (intValue n) e h = absurd h
+ref-of w os l typeNull nullValue e h = refl
+ref-of w os l typeNull (objectValue o) e h = refl
+ref-of w os l (typeClass a) unsetValue e h = absurd h
+ref-of w os l (typeClass a) (unlistedValue α β) e h = absurd h
+ref-of w os l (typeClass a) (intValue n) e h = absurd h
+ref-of w os l (typeClass a) nullValue e h = refl
+ref-of w os l (typeClass a) (objectValue o) e h = refl
+
+pub flow-is : (o : List VerifierType) (l : List (Option VerifierType)) (n : List Note) (fl : Flow) → flow o l n ≡ some fl → _≡_ {A = Flow} (record { types = record { operands = o; locals = l }; notes = n }) fl
+flow-is o l n fl h = Option·some-injective _ _ (bind-some _ _ h .2)
+
+pub as-int : (w : World) (os : List Object) (l r : ℕ) (v : Value) → r ≡ 1 → Conforms w os l typeInt v → Conforms w os l (typeOfName r) v
+as-int w os l r v e h = rw (e, of-int) h
+
+pub kind-of : (w : World) (os : List Object) (l t : ℕ) (v : Value) → Conforms w os l (typeOfName t) v → kind! t v ≡ ok tt
+unfolding kind! typeOfName int! reference! _>>=_
+kind-of w os l t v h = go (eqb t 1) v h
+  where
+    go : (z : Bool) (v : Value) → Conforms w os l (elim z as (λ _. VerifierType) [ true ↦ typeInt | false ↦ typeClass t ]) v → (elim z as (λ _. Result (Unit {0})) [ true ↦ int! v >>= λ _. ok tt | false ↦ reference! v >>= λ _. ok tt ]) ≡ ok tt
+    go true unsetValue h = absurd h
+    go true (unlistedValue α β) h = absurd h
+    go true (intValue n) h = refl
+    go true nullValue h = absurd h
+    go true (objectValue o) h = absurd h
+    go false unsetValue h = absurd h
+    go false (unlistedValue α β) h = absurd h
+    go false (intValue n) h = absurd h
+    go false nullValue h = refl
+    go false (objectValue o) h = refl
+
+pub wp-room : {B : Type 0} (Q : B → Type 0) (vs : List Value) (f : Unit {0} → Result B) → Wp (f tt) Q → Wp (room! vs >>= f) Q
+unfolding room!
+wp-room Q vs f h = wp-need Q _ _ _ (not-word 10 (omega arith)) (λ _. h)
+
+-- Posting ties
+
+pub wp-post : (w : World) (room : Bool) (us : List Tie) (Q : World → Type 0) → Agrees w → (Agrees (posted w us) → Q (posted w us)) → Wp (post w room us) Q
+unfolding post
+wp-post w room us Q g h = wp-need Q _ _ _ (not-word 10 (omega arith)) (λ _. wp-need Q _ _ _ (not-word 9 (omega arith)) (λ e. h (agrees-after w us g e)))
+
+-- the object behind a receiver
+pub wp-object : (w : World) (os : List Object) (l c e : ℕ) (v : Value) (Q : record { number : ℕ; object : Object } → Type 0) → Agrees w → find (w .base .cache) (at l c) ≡ some e → Conforms w os l (typeClass c) v
+    → ((o : ℕ) (b : Object) → getElem? os o ≡ some b → Below (superOf (w .base)) e (b .class) → v ≡ objectValue o → Q (record { number = o; object = b })) → Wp (object! (w .base) os e v) Q
+unfolding object! existing
+wp-object w os l c e unsetValue Q g f h q = absurd h
+wp-object w os l c e (unlistedValue α β) Q g f h q = absurd h
+wp-object w os l c e (intValue n) Q g f h q = absurd h
+wp-object w os l c e nullValue Q g f h q = not-word 11 (omega arith)
+wp-object w os l c e (objectValue o) Q g f h q =
+    let b = fits-below g (h .fits) f in
+    wp-there Q _ _ _ (h .there) (wp-sure Q _ _ _ (true-below (superOf (w .base)) (super-falls (w .base)) (h .object .class) e b) (q o (h .object) (h .there) b refl))
+
+-- the field that class d declares, in an object of a class below d
+pub record FieldAt (w : World) (os : List Object) (b : Object) (d n t : ℕ) : Type 0 where
+  pub field : FieldPlace (w .base) (b .class) d n t
+  pub value : Value
+  pub there : getElem? (b .values) (field .place) ≡ some value
+  pub conforms : Conforms w os (loaderOf (w .base) d) (typeOfName t) value
+
+pub field-at : (w : World) (os : List Object) (b : Object) (d n t : ℕ) → hasField (w .base) n t d ≡ true → Below (superOf (w .base)) d (b .class) → ObjectSound w os b → FieldAt w os b d n t
+field-at w os b d n t h bl ob =
+    let p = field-place (w .base) (b .class) d n t h bl in
+    let x = each-at (λ s v. Conforms w os (loaderOf (w .base) (s .owner)) (typeOfName (s .type)) v) (slots (w .base) (b .class)) (b .values) (ob .filled) (p .place) (p .slot) (p .isSlot) in
+    record { field = p; value = x .0; there = x .1; conforms = rw (p .owner, p .type) at (x .2) }
+
+-- the two ties of a call
+abbrev pub ties2 : List Tie → ℕ → ℕ → ℕ → ℕ → List Tie
+ties2 ts l m a r = newTie ts l m a ++ newTie (ts ++ newTie ts l m a) l m r
+
+pub call-arg : (ts : List Tie) (l m a r : ℕ) → a ≢ 1 → Chain (tieEdges (ts ++ ties2 ts l m a r)) (at l a) (at m a)
+call-arg ts l m a r h = rw (sym (append-assoc ts (newTie ts l m a) (newTie (ts ++ newTie ts l m a) l m r)), tie-edges-more (ts ++ newTie ts l m a) (newTie (ts ++ newTie ts l m a) l m r))
+    (chain-more (λ e i. Memᴰ·append-left (tieEdges (newTie (ts ++ newTie ts l m a) l m r)) i) (tie-there ts l m a h))
+
+pub call-res : (ts : List Tie) (l m a r : ℕ) → r ≢ 1 → Chain (tieEdges (ts ++ ties2 ts l m a r)) (at l r) (at m r)
+call-res ts l m a r h = rw (sym (append-assoc ts (newTie ts l m a) (newTie (ts ++ newTie ts l m a) l m r))) (tie-there (ts ++ newTie ts l m a) l m r h)

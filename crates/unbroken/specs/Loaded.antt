@@ -1,0 +1,73 @@
+-- What an accepted load leaves: the class that a define answers is the next unused, of its file and its loader, and cached under its own request; a record
+-- leaves the request cached as the class recorded.
+use mathlib.Core.Path.{_≡_, sym, _∙_, subst}
+use mathlib.Core.Option.{some}
+use mathlib.Core.List.{List}
+use mathlib.Core.Logic.{_⊎_, inl, inr}
+use Prim.Native.Nat.{ℕ}
+use native.Mathlib.Omega.{arith}
+use lib.ListN.{length, getElem?, length-map}
+use borrow.Author.Tests.{ltb-true}
+use Rattle.definition.specs.declared.Reply.{Reply}
+use Rattle.definition.specs.declared.Reply.the-variants.{Accepted, Defined, Denied}
+use Rattle.definition.specs.Requests.{at}
+use Rattle.definition.specs.Classes.{find}
+use Rattle.definition.specs.Constraints.{World}
+use Rattle.definition.specs.File.{File, readFile, classOf}
+use Rattle.definition.specs.Tables.{Tables, Rows, worldOf, view, classAt}
+use Rattle.definition.specs.Calls.{Given, addFile, defineRows, recordRows, callDefine, callRecord, perform}
+use Rattle.laws.specs.Options.{nth-last}
+use Rattle.laws.specs.Results.{need-ok, take-ok}
+use Rattle.laws.specs.Stable.{find-last}
+use Rattle.laws.specs.Wrapped.{Ok, ok-at, then}
+use Rattle.layout.specs.Whole.{Whole}
+use Rattle.unbroken.specs.Accepted.{Entered, Stood, recorded-is, defined-is}
+use Rattle.unbroken.specs.Calls.{world-defined, define-whole, record-whole}
+use Rattle.unbroken.specs.Unbroken.{shown}
+
+-- class c was defined by loader l from the bytes; before it there were the classes of r, after it those of s
+pub record DefinedAs (l : ℕ) (bs : List ℕ) (c : ℕ) (r s : Rows) : Type 0 where
+  pub file : File
+  pub reads : readFile bs ≡ some file
+  pub next : c ≡ length (r .classes)
+  pub isClass : getElem? (worldOf s .base .classes) c ≡ some (classOf l file)
+  pub cached : find (s .cache) (at l (file .name)) ≡ some c
+
+define-as : (l : ℕ) (bs : List ℕ) (r : Rows) → Whole r → Ok (defineRows l bs r) (λ g. (c : ℕ) → g .answer ≡ Defined c → DefinedAs l bs c r (g .rows))
+unfolding defineRows
+define-as l bs r w = then Q _ _ (λ _ a. then Q _ _ (λ f rf. then Q _ _ (λ v e c q.
+    let d = defined-is _ _ (worldOf r) v e in
+    let n : c ≡ length (r .classes) = cc in
+    let m : length (worldOf r .base .classes) ≡ c = length-map (r .classes) (classAt (r .kept)) ∙ sym n in
+    let is : v ≡ worldOf (addFile l bs r v) = sym (world-defined r w l bs f v (ltb-true l 16 (need-ok _ _ a)) (take-ok _ _ rf) e) in
+    record {
+      file = f;
+      reads = take-ok _ _ rf;
+      next = n;
+      isClass = subst (λ (z : World). getElem? (z .base .classes) c ≡ some (classOf l f)) (d .is ∙ is) (rw (sym m) (nth-last (worldOf r .base .classes) (classOf l f)));
+      cached = subst (λ (z : World). find (z .base .cache) (at l (f .name)) ≡ some c) (d .is)
+          (rw (sym m) (find-last (r .cache) (record { request = at l (f .name); class = length (worldOf r .base .classes) }) (d .fresh)));
+    })))
+  where
+    Q : Given Reply → Type 0
+    Q g = (c : ℕ) → g .answer ≡ Defined c → DefinedAs l bs c r (g .rows)
+
+pub define-answers : (l : ℕ) (bs : List ℕ) (t : Tables) (c : ℕ) → perform (callDefine l bs) t .answer ≡ Defined c → DefinedAs l bs c (view t) (view (perform (callDefine l bs) t .tables))
+unfolding perform
+define-answers l bs t c = shown Denied (defineRows l bs) (λ a s. a ≡ Defined c → DefinedAs l bs c (view t) s) t (λ r w. define-whole r w l bs)
+    (λ w e. let z : _≡_ {A = ℕ} 0 1 = cc in absurd (omega arith))
+    (λ w g e. ok-at (λ (g : Given Reply). (c : ℕ) → g .answer ≡ Defined c → DefinedAs l bs c (view t) (g .rows)) _ (define-as l bs (view t) w) g e c)
+
+record-as : (l n c : ℕ) (r : Rows) → Ok (recordRows l n c r) (λ g. find (g .rows .cache) (at l n) ≡ some c)
+unfolding recordRows
+record-as l n c r = then (λ (g : Given Reply). find (g .rows .cache) (at l n) ≡ some c) _ _ (λ v e. go v (recorded-is l n c (worldOf r) v e))
+  where
+    go : (v : World) → Stood l n c (worldOf r) v ⊎ Entered l n c (worldOf r) v → find (v .base .cache) (at l n) ≡ some c
+    go v (inl x) = subst (λ (z : World). find (z .base .cache) (at l n) ≡ some c) (x .is) (x .cached)
+    go v (inr x) = subst (λ (z : World). find (z .base .cache) (at l n) ≡ some c) (x .is) (find-last (r .cache) (record { request = at l n; class = c }) (x .fresh))
+
+pub record-answers : (l n c : ℕ) (t : Tables) → perform (callRecord l n c) t .answer ≡ Accepted → find (view (perform (callRecord l n c) t .tables) .cache) (at l n) ≡ some c
+unfolding perform
+record-answers l n c t = shown Denied (recordRows l n c) (λ a s. a ≡ Accepted → find (s .cache) (at l n) ≡ some c) t (λ r w. record-whole r w l n c)
+    (λ w e. let z : _≡_ {A = ℕ} 0 1 = cc in absurd (omega arith))
+    (λ w g e _. ok-at (λ (g : Given Reply). find (g .rows .cache) (at l n) ≡ some c) _ (record-as l n c (view t)) g e)

@@ -1,0 +1,127 @@
+-- A define, a record, a start and a drop refuse with the first cause that applies.
+use mathlib.Core.Path.{_≡_, refl, sym, _∙_}
+use mathlib.Core.Bool.{Bool, true, false, not, _&&_, _||_}
+use mathlib.Core.Option.{Option, none, some}
+use mathlib.Core.List.{List, [], _∷_}
+use Prim.Native.Nat.{ℕ, _+_}
+use lib.ListN.{length, getElem?}
+use lib.Dec.{eqb, leb, ltb}
+use Rattle.definition.specs.declared.Refusal.{Refusal}
+use Rattle.definition.specs.declared.Refusal.the-variants.{Word}
+use Rattle.definition.specs.Requests.{at}
+use Rattle.definition.specs.Superclasses.{nearest}
+use Rattle.definition.specs.Answers.{number, wanted, Result, refused, ok, _>>=_, need, take?}
+use Rattle.definition.specs.Classes.{find, superOf, alike, hasMethod, methodsOf}
+use Rattle.definition.specs.Constraints.{World, agrees}
+use Rattle.definition.specs.Lists.{any, indexOf, isNone}
+use Rattle.definition.specs.Loading.{hides, withEntry, define, recorded, started}
+use Rattle.definition.specs.Verifier.{notesOf}
+use Rattle.definition.specs.File.{File, readFile, classOf}
+use Rattle.definition.specs.Tables.{Rows, worldOf}
+use Rattle.definition.specs.Calls.{framesIn, defineRows, recordRows, startRows, dropRows}
+use Rattle.definition.specs.Maybe as Maybe
+use Rattle.laws.specs.Agreement.{super-falls}
+use Rattle.laws.specs.Members.{method-at}
+use Rattle.laws.specs.Upward.{nearest-below}
+use Rattle.laws.specs.Causes.{Cause, cause, first, isSomeAnd, definePasses, defineClashes, defineCauses, recordCauses, startCauses}
+
+-- the number of a result
+unfoldable pub numberIn : {A : Type 0} → Result A → ℕ
+numberIn (refused w) = number w
+numberIn (ok a) = 0
+
+-- One test after another
+
+module _ {B : Type 0} (cs : List Cause) where
+  pub first-need : (t : Bool) (w : Refusal) (f : Unit {0} → Result B) → (t ≡ true → numberIn (f tt) ≡ first cs) → numberIn (need t w >>= f) ≡ first (cause (number w) (not t) ∷ cs)
+  unfolding numberIn first need _>>=_
+  first-need true w f h = h refl
+  first-need false w f h = refl
+
+  first-unless : (t : Bool) (w : Refusal) (f : Unit {0} → Result B) → numberIn (f tt) ≡ first cs → numberIn (need (not t) w >>= f) ≡ first (cause (number w) t ∷ cs)
+  unfolding numberIn first need _>>=_
+  first-unless true w f h = refl
+  first-unless false w f h = h
+
+  pub first-take : {A : Type 0} (o : Option A) (w : Refusal) (f : A → Result B) → ((a : A) → o ≡ some a → numberIn (f a) ≡ first cs) → numberIn (take? o w >>= f) ≡ first (cause (number w) (isNone o) ∷ cs)
+  unfolding numberIn first take? _>>=_ isNone
+  first-take none w f h = refl
+  first-take (some a) w f h = h a refl
+
+pub first-skip : (n : ℕ) (cs : List Cause) → first (cause n false ∷ cs) ≡ first cs
+unfolding first
+first-skip n cs = refl
+
+pub first-or : (n : ℕ) (a b : Bool) (cs : List Cause) → first (cause n (a || b) ∷ cs) ≡ first (cause n a ∷ cause n b ∷ cs)
+unfolding first
+first-or n true b cs = refl
+first-or n false b cs = refl
+
+-- what is always given back changes no number
+pub number-on : {A B : Type 0} (o : Result A) (f : A → B) → numberIn (o >>= λ a. ok (f a)) ≡ numberIn o
+unfolding numberIn _>>=_
+number-on (refused w) f = refl
+number-on (ok a) f = refl
+
+pub number-ok : {A : Type 0} (a : A) → numberIn (ok a) ≡ first []
+unfolding numberIn first
+number-ok a = refl
+
+-- what is there is taken
+pub number-there : {A B : Type 0} (cs : List Cause) (o : Option A) (w : Refusal) (f : A → Result B) {a : A} → o ≡ some a → numberIn (f a) ≡ first cs → numberIn (take? o w >>= f) ≡ first cs
+unfolding take? _>>=_
+number-there cs o w f e h = rw e h
+
+-- Loading and starting
+
+module _ (r : Rows) where
+  abbrev W : World
+  W = worldOf r
+
+  define-class : (l : ℕ) (bs : List ℕ) (f : File) → numberIn (define (leb (length (r .kept) + length bs) 16384) (classOf l f) W)
+      ≡ first (cause 6 (isNone (notesOf (classOf l f) (f .methods)))
+      ∷ cause 4 (not (isNone (find (r .cache) (at l (f .name)))))
+      ∷ cause 5 (isNone (find (r .cache) (at l (f .super))))
+      ∷ cause 8 (isSomeAnd (find (r .cache) (at l (f .super))) (λ p. any (hides (W .base) p) (f .fields)))
+      ∷ cause 10 (isSomeAnd (find (r .cache) (at l (f .super))) (λ p. isSomeAnd (notesOf (classOf l f) (f .methods)) (definePasses r l f bs p)))
+      ∷ cause 9 (isSomeAnd (find (r .cache) (at l (f .super))) (λ p. isSomeAnd (notesOf (classOf l f) (f .methods)) (defineClashes r l f p)))
+      ∷ [])
+  unfolding define definePasses defineClashes number
+  define-class l bs f =
+      first-take _ (notesOf (classOf l f) (f .methods)) (Word 6) _ (λ ns e. first-need _ (isNone (find (r .cache) (at l (f .name)))) (Word 4) _ (λ _.
+      first-take _ (find (r .cache) (at l (f .super))) (wanted (at l (f .super))) _ (λ p q. rw (q, e) (first-unless _ (any (hides (W .base) p) (f .fields)) (Word 8) _
+      (first-need _ _ (Word 10) _ (λ _. first-need [] _ (Word 9) _ (λ _. number-ok _)))))))
+
+  pub define-first : (l : ℕ) (bs : List ℕ) → numberIn (defineRows l bs r) ≡ first (defineCauses l bs r)
+  unfolding defineRows defineCauses number Maybe._>>=_
+  define-first l bs = first-need _ (ltb l 16) (Word 3) _ (λ _. first-take _ (readFile bs) (Word 2) _ (λ f e. rw e (number-on (define _ (classOf l f) W) _ ∙ define-class l bs f)))
+
+  entry-first : (l n c : ℕ) (o : Option ℕ) → numberIn {A = World} (elim o as (λ _. Result World) [
+    | some d ↦ need (eqb d c) (Word 4) >>= λ _. ok W
+    | none ↦ need (ltb (length (r .cache)) 256) (Word 10) >>= λ _. need (agrees (withEntry W (at l n) c)) (Word 9) >>= λ _. ok (withEntry W (at l n) c)
+  ]) ≡ first (cause 4 (isSomeAnd o (λ d. not (eqb d c))) ∷ cause 10 (isNone o && not (ltb (length (r .cache)) 256)) ∷ cause 9 (isNone o && not (agrees (withEntry W (at l n) c))) ∷ [])
+  unfolding isNone number
+  entry-first l n c none = first-need _ _ (Word 10) _ (λ _. first-need [] _ (Word 9) _ (λ _. number-ok _)) ∙ sym (first-skip 4 _)
+  entry-first l n c (some d) = first-need _ (eqb d c) (Word 4) _ (λ _. number-ok W ∙ sym (first-skip 10 _ ∙ first-skip 9 _))
+
+  pub record-first : (l n c : ℕ) → numberIn (recordRows l n c r) ≡ first (recordCauses l n c r)
+  unfolding recordRows recordCauses recorded number
+  record-first l n c = number-on (recorded l n c W) _ ∙ first-need _ (ltb l 16 && leb 2 n) (Word 3) _ (λ _. first-take _ (getElem? (W .base .classes) c) (Word 3) _ (λ k e. rw e
+      (first-need _ (eqb (k .name) n) (Word 13) _ (λ _. entry-first l n c (find (r .cache) (at l n)))))) ∙ sym (first-or 3 _ _ _)
+
+  started-first : (k l n m v : ℕ) → numberIn (started l n m v W (r .objects) (framesIn k r)) ≡ first (cause 3 (not (ltb l 16 && leb 2 n && leb 1 m)) ∷ cause 12 (not (leb (length (framesIn k r)) 0))
+      ∷ cause 5 (isNone (find (r .cache) (at l n))) ∷ cause 7 (isSomeAnd (find (r .cache) (at l n)) (λ c. isNone (nearest (superOf (W .base)) (hasMethod (W .base) m 1 1) c)))
+      ∷ cause 10 (not (ltb (length (r .objects)) 256)) ∷ [])
+  unfolding started number
+  started-first k l n m v = first-need _ (ltb l 16 && leb 2 n && leb 1 m) (Word 3) _ (λ _. first-need _ _ (Word 12) _ (λ _. first-take _ (find (r .cache) (at l n)) (wanted (at l n)) _ (λ c q. rw q
+      (first-take _ (nearest (superOf (W .base)) (hasMethod (W .base) m 1 1) c) (Word 7) _ (λ s e.
+      let a = method-at (W .base) s m 1 1 (nearest-below (superOf (W .base)) (super-falls (W .base)) (hasMethod (W .base) m 1 1) c s e .1) in
+      number-there _ (indexOf (alike m 1 1) (methodsOf (W .base) s)) (Word 7) _ (a .index) (first-need [] _ (Word 10) _ (λ _. number-ok _)))))))
+
+  pub start-first : (k l n m v : ℕ) → numberIn (startRows k l n m v r) ≡ first (startCauses k l n m r)
+  unfolding startRows startCauses number
+  start-first k l n m v = first-need _ (ltb k 2) (Word 3) _ (λ _. number-on (started l n m v W (r .objects) (framesIn k r)) _ ∙ started-first k l n m v) ∙ sym (first-or 3 _ _ _)
+
+  pub drop-first : (k : ℕ) → numberIn (dropRows k r) ≡ first (cause 3 (not (ltb k 2)) ∷ [])
+  unfolding dropRows number
+  drop-first k = first-need [] (ltb k 2) (Word 3) _ (λ _. number-ok _)

@@ -1,0 +1,290 @@
+-- A step refuses with the first cause that applies.
+use mathlib.Core.Path.{_≡_, refl, sym, ap, _∙_}
+use mathlib.Core.Bool.{Bool, true, false, false≢true, not, _&&_}
+use mathlib.Core.Option.{Option, none, some}
+use mathlib.Core.List.{List, [], _∷_, _++_}
+use Prim.Native.Nat.{ℕ}
+use native.Mathlib.Omega.{arith}
+use lib.ListN.{length, getElem?, set}
+use lib.Dec.{eqb, leb, ltb}
+use Rattle.definition.specs.declared.Refusal.the-variants.{Word}
+use Rattle.definition.specs.declared.Instruction.{Instruction}
+use Rattle.definition.specs.declared.Instruction.the-variants.{AconstNull, Sipush, Iload, Aload, Istore, Astore, Pop, Dup, Iadd, Isub, Getfield, Putfield, Invokevirtual, New, Ireturn, Areturn}
+use Rattle.definition.specs.Requests.{Request, at}
+use Rattle.definition.specs.Superclasses.{Below, below, nearest}
+use Rattle.definition.specs.Answers.{number, wanted, Result, ok, _>>=_, need, take?}
+use Rattle.definition.specs.Classes.{Class, find, superOf, slots, slotIs, hasField, alike, methodsOf, hasMethod}
+use Rattle.definition.specs.Constraints.{Tie, World, posted, agreesAfter, post}
+use Rattle.definition.specs.Instructions.{Decoded}
+use Rattle.definition.specs.Lists.{indexOf, isSome, isNone}
+use Rattle.definition.specs.Machine.{Value, unsetValue, intValue, nullValue, objectValue, unlistedValue, Object, Frame, Progress, Now, existing, pop!, int!, reference!, kind!, room!, object!, past, entryFrame, now, under!, give, execute, step}
+use Rattle.definition.specs.Verifier.{pop}
+use Rattle.definition.specs.Maybe as Maybe
+use Rattle.laws.specs.Agreement.{super-falls}
+use Rattle.laws.specs.Growth.{nth-lt}
+use Rattle.laws.specs.Members.{FieldPlace, field-place, method-at}
+use Rattle.laws.specs.Upward.{nearest-below, below-true, below-trans}
+use Rattle.laws.specs.Causes.{Cause, cause, first, isSomeAnd, anInt, aNull, aReference, ofKind, isEmpty, noRoom, noRoomBelow, receives, selects, fieldTies, methodTies, plainly, accessing, reading, readCauses, frameCauses, instructionCauses}
+use Rattle.layout.specs.Whole.{ObjectSound}
+use Rattle.unbroken.specs.Steps.{Ready, all-nth}
+use Rattle.unbroken.specs.Calls.{nth-there}
+use Rattle.unbroken.specs.Refusing.{numberIn, first-need, first-take, first-skip, number-ok, number-there}
+
+-- Two causes of one word, and the causes of an instruction that names no class
+
+first-and : (n : ℕ) (a b : Bool) (cs : List Cause) → first (cause n (not (a && b)) ∷ cs) ≡ first (cause n (not a) ∷ cause n (not b) ∷ cs)
+unfolding first
+first-and n true b cs = refl
+first-and n false b cs = refl
+
+-- one that doesn't apply
+first-past : (c : Cause) (n : ℕ) (cs : List Cause) → first (c ∷ cause n false ∷ cs) ≡ first (c ∷ cs)
+unfolding first
+first-past c n cs = refl
+
+-- Values
+
+reference-stuck : {B : Type 0} (v : Value) (g : ℕ → Result B) → aReference v ≡ true → numberIn (int! v >>= g) ≡ 14
+unfolding numberIn int! _>>=_ number
+reference-stuck unsetValue g h = refl
+reference-stuck (intValue n) g h = absurd (false≢true h)
+reference-stuck nullValue g h = refl
+reference-stuck (objectValue o) g h = refl
+reference-stuck (unlistedValue α β) g h = refl
+
+abbrev Popped : Type 0
+Popped = record { top : Value; more : List Value }
+
+module _ {B : Type 0} (cs : List Cause) where
+  first-int : (v : Value) (g : ℕ → Result B) → ((n : ℕ) → v ≡ intValue n → numberIn (g n) ≡ first cs) → numberIn (int! v >>= g) ≡ first (cause 14 (not (anInt v)) ∷ cs)
+  unfolding numberIn first int! _>>=_ number
+  first-int unsetValue g h = refl
+  first-int (intValue n) g h = h n refl
+  first-int nullValue g h = refl
+  first-int (objectValue o) g h = refl
+  first-int (unlistedValue α β) g h = refl
+
+  first-reference : (v : Value) (g : Value → Result B) → ((x : Value) → aReference v ≡ true → numberIn (g x) ≡ first cs) → numberIn (reference! v >>= g) ≡ first (cause 14 (not (aReference v)) ∷ cs)
+  unfolding numberIn first reference! _>>=_ number
+  first-reference unsetValue g h = refl
+  first-reference (intValue n) g h = refl
+  first-reference nullValue g h = h nullValue refl
+  first-reference (objectValue o) g h = h (objectValue o) refl
+  first-reference (unlistedValue α β) g h = refl
+
+  first-kind : (t : ℕ) (v : Value) (g : Unit {0} → Result B) → numberIn (g tt) ≡ first cs → numberIn (kind! t v >>= g) ≡ first (cause 14 (not (ofKind t v)) ∷ cs)
+  unfolding numberIn first kind! ofKind int! reference! _>>=_ number
+  first-kind t v g h = go (eqb t 1) v
+    where
+      go : (b : Bool) (v : Value) → numberIn ((elim b as (λ _. Result (Unit {0})) [ true ↦ int! v >>= λ _. ok tt | false ↦ reference! v >>= λ _. ok tt ]) >>= g)
+          ≡ first (cause 14 (not (elim b as (λ _. Bool) [ true ↦ anInt v | false ↦ aReference v ])) ∷ cs)
+      go true unsetValue = refl
+      go true (intValue n) = h
+      go true nullValue = refl
+      go true (objectValue o) = refl
+      go true (unlistedValue α β) = refl
+      go false unsetValue = refl
+      go false (intValue n) = refl
+      go false nullValue = h
+      go false (objectValue o) = h
+      go false (unlistedValue α β) = refl
+
+  -- what is there, said by isSome
+  first-there : {A : Type 0} (o : Option A) (g : A → Result B) → ((a : A) → o ≡ some a → numberIn (g a) ≡ first cs) → numberIn (take? o (Word 14) >>= g) ≡ first (cause 14 (not (isSome o)) ∷ cs)
+  unfolding numberIn first take? _>>=_ isSome number
+  first-there none g h = refl
+  first-there (some a) g h = h a refl
+
+  -- a value that is there and passes
+  first-passes : {A : Type 0} (o : Option A) (test : A → Bool) (g : A → Result B) → ((a : A) → numberIn (g a) ≡ first (cause 14 (not (test a)) ∷ cs))
+      → numberIn (take? o (Word 14) >>= g) ≡ first (cause 14 (not (isSomeAnd o test)) ∷ cs)
+  unfolding numberIn first take? _>>=_ number
+  first-passes none test g h = refl
+  first-passes (some a) test g h = h a
+
+  -- the operand on top, there or passing a test
+  first-pop : (vs : List Value) (g : Popped → Result B) → ((p : Popped) → numberIn (g p) ≡ first cs) → numberIn (pop! vs >>= g) ≡ first (cause 14 (isNone (getElem? vs 0)) ∷ cs)
+  unfolding numberIn first pop! pop take? _>>=_ isNone number
+  first-pop [] g h = refl
+  first-pop (v ∷ vs) g h = h (record { top = v; more = vs })
+
+  first-top : (vs : List Value) (test : Value → Bool) (g : Popped → Result B) → ((v : Value) (us : List Value) → vs ≡ v ∷ us → numberIn (g (record { top = v; more = us })) ≡ first (cause 14 (not (test v)) ∷ cs))
+      → numberIn (pop! vs >>= g) ≡ first (cause 14 (not (isSomeAnd (getElem? vs 0) test)) ∷ cs)
+  unfolding numberIn first pop! pop take? _>>=_ number
+  first-top [] test g h = refl
+  first-top (v ∷ vs) test g h = h v vs refl
+
+  -- two operands, each passing a test; the one below is looked for before the upper is tested
+  first-two : (vs : List Value) (one two : Value → Bool) (g : Popped → Popped → Result B)
+      → ((v u : Value) (us : List Value) → vs ≡ v ∷ u ∷ us → numberIn (g (record { top = v; more = u ∷ us }) (record { top = u; more = us })) ≡ first (cause 14 (not (one v)) ∷ cause 14 (not (two u)) ∷ cs))
+      → numberIn (pop! vs >>= λ p. pop! (p .more) >>= λ q. g p q) ≡ first (cause 14 (not (isSomeAnd (getElem? vs 0) one)) ∷ cause 14 (not (isSomeAnd (getElem? vs 1) two)) ∷ cs)
+  unfolding numberIn first pop! pop take? _>>=_ number
+  first-two [] one two g h = refl
+  first-two (v ∷ []) one two g h = go (one v)
+    where
+      go : (b : Bool) → _≡_ {A = ℕ} 14 (first (cause 14 (not b) ∷ cause 14 true ∷ cs))
+      go true = refl
+      go false = refl
+  first-two (v ∷ u ∷ us) one two g h = h v u us refl
+
+-- Ties, and the object behind a receiver
+
+module _ {B : Type 0} (w : World) (os : List Object) where
+  first-post : (cs : List Cause) (room : Bool) (us : List Tie) (g : World → Result B) → numberIn (g (posted w us)) ≡ first cs
+      → numberIn (post w room us >>= g) ≡ first (cause 10 (not (leb (length (w .ties ++ us)) 256 && room)) ∷ cause 9 (not (agreesAfter w us)) ∷ cs)
+  unfolding numberIn first post need _>>=_ number
+  first-post cs room us g h = go (leb (length (w .ties ++ us)) 256 && room) (agreesAfter w us)
+    where
+      go : (t u : Bool) → numberIn ((need t (Word 10) >>= λ _. need u (Word 9) >>= λ _. ok (posted w us)) >>= g) ≡ first (cause 10 (not t) ∷ cause 9 (not u) ∷ cs)
+      go true true = h
+      go true false = refl
+      go false u = refl
+
+  -- one more test of the object, which null passes
+  first-object : (e : ℕ) (v : Value) (more : Value → Bool) (g : record { number : ℕ; object : Object } → Result B) → more nullValue ≡ true
+      → ((o : ℕ) (b : Object) → getElem? os o ≡ some b → Below (superOf (w .base)) e (b .class) → numberIn (g (record { number = o; object = b })) ≡ first (cause 14 (not (more (objectValue o))) ∷ []))
+      → numberIn (object! (w .base) os e v >>= g) ≡ first (cause 14 (not (receives w os e v)) ∷ cause 14 (not (more v)) ∷ cause 11 (aNull v) ∷ [])
+  unfolding numberIn first object! existing need take? _>>=_ number
+  first-object e unsetValue more g n h = refl
+  first-object e (intValue x) more g n h = refl
+  first-object e nullValue more g n h = rw n refl
+  first-object e (objectValue o) more g n h = go (getElem? os o) refl
+    where
+      tested : (b : Object) → getElem? os o ≡ some b → (t : Bool) → below (superOf (w .base)) (b .class) e ≡ t
+          → numberIn ((need t (Word 14) >>= λ _. ok (record { number = o; object = b })) >>= g) ≡ first (cause 14 (not t) ∷ cause 14 (not (more (objectValue o))) ∷ cause 11 false ∷ [])
+      tested b q true l = h o b q (below-true (superOf (w .base)) (super-falls (w .base)) (b .class) e l)
+      tested b q false l = refl
+
+      go : (x : Option Object) → getElem? os o ≡ x → numberIn ((take? x (Word 14) >>= λ b. need (below (superOf (w .base)) (b .class) e) (Word 14) >>= λ _. ok (record { number = o; object = b })) >>= g)
+          ≡ first (cause 14 (not (isSomeAnd x (λ b. below (superOf (w .base)) (b .class) e))) ∷ cause 14 (not (more (objectValue o))) ∷ cause 11 false ∷ [])
+      go none q = refl
+      go (some b) q = tested b q (below (superOf (w .base)) (b .class) e) refl
+  first-object e (unlistedValue α β) more g n h = refl
+
+-- One instruction
+
+module _ (w : World) (n : ℕ) (os : List Object) (rd : Ready w n os) (f : Frame) (fs : List Frame) (k : Class) (i : Decoded) where
+  -- it names a class and looks upward from it
+  first-access : {B : Type 0} (o : Option ℕ) (looks : ℕ → Option ℕ) (ties : ℕ → List Tie) (room : Bool) (fits : ℕ → Bool) (null : Bool) (r : Request) (g : ℕ → ℕ → World → Result B)
+      → ((e d : ℕ) → looks e ≡ some d → numberIn (g e d (posted w (ties d))) ≡ first (cause 14 (not (fits e)) ∷ cause 11 null ∷ []))
+      → numberIn (take? o (wanted r) >>= λ e. take? (looks e) (Word 7) >>= λ d. post w room (ties d) >>= g e d) ≡ first (accessing w k o looks ties room fits null)
+  unfolding accessing Maybe._>>=_ number
+  first-access o looks ties room fits null r g h = first-take _ o (wanted r) _ (λ e q. rw q (first-take _ (looks e) (Word 7) _ (λ d p. rw p (first-post w os _ room (ties d) (g e d) (h e d p)))))
+
+  -- the operand on top, and the one below it, is there and passes
+  abbrev upper : (Value → Bool) → Bool
+  upper test = isSomeAnd (getElem? (f .operands) 0) test
+
+  abbrev lower : (Value → Bool) → Bool
+  lower test = isSomeAnd (getElem? (f .operands) 1) test
+
+  -- it names no class
+  plain : (full stuck : Bool) → first (plainly full stuck) ≡ first (cause 10 full ∷ cause 14 stuck ∷ [])
+  unfolding first
+  plain full stuck = refl
+
+  plain-stuck : (stuck : Bool) → first (plainly false stuck) ≡ first (cause 14 stuck ∷ [])
+  unfolding first
+  plain-stuck stuck = refl
+
+  only-full : (full : Bool) → first (cause 7 false ∷ cause 10 full ∷ cause 9 false ∷ cause 14 false ∷ cause 11 false ∷ []) ≡ first (cause 10 full ∷ [])
+  unfolding first
+  only-full full = refl
+
+  -- a value given back
+  first-under : (gs : List Frame) (cs : List Cause) (g : Unit {0} → Result Progress) → numberIn (g tt) ≡ first cs → numberIn (under! gs >>= g) ≡ first (cause 10 (noRoomBelow gs) ∷ cs)
+  unfolding under! noRoom _>>=_ room! number
+  first-under [] cs g h = h ∙ sym (first-skip 10 cs)
+  first-under (x ∷ gs) cs g h = first-need cs (ltb (length (x .operands)) 16) (Word 10) g (λ _. h)
+
+  give-int : (gs : List Frame) (m : ℕ) → numberIn (give gs w os (intValue m)) ≡ first []
+  unfolding give int! _>>=_
+  give-int [] m = number-ok _
+  give-int (x ∷ gs) m = number-ok _
+
+  give-reference : (gs : List Frame) (v : Value) → aReference v ≡ true → numberIn (give gs w os v) ≡ first (cause 14 (not (not (isEmpty gs))) ∷ [])
+  unfolding give first
+  give-reference [] v h = reference-stuck v _ h
+  give-reference (x ∷ gs) v h = number-ok _
+
+  -- in an object of class e or below it stands the field that is found upward of e
+  module _ (e d x t : ℕ) (b : Object) (o : ℕ) (q : getElem? os o ≡ some b) (l : Below (superOf (w .base)) e (b .class)) (p : nearest (superOf (w .base)) (hasField (w .base) x t) e ≡ some d) where
+    place : FieldPlace (w .base) (b .class) d x t
+    place = let u = nearest-below (superOf (w .base)) (super-falls (w .base)) (hasField (w .base) x t) e d p in field-place (w .base) (b .class) d x t (u .1) (below-trans l (u .0))
+
+    stored : (v : Value) × (getElem? (b .values) (place .place) ≡ some v)
+    stored = nth-there (b .values) (place .place) (omega (arith, nth-lt (slots (w .base) (b .class)) (place .place) (place .slot) (place .isSlot), all-nth (ObjectSound (w .base) n (length os)) os (rd .each) o b q .size))
+
+  -- once the ties are posted
+  getfield-first : (x t e d : ℕ) → nearest (superOf (w .base)) (hasField (w .base) x t) e ≡ some d → (v : World) → numberIn {A = Progress} (pop! (f .operands) >>= λ p. object! (w .base) os e (p .top) >>= λ o.
+      take? (indexOf (slotIs d x t) (slots (w .base) d)) (Word 14) >>= λ j. take? (getElem? (o .object .values) j) (Word 14) >>= λ z.
+      ok (record { world = v; objects = os; frames = past f i (z ∷ p .more) (f .locals) ∷ fs; result = none }))
+      ≡ first (cause 14 (not (upper (receives w os e))) ∷ cause 11 (upper aNull) ∷ [])
+  getfield-first x t e d p v =
+      first-top (cause 11 (upper aNull) ∷ []) (f .operands) (receives w os e) _ (λ y us q. rw q (first-object w os e y (λ _. true) _ refl (λ o b h l.
+      let z = place e d x t b o h l p in
+      number-there [] _ (Word 14) _ (z .index) (number-there [] _ (Word 14) _ (stored e d x t b o h l p .1) (number-ok _)) ∙ sym (first-skip 14 [])) ∙ first-past _ 14 _))
+
+  putfield-first : (x t e d : ℕ) → nearest (superOf (w .base)) (hasField (w .base) x t) e ≡ some d → (v : World) → numberIn {A = Progress} (pop! (f .operands) >>= λ p. pop! (p .more) >>= λ q. kind! t (p .top) >>= λ _.
+      object! (w .base) os e (q .top) >>= λ o. take? (indexOf (slotIs d x t) (slots (w .base) d)) (Word 14) >>= λ j.
+      ok (record { world = v; objects = set os (o .number) (record { class = o .object .class; values = set (o .object .values) j (p .top) }); frames = past f i (q .more) (f .locals) ∷ fs; result = none }))
+      ≡ first (cause 14 (not (upper (ofKind t) && lower (receives w os e))) ∷ cause 11 (lower aNull) ∷ [])
+  putfield-first x t e d p v =
+      first-two (cause 11 (lower aNull) ∷ []) (f .operands) (ofKind t) (receives w os e) _ (λ y u us q. rw q (first-kind _ t y _ (first-object w os e u (λ _. true) _ refl (λ o b h l.
+      number-there [] _ (Word 14) _ (place e d x t b o h l p .index) (number-ok _) ∙ sym (first-skip 14 [])) ∙ first-past _ 14 _))) ∙ sym (first-and 14 (upper (ofKind t)) (lower (receives w os e)) (cause 11 (lower aNull) ∷ []))
+
+  invoke-first : (x t r e : ℕ) (v : World) → numberIn {A = Progress} (pop! (f .operands) >>= λ p. pop! (p .more) >>= λ q. kind! t (p .top) >>= λ _. object! (w .base) os e (q .top) >>= λ o.
+      take? (nearest (superOf (w .base)) (hasMethod (w .base) x t r) (o .object .class)) (Word 14) >>= λ s. take? (indexOf (alike x t r) (methodsOf (w .base) s)) (Word 14) >>= λ j.
+      ok (record { world = v; objects = os; frames = entryFrame s j (o .number) (p .top) ∷ past f i (q .more) (f .locals) ∷ fs; result = none }))
+      ≡ first (cause 14 (not (upper (ofKind t) && lower (λ v. receives w os e v && selects w os x t r v)))
+      ∷ cause 11 (lower aNull) ∷ [])
+  unfolding existing
+  invoke-first x t r e v =
+      first-two (cause 11 (lower aNull) ∷ []) (f .operands) (ofKind t) (λ v. receives w os e v && selects w os x t r v) _ (λ y u us q. rw q (first-kind _ t y _
+      (first-object w os e u (selects w os x t r) _ refl (λ o b h l. rw h (first-there [] (nearest (superOf (w .base)) (hasMethod (w .base) x t r) (b .class)) _ (λ s m.
+      let a = method-at (w .base) s x t r (nearest-below (superOf (w .base)) (super-falls (w .base)) (hasMethod (w .base) x t r) (b .class) s m .1) in
+      number-there [] _ (Word 14) _ (a .index) (number-ok _)))) ∙ sym (first-and 14 (receives w os e u) (selects w os x t r u) (cause 11 (aNull u) ∷ [])))))
+      ∙ sym (first-and 14 (upper (ofKind t)) (lower (λ v. receives w os e v && selects w os x t r v)) (cause 11 (lower aNull) ∷ []))
+
+  execute-first : (j : Instruction) → numberIn (execute w os f fs k i j) ≡ first (instructionCauses w os f fs k j)
+  unfolding execute instructionCauses room! noRoom number
+  execute-first AconstNull = first-need _ (ltb (length (f .operands)) 16) (Word 10) _ (λ _. number-ok _ ∙ sym (first-skip 14 [])) ∙ sym (plain _ _)
+  execute-first (Sipush x) = first-need _ (ltb (length (f .operands)) 16) (Word 10) _ (λ _. number-ok _ ∙ sym (first-skip 14 [])) ∙ sym (plain _ _)
+  execute-first (Iload j) = first-need _ (ltb (length (f .operands)) 16) (Word 10) _ (λ _. first-passes [] (getElem? (f .locals) j) anInt _ (λ v. first-int [] v _ (λ _ _. number-ok _))) ∙ sym (plain _ _)
+  execute-first (Aload j) = first-need _ (ltb (length (f .operands)) 16) (Word 10) _ (λ _. first-passes [] (getElem? (f .locals) j) aReference _ (λ v. first-reference [] v _ (λ _ _. number-ok _))) ∙ sym (plain _ _)
+  execute-first (Istore j) =
+      first-top _ (f .operands) anInt _ (λ v us _. first-int _ v _ (λ _ _. first-there [] (getElem? (f .locals) j) _ (λ _ _. number-ok _))) ∙ sym (first-and 14 (upper anInt) (isSome (getElem? (f .locals) j)) []) ∙ sym (plain-stuck _)
+  execute-first (Astore j) =
+      first-top _ (f .operands) aReference _ (λ v us _. first-reference _ v _ (λ _ _. first-there [] (getElem? (f .locals) j) _ (λ _ _. number-ok _))) ∙ sym (first-and 14 (upper aReference) (isSome (getElem? (f .locals) j)) []) ∙ sym (plain-stuck _)
+  execute-first Pop = first-pop [] (f .operands) _ (λ _. number-ok _) ∙ sym (plain-stuck _)
+  execute-first Dup = first-need _ (ltb (length (f .operands)) 16) (Word 10) _ (λ _. first-pop [] (f .operands) _ (λ _. number-ok _)) ∙ sym (plain _ _)
+  execute-first Iadd =
+      first-two [] (f .operands) anInt anInt _ (λ v u us _. first-int _ v _ (λ _ _. first-int [] u _ (λ _ _. number-ok _))) ∙ sym (first-and 14 (upper anInt) (lower anInt) []) ∙ sym (plain-stuck _)
+  execute-first Isub =
+      first-two [] (f .operands) anInt anInt _ (λ v u us _. first-int _ v _ (λ _ _. first-int [] u _ (λ _ _. number-ok _))) ∙ sym (first-and 14 (upper anInt) (lower anInt) []) ∙ sym (plain-stuck _)
+  execute-first (Getfield c x t) = first-access _ _ _ true _ _ _ _ (λ e d p. getfield-first x t e d p (posted w (fieldTies w k t d)))
+  execute-first (Putfield c x t) = first-access _ _ _ true _ _ _ _ (λ e d p. putfield-first x t e d p (posted w (fieldTies w k t d)))
+  execute-first (Invokevirtual c x t r) = first-access _ _ _ _ _ _ _ _ (λ e d p. invoke-first x t r e (posted w (methodTies w k t r d)))
+  execute-first (New c) = first-take _ (find (w .base .cache) (at (k .loader) c)) (wanted (at (k .loader) c)) _ (λ e _. first-need [] _ (Word 10) _ (λ _. number-ok _) ∙ sym (only-full _))
+  execute-first Ireturn = first-under fs _ _ (first-top [] (f .operands) anInt _ (λ v us _. first-int [] v _ (λ m e. rw e (give-int fs m)))) ∙ sym (plain _ _)
+  execute-first Areturn =
+      first-under fs _ _ (first-top _ (f .operands) aReference _ (λ v us _. first-reference _ v _ (λ _ e. give-reference fs v e)) ∙ sym (first-and 14 (upper aReference) (not (isEmpty fs)) [])) ∙ sym (plain _ _)
+
+-- A step: what can't be read, then the instruction
+
+read-join : {A C : Type 0} (o : Option A) (f : A → Option C) (g : A → Result C) → ((a : A) → g a ≡ take? (f a) (Word 14)) → (take? o (Word 14) >>= g) ≡ take? (Maybe._>>=_ o f) (Word 14)
+unfolding take? _>>=_ Maybe._>>=_
+read-join none f g h = refl
+read-join (some a) f g h = h a
+
+now-reading : (w : World) (f : Frame) → now w f ≡ take? (reading w f) (Word 14)
+unfolding now reading take?
+now-reading w f = read-join _ _ _ (λ k. read-join _ _ _ (λ m. read-join _ _ _ (λ i. refl)))
+
+pub step-first : (w : World) (n : ℕ) (os : List Object) → Ready w n os → (f : Frame) (fs : List Frame) → numberIn (step w os f fs) ≡ first (frameCauses w os (f ∷ fs))
+unfolding step
+step-first w n os rd f fs = ap (λ (o : Result Now). numberIn (o >>= λ z. execute w os f fs (z .theClass) (z .at) (z .at .instruction))) (now-reading w f) ∙ go (reading w f)
+  where
+    go : (o : Option Now) → numberIn (take? o (Word 14) >>= λ z. execute w os f fs (z .theClass) (z .at) (z .at .instruction)) ≡ first (readCauses w os f fs o)
+    go none = unfold numberIn first take? _>>=_ number in refl
+    go (some z) = unfold take? _>>=_ in execute-first w n os rd f fs (z .theClass) (z .at) (z .at .instruction) ∙ sym (first-skip 14 (instructionCauses w os f fs (z .theClass) (z .at .instruction)))

@@ -1,0 +1,160 @@
+-- Loading later never changes an earlier resolution: no call but a boot changes what a cached request means, what lies above a class, which field or
+-- method a lookup from it finds, or which fields its objects have.
+use mathlib.Core.Path.{_≡_, refl, sym, _∙_, subst}
+use mathlib.Core.Option.{some}
+use mathlib.Core.List.{List, [], _∷_}
+use mathlib.Core.Logic.{_⊎_, inl, inr}
+use Prim.Native.Nat.{ℕ, zero, suc}
+use lib.ListN.{getElem?}
+use borrow.Author.Tests.{ltb-true}
+use Rattle.definition.specs.declared.Refusal.{Refusal}
+use Rattle.definition.specs.declared.Answer.the-variants.{Refused}
+use Rattle.definition.specs.declared.Reply.the-variants.{Denied}
+use Rattle.definition.specs.Requests.{Request}
+use Rattle.definition.specs.Superclasses.{nearest, below}
+use Rattle.definition.specs.Answers.{Result}
+use Rattle.definition.specs.Classes.{Base, Class, find, superOf, loaderOf, slots, hasField, hasMethod}
+use Rattle.definition.specs.Constraints.{World}
+use Rattle.definition.specs.Machine.{Frame, Progress}
+use Rattle.definition.specs.Tables.{Tables, Rows, worldOf, view}
+use Rattle.definition.specs.Calls.{Given, progressed, defineRows, recordRows, startRows, dropRows, stepTask, stepOn, stepRows, wrap, stepTables, Call, callBoot, callDefine, callRecord, callStart, callStep, callRun, callDrop, perform, performAll}
+use Rattle.laws.specs.Growth.{Grows, grows-class, grows-entry}
+use Rattle.laws.specs.Results.{need-ok, take-ok}
+use Rattle.laws.specs.Runs.{run-keeps}
+use Rattle.laws.specs.Stable.{super-stable, below-stable, field-stable, nearest-stable, loader-stable, slots-stable}
+use Rattle.laws.specs.Wrapped.{Ok, ok-at, then}
+use Rattle.layout.specs.Tests.{All}
+use Rattle.layout.specs.Whole.{Whole}
+use Rattle.unbroken.specs.Accepted.{Entered, Stood, recorded-is, defined-is}
+use Rattle.unbroken.specs.Calls.{ready, world-recorded, world-defined, define-whole, record-whole, start-whole, step-whole, drop-whole}
+use Rattle.unbroken.specs.Unbroken.{Keeps, shown}
+use Rattle.unbroken.specs.Lasting.{IsBoot}
+
+abbrev pub There : Base → ℕ → Type 0
+There b c = (k : Class) × (getElem? (b .classes) c ≡ some k)
+
+-- of each class that is there
+pub record Resolves (b d : Base) : Type 0 where
+  pub classes : (c : ℕ) (k : Class) → getElem? (b .classes) c ≡ some k → getElem? (d .classes) c ≡ some k
+  pub cached : (q : Request) (c : ℕ) → find (b .cache) q ≡ some c → find (d .cache) q ≡ some c
+  pub super : (c : ℕ) → There b c → superOf d c ≡ superOf b c
+  pub isBelow : (c e : ℕ) → There b c → below (superOf d) c e ≡ below (superOf b) c e
+  pub nearestField : (n t c : ℕ) → There b c → nearest (superOf d) (hasField d n t) c ≡ nearest (superOf b) (hasField b n t) c
+  pub nearestMethod : (n a r c : ℕ) → There b c → nearest (superOf d) (hasMethod d n a r) c ≡ nearest (superOf b) (hasMethod b n a r) c
+  pub loader : (c : ℕ) → There b c → loaderOf d c ≡ loaderOf b c
+  pub fields : (c : ℕ) → There b c → slots d c ≡ slots b c
+
+resolves-same : (b : Base) → Resolves b b
+resolves-same b = record {
+  classes = λ c k h. h;
+  cached = λ q c h. h;
+  super = λ c h. refl;
+  isBelow = λ c e h. refl;
+  nearestField = λ n t c h. refl;
+  nearestMethod = λ n a r c h. refl;
+  loader = λ c h. refl;
+  fields = λ c h. refl;
+}
+
+resolves-join : {a b d : Base} → Resolves a b → Resolves b d → Resolves a d
+resolves-join {a} {b} {d} x y = record {
+  classes = λ c k h. y .classes c k (x .classes c k h);
+  cached = λ q c h. y .cached q c (x .cached q c h);
+  super = λ c h. y .super c (on c h) ∙ x .super c h;
+  isBelow = λ c e h. y .isBelow c e (on c h) ∙ x .isBelow c e h;
+  nearestField = λ n t c h. y .nearestField n t c (on c h) ∙ x .nearestField n t c h;
+  nearestMethod = λ n t r c h. y .nearestMethod n t r c (on c h) ∙ x .nearestMethod n t r c h;
+  loader = λ c h. y .loader c (on c h) ∙ x .loader c h;
+  fields = λ c h. y .fields c (on c h) ∙ x .fields c h;
+}
+  where
+    on : (c : ℕ) → There a c → There b c
+    on c h = (h .0, x .classes c (h .0) (h .1))
+
+module _ (r : Rows) (w : Whole r) where
+  abbrev W : World
+  W = worldOf r
+
+  grown : (v : World) → Grows W v → Resolves (W .base) (v .base)
+  grown v g = let k = ready r w .rooted in record {
+    classes = g .classes;
+    cached = g .cache;
+    super = super-stable W v k g;
+    isBelow = below-stable W v k g;
+    nearestField = field-stable W v k g;
+    nearestMethod = nearest-stable W v k g;
+    loader = loader-stable W v k g;
+    fields = slots-stable W v k g;
+  }
+
+  abbrev Q : {A : Type 0} → Given A → Type 0
+  Q g = Resolves (W .base) (worldOf (g .rows) .base)
+
+  define-resolves : (l : ℕ) (bs : List ℕ) → Ok (defineRows l bs r) Q
+  unfolding defineRows
+  define-resolves l bs = then Q _ _ (λ _ a. then Q _ _ (λ f rf. then Q _ _ (λ v e.
+      let d = defined-is _ _ W v e in
+      grown _ (subst (Grows W) (d .is ∙ sym (world-defined r w l bs f v (ltb-true l 16 (need-ok _ _ a)) (take-ok _ _ rf) e)) (grows-class W _ _ _)))))
+
+  record-resolves : (l n c : ℕ) → Ok (recordRows l n c r) Q
+  unfolding recordRows
+  record-resolves l n c = then Q _ _ (λ v e. subst (λ (z : World). Resolves (W .base) (z .base)) (sym (world-recorded r w l n c v e)) (entered v (recorded-is l n c W v e)))
+    where
+      entered : (v : World) → Stood l n c W v ⊎ Entered l n c W v → Resolves (W .base) (v .base)
+      entered v (inl z) = subst (λ (z : World). Resolves (W .base) (z .base)) (z .is) (resolves-same (W .base))
+      entered v (inr x) = subst (λ (z : World). Resolves (W .base) (z .base)) (x .is) (grown _ (grows-entry W _ c))
+
+  -- a start, a step and a drop change no class and no cache entry
+
+  progress-resolves : (k : ℕ) (o : Progress) → Resolves (W .base) (worldOf (progressed k r o) .base)
+  progress-resolves zero o = resolves-same (W .base)
+  progress-resolves (suc k) o = resolves-same (W .base)
+
+  start-resolves : (k l n m v : ℕ) → Ok (startRows k l n m v r) Q
+  unfolding startRows
+  start-resolves k l n m v = then Q _ _ (λ _ _. then Q _ _ (λ o _. progress-resolves k o))
+
+  drop-resolves : (k : ℕ) → Ok (dropRows k r) Q
+  unfolding dropRows
+  drop-resolves zero = then Q _ _ (λ _ _. resolves-same (W .base))
+  drop-resolves (suc k) = then Q _ _ (λ _ _. resolves-same (W .base))
+
+  step-resolves : Ok (stepRows r) Q
+  unfolding stepRows
+  step-resolves = go (r .quote) (r .report)
+    where
+      go : (q p : List Frame) → Ok (stepOn q p (worldOf r) r) Q
+      go (f ∷ fs) p = unfold stepOn stepTask in then Q _ _ (λ o _. progress-resolves 0 o)
+      go [] (f ∷ fs) = unfold stepOn stepTask in then Q _ _ (λ o _. progress-resolves 1 o)
+      go [] [] = unfold stepOn in resolves-same (W .base)
+
+-- On tables
+
+abbrev Later : Tables → Tables → Type 0
+Later t s = Resolves (worldOf (view t) .base) (worldOf (view s) .base)
+
+wrap-resolves : {A : Type 0} (deny : Refusal → A) (f : Rows → Result (Given A)) (t : Tables) → Keeps f
+    → ((r : Rows) → Whole r → Ok (f r) (λ g. Resolves (worldOf r .base) (worldOf (g .rows) .base))) → Later t (wrap deny f t .tables)
+wrap-resolves {A} deny f t k j = shown deny f (λ _ s. Resolves (worldOf (view t) .base) (worldOf s .base)) t k (λ w. resolves-same (worldOf (view t) .base))
+    (λ w g e. ok-at (λ (g : Given A). Resolves (worldOf (view t) .base) (worldOf (g .rows) .base)) _ (j (view t) w) g e)
+
+one-resolves : (t : Tables) → Later t (stepTables t .tables)
+unfolding stepTables
+one-resolves t = wrap-resolves Refused stepRows t step-whole step-resolves
+
+pub resolution-lasts : (c : Call) → (IsBoot c → ⊥) → (t : Tables) → Resolves (worldOf (view t) .base) (worldOf (view (perform c t .tables)) .base)
+unfolding perform
+resolution-lasts callBoot i t = absurd (i tt)
+resolution-lasts (callDefine l bs) i t = wrap-resolves Denied (defineRows l bs) t (λ r w. define-whole r w l bs) (λ r w. define-resolves r w l bs)
+resolution-lasts (callRecord l n c) i t = wrap-resolves Denied (recordRows l n c) t (λ r w. record-whole r w l n c) (λ r w. record-resolves r w l n c)
+resolution-lasts (callStart k l n m v) i t = wrap-resolves Denied (startRows k l n m v) t (λ r w. start-whole r w k l n m v) (λ r w. start-resolves r w k l n m v)
+resolution-lasts callStep i t = one-resolves t
+resolution-lasts (callRun n) i t =
+    run-keeps (Later t) (λ s p. resolves-join p (one-resolves s)) n t (resolves-same (worldOf (view t) .base))
+resolution-lasts (callDrop k) i t = wrap-resolves Denied (dropRows k) t (λ r w. drop-whole r w k) (λ r w. drop-resolves r w k)
+
+-- whatever calls follow
+pub resolution-lasts-all : (cs : List Call) → All (λ c. IsBoot c → ⊥) cs → (t : Tables) → Resolves (worldOf (view t) .base) (worldOf (view (performAll cs t .tables)) .base)
+unfolding performAll
+resolution-lasts-all [] i t = resolves-same (worldOf (view t) .base)
+resolution-lasts-all (c ∷ cs) i t = resolves-join (resolution-lasts c (i .0) t) (resolution-lasts-all cs (i .1) (perform c t .tables))
