@@ -1,18 +1,16 @@
 -- Agreement of the store with ties that are to be posted, tested on a copy of the ties and on a table of superclasses.
 use mathlib.Core.Path.{_≡_, refl, sym, ap, _∙_}
 use mathlib.Core.Bool.{Bool, true, false}
-use mathlib.Core.Option.{Option, none, some}
-use mathlib.Core.List.{List, [], _∷_, _++_}
-use Prim.Native.Nat.{ℕ, zero, suc, _+_, _*_, _<_, _≤_}
-use native.Mathlib.Nat.{zero-add}
+use mathlib.Core.List.{List, _++_}
+use Prim.Native.Nat.{ℕ, _+_, _<_, _≤_}
 use native.Mathlib.Omega.{arith}
 use lib.ListN.{length, getD, set, length-set, length-append, List·getD-eq-default}
 use lib.Dec.{ltb}
 use borrow.Author.Tests.{le-leb, ltb-true, ltb-false}
 use Rattle.definition.specs.Lists.{rows, writeRows}
 use Rattle.definition.specs.Classes.{Base, superOf}
-use Rattle.definition.specs.Constraints.{Tie, World, tieEdges, subtypeEdges, edges, agreesOver, agrees, posted}
-use Rattle.definition.specs.Tables.{Tables, tables, entryAt, tieAt, putTie, subtypeAt, tiesOf, subtypesOf}
+use Rattle.definition.specs.Constraints.{Tie, edges, agrees, posted}
+use Rattle.definition.specs.Tables.{tables, tieAt, putTie}
 use Rattle.layout.specs.Places.{rows-length, rows-getD, writeRows-length}
 use Rattle.layout.specs.Cells.{rows-back, rows-more, cell-rows, tie-rows}
 use Rattle.constraints.specs.Agreement.{atMost, superIn, agreeIn}

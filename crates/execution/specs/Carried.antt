@@ -2,29 +2,29 @@
 -- the tables but that task k has m frames below its top frame.
 use mathlib.Core.Path.{_≡_, refl, sym, ap, _∙_}
 use mathlib.Core.Option.{Option, none, some}
-use mathlib.Core.List.{List, [], _∷_, _++_, map}
-use Prim.Native.Nat.{ℕ, zero, suc, _+_, _*_, _-_, _<_, _≤_}
+use mathlib.Core.List.{List, [], _∷_, map}
+use Prim.Native.Nat.{ℕ, suc, _+_, _-_, _<_, _≤_}
 use native.Mathlib.Omega.{arith}
 use lib.ListN.{length, getD, set, length-map}
 use lib.Seq.{set-getD, getD-set-other}
 use Rattle.definition.specs.declared.Refusal.{Refusal}
 use Rattle.definition.specs.declared.Answer.{Answer}
-use Rattle.definition.specs.declared.Answer.the-variants.{Idle, Ran, Finished, Refused}
-use Rattle.definition.specs.Answers.{Result, refused, ok, _>>=_, take?}
+use Rattle.definition.specs.declared.Answer.the-variants.{Ran, Finished, Refused}
+use Rattle.definition.specs.Answers.{_>>=_, take?}
 use Rattle.definition.specs.Lists.{rows, writeRows, stack}
 use Rattle.definition.specs.Classes.{Base, Slot, slots}
-use Rattle.definition.specs.Constraints.{Tie, World, posted}
-use Rattle.definition.specs.Machine.{Value, objectValue, Object, Frame, existing, newObject, entryFrame, Progress, give, initialValue}
-use Rattle.definition.specs.Tables.{Tables, tables, putTie, valueOf, objectAt, putObject, putField, sizeOf, usedFields, operandAt, putOperand, localAt, putLocal, frameOf, frameAt, putFrame, frameBase, frameIn, tiesOf, subtypesOf, objectsOf, viewOver, put}
-use Rattle.definition.specs.Calls.{Given, given, progressed, answerOf, Done, done, carried}
+use Rattle.definition.specs.Constraints.{Tie, posted}
+use Rattle.definition.specs.Machine.{Value, objectValue, Object, Frame, newObject, entryFrame, Progress, give, initialValue}
+use Rattle.definition.specs.Tables.{Tables, tables, putTie, valueOf, objectAt, putObject, putField, sizeOf, usedFields, putOperand, putLocal, frameOf, putFrame, frameBase, frameIn, objectsOf, viewOver, put}
+use Rattle.definition.specs.Calls.{given, progressed, answerOf, Done, done, carried}
 use Rattle.layout.specs.Places.{rows-map, stack-top}
-use Rattle.layout.specs.Cells.{rows-back, cell-rows, moved, withField, withValue}
+use Rattle.layout.specs.Cells.{rows-back, cell-rows, moved}
 use Rattle.layout.specs.View.{countAt, Fills, FillsTask, objects-fill, object-made, object-set, object-there, progress-writes, none-left, top-kept, top-above, top-local, top-given, top-entered}
 use Rattle.frames.specs.Initial.{initialOf, initialObject, initial-value}
 use Rattle.resolution.specs.Quick.{quickBase}
 use Rattle.resolution.specs.Slots.{slotType}
 use Rattle.access.specs.Accesses.{worldIn}
-use Rattle.execution.specs.Postings.{Posting, Nothing, toPost}
+use Rattle.posting.specs.Postings.{Quiet}
 use Rattle.instructions.specs.Plans.{meaning, Fit}
 use Rattle.instructions.specs.declared.Plan.{Plan}
 use Rattle.instructions.specs.declared.Plan.the-variants.{Refuse, Keep, Above, Local, Give, Finish, Field, Enter, Make}
@@ -35,18 +35,6 @@ planned B t k m q us p =
     carried Refused t
     (meaning (posted (worldIn B t) us) (objectsOf B t) (stack (frameIn (t .frames) k) m) (t .frames) (frameBase k m) q p
     >>= λ o. given (answerOf k (o .result)) (progressed k (viewOver B t) o))
-
--- a refusal posts nothing
-abbrev pub Quiet : List Tie → Plan → Type 0
-Quiet us (Refuse r) = us ≡ []
-Quiet us (Keep d) = Unit {0}
-Quiet us (Above d kind v) = Unit {0}
-Quiet us (Local d j kind v) = Unit {0}
-Quiet us (Give kind v) = Unit {0}
-Quiet us (Finish v) = Unit {0}
-Quiet us (Field d o j kind v) = Unit {0}
-Quiet us (Enter d c j o kind v) = Unit {0}
-Quiet us (Make d c) = Unit {0}
 
 -- what carrying out asks: task k has m frames below its top frame, whose row begins at cell b; ties and plan have room
 pub record Ready (B : Base) (t : Tables) (k m b : ℕ) (us : List Tie) (p : Plan) : Type 0 where
@@ -191,56 +179,6 @@ module _ (B : Base) (N L K E I S O F : List ℕ) (k m b q : ℕ) (us : List Tie)
       (objects-fill before B) (top-given before k (m - 1) (omega (arith, r .low)) d (valueOf kind v) z (omega (arith, h .1, z)))
       ∙ ap (λ (n : ℕ). tables (set (set N 3 (getD N 3 0 + length us)) (6 + k) n) L K E (writeRows putTie us (getD N 3 0) I) S O (putOperand (frameBase k (m - 1)) (set F (frameBase k (m - 1) + 3) (d + 1)) d (valueOf kind v))) one)))
 
--- What is posted with a plan: nothing with a refusal
-
-abbrev pub quietly : Posting → Plan → Posting
-quietly x (Refuse r) = Nothing
-quietly x (Keep d) = x
-quietly x (Above d kind v) = x
-quietly x (Local d j kind v) = x
-quietly x (Give kind v) = x
-quietly x (Finish v) = x
-quietly x (Field d o j kind v) = x
-quietly x (Enter d c j o kind v) = x
-quietly x (Make d c) = x
-
-pub quietly-quiet : (x : Posting) (p : Plan) → Quiet (toPost (quietly x p)) p
-unfolding toPost
-quietly-quiet x (Refuse r) = refl
-quietly-quiet x (Keep d) = tt
-quietly-quiet x (Above d kind v) = tt
-quietly-quiet x (Local d j kind v) = tt
-quietly-quiet x (Give kind v) = tt
-quietly-quiet x (Finish v) = tt
-quietly-quiet x (Field d o j kind v) = tt
-quietly-quiet x (Enter d c j o kind v) = tt
-quietly-quiet x (Make d c) = tt
-
-pub quietly-means : (w : World) (os : List Object) (fs : List Frame) (F : List ℕ) (b q : ℕ) (x : Posting) (p : Plan)
-    → meaning (posted w (toPost (quietly x p))) os fs F b q p ≡ meaning (posted w (toPost x)) os fs F b q p
-unfolding meaning
-quietly-means w os fs F b q x (Refuse r) = refl
-quietly-means w os fs F b q x (Keep d) = refl
-quietly-means w os fs F b q x (Above d kind v) = refl
-quietly-means w os fs F b q x (Local d j kind v) = refl
-quietly-means w os fs F b q x (Give kind v) = refl
-quietly-means w os fs F b q x (Finish v) = refl
-quietly-means w os fs F b q x (Field d o j kind v) = refl
-quietly-means w os fs F b q x (Enter d c j o kind v) = refl
-quietly-means w os fs F b q x (Make d c) = refl
-
-pub quietly-few : (x : Posting) (p : Plan) → length (toPost (quietly x p)) ≤ length (toPost x)
-unfolding toPost
-quietly-few x (Refuse r) = omega arith
-quietly-few x (Keep d) = omega arith
-quietly-few x (Above d kind v) = omega arith
-quietly-few x (Local d j kind v) = omega arith
-quietly-few x (Give kind v) = omega arith
-quietly-few x (Finish v) = omega arith
-quietly-few x (Field d o j kind v) = omega arith
-quietly-few x (Enter d c j o kind v) = omega arith
-quietly-few x (Make d c) = omega arith
-
 -- A new object's values, by the types of its fields
 
 pub typed-object : (B : Base) (c : ℕ) (ts : List ℕ) → sizeOf B c ≤ length ts → initialObject c (writeRows set (map slotType (slots B c)) 0 ts) (sizeOf B c) ≡ newObject B c
@@ -264,23 +202,68 @@ pub written-new : (B : Base) (c o n : ℕ) (O P ts us : List ℕ) → n ≡ size
     → P ≡ putObject O o (initialObject c us n) → P ≡ putObject O o (newObject B c)
 written-new B c o n O P ts us e f l h = h ∙ rw (e, f, typed-object B c ts l)
 
--- An object made where ties were posted: classes and cache are as before
+-- What carrying a plan out leaves: the answer, the counts, the objects and the frames. The top frame of task k is in row m, which begins at cell b, and
+-- goes on at point q
 
-module _ (N L K E I S O F : List ℕ) (k m b q : ℕ) (us : List Tie) (p : Plan) (r : Ready (quickBase N L K E) (tables N L K E I S O F) k m b us p)
-    (C J : List ℕ) (c : C ≡ set N 3 (getD N 3 0 + length us)) (j : J ≡ writeRows putTie us (getD N 3 0) I) (d s : ℕ) (e : p ≡ Make d s) where
-  same-base : quickBase C L K E ≡ quickBase N L K E
-  same-base = rw c (quick-posted N L K E (getD N 3 0 + length us))
+abbrev pub Left : Base → List ℕ → List ℕ → List ℕ → ℕ → ℕ → ℕ → ℕ → Plan → Answer → List ℕ → List ℕ → List ℕ → Type 0
+Left B N O F k m b q (Refuse r) a C P G = (a ≡ Refused r) × (C ≡ N) × (P ≡ O) × (G ≡ F)
+Left B N O F k m b q (Keep d) a C P G = (a ≡ Ran k) × (C ≡ N) × (P ≡ O) × (G ≡ moved F b q d)
+Left B N O F k m b q (Above d kind v) a C P G = (a ≡ Ran k) × (C ≡ N) × (P ≡ O) × (G ≡ putOperand b (moved F b q (d + 1)) d (valueOf kind v))
+Left B N O F k m b q (Local d i kind v) a C P G = (a ≡ Ran k) × (C ≡ N) × (P ≡ O) × (G ≡ putLocal b (moved F b q d) i (valueOf kind v))
+Left B N O F k m b q (Give kind v) a C P G =
+    (a ≡ Ran k) × (C ≡ set N (6 + k) m) × (P ≡ O)
+    × (let x = frameBase k (m - 1) in let d = getD F (x + 3) 0 in G ≡ putOperand x (set F (x + 3) (d + 1)) d (valueOf kind v))
+Left B N O F k m b q (Finish v) a C P G = (a ≡ Finished k v) × (C ≡ set N (6 + k) 0) × (P ≡ O) × (G ≡ F)
+Left B N O F k m b q (Field d o i kind v) a C P G = (a ≡ Ran k) × (C ≡ N) × (P ≡ putField o O i (valueOf kind v)) × (G ≡ moved F b q d)
+Left B N O F k m b q (Enter d s i o kind v) a C P G =
+    (a ≡ Ran k) × (C ≡ set N (6 + k) (m + 2)) × (P ≡ O) × (G ≡ putFrame (moved F b q d) (frameBase k (m + 1)) (entryFrame s i o (valueOf kind v)))
+Left B N O F k m b q (Make d s) a C P G =
+    (a ≡ Ran k) × (C ≡ set N 5 (getD N 5 0 + 1)) × (P ≡ putObject O (getD N 5 0) (newObject B s))
+    × (G ≡ putOperand b (moved F b q (d + 1)) d (objectValue (getD N 5 0)))
 
-  same-number : getD C 5 0 ≡ getD N 5 0
-  same-number = rw c (getD-set-other N 3 5 (getD N 3 0 + length us) 0 (λ e. omega arith))
+-- Where the ties us were posted first, C and J are the counts and the ties
 
-  pub make-ready : (d < 16) × (getD C 5 0 < 256) × (sizeOf (quickBase C L K E) s ≤ 16)
-  make-ready =
-      let f : (d < 16) × (getD N 5 0 < 256) × (sizeOf (quickBase N L K E) s ≤ 16) = rw e at (r .fits) in
-      (f .0, rw same-number (f .1), rw same-base (f .2))
+module _ (N L K E I S O F : List ℕ) (k m b : ℕ) (us : List Tie) (p : Plan) (r : Ready (quickBase N L K E) (tables N L K E I S O F) k m b us p)
+    (C : List ℕ) (c : C ≡ set N 3 (getD N 3 0 + length us)) where
+  posted-base : quickBase C L K E ≡ quickBase N L K E
+  posted-base = rw c (quick-posted N L K E (getD N 3 0 + length us))
 
-  pub out-made : (D G P : List ℕ) → D ≡ set C 5 (getD C 5 0 + 1) → P ≡ putObject O (getD C 5 0) (newObject (quickBase C L K E) s)
-      → G ≡ putOperand b (moved F b q (d + 1)) d (objectValue (getD C 5 0))
-      → done (Ran k) (tables D L K E J S P G) ≡ planned (quickBase N L K E) (tables N L K E I S O F) k m q us p
-  out-made D G P f g h =
-      out-make (quickBase N L K E) N L K E I S O F k m b q us p r C J c j d s (getD C 5 0) D G P e same-number f h (rw same-base at g)
+  posted-number : getD C 5 0 ≡ getD N 5 0
+  posted-number = rw c (getD-set-other N 3 5 (getD N 3 0 + length us) 0 (λ e. omega arith))
+
+  -- a plan that has room still has it
+  pub still-ready : (m < 32) × Fit (quickBase C L K E) (tables C L K E [] [] O F) k m p
+  still-ready = (r .low, go p (r .fits))
+    where
+      go : (p : Plan) → Fit (quickBase N L K E) (tables N L K E I S O F) k m p → Fit (quickBase C L K E) (tables C L K E [] [] O F) k m p
+      go (Refuse w) h = tt
+      go (Keep d) h = tt
+      go (Above d kind v) h = h
+      go (Local d i kind v) h = h
+      go (Give kind v) h = h
+      go (Finish v) h = h
+      go (Field d o i kind v) h = rw (posted-base, posted-number) h
+      go (Enter d s i o kind v) h = h
+      go (Make d s) h = rw (posted-base, posted-number) h
+
+  -- what is left is what the machine makes of the plan
+  pub left-planned : (J : List ℕ) → J ≡ writeRows putTie us (getD N 3 0) I → (q : ℕ) (a : Answer) (D P G : List ℕ) → Left (quickBase C L K E) C O F k m b q p a D P G
+      → done a (tables D L K E J S P G) ≡ planned (quickBase N L K E) (tables N L K E I S O F) k m q us p
+  left-planned J j q a D P G h = go p r h
+    where
+      go : (p : Plan) → Ready (quickBase N L K E) (tables N L K E I S O F) k m b us p → Left (quickBase C L K E) C O F k m b q p a D P G
+          → done a (tables D L K E J S P G) ≡ planned (quickBase N L K E) (tables N L K E I S O F) k m q us p
+      go (Refuse w) r h = rw (h .0, h .1, h .2, h .3) (out-refuse (quickBase N L K E) N L K E I S O F k m b q us (Refuse w) r C J c j w refl)
+      go (Keep d) r h = rw (h .0, h .1, h .2) (out-keep (quickBase N L K E) N L K E I S O F k m b q us (Keep d) r C J c j d G refl (h .3))
+      go (Above d kind v) r h = rw (h .0, h .1, h .2) (out-above (quickBase N L K E) N L K E I S O F k m b q us (Above d kind v) r C J c j d kind v G refl (h .3))
+      go (Local d i kind v) r h = rw (h .0, h .1, h .2) (out-local (quickBase N L K E) N L K E I S O F k m b q us (Local d i kind v) r C J c j d i kind v G refl (h .3))
+      go (Give kind v) r h =
+          rw (h .0, h .2)
+          (out-give (quickBase N L K E) N L K E I S O F k m b q us (Give kind v) r C J c j kind v (frameBase k (m - 1)) (getD F (frameBase k (m - 1) + 3) 0) D G refl refl refl (h .1) (h .3))
+      go (Finish v) r h = rw (h .0, h .2, h .3) (out-finish (quickBase N L K E) N L K E I S O F k m b q us (Finish v) r C J c j v D refl (h .1))
+      go (Field d o i kind v) r h = rw (h .0, h .1) (out-field (quickBase N L K E) N L K E I S O F k m b q us (Field d o i kind v) r C J c j d o i kind v G P refl (h .3) (h .2))
+      go (Enter d s i o kind v) r h =
+          rw (h .0, h .2) (out-enter (quickBase N L K E) N L K E I S O F k m b q us (Enter d s i o kind v) r C J c j d s i o kind v D G refl (h .1) (h .3))
+      go (Make d s) r h =
+          rw (h .0)
+          (out-make (quickBase N L K E) N L K E I S O F k m b q us (Make d s) r C J c j d s (getD C 5 0) D G P refl posted-number (h .1) (h .3) (rw posted-base at (h .2)))

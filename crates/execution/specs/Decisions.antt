@@ -1,10 +1,10 @@
 -- What a step decides: the ties that it posts and the plan that it then carries out, which together mean what the machine does.
 use mathlib.Core.Path.{_≡_, refl, sym, ap, _∙_}
 use mathlib.Core.Bool.{Bool, true, false, _&&_}
-use mathlib.Core.Option.{Option, none, some}
+use mathlib.Core.Option.{some}
 use mathlib.Core.List.{List, [], _∷_, _++_, append-nil}
 use mathlib.Core.Logic.{_⊎_, inl, inr}
-use Prim.Native.Nat.{ℕ, suc, _+_, _<_, _≤_}
+use Prim.Native.Nat.{ℕ, _+_, _<_, _≤_}
 use native.Mathlib.Omega.{arith}
 use native.Mathlib.Numerals.{add-one}
 use lib.ListN.{length, getD, length-append}
@@ -19,7 +19,7 @@ use Rattle.definition.specs.declared.Instruction.the-variants.{New}
 use Rattle.definition.specs.declared.Refusal.{Refusal}
 use Rattle.definition.specs.declared.Refusal.the-variants.{Word}
 use Rattle.definition.specs.Answers.{Result, refused, ok, _>>=_, need}
-use Rattle.definition.specs.Machine.{Object, Frame, Progress, execute}
+use Rattle.definition.specs.Machine.{Object, Frame, execute}
 use Rattle.definition.specs.Tables.{Tables, tables, tieAt, tiesOf, sizeOf, frameOf, frameIn, objectsOf}
 use Rattle.layout.specs.Places.{rows-length, stack-length}
 use Rattle.layout.specs.Unbroken.{Counts}
@@ -29,10 +29,11 @@ use Rattle.instructions.specs.Plans.{decoded, meaning, Fit, FrameOnly, Returnin
 use Rattle.resolution.specs.Quick.{quickBase}
 use Rattle.access.specs.declared.Access.{Access}
 use Rattle.access.specs.declared.Access.the-variants.{Unresolved, Resolved}
-use Rattle.access.specs.Accesses.{worldIn, tiesOn, accessed, AccessFits, Declared, Accessing, frameRoom}
+use Rattle.access.specs.Accesses.{worldIn, tiesOn, accessed, Declared, Accessing, frameRoom}
 use Rattle.access.specs.Members.{Making}
-use Rattle.execution.specs.Postings.{Posting, Nothing, toPost}
-use Rattle.execution.specs.Carried.{Quiet, quietly, quietly-quiet, quietly-means, quietly-few}
+use Rattle.posting.specs.declared.Posting.{Posting}
+use Rattle.posting.specs.declared.Posting.the-variants.{Nothing}
+use Rattle.posting.specs.Postings.{toPost, Quiet, quietly, quietly-quiet, quietly-means, quietly-few}
 
 -- Posting, case by case
 

@@ -1,5 +1,4 @@
 -- What a step posts and writes, and what it makes of the tables.
-pub mod Postings
 pub mod Carried
 pub mod Agreeing
 pub mod Decisions

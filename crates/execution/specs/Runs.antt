@@ -1,11 +1,10 @@
 -- A run, step by step: it stops at the first answer other than ran, or when its steps are used up.
 use mathlib.Core.Path.{_≡_, refl, sym, ap, _∙_}
-use mathlib.Core.Bool.{Bool, true, false, false≢true, true≢false, _&&_}
+use mathlib.Core.Bool.{Bool, true, false, false≢true, true≢false}
 use mathlib.Core.Logic.{_≢_}
-use Prim.Native.Nat.{ℕ, zero, suc, _+_, _-_, _<_, _≤_}
+use Prim.Native.Nat.{ℕ, suc, _+_, _-_, _<_, _≤_}
 use native.Mathlib.Omega.{arith}
 use native.Mathlib.Numerals.{add-one}
-use lib.Dec.{leb}
 use borrow.Author.Tests.{le-leb, lt-leb}
 use Rattle.definition.specs.declared.Answer.{Answer}
 use Rattle.definition.specs.declared.Answer.the-variants.{Idle, Ran, Finished, Refused}
@@ -64,19 +63,43 @@ run-begins n t = let e : n - 0 ≡ n = omega arith in rw e
 -- Run
 
 module _ (n : ℕ) (t : Tables) where
-  pub run-broken : broken t ≡ true → done (Denied (Word 1)) t ≡ run n t
+  run-broken : broken t ≡ true → done (Denied (Word 1)) t ≡ run n t
   unfolding run
   run-broken h = rw (h, run)
 
   module _ (whole : broken t ≡ false) where
-    pub run-none : n ≡ 0 → done (Denied (Word 3)) t ≡ run n t
+    run-none : n ≡ 0 → done (Denied (Word 3)) t ≡ run n t
     unfolding run
     run-none e = rw (whole, run, e)
 
-    pub run-many : 65535 < n → done (Denied (Word 3)) t ≡ run n t
+    run-many : 65535 < n → done (Denied (Word 3)) t ≡ run n t
     unfolding run
     run-many e = rw (whole, run, le-leb 1 n (omega arith), lt-leb n 65535 e)
 
-    pub run-some : n ≢ 0 → n ≤ 65535 → (d : Done Reply) → d ≡ runFrom stepTables n 0 Idle t → d ≡ run n t
+    run-some : n ≢ 0 → n ≤ 65535 → (d : Done Reply) → d ≡ runFrom stepTables n 0 Idle t → d ≡ run n t
     unfolding run
     run-some e l d h = h ∙ rw (whole, run, le-leb 1 n (omega arith), le-leb n 65535 l)
+
+-- The word that a run of n steps is refused with, 0 if it isn't
+
+pub record Ruled (t : Tables) (n w : ℕ) : Type 0 where
+  pub allowed : w ≡ 0 → (broken t ≡ false) × (n ≢ 0) × (n ≤ 65535)
+  pub denied : w ≢ 0 → done (Denied (Word w)) t ≡ run n t
+
+module _ (n : ℕ) (t : Tables) where
+  pub ruled-broken : broken t ≡ true → Ruled t n 1
+  ruled-broken h = record { allowed = λ e. absurd (omega arith); denied = λ e. run-broken n t h }
+
+  module _ (whole : broken t ≡ false) where
+    pub ruled-none : n ≡ 0 → Ruled t n 3
+    ruled-none h = record { allowed = λ e. absurd (omega arith); denied = λ e. run-none n t whole h }
+
+    pub ruled-many : 65535 < n → Ruled t n 3
+    ruled-many h = record { allowed = λ e. absurd (omega arith); denied = λ e. run-many n t whole h }
+
+    pub ruled-runs : n ≢ 0 → n ≤ 65535 → Ruled t n 0
+    ruled-runs h l = record { allowed = λ e. (whole, h, l); denied = λ e. absurd (e refl) }
+
+  -- a run that is not refused
+  pub run-allowed : (w : ℕ) → Ruled t n w → w ≡ 0 → (d : Done Reply) → d ≡ runFrom stepTables n 0 Idle t → d ≡ run n t
+  run-allowed w h e d q = let a = h .allowed e in run-some n t (a .0) (a .1) (a .2) d q

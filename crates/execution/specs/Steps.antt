@@ -35,8 +35,10 @@ use Rattle.instructions.specs.declared.Plan.{Plan}
 use Rattle.instructions.specs.declared.Plan.the-variants.{Refuse}
 use Rattle.instructions.specs.Plans.{decoded, meaning, Fit}
 use Rattle.access.specs.Accesses.{worldIn}
-use Rattle.execution.specs.Postings.{Posting, Nothing, toPost}
-use Rattle.execution.specs.Carried.{Quiet, Ready}
+use Rattle.posting.specs.declared.Posting.{Posting}
+use Rattle.posting.specs.declared.Posting.the-variants.{Nothing}
+use Rattle.posting.specs.Postings.{toPost, Quiet}
+use Rattle.execution.specs.Carried.{Ready}
 
 -- The code of a frame's method, none if there is no such class or method
 

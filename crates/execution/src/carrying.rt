@@ -1,18 +1,33 @@
-// The one place that writes: ties posted, then a plan carried out.
-use crate::posting::Posting;
-use crate::posting::post_ties;
+// The one place that writes: ties are posted, and plans carried out.
 use definition::Answer;
 use instructions::Plan;
+use posting::Posting;
 ghost use mathlib.Core.Path.{_≡_};
+ghost use mathlib.Core.List.{[]};
 ghost use Prim.Native.Nat.{_+_, _-_, _<_, _≤_};
-ghost use lib.ListN.{getD, set};
+ghost use lib.ListN.{length, getD, set};
+ghost use Rattle.definition.specs.Lists.{writeRows};
 ghost use Rattle.definition.specs.Machine.{objectValue, newObject, entryFrame};
-ghost use Rattle.definition.specs.Tables.{tables, valueOf, sizeOf, putObject, putOperand, putLocal, putFrame, frameBase};
+ghost use Rattle.definition.specs.Tables.{tables, putTie, valueOf, sizeOf, putObject, putOperand, putLocal, putFrame, frameBase};
 ghost use Rattle.layout.specs.Cells.{moved};
 ghost use Rattle.resolution.specs.Quick.{quickBase};
-ghost use Rattle.definition.specs.Calls.{done};
-ghost use Rattle.execution.specs.Carried.{Ready, planned};
-ghost use Rattle.execution.specs.Postings.{toPost};
+ghost use Rattle.instructions.specs.Plans.{Fit};
+ghost use Rattle.posting.specs.Postings.{toPost};
+ghost use Rattle.execution.specs.Carried.{Left};
+
+// Ties posted: their rows and their count.
+pub(crate) fn post_ties(counts: &mut [u16], ties: &mut [u16], posting: Posting)
+    requires { ⌜ getD (now counts) 3 0 + length (toPost posting) ≤ 256 ⌝ }
+    ensures counted { λ _. ⌜ now (counts .exit) ≡ set (now (counts .entry)) 3 (getD (now (counts .entry)) 3 0 + length (toPost posting)) ⌝ }
+    ensures written { λ _. ⌜ now (ties .exit) ≡ writeRows putTie (toPost posting) (getD (now (counts .entry)) 3 0) (now (ties .entry)) ⌝ }
+{
+    if let Posting::Nothing = posting {
+        return;
+    }
+    let n = cells::at16(counts, 3);
+    posting::write_ties(ties, n, posting);
+    cells::put16(counts, 3, n + posting::tie_number(posting));
+}
 
 // A value pushed: the frame goes on at point q with d operands and the value above them.
 fn push(frames: &mut [u32], b: u32, q: u32, d: u32, kind: u32, bits: u32)
@@ -41,7 +56,7 @@ fn give(counts: &mut [u16], frames: &mut [u32], task: u8, m: u16, kind: u32, bit
     let d = frames::depth(frames, a);
     frames::write_depth(frames, a, d + 1);
     frames::write_operand(frames, a, d, kind, bits);
-    cells::put16(counts, 6 + cells::wide8(task), m);
+    tasks::write_frame_count(counts, task, m);
 }
 
 // A frame entered in row m + 1 of a task, above the one that goes on at point q with d operands.
@@ -65,7 +80,7 @@ fn enter(
 {
     frames::write_moved(frames, b, q, d);
     frames::write_entry(frames, frames::row(task, m + 1), c, j, o, kind, bits);
-    cells::put16(counts, 6 + cells::wide8(task), m + 2);
+    tasks::write_frame_count(counts, task, m + 2);
 }
 
 // The row of a new object of class c.
@@ -110,27 +125,23 @@ fn make(
     cells::put16(counts, 5, n + 1);
 }
 
-// The one place that writes: ties are posted, then the plan is carried out. The top frame of the task, in row m, goes on at point q.
+// A plan carried out: the top frame of the task, in row m, goes on at point q.
 pub(crate) fn carry_out(
     counts: &mut [u16],
     classes: &[u16],
     kept: &[u8],
     cache: &[u16],
-    ties: &mut [u16],
-    subtypes: &[u16],
     objects: &mut [u32],
     frames: &mut [u32],
     task: u8,
     m: u16,
     b: u32,
     q: u32,
-    posting: Posting,
     plan: Plan,
 ) -> Answer
-    requires { ⌜ Ready (quickBase (now counts) (now classes) (now kept) (now cache)) (tables (now counts) (now classes) (now kept) (now cache) (now ties) (now subtypes) (now objects) (now frames)) task m b (toPost posting) plan ⌝ }
-    ensures { λ r. ⌜ done r (tables (now (counts .exit)) (now (classes .entry)) (now (kept .entry)) (now (cache .entry)) (now (ties .exit)) (now (subtypes .entry)) (now (objects .exit)) (now (frames .exit))) ≡ planned (quickBase (now (counts .entry)) (now (classes .entry)) (now (kept .entry)) (now (cache .entry))) (tables (now (counts .entry)) (now (classes .entry)) (now (kept .entry)) (now (cache .entry)) (now (ties .entry)) (now (subtypes .entry)) (now (objects .entry)) (now (frames .entry))) task m q (toPost posting) plan ⌝ }
+    requires { ⌜ (m < 32) × Fit (quickBase (now counts) (now classes) (now kept) (now cache)) (tables (now counts) (now classes) (now kept) (now cache) [] [] (now objects) (now frames)) task m plan ⌝ }
+    ensures { λ r. ⌜ Left (quickBase (now (counts .entry)) (now (classes .entry)) (now (kept .entry)) (now (cache .entry))) (now (counts .entry)) (now (objects .entry)) (now (frames .entry)) task m b q plan r (now (counts .exit)) (now (objects .exit)) (now (frames .exit)) ⌝ }
 {
-    post_ties(counts, ties, posting);
     match plan {
         Plan::Refuse(r) => Answer::Refused(r),
         Plan::Keep(d) => {
@@ -150,7 +161,7 @@ pub(crate) fn carry_out(
             Answer::Ran(task)
         }
         Plan::Finish(bits) => {
-            cells::put16(counts, 6 + cells::wide8(task), 0);
+            tasks::write_frame_count(counts, task, 0);
             Answer::Finished(task, bits)
         }
         Plan::Field(d, o, j, kind, bits) => {

@@ -1,10 +1,10 @@
 // The decision on the instruction of a task's top frame, on shared tables.
-use crate::posting::Posting;
 use crate::settling::Decision;
 use crate::settling::plain;
 use crate::settling::settle_access;
 use definition::Instruction;
 use instructions::Plan;
+use posting::Posting;
 use verifier::Reading;
 ghost use mathlib.Core.Path.{_≡_};
 ghost use mathlib.Core.Bool.{false};

@@ -1,9 +1,8 @@
 // One step, a run of steps, and the start of a task, on the lent tables.
-mod posting; // posting.rt: ties that a step posts
 mod settling; // settling.rt: a plan with the ties that it posts
 mod deciding; // deciding.rt: the decision on the instruction of a top frame
 mod carrying; // carrying.rt: the one place that writes
-mod turns; // turns.rt: whose turn it is, and one step
+mod turns; // turns.rt: one step, of the task whose turn it is
 mod runs; // runs.rt: a run of steps
 mod starting; // starting.rt: the start of a task
 

@@ -8,7 +8,7 @@ ghost use mathlib.Core.Bool.{false};
 ghost use Rattle.definition.specs.Tables.{tables};
 ghost use Rattle.definition.specs.Broken.{broken};
 ghost use Rattle.definition.specs.Calls.{done, stepTables, runFrom, run};
-ghost use Rattle.execution.specs.Runs.{goesOn};
+ghost use Rattle.execution.specs.Runs.{goesOn, Ruled};
 
 fn is_ran(a: Answer) -> bool
     ensures { λ r. ⌜ r ≡ goesOn a ⌝ }
@@ -58,6 +58,38 @@ fn steps(
     Reply::RanFor(k, last)
 }
 
+// The word that a run of n steps is refused with, 0 if it isn't.
+fn denied(
+    counts: &[u16],
+    classes: &[u16],
+    kept: &[u8],
+    cache: &[u16],
+    ties: &[u16],
+    subtypes: &[u16],
+    objects: &[u32],
+    frames: &[u32],
+    n: u32,
+) -> u8
+    ensures { λ r. ⌜ Ruled (tables (now (counts .entry)) (now (classes .entry)) (now (kept .entry)) (now (cache .entry)) (now (ties .entry)) (now (subtypes .entry)) (now (objects .entry)) (now (frames .entry))) n r ⌝ }
+{
+    if store::is_broken(
+        counts,
+        classes,
+        kept,
+        cache,
+        ties,
+        subtypes,
+        objects,
+        frames,
+    ) {
+        return 1;
+    }
+    if n == 0 {
+        return 3;
+    }
+    if 65535 < n { 3 } else { 0 }
+}
+
 // Up to n steps, n from 1 to 65,535, ended by the first answer other than ran.
 pub fn run(
     counts: &mut [u16],
@@ -72,7 +104,7 @@ pub fn run(
 ) -> Reply
     ensures { λ r. ⌜ done r (tables (now (counts .exit)) (now (classes .entry)) (now (kept .entry)) (now (cache .entry)) (now (ties .exit)) (now (subtypes .entry)) (now (objects .exit)) (now (frames .exit))) ≡ run n (tables (now (counts .entry)) (now (classes .entry)) (now (kept .entry)) (now (cache .entry)) (now (ties .entry)) (now (subtypes .entry)) (now (objects .entry)) (now (frames .entry))) ⌝ }
 {
-    if store::is_broken(
+    let word = denied(
         counts,
         classes,
         kept,
@@ -81,14 +113,10 @@ pub fn run(
         subtypes,
         objects,
         frames,
-    ) {
-        return Reply::Denied(Refusal::Word(1));
-    }
-    if n == 0 {
-        return Reply::Denied(Refusal::Word(3));
-    }
-    if 65535 < n {
-        return Reply::Denied(Refusal::Word(3));
+        n,
+    );
+    if word != 0 {
+        return Reply::Denied(Refusal::Word(word));
     }
     steps(
         counts,

@@ -1,35 +1,61 @@
 // A plan settled with the ties that it posts: first no room and clashes are refused, and a refusal posts nothing.
-use crate::posting::Posting;
-use crate::posting::agrees_with;
-use crate::posting::new_ties;
-use crate::posting::tie_number;
 use access::Access;
 use definition::Refusal;
 use instructions::Plan;
+use posting::Posting;
 ghost use mathlib.Core.Path.{_≡_};
+ghost use mathlib.Core.List.{[]};
+ghost use Prim.Native.Nat.{_+_, _≤_};
 ghost use lib.ListN.{length, getD};
 ghost use Rattle.definition.specs.Lists.{rows};
-ghost use Rattle.definition.specs.Tables.{tieAt};
+ghost use Rattle.definition.specs.Tables.{tables, tieAt};
+ghost use Rattle.definition.specs.Constraints.{posted, agrees};
 ghost use Rattle.layout.specs.Unbroken.{Counts};
-ghost use Rattle.access.specs.Accesses.{tiesOn};
-ghost use Rattle.execution.specs.Carried.{quietly};
+ghost use Rattle.resolution.specs.Quick.{quickBase};
+ghost use Rattle.access.specs.Accesses.{worldIn, tiesOn};
+ghost use Rattle.posting.specs.Postings.{toPost, quietly};
 ghost use Rattle.execution.specs.Decisions.{Settled, Narrow, AccessSettled};
 
-// What is posted with a plan: nothing with a refusal.
-fn quiet(posting: Posting, plan: Plan) -> Posting
-    ensures { λ r. ⌜ r ≡ quietly posting plan ⌝ }
+// A table copied into another of its length.
+fn copy_rows(to: &mut [u16], from: &[u16])
+    requires { ⌜ length (now to) ≡ length (now from) ⌝ }
+    ensures { λ _. ⌜ now (to .exit) ≡ now (from .entry) ⌝ }
 {
-    match plan {
-        Plan::Refuse(_) => Posting::Nothing,
-        Plan::Keep(_) => posting,
-        Plan::Above(_, _, _) => posting,
-        Plan::Local(_, _, _, _) => posting,
-        Plan::Give(_, _) => posting,
-        Plan::Finish(_) => posting,
-        Plan::Field(_, _, _, _, _) => posting,
-        Plan::Enter(_, _, _, _, _, _) => posting,
-        Plan::Make(_, _) => posting,
+    let mut i = 0;
+    while i < from.len() {
+        to[i] = from[i];
+        i += 1;
     }
+}
+
+// Whether the store agrees with ties that are to be posted, tried on a copy of the ties.
+fn agrees_with(
+    counts: &[u16],
+    classes: &[u16],
+    kept: &[u8],
+    cache: &[u16],
+    ties: &[u16],
+    subtypes: &[u16],
+    posting: Posting,
+) -> bool
+    requires { ⌜ Counts (now counts) × (length (now ties) ≡ 768) × (getD (now counts) 3 0 + length (toPost posting) ≤ 256) ⌝ }
+    ensures { λ r. ⌜ r ≡ agrees (posted (worldIn (quickBase (now (counts .entry)) (now (classes .entry)) (now (kept .entry)) (now (cache .entry))) (tables (now (counts .entry)) (now (classes .entry)) (now (kept .entry)) (now (cache .entry)) (now (ties .entry)) (now (subtypes .entry)) [] [])) (toPost posting)) ⌝ }
+{
+    let n = cells::at16(counts, 3);
+    let mut tried = [0u16; 768];
+    copy_rows(&mut tried, ties);
+    posting::write_ties(&mut tried, n, posting);
+    let mut supers = [0u8; 64];
+    resolution::fill_supers(&mut supers, counts, classes, kept, cache);
+    constraints::agree(
+        &supers,
+        cache,
+        cells::at16(counts, 2),
+        &tried,
+        n + posting::tie_number(posting),
+        subtypes,
+        cells::at16(counts, 4),
+    )
 }
 
 // What a step decides: the ties that it posts, and the plan that it then carries out.
@@ -51,7 +77,7 @@ fn decided(posting: Posting, plan: Plan) -> Decision
     ensures { λ r. ⌜ (r .posting ≡ quietly posting plan) × (r .plan ≡ plan) ⌝ }
 {
     Decision {
-        posting: quiet(posting, plan),
+        posting: posting::quiet(posting, plan),
         plan,
     }
 }
@@ -78,8 +104,8 @@ fn settle(
         return refused(10);
     }
     let n = cells::at16(counts, 3);
-    let posting = new_ties(ties, n, one, two, first, second);
-    let k = tie_number(posting);
+    let posting = posting::new_ties(ties, n, one, two, first, second);
+    let k = posting::tie_number(posting);
     if k == 0 {
         return decided(posting, plan);
     }

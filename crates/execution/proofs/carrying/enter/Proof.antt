@@ -7,11 +7,11 @@ use Rattle.execution.proofs.carrying.enter.Tie as tie
 add-row : tie.Need-add-row
 add-row c = omega (arith, c .before .before .before .before .before .before .before .pre)
 
-add-put16-2 : tie.Need-add-put16-2
-add-put16-2 c = omega (arith, c .before .before .before .before .before .before .before .before .before .before .before .before .before .pre)
+add-write-frame-count : tie.Need-add-write-frame-count
+add-write-frame-count c = omega (arith, c .before .before .before .before .before .before .before .before .before .before .before .before .pre)
 
 returns : tie.Need-returns
-returns c = (rw (c .before .before .put16 .ensures, c .before .before .before .wide8 .ensures .0), rw (c .before .before .before .before .before .before .before .write-entry .ensures, c .before .before .before .before .before .before .before .before .row .ensures, c .before .before .before .before .before .before .before .before .before .before .before .before .write-moved .ensures))
+returns c = (c .before .before .write-frame-count .ensures, rw (c .before .before .before .before .before .before .write-entry .ensures, c .before .before .before .before .before .before .before .row .ensures, c .before .before .before .before .before .before .before .before .before .before .before .write-moved .ensures))
 
 pub enter-spec : {M : Type 1} → statement M
 enter-spec =
@@ -21,9 +21,7 @@ enter-spec =
     add-row
     (λ c κs. search needs)
     (λ c κs. search needs)
-    (λ c κs. search needs)
-    (λ c. search needs)
-    add-put16-2
+    add-write-frame-count
     (λ c κs. search needs)
     (λ c. search needs)
     (λ c. search needs)

@@ -12,7 +12,7 @@ add-write-depth : tie.Need-add-write-depth
 add-write-depth c = let h : c .before .depth .result < 16 = rw (c .before .depth .ensures, c .before .before .before .row .ensures) (c .before .before .before .before .before .before .pre .1) in omega (arith, h)
 
 returns : tie.Need-returns
-returns c = (rw (c .before .before .put16 .ensures, c .before .before .before .wide8 .ensures .0), rw (c .before .before .before .before .before .before .before .write-operand .ensures, c .before .before .before .before .before .before .before .before .before .before .before .write-depth .ensures, c .before .before .before .before .before .before .before .before .before .before .before .before .before .depth .ensures, c .before .before .before .before .before .before .before .before .before .before .before .before .before .before .before .row .ensures))
+returns c = (c .before .before .write-frame-count .ensures, rw (c .before .before .before .before .before .before .write-operand .ensures, c .before .before .before .before .before .before .before .before .before .before .write-depth .ensures, c .before .before .before .before .before .before .before .before .before .before .before .before .depth .ensures, c .before .before .before .before .before .before .before .before .before .before .before .before .before .before .row .ensures))
 
 pub give-spec : {M : Type 1} → statement M
 give-spec =
@@ -24,8 +24,6 @@ give-spec =
     add-write-depth
     (λ c κs. search needs)
     (λ c κs. search needs)
-    (λ c κs. search needs)
-    (λ c. search needs)
     (λ c κs. search needs)
     (λ c. search needs)
     (λ c. search needs)

@@ -1,28 +1,21 @@
--- One test for 'broken', then n's limits, then the steps.
-use mathlib.Core.Path.{sym, _∙_}
+-- A run that is refused changes nothing; any other takes its steps.
 use native.Mathlib.Omega.{arith}
+use Rattle.execution.specs.Runs.{run-allowed}
 use borrow.Author.Needs.{needs}
-use Rattle.execution.specs.Runs.{run-broken, run-none, run-many, run-some}
 use Rattle.execution.proofs.runs.run.Statement.{statement}
 use Rattle.execution.proofs.runs.run.Tie as tie
 
 returns : tie.Need-returns
-returns c = run-broken _ _ (sym (c .before .is-broken .ensures) ∙ c .if1 .taken)
-
-returns-2 : tie.Need-returns-2
-returns-2 c = run-none _ _ (sym (c .before .before .is-broken .ensures) ∙ c .before .if1 .left) (c .if2 .taken)
-
-returns-3 : tie.Need-returns-3
-returns-3 c = run-many _ _ (sym (c .before .before .before .is-broken .ensures) ∙ c .before .before .if1 .left) (c .if3 .taken)
+returns c = c .before .denied .ensures .denied (c .if1 .taken)
 
 cast-steps : tie.Need-cast-steps
-cast-steps c = omega (arith, c .before .before .before .before .if3 .left)
+cast-steps c = omega (arith, c .before .before .before .before .before .denied .ensures .allowed (c .before .before .before .before .if1 .left) .2)
 
 steps-requires : tie.Need-steps-requires
-steps-requires c κs = sym (c .before .before .before .before .before .before .before .is-broken .ensures) ∙ c .before .before .before .before .before .before .if1 .left
+steps-requires c κs = c .before .before .before .before .before .denied .ensures .allowed (c .before .before .before .before .if1 .left) .0
 
-returns-4 : tie.Need-returns-4
-returns-4 c = run-some _ _ (sym (c .before .before .before .before .before .before .before .before .before .before .before .before .before .before .before .before .is-broken .ensures) ∙ c .before .before .before .before .before .before .before .before .before .before .before .before .before .before .before .if1 .left) (c .before .before .before .before .before .before .before .before .before .before .before .before .before .before .if2 .left) (c .before .before .before .before .before .before .before .before .before .before .before .before .before .if3 .left) _ (c .before .before .before .before .before .before .before .before .steps .ensures)
+returns-2 : tie.Need-returns-2
+returns-2 c = run-allowed _ _ _ (c .before .before .before .before .before .before .before .before .before .before .before .before .before .before .denied .ensures) (c .before .before .before .before .before .before .before .before .before .before .before .before .before .if1 .left) _ (c .before .before .before .before .before .before .before .before .steps .ensures)
 
 pub run-spec : {M : Type 1} → statement M
 run-spec =
@@ -34,20 +27,10 @@ run-spec =
     (λ c. search needs)
     (λ c. search needs)
     returns
-    (λ c. search needs)
-    (λ c. search needs)
-    (λ c. search needs)
-    (λ c. search needs)
-    returns-2
-    (λ c. search needs)
-    (λ c. search needs)
-    (λ c. search needs)
-    (λ c. search needs)
-    returns-3
     cast-steps
     steps-requires
     (λ c. search needs)
     (λ c. search needs)
     (λ c. search needs)
     (λ c. search needs)
-    returns-4)
+    returns-2)

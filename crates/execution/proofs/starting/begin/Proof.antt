@@ -1,8 +1,8 @@
 -- The object's row, the first frame's row, and both counts.
 use native.Mathlib.Omega.{arith}
-use borrow.Author.Needs.{needs}
 use Rattle.definition.specs.Instructions.{pick}
 use Rattle.definition.specs.Tables.{valueOf}
+use borrow.Author.Needs.{needs}
 use Rattle.execution.proofs.starting.begin.Statement.{statement}
 use Rattle.execution.proofs.starting.begin.Tie as tie
 
@@ -14,7 +14,7 @@ add-put16 c = omega (arith, c .before .before .before .before .before .before .b
 
 returns : tie.Need-returns
 unfolding valueOf pick
-returns c = (rw (c .before .before .put162 .ensures, c .before .before .before .wide8 .ensures .0, c .before .before .before .before .before .before .before .put16 .ensures, c .before .before .before .before .before .before .before .before .before .before .before .before .before .before .before .before .before .before .before .before .before .at16 .ensures), (rw (c .before .before .before .before .before .before .before .before .before .before .before .before .before .before .before .before .before .write-new .ensures, c .before .before .before .before .before .before .before .before .before .before .before .before .before .before .before .before .before .before .from16 .ensures .0, c .before .before .before .before .before .before .before .before .before .before .before .before .before .before .before .before .before .before .before .before .before .at16 .ensures), rw (c .before .before .before .before .before .before .before .before .before .before .before .write-entry .ensures, c .before .before .before .before .before .before .before .before .before .before .before .before .before .row .ensures, c .before .before .before .before .before .before .before .before .before .before .before .before .from162 .ensures .0, c .before .before .before .before .before .before .before .before .before .before .before .before .before .before .before .before .before .before .before .before .before .at16 .ensures)))
+returns c = (rw (c .before .before .write-frame-count .ensures, c .before .before .before .before .before .before .put16 .ensures, c .before .before .before .before .before .before .before .before .before .before .before .before .before .before .before .before .before .before .before .before .at16 .ensures), (rw (c .before .before .before .before .before .before .before .before .before .before .before .before .before .before .before .before .write-new .ensures, c .before .before .before .before .before .before .before .before .before .before .before .before .before .before .before .before .before .from16 .ensures .0, c .before .before .before .before .before .before .before .before .before .before .before .before .before .before .before .before .before .before .before .before .at16 .ensures), rw (c .before .before .before .before .before .before .before .before .before .before .write-entry .ensures, c .before .before .before .before .before .before .before .before .before .before .before .before .row .ensures, c .before .before .before .before .before .before .before .before .before .before .before .from162 .ensures .0, c .before .before .before .before .before .before .before .before .before .before .before .before .before .before .before .before .before .before .before .before .at16 .ensures)))
 
 pub begin-spec : {M : Type 1} → statement M
 begin-spec =
@@ -28,8 +28,6 @@ begin-spec =
     (λ c κs. search needs)
     add-put16
     (λ c κs. search needs)
-    (λ c κs. search needs)
-    (λ c. search needs)
     (λ c κs. search needs)
     (λ c. search needs)
     (λ c. search needs)

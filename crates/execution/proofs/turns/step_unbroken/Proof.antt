@@ -1,19 +1,26 @@
--- Nobody's turn is idle; else it is the step of the task whose turn it is.
+-- Nobody's turn is idle; else what was chosen is carried out, and that is the step of the task whose turn it is.
 use denote.Ref.{now}
+use Rattle.tasks.specs.Turns.{turn-two}
+use Rattle.execution.specs.Carried.{still-ready}
+use Rattle.execution.specs.Turns.{turn-idle, turn-count, turn-carried}
 use borrow.Author.Needs.{needs}
-use Rattle.execution.specs.Turns.{turn-two, turn-idle, turn-count, turn-taken}
-use Rattle.definition.specs.Tables.{tables}
 use Rattle.execution.proofs.turns.step_unbroken.Statement.{statement}
 use Rattle.execution.proofs.turns.step_unbroken.Tie as tie
 
 returns : tie.Need-returns
-returns c = turn-idle (tables (now (c .before .before .before .before .before .before .before .before .before .before .before .before .before .before .args .counts)) (now (c .before .before .before .before .before .before .before .before .before .before .before .before .before .before .args .classes)) (now (c .before .before .before .before .before .before .before .before .before .before .before .before .before .before .args .kept)) (now (c .before .before .before .before .before .before .before .before .before .before .before .before .before .before .args .cache)) (now (c .before .before .before .before .before .before .before .before .before .before .before .before .before .before .args .ties)) (now (c .before .before .before .before .before .before .before .before .before .before .before .before .before .before .args .subtypes)) (now (c .before .before .before .before .before .before .before .before .before .before .before .before .before .before .args .objects)) (now (c .before .before .before .before .before .before .before .before .before .before .before .before .before .before .args .frames))) (c .before .before .before .before .before .before .before .before .before .before .before .before .before .before .pre) _ _ (c .before .before .before .before .turn .ensures) (rw (← c .before .before .wide8 .ensures .0) (c .before .at16 .ensures)) (c .if1 .taken)
+returns c = turn-idle _ _ _ _ _ _ _ _ (c .before .before .before .before .before .before .before .before .before .before .before .before .before .pre) _ _ (c .before .before .before .turn .ensures) (c .before .frame-count .ensures) (c .if1 .taken)
 
-step-task-requires : tie.Need-step-task-requires
-step-task-requires c κs = (c .before .before .before .before .before .before .before .before .before .before .before .before .before .before .before .before .before .before .pre, rw (c .before .before .before .before .before .before .before .before .turn .ensures) (turn-two (now (c .before .before .before .before .before .before .before .before .before .before .before .before .before .before .before .before .before .before .args .counts))), turn-count (tables (now (c .before .before .before .before .before .before .before .before .before .before .before .before .before .before .before .before .before .before .args .counts)) (now (c .before .before .before .before .before .before .before .before .before .before .before .before .before .before .before .before .before .before .args .classes)) (now (c .before .before .before .before .before .before .before .before .before .before .before .before .before .before .before .before .before .before .args .kept)) (now (c .before .before .before .before .before .before .before .before .before .before .before .before .before .before .before .before .before .before .args .cache)) (now (c .before .before .before .before .before .before .before .before .before .before .before .before .before .before .before .before .before .before .args .ties)) (now (c .before .before .before .before .before .before .before .before .before .before .before .before .before .before .before .before .before .before .args .subtypes)) (now (c .before .before .before .before .before .before .before .before .before .before .before .before .before .before .before .before .before .before .args .objects)) (now (c .before .before .before .before .before .before .before .before .before .before .before .before .before .before .before .before .before .before .args .frames))) (c .before .before .before .before .before .before .before .before .before .before .before .before .before .before .before .before .before .before .pre) _ _ (c .before .before .before .before .before .before .before .before .turn .ensures) (rw (← c .before .before .before .before .before .before .wide8 .ensures .0) (c .before .before .before .before .before .at16 .ensures)) (c .before .before .before .before .if1 .left))
+choose-requires : tie.Need-choose-requires
+choose-requires c κs = (c .before .before .before .before .before .before .before .before .before .before .before .before .before .before .before .before .before .before .pre, rw (c .before .before .before .before .before .before .before .before .turn .ensures) (turn-two (now (c .before .before .before .before .before .before .before .before .before .before .before .before .before .before .before .before .before .before .args .counts))), turn-count _ _ _ _ _ _ _ _ (c .before .before .before .before .before .before .before .before .before .before .before .before .before .before .before .before .before .before .pre) _ _ (c .before .before .before .before .before .before .before .before .turn .ensures) (c .before .before .before .before .before .before .frame-count .ensures) (c .before .before .before .before .before .if1 .left), c .before .before .before .before .row .ensures)
+
+post-ties-requires : tie.Need-post-ties-requires
+post-ties-requires c κs = c .before .before .choose .ensures .ready .ties
+
+carry-out-requires : tie.Need-carry-out-requires
+carry-out-requires c κs = still-ready _ _ _ _ _ _ _ _ _ _ _ _ _ (c .before .before .before .before .before .before .before .before .before .before .choose .ensures .ready) _ (c .before .before .before .before .before .before .before .post-ties .ensures .0)
 
 returns-2 : tie.Need-returns-2
-returns-2 c = turn-taken (tables (now (c .before .before .before .before .before .before .before .before .before .before .before .before .before .before .before .before .before .before .before .before .before .before .before .before .before .before .before .args .counts)) (now (c .before .before .before .before .before .before .before .before .before .before .before .before .before .before .before .before .before .before .before .before .before .before .before .before .before .before .before .args .classes)) (now (c .before .before .before .before .before .before .before .before .before .before .before .before .before .before .before .before .before .before .before .before .before .before .before .before .before .before .before .args .kept)) (now (c .before .before .before .before .before .before .before .before .before .before .before .before .before .before .before .before .before .before .before .before .before .before .before .before .before .before .before .args .cache)) (now (c .before .before .before .before .before .before .before .before .before .before .before .before .before .before .before .before .before .before .before .before .before .before .before .before .before .before .before .args .ties)) (now (c .before .before .before .before .before .before .before .before .before .before .before .before .before .before .before .before .before .before .before .before .before .before .before .before .before .before .before .args .subtypes)) (now (c .before .before .before .before .before .before .before .before .before .before .before .before .before .before .before .before .before .before .before .before .before .before .before .before .before .before .before .args .objects)) (now (c .before .before .before .before .before .before .before .before .before .before .before .before .before .before .before .before .before .before .before .before .before .before .before .before .before .before .before .args .frames))) (c .before .before .before .before .before .before .before .before .before .before .before .before .before .before .before .before .before .before .before .before .before .before .before .before .before .before .before .pre) _ _ (c .before .before .before .before .before .before .before .before .before .before .before .before .before .before .before .before .before .turn .ensures) (rw (← c .before .before .before .before .before .before .before .before .before .before .before .before .before .before .before .wide8 .ensures .0) (c .before .before .before .before .before .before .before .before .before .before .before .before .before .before .at16 .ensures)) (c .before .before .before .before .before .before .before .before .before .before .before .before .before .if1 .left) _ (c .before .before .before .before .before .before .before .before .step-task .ensures)
+returns-2 c = turn-carried _ _ _ _ _ _ _ _ (c .before .before .before .before .before .before .before .before .before .before .before .before .before .before .before .before .before .before .before .before .before .before .before .before .before .before .before .before .before .before .before .before .before .before .before .before .pre) _ _ (c .before .before .before .before .before .before .before .before .before .before .before .before .before .before .before .before .before .before .before .before .before .before .before .before .before .before .turn .ensures) (c .before .before .before .before .before .before .before .before .before .before .before .before .before .before .before .before .before .before .before .before .before .before .before .before .frame-count .ensures) (c .before .before .before .before .before .before .before .before .before .before .before .before .before .before .before .before .before .before .before .before .before .before .before .if1 .left) _ _ _ _ (c .before .before .before .before .before .before .before .before .before .before .before .before .before .before .before .before .before .choose .ensures) _ _ (c .before .before .before .before .before .before .before .before .before .before .before .before .before .before .post-ties .ensures .0) (c .before .before .before .before .before .before .before .before .before .before .before .before .before .before .post-ties .ensures .1) _ _ _ _ (c .before .before .before .before .before .before .carry-out .ensures)
 
 pub step-unbroken-spec : {M : Type 1} → statement M
 step-unbroken-spec =
@@ -22,11 +29,12 @@ step-unbroken-spec =
     (λ c κs. search needs)
     (λ c κs. search needs)
     (λ c. search needs)
-    (λ c κs. search needs)
-    (λ c. search needs)
     returns
     (λ c. search needs)
-    step-task-requires
+    (λ c κs. search needs)
+    choose-requires
+    post-ties-requires
+    carry-out-requires
     (λ c. search needs)
     (λ c. search needs)
     (λ c. search needs)

@@ -1,0 +1,61 @@
+-- Each refusal in its order, and else what was selected.
+use mathlib.Core.Path.{refl, sym, _∙_}
+use native.Mathlib.Omega.{arith}
+use borrow.Author.Tests.{not-true, not-false}
+use Rattle.opening.specs.Openings.{open-no-task, open-unknown, open-busy, open-wanted, open-absent, open-full, open-first, known-loader}
+use Rattle.resolution.specs.Lookups.{selection-at, selection-absent}
+use Rattle.access.specs.Members.{cached, uncached}
+use borrow.Author.Needs.{needs}
+use Rattle.opening.proofs.decide.Statement.{statement}
+use Rattle.opening.proofs.decide.Tie as tie
+
+returns : tie.Need-returns
+returns c = open-no-task _ _ _ _ _ _ _ _ (c .if1 .taken)
+
+returns-2 : tie.Need-returns-2
+returns-2 c = open-unknown _ _ _ _ _ _ _ _ (c .before .before .if1 .left) (sym (c .before .are-known .ensures) ∙ not-true _ (c .if2 .taken))
+
+returns-3 : tie.Need-returns-3
+returns-3 c = open-busy _ _ _ _ _ _ _ _ (c .before .before .before .before .if1 .left) (sym (c .before .before .before .are-known .ensures) ∙ not-false _ (c .before .before .if2 .left)) (λ e. c .if3 .taken (c .before .frame-count .ensures ∙ e))
+
+cast-find : tie.Need-cast-find
+cast-find c = omega (arith, known-loader (c .before .before .before .before .before .before .before .before .before .args .loader) (c .before .before .before .before .before .before .before .before .before .args .name) (c .before .before .before .before .before .before .before .before .before .args .method) (sym (c .before .before .before .are-known .ensures) ∙ not-false _ (c .before .before .if2 .left)))
+
+cast-t20 : tie.Need-cast-t20
+cast-t20 c = omega (arith, known-loader (c .before .before .before .before .before .before .before .before .before .before .before .before .args .loader) (c .before .before .before .before .before .before .before .before .before .before .before .before .args .name) (c .before .before .before .before .before .before .before .before .before .before .before .before .args .method) (sym (c .before .before .before .before .before .before .are-known .ensures) ∙ not-false _ (c .before .before .before .before .before .if2 .left)))
+
+returns-4 : tie.Need-returns-4
+returns-4 c = open-wanted _ _ _ _ _ _ _ _ (c .before .before .before .before .before .before .before .if1 .left) (sym (c .before .before .before .before .before .before .are-known .ensures) ∙ not-false _ (c .before .before .before .before .before .if2 .left)) (rw (c .before .before .before .if3 .left) at (sym (c .before .before .before .before .frame-count .ensures))) (uncached _ _ _ _ _ _ _ _ (c .before .before .find .ensures) refl (c .enum-told .given .1))
+
+returns-5 : tie.Need-returns-5
+returns-5 c = open-absent _ _ _ _ _ _ _ _ (c .before .before .before .before .before .before .before .before .before .before .before .if1 .left) (sym (c .before .before .before .before .before .before .before .before .before .before .are-known .ensures) ∙ not-false _ (c .before .before .before .before .before .before .before .before .before .if2 .left)) (rw (c .before .before .before .before .before .before .before .if3 .left) at (sym (c .before .before .before .before .before .before .before .before .frame-count .ensures))) _ (cached _ _ _ _ _ _ _ _ (c .before .before .before .before .before .before .find .ensures) refl _ (c .before .before .before .before .c .given .1)) (selection-absent _ _ _ _ _ (sym (c .before .before .select-method .ensures) ∙ c .enum-told2 .given .1))
+
+returns-6 : tie.Need-returns-6
+returns-6 c = let x = (selection-at _ _ _ _ _ _ _ (sym (c .before .before .before .before .before .select-method .ensures) ∙ c .before .before .before .s .given .1)) in open-full _ _ _ _ _ _ _ _ (c .before .before .before .before .before .before .before .before .before .before .before .before .before .before .if1 .left) (sym (c .before .before .before .before .before .before .before .before .before .before .before .before .before .are-known .ensures) ∙ not-false _ (c .before .before .before .before .before .before .before .before .before .before .before .before .if2 .left)) (rw (c .before .before .before .before .before .before .before .before .before .before .if3 .left) at (sym (c .before .before .before .before .before .before .before .before .before .before .before .frame-count .ensures))) _ (cached _ _ _ _ _ _ _ _ (c .before .before .before .before .before .before .before .before .before .find .ensures) refl _ (c .before .before .before .before .before .before .before .c .given .1)) _ (x .0) _ (x .1) (rw (c .before .at16 .ensures) at (c .if4 .taken))
+
+returns-7 : tie.Need-returns-7
+returns-7 c = let x = (selection-at _ _ _ _ _ _ _ (sym (c .before .before .before .before .before .select-method .ensures) ∙ c .before .before .before .s .given .1)) in open-first _ _ _ _ _ _ _ _ (c .before .before .before .before .before .before .before .before .before .before .before .before .before .before .if1 .left) (sym (c .before .before .before .before .before .before .before .before .before .before .before .before .before .are-known .ensures) ∙ not-false _ (c .before .before .before .before .before .before .before .before .before .before .before .before .if2 .left)) (rw (c .before .before .before .before .before .before .before .before .before .before .if3 .left) at (sym (c .before .before .before .before .before .before .before .before .before .before .before .frame-count .ensures))) _ (cached _ _ _ _ _ _ _ _ (c .before .before .before .before .before .before .before .before .before .find .ensures) refl _ (c .before .before .before .before .before .before .before .c .given .1)) _ (x .0) _ (x .1) (rw (c .before .at16 .ensures) at (c .if4 .left))
+
+pub decide-spec : {M : Type 1} → statement M
+decide-spec =
+    tie.close
+    (tie.spec
+    returns
+    (λ c κs. search needs)
+    returns-2
+    (λ c. search needs)
+    (λ c κs. search needs)
+    returns-3
+    cast-find
+    (λ c κs. search needs)
+    (λ c. search needs)
+    (λ c. search needs)
+    cast-t20
+    returns-4
+    (λ c κs. search needs)
+    (λ c. search needs)
+    (λ c. search needs)
+    returns-5
+    (λ c κs. search needs)
+    returns-6
+    returns-7)

@@ -1,0 +1,2 @@
+-- What is decided on a start.
+pub mod Openings

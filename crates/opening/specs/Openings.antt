@@ -1,0 +1,134 @@
+-- What is decided on a start: a refusal, or an object's class and the first frame's method.
+use mathlib.Core.Path.{_≡_, refl}
+use mathlib.Core.Bool.{Bool, true, false, false≢true, _&&_}
+use mathlib.Core.Option.{none, some}
+use mathlib.Core.List.{List, [], _∷_, _++_}
+use mathlib.Core.Logic.{_≢_}
+use Prim.Native.Nat.{ℕ, zero, suc, _+_, _<_, _≤_}
+use native.Mathlib.Omega.{arith}
+use lib.ListN.{length, getD}
+use lib.Dec.{leb, ltb}
+use borrow.Author.Tests.{lt-ltb, le-ltb, lt-leb, ltb-true}
+use Rattle.definition.specs.Lists.{indexOf}
+use Rattle.definition.specs.Requests.{at}
+use Rattle.definition.specs.Superclasses.{nearest}
+use Rattle.definition.specs.Classes.{Base, find, superOf, alike, methodsOf, hasMethod}
+use Rattle.definition.specs.Constraints.{World}
+use Rattle.definition.specs.declared.Refusal.the-variants.{Wanted, Word}
+use Rattle.definition.specs.Answers.{Result, refused, ok, _>>=_, need, take?}
+use Rattle.definition.specs.Machine.{intValue, Object, newObject, entryFrame, Progress}
+use Rattle.definition.specs.Loading.{started}
+use Rattle.definition.specs.Tables.{Tables, tables, frameIn, objectsOf, framesOf, viewOver}
+use Rattle.definition.specs.Calls.{framesIn}
+use Rattle.layout.specs.Places.{stack-length}
+use Rattle.layout.specs.View.{countAt, objects-fill}
+use Rattle.resolution.specs.Quick.{quickBase}
+use Rattle.access.specs.Accesses.{worldIn}
+pub use Rattle.opening.specs.declared.Opening.{Opening}
+pub use Rattle.opening.specs.declared.Opening.the-variants.{Deny, First}
+
+-- an answer's meaning: a refusal, or an object of class c and a first frame in method j of class s
+unfoldable pub openedAs : World → List Object → ℕ → Opening → Result Progress
+openedAs w os v (Deny r) = refused r
+openedAs w os v (First c s j) =
+    ok (record { world = w; objects = os ++ (newObject (w .base) c ∷ []); frames = entryFrame s j (length os) (intValue v) ∷ []; result = none })
+
+-- what carrying it out asks
+abbrev pub OpeningFits : List ℕ → Base → ℕ → ℕ → ℕ → Opening → Type 0
+OpeningFits N B k l n (Deny r) = Unit {0}
+OpeningFits N B k l n (First c s j) = (k < 2) × (getD N 5 0 < 256) × (find (B .cache) (at l n) ≡ some c)
+
+-- The answer r is right for a start of task k in method m of class n under loader l, whatever constraints, objects and frames there are
+
+pub record Opened (N L K E : List ℕ) (k l n m : ℕ) (r : Opening) : Type 0 where
+  pub says : (I S O F : List ℕ) (v : ℕ)
+      → (let B = quickBase N L K E in let t = tables N L K E I S O F in
+      openedAs (worldIn B t) (objectsOf B t) v r
+      ≡ (need (ltb k 2) (Word 3) >>= λ _. started l n m v (worldIn B t) (objectsOf B t) (framesIn k (viewOver B t))))
+  pub fits : OpeningFits N (quickBase N L K E) k l n r
+
+-- how many frames a task has
+frames-count : (B : Base) (t : Tables) (k : ℕ) → k < 2 → length (framesIn k (viewOver B t)) ≡ countAt t (6 + k)
+unfolding viewOver framesOf
+frames-count B t zero h = stack-length (frameIn (t .frames) 0) (countAt t 6)
+frames-count B t (suc zero) h = stack-length (frameIn (t .frames) 1) (countAt t 7)
+frames-count B t (suc (suc k)) h = absurd (omega arith)
+
+-- The cases, in order
+
+module _ (N L K E : List ℕ) (k l n m : ℕ) where
+  abbrev B : Base
+  B = quickBase N L K E
+
+  pub open-no-task : 2 ≤ k → Opened N L K E k l n m (Deny (Word 3))
+  unfolding openedAs need _>>=_
+  open-no-task h = record { says = λ I S O F v. rw (le-ltb k 2 h); fits = tt }
+
+  module _ (two : k < 2) where
+    pub open-unknown : (ltb l 16 && leb 2 n && leb 1 m) ≡ false → Opened N L K E k l n m (Deny (Word 3))
+    unfolding openedAs need _>>=_ started
+    open-unknown h = record { says = λ I S O F v. rw (lt-ltb k 2 two, h); fits = tt }
+
+    module _ (known : (ltb l 16 && leb 2 n && leb 1 m) ≡ true) where
+      pub open-busy : getD N (6 + k) 0 ≢ 0 → Opened N L K E k l n m (Deny (Word 12))
+      unfolding openedAs need _>>=_ started
+      open-busy h = record {
+        says = λ I S O F v. rw (lt-ltb k 2 two, known, frames-count B (tables N L K E I S O F) k two, lt-leb (getD N (6 + k) 0) 0 (omega arith));
+        fits = tt;
+      }
+
+      module _ (free : getD N (6 + k) 0 ≡ 0) where
+        pub open-wanted : find (B .cache) (at l n) ≡ none → Opened N L K E k l n m (Deny (Wanted l n))
+        unfolding openedAs need _>>=_ take? started
+        open-wanted h = record { says = λ I S O F v. rw (lt-ltb k 2 two, known, frames-count B (tables N L K E I S O F) k two, free, h); fits = tt }
+
+        module _ (c : ℕ) (there : find (B .cache) (at l n) ≡ some c) where
+          pub open-absent : nearest (superOf B) (hasMethod B m 1 1) c ≡ none → Opened N L K E k l n m (Deny (Word 7))
+          unfolding openedAs need _>>=_ take? started
+          open-absent h = record { says = λ I S O F v. rw (lt-ltb k 2 two, known, frames-count B (tables N L K E I S O F) k two, free, there, h); fits = tt }
+
+          module _ (s : ℕ) (declares : nearest (superOf B) (hasMethod B m 1 1) c ≡ some s) where
+            module _ (j : ℕ) (place : indexOf (alike m 1 1) (methodsOf B s) ≡ some j) where
+              pub open-full : 256 ≤ getD N 5 0 → Opened N L K E k l n m (Deny (Word 10))
+              unfolding openedAs need _>>=_ take? started
+              open-full h = record {
+                says = λ I S O F v.
+                    rw (
+                      lt-ltb k 2 two,
+                      known,
+                      frames-count B (tables N L K E I S O F) k two,
+                      free,
+                      there,
+                      declares,
+                      place,
+                      objects-fill (tables N L K E I S O F) B .count,
+                      le-ltb (getD N 5 0) 256 h,
+                    );
+                fits = tt;
+              }
+
+              pub open-first : getD N 5 0 < 256 → Opened N L K E k l n m (First c s j)
+              unfolding openedAs need _>>=_ take? started
+              open-first h = record {
+                says = λ I S O F v.
+                    rw (
+                      lt-ltb k 2 two,
+                      known,
+                      frames-count B (tables N L K E I S O F) k two,
+                      free,
+                      there,
+                      declares,
+                      place,
+                      objects-fill (tables N L K E I S O F) B .count,
+                      lt-ltb (getD N 5 0) 256 h,
+                    );
+                fits = (two, h, there);
+              }
+
+-- a loader that is there
+pub known-loader : (l n m : ℕ) → (ltb l 16 && leb 2 n && leb 1 m) ≡ true → l < 16
+known-loader l n m h = go (ltb l 16) refl h
+  where
+    go : (u : Bool) → ltb l 16 ≡ u → (u && leb 2 n && leb 1 m) ≡ true → l < 16
+    go true e q = ltb-true l 16 e
+    go false e q = absurd (false≢true q)

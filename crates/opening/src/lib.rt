@@ -1,0 +1,70 @@
+// The decision on a start: an object of the cached class, and a first frame in the method selected for a name, int and int.
+ghost use mathlib.Core.Path.{_≡_};
+ghost use mathlib.Core.Bool.{_&&_};
+ghost use lib.Dec.{leb, ltb};
+ghost use Rattle.opening.specs.Openings.{Opened};
+use definition::Refusal;
+use resolution::Found;
+use resolution::Selection;
+
+// A refusal; or an object's class, and the class and the place of the first frame's method.
+pub enum Opening {
+    Deny(Refusal),
+    First(u32, u32, u32),
+}
+
+// The loader, class name and method name that a start may speak of.
+fn are_known(loader: u32, name: u16, method: u16) -> bool
+    ensures { λ r. ⌜ r ≡ (ltb loader 16 && leb 2 name && leb 1 method) ⌝ }
+{
+    if 16 <= loader {
+        return false;
+    }
+    if name < 2 {
+        return false;
+    }
+    1 <= method
+}
+
+// What is missing is refused where it was looked for, in the order 3 12 5 7 10.
+pub fn decide(
+    counts: &[u16],
+    classes: &[u16],
+    kept: &[u8],
+    cache: &[u16],
+    task: u32,
+    loader: u32,
+    name: u16,
+    method: u16,
+) -> Opening
+    ensures { λ r. ⌜ Opened (now (counts .entry)) (now (classes .entry)) (now (kept .entry)) (now (cache .entry)) task loader name method r ⌝ }
+{
+    if 2 <= task {
+        return Opening::Deny(Refusal::Word(3));
+    }
+    if !are_known(loader, name, method) {
+        return Opening::Deny(Refusal::Word(3));
+    }
+    if tasks::frame_count(counts, task as u8) != 0 {
+        return Opening::Deny(Refusal::Word(12));
+    }
+    let Found::At(c) = resolution::find(counts, cache, loader as u16, name) else {
+        return Opening::Deny(Refusal::Wanted(loader as u8, name));
+    };
+    let Selection::Selected(s, j) = resolution::select_method(
+        counts,
+        classes,
+        kept,
+        cache,
+        c,
+        method,
+        1,
+        1,
+    ) else {
+        return Opening::Deny(Refusal::Word(7));
+    };
+    if 256 <= cells::at16(counts, 5) {
+        return Opening::Deny(Refusal::Word(10));
+    }
+    Opening::First(c, s, j)
+}

@@ -1,0 +1,2 @@
+-- Ties that a step posts.
+pub mod Postings

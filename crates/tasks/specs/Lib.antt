@@ -1,0 +1,2 @@
+-- Whose turn it is, read off the counts.
+pub mod Turns
