@@ -13,7 +13,6 @@ use cells::wide8;
 ghost use mathlib.Core.Path.{_≡_};
 ghost use mathlib.Core.Bool.{true};
 ghost use Prim.Native.Nat.{_+_, _≤_};
-ghost use lib.ListN.{length};
 ghost use Rattle.definition.specs.Superclasses.{below};
 ghost use Rattle.constraints.specs.Agreement.{superIn, agreeIn};
 ghost use Rattle.constraints.specs.Groups.{Rooted};

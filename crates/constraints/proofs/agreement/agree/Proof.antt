@@ -1,5 +1,4 @@
 -- The tables as groups and links agree exactly if their rows do.
-use Prim.Native.Nat.{ℕ}
 use mathlib.Core.Path.{_∙_}
 use native.Mathlib.Omega.{arith}
 use denote.Ref.{now}
