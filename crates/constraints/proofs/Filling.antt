@@ -11,7 +11,7 @@ use lib.Seq.{getD-set-same, getD-set-other}
 use lib.Dec.{eqb}
 use borrow.Author.Tests.{eqb-true, eqb-false}
 use Rattle.definition.specs.Requests.{at}
-use Rattle.constraints.specs.Nodes.{requestOf, Numbers, Kept, Numbered, AllNumbered, First, NodesOf, bucketOf, bucketIn}
+use Rattle.constraints.specs.Nodes.{requestOf, Numbers, Kept, Numbered, AllNumbered, First, bucketOf, bucketIn}
 use Rattle.constraints.specs.Joining.{Last, Joined}
 use Rattle.constraints.proofs.Rows.{Order, less, equal, more, order}
 

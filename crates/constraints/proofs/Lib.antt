@@ -5,6 +5,7 @@ pub mod Edges
 pub mod Filling
 pub mod Rooting
 pub mod Agreeing
+pub mod Marking
 pub mod Searching
 pub mod Supers
 pub mod Pairing

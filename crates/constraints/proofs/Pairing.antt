@@ -7,7 +7,7 @@ use mathlib.Core.List.{List, [], List·Memᴰ}
 use mathlib.Core.Logic.{_⊎_, inl, inr}
 use Prim.Native.Nat.{ℕ, _+_, _<_, _≤_}
 use native.Mathlib.Omega.{arith}
-use lib.ListN.{length, getD, replicate, length-replicate, List·getD-eq-default, getD-replicate}
+use lib.ListN.{length, getD, replicate, length-replicate}
 use lib.Dec.{eqb, ltb}
 use borrow.Author.Tests.{eqb-true, eq-eqb, ne-eqb, ltb-true, ltb-false, not-true, not-false}
 use Rattle.definition.specs.Lists.{rows, all}
@@ -19,9 +19,12 @@ use Rattle.laws.specs.Upward.{below-true, true-below, below-trans}
 use Rattle.constraints.specs.Groups.{Rooted}
 use Rattle.constraints.specs.Joining.{Joined}
 use Rattle.constraints.specs.Search.{startOf, endOf, linkOf, linksOf, leadsOn, Led, Link, Marked, Stamped, Searched}
+use Rattle.constraints.specs.Upward.{Raised, isAbove}
 use Rattle.constraints.specs.Pairs.{pairIs, pairOn, agreeOn, tiedOn, pairMarked, NextStart}
 use Rattle.constraints.proofs.Rows.{Order, less, equal, more, order, in-rows, rows-in}
 use Rattle.constraints.proofs.Edges.{edge}
+use Rattle.constraints.proofs.Marking.{stamped-none, stamped-more}
+use Rattle.constraints.proofs.Supers.{above-below}
 
 -- what a test of n places says of each
 all-places : (f : ℕ → Bool) (n : ℕ) → all f (rows (λ i. i) n 0) ≡ true → (i : ℕ) → i < n → f i ≡ true
@@ -32,29 +35,33 @@ places-all f n h =
     all-of f (rows (λ i. i) n 0) (λ i m. let p = rows-in (λ (j : ℕ). j) n 0 i m in rw (p .is) (h (p .number) (omega (arith, p .high))))
 
 -- a pair by the mark of its second
-module _ (sup : ℕ → Option ℕ) (marks classes : List ℕ) (stamp a b : ℕ) where
-  pub marked-pair : Marked stamp marks b → pairMarked sup marks classes stamp a b ≡ below sup (getD classes a 0) (getD classes b 0)
+module _ (marks aboves classes : List ℕ) (stamp a b : ℕ) where
+  pub marked-pair : Marked stamp marks b → pairMarked marks aboves classes stamp a b ≡ isAbove aboves stamp (getD classes a 0) (getD classes b 0)
   unfolding pairMarked
   marked-pair m = rw (eq-eqb (getD marks b 0) stamp m, pairMarked) refl
 
-  pub unmarked-pair : (Marked stamp marks b → ⊥) → pairMarked sup marks classes stamp a b ≡ true
+  pub unmarked-pair : (Marked stamp marks b → ⊥) → pairMarked marks aboves classes stamp a b ≡ true
   unfolding pairMarked
   unmarked-pair n = rw (ne-eqb (getD marks b 0) stamp n, pairMarked) refl
 
-  -- a test that passed
-  pub marked-fits : (r : Bool) → r ≡ pairMarked sup marks classes stamp a b → not r ≡ false → Falls sup → Marked stamp marks b
-      → Below sup (getD classes b 0) (getD classes a 0)
-  marked-fits r e h falls m = below-true sup falls (getD classes a 0) (getD classes b 0) (sym (marked-pair m) ∙ sym e ∙ not-false r h)
+  module _ (sup : ℕ → Option ℕ) (falls : Falls sup) (r : Raised sup (getD classes a 0) stamp aboves) (t : Bool) (is : t ≡ pairMarked marks aboves classes stamp a b) where
+    -- a test that passed
+    pub marked-fits : not t ≡ false → Marked stamp marks b → Below sup (getD classes b 0) (getD classes a 0)
+    marked-fits h m =
+        below-true sup falls (getD classes a 0) (getD classes b 0)
+        (sym (above-below aboves stamp (getD classes a 0) (getD classes b 0) sup falls r) ∙ sym (marked-pair m) ∙ sym is ∙ not-false t h)
 
-  pub marked-unfit : pairMarked sup marks classes stamp a b ≡ false → Marked stamp marks b × (below sup (getD classes a 0) (getD classes b 0) ≡ false)
-  unfolding pairMarked
-  marked-unfit h = go (eqb (getD marks b 0) stamp) refl h
-    where
-      go : (t : Bool) → eqb (getD marks b 0) stamp ≡ t
-          → (elim t as (λ _. Bool) [ true ↦ below sup (getD classes a 0) (getD classes b 0) | false ↦ true ]) ≡ false
-          → Marked stamp marks b × (below sup (getD classes a 0) (getD classes b 0) ≡ false)
-      go true e q = (eqb-true (getD marks b 0) stamp e, q)
-      go false e q = absurd (false≢true (sym q))
+    -- one that did not
+    pub marked-unfit : not t ≡ true → Marked stamp marks b × (below sup (getD classes a 0) (getD classes b 0) ≡ false)
+    unfolding pairMarked
+    marked-unfit h = go (eqb (getD marks b 0) stamp) refl (sym is ∙ not-true t h)
+      where
+        go : (s : Bool) → eqb (getD marks b 0) stamp ≡ s
+            → (elim s as (λ _. Bool) [ true ↦ isAbove aboves stamp (getD classes a 0) (getD classes b 0) | false ↦ true ]) ≡ false
+            → Marked stamp marks b × (below sup (getD classes a 0) (getD classes b 0) ≡ false)
+        go true e q =
+            (eqb-true (getD marks b 0) stamp e, sym (above-below aboves stamp (getD classes a 0) (getD classes b 0) sup falls r) ∙ q)
+        go false e q = absurd (false≢true (sym q))
 
 -- the search from a is done, and the cached requests that it marks have a's class or one above it
 pub record Passed (sup : ℕ → Option ℕ) (groups classes : List ℕ) (n noted a : ℕ) : Type 0 where
@@ -65,10 +72,11 @@ pub record Passed (sup : ℕ → Option ℕ) (groups classes : List ℕ) (n note
   pub fit : (b : ℕ) → b < n → Marked stamp marks b → Below sup (getD classes b 0) (getD classes a 0)
 
 -- the firsts of groups below a have passed, and a is one
-pub record Tested (sup : ℕ → Option ℕ) (groups classes : List ℕ) (n noted a : ℕ) (marks queue : List ℕ) : Type 0 where
+pub record Tested (sup : ℕ → Option ℕ) (groups classes : List ℕ) (n noted a : ℕ) (marks queue aboves : List ℕ) : Type 0 where
   pub own : a < n → getD groups a 0 ≡ a
-  pub stamped : Stamped a marks
+  pub stamped : Stamped 1280 a marks
   pub queueLong : length queue ≡ 1280
+  pub raised : Stamped 256 a aboves
   pub done : (m : ℕ) → m < a → m < n → getD groups m 0 ≡ m → Passed sup groups classes n noted m
 
 module _ (sup : ℕ → Option ℕ) (groups classes heads nexts : List ℕ) (n noted : ℕ) (room : n ≤ 1280) (joined : Joined (startOf groups n) noted heads nexts) where
@@ -82,27 +90,26 @@ module _ (sup : ℕ → Option ℕ) (groups classes heads nexts : List ℕ) (n n
     fit = λ b h m. absurd (omega arith);
   }
 
-  pub tested-start : {a : ℕ} → NextStart groups heads n 0 a → Tested sup groups classes n noted a (replicate 1280 0) (replicate 1280 0)
+  pub tested-start : {a : ℕ} → NextStart groups heads n 0 a
+      → Tested sup groups classes n noted a (replicate 1280 0) (replicate 1280 0) (replicate 256 0)
   tested-start {a} s = record {
     own = s .here;
-    stamped = record { long = length-replicate {A = ℕ} 1280 0; most = λ x. zero x (ltb x 1280) refl };
+    stamped = stamped-none 1280 a;
     queueLong = length-replicate {A = ℕ} 1280 0;
+    raised = stamped-none 256 a;
     done = λ m h l o. passed-none m l (s .none m h (omega arith) o);
   }
-    where
-      zero : (x : ℕ) (t : Bool) → ltb x 1280 ≡ t → getD (replicate {A = ℕ} 1280 0) x 0 ≤ a
-      zero x true e = rw (getD-replicate {A = ℕ} 1280 x 0 0 (ltb-true x 1280 e)) (omega arith)
-      zero x false e =
-          rw (List·getD-eq-default (replicate {A = ℕ} 1280 0) 0 {n = x} (omega (arith, ltb-false x 1280 e, length-replicate {A = ℕ} 1280 0))) (omega arith)
 
-  pub tested-next : {a c stamp : ℕ} {marks queue marks′ queue′ : List ℕ} → stamp ≡ a + 1 → a < n → Tested sup groups classes n noted a marks queue
-      → Searched groups n noted stamp a marks′ → length queue′ ≡ 1280
+  pub tested-next : {a c stamp : ℕ} {marks queue aboves marks′ queue′ aboves′ : List ℕ} → stamp ≡ a + 1 → a < n
+      → Tested sup groups classes n noted a marks queue aboves → Searched groups n noted stamp a marks′ → length queue′ ≡ 1280
+      → Raised sup (getD classes a 0) stamp aboves′
       → ((b : ℕ) → b < n → Marked stamp marks′ b → Below sup (getD classes b 0) (getD classes a 0)) → NextStart groups heads n (a + 1) c
-      → Tested sup groups classes n noted c marks′ queue′
-  tested-next {a} {c} {stamp} {marks} {queue} {marks′} e h t s long f r = record {
+      → Tested sup groups classes n noted c marks′ queue′ aboves′
+  tested-next {a} {c} {stamp} {marks} {queue} {aboves} {marks′} e h t s long u f r = record {
     own = r .here;
-    stamped = record { long = s .stamped .long; most = λ x. omega (arith, s .stamped .most x, r .low) };
+    stamped = stamped-more (omega (arith, r .low)) (s .stamped);
     queueLong = long;
+    raised = stamped-more (omega (arith, r .low)) (u .stamped);
     done = λ m k l o. go m k l o (order m a);
   }
     where
@@ -172,16 +179,13 @@ module _ (sup : ℕ → Option ℕ) (falls : Falls sup) (groups classes : List �
             absurd (false≢true (sym h ∙ true-below sup falls (class a) (class b) (same (ap (λ (x : ℕ). class x) e))))
         go false q = rw (o, end, chain-leads (linksOf groups n noted) (at 0 a) (at 0 b) c) h
 
-    pub not-agreed : (stamp a b : ℕ) (marks : List ℕ) → a < n → b < n → group a ≡ a → Searched groups n noted stamp a marks
-        → (r : Bool) → r ≡ pairMarked sup marks classes stamp a b → not r ≡ true → false ≡ agreeOn sup groups classes n noted
+    pub not-agreed : (a b : ℕ) → a < n → b < n → group a ≡ a → Led groups n noted a b → below sup (class a) (class b) ≡ false
+        → false ≡ agreeOn sup groups classes n noted
     unfolding agreeOn
-    not-agreed stamp a b marks f g o s r d h = go (agreeOn sup groups classes n noted) refl
+    not-agreed a b f g o c h = go (agreeOn sup groups classes n noted) refl
       where
-        u : Marked stamp marks b × (below sup (class a) (class b) ≡ false)
-        u = marked-unfit sup marks classes stamp a b (sym d ∙ not-true r h)
-
         go : (t : Bool) → agreeOn sup groups classes n noted ≡ t → false ≡ t
-        go true e = absurd (false≢true (sym (pair-false a b o (s .sound b (u .0)) (u .1))
+        go true e = absurd (false≢true (sym (pair-false a b o c h)
             ∙ all-places (pairOn sup groups classes n noted a) n
             (all-places (λ a. all (pairOn sup groups classes n noted a) (rows (λ i. i) n 0)) n e a f) b g))
         go false e = refl

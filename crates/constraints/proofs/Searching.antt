@@ -1,46 +1,19 @@
 -- The search: a group is marked once, and queued once if it has no cached request; the links that start at a group are visited one after the
 -- other; and once each queued group's links were visited, the marks hold only what is led to and are closed up to cached requests.
 use mathlib.Core.Path.{_≡_, refl, sym, ap, _∙_}
-use mathlib.Core.Bool.{Bool, true, false}
-use mathlib.Core.List.{List, [], _∷_, List·Memᴰ}
+use mathlib.Core.List.{List, List·Memᴰ}
 use mathlib.Core.Logic.{_⊎_, inl, inr}
-use Prim.Native.Nat.{ℕ, zero, suc, _+_, _<_, _≤_}
+use Prim.Native.Nat.{ℕ, suc, _+_, _<_, _≤_}
 use native.Mathlib.Nat.{eq-or-lt-of-le}
 use native.Mathlib.Omega.{arith}
-use lib.ListN.{length, getD, set, length-set, List·getD-eq-default}
+use lib.ListN.{length, getD, set, length-set}
 use lib.Seq.{getD-set-same, getD-set-other}
-use lib.Dec.{eqb, ltb}
-use borrow.Author.Tests.{eqb-true, eqb-false, eq-eqb, ne-eqb, ltb-true, ltb-false}
 use Rattle.definition.specs.Requests.{at, stay, hop}
 use Rattle.constraints.specs.Joining.{Last}
 use Rattle.constraints.specs.Search.{startOf, endOf, linkOf, linksOf, Led, Link, Marked, marked, Stamped, Queued, Grown, Visited, Expanded, Searched}
 use Rattle.constraints.proofs.Rows.{Order, less, equal, more, order, in-rows}
 use Rattle.constraints.proofs.Edges.{edge, edge-at}
-
--- Counting marks
-
-module _ (stamp : ℕ) where
-  marked-le : (l : List ℕ) → marked stamp l ≤ length l
-  unfolding marked
-  marked-le [] = omega arith
-  marked-le (x ∷ xs) = go (eqb x stamp) (marked-le xs)
-    where
-      go : (t : Bool) → marked stamp xs ≤ length xs
-          → (elim t as (λ _. ℕ) [ true ↦ suc (marked stamp xs) | false ↦ marked stamp xs ]) ≤ suc (length xs)
-      go true h = omega arith
-      go false h = omega arith
-
-  marked-set : (l : List ℕ) (i : ℕ) → i < length l → (getD l i 0 ≡ stamp → ⊥) → marked stamp (set l i stamp) ≡ suc (marked stamp l)
-  unfolding marked
-  marked-set [] i h n = absurd (omega arith)
-  marked-set (x ∷ xs) zero h n = rw (ne-eqb x stamp n, eq-eqb stamp stamp refl, marked) refl
-  marked-set (x ∷ xs) (suc i) h n = go (eqb x stamp) (marked-set xs i (omega arith) n)
-    where
-      go : (t : Bool) → marked stamp (set xs i stamp) ≡ suc (marked stamp xs)
-          → _≡_ {A = ℕ} (elim t as (λ _. ℕ) [ true ↦ suc (marked stamp (set xs i stamp)) | false ↦ marked stamp (set xs i stamp) ])
-          (suc (elim t as (λ _. ℕ) [ true ↦ suc (marked stamp xs) | false ↦ marked stamp xs ]))
-      go true e = ap suc e
-      go false e = e
+use Rattle.constraints.proofs.Marking.{new-mark, set-mark, keep-mark, stamped-set, stamped-more, mark-low, marked-le, marked-set}
 
 -- Visiting a group
 
@@ -65,40 +38,18 @@ module _ (cached stamp x : ℕ) (marks queue : List ℕ) (tail : ℕ) (s : Queue
     long : x < length marks
     long = omega (arith, s .stamped .long)
 
-    -- a mark after this one was set
-    set-mark : (y : ℕ) → Marked stamp (set marks x stamp) y → Marked stamp marks y ⊎ (y ≡ x)
-    set-mark y m = go (eqb y x) refl
-      where
-        go : (t : Bool) → eqb y x ≡ t → Marked stamp marks y ⊎ (y ≡ x)
-        go true e = inr (eqb-true y x e)
-        go false e = inl (sym (getD-set-other marks x y stamp 0 (eqb-false y x e)) ∙ m)
-
-    keep-mark : (y : ℕ) → Marked stamp marks y → Marked stamp (set marks x stamp) y
-    keep-mark y m = go (eqb y x) refl
-      where
-        go : (t : Bool) → eqb y x ≡ t → Marked stamp (set marks x stamp) y
-        go true e = rw (eqb-true y x e) (getD-set-same marks x stamp 0 long)
-        go false e = getD-set-other marks x y stamp 0 (eqb-false y x e) ∙ m
-
-    new-stamped : Stamped stamp (set marks x stamp)
-    new-stamped = record { long = length-set marks x stamp ∙ s .stamped .long; most = λ y. go y (eqb y x) refl }
-      where
-        go : (y : ℕ) (t : Bool) → eqb y x ≡ t → getD (set marks x stamp) y 0 ≤ stamp
-        go y true e = rw (eqb-true y x e, getD-set-same marks x stamp 0 long) (omega arith)
-        go y false e = rw (getD-set-other marks x y stamp 0 (eqb-false y x e)) (s .stamped .most y)
-
     pub visit-cached : x < cached → Visited cached stamp x marks queue tail (set marks x stamp) queue tail
     visit-cached l = record {
       queued = record {
-        stamped = new-stamped;
+        stamped = stamped-set stamp x marks long (s .stamped);
         queueLong = s .queueLong;
         few = omega (arith, marked-set stamp marks x long n, s .few);
-        isMarked = λ p m. keep-mark (getD queue p 0) (s .isMarked p m);
-        isQueued = λ y c m. one y c (set-mark y m);
+        isMarked = λ p m. keep-mark stamp x marks long (getD queue p 0) (s .isMarked p m);
+        isQueued = λ y c m. one y c (set-mark stamp x marks long y m);
       };
-      grown = record { more = omega arith; still = keep-mark; place = λ p m. refl };
-      it = getD-set-same marks x stamp 0 long;
-      only = set-mark;
+      grown = record { more = omega arith; still = keep-mark stamp x marks long; place = λ p m. refl };
+      it = new-mark stamp x marks long;
+      only = set-mark stamp x marks long;
     }
       where
         one : (y : ℕ) → cached ≤ y → Marked stamp marks y ⊎ (y ≡ x) → (p : ℕ) × (p < tail) × (getD queue p 0 ≡ y)
@@ -118,35 +69,27 @@ module _ (cached stamp x : ℕ) (marks queue : List ℕ) (tail : ℕ) (s : Queue
     pub visit-new : Visited cached stamp x marks queue tail (set marks x stamp) (set queue tail x) (tail + 1)
     visit-new = record {
       queued = record {
-        stamped = new-stamped;
+        stamped = stamped-set stamp x marks long (s .stamped);
         queueLong = length-set queue tail x ∙ s .queueLong;
         few = omega (arith, marked-set stamp marks x long n, s .few);
         isMarked = λ p l. one p (eq-or-lt-of-le (below p l));
-        isQueued = λ y c m. two y c (set-mark y m);
+        isQueued = λ y c m. two y c (set-mark stamp x marks long y m);
       };
-      grown = record { more = omega arith; still = keep-mark; place = queue-at };
-      it = getD-set-same marks x stamp 0 long;
-      only = set-mark;
+      grown = record { more = omega arith; still = keep-mark stamp x marks long; place = queue-at };
+      it = new-mark stamp x marks long;
+      only = set-mark stamp x marks long;
     }
       where
         below : (p : ℕ) → p < tail + 1 → p ≤ tail
         below p l = omega arith
 
         one : (p : ℕ) → (p ≡ tail) ⊎ (p < tail) → Marked stamp (set marks x stamp) (getD (set queue tail x) p 0)
-        one p (inl e) = rw (e, queue-end) (getD-set-same marks x stamp 0 long)
-        one p (inr l) = rw (queue-at p l) (keep-mark (getD queue p 0) (s .isMarked p l))
+        one p (inl e) = rw (e, queue-end) (new-mark stamp x marks long)
+        one p (inr l) = rw (queue-at p l) (keep-mark stamp x marks long (getD queue p 0) (s .isMarked p l))
 
         two : (y : ℕ) → cached ≤ y → Marked stamp marks y ⊎ (y ≡ x) → (p : ℕ) × (p < tail + 1) × (getD (set queue tail x) p 0 ≡ y)
         two y c (inl m) = let r = s .isQueued y c m in (r .0, omega (arith, r .1), queue-at (r .0) (r .1) ∙ r .2)
         two y c (inr e) = (tail, omega arith, queue-end ∙ sym e)
-
--- a marked group is one of the table
-mark-low : (stamp : ℕ) (marks : List ℕ) (x : ℕ) → 0 < stamp → Marked stamp marks x → x < length marks
-mark-low stamp marks x h m = go (ltb x (length marks)) refl
-  where
-    go : (t : Bool) → ltb x (length marks) ≡ t → x < length marks
-    go true e = ltb-true x (length marks) e
-    go false e = let z : 0 ≡ stamp = sym (List·getD-eq-default marks 0 (ltb-false x (length marks) e)) ∙ m in absurd (omega arith)
 
 -- what is queued is a group
 pub queue-low : {cached stamp : ℕ} {marks queue : List ℕ} {tail : ℕ} → 0 < stamp → Queued cached stamp marks queue tail → (p : ℕ) → p < tail
@@ -154,13 +97,13 @@ pub queue-low : {cached stamp : ℕ} {marks queue : List ℕ} {tail : ℕ} → 0
 queue-low {cached} {stamp} {marks} {queue} h s p l = rw (s .stamped .long) at (mark-low stamp marks (getD queue p 0) h (s .isMarked p l))
 
 -- nothing is marked with a new stamp yet
-module _ (a stamp : ℕ) (marks queue : List ℕ) (new : a < stamp) (s : Stamped a marks) (long : length queue ≡ 1280) where
+module _ (a stamp : ℕ) (marks queue : List ℕ) (new : a < stamp) (s : Stamped 1280 a marks) (long : length queue ≡ 1280) where
   pub none-marked : (x : ℕ) → Marked stamp marks x → ⊥
   none-marked x m = omega (arith, s .most x)
 
   pub queued-none : (cached : ℕ) → Queued cached stamp marks queue 0
   queued-none cached = record {
-    stamped = record { long = s .long; most = λ x. omega (arith, s .most x) };
+    stamped = stamped-more (omega arith) s;
     queueLong = long;
     few = omega arith;
     isMarked = λ p l. absurd (omega arith);

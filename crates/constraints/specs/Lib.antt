@@ -4,6 +4,7 @@ pub mod Nodes
 pub mod Joining
 pub mod Groups
 pub mod Search
+pub mod Upward
 pub mod Pairs
 pub mod Posting
 pub mod Laws

@@ -9,6 +9,7 @@ use lib.Dec.{eqb}
 use Rattle.definition.specs.Lists.{rows, all}
 use Rattle.definition.specs.Superclasses.{below}
 use Rattle.constraints.specs.Search.{leadsOn}
+use Rattle.constraints.specs.Upward.{isAbove}
 
 -- a pair of classes c and d, whose requests are tied, or of which the one leads to the other, or neither
 unfoldable pub pairIs : (ℕ → Option ℕ) → Bool → Bool → ℕ → ℕ → Bool
@@ -28,9 +29,10 @@ agreeOn sup groups classes n noted = all (λ a. all (pairOn sup groups classes n
 unfoldable pub tiedOn : List ℕ → List ℕ → ℕ → Bool
 tiedOn groups classes n = all (λ a. eqb (getD classes (getD groups a 0) 0) (getD classes a 0)) (rows (λ i. i) n 0)
 
--- the pair of a and b, by the mark of b in the search from a
-unfoldable pub pairMarked : (ℕ → Option ℕ) → List ℕ → List ℕ → ℕ → ℕ → ℕ → Bool
-pairMarked sup marks classes stamp a b = elim (eqb (getD marks b 0) stamp) [ true ↦ below sup (getD classes a 0) (getD classes b 0) | false ↦ true ]
+-- the pair of a and b, by the mark of b in the search from a, and the marks of the classes above a's
+unfoldable pub pairMarked : List ℕ → List ℕ → List ℕ → ℕ → ℕ → ℕ → Bool
+pairMarked marks aboves classes stamp a b =
+    elim (eqb (getD marks b 0) stamp) [ true ↦ isAbove aboves stamp (getD classes a 0) (getD classes b 0) | false ↦ true ]
 
 -- r is the first of n places, from place `from` on, that is the first of its group and at which links start, or n
 pub record NextStart (groups heads : List ℕ) (n from r : ℕ) : Type 0 where

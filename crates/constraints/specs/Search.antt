@@ -47,14 +47,14 @@ unfoldable pub marked : ℕ → List ℕ → ℕ
 marked stamp [] = 0
 marked stamp (x ∷ xs) = elim (eqb x stamp) [ true ↦ suc (marked stamp xs) | false ↦ marked stamp xs ]
 
--- marks up to a stamp
-pub record Stamped (stamp : ℕ) (marks : List ℕ) : Type 0 where
-  pub long : length marks ≡ 1280
+-- so many cells, with marks up to a stamp
+pub record Stamped (size stamp : ℕ) (marks : List ℕ) : Type 0 where
+  pub long : length marks ≡ size
   pub most : (x : ℕ) → getD marks x 0 ≤ stamp
 
 -- the queue's first `tail` places hold the marked groups without a cached request
 pub record Queued (cached stamp : ℕ) (marks queue : List ℕ) (tail : ℕ) : Type 0 where
-  pub stamped : Stamped stamp marks
+  pub stamped : Stamped 1280 stamp marks
   pub queueLong : length queue ≡ 1280
   pub few : tail ≤ marked stamp marks
   pub isMarked : (p : ℕ) → p < tail → Marked stamp marks (getD queue p 0)
@@ -82,7 +82,7 @@ pub record Expanded (groups : List ℕ) (cached noted stamp x : ℕ) (marks queu
 
 -- what is marked from a: only what it leads to; the ends of its links; and of the links from marked groups without a cached request
 pub record Searched (groups : List ℕ) (cached noted stamp a : ℕ) (marks : List ℕ) : Type 0 where
-  pub stamped : Stamped stamp marks
+  pub stamped : Stamped 1280 stamp marks
   pub sound : (y : ℕ) → Marked stamp marks y → Led groups cached noted a y
   pub first : (y : ℕ) → Link groups cached noted a y → Marked stamp marks y
   pub closed : (x y : ℕ) → cached ≤ x → Marked stamp marks x → Link groups cached noted x y → Marked stamp marks y

@@ -7,37 +7,16 @@ use crate::numbering::list_classes;
 use crate::numbering::number_nodes;
 use crate::numbering::number_places;
 use crate::search::search;
-use cells::at8;
+use crate::upward::mark_above;
 use cells::at16;
-use cells::wide8;
 ghost use mathlib.Core.Path.{_≡_};
 ghost use mathlib.Core.Bool.{true};
 ghost use Prim.Native.Nat.{_+_, _≤_};
-ghost use lib.ListN.{length};
-ghost use Rattle.definition.specs.Superclasses.{below};
 ghost use Rattle.constraints.specs.Agreement.{superIn, agreeIn};
 ghost use Rattle.constraints.specs.Groups.{Rooted};
 ghost use Rattle.constraints.specs.Joining.{Joined};
 ghost use Rattle.constraints.specs.Pairs.{agreeOn, tiedOn, pairMarked, NextStart};
 ghost use Rattle.constraints.specs.Search.{startOf};
-
-// Class c is d or below it.
-fn is_below(supers: &[u8], c: usize, d: usize) -> bool
-    ensures { λ r. ⌜ r ≡ below (superIn (now (supers .entry))) c d ⌝ }
-{
-    let mut class = c;
-    while class != d {
-        let above = wide8(at8(supers, class));
-        if above == 0 {
-            return false;
-        }
-        if class < above {
-            return false;
-        }
-        class = above - 1;
-    }
-    true
-}
 
 // Tied cached requests mean one class: each that of the first of its group.
 fn groups_agree(groups: &[u16], classes: &[u16], cached: usize) -> bool
@@ -70,21 +49,25 @@ fn next_start(groups: &[u16], heads: &[u16], cached: usize, from: usize) -> usiz
     a
 }
 
-// The pair of cached requests a and b, where the marks are those of what a leads to.
+// The pair of cached requests a and b, where the marks are those of what a leads to, and of the classes above a's.
 fn pair_agrees(
-    supers: &[u8],
     marks: &[u16],
+    aboves: &[u16],
     classes: &[u16],
     stamp: u16,
     a: usize,
     b: usize,
 ) -> bool
-    ensures { λ r. ⌜ r ≡ pairMarked (superIn (now (supers .entry))) (now (marks .entry)) (now (classes .entry)) stamp a b ⌝ }
+    ensures { λ r. ⌜ r ≡ pairMarked (now (marks .entry)) (now (aboves .entry)) (now (classes .entry)) stamp a b ⌝ }
 {
-    if at16(marks, b) == stamp {
-        return is_below(supers, place(classes, a), place(classes, b));
+    if at16(marks, b) != stamp {
+        return true;
     }
-    true
+    let class = place(classes, b);
+    if place(classes, a) == class {
+        return true;
+    }
+    at16(aboves, class) == stamp
 }
 
 // Every pair of cached requests agrees, where tied ones do. What a group leads to is searched once, from its first request; the first pair
@@ -103,6 +86,7 @@ fn pairs_agree(
 {
     let mut marks = [0u16; 1280];
     let mut queue = [0u16; 1280];
+    let mut aboves = [0u16; 256];
     let mut agreed = true;
     let mut a = next_start(groups, heads, cached, 0);
     'pairs: while a < cached {
@@ -118,9 +102,10 @@ fn pairs_agree(
             &mut marks,
             &mut queue,
         );
+        mark_above(supers, classes, a, stamp, &mut aboves);
         let mut b = 0;
         while b < cached {
-            if !pair_agrees(supers, &marks, classes, stamp, a, b) {
+            if !pair_agrees(&marks, &aboves, classes, stamp, a, b) {
                 agreed = false;
                 break 'pairs;
             }

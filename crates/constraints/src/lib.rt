@@ -4,6 +4,7 @@ mod joining; // joining.rt: places joined into lists by a key
 mod numbering; // numbering.rt: the requests of a store as numbers and as nodes
 mod grouping; // grouping.rt: groups of tied requests
 mod search; // search.rt: the search from a cached request, over groups
+mod upward; // upward.rt: the classes above a class
 mod agreement; // agreement.rt: the test of agreement
 
 pub use agreement::agree;

@@ -71,7 +71,7 @@ pub(crate) fn search(
     marks: &mut [u16],
     queue: &mut [u16],
 )
-    requires { ⌜ (a < 1280) × (cached + noted + noted ≤ 1280) × (0 < stamp) × Rooted (now groups) (cached + noted + noted) × Joined (startOf (now groups) cached) noted (now heads) (now nexts) × Stamped a (now marks) × (a < stamp) × (length (now queue) ≡ 1280) ⌝ }
+    requires { ⌜ (a < 1280) × (cached + noted + noted ≤ 1280) × (0 < stamp) × Rooted (now groups) (cached + noted + noted) × Joined (startOf (now groups) cached) noted (now heads) (now nexts) × Stamped 1280 a (now marks) × (a < stamp) × (length (now queue) ≡ 1280) ⌝ }
     ensures { λ _. ⌜ Searched (now (groups .entry)) cached noted stamp a (now (marks .exit)) ⌝ }
 {
     let mut tail = expand(

@@ -1,5 +1,4 @@
 -- The tables as groups and links agree exactly if their rows do.
-use Prim.Native.Nat.{ℕ}
 use mathlib.Core.Path.{_∙_}
 use native.Mathlib.Omega.{arith}
 use denote.Ref.{now}
@@ -16,7 +15,7 @@ list-classes-requires c κs =
 
 group-places-requires : tie.Need-group-places-requires
 group-places-requires c κs =
-    (omega arith, search needs, search needs, λ p h. c .before .before .before .before .before .before .before .number-nodes .ensures p h .low)
+    (omega arith, search needs, search needs, λ p h. omega (arith, c .before .before .before .before .before .before .before .number-nodes .ensures p (omega arith) .low))
 
 requests-agree-requires : tie.Need-requests-agree-requires
 requests-agree-requires c κs =

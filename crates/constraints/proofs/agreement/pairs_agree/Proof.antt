@@ -1,5 +1,5 @@
 -- The requests that were passed agree with all that they lead to; a marked pair that does not agree decides the test.
-use Prim.Native.Nat.{ℕ, _+_, _-_, _<_, _≤_}
+use Prim.Native.Nat.{ℕ, _-_, _<_, _≤_}
 use mathlib.Core.Bool.{true}
 use mathlib.Core.Path.{_≡_, refl, sym, _∙_}
 use native.Mathlib.Omega.{arith}
@@ -9,26 +9,26 @@ use borrow.Author.Count.{below-more}
 use Rattle.definition.specs.Superclasses.{Below}
 use Rattle.constraints.specs.Agreement.{superIn}
 use Rattle.constraints.specs.Search.{Marked}
-use Rattle.constraints.proofs.Pairing.{Tested, tested-start, tested-next, classed-all, marked-fits, not-agreed, all-agree}
+use Rattle.constraints.proofs.Pairing.{Tested, tested-start, tested-next, classed-all, marked-fits, marked-unfit, not-agreed, all-agree}
 use Rattle.constraints.proofs.Supers.{super-falls}
 use borrow.Author.Needs.{needs}
 use Rattle.constraints.proofs.agreement.pairs_agree.Statement.{statement}
 use Rattle.constraints.proofs.agreement.pairs_agree.Tie as tie
 
 abbrev Inv-loop : tie.InvT-loop
-Inv-loop supers groups classes cached noted heads nexts marks queue agreed₀ a stamp b₀ agreed b =
+Inv-loop supers groups classes cached noted heads nexts marks queue aboves agreed₀ a stamp b₀ agreed b =
     (agreed ≡ true)
     × (b ≤ cached)
     × ((d : ℕ) → d < b → Marked stamp marks d → Below (superIn supers) (getD classes d 0) (getD classes a 0))
 
 abbrev μ-loop : tie.MeasureT-loop
-μ-loop supers groups classes cached noted heads nexts marks queue agreed₀ a stamp b₀ agreed b = cached - b
+μ-loop supers groups classes cached noted heads nexts marks queue aboves agreed₀ a stamp b₀ agreed b = cached - b
 
 abbrev Inv-pairs : tie.InvT-pairs
-Inv-pairs supers groups classes cached noted heads nexts marks₀ queue₀ agreed₀ a₀ marks queue agreed a = (agreed ≡ true) × Tested (superIn supers) groups classes cached noted a marks queue
+Inv-pairs supers groups classes cached noted heads nexts marks₀ queue₀ aboves₀ agreed₀ a₀ marks queue aboves agreed a = (agreed ≡ true) × Tested (superIn supers) groups classes cached noted a marks queue aboves
 
 abbrev μ-pairs : tie.MeasureT-pairs
-μ-pairs supers groups classes cached noted heads nexts marks₀ queue₀ agreed₀ a₀ marks queue agreed a = cached - a
+μ-pairs supers groups classes cached noted heads nexts marks₀ queue₀ aboves₀ agreed₀ a₀ marks queue aboves agreed a = cached - a
 
 pairs-holds : tie.Need-pairs-holds Inv-loop μ-loop Inv-pairs μ-pairs
 pairs-holds c =
@@ -40,51 +40,56 @@ search-requires c κs =
     let pre = c .before .before .before .before .before .before .before .before .before .before .pre in
     (omega arith, omega arith, omega arith, pre .2, pre .3, pairs .inv .1 .stamped, omega arith, pairs .inv .1 .queueLong)
 
+mark-above-requires : tie.Need-mark-above-requires Inv-loop μ-loop Inv-pairs μ-pairs
+mark-above-requires c κs = (omega arith, c .before .before .before .before .before .before .before .pairs .inv .1 .raised)
+
 loop-holds : tie.Need-loop-holds Inv-loop μ-loop Inv-pairs μ-pairs
 loop-holds c =
-    (c .before .before .before .before .before .before .pairs .inv .0, omega arith, λ d h. absurd (omega arith))
+    (c .before .before .before .before .before .before .before .before .before .pairs .inv .0, omega arith, λ d h. absurd (omega arith))
 
 loop-again : tie.Need-loop-again Inv-loop μ-loop Inv-pairs μ-pairs
 loop-again c =
-    let loop = c .before .before .before .before .loop in
-    let args = c .before .before .before .before .before .before .before .before .before .before .before .before .before .before .before .before .before .before .args in (
+    let loop = c .before .before .before .before .before .loop in
+    let falls = super-falls (now (c .before .before .before .before .before .before .before .before .before .before .before .before .before .before .before .before .before .before .before .before .before .before .args .supers)) in (
       loop .inv .0,
       omega arith,
       below-more _ _ (loop .inv .2)
-          (marked-fits _ _ _ _ _ _ _ (c .before .pair-agrees .ensures) (c .if1 .left) (super-falls (now (args .supers)))),
+          (marked-fits _ _ _ _ _ _ _ falls (c .before .before .before .before .before .before .before .mark-above .ensures) _ (c .before .pair-agrees .ensures) (c .if1 .left)),
     )
 
 next-start-requires-2 : tie.Need-next-start-requires-2 Inv-loop μ-loop Inv-pairs μ-pairs
-next-start-requires-2 c κs = omega (arith, c .before .before .before .before .before .before .before .pairs-test .taken)
+next-start-requires-2 c κs =
+    omega (arith, c .before .before .before .before .before .before .before .before .before .before .pairs-test .taken)
 
 pairs-less : tie.Need-pairs-less Inv-loop μ-loop Inv-pairs μ-pairs
 pairs-less c =
-    omega (arith, c .next-start2 .ensures .low, c .before .before .before .before .before .before .before .before .pairs-test .taken)
+    omega (arith, c .next-start2 .ensures .low, c .before .before .before .before .before .before .before .before .before .before .before .pairs-test .taken)
 
 pairs-again : tie.Need-pairs-again Inv-loop μ-loop Inv-pairs μ-pairs
 pairs-again c =
     let loop = c .before .before .loop in
-    let pairs = c .before .before .before .before .before .before .before .before .before .pairs in (
+    let search = c .before .before .before .before .before .before .before .before .search in
+    let pairs = c .before .before .before .before .before .before .before .before .before .before .before .before .pairs in (
       loop .inv .0,
-      tested-next _ _ _ _ _ _ _ (omega arith) (c .before .before .before .before .before .before .before .before .before .before .before .before .before .before .before .before .pre .3) refl (c .before .before .before .before .before .before .before .before .pairs-test .taken) (pairs .inv .1) (c .before .before .before .before .before .search .ensures) (c .before .before .before .before .before .search .kept .1 .1 .1 .1 .1 .1 .1 .1 .0 ∙ pairs .inv .1 .queueLong)
-          (λ b h. loop .inv .2 b (omega arith)) (c .next-start2 .ensures),
+      tested-next _ _ _ _ _ _ _ (omega (arith, c .before .before .before .before .before .before .before .before .before .before .before .before .before .before .before .before .before .before .before .pre .0)) (c .before .before .before .before .before .before .before .before .before .before .before .before .before .before .before .before .before .before .before .pre .3) refl (c .before .before .before .before .before .before .before .before .before .before .before .pairs-test .taken) (pairs .inv .1) (search .ensures)
+          (search .kept .1 .1 .1 .1 .1 .1 .1 .1 .0 ∙ pairs .inv .1 .queueLong) (c .before .before .before .before .mark-above .ensures) (λ b h. loop .inv .2 b (omega arith)) (c .next-start2 .ensures),
     )
 
 returns : tie.Need-returns Inv-loop μ-loop Inv-pairs μ-pairs
 returns c =
     let pairs = c .before .pairs in
-    let args = c .before .before .before .before .before .before .before .before .args in
     let pre = c .before .before .before .before .before .before .before .before .pre in
     pairs .inv .0
-    ∙ sym (all-agree _ (super-falls (now (args .supers))) _ _ _ _ (pre .2) (classed-all _ _ _ (pre .4)) (λ m h o. pairs .inv .1 .done m (omega arith) h o))
+    ∙ sym (all-agree _ (super-falls (now (c .before .before .before .before .before .before .before .before .args .supers))) _ _ _ _ (pre .2) (classed-all _ _ _ (pre .4)) (λ m h o. pairs .inv .1 .done m (omega arith) h o))
 
 returns-2 : tie.Need-returns-2 Inv-loop μ-loop Inv-pairs μ-pairs
 returns-2 c =
-    let pairs = c .before .before .before .before .before .before .before .before .before .before .before .pairs in
-    let args = c .before .before .before .before .before .before .before .before .before .before .before .before .before .before .before .before .before .before .args in
-    let pre = c .before .before .before .before .before .before .before .before .before .before .before .before .before .before .before .before .before .before .pre in
-    not-agreed _ (super-falls (now (args .supers))) _ _ _ _ (pre .2) _ _ _ _ (c .before .before .before .before .before .before .before .before .before .before .pairs-test .taken) (c .before .before .before .loop-test .taken)
-    (pairs .inv .1 .own (c .before .before .before .before .before .before .before .before .before .before .pairs-test .taken)) (c .before .before .before .before .before .before .before .search .ensures) _ (c .before .pair-agrees .ensures) (c .if1 .taken)
+    let loop = c .before .before .before .before .before .loop in
+    let pairs = c .before .before .before .before .before .before .before .before .before .before .before .before .before .before .before .pairs in
+    let falls = super-falls (now (c .before .before .before .before .before .before .before .before .before .before .before .before .before .before .before .before .before .before .before .before .before .before .args .supers)) in
+    let pair = marked-unfit _ _ _ _ _ _ _ falls (c .before .before .before .before .before .before .before .mark-above .ensures) _ (c .before .pair-agrees .ensures) (c .if1 .taken) in
+    not-agreed _ falls _ _ _ _ (c .before .before .before .before .before .before .before .before .before .before .before .before .before .before .before .before .before .before .before .before .before .before .pre .2) _ _ (c .before .before .before .before .before .before .before .before .before .before .before .before .before .before .pairs-test .taken) (c .before .before .before .before .loop-test .taken) (pairs .inv .1 .own (c .before .before .before .before .before .before .before .before .before .before .before .before .before .before .pairs-test .taken))
+    (c .before .before .before .before .before .before .before .before .before .before .before .search .ensures .sound (loop .b) (pair .0)) (pair .1)
 
 pub pairs-agree-spec : {M : Type 1} → statement M
 pairs-agree-spec =
@@ -101,7 +106,10 @@ pairs-agree-spec =
     (λ c. search needs)
     (λ c. search needs)
     search-requires
+    (λ c. search needs)
+    mark-above-requires
     loop-holds
+    (λ c. search needs)
     (λ c. search needs)
     (λ c κs. search needs)
     (λ c. search needs)

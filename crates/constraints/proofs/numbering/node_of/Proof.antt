@@ -1,5 +1,5 @@
 -- Places behind `follow` have another number than p.
-use Prim.Native.Nat.{suc, _-_, _<_}
+use Prim.Native.Nat.{_-_}
 use mathlib.Core.Path.{_≡_, sym, _∙_}
 use native.Mathlib.Omega.{arith}
 use Rattle.constraints.proofs.Filling.{Following, follow-first, follow-next, node-found, node-own}

@@ -8,7 +8,6 @@ use Rattle.constraints.proofs.posting.add_subtype.Tie as tie
 returns : tie.Need-returns
 returns c =
     let from16 = c .before .before .before .from16 in
-    let from16 = from16 in
     subtype-there _ _ _ _ _ _ (sym (c .before .subtype-known .ensures) ∙ c .if1 .taken) (from16 .ensures .0)
 
 returns-2 : tie.Need-returns-2
@@ -19,12 +18,6 @@ returns-2 c =
     let if1 = c .before .before .before .before .before .before .if1 in
     let subtype-known = c .before .before .before .before .before .before .before .subtype-known in
     let from16 = c .before .before .before .before .before .before .before .before .before .from16 in
-    let put-row = put-row in
-    let from8 = from8 in
-    let wide16 = wide16 in
-    let if1 = if1 in
-    let subtype-known = subtype-known in
-    let from16 = from16 in
     subtype-new _ _ _ _ _ _ _ (sym (subtype-known .ensures) ∙ if1 .left) (from16 .ensures .0)
     (rw (wide16 .ensures .0, from8 .ensures .0) at (put-row .ensures))
 

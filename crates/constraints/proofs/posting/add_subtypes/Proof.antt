@@ -47,19 +47,16 @@ loop-holds c = (adding-none _ _ _ _ _ (c .before .if2 .left), c .before .if2 .le
 mul-at16 : tie.Need-mul-at16 Inv-loop μ-loop
 mul-at16 c =
     let wide16 = c .before .before .before .wide16 in
-    let wide16 = wide16 in
     omega (arith, wide16 .ensures .1)
 
 mul-at16-2 : tie.Need-mul-at16-2 Inv-loop μ-loop
 mul-at16-2 c =
     let wide16 = c .before .before .before .before .wide16 in
-    let wide16 = wide16 in
     omega (arith, wide16 .ensures .1)
 
 add-at16 : tie.Need-add-at16 Inv-loop μ-loop
 add-at16 c =
     let wide16 = c .before .before .before .before .wide16 in
-    let wide16 = wide16 in
     omega (arith, wide16 .ensures .1)
 
 same-length : tie.Need-same-length Inv-loop μ-loop
@@ -69,8 +66,6 @@ returns-3 : tie.Need-returns-3 Inv-loop μ-loop
 returns-3 c =
     let if2 = c .before .before .before .before .before .before .before .before .before .before .if2 in
     let if1 = c .before .before .before .before .before .before .before .before .before .before .before .if1 in
-    let if2 = if2 in
-    let if1 = if1 in
     posted-full _ _ _ _ _ (if1 .left) (if2 .left) (step (c .before)) (c .if3 .taken)
 
 loop-again : tie.Need-loop-again Inv-loop μ-loop
@@ -84,9 +79,6 @@ returns-4 c =
     let wide16 = c .before .before .wide16 in
     let if2 = c .before .before .before .if2 in
     let if1 = c .before .before .before .before .if1 in
-    let wide16 = wide16 in
-    let if2 = if2 in
-    let if1 = if1 in
     posted-all _ _ _ _ _ (if1 .left) (if2 .left) (c .before .loop .inv .0) (omega (arith, wide16 .ensures .0, c .loop-test .left))
     (c .before .loop .inv .1)
 

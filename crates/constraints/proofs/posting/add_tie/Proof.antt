@@ -11,13 +11,11 @@ returns c = tie-alone _ _ _ _ _ _ (c .if1 .taken) (c .before .from16 .ensures .0
 returns-2 : tie.Need-returns-2
 returns-2 c =
     let from16 = c .before .before .from16 in
-    let from16 = from16 in
     tie-int _ _ _ _ _ _ (c .if2 .taken) (from16 .ensures .0)
 
 returns-3 : tie.Need-returns-3
 returns-3 c =
     let from16 = c .before .before .before .before .before .from16 in
-    let from16 = from16 in
     tie-there _ _ _ _ _ _ (sym (c .before .tie-known .ensures) ∙ c .if3 .taken) (from16 .ensures .0)
 
 returns-4 : tie.Need-returns-4
@@ -31,15 +29,6 @@ returns-4 c =
     let if2 = c .before .before .before .before .before .before .before .before .before .before .if2 in
     let if1 = c .before .before .before .before .before .before .before .before .before .before .before .if1 in
     let from16 = c .before .before .before .before .before .before .before .before .before .before .before .before .from16 in
-    let put-row = put-row in
-    let from82 = from82 in
-    let from8 = from8 in
-    let wide16 = wide16 in
-    let if3 = if3 in
-    let tie-known = tie-known in
-    let if2 = if2 in
-    let if1 = if1 in
-    let from16 = from16 in
     tie-new _ _ _ _ _ _ _ (if1 .left) (if2 .left) (sym (tie-known .ensures) ∙ if3 .left) (from16 .ensures .0)
     (rw (wide16 .ensures .0, from8 .ensures .0, from82 .ensures .0) at (put-row .ensures))
 

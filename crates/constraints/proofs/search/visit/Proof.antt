@@ -15,7 +15,7 @@ returns c =
 returns-2 : tie.Need-returns-2
 returns-2 c =
     let pre = c .before .before .before .before .before .before .before .before .before .before .pre in
-    rw (c .before .before .before .put16 .ensures) (visit-cached _ _ _ _ _ _ (pre .2) (pre .0) (λ q. c .before .before .before .before .before .if1 .left (c .before .before .before .before .before .before .at16 .ensures ∙ q)) (c .if2 .taken))
+    rw (c .before .before .before .put16 .ensures) (visit-cached _ _ _ _ _ _ (pre .2) (pre .0) (λ q. c .before .before .before .before .before .if1 .left (c .before .before .before .before .before .before .at16 .ensures ∙ q)) (omega (arith, c .if2 .taken)))
 
 add-result : tie.Need-add-result
 add-result c =
