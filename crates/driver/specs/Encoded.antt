@@ -8,7 +8,10 @@ use Rattle.definition.specs.Instructions.{pick}
 use Rattle.definition.specs.Calls.{Call, callBoot, callDefine, callRecord, callStart, callStep, callRun, callDrop}
 use Rattle.classfile.specs.Reading.{partOf}
 
--- number k of row i
+-- the kind of row i, and the number in its cell k
+unfoldable pub kindIn : List ℕ → ℕ → ℕ
+kindIn cells i = getD cells (i * 6) 0
+
 unfoldable pub cellIn : List ℕ → ℕ → ℕ → ℕ
 cellIn cells i k = getD cells (i * 6 + k) 0
 
@@ -19,14 +22,15 @@ fileIn cells files i = partOf files (cellIn cells i 2) (cellIn cells i 3)
 -- the call of row i; none if the kind is no kind, the file lies outside, or a start's name or method is no 16-bit number
 unfoldable pub callIn : List ℕ → List ℕ → ℕ → Option Call
 callIn cells files i =
+    let k = kindIn cells i in
     let n = cellIn cells i in
-    pick (eqb (n 0) 0) (some callBoot)
-    (pick (eqb (n 0) 1) (pick (leb (n 2 + n 3) (length files)) (some (callDefine (n 1) (fileIn cells files i))) none)
-    (pick (eqb (n 0) 2) (some (callRecord (n 1) (n 2) (n 3)))
-    (pick (eqb (n 0) 3) (pick (leb (n 3) 65535) (pick (leb (n 4) 65535) (some (callStart (n 1) (n 2) (n 3) (n 4) (n 5))) none) none)
-    (pick (eqb (n 0) 4) (some callStep)
-    (pick (eqb (n 0) 5) (some (callRun (n 1)))
-    (pick (eqb (n 0) 6) (some (callDrop (n 1))) none))))))
+    pick (eqb k 0) (some callBoot)
+    (pick (eqb k 1) (pick (leb (n 2 + n 3) (length files)) (some (callDefine (n 1) (fileIn cells files i))) none)
+    (pick (eqb k 2) (some (callRecord (n 1) (n 2) (n 3)))
+    (pick (eqb k 3) (pick (leb (n 3) 65535) (pick (leb (n 4) 65535) (some (callStart (n 1) (n 2) (n 3) (n 4) (n 5))) none) none)
+    (pick (eqb k 4) (some callStep)
+    (pick (eqb k 5) (some (callRun (n 1)))
+    (pick (eqb k 6) (some (callDrop (n 1))) none))))))
 
 -- the calls of k rows from row i on, up to the first that has none
 unfoldable pub callsFrom : (ℕ → Option Call) → ℕ → ℕ → List Call

@@ -1,12 +1,157 @@
-// A list of calls, driven from boot.
+// A list of calls driven from boot: one function whose contract says that what it leaves is safe.
+ghost use mathlib.Core.Path.{_≡_};
+ghost use mathlib.Core.Option.{none, some};
+ghost use mathlib.Core.List.{List};
+ghost use Prim.Native.Nat.{ℕ, _+_, _*_, _<_, _≤_};
+ghost use lib.ListN.{length};
+ghost use lib.Dec.{leb};
+ghost use Rattle.definition.specs.Instructions.{pick};
+ghost use Rattle.definition.specs.Calls.{callDefine, callStart};
+ghost use Rattle.definition.specs.Answers.{number, numberOfStep, numberOf, endsIn, countOf};
+ghost use Rattle.driver.specs.Encoded.{fileIn, callIn};
+ghost use Rattle.driver.specs.Driven.{putReply, isAccepted};
+ghost use Rattle.driver.specs.Laws.{callMade};
 use calls::Call;
+use definition::Answer;
+use definition::Refusal;
+use definition::Reply;
 
+// Boot refused the tables, or so many calls were performed.
 pub enum Outcome {
     Refused,
     Performed(usize),
 }
 
+// A row of the list, as it was read: no call, or a call with its numbers.
 enum Row {
     Unreadable,
     Readable(Call),
+}
+
+// What is told of an answer: its number, the number that a run ends in, and the count of steps that ran.
+struct Told {
+    number: u32,
+    end: u32,
+    count: u32,
+}
+
+fn refusal_number(refusal: Refusal) -> u32
+    ensures { λ r. ⌜ r ≡ number refusal ⌝ }
+{
+    match refusal {
+        Refusal::Wanted(_, _) => 5,
+        Refusal::Word(n) => cells::from16(cells::from8(n)),
+    }
+}
+
+fn step_number(a: Answer) -> u32
+    ensures { λ r. ⌜ r ≡ numberOfStep a ⌝ }
+{
+    match a {
+        Answer::Idle => 0,
+        Answer::Ran(_) => 0,
+        Answer::Finished(_, _) => 0,
+        Answer::Refused(refusal) => refusal_number(refusal),
+    }
+}
+
+impl Told {
+    fn new(number: u32, end: u32, count: u32) -> Told
+        ensures { λ r. ⌜ (r .number ≡ number) × (r .end ≡ end) × (r .count ≡ count) ⌝ }
+    {
+        Told { number: number, end: end, count: count }
+    }
+}
+
+fn tell(reply: Reply) -> Told
+    ensures { λ r. ⌜ (r .number ≡ numberOf reply) × (r .end ≡ endsIn reply) × (r .count ≡ countOf reply) ⌝ }
+{
+    match reply {
+        Reply::Accepted => Told::new(0, 0, 0),
+        Reply::Defined(_) => Told::new(0, 0, 0),
+        Reply::Stepped(a) => Told::new(step_number(a), 0, 0),
+        Reply::RanFor(count, a) => Told::new(0, step_number(a), cells::from16(count)),
+        Reply::Denied(refusal) => Told::new(refusal_number(refusal), 0, 0),
+    }
+}
+
+// An answer written into row i, as far as the table has room.
+fn write_answer(answers: &mut [u32], i: usize, reply: Reply)
+    requires { ⌜ i * 3 + 2 < 18446744073709551616 ⌝ }
+    ensures { λ _. ⌜ now (answers .exit) ≡ putReply (now (answers .entry)) i reply ⌝ }
+{
+    let place = i * 3;
+    let it = tell(reply);
+    cells::put32(answers, place, it.number);
+    cells::put32(answers, place + 1, it.end);
+    cells::put32(answers, place + 2, it.count);
+}
+
+fn is_accepted(reply: Reply) -> bool
+    ensures { λ r. ⌜ r ≡ isAccepted reply ⌝ }
+{
+    match reply {
+        Reply::Accepted => true,
+        Reply::Defined(_) => false,
+        Reply::Stepped(_) => false,
+        Reply::RanFor(_, _) => false,
+        Reply::Denied(_) => false,
+    }
+}
+
+// The file that row i names, a part of the bytes; none of them if it lies outside.
+fn file_of<'a>(list: &[u32], files: &'a [u8], i: usize) -> &'a [u8]
+    requires { ⌜ i * 6 + 6 ≤ length (now list) ⌝ }
+    ensures { λ r. ⌜ now r ≡ fileIn (now (list .entry)) (now (files .entry)) i ⌝ }
+{
+    let start = cells::wide32(list[i * 6 + 2]);
+    let end = start + cells::wide32(list[i * 6 + 3]);
+    if end <= files.len() {
+        &files[start..end]
+    } else {
+        &files[0..0]
+    }
+}
+
+// A define, if its file lies within that many bytes.
+fn read_define(loader: u32, start: u32, size: u32, room: usize) -> Row
+    ensures { λ r. ⌜ ((bs : List ℕ) → callMade r bs ≡ pick (leb (start + size) room) (some (callDefine loader bs)) none) ⌝ }
+{
+    if room < cells::wide32(start) + cells::wide32(size) {
+        return Row::Unreadable;
+    }
+    Row::Readable(Call::Define(loader))
+}
+
+// A start, if its name and method are 16-bit numbers.
+fn read_start(task: u32, loader: u32, name: u32, method: u32, value: u32) -> Row
+    ensures { λ r. ⌜ ((bs : List ℕ) → callMade r bs ≡ pick (leb name 65535) (pick (leb method 65535) (some (callStart task loader name method value)) none) none) ⌝ }
+{
+    if 65535 < name {
+        return Row::Unreadable;
+    }
+    if 65535 < method {
+        return Row::Unreadable;
+    }
+    Row::Readable(Call::Start(task, loader, name as u16, method as u16, value))
+}
+
+// Row i: its call, or none.
+fn read_row(list: &[u32], files: &[u8], i: usize) -> Row
+    requires { ⌜ i * 6 + 6 ≤ length (now list) ⌝ }
+    ensures { λ r. ⌜ callMade r (fileIn (now (list .entry)) (now (files .entry)) i) ≡ callIn (now (list .entry)) (now (files .entry)) i ⌝ }
+{
+    let at = i * 6;
+    let kind = list[at];
+    let first = list[at + 1];
+    match kind {
+        0 => Row::Readable(Call::Boot),
+        1 => read_define(first, list[at + 2], list[at + 3], files.len()),
+        2 => Row::Readable(Call::Record(first, list[at + 2], list[at + 3])),
+        3 => read_start(first, list[at + 2], list[at + 3], list[at + 4], list[at + 5]),
+        4 => Row::Readable(Call::Step),
+        5 => Row::Readable(Call::Run(first)),
+        6 => Row::Readable(Call::Drop(first)),
+        _ => Row::Unreadable,
+    }
 }
