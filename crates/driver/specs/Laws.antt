@@ -18,6 +18,7 @@ use Rattle.definition.specs.Safety.{Safe}
 use Rattle.layout.specs.Cells.{class-rows}
 use Rattle.layout.specs.Places.{writeRows-first}
 use Rattle.safety.specs.Safety.{safety}
+use Rattle.calls.specs.declared.Call as made
 use Rattle.calls.specs.Made.{callOf}
 use Rattle.driver.specs.Encoded.{callsFrom}
 use Rattle.driver.specs.Driven.{Outcome, Refused, Performed, putReply, isAccepted, Driven, driven, performed, drive}
@@ -41,6 +42,15 @@ rowDone b t cells = record { readable = b; tables = t; answers = cells }
 unfoldable pub performRow : Option Call → ℕ → Tables → List ℕ → RowDone
 performRow none i t answers = rowDone false t answers
 performRow (some c) i t answers = rowDone true (perform c t .tables) (putReply answers i (perform c t .answer))
+
+module _ (o : Option Call) (w : Row) (bs : List ℕ) (reads : callMade w bs ≡ o) (i : ℕ) (t : Tables) (before : List ℕ) where
+  pub row-unread : w ≡ Unreadable → rowDone false t before ≡ performRow o i t before
+  unfolding callMade performRow
+  row-unread h = rw (← reads, h)
+
+  pub row-performed : (c : made.Call) → w ≡ Readable c → (a : Reply) (u : Tables) (after : List ℕ) → done a u ≡ perform (callOf c bs) t → after ≡ putReply before i a → rowDone true u after ≡ performRow o i t before
+  unfolding callMade performRow
+  row-performed c h a u after e q = rw (← reads, h, q, ← e)
 
 reply-commute : (t : List ℕ) (i j : ℕ) (x y : Reply) → i < j → putReply (putReply t j y) i x ≡ putReply (putReply t i x) j y
 unfolding putReply putClassRow

@@ -6,11 +6,12 @@ ghost use Prim.Native.Nat.{ℕ, _+_, _*_, _<_, _≤_};
 ghost use lib.ListN.{length};
 ghost use lib.Dec.{leb};
 ghost use Rattle.definition.specs.Instructions.{pick};
+ghost use Rattle.definition.specs.Tables.{tables};
 ghost use Rattle.definition.specs.Calls.{callDefine, callStart};
 ghost use Rattle.definition.specs.Answers.{number, numberOfStep, numberOf, endsIn, countOf};
 ghost use Rattle.driver.specs.Encoded.{fileIn, callIn};
 ghost use Rattle.driver.specs.Driven.{putReply, isAccepted};
-ghost use Rattle.driver.specs.Laws.{callMade};
+ghost use Rattle.driver.specs.Laws.{callMade, rowDone, performRow};
 use calls::Call;
 use definition::Answer;
 use definition::Refusal;
@@ -154,4 +155,43 @@ fn read_row(list: &[u32], files: &[u8], i: usize) -> Row
         6 => Row::Readable(Call::Drop(first)),
         _ => Row::Unreadable,
     }
+}
+
+// Row i: its call is performed, and the answer written into row i of the answers. False if it has none.
+fn perform_row(
+    counts: &mut [u16],
+    classes: &mut [u16],
+    kept: &mut [u8],
+    cache: &mut [u16],
+    ties: &mut [u16],
+    subtypes: &mut [u16],
+    objects: &mut [u32],
+    frames: &mut [u32],
+    list: &[u32],
+    files: &[u8],
+    answers: &mut [u32],
+    i: usize,
+) -> bool
+    requires { ⌜ i * 6 + 6 ≤ length (now list) ⌝ }
+    ensures { λ r. ⌜ rowDone r (tables (now (counts .exit)) (now (classes .exit)) (now (kept .exit)) (now (cache .exit)) (now (ties .exit)) (now (subtypes .exit)) (now (objects .exit)) (now (frames .exit))) (now (answers .exit)) ≡ performRow (callIn (now (list .entry)) (now (files .entry)) i) i (tables (now (counts .entry)) (now (classes .entry)) (now (kept .entry)) (now (cache .entry)) (now (ties .entry)) (now (subtypes .entry)) (now (objects .entry)) (now (frames .entry))) (now (answers .entry)) ⌝ }
+{
+    let row = read_row(list, files, i);
+    let Row::Readable(call) = row else {
+        return false;
+    };
+    let file = file_of(list, files, i);
+    let reply = calls::perform(
+        counts,
+        classes,
+        kept,
+        cache,
+        ties,
+        subtypes,
+        objects,
+        frames,
+        call,
+        file,
+    );
+    write_answer(answers, i, reply);
+    true
 }
