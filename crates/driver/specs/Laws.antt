@@ -3,7 +3,8 @@ use mathlib.Core.Path.{_≡_, refl, sym, ap, subst, _∙_}
 use mathlib.Core.Bool.{Bool, true, false, false≢true, true≢false}
 use mathlib.Core.Option.{Option, none, some}
 use mathlib.Core.List.{List, [], _∷_}
-use Prim.Native.Nat.{ℕ, zero, suc, _+_, _*_, _-_, _<_, _≤_}
+use Prim.Native.Nat.{ℕ, zero, suc, _+_, _*_, _-_, _/_, _%_, _<_, _≤_}
+use native.Mathlib.Nat.{div-add-mod'}
 use native.Mathlib.Omega.{arith}
 use native.Mathlib.Numerals.{add-one}
 use lib.ListN.{length}
@@ -20,7 +21,7 @@ use Rattle.layout.specs.Places.{writeRows-first}
 use Rattle.safety.specs.Safety.{safety}
 use Rattle.calls.specs.declared.Call as made
 use Rattle.calls.specs.Made.{callOf}
-use Rattle.driver.specs.Encoded.{callsFrom}
+use Rattle.driver.specs.Encoded.{callIn, callsFrom, callsIn}
 use Rattle.driver.specs.Driven.{Outcome, Refused, Performed, putReply, isAccepted, Driven, driven, performed, drive}
 pub use Rattle.driver.specs.declared.Row.{Row}
 pub use Rattle.driver.specs.declared.Row.the-variants.{Unreadable, Readable}
@@ -67,12 +68,16 @@ performed-one c cs i t answers =
     let d = performAll cs (perform c t .tables) in
     rw e (ap (driven (Performed (i + suc (length cs))) (d .tables)) (sym (writeRows-first putReply reply-commute (perform c t .answer) (d .answer) i answers)))
 
-module _ (g : ℕ → Option Call) (n i : ℕ) (t u : Tables) (before after : List ℕ) where
+-- the rows that a table has room for lie within it
+pub row-within : (k i : ℕ) → i < k / 6 → i * 6 + 6 ≤ k
+row-within k i l = omega (arith, div-add-mod' k 6)
+
+module _ (g : ℕ → Option Call) (n i : ℕ) (t : Tables) (before : List ℕ) where
   pub drive-ends : n ≤ i → driven (Performed i) t before ≡ performed (callsFrom g (n - i) i) i t before
   unfolding callsFrom
   drive-ends l = let e : n - i ≡ 0 = omega arith in rw e (performed-none i t before)
 
-  module _ (r : Bool) (row : rowDone r u after ≡ performRow (g i) i t before) (more : i < n) where
+  module _ (r : Bool) (u : Tables) (after : List ℕ) (row : rowDone r u after ≡ performRow (g i) i t before) (more : i < n) where
     pub drive-stops : r ≡ false → driven (Performed i) u after ≡ performed (callsFrom g (n - i) i) i t before
     unfolding callsFrom performRow
     drive-stops h = let e : n - i ≡ suc (n - (i + 1)) = omega arith in rw e (go (g i) row)
@@ -91,6 +96,11 @@ module _ (g : ℕ → Option Call) (n i : ℕ) (t u : Tables) (before after : Li
         go none k e = absurd (true≢false (sym h ∙ ap (λ (d : RowDone). d .readable) e))
         go (some c) k e =
             ap (λ (d : RowDone). performed (callsFrom g k (suc i)) (suc i) (d .tables) (d .answers)) e ∙ performed-one c (callsFrom g k (suc i)) i t before
+
+pub drive-begins : (cells files : List ℕ) (t : Tables) (answers : List ℕ)
+    → performed (callsFrom (callIn cells files) (length cells / 6 - 0) 0) 0 t answers ≡ performed (callsIn cells files) 0 t answers
+unfolding callsIn
+drive-begins cells files t answers = let e : length cells / 6 - 0 ≡ length cells / 6 = omega arith in rw e
 
 -- From boot
 

@@ -9,8 +9,8 @@ ghost use Rattle.definition.specs.Instructions.{pick};
 ghost use Rattle.definition.specs.Tables.{tables};
 ghost use Rattle.definition.specs.Calls.{callDefine, callStart};
 ghost use Rattle.definition.specs.Answers.{number, numberOfStep, numberOf, endsIn, countOf};
-ghost use Rattle.driver.specs.Encoded.{fileIn, callIn};
-ghost use Rattle.driver.specs.Driven.{putReply, isAccepted};
+ghost use Rattle.driver.specs.Encoded.{fileIn, callIn, callsIn};
+ghost use Rattle.driver.specs.Driven.{putReply, isAccepted, driven, performed};
 ghost use Rattle.driver.specs.Laws.{callMade, rowDone, performRow};
 use calls::Call;
 use definition::Answer;
@@ -194,4 +194,44 @@ fn perform_row(
     );
     write_answer(answers, i, reply);
     true
+}
+
+// The rows one after another, up to the first that has no call: how many were performed.
+fn perform_rows(
+    counts: &mut [u16],
+    classes: &mut [u16],
+    kept: &mut [u8],
+    cache: &mut [u16],
+    ties: &mut [u16],
+    subtypes: &mut [u16],
+    objects: &mut [u32],
+    frames: &mut [u32],
+    list: &[u32],
+    files: &[u8],
+    answers: &mut [u32],
+) -> usize
+    ensures { λ r. ⌜ driven (Outcome.Performed r) (tables (now (counts .exit)) (now (classes .exit)) (now (kept .exit)) (now (cache .exit)) (now (ties .exit)) (now (subtypes .exit)) (now (objects .exit)) (now (frames .exit))) (now (answers .exit)) ≡ performed (callsIn (now (list .entry)) (now (files .entry))) 0 (tables (now (counts .entry)) (now (classes .entry)) (now (kept .entry)) (now (cache .entry)) (now (ties .entry)) (now (subtypes .entry)) (now (objects .entry)) (now (frames .entry))) (now (answers .entry)) ⌝ }
+{
+    let n = list.len() / 6;
+    let mut i: usize = 0;
+    while i < n {
+        if !perform_row(
+            counts,
+            classes,
+            kept,
+            cache,
+            ties,
+            subtypes,
+            objects,
+            frames,
+            list,
+            files,
+            answers,
+            i,
+        ) {
+            return i;
+        }
+        i += 1;
+    }
+    i
 }
