@@ -1,7 +1,6 @@
 -- What the drive of a list of calls leaves: the tables, and a row of three cells for each answer.
 use mathlib.Core.Path.{_≡_}
 use mathlib.Core.Bool.{Bool, true, false}
-use mathlib.Core.Option.{Option, none, some}
 use mathlib.Core.List.{List}
 use Prim.Native.Nat.{ℕ, _+_, _*_, _<_}
 use lib.ListN.{length, getD}
@@ -10,8 +9,8 @@ use Rattle.definition.specs.declared.Reply.{Reply}
 use Rattle.definition.specs.declared.Reply.the-variants.{Accepted, Defined, Stepped, RanFor, Denied}
 use Rattle.definition.specs.Answers.{numberOf, endsIn, countOf}
 use Rattle.definition.specs.Tables.{Tables, putThree}
-use Rattle.definition.specs.Calls.{Done, done, boot, perform, performAll, Call}
-use Rattle.calls.specs.Made.{callOf}
+use Rattle.definition.specs.Calls.{done, Call, boot, performAll}
+use Rattle.definition.specs.Safety.{Safe}
 pub use Rattle.driver.specs.declared.Outcome.{Outcome}
 pub use Rattle.driver.specs.declared.Outcome.the-variants.{Refused, Performed}
 
@@ -41,3 +40,8 @@ performed cs i t answers = let d = performAll cs t in driven (Performed (i + len
 -- boot, and if it is accepted the calls; else nothing is changed
 unfoldable pub drive : List Call → Tables → List ℕ → Driven
 drive cs t answers = elim (isAccepted (boot t .answer)) as (λ _. Driven) [ true ↦ performed cs 0 (boot t .tables) answers | false ↦ driven Refused t answers ]
+
+-- From an accepted boot: what is left is safe, and no number told of an answer is that of 'stuck'
+pub record SafelyDriven (cs : List Call) (t u : Tables) (answers : List ℕ) : Type 0 where
+  pub safe : Safe (done (performAll cs (boot t .tables) .answer) u)
+  pub told : (i : ℕ) → i < length cs → (getD answers (i * 3) 0 ≡ 14 → ⊥) × (getD answers (i * 3 + 1) 0 ≡ 14 → ⊥)

@@ -1,5 +1,5 @@
 -- A drive row by row: the row's call is performed and answered, or the list ends there.
-use mathlib.Core.Path.{_≡_, refl, sym, ap, subst, _∙_}
+use mathlib.Core.Path.{_≡_, refl, sym, ap, _∙_}
 use mathlib.Core.Bool.{Bool, true, false, false≢true, true≢false}
 use mathlib.Core.Option.{Option, none, some}
 use mathlib.Core.List.{List, [], _∷_}
@@ -15,10 +15,8 @@ use Rattle.definition.specs.declared.Refusal.the-variants.{Word}
 use Rattle.definition.specs.Answers.{numberOf, endsIn, countOf}
 use Rattle.definition.specs.Tables.{Tables, shaped, put, classRow, putClassRow}
 use Rattle.definition.specs.Calls.{Done, done, Call, bootRows, boot, perform, performAll}
-use Rattle.definition.specs.Safety.{Safe}
 use Rattle.layout.specs.Cells.{class-rows}
 use Rattle.layout.specs.Places.{writeRows-first}
-use Rattle.safety.specs.Safety.{safety}
 use Rattle.calls.specs.declared.Call as made
 use Rattle.calls.specs.Made.{callOf}
 use Rattle.driver.specs.Encoded.{callIn, callsFrom, callsIn}
@@ -80,16 +78,16 @@ module _ (g : ℕ → Option Call) (n i : ℕ) (t : Tables) (before : List ℕ) 
   module _ (r : Bool) (u : Tables) (after : List ℕ) (row : rowDone r u after ≡ performRow (g i) i t before) (more : i < n) where
     pub drive-stops : r ≡ false → driven (Performed i) u after ≡ performed (callsFrom g (n - i) i) i t before
     unfolding callsFrom performRow
-    drive-stops h = let e : n - i ≡ suc (n - (i + 1)) = omega arith in rw e (go (g i) row)
+    drive-stops h = let e : n - i ≡ suc (n - suc i) = omega arith in rw e (go (g i) (n - suc i) row)
       where
-        go : (o : Option Call) → rowDone r u after ≡ performRow o i t before
-            → driven (Performed i) u after ≡ performed (elim o [ none ↦ [] | some c ↦ c ∷ callsFrom g (n - (i + 1)) (suc i) ]) i t before
-        go none e = ap (λ (d : RowDone). driven (Performed i) (d .tables) (d .answers)) e ∙ performed-none i t before
-        go (some c) e = absurd (false≢true (sym h ∙ ap (λ (d : RowDone). d .readable) e))
+        go : (o : Option Call) (k : ℕ) → rowDone r u after ≡ performRow o i t before
+            → driven (Performed i) u after ≡ performed (elim o [ none ↦ [] | some c ↦ c ∷ callsFrom g k (suc i) ]) i t before
+        go none k e = ap (λ (d : RowDone). driven (Performed i) (d .tables) (d .answers)) e ∙ performed-none i t before
+        go (some c) k e = absurd (false≢true (sym h ∙ ap (λ (d : RowDone). d .readable) e))
 
     pub drive-on : r ≡ true → performed (callsFrom g (n - (i + 1)) (i + 1)) (i + 1) u after ≡ performed (callsFrom g (n - i) i) i t before
     unfolding callsFrom performRow
-    drive-on h = let e : n - i ≡ suc (n - (i + 1)) = omega arith in let f : n - (i + 1) ≡ n - suc i = omega arith in rw (e, f, add-one i) (go (g i) (n - suc i) row)
+    drive-on h = let e : n - i ≡ suc (n - suc i) = omega arith in rw (e, add-one i) (go (g i) (n - suc i) row)
       where
         go : (o : Option Call) (k : ℕ) → rowDone r u after ≡ performRow o i t before
             → performed (callsFrom g k (suc i)) (suc i) u after ≡ performed (elim o [ none ↦ [] | some c ↦ c ∷ callsFrom g k (suc i) ]) i t before
@@ -105,7 +103,7 @@ drive-begins cells files t answers = let e : length cells / 6 - 0 ≡ length cel
 -- From boot
 
 module _ (cs : List Call) (t : Tables) (before : List ℕ) where
-  drive-after : isAccepted (boot t .answer) ≡ true → drive cs t before ≡ performed cs 0 (boot t .tables) before
+  pub drive-after : isAccepted (boot t .answer) ≡ true → drive cs t before ≡ performed cs 0 (boot t .tables) before
   unfolding drive
   drive-after h = rw (h, drive)
 
@@ -129,12 +127,3 @@ module _ (cs : List Call) (t : Tables) (before : List ℕ) where
 
     pub drive-accepted : isAccepted a ≡ true → (d : Driven) → d ≡ performed cs 0 u before → d ≡ drive cs t before
     drive-accepted h d e = e ∙ (ap (λ (d : Done Reply). performed cs 0 (d .tables) before) boots ∙ sym (drive-after (sym told ∙ h)))
-
--- and so what is left is safe
-pub drive-safe : (cs : List Call) (t u : Tables) (before after : List ℕ) (r : Outcome) → driven r u after ≡ drive cs t before → boot t .answer ≡ Accepted
-    → Safe (done (performAll cs (boot t .tables) .answer) u)
-unfolding performed
-drive-safe cs t u before after r e h = subst (λ (z : Tables). Safe (done (performAll cs (boot t .tables) .answer) z)) (sym left) (safety t h cs)
-  where
-    left : u ≡ performAll cs (boot t .tables) .tables
-    left = ap (λ (d : Driven). d .tables) (e ∙ drive-after cs t before (ap isAccepted h))

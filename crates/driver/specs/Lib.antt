@@ -2,3 +2,4 @@
 pub mod Encoded
 pub mod Driven
 pub mod Laws
+pub mod Safely

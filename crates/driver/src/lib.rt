@@ -7,10 +7,10 @@ ghost use lib.ListN.{length};
 ghost use lib.Dec.{leb};
 ghost use Rattle.definition.specs.Instructions.{pick};
 ghost use Rattle.definition.specs.Tables.{tables};
-ghost use Rattle.definition.specs.Calls.{callDefine, callStart};
+ghost use Rattle.definition.specs.Calls.{boot, callDefine, callStart};
 ghost use Rattle.definition.specs.Answers.{number, numberOfStep, numberOf, endsIn, countOf};
 ghost use Rattle.driver.specs.Encoded.{fileIn, callIn, callsIn};
-ghost use Rattle.driver.specs.Driven.{putReply, isAccepted, driven, performed};
+ghost use Rattle.driver.specs.Driven.{putReply, isAccepted, driven, performed, drive, SafelyDriven};
 ghost use Rattle.driver.specs.Laws.{callMade, rowDone, performRow};
 use calls::Call;
 use definition::Answer;
@@ -234,4 +234,50 @@ fn perform_rows(
         i += 1;
     }
     i
+}
+
+// Boot, and if it is accepted the calls of the list, up to the first row that has none. If boot is refused nothing is changed.
+// From an accepted boot nothing is misplaced in the tables that are left, they are not broken, and no answer was 'stuck'.
+pub fn drive(
+    counts: &mut [u16],
+    classes: &mut [u16],
+    kept: &mut [u8],
+    cache: &mut [u16],
+    ties: &mut [u16],
+    subtypes: &mut [u16],
+    objects: &mut [u32],
+    frames: &mut [u32],
+    list: &[u32],
+    files: &[u8],
+    answers: &mut [u32],
+) -> Outcome
+    ensures left { λ r. ⌜ driven r (tables (now (counts .exit)) (now (classes .exit)) (now (kept .exit)) (now (cache .exit)) (now (ties .exit)) (now (subtypes .exit)) (now (objects .exit)) (now (frames .exit))) (now (answers .exit)) ≡ drive (callsIn (now (list .entry)) (now (files .entry))) (tables (now (counts .entry)) (now (classes .entry)) (now (kept .entry)) (now (cache .entry)) (now (ties .entry)) (now (subtypes .entry)) (now (objects .entry)) (now (frames .entry))) (now (answers .entry)) ⌝ }
+    ensures safe { λ r. ⌜ (boot (tables (now (counts .entry)) (now (classes .entry)) (now (kept .entry)) (now (cache .entry)) (now (ties .entry)) (now (subtypes .entry)) (now (objects .entry)) (now (frames .entry))) .answer ≡ Reply.Accepted → SafelyDriven (callsIn (now (list .entry)) (now (files .entry))) (tables (now (counts .entry)) (now (classes .entry)) (now (kept .entry)) (now (cache .entry)) (now (ties .entry)) (now (subtypes .entry)) (now (objects .entry)) (now (frames .entry))) (tables (now (counts .exit)) (now (classes .exit)) (now (kept .exit)) (now (cache .exit)) (now (ties .exit)) (now (subtypes .exit)) (now (objects .exit)) (now (frames .exit))) (now (answers .exit))) ⌝ }
+{
+    let reply = loading::boot(
+        counts,
+        classes,
+        kept,
+        cache,
+        ties,
+        subtypes,
+        objects,
+        frames,
+    );
+    if !is_accepted(reply) {
+        return Outcome::Refused;
+    }
+    Outcome::Performed(perform_rows(
+        counts,
+        classes,
+        kept,
+        cache,
+        ties,
+        subtypes,
+        objects,
+        frames,
+        list,
+        files,
+        answers,
+    ))
 }
