@@ -3,3 +3,4 @@ pub mod Encoded
 pub mod Driven
 pub mod Laws
 pub mod Safely
+pub mod Encoding

@@ -36,6 +36,7 @@ struct Told {
     count: u32,
 }
 
+// The number of a refusal: 5 if it wants a class.
 fn refusal_number(refusal: Refusal) -> u32
     ensures { λ r. ⌜ r ≡ number refusal ⌝ }
 {
@@ -45,6 +46,7 @@ fn refusal_number(refusal: Refusal) -> u32
     }
 }
 
+// The number of a step's answer: 0 if it isn't refused.
 fn step_number(a: Answer) -> u32
     ensures { λ r. ⌜ r ≡ numberOfStep a ⌝ }
 {
@@ -60,10 +62,15 @@ impl Told {
     fn new(number: u32, end: u32, count: u32) -> Told
         ensures { λ r. ⌜ (r .number ≡ number) × (r .end ≡ end) × (r .count ≡ count) ⌝ }
     {
-        Told { number: number, end: end, count: count }
+        Told {
+            number: number,
+            end: end,
+            count: count,
+        }
     }
 }
 
+// A run is accepted, and ends in its last answer's number.
 fn tell(reply: Reply) -> Told
     ensures { λ r. ⌜ (r .number ≡ numberOf reply) × (r .end ≡ endsIn reply) × (r .count ≡ countOf reply) ⌝ }
 {
@@ -88,6 +95,7 @@ fn write_answer(answers: &mut [u32], i: usize, reply: Reply)
     cells::put32(answers, place + 2, it.count);
 }
 
+// Boot answers this, or a refusal.
 fn is_accepted(reply: Reply) -> bool
     ensures { λ r. ⌜ r ≡ isAccepted reply ⌝ }
 {
@@ -137,7 +145,7 @@ fn read_start(task: u32, loader: u32, name: u32, method: u32, value: u32) -> Row
     Row::Readable(Call::Start(task, loader, name as u16, method as u16, value))
 }
 
-// Row i: its call, or none.
+// The call of row i, or none.
 fn read_row(list: &[u32], files: &[u8], i: usize) -> Row
     requires { ⌜ i * 6 + 6 ≤ length (now list) ⌝ }
     ensures { λ r. ⌜ callMade r (fileIn (now (list .entry)) (now (files .entry)) i) ≡ callIn (now (list .entry)) (now (files .entry)) i ⌝ }
@@ -149,7 +157,13 @@ fn read_row(list: &[u32], files: &[u8], i: usize) -> Row
         0 => Row::Readable(Call::Boot),
         1 => read_define(first, list[at + 2], list[at + 3], files.len()),
         2 => Row::Readable(Call::Record(first, list[at + 2], list[at + 3])),
-        3 => read_start(first, list[at + 2], list[at + 3], list[at + 4], list[at + 5]),
+        3 => read_start(
+            first,
+            list[at + 2],
+            list[at + 3],
+            list[at + 4],
+            list[at + 5],
+        ),
         4 => Row::Readable(Call::Step),
         5 => Row::Readable(Call::Run(first)),
         6 => Row::Readable(Call::Drop(first)),

@@ -1,5 +1,5 @@
 -- The loop has performed i rows: what is left of the list, performed on the tables as they are, is the whole list on the tables as they were.
-use Prim.Native.Nat.{_-_, _≤_}
+use Prim.Native.Nat.{_+_, _*_, _-_, _≤_}
 use mathlib.Core.Path.{_≡_, refl, _∙_}
 use native.Mathlib.Omega.{arith}
 use lib.ListN.{length}
@@ -9,7 +9,6 @@ use Rattle.definition.specs.Tables.{tables}
 use Rattle.driver.specs.Encoded.{callIn, callsFrom, callsIn}
 use Rattle.driver.specs.Driven.{performed}
 use Rattle.driver.specs.Laws.{row-within, drive-begins, drive-ends, drive-stops, drive-on}
-use borrow.Author.Needs.{needs}
 use Rattle.driver.proofs.perform_rows.Statement.{statement}
 use Rattle.driver.proofs.perform_rows.Tie as tie
 
@@ -31,129 +30,59 @@ Inv-loop counts₀ classes₀ kept₀ cache₀ ties₀ subtypes₀ objects₀ fr
 abbrev μ-loop : tie.MeasureT-loop
 μ-loop counts₀ classes₀ kept₀ cache₀ ties₀ subtypes₀ objects₀ frames₀ list files answers₀ n i₀ counts classes kept cache ties subtypes objects frames answers i = n - i
 
+-- the entry of a turn, and the call in it
+abbrev turn : tie.After-perform-row Inv-loop μ-loop → tie.In-loop Inv-loop μ-loop
+turn c = c .before .before .before .before .before .before .before .before .before .before
+
+abbrev call : tie.After-slice-known18 Inv-loop μ-loop → tie.After-perform-row Inv-loop μ-loop
+call c = c .before .before .before .before .before .before .before .before .before .before .before .before .before .before .before .before .before .before
+
 loop-holds : tie.Need-loop-holds Inv-loop μ-loop
 loop-holds c = (omega arith, drive-begins _ _ _ _, refl, refl, refl, refl, refl, refl, refl, refl, refl)
 
-perform-row-requires : tie.Need-perform-row-requires Inv-loop μ-loop
-perform-row-requires c κs =
-    let at1 = c .before .before .before .before .before .before .before .before .before in
-    let at2 = at1 .before in
-    let at3 = at2 .before .before .before .before .before .before .before .before .before .before .before .before in
-    row-within (length (now (at3 .args .list))) (at2 .loop .i) (at1 .loop-test .taken)
-
-same-length : tie.Need-same-length Inv-loop μ-loop
-same-length c =
-    let at1 = c .before .before .before .before .before .before .before .before .before .before .before .before .before .before .before .before .before .before .before in
-    let at2 = at1 .before .before .before .before .before .before .before .before .before .before .before in
-    at1 .perform-row .kept .0 ∙ at2 .loop .inv .2
-
-same-length-2 : tie.Need-same-length-2 Inv-loop μ-loop
-same-length-2 c =
-    let at1 = c .before .before .before .before .before .before .before .before .before .before .before .before .before .before .before .before .before .before .before in
-    let at2 = at1 .before .before .before .before .before .before .before .before .before .before .before in
-    at1 .perform-row .kept .1 .0 ∙ at2 .loop .inv .3
-
-same-length-3 : tie.Need-same-length-3 Inv-loop μ-loop
-same-length-3 c =
-    let at1 = c .before .before .before .before .before .before .before .before .before .before .before .before .before .before .before .before .before .before .before in
-    let at2 = at1 .before .before .before .before .before .before .before .before .before .before .before in
-    at1 .perform-row .kept .1 .1 .0 ∙ at2 .loop .inv .4
-
-same-length-4 : tie.Need-same-length-4 Inv-loop μ-loop
-same-length-4 c =
-    let at1 = c .before .before .before .before .before .before .before .before .before .before .before .before .before .before .before .before .before .before .before in
-    let at2 = at1 .before .before .before .before .before .before .before .before .before .before .before in
-    at1 .perform-row .kept .1 .1 .1 .0 ∙ at2 .loop .inv .5
-
-same-length-5 : tie.Need-same-length-5 Inv-loop μ-loop
-same-length-5 c =
-    let at1 = c .before .before .before .before .before .before .before .before .before .before .before .before .before .before .before .before .before .before .before in
-    let at2 = at1 .before .before .before .before .before .before .before .before .before .before .before in
-    at1 .perform-row .kept .1 .1 .1 .1 .0 ∙ at2 .loop .inv .6
-
-same-length-6 : tie.Need-same-length-6 Inv-loop μ-loop
-same-length-6 c =
-    let at1 = c .before .before .before .before .before .before .before .before .before .before .before .before .before .before .before .before .before .before .before in
-    let at2 = at1 .before .before .before .before .before .before .before .before .before .before .before in
-    at1 .perform-row .kept .1 .1 .1 .1 .1 .0 ∙ at2 .loop .inv .7
-
-same-length-7 : tie.Need-same-length-7 Inv-loop μ-loop
-same-length-7 c =
-    let at1 = c .before .before .before .before .before .before .before .before .before .before .before .before .before .before .before .before .before .before .before in
-    let at2 = at1 .before .before .before .before .before .before .before .before .before .before .before in
-    at1 .perform-row .kept .1 .1 .1 .1 .1 .1 .0 ∙ at2 .loop .inv .8
-
-same-length-8 : tie.Need-same-length-8 Inv-loop μ-loop
-same-length-8 c =
-    let at1 = c .before .before .before .before .before .before .before .before .before .before .before .before .before .before .before .before .before .before .before in
-    let at2 = at1 .before .before .before .before .before .before .before .before .before .before .before in
-    at1 .perform-row .kept .1 .1 .1 .1 .1 .1 .1 .0 ∙ at2 .loop .inv .9
-
-same-length-9 : tie.Need-same-length-9 Inv-loop μ-loop
-same-length-9 c =
-    let at1 = c .before .before .before .before .before .before .before .before .before .before .before .before .before .before .before .before .before .before .before in
-    let at2 = at1 .before .before .before .before .before .before .before .before .before .before .before in
-    at1 .perform-row .kept .1 .1 .1 .1 .1 .1 .1 .1 .1 .1 .0 ∙ at2 .loop .inv .10
+-- row i lies within the list
+within : (c : tie.In-loop Inv-loop μ-loop) → c .before .loop .i * 6 + 6 ≤ length (now (c .before .before .before .before .before .before .before .before .before .before .before .before .before .args .list))
+within c = row-within (length (now (c .before .before .before .before .before .before .before .before .before .before .before .before .before .args .list))) (c .before .loop .i) (c .loop-test .taken)
 
 returns : tie.Need-returns Inv-loop μ-loop
 returns c =
-    let at1 = c .before .before .before .before .before .before .before .before .before .before .before .before .before .before .before .before .before .before .before in
-    let at2 = at1 .before .before .before .before .before .before .before .before .before .before in
-    let at3 = at2 .before in
-    let at4 = at3 .before .before .before .before .before .before .before .before .before .before .before .before in
-    drive-stops (callIn (now (at4 .args .list)) (now (at4 .args .files))) _ _ _ _ _ _ _ (at1 .perform-row .ensures) (at2 .loop-test .taken) (not-true _ (c .if1 .taken)) ∙ at3 .loop .inv .1
+    let d = call (c .before) in
+    let e = turn d .before in
+    let given = e .before .before .before .before .before .before .before .before .before .before .before .before .args in
+    drive-stops (callIn (now (given .list)) (now (given .files))) _ _ _ _ _ _ _ (d .perform-row .ensures) (turn d .loop-test .taken) (not-true _ (c .if1 .taken)) ∙ e .loop .inv .1
 
 add-i : tie.Need-add-i Inv-loop μ-loop
 add-i c =
-    let at1 = c .before .before .before .before .before .before .before .before .before .before .before .before .before .before .before .before .before .before .before .before .before .before .before .before .before .before .before .before .before in
-    let at2 = at1 .before in
-    let at3 = at2 .before .before .before .before .before .before .before .before .before .before .before .before in
-    omega (arith, row-within (length (now (at3 .args .list))) (at2 .loop .i) (at1 .loop-test .taken), at3 .good .1 .1 .1 .1 .1 .1 .1 .1 .0 .0)
+    let e = turn (call (c .before)) in
+    omega (arith, within e, e .before .before .before .before .before .before .before .before .before .before .before .before .before .good .1 .1 .1 .1 .1 .1 .1 .1 .0 .0)
 
 loop-less : tie.Need-loop-less Inv-loop μ-loop
-loop-less c =
-    let at1 = c .before .before .before .before .before .before .before .before .before .before .before .before .before .before .before .before .before .before .before .before .before .before .before .before .before .before .before .before .before in
-    omega (arith, at1 .loop-test .taken)
+loop-less c = omega (arith, turn (call (c .before)) .loop-test .taken)
 
 loop-again : tie.Need-loop-again Inv-loop μ-loop
 loop-again c =
-    let at1 = c .before .before .before .before .before .before .before .before .before .before .before .before .before .before .before .before .before .before .before in
-    let at2 = at1 .before .before .before .before .before .before .before .before .before .before in
-    let at3 = at2 .before in
-    let at4 = at3 .before .before .before .before .before .before .before .before .before .before .before .before in
-    (omega (arith, at2 .loop-test .taken), drive-on (callIn (now (at4 .args .list)) (now (at4 .args .files))) _ _ _ _ _ _ _ (at1 .perform-row .ensures) (at2 .loop-test .taken) (not-false _ (c .if1 .left)) ∙ at3 .loop .inv .1, at1 .perform-row .kept .0 ∙ at3 .loop .inv .2, at1 .perform-row .kept .1 .0 ∙ at3 .loop .inv .3, at1 .perform-row .kept .1 .1 .0 ∙ at3 .loop .inv .4, at1 .perform-row .kept .1 .1 .1 .0 ∙ at3 .loop .inv .5, at1 .perform-row .kept .1 .1 .1 .1 .0 ∙ at3 .loop .inv .6, at1 .perform-row .kept .1 .1 .1 .1 .1 .0 ∙ at3 .loop .inv .7, at1 .perform-row .kept .1 .1 .1 .1 .1 .1 .0 ∙ at3 .loop .inv .8, at1 .perform-row .kept .1 .1 .1 .1 .1 .1 .1 .0 ∙ at3 .loop .inv .9, at1 .perform-row .kept .1 .1 .1 .1 .1 .1 .1 .1 .1 .1 .0 ∙ at3 .loop .inv .10)
-
-same-length-10 : tie.Need-same-length-10 Inv-loop μ-loop
-same-length-10 c = c .before .loop .inv .2
-
-same-length-11 : tie.Need-same-length-11 Inv-loop μ-loop
-same-length-11 c = c .before .loop .inv .3
-
-same-length-12 : tie.Need-same-length-12 Inv-loop μ-loop
-same-length-12 c = c .before .loop .inv .4
-
-same-length-13 : tie.Need-same-length-13 Inv-loop μ-loop
-same-length-13 c = c .before .loop .inv .5
-
-same-length-14 : tie.Need-same-length-14 Inv-loop μ-loop
-same-length-14 c = c .before .loop .inv .6
-
-same-length-15 : tie.Need-same-length-15 Inv-loop μ-loop
-same-length-15 c = c .before .loop .inv .7
-
-same-length-16 : tie.Need-same-length-16 Inv-loop μ-loop
-same-length-16 c = c .before .loop .inv .8
-
-same-length-17 : tie.Need-same-length-17 Inv-loop μ-loop
-same-length-17 c = c .before .loop .inv .9
-
-same-length-18 : tie.Need-same-length-18 Inv-loop μ-loop
-same-length-18 c = c .before .loop .inv .10
+    let d = call (c .before) in
+    let e = turn d .before in
+    let given = e .before .before .before .before .before .before .before .before .before .before .before .before .args in
+    (
+      omega (arith, turn d .loop-test .taken),
+      drive-on (callIn (now (given .list)) (now (given .files))) _ _ _ _ _ _ _ (d .perform-row .ensures) (turn d .loop-test .taken) (not-false _ (c .if1 .left))
+      ∙ e .loop .inv .1,
+      d .perform-row .kept .0 ∙ e .loop .inv .2,
+      d .perform-row .kept .1 .0 ∙ e .loop .inv .3,
+      d .perform-row .kept .1 .1 .0 ∙ e .loop .inv .4,
+      d .perform-row .kept .1 .1 .1 .0 ∙ e .loop .inv .5,
+      d .perform-row .kept .1 .1 .1 .1 .0 ∙ e .loop .inv .6,
+      d .perform-row .kept .1 .1 .1 .1 .1 .0 ∙ e .loop .inv .7,
+      d .perform-row .kept .1 .1 .1 .1 .1 .1 .0 ∙ e .loop .inv .8,
+      d .perform-row .kept .1 .1 .1 .1 .1 .1 .1 .0 ∙ e .loop .inv .9,
+      d .perform-row .kept .1 .1 .1 .1 .1 .1 .1 .1 .1 .1 .0 ∙ e .loop .inv .10,
+    )
 
 returns-2 : tie.Need-returns-2 Inv-loop μ-loop
 returns-2 c =
-    let at1 = c .before .before .before .before .before .before .before .before .before .before .before .before .before in
-    drive-ends (callIn (now (at1 .args .list)) (now (at1 .args .files))) _ _ _ _ (c .loop-test .left) ∙ c .before .loop .inv .1
+    let given = c .before .before .before .before .before .before .before .before .before .before .before .before .before .args in
+    drive-ends (callIn (now (given .list)) (now (given .files))) _ _ _ _ (c .loop-test .left) ∙ c .before .loop .inv .1
 
 pub perform-rows-spec : {M : Type 1} → statement M
 perform-rows-spec =
@@ -162,27 +91,27 @@ perform-rows-spec =
     Inv-loop
     μ-loop
     loop-holds
-    perform-row-requires
-    same-length
-    same-length-2
-    same-length-3
-    same-length-4
-    same-length-5
-    same-length-6
-    same-length-7
-    same-length-8
-    same-length-9
+    (λ c κs. within (c .before .before .before .before .before .before .before .before .before))
+    (λ c. call (c .before) .perform-row .kept .0 ∙ turn (call (c .before)) .before .loop .inv .2)
+    (λ c. call (c .before) .perform-row .kept .1 .0 ∙ turn (call (c .before)) .before .loop .inv .3)
+    (λ c. call (c .before) .perform-row .kept .1 .1 .0 ∙ turn (call (c .before)) .before .loop .inv .4)
+    (λ c. call (c .before) .perform-row .kept .1 .1 .1 .0 ∙ turn (call (c .before)) .before .loop .inv .5)
+    (λ c. call (c .before) .perform-row .kept .1 .1 .1 .1 .0 ∙ turn (call (c .before)) .before .loop .inv .6)
+    (λ c. call (c .before) .perform-row .kept .1 .1 .1 .1 .1 .0 ∙ turn (call (c .before)) .before .loop .inv .7)
+    (λ c. call (c .before) .perform-row .kept .1 .1 .1 .1 .1 .1 .0 ∙ turn (call (c .before)) .before .loop .inv .8)
+    (λ c. call (c .before) .perform-row .kept .1 .1 .1 .1 .1 .1 .1 .0 ∙ turn (call (c .before)) .before .loop .inv .9)
+    (λ c. call (c .before) .perform-row .kept .1 .1 .1 .1 .1 .1 .1 .1 .1 .1 .0 ∙ turn (call (c .before)) .before .loop .inv .10)
     returns
     add-i
     loop-less
     loop-again
-    same-length-10
-    same-length-11
-    same-length-12
-    same-length-13
-    same-length-14
-    same-length-15
-    same-length-16
-    same-length-17
-    same-length-18
+    (λ c. c .before .loop .inv .2)
+    (λ c. c .before .loop .inv .3)
+    (λ c. c .before .loop .inv .4)
+    (λ c. c .before .loop .inv .5)
+    (λ c. c .before .loop .inv .6)
+    (λ c. c .before .loop .inv .7)
+    (λ c. c .before .loop .inv .8)
+    (λ c. c .before .loop .inv .9)
+    (λ c. c .before .loop .inv .10)
     returns-2)

@@ -22,9 +22,4 @@ returns-2 c =
 pub read-define-spec : {M : Type 1} → statement M
 read-define-spec =
     tie.close
-    (tie.spec
-    (λ c κs. search needs)
-    (λ c κs. search needs)
-    (λ c. search needs)
-    returns
-    returns-2)
+    (tie.spec (λ c κs. search needs) (λ c κs. search needs) (λ c. search needs) returns returns-2)

@@ -22,9 +22,4 @@ returns-3 c = λ bs. rw (le-leb _ _ (c .before .if1 .left), le-leb _ _ (c .if2 .
 pub read-start-spec : {M : Type 1} → statement M
 read-start-spec =
     tie.close
-    (tie.spec
-    returns
-    returns-2
-    (λ c. search needs)
-    (λ c. search needs)
-    returns-3)
+    (tie.spec returns returns-2 (λ c. search needs) (λ c. search needs) returns-3)
