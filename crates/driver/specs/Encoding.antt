@@ -61,22 +61,39 @@ module _ (xs : List ℕ) (i : ℕ) (behind : length xs ≡ i * 6) where
   unfolding kindIn
   kind-at ys = let e : i * 6 ≡ length xs + 0 = omega arith in rw e (getD-append-add xs ys 0 0)
 
+  define-read : (l : ℕ) (bs fs rest more : List ℕ)
+      → callIn (xs ++ (1 ∷ l ∷ length fs ∷ length bs ∷ 0 ∷ 0 ∷ rest)) (fs ++ (bs ++ more)) i ≡ some (callDefine l bs)
+  unfolding callIn fileIn pick
+  define-read l bs fs rest more =
+      let ys : List ℕ = 1 ∷ l ∷ length fs ∷ length bs ∷ 0 ∷ 0 ∷ rest in
+      let within : length fs + length bs ≤ length (fs ++ (bs ++ more)) = omega (arith, length-append fs (bs ++ more), length-append bs more) in
+      rw (
+        kind-at ys,
+        cell-at ys 1,
+        cell-at ys 2,
+        cell-at ys 3,
+        le-leb _ _ within,
+        part-there (fs ++ (bs ++ more)) (length fs) (length bs) within,
+        drop-append-seam fs (bs ++ more),
+        take-append-seam bs more,
+      )
+
   row-read : (c : Call) → Named c → (fs rest more : List ℕ) → callIn (xs ++ (rowOf c (length fs) ++ rest)) (fs ++ (fileOf c ++ more)) i ≡ some c
   unfolding callIn pick rowOf fileOf
   row-read callBoot h fs rest more = rw (kind-at (0 ∷ 0 ∷ 0 ∷ 0 ∷ 0 ∷ 0 ∷ rest))
-  row-read (callDefine l bs) h fs rest more = ?
+  row-read (callDefine l bs) h fs rest more = define-read l bs fs rest more
   row-read (callRecord l n c) h fs rest more =
-      let ys = 2 ∷ l ∷ n ∷ c ∷ 0 ∷ 0 ∷ rest in
+      let ys : List ℕ = 2 ∷ l ∷ n ∷ c ∷ 0 ∷ 0 ∷ rest in
       rw (kind-at ys, cell-at ys 1, cell-at ys 2, cell-at ys 3)
   row-read (callStart k l n m v) h fs rest more =
-      let ys = 3 ∷ k ∷ l ∷ n ∷ m ∷ v ∷ rest in
+      let ys : List ℕ = 3 ∷ k ∷ l ∷ n ∷ m ∷ v ∷ rest in
       rw (kind-at ys, cell-at ys 1, cell-at ys 2, cell-at ys 3, cell-at ys 4, cell-at ys 5, le-leb n 65535 (h .0), le-leb m 65535 (h .1))
   row-read callStep h fs rest more = rw (kind-at (4 ∷ 0 ∷ 0 ∷ 0 ∷ 0 ∷ 0 ∷ rest))
   row-read (callRun n) h fs rest more =
-      let ys = 5 ∷ n ∷ 0 ∷ 0 ∷ 0 ∷ 0 ∷ rest in
+      let ys : List ℕ = 5 ∷ n ∷ 0 ∷ 0 ∷ 0 ∷ 0 ∷ rest in
       rw (kind-at ys, cell-at ys 1)
   row-read (callDrop k) h fs rest more =
-      let ys = 6 ∷ k ∷ 0 ∷ 0 ∷ 0 ∷ 0 ∷ rest in
+      let ys : List ℕ = 6 ∷ k ∷ 0 ∷ 0 ∷ 0 ∷ 0 ∷ rest in
       rw (kind-at ys, cell-at ys 1)
 
 row-length : (c : Call) (s : ℕ) → length (rowOf c s) ≡ 6
@@ -96,12 +113,21 @@ cells-length (c ∷ cs) s =
     let rest = cellsOf cs (s + length (fileOf c)) in
     omega (arith, length-append (rowOf c s) rest, row-length c s, cells-length cs (s + length (fileOf c)))
 
+calls-next : (g : ℕ → Option Call) (k i : ℕ) (c : Call) → g i ≡ some c → callsFrom g (suc k) i ≡ c ∷ callsFrom g k (suc i)
+unfolding callsFrom
+calls-next g k i c h = rw (h, callsFrom)
+
 calls-read : (cs : List Call) → All Named cs → (xs fs : List ℕ) (i : ℕ) → length xs ≡ i * 6
     → callsFrom (callIn (xs ++ cellsOf cs (length fs)) (fs ++ filesOf cs)) (length cs) i ≡ cs
 unfolding callsFrom cellsOf filesOf
 calls-read [] h xs fs i q = refl
-calls-read (c ∷ cs) h xs fs i q = ?
+calls-read (c ∷ cs) h xs fs i q =
+    let row = rowOf c (length fs) in
+    let rest = cellsOf cs (length fs + length (fileOf c)) in
+    let next : length (xs ++ row) ≡ suc i * 6 = omega (arith, length-append xs row, row-length c (length fs)) in
+    calls-next _ (length cs) i c (row-read xs i q c (h .0) fs rest (filesOf cs))
+    ∙ (ap (λ (ds : List Call). c ∷ ds) (rw (length-append fs (fileOf c), append-assoc xs row rest, append-assoc fs (fileOf c) (filesOf cs)) at (calls-read cs (h .1) (xs ++ row) (fs ++ fileOf c) (suc i) next)))
 
 pub encoded : (cs : List Call) → All Named cs → callsIn (cellsOf cs 0) (filesOf cs) ≡ cs
 unfolding callsIn
-encoded cs h = ?
+encoded cs h = rw (cells-length cs 0, mul-div-cancel (length cs) {n = 6} (omega arith)) (calls-read cs h [] [] 0 refl)
