@@ -1,0 +1,3 @@
+-- Lines carried out: the call that a line asks for, what a line leaves, and their laws.
+pub mod Asked
+pub mod Carried
