@@ -8,6 +8,9 @@ ghost use Rattle.definition.specs.Script.{readLine, turned, carryOut};
 ghost use Rattle.calls.specs.Made.{callOf};
 ghost use Rattle.lines.specs.Asked.{askedBy, Heard};
 ghost use Rattle.lines.specs.Carried.{left, printedOn, carriedOn};
+ghost use Rattle.lines.specs.Ready.{lineLength, firstLine, nextOf};
+ghost use Rattle.lines.specs.Windows.{moved};
+ghost use Rattle.lines.specs.Scripts.{told, toldOf, carryLines};
 use calls::Call;
 use script::Command;
 
@@ -21,6 +24,19 @@ enum Asked {
 pub enum Outcome {
     Printed(usize),
     Unreadable,
+}
+
+// The first line of an input: how many bytes it has, and how many with its end; or that it is not ready.
+enum Next {
+    Line(usize, usize),
+    NotYet,
+}
+
+// How far an input was carried out: bytes read, bytes written, and whether a line couldn't be read.
+pub struct Progress {
+    pub read: usize,
+    pub written: usize,
+    pub ended: bool,
 }
 
 fn asked_by(command: Command) -> Asked
@@ -131,4 +147,108 @@ pub fn carry_out(
         cells::at8(line, 0),
         out,
     )
+}
+
+// How many bytes the first line has: those before the first byte 10, or all.
+fn line_length(s: &[u8]) -> usize
+    ensures { λ r. ⌜ r ≡ lineLength (now (s .entry)) ⌝ }
+{
+    let mut i = 0;
+    while i < s.len() {
+        if s[i] == 10 {
+            return i;
+        }
+        i += 1;
+    }
+    i
+}
+
+// The first line, if it is ready: it has an end, or is too long whatever follows, or nothing follows the input.
+fn next_line(input: &[u8], last: bool) -> Next
+    ensures { λ r. ⌜ r ≡ nextOf (firstLine last (now (input .entry))) ⌝ }
+{
+    let n = input.len();
+    let bytes = line_length(input);
+    if bytes < n {
+        return Next::Line(bytes, bytes + 1);
+    }
+    if 65536 < n {
+        return Next::Line(n, n);
+    }
+    if !last {
+        return Next::NotYet;
+    }
+    if n == 0 {
+        return Next::NotYet;
+    }
+    Next::Line(n, n)
+}
+
+// The lines of an input that are ready, carried out from its front while the output has room for a line. `last` says that nothing follows
+// the input, so that a last line without its end is ready too.
+pub fn carry_lines(
+    counts: &mut [u16],
+    classes: &mut [u16],
+    kept: &mut [u8],
+    cache: &mut [u16],
+    ties: &mut [u16],
+    subtypes: &mut [u16],
+    objects: &mut [u32],
+    frames: &mut [u32],
+    input: &[u8],
+    last: bool,
+    out: &mut [u8],
+) -> Progress
+    ensures { λ r. ⌜ told r (tables (now (counts .exit)) (now (classes .exit)) (now (kept .exit)) (now (cache .exit)) (now (ties .exit)) (now (subtypes .exit)) (now (objects .exit)) (now (frames .exit))) (now (out .exit)) ≡ toldOf (now (out .entry)) (carryLines last (length (now (out .entry))) (now (input .entry)) (tables (now (counts .entry)) (now (classes .entry)) (now (kept .entry)) (now (cache .entry)) (now (ties .entry)) (now (subtypes .entry)) (now (objects .entry)) (now (frames .entry)))) ⌝ }
+{
+    let mut read = 0;
+    let mut written = 0;
+    while 64 <= out.len() - written {
+        let Next::Line(bytes, size) = next_line(&input[read..], last) else {
+            return Progress {
+                read,
+                written,
+                ended: false,
+            };
+        };
+        let end = read + bytes;
+        let Outcome::Printed(n) = carry_out(
+            counts,
+            classes,
+            kept,
+            cache,
+            ties,
+            subtypes,
+            objects,
+            frames,
+            &input[read..end],
+            &mut out[written..],
+        ) else {
+            return Progress {
+                read,
+                written,
+                ended: true,
+            };
+        };
+        read += size;
+        written += n;
+    }
+    Progress {
+        read,
+        written,
+        ended: false,
+    }
+}
+
+// A window's bytes from one place up to another, moved to its front.
+pub fn keep_rest(window: &mut [u8], from: usize, to: usize)
+    ensures { λ _. ⌜ now (window .exit) ≡ moved from to (now (window .entry)) ⌝ }
+{
+    let size = window.len();
+    let end = if to < size { to } else { size };
+    let mut i = from;
+    while i < end {
+        window[i - from] = window[i];
+        i += 1;
+    }
 }
