@@ -12,7 +12,7 @@ use lib.IntN.{ℤ, pos, negsuc}
 use lib.Dec.{ltb}
 use borrow.Author.Tests.{lt-ltb, le-ltb}
 use Rattle.definition.specs.Lists.{writeRows}
-use Rattle.definition.specs.Answers.{signed, line}
+use Rattle.definition.specs.Answers.{Details, signed, line}
 use Rattle.definition.specs.Script.{printed, printedInt, printedLine}
 use Rattle.layout.specs.Cells.{cell-rows, rows-first}
 
@@ -123,6 +123,16 @@ int-length (negsuc n) = omega (arith, printed-length 9 (suc n))
 
 pub int-end : (n at r : ℕ) (t u : List ℕ) → Wrote (32 ∷ printedInt (signed n)) at r t u → r ≤ at + 12
 int-end n at r t u w = omega (arith, w .place, int-length (signed n))
+
+-- a line has at most 64 bytes
+pub line-short : (b : ℕ) (d : Details) → length (printedLine b d) ≤ 64
+unfolding printedLine
+line-short b d =
+    let h : List ℕ = b ∷ 32 ∷ printed 9 (d .refusal) in
+    let i : List ℕ = 32 ∷ printedInt (d .one) in
+    let j : List ℕ = 32 ∷ printedInt (d .two) in
+    let k : List ℕ = 32 ∷ printedInt (d .three) in
+    omega (arith, length-append (h ++ i ++ j ++ k) (10 ∷ []), length-append (h ++ i ++ j) k, length-append (h ++ i) j, length-append h i, printed-length 9 (d .refusal), int-length (d .one), int-length (d .two), int-length (d .three))
 
 -- a line written part by part
 pub line-wrote : (letter refusal one two three a b c d : ℕ) (t t₁ t₂ t₃ t₄ t₅ t₆ : List ℕ) → t₁ ≡ set t 0 letter
