@@ -1,7 +1,7 @@
 // The calls that load classes and clear tasks: boot and drop, and define and record of the crates below.
+pub use defining::define;
 use definition::Refusal;
 use definition::Reply;
-pub use defining::define;
 pub use recording::record;
 ghost use mathlib.Core.Path.{_≡_};
 ghost use Rattle.definition.specs.Tables.{tables, shaped};

@@ -6,10 +6,10 @@ mod reading; // reading.rt: a line read as a command
 mod answers; // answers.rt: the details of an answer, and whose turn it is
 mod printing; // printing.rt: an answer printed as a line
 
-pub use reading::read_line;
 pub use answers::details_of;
 pub use answers::turn_of;
 pub use printing::print_line;
+pub use reading::read_line;
 
 // The call that a line asks for. A define has its file's length; the file's bytes are in the table that was lent.
 pub enum Command {

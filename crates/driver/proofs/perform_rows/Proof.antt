@@ -63,11 +63,10 @@ loop-again : tie.Need-loop-again Inv-loop μ-loop
 loop-again c =
     let d = call (c .before) in
     let e = turn d .before in
-    let given = e .before .before .before .before .before .before .before .before .before .before .before .before .args in
-    (
+    let given = e .before .before .before .before .before .before .before .before .before .before .before .before .args in (
       omega (arith, turn d .loop-test .taken),
       drive-on (callIn (now (given .list)) (now (given .files))) _ _ _ _ _ _ _ (d .perform-row .ensures) (turn d .loop-test .taken) (not-false _ (c .if1 .left))
-      ∙ e .loop .inv .1,
+          ∙ e .loop .inv .1,
       d .perform-row .kept .0 ∙ e .loop .inv .2,
       d .perform-row .kept .1 .0 ∙ e .loop .inv .3,
       d .perform-row .kept .1 .1 .0 ∙ e .loop .inv .4,
