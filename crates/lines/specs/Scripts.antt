@@ -8,7 +8,7 @@ use native.Mathlib.Omega.{arith}
 use lib.ListN.{length, set, take, drop, length-append, length-take, length-drop, take-append-drop, drop-of-length-le}
 use lib.Seq.{take-length, take-all, drop-drop}
 use lib.Dec.{leb}
-use borrow.Author.Tests.{le-leb, lt-leb}
+use borrow.Author.Tests.{le-leb, lt-leb, leb-true}
 use Rattle.definition.specs.Lists.{writeRows}
 use Rattle.definition.specs.Maybe.{_>>=_}
 use Rattle.definition.specs.Answers.{details}
@@ -279,6 +279,51 @@ module _ (last : Bool) (s : List ℕ) (at from : ℕ) (out : List ℕ) (t : Tabl
             let whole : putPart from out ys ≡ writeRows set (x .output) from out = rw bytes (put-part from out (x .output) fits) in
             let left-over : length (writeRows set (x .output) from out) - (from + length (x .output)) ≡ length out - from - length (x .output) = omega (arith, cells-length (x .output) from out) in
             rw (line-made (some x) p, whole, size, same, left-over, ← drop-drop k at s) (sym (told-before at from out (cut b k) x _))
+
+-- Bounds: no more is read than there is, and no more written than there is room for
+
+module _ (last : Bool) where
+  pub record Bounded (n m : ℕ) (p : Carried) : Type 0 where
+    pub read : p .read ≤ n
+    pub written : length (p .output) ≤ m
+
+  bounded : (k room : ℕ) (s : List ℕ) (t : Tables) → Bounded (length s) room (carryFrom last k room s t)
+  unfolding carryFrom
+  bounded zero room s t = record { read = omega arith; written = omega arith }
+  bounded (suc k) room s t = step (leb 64 room) refl (λ r u v. bounded k r u v)
+    where
+      Next : Type 0
+      Next = (r : ℕ) (u : List ℕ) (v : Tables) → Bounded (length u) r (carryFrom last k r u v)
+
+      line : 64 ≤ room → Next → (c : Cut) → Within s c → (o : Option Turned) → carryOut (take (c .bytes) s) t ≡ o → Bounded (length s) room (onTurned (carryFrom last k) room s t c o)
+      line h next c w none e = record { read = omega arith; written = omega arith }
+      line h next c w (some x) e =
+          let b = next (room - length (x .output)) (drop (c .size) s) (x .tables) in
+          let p = carryFrom last k (room - length (x .output)) (drop (c .size) s) (x .tables) in
+          record {
+            read = omega (arith, b .read, w .size, length-drop (c .size) s);
+            written = omega (arith, b .written, turned-short (take (c .bytes) s) t x e, length-append (x .output) (p .output));
+          }
+
+      first : 64 ≤ room → Next → (o : Option Cut) → firstLine last s ≡ o → Bounded (length s) room (onLine (carryFrom last k) room s t o)
+      first h next none e = record { read = omega arith; written = omega arith }
+      first h next (some c) e = line h next c (kind-within last s c (first-kind last s c e)) (carryOut (take (c .bytes) s) t) refl
+
+      step : (b : Bool) → leb 64 room ≡ b → Next
+          → Bounded (length s) room (elim b as (λ _. Carried) [ true ↦ onLine (carryFrom last k) room s t (firstLine last s) | false ↦ stopped false t ])
+      step true q next = first (leb-true 64 room q) next (firstLine last s) refl
+      step false q next = record { read = omega arith; written = omega arith }
+
+-- what is told of an input lies within it and within the output
+pub record Inside (n m : ℕ) (r : Progress) : Type 0 where
+  pub read : r .read ≤ n
+  pub written : r .written ≤ m
+
+pub told-within : (last : Bool) (s out after : List ℕ) (t u : Tables) (r : Progress) → told r u after ≡ toldOf out (carryLines last (length out) s t) → Inside (length s) (length out) r
+unfolding toldOf carryLines
+told-within last s out after t u r e =
+    let b = bounded last (length s) (length out) s t in
+    record { read = rw (ap (λ (x : Told). x .read) e) (b .read); written = rw (ap (λ (x : Told). x .written) e) (b .written) }
 
 -- The output is the script's
 
