@@ -2,27 +2,21 @@
 use mathlib.Core.Path.{_≡_, refl, sym, ap, subst, _∙_}
 use mathlib.Core.Bool.{Bool, true, false}
 use mathlib.Core.Option.{Option, none, some}
-use mathlib.Core.List.{List, [], _∷_, _++_, append-nil, append-assoc}
+use mathlib.Core.List.{List, [], _∷_, _++_, append-assoc}
 use Prim.Native.Nat.{ℕ, zero, suc, _+_, _-_, _≤_, _<_}
 use native.Mathlib.Omega.{arith}
-use lib.ListN.{length, set, take, drop, length-append, length-take, length-drop, take-append-drop, drop-of-length-le}
-use lib.Seq.{take-length, take-all, drop-drop}
+use lib.ListN.{length, take, drop, length-append, length-take, length-drop}
+use lib.Seq.{take-length, drop-drop}
 use lib.Dec.{leb}
 use borrow.Author.Tests.{le-leb, lt-leb, leb-true}
-use Rattle.definition.specs.Lists.{writeRows}
 use Rattle.definition.specs.Maybe.{_>>=_}
 use Rattle.definition.specs.Answers.{details}
 use Rattle.definition.specs.Tables.{Tables, view}
 use Rattle.definition.specs.Calls.{turn, perform}
-use Rattle.definition.specs.Script as scripts
-use Rattle.definition.specs.Script.{Turned, turned, readLine, carryOut, script, linesOf}
-use Rattle.layout.specs.Cells.{cells-block}
+use Rattle.definition.specs.Script.{Line, Turned, turned, readLine, carryOut, script, linesOf}
 use Rattle.script.specs.Lines.{line-long}
-use Rattle.script.specs.Printing.{wrote-both, line-short}
-use Rattle.lines.specs.Carried.{Left, Outcome, Printed, Unreadable, left, printedOn, carriedOn}
-use Rattle.lines.specs.Windows.{cells-length}
-use Rattle.lines.specs.Ready.{Cut, cut, firstLine, Next, Line, NotYet, nextOf, next-some, next-not, Kind, whole, long, only, Within, first-none, first-kind, kind-within, lineLength, lines-first, lines-whole, lines-only, length-beyond}
-pub use Rattle.lines.specs.declared.Progress.{Progress}
+use Rattle.script.specs.Printing.{line-short}
+use Rattle.lines.specs.Ready.{Cut, cut, firstLine, Kind, whole, long, only, Within, first-none, first-kind, kind-within, lineLength, lines-first, lines-whole, lines-only, length-beyond}
 
 -- how many bytes were read, what was printed, the tables, and whether a line couldn't be read
 pub record Carried : Type 0 where
@@ -37,11 +31,11 @@ stopped e t = record { read = 0; output = []; tables = t; ended = e }
 abbrev pub before : Cut → Turned → Carried → Carried
 before c x p = record { read = c .size + p .read; output = x .output ++ p .output; tables = p .tables; ended = p .ended }
 
-abbrev onTurned : (ℕ → List ℕ → Tables → Carried) → ℕ → List ℕ → Tables → Cut → Option Turned → Carried
+abbrev pub onTurned : (ℕ → List ℕ → Tables → Carried) → ℕ → List ℕ → Tables → Cut → Option Turned → Carried
 onTurned go room s t c none = stopped true t
 onTurned go room s t c (some x) = before c x (go (room - length (x .output)) (drop (c .size) s) (x .tables))
 
-abbrev onLine : (ℕ → List ℕ → Tables → Carried) → ℕ → List ℕ → Tables → Option Cut → Carried
+abbrev pub onLine : (ℕ → List ℕ → Tables → Carried) → ℕ → List ℕ → Tables → Option Cut → Carried
 onLine go room s t none = stopped false t
 onLine go room s t (some c) = onTurned go room s t c (carryOut (take (c .bytes) s) t)
 
@@ -54,26 +48,7 @@ module _ (last : Bool) where
   unfoldable pub carryLines : ℕ → List ℕ → Tables → Carried
   carryLines room s t = carryFrom (length s) room s t
 
--- what carrying out leaves: how far it came, the tables, and the output table with the printed bytes from a place on
-pub record Told : Type 0 where
-  pub read : ℕ
-  pub written : ℕ
-  pub ended : Bool
-  pub tables : Tables
-  pub output : List ℕ
-
-abbrev pub told : Progress → Tables → List ℕ → Told
-told r t out = record { read = r .read; written = r .written; ended = r .ended; tables = t; output = out }
-
-unfoldable pub toldOf : List ℕ → Carried → Told
-toldOf out p = record { read = p .read; written = length (p .output); ended = p .ended; tables = p .tables; output = writeRows set (p .output) 0 out }
-
--- the same with what was read and written before it
-unfoldable pub toldFrom : ℕ → ℕ → List ℕ → Carried → Told
-toldFrom at from out p =
-    record { read = at + p .read; written = from + length (p .output); ended = p .ended; tables = p .tables; output = writeRows set (p .output) from out }
-
--- Laws of carrying out
+-- Laws
 
 module _ (last : Bool) where
   full : (k room : ℕ) (s : List ℕ) (t : Tables) → room < 64 → carryFrom last k room s t ≡ stopped false t
@@ -139,146 +114,16 @@ module _ (last : Bool) where
           let l = length-drop (c .size) (b ∷ bs) in
           ap (before c x) (fuel (length bs) (length (drop (c .size) (b ∷ bs))) (room - length (x .output)) (drop (c .size) (b ∷ bs)) (x .tables) (omega (arith, w .some, l)) (omega arith))
 
--- Laws of what it leaves
-
-pub told-start : (out : List ℕ) (p : Carried) → toldFrom 0 0 out p ≡ toldOf out p
-unfolding toldFrom toldOf
-told-start out p = let e : 0 + p .read ≡ p .read = omega arith in let f : 0 + length (p .output) ≡ length (p .output) = omega arith in rw (e, f)
-
-pub told-stopped : (at from : ℕ) (e : Bool) (t : Tables) (out : List ℕ) → told (record { read = at; written = from; ended = e }) t out ≡ toldFrom at from out (stopped e t)
-unfolding toldFrom writeRows
-told-stopped at from e t out = let p : at + 0 ≡ at = omega arith in let q : from + 0 ≡ from = omega arith in rw (p, q)
-
-told-before : (at from : ℕ) (out : List ℕ) (c : Cut) (x : Turned) (p : Carried)
-    → toldFrom at from out (before c x p) ≡ toldFrom (at + c .size) (from + length (x .output)) (writeRows set (x .output) from out) p
-unfolding toldFrom
-told-before at from out c x p =
-    let e : at + (c .size + p .read) ≡ at + c .size + p .read = omega arith in
-    let f : from + length (x .output ++ p .output) ≡ from + length (x .output) + length (p .output) = omega (arith, length-append (x .output) (p .output)) in
-    let g : writeRows set (x .output ++ p .output) from out ≡ writeRows set (p .output) (from + length (x .output)) (writeRows set (x .output) from out) =
-    sym (wrote-both (x .output) (p .output) from (from + length (x .output)) (from + length (x .output) + length (p .output)) out (writeRows set (x .output) from out)
-    (writeRows set (p .output) (from + length (x .output)) (writeRows set (x .output) from out)) (record { place = refl; table = refl }) (record { place = refl; table = refl }) .table) in
-    rw (e, f, g)
-
 -- a line's bytes are few
-turned-short : (l : List ℕ) (t : Tables) (x : Turned) → carryOut l t ≡ some x → length (x .output) ≤ 64
+pub turned-short : (l : List ℕ) (t : Tables) (x : Turned) → carryOut l t ≡ some x → length (x .output) ≤ 64
 unfolding carryOut turned _>>=_
 turned-short l t x e = step (readLine l) e
   where
-    step : (o : Option scripts.Line) → (o >>= λ l. some (turned (l .letter) t (perform (l .call) t))) ≡ some x → length (x .output) ≤ 64
+    step : (o : Option Line) → (o >>= λ l. some (turned (l .letter) t (perform (l .call) t))) ≡ some x → length (x .output) ≤ 64
     step none e = let z : _≡_ {A = ℕ} 0 1 = cc in absurd (omega arith)
     step (some l) e =
         let same : turned (l .letter) t (perform (l .call) t) ≡ x = cc in
         subst (λ (y : Turned). length (y .output) ≤ 64) same (line-short (l .letter) (details (turn (view t)) (perform (l .call) t .answer)))
-
--- Laws of the loop: a table's part from a place on is all that is there
-
-abbrev partOf : ℕ → List ℕ → List ℕ
-partOf at s = take (length s - at) (drop at s)
-
-abbrev putPart : ℕ → List ℕ → List ℕ → List ℕ
-putPart at s ys = take at s ++ (ys ++ drop (length s - at) (drop at s))
-
-part-all : (at : ℕ) (s : List ℕ) → partOf at s ≡ drop at s
-part-all at s = take-all (length s - at) (drop at s) (omega (arith, length-drop at s))
-
-put-same : (at : ℕ) (s : List ℕ) → putPart at s (partOf at s) ≡ s
-put-same at s = rw (take-append-drop (length s - at) (drop at s)) (take-append-drop at s)
-
-put-all : (at : ℕ) (s ys : List ℕ) → putPart at s ys ≡ take at s ++ ys
-put-all at s ys =
-    let over : drop (length s - at) (drop at s) ≡ [] = drop-of-length-le (drop at s) {i = length s - at} (omega (arith, length-drop at s)) in
-    rw (over, append-nil ys)
-
--- bytes written at a part's front are written at the part's place
-put-part : (at : ℕ) (s bs : List ℕ) → at + length bs ≤ length s → putPart at s (writeRows set bs 0 (partOf at s)) ≡ writeRows set bs at s
-put-part at s bs h =
-    let e : at + (0 + length bs) ≡ at + length bs = omega arith in
-    let block : writeRows set bs 0 (drop at s) ≡ bs ++ drop (0 + length bs) (drop at s) = cells-block bs 0 (drop at s) (omega (arith, length-drop at s)) in
-    put-all at s (writeRows set bs 0 (partOf at s))
-    ∙ rw (part-all at s, block, drop-drop (0 + length bs) at s, e, cells-block bs at s h) (sym (append-assoc (take at s) bs (drop (at + length bs) s)))
-
-pub part-length : (at : ℕ) (s ys : List ℕ) → length ys ≡ length (partOf at s) → length (putPart at s ys) ≡ length s
-part-length at s ys e =
-    rw (put-all at s ys) (omega (arith, e, length-append (take at s) ys, length-take at s, length-take (length s - at) (drop at s), length-drop at s))
-
-pub next-ready : (last : Bool) (s : List ℕ) (at b k : ℕ) (r : Next) → r ≡ nextOf (firstLine last (partOf at s)) → r ≡ Line b k → firstLine last (drop at s) ≡ some (cut b k)
-next-ready last s at b k r p q = rw (← part-all at s) (next-some (firstLine last (partOf at s)) b k (sym p ∙ q))
-
--- a line that is ready lies within what is left
-pub record Reach (s : List ℕ) (at b k : ℕ) : Type 0 where
-  pub bytes : at + b ≤ at + k
-  pub some : at < at + k
-  pub most : at + k ≤ length s
-
-pub ready-reach : (last : Bool) (s : List ℕ) (at b k : ℕ) → at ≤ length s → firstLine last (drop at s) ≡ some (cut b k) → Reach s at b k
-ready-reach last s at b k h e =
-    let w = kind-within last (drop at s) (cut b k) (first-kind last (drop at s) (cut b k) e) in
-    record { bytes = omega (arith, w .bytes); some = omega (arith, w .some); most = omega (arith, w .size, length-drop at s) }
-
-pub told-begins : (last : Bool) (s out : List ℕ) (t : Tables) → toldFrom 0 0 out (carryLines last (length out - 0) (drop 0 s) t) ≡ toldOf out (carryLines last (length out) s t)
-told-begins last s out t = let e : length out - 0 ≡ length out = omega arith in rw e (told-start out (carryLines last (length out) s t))
-
-module _ (last : Bool) (s : List ℕ) (at from : ℕ) (out : List ℕ) (t : Tables) where
-  abbrev Rest : Told
-  Rest = toldFrom at from out (carryLines last (length out - from) (drop at s) t)
-
-  pub told-waits : (r : Next) → r ≡ nextOf (firstLine last (partOf at s)) → r ≡ NotYet → told (record { read = at; written = from; ended = false }) t out ≡ Rest
-  told-waits r p q =
-      let e : firstLine last (drop at s) ≡ none = rw (← part-all at s) (next-not (firstLine last (partOf at s)) (sym p ∙ q)) in
-      rw (carry-waits last (length out - from) (drop at s) t e) (told-stopped at from false t out)
-
-  pub told-full : length out - from < 64 → told (record { read = at; written = from; ended = false }) t out ≡ Rest
-  told-full h = rw (carry-full last (length out - from) (drop at s) t h) (told-stopped at from false t out)
-
-  -- the next line, carried out
-  module _ (b k : ℕ) (ready : firstLine last (drop at s) ≡ some (cut b k)) (room : 64 ≤ length out - from) (r : Outcome) (u : Tables) (ys : List ℕ)
-      (made : left r u ys ≡ carriedOn t (partOf from out) (carryOut (take (at + b - at) (drop at s)) t)) where
-    line-made : (o : Option Turned) → carryOut (take (at + b - at) (drop at s)) t ≡ o
-        → carryLines last (length out - from) (drop at s) t ≡ onTurned (carryLines last) (length out - from) (drop at s) t (cut b k) o
-    line-made o e =
-        let same : at + b - at ≡ b = omega arith in
-        carry-line last (length out - from) (drop at s) t (cut b k) room ready ∙ ap (onTurned (carryLines last) (length out - from) (drop at s) t (cut b k)) (rw same at e)
-
-    pub told-ends : r ≡ Unreadable → told (record { read = at; written = from; ended = true }) u (putPart from out ys) ≡ Rest
-    unfolding carriedOn printedOn
-    told-ends e = step (carryOut (take (at + b - at) (drop at s)) t) refl made
-      where
-        step : (o : Option Turned) → carryOut (take (at + b - at) (drop at s)) t ≡ o → left r u ys ≡ carriedOn t (partOf from out) o
-            → told (record { read = at; written = from; ended = true }) u (putPart from out ys) ≡ Rest
-        step none p m =
-            let same : u ≡ t = ap (λ (l : Left). l .tables) m in
-            let whole : ys ≡ partOf from out = ap (λ (l : Left). l .output) m in
-            rw (line-made none p, same, whole, put-same from out) (told-stopped at from true t out)
-        step (some x) p m =
-            let kind : r ≡ Printed (length (x .output)) = ap (λ (l : Left). l .answer) m in
-            let z : _≡_ {A = ℕ} 0 1 = cc in absurd (omega arith)
-
-    pub told-small : (n : ℕ) → r ≡ Printed n → n ≤ 64
-    unfolding carriedOn printedOn
-    told-small n e = step (carryOut (take (at + b - at) (drop at s)) t) refl made
-      where
-        step : (o : Option Turned) → carryOut (take (at + b - at) (drop at s)) t ≡ o → left r u ys ≡ carriedOn t (partOf from out) o → n ≤ 64
-        step none p m = let kind : r ≡ Unreadable = ap (λ (l : Left). l .answer) m in let z : _≡_ {A = ℕ} 0 1 = cc in absurd (omega arith)
-        step (some x) p m = let kind : r ≡ Printed (length (x .output)) = ap (λ (l : Left). l .answer) m in let same : length (x .output) ≡ n = cc in omega (arith, turned-short (take (at + b - at) (drop at s)) t x p)
-
-    pub told-goes-on : (n : ℕ) → r ≡ Printed n
-        → toldFrom (at + k) (from + n) (putPart from out ys) (carryLines last (length (putPart from out ys) - (from + n)) (drop (at + k) s) u) ≡ Rest
-    unfolding carriedOn printedOn
-    told-goes-on n e = step (carryOut (take (at + b - at) (drop at s)) t) refl made
-      where
-        step : (o : Option Turned) → carryOut (take (at + b - at) (drop at s)) t ≡ o → left r u ys ≡ carriedOn t (partOf from out) o
-            → toldFrom (at + k) (from + n) (putPart from out ys) (carryLines last (length (putPart from out ys) - (from + n)) (drop (at + k) s) u) ≡ Rest
-        step none p m = let kind : r ≡ Unreadable = ap (λ (l : Left). l .answer) m in let z : _≡_ {A = ℕ} 0 1 = cc in absurd (omega arith)
-        step (some x) p m =
-            let kind : r ≡ Printed (length (x .output)) = ap (λ (l : Left). l .answer) m in
-            let size : n ≡ length (x .output) = cc in
-            let same : u ≡ x .tables = ap (λ (l : Left). l .tables) m in
-            let bytes : ys ≡ writeRows set (x .output) 0 (partOf from out) = ap (λ (l : Left). l .output) m in
-            let fits : from + length (x .output) ≤ length out = omega (arith, turned-short (take (at + b - at) (drop at s)) t x p) in
-            let whole : putPart from out ys ≡ writeRows set (x .output) from out = rw bytes (put-part from out (x .output) fits) in
-            let left-over : length (writeRows set (x .output) from out) - (from + length (x .output)) ≡ length out - from - length (x .output) = omega (arith, cells-length (x .output) from out) in
-            rw (line-made (some x) p, whole, size, same, left-over, ← drop-drop k at s) (sym (told-before at from out (cut b k) x _))
 
 -- Bounds: no more is read than there is, and no more written than there is room for
 
@@ -287,7 +132,7 @@ module _ (last : Bool) where
     pub read : p .read ≤ n
     pub written : length (p .output) ≤ m
 
-  bounded : (k room : ℕ) (s : List ℕ) (t : Tables) → Bounded (length s) room (carryFrom last k room s t)
+  pub bounded : (k room : ℕ) (s : List ℕ) (t : Tables) → Bounded (length s) room (carryFrom last k room s t)
   unfolding carryFrom
   bounded zero room s t = record { read = omega arith; written = omega arith }
   bounded (suc k) room s t = step (leb 64 room) refl (λ r u v. bounded k r u v)
@@ -313,17 +158,6 @@ module _ (last : Bool) where
           → Bounded (length s) room (elim b as (λ _. Carried) [ true ↦ onLine (carryFrom last k) room s t (firstLine last s) | false ↦ stopped false t ])
       step true q next = first (leb-true 64 room q) next (firstLine last s) refl
       step false q next = record { read = omega arith; written = omega arith }
-
--- what is told of an input lies within it and within the output
-pub record Inside (n m : ℕ) (r : Progress) : Type 0 where
-  pub read : r .read ≤ n
-  pub written : r .written ≤ m
-
-pub told-within : (last : Bool) (s out after : List ℕ) (t u : Tables) (r : Progress) → told r u after ≡ toldOf out (carryLines last (length out) s t) → Inside (length s) (length out) r
-unfolding toldOf carryLines
-told-within last s out after t u r e =
-    let b = bounded last (length s) (length out) s t in
-    record { read = rw (ap (λ (x : Told). x .read) e) (b .read); written = rw (ap (λ (x : Told). x .written) e) (b .written) }
 
 -- The output is the script's
 

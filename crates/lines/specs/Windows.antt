@@ -1,10 +1,10 @@
--- Bytes of a window moved to its front, one by one.
-use mathlib.Core.Path.{_≡_, refl, sym, ap, _∙_}
-use mathlib.Core.List.{List, [], _∷_, _++_}
+-- Bytes of a table: those of a window moved to its front, and a part from a place on.
+use mathlib.Core.Path.{_≡_, sym, _∙_}
+use mathlib.Core.List.{List, [], _++_, append-nil, append-assoc}
 use Prim.Native.Nat.{ℕ, suc, _+_, _-_, _≤_, _<_}
 use native.Mathlib.Omega.{arith}
-use lib.ListN.{length, getD, set, take, drop, length-take, length-drop, drop-of-length-le}
-use lib.Seq.{take-all, take-nil, getD-drop, getD-append-add, length-sets}
+use lib.ListN.{length, getD, set, take, drop, length-append, length-take, length-drop, take-append-drop, drop-of-length-le}
+use lib.Seq.{take-all, drop-drop, getD-drop, getD-append-add, length-sets}
 use Rattle.definition.specs.Lists.{writeRows}
 use Rattle.layout.specs.Cells.{cell-rows, rows-copy, cells-sets, cells-block}
 
@@ -51,3 +51,34 @@ moved-end from to w h =
 pub moved-same : (from i j : ℕ) (w : List ℕ) → i - from ≡ j - from → moved from i w ≡ moved from j w
 unfolding moved
 moved-same from i j w e = rw e
+
+-- A part of a table from a place on, which is all that is there; and the table with that part changed
+
+abbrev pub partOf : ℕ → List ℕ → List ℕ
+partOf at s = take (length s - at) (drop at s)
+
+abbrev pub putPart : ℕ → List ℕ → List ℕ → List ℕ
+putPart at s ys = take at s ++ (ys ++ drop (length s - at) (drop at s))
+
+pub part-all : (at : ℕ) (s : List ℕ) → partOf at s ≡ drop at s
+part-all at s = take-all (length s - at) (drop at s) (omega (arith, length-drop at s))
+
+pub put-same : (at : ℕ) (s : List ℕ) → putPart at s (partOf at s) ≡ s
+put-same at s = rw (take-append-drop (length s - at) (drop at s)) (take-append-drop at s)
+
+put-all : (at : ℕ) (s ys : List ℕ) → putPart at s ys ≡ take at s ++ ys
+put-all at s ys =
+    let over : drop (length s - at) (drop at s) ≡ [] = drop-of-length-le (drop at s) {i = length s - at} (omega (arith, length-drop at s)) in
+    rw (over, append-nil ys)
+
+-- bytes written at a part's front are written at the part's place
+pub put-part : (at : ℕ) (s bs : List ℕ) → at + length bs ≤ length s → putPart at s (writeRows set bs 0 (partOf at s)) ≡ writeRows set bs at s
+put-part at s bs h =
+    let e : at + (0 + length bs) ≡ at + length bs = omega arith in
+    let block : writeRows set bs 0 (drop at s) ≡ bs ++ drop (0 + length bs) (drop at s) = cells-block bs 0 (drop at s) (omega (arith, length-drop at s)) in
+    put-all at s (writeRows set bs 0 (partOf at s))
+    ∙ rw (part-all at s, block, drop-drop (0 + length bs) at s, e, cells-block bs at s h) (sym (append-assoc (take at s) bs (drop (at + length bs) s)))
+
+pub part-length : (at : ℕ) (s ys : List ℕ) → length ys ≡ length (partOf at s) → length (putPart at s ys) ≡ length s
+part-length at s ys e =
+    rw (put-all at s ys) (omega (arith, e, length-append (take at s) ys, length-take at s, length-take (length s - at) (drop at s), length-drop at s))

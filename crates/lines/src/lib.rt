@@ -10,7 +10,8 @@ ghost use Rattle.lines.specs.Asked.{askedBy, Heard};
 ghost use Rattle.lines.specs.Carried.{left, printedOn, carriedOn};
 ghost use Rattle.lines.specs.Ready.{lineLength, firstLine, nextOf};
 ghost use Rattle.lines.specs.Windows.{moved};
-ghost use Rattle.lines.specs.Scripts.{told, toldOf, carryLines};
+ghost use Rattle.lines.specs.Scripts.{carryLines};
+ghost use Rattle.lines.specs.Told.{told, toldOf};
 use calls::Call;
 use script::Command;
 

@@ -1,7 +1,9 @@
 -- Line by line: what the lines from place `read` on leave, with what was read and written before, is what the whole input leaves.
 use Prim.Native.Nat.{_+_, _-_, _≤_, _<_}
 use Rattle.definition.specs.Tables.{tables}
-use Rattle.lines.specs.Scripts.{toldFrom, toldOf, carryLines, part-length, Reach, ready-reach, next-ready, told-begins, told-waits, told-full, told-ends, told-small, told-goes-on}
+use Rattle.lines.specs.Scripts.{carryLines}
+use Rattle.lines.specs.Told.{toldFrom, toldOf, Reach, ready-reach, next-ready, told-begins, told-waits, told-full, told-ends, told-small, told-goes-on}
+use Rattle.lines.specs.Windows.{part-length}
 use borrow.Author.Needs.{needs}
 use denote.Ref.{now}
 use lib.ListN.{length, drop}
