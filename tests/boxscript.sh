@@ -39,7 +39,7 @@ awk 'BEGIN { srand(1); for (i = 0; i < 1000000; i++) printf "%c", int(rand() * 2
 # lines of calls, some of which are accepted; the last can't be read
 awk 'BEGIN {
     srand(2)
-    for (i = 0; i < 10000; i++) {
+    for (i = 0; i < 30000; i++) {
         k = int(rand() * 10)
         if (k == 0) printf "R %d %d %d\n", rand() * 18, 2 + rand() * 3, rand() * 3
         else if (k == 1) printf "D %d 010011%04X0002000100140001000100031501AC\n", rand() * 17, 8 + rand() * 6
@@ -49,7 +49,7 @@ awk 'BEGIN {
     }
     print "N N"
     print "N"
-}' >"$cases/10000-lines"
+}' >"$cases/30000-lines"
 
 wrong=0
 for input in "$cases"/*; do
