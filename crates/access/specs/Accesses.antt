@@ -7,7 +7,7 @@ use mathlib.Core.Option.{none}
 use Prim.Native.Nat.{ℕ, suc, _+_, _<_, _≤_}
 use lib.ListN.{length, getElem?, set}
 use lib.Dec.{ltb}
-use Rattle.definition.specs.Lists.{indexOf, stack}
+use Rattle.definition.specs.Lists.{indexOf}
 use Rattle.definition.specs.Superclasses.{nearest, below}
 use Rattle.definition.specs.Classes.{Base, Class, loaderOf, superOf, slots, slotIs, alike, methodsOf, hasMethod}
 use Rattle.definition.specs.Constraints.{Tie, World, newTie, post}
@@ -15,10 +15,9 @@ use Rattle.definition.specs.declared.Instruction.{Instruction}
 use Rattle.definition.specs.Instructions.{Decoded}
 use Rattle.definition.specs.declared.Refusal.the-variants.{Word}
 use Rattle.definition.specs.Answers.{Result, refused, ok, _>>=_, take?}
-use Rattle.definition.specs.Machine.{Value, Object, Frame, pop!, kind!, object!, entryFrame, past, Progress, execute}
+use Rattle.definition.specs.Machine.{Object, Frame, pop!, kind!, object!, entryFrame, past, Progress, execute}
 use Rattle.definition.specs.Tables.{Tables, tables, valueOf, objectAt, frameOf, tiesOf, subtypesOf, objectsOf}
 use Rattle.layout.specs.View.{countAt}
-use Rattle.instructions.specs.declared.Plan.{Plan}
 use Rattle.instructions.specs.Plans.{decoded, meaning, Fit}
 use Rattle.resolution.specs.Quick.{quickBase}
 pub use Rattle.access.specs.declared.Access.{Access}

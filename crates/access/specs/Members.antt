@@ -1,18 +1,17 @@
 -- Laws of fields and methods that were looked up: where a field stands in an object, what a receiver is, and the instructions case by case.
-use mathlib.Core.Path.{_≡_, refl, sym, ap, _∙_}
+use mathlib.Core.Path.{_≡_, refl, sym, _∙_}
 use mathlib.Core.Bool.{Bool, true, false, _||_, _&&_}
 use mathlib.Core.Option.{Option, none, some, Option·none-ne-some, Option·some-injective}
 use mathlib.Core.List.{List, [], _∷_, _++_, append-nil}
 use mathlib.Core.Logic.{_≢_}
-use Prim.Native.Nat.{ℕ, zero, suc, _+_, _<_, _≤_}
-use native.Mathlib.Omega.{arith}
-use lib.ListN.{length, getElem?, getD, set}
+use Prim.Native.Nat.{ℕ, suc, _+_, _<_, _≤_}
+use lib.ListN.{length, getElem?, getD}
 use lib.Dec.{eqb, ltb, leb}
 use borrow.Author.Tests.{eqb-true, ne-eqb, lt-ltb, ltb-true}
 use Rattle.definition.specs.Lists.{any, indexOf, rows}
 use Rattle.definition.specs.Requests.{at}
 use Rattle.definition.specs.Superclasses.{Below, nearest, below}
-use Rattle.definition.specs.Classes.{Base, Class, Slot, find, superOf, loaderOf, slots, slotIs, hasField, alike, methodsOf, hasMethod}
+use Rattle.definition.specs.Classes.{Base, Class, find, superOf, loaderOf, slots, slotIs, hasField, hasMethod}
 use Rattle.definition.specs.Constraints.{Tie, World, tieIs, newTie, post}
 use Rattle.definition.specs.declared.Instruction.the-variants.{Getfield, Putfield, Invokevirtual, New}
 use Rattle.definition.specs.declared.Instruction.{Instruction}
@@ -20,8 +19,8 @@ use Rattle.definition.specs.Instructions.{Decoded, pick}
 use Rattle.definition.specs.declared.Refusal.{Refusal}
 use Rattle.definition.specs.declared.Refusal.the-variants.{Word, Wanted}
 use Rattle.definition.specs.Answers.{Result, refused, ok, _>>=_, need, take?}
-use Rattle.definition.specs.Machine.{Value, unsetValue, intValue, nullValue, objectValue, unlistedValue, Object, Frame, object!, Progress, existing, execute}
-use Rattle.definition.specs.Tables.{Tables, tables, entryAt, valueOf, objectAt, fieldAt, usedFields, sizeOf, operandAt, frameOf, objectsOf, tiesOf}
+use Rattle.definition.specs.Machine.{unsetValue, intValue, nullValue, unlistedValue, Object, Frame, object!, Progress, execute}
+use Rattle.definition.specs.Tables.{Tables, tables, entryAt, valueOf, objectAt, usedFields, sizeOf, operandAt, frameOf, objectsOf, tiesOf}
 use Rattle.laws.specs.Agreement.{super-falls}
 use Rattle.laws.specs.Upward.{nearest-below, below-true, below-trans}
 use Rattle.laws.specs.Slots.{slots-below}
@@ -34,7 +33,7 @@ use Rattle.instructions.specs.Plans.{decoded, meaning, Fit}
 use Rattle.resolution.specs.declared.Found.{Found}
 use Rattle.resolution.specs.declared.Found.the-variants.{At, Absent}
 use Rattle.resolution.specs.Quick.{quickBase, found, found-at, found-absent}
-use Rattle.access.specs.Accesses.{Access, Unresolved, Resolved, worldIn, tiesOn, accessed, AccessFits, Accessing, always, frameRoom, readField, writeField, callMethod}
+use Rattle.access.specs.Accesses.{Unresolved, Resolved, worldIn, tiesOn, accessed, Accessing, always, frameRoom, readField, writeField, callMethod}
 
 -- The cache, asked under a loader that was widened
 

@@ -1,14 +1,13 @@
 -- What is left of getfield, putfield and invokevirtual once their ties are posted, case by case: the plan that means it.
-use mathlib.Core.Path.{_≡_, refl, sym, ap, _∙_}
-use mathlib.Core.Bool.{Bool, true, false}
-use mathlib.Core.Option.{Option, none, some}
-use mathlib.Core.List.{List, [], _∷_}
+use mathlib.Core.Path.{_≡_}
+use mathlib.Core.Bool.{true, false}
+use mathlib.Core.Option.{none, some}
+use mathlib.Core.List.{List, []}
 use mathlib.Core.Logic.{_≢_}
-use Prim.Native.Nat.{ℕ, suc, _+_, _-_, _<_, _≤_}
+use Prim.Native.Nat.{ℕ, _-_, _<_, _≤_}
 use native.Mathlib.Omega.{arith}
-use lib.ListN.{length, getD, getElem?, set}
-use lib.Seq.{set-out}
-use Rattle.definition.specs.Lists.{indexOf, rows, stack}
+use lib.ListN.{getD}
+use Rattle.definition.specs.Lists.{indexOf}
 use Rattle.definition.specs.Superclasses.{nearest, below}
 use Rattle.definition.specs.Classes.{Base, superOf, slots, slotIs, hasField, alike, methodsOf, hasMethod}
 use Rattle.definition.specs.declared.Refusal.the-variants.{Word}
@@ -17,7 +16,7 @@ use Rattle.definition.specs.Machine.{object! }
 use Rattle.definition.specs.Tables.{Tables, tables, valueOf, objectAt, fieldAt, operandAt, usedFields, frameOf, objectsOf}
 use Rattle.layout.specs.Cells.{used-few, object-field-past}
 use Rattle.layout.specs.Places.{set-there}
-use Rattle.layout.specs.View.{countAt, object-there}
+use Rattle.layout.specs.View.{object-there}
 use Rattle.instructions.specs.declared.Plan.{Plan}
 use Rattle.instructions.specs.declared.Plan.the-variants.{Refuse, Keep, Above, Field, Enter}
 use Rattle.instructions.specs.Plans.{meaning}

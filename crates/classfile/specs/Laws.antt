@@ -11,7 +11,8 @@ use borrow.Author.Tests.{not-true}
 use Rattle.definition.specs.Lists.{doubled, isSome}
 use Rattle.definition.specs.Instructions.{shortAt}
 use Rattle.definition.specs.File.{File, readFile, sameField, sameMethod}
-use Rattle.classfile.specs.Lists.{_and_, Each, same-test}
+use Rattle.layout.specs.Tests.{same-test}
+use Rattle.classfile.specs.Lists.{_and_, Each}
 use Rattle.classfile.specs.Reading.{className, superName, fieldCount, fieldPlace, quickFields, methodCount, methodPlace, quickMethods, quickFile}
 use Rattle.classfile.specs.Rules.{Readable, readable, said, tested}
 use Rattle.classfile.specs.Stages.{Outcome, FieldRule, MethodRule, passes, fails, meant, then, made, moved, needs, needs-le, needs-eq, byte-at, short-at, name-at, count-at, fields-at, methods-at, ends-at}
@@ -141,10 +142,6 @@ module _ (bs : List ℕ) where
     pub super-of : superName bs ≡ f .super
     unfolding quickFile
     super-of = ap (λ (g : File). g .super) quick-file
-
-    pub fields-of : quickFields bs ≡ f .fields
-    unfolding quickFile
-    fields-of = ap (λ (g : File). g .fields) quick-file
 
     pub methods-of : quickMethods bs ≡ f .methods
     unfolding quickFile

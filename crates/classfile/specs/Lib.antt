@@ -5,4 +5,3 @@ pub mod Rules
 pub mod Stages
 pub mod Laws
 pub mod Searches
-pub mod Facts

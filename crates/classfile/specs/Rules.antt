@@ -10,7 +10,8 @@ use borrow.Author.Tests.{leb-true, eqb-true, le-leb, eq-eqb, not-true}
 use Rattle.definition.specs.Lists.{every, rows, doubled}
 use Rattle.definition.specs.Instructions.{shortAt}
 use Rattle.definition.specs.File.{sameField, sameMethod}
-use Rattle.classfile.specs.Lists.{_and_, every-true, true-every, each-true, true-each}
+use Rattle.layout.specs.Tests.{every-true, true-every}
+use Rattle.classfile.specs.Lists.{_and_, each-true, true-each}
 use Rattle.classfile.specs.Reading.{className, superName, fieldCount, fieldIn, quickFields, methodCount, codeLength, nextPlace, methodPlace, quickMethods}
 
 -- The tests

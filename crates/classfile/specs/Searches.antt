@@ -7,19 +7,20 @@ use mathlib.Core.List.{List, [], map}
 use Prim.Native.Nat.{ℕ, _+_, _≤_, _<_}
 use native.Mathlib.Nat.{zero-add}
 use native.Mathlib.Omega.{arith}
-use lib.ListN.{length, take, drop, getElem?, length-take, length-drop}
+use lib.ListN.{length, take, drop, getElem?}
 use lib.Dec.{eqb, leb}
 use borrow.Author.Tests.{lt-ltb, le-ltb, eq-eqb, le-leb, lt-leb}
 use Rattle.definition.specs.Lists.{any, indexOf, isSome}
 use Rattle.definition.specs.Maybe.{_>>=_, need}
-use Rattle.definition.specs.Classes.{Base, Class, Field, Method, Slot, slotIs, ownSlots, hasField, alike, methodsOf, hasMethod}
+use Rattle.definition.specs.Classes.{Base, Class, Field, Method, Slot, slotIs, ownSlots, hasField, methodsOf}
 use Rattle.definition.specs.File.{File, byte, readFile}
 use Rattle.definition.specs.Tables.{ClassRow, fileAt}
+use Rattle.layout.specs.Places.{rows-at, rows-past}
+use Rattle.layout.specs.ReadBack.{empty-file}
 use Rattle.classfile.specs.declared.FieldFound.{FieldFound}
 use Rattle.classfile.specs.declared.MethodFound.{MethodFound}
-use Rattle.classfile.specs.Lists.{le-or-lt, shift, shift-some, get-rows, no-row, row-is, any-index, index-found, any-map, index-map}
-use Rattle.classfile.specs.Reading.{methodCount, codeAt, methodAt, methodPlace, methodIn, quickMethods, fieldIs, fieldNamed, fieldFound, methodFound, numbered, partOf}
-use Rattle.classfile.specs.Laws.{methods-of}
+use Rattle.classfile.specs.Lists.{le-or-lt, shift, shift-some, any-index, any-map, index-map}
+use Rattle.classfile.specs.Reading.{methodCount, methodAt, methodPlace, methodIn, quickMethods, fieldIs, fieldNamed, fieldFound, methodFound, numbered, partOf}
 
 -- Fields
 
@@ -74,16 +75,11 @@ module _ (bs : List ℕ) where
   -- the method of number j, and its record
   pub method-there : (j : ℕ) → j < methodCount bs → getElem? (quickMethods bs) j ≡ some (methodAt bs (methodPlace bs j))
   unfolding quickMethods methodIn
-  method-there j h = get-rows (methodIn bs) (methodCount bs) 0 j h ∙ ap {B = Option Method} (λ i. some (methodIn bs i)) (zero-add j)
+  method-there j h = rows-at (methodIn bs) (methodCount bs) 0 j h ∙ ap {B = Option Method} (λ i. some (methodIn bs i)) (zero-add j)
 
   pub method-past : (j : ℕ) → methodCount bs ≤ j → getElem? (quickMethods bs) j ≡ none
   unfolding quickMethods
-  method-past j h = no-row (methodIn bs) (methodCount bs) 0 j h
-
-  -- the place of the method of number j is known
-  pub method-is : (j : ℕ) (m : Method) → getElem? (quickMethods bs) j ≡ some m → methodAt bs (methodPlace bs j) ≡ m
-  unfolding quickMethods methodIn
-  method-is j m h = row-is (methodIn bs) (methodCount bs) j m h .1
+  method-past j h = rows-past (methodIn bs) (methodCount bs) 0 j h
 
   -- what is found by a number
 
@@ -97,27 +93,7 @@ module _ (bs : List ℕ) where
   pub method-unnumbered : (j : ℕ) → methodFound bs (numbered (methodCount bs) j) ≡ MethodFound.Absent → getElem? (quickMethods bs) j ≡ none
   method-unnumbered j h = method-past j (numbered-none (methodCount bs) j (method-absent (numbered (methodCount bs) j) h))
 
-  -- what is found by a test
-
-  pub method-found : (f : Method → Bool) (j p : ℕ) → methodFound bs (indexOf f (quickMethods bs)) ≡ MethodFound.At j p
-      → (getElem? (quickMethods bs) j ≡ some (methodAt bs p)) × (f (methodAt bs p) ≡ true)
-  method-found f j p h =
-      let a = method-at (indexOf f (quickMethods bs)) j p h in
-      let x = index-found f (quickMethods bs) j (a .0) in
-      let e : x .0 ≡ methodAt bs p = sym (method-is j (x .0) (x .1)) ∙ ap (methodAt bs) (sym (a .1)) in
-      (x .1 ∙ ap {B = Option Method} some e, ap f (sym e) ∙ x .2)
-
-  -- of bytes that read as the file f: the method of number j stands at its place, and its code there
-
-  module _ (f : File) (h : readFile bs ≡ some f) (j : ℕ) (m : Method) (e : getElem? (f .methods) j ≡ some m) where
-    pub method-of : methodAt bs (methodPlace bs j) ≡ m
-    method-of = method-is j m (ap (λ (ms : List Method). getElem? ms j) (methods-of bs f h) ∙ e)
-
-    pub code-of : codeAt bs (methodPlace bs j) ≡ m .code
-    unfolding methodAt
-    code-of = ap (λ (x : Method). x .code) method-of
-
--- A class's fields as its slots, and whether it has a field or a method
+-- A class's fields as its slots, whether it has a field, and its methods
 
 abbrev pub slotOf : ℕ → Field → Slot
 slotOf c f = record { owner = c; name = f .name; type = f .type }
@@ -148,10 +124,6 @@ module _ (b : Base) (c : ℕ) (k : Class) (h : getElem? (b .classes) c ≡ some 
   unfolding methodsOf
   own-methods = rw (h, methodsOf)
 
-  pub has-method : (n a r : ℕ) → hasMethod b n a r c ≡ any (alike n a r) (k .methods)
-  unfolding hasMethod
-  has-method n a r = ap (any (alike n a r)) own-methods
-
 -- a search that answers a place says that something passes, and one that answers none that nothing does
 pub any-some : {A : Type 0} (f : A → Bool) (xs : List A) (j : ℕ) → indexOf f xs ≡ some j → any f xs ≡ true
 unfolding isSome
@@ -181,13 +153,6 @@ module _ (bs : List ℕ) (start size : ℕ) where
   pub part-past : length bs < start + size → partOf bs start size ≡ []
   unfolding partOf
   part-past h = rw (lt-leb (start + size) (length bs) h, partOf)
-
-  pub length-part : start + size ≤ length bs → length (partOf bs start size) ≡ size
-  length-part h = rw (part-there h) (omega (arith, length-take size (drop start bs), length-drop start bs))
-
-pub empty-file : readFile [] ≡ none
-unfolding readFile byte _>>=_ need
-empty-file = refl
 
 -- the file of a class row is what its part of the kept bytes reads as
 pub file-part : (bs : List ℕ) (k : ClassRow) → fileAt bs k ≡ readFile (partOf bs (k .start) (k .size))

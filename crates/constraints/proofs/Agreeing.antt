@@ -17,13 +17,14 @@ use Rattle.definition.specs.Classes.{Entry, find}
 use Rattle.definition.specs.Constraints.{Subtype, tieEdges, subtypeEdges, pairAgrees, rowAgrees, agreesOver}
 use Rattle.definition.specs.Tables.{entryAt, tieAt, subtypeAt}
 use Rattle.laws.specs.Chains.{leads-chain, chain-leads, chain-join, chain-more}
+use Rattle.layout.specs.Tests.{same-test}
 use Rattle.constraints.specs.Nodes.{requestOf, requestIn, AllNumbered, First, NodesOf, ClassesOf}
 use Rattle.constraints.specs.Groups.{Tied, same, node, tie, back, on, GroupsOf}
 use Rattle.constraints.specs.Search.{startOf, endOf, linkOf, linksOf, leadsOn}
 use Rattle.constraints.specs.Pairs.{pairIs, pairOn, agreeOn}
 use Rattle.constraints.proofs.Rows.{Order, less, equal, more, order, in-rows, rows-in, all-same}
-use Rattle.constraints.proofs.Renaming.{Carried, carried, same-truth}
-use Rattle.constraints.proofs.Edges.{edge, edge-at, forward, turned, upward, forward-in, turned-in, upward-in, OfTie, of-tie, OfSubtype, of-subtype, find-at}
+use Rattle.constraints.proofs.Renaming.{Carried, carried}
+use Rattle.constraints.proofs.Edges.{edge-at, forward, turned, upward, forward-in, turned-in, upward-in, OfTie, of-tie, OfSubtype, of-subtype, find-at}
 
 -- Numbers and first places
 
@@ -144,7 +145,7 @@ module _ (cache : List ℕ) (n : ℕ) (ties : List ℕ) (tied : ℕ) (subtypes :
 
   tied-same : (a b : ℕ) → a < places → b < places → leads theTies (named a) (named b) ≡ eqb (getD groups a 0) (getD groups b 0)
   tied-same a b h k =
-      same-truth (leads theTies (named a) (named b)) (eqb (getD groups a 0) (getD groups b 0))
+      same-test (leads theTies (named a) (named b)) (eqb (getD groups a 0) (getD groups b 0))
       (λ q. eq-eqb (getD groups a 0) (getD groups b 0)
       (isGroup .all a b h k (carried named Joint places theTies name-tied (λ p q r. on) tie-places a b h k (leads-chain theTies (named a) (named b) q))))
       (λ q. chain-leads theTies (named a) (named b) (tied-chains (group-tied a b h k (eqb-true (getD groups a 0) (getD groups b 0) q)) .0))
@@ -217,7 +218,7 @@ module _ (cache : List ℕ) (n : ℕ) (ties : List ℕ) (tied : ℕ) (subtypes :
       → leads (theTies ++ theSubtypes) (named a) (named b) ≡ leadsOn groups n noted (getD groups a 0) (getD groups b 0)
   unfolding leadsOn
   led-same a b h k =
-      same-truth (leads (theTies ++ theSubtypes) (named a) (named b)) (leads theLinks (grouped a) (grouped b))
+      same-test (leads (theTies ++ theSubtypes) (named a) (named b)) (leads theLinks (grouped a) (grouped b))
       (λ q. chain-leads theLinks (grouped a) (grouped b)
       (carried named Onward places (theTies ++ theSubtypes) (λ p r i j e. tied-onward p r i j (name-tied p r i j e)) (λ p q r. chain-join) any-link a b h k
       (leads-chain (theTies ++ theSubtypes) (named a) (named b) q)))

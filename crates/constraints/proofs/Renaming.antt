@@ -1,7 +1,6 @@
 -- Chains carried over to a relation of places: where it holds of places of one name, goes on, and holds of the ends of each edge, it holds of
 -- places that a chain joins.
 use mathlib.Core.Path.{_≡_, refl, sym, _∙_}
-use mathlib.Core.Bool.{Bool, true, false}
 use mathlib.Core.List.{List, List·Memᴰ}
 use Prim.Native.Nat.{ℕ, _<_}
 use Rattle.definition.specs.Requests.{Request, Edge, Chain, stay, hop}
@@ -35,9 +34,3 @@ module _ (U : ℕ → Request) (R : ℕ → ℕ → Type 0) (n : ℕ) (E : List 
 
   pub carried : (a b : ℕ) → a < n → b < n → Chain E (U a) (U b) → R a b
   carried a b h k c = let r = carry a h refl c in on a (r .place) b (r .related) (same (r .place) b (r .fits) k (sym (r .is)))
-
--- two tests, each true if the other is
-pub same-truth : (x y : Bool) → (x ≡ true → y ≡ true) → (y ≡ true → x ≡ true) → x ≡ y
-same-truth true y f g = sym (f refl)
-same-truth false true f g = g refl
-same-truth false false f g = refl

@@ -10,7 +10,7 @@ use lib.ListN.{length, getD, set, length-set}
 use lib.Seq.{getD-set-same, getD-set-other}
 use Rattle.definition.specs.Requests.{at, stay, hop}
 use Rattle.constraints.specs.Joining.{Last}
-use Rattle.constraints.specs.Search.{startOf, endOf, linkOf, linksOf, Led, Link, Marked, marked, Stamped, Queued, Grown, Visited, Expanded, Searched}
+use Rattle.constraints.specs.Search.{startOf, endOf, linkOf, linksOf, Led, Link, Marked, Stamped, Queued, Grown, Visited, Expanded, Searched}
 use Rattle.constraints.proofs.Rows.{Order, less, equal, more, order, in-rows}
 use Rattle.constraints.proofs.Edges.{edge, edge-at}
 use Rattle.constraints.proofs.Marking.{new-mark, set-mark, keep-mark, stamped-set, stamped-more, mark-low, marked-le, marked-set}

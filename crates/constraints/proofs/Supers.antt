@@ -12,11 +12,11 @@ use borrow.Author.Tests.{eqb-true, eq-eqb, ne-eqb, ltb-true, lt-ltb, le-ltb}
 use Rattle.definition.specs.Classes.{lower}
 use Rattle.definition.specs.Superclasses.{Below, Falls, below, same, up}
 use Rattle.laws.specs.Upward.{below-true, true-below, below-trans}
+use Rattle.layout.specs.Tests.{same-test}
 use Rattle.constraints.specs.Agreement.{superIn}
 use Rattle.constraints.specs.Search.{Marked, Stamped}
 use Rattle.constraints.specs.Upward.{classOf, Raised, isAbove}
 use Rattle.constraints.proofs.Marking.{new-mark, set-mark, keep-mark, stamped-set, stamped-more}
-use Rattle.constraints.proofs.Renaming.{same-truth}
 
 lower-falls : (c q p : ℕ) → lower c q ≡ some p → p < c
 unfolding lower
@@ -136,7 +136,7 @@ module _ (aboves : List ℕ) (stamp c d : ℕ) where
   pub above-below : (sup : ℕ → Option ℕ) → Falls sup → Raised sup c stamp aboves → isAbove aboves stamp c d ≡ below sup c d
   unfolding isAbove
   above-below sup falls r =
-      same-truth (isAbove aboves stamp c d) (below sup c d) (λ h. go (eqb c d) refl h) (λ h. back (r .all d (below-true sup falls c d h)) (eqb c d) refl)
+      same-test (isAbove aboves stamp c d) (below sup c d) (λ h. go (eqb c d) refl h) (λ h. back (r .all d (below-true sup falls c d h)) (eqb c d) refl)
     where
       go : (t : Bool) → eqb c d ≡ t → (elim t as (λ _. Bool) [ true ↦ true | false ↦ eqb (getD aboves d 0) stamp ]) ≡ true → below sup c d ≡ true
       go true e h = true-below sup falls c d (same (eqb-true c d e))

@@ -4,7 +4,7 @@ use mathlib.Core.Bool.{Bool, true, false, false≢true}
 use mathlib.Core.List.{List, [], _∷_, _++_}
 use Prim.Native.Nat.{ℕ, suc, _+_, _*_, _-_, _≤_, _<_}
 use native.Mathlib.Omega.{arith}
-use lib.ListN.{length, getD, set, take, drop, length-append, length-take, List·getD-append}
+use lib.ListN.{length, getD, set, take, drop, length-append, length-take, List·getD-append, length-set}
 use lib.Seq.{set-out, take-set-le, take-set-lt, take-at, take-all}
 use lib.Dec.{leb, ltb}
 use borrow.Author.Tests.{leb-true, leb-false, ltb-true, ltb-false, le-leb}
@@ -29,7 +29,7 @@ use Rattle.constraints.specs.Posting.{newSubtypesIn, subtypesAfter, roomy, coun
 use Rattle.entries.specs.World.{worldIn, Loadable}
 use Rattle.defining.specs.Posting.{TiesPosted}
 use Rattle.defining.specs.Stages.{postedFor, roomFor, newTies, newNotes}
-use Rattle.entries.proofs.Laws.{cells-length, copied}
+use Rattle.entries.proofs.Laws.{copied}
 
 -- Copies
 
@@ -229,7 +229,7 @@ module _ (counts classes kept cache ties subtypes : List ℕ) (ld : Loadable cou
 
     pub ties-after : tied ≤ 256 → rows (tieAt u) tied 0 ≡ w .ties ++ us
     ties-after h =
-        let long : length t ≡ 816 = ap length et ∙ (cells-length ties 0 z ∙ zl) in
+        let long : length t ≡ 816 = ap length et ∙ (writeRows-length set length-set ties 0 z ∙ zl) in
         (λ x. rows (tieAt (cells x)) (tied-is x) 0)
         ∙ (rows-after-more tie-rows us t (getD counts 3 0) (omega (arith, tied-is))
         ∙ ap (λ (x : List Tie). x ++ us) (ap (λ (x : ℕ). rows (tieAt t) x 0) (sym ei) ∙ before))

@@ -1,43 +1,23 @@
 -- Ties posted one method after another behind the rows that a table has: the rows that were written, and the ties that they stand for.
 use mathlib.Core.Path.{_≡_, refl, sym, ap, _∙_}
-use mathlib.Core.Bool.{Bool, true, false, _||_}
 use mathlib.Core.Option.{Option, none, some}
-use mathlib.Core.List.{List, [], _∷_, _++_}
-use Prim.Native.Nat.{ℕ, suc, _+_, _*_, _-_, _≤_, _<_}
+use mathlib.Core.List.{List, [], _++_}
+use Prim.Native.Nat.{ℕ, _+_, _*_, _-_, _≤_, _<_}
 use native.Mathlib.Omega.{arith}
 use lib.ListN.{length, length-append}
-use lib.Dec.{eqb}
-use Rattle.definition.specs.Lists.{any, rows, writeRows}
+use Rattle.definition.specs.Lists.{rows, writeRows}
 use Rattle.definition.specs.Superclasses.{nearest}
 use Rattle.definition.specs.Classes.{Base, Method, superOf, loaderOf, hasMethod}
-use Rattle.definition.specs.Constraints.{Tie, newTie, tieIs}
+use Rattle.definition.specs.Constraints.{Tie, newTie}
 use Rattle.definition.specs.Loading.{overrideTie, overrideTies}
 use Rattle.definition.specs.Tables.{tieAt, putTie}
 use Rattle.layout.specs.Places.{rows-step, rows-none, rows-start, writeRows-length}
-use Rattle.layout.specs.Cells.{RowLaws, rows-first, rows-after-more, tie-rows}
+use Rattle.layout.specs.Cells.{rows-parts, rows-after-more, tie-rows}
 use Rattle.constraints.specs.Posting.{newTieIn, tiesAfter}
+use Rattle.constraints.specs.Laws.{tie-few}
 use Rattle.defining.specs.Posting.{TiesPosted, methodLike}
 
--- rows written in two parts, the second behind the first
-pub write-more : {A : Type 0} {at : List ℕ → ℕ → A} {p : List ℕ → ℕ → A → List ℕ} {w : ℕ} (laws : RowLaws at p w) (xs ys : List A) (i : ℕ) (t : List ℕ)
-    → writeRows p (xs ++ ys) i t ≡ writeRows p ys (i + length xs) (writeRows p xs i t)
-unfolding writeRows
-write-more {p = p} laws [] ys i t = let e : i + 0 ≡ i = omega arith in rw e
-write-more {p = p} laws (x ∷ xs) ys i t =
-    let e : i + suc (length xs) ≡ suc i + length xs = omega arith in
-    rows-first laws x (xs ++ ys) i t
-    ∙ (write-more laws xs ys (suc i) (p t i x)
-    ∙ (λ j. writeRows p ys (sym e j) (sym (rows-first laws x xs i t) j)))
-
 -- At most one tie is new, and at most two for a method
-
-new-few : (ts : List Tie) (l m n : ℕ) → length (newTie ts l m n) ≤ 1
-unfolding newTie
-new-few ts l m n = go (eqb l m || eqb n 1 || any (tieIs l m n) ts)
-  where
-    go : (b : Bool) → length {A = Tie} (elim b as (λ _. List Tie) [ true ↦ [] | false ↦ record { one = l; two = m; name = n } ∷ [] ]) ≤ 1
-    go true = omega arith
-    go false = omega arith
 
 pub override-few : (b : Base) (l p : ℕ) (ts : List Tie) (m : Method) → length (overrideTie b l p ts m) ≤ 2
 unfolding overrideTie
@@ -52,7 +32,7 @@ override-few b l p ts m = go (nearest (superOf b) (hasMethod b (m .name) (m .arg
     go (some y) =
         let us : List Tie = newTie ts l (loaderOf b y) (m .argument) in
         let vs : List Tie = newTie (ts ++ us) l (loaderOf b y) (m .result) in
-        omega (arith, length-append us vs, new-few ts l (loaderOf b y) (m .argument), new-few (ts ++ us) l (loaderOf b y) (m .result))
+        omega (arith, length-append us vs, tie-few ts l (loaderOf b y) (m .argument), tie-few (ts ++ us) l (loaderOf b y) (m .result))
 
 -- One method
 
@@ -76,7 +56,7 @@ module _ (b : Base) (l p n a r : ℕ) (t : List ℕ) (k : ℕ) where
       us = newTie ts l m a
 
       few : length us ≤ 1
-      few = new-few ts l m a
+      few = tie-few ts l m a
 
       same : rows (tieAt u) i 0 ≡ ts ++ us
       same = ap (λ (x : List ℕ). rows (tieAt x) i 0) eu ∙ (ap (λ (x : ℕ). rows (tieAt (writeRows putTie us k t)) x 0) ei ∙ rows-after-more tie-rows us t k (omega (arith, few)))
@@ -91,7 +71,7 @@ module _ (b : Base) (l p n a r : ℕ) (t : List ℕ) (k : ℕ) where
       count = omega (arith, ej, ei, length-append us vs, ap length next)
 
       cells : v ≡ writeRows putTie (us ++ vs) k t
-      cells = ev ∙ ((λ x. writeRows putTie (next x) (ei x) (eu x)) ∙ sym (write-more tie-rows us vs k t))
+      cells = ev ∙ ((λ x. writeRows putTie (next x) (ei x) (eu x)) ∙ sym (rows-parts tie-rows us vs k t))
 
 -- One method after another: N rows that leave X are what the methods from j on post behind the k rows of t
 
@@ -138,7 +118,7 @@ module _ (b : Base) (l p : ℕ) (g : ℕ → Method) (n : ℕ) where
       cells =
           inv .cells
           ∙ (ap (λ (x : List Tie). writeRows putTie x k t) all
-          ∙ (write-more tie-rows us vs k t ∙ (λ x. writeRows putTie (sym rest x) (sym (one .count) x) (sym (one .cells) x))))
+          ∙ (rows-parts tie-rows us vs k t ∙ (λ x. writeRows putTie (sym rest x) (sym (one .count) x) (sym (one .cells) x))))
 
   pub posts-end : (t X : List ℕ) (k j N : ℕ) → n ≤ j → TiesPosted (left t k j) t k X N → (k ≡ N) × (t ≡ X)
   unfolding overrideTies writeRows
@@ -147,12 +127,12 @@ module _ (b : Base) (l p : ℕ) (g : ℕ → Method) (n : ℕ) where
       (omega (arith, inv .count, ap length e), sym (inv .cells ∙ ap (λ (x : List Tie). writeRows putTie x k t) e))
 
 -- a table has at most one tie more
-pub tie-few : (t : List ℕ) (k l m n : ℕ) → length (newTieIn t k l m n) ≤ 1
+pub new-few : (t : List ℕ) (k l m n : ℕ) → length (newTieIn t k l m n) ≤ 1
 unfolding newTieIn
-tie-few t k l m n = new-few (rows (tieAt t) k 0) l m n
+new-few t k l m n = tie-few (rows (tieAt t) k 0) l m n
 
 pub two-few : (t u : List ℕ) (k l m a r i j : ℕ) → i ≡ k + length (newTieIn t k l m a) → j ≡ i + length (newTieIn u i l m r) → j ≤ k + 2
-two-few t u k l m a r i j e q = omega (arith, tie-few t k l m a, tie-few u i l m r)
+two-few t u k l m a r i j e q = omega (arith, new-few t k l m a, new-few u i l m r)
 
 -- what a method posts: at most two rows, and the table keeps its length
 pub posted-few : (b : Base) (l p : ℕ) (ts : List Tie) (m : Method) (t : List ℕ) (k : ℕ) (u : List ℕ) (j : ℕ) → TiesPosted (overrideTie b l p ts m) t k u j → j ≤ k + 2

@@ -3,7 +3,7 @@ use mathlib.Core.Path.{_≡_, refl, sym, ap, _∙_}
 use mathlib.Core.Bool.{Bool, true, false, false≢true, true≢false}
 use mathlib.Core.Option.{Option, none, some}
 use mathlib.Core.List.{List, [], _∷_}
-use Prim.Native.Nat.{ℕ, zero, suc, _+_, _*_, _-_, _/_, _%_, _<_, _≤_}
+use Prim.Native.Nat.{ℕ, suc, _+_, _*_, _-_, _/_, _<_, _≤_}
 use native.Mathlib.Nat.{div-add-mod'}
 use native.Mathlib.Omega.{arith}
 use native.Mathlib.Numerals.{add-one}
@@ -20,7 +20,7 @@ use Rattle.layout.specs.Places.{writeRows-first}
 use Rattle.calls.specs.declared.Call as made
 use Rattle.calls.specs.Made.{callOf}
 use Rattle.driver.specs.Encoded.{callIn, callsFrom, callsIn}
-use Rattle.driver.specs.Driven.{Outcome, Refused, Performed, putReply, isAccepted, Driven, driven, performed, drive}
+use Rattle.driver.specs.Driven.{Refused, Performed, putReply, isAccepted, Driven, driven, performed, drive}
 pub use Rattle.driver.specs.declared.Row.{Row}
 pub use Rattle.driver.specs.declared.Row.the-variants.{Unreadable, Readable}
 

@@ -4,9 +4,8 @@ use mathlib.Core.List.{List, [], append-nil}
 use Prim.Native.Nat.{ℕ, _+_, _<_}
 use native.Mathlib.Numerals.{add-one}
 use native.Mathlib.Omega.{arith}
-use lib.ListN.{length, getD, set, take, drop, length-set, drop-of-length-le}
+use lib.ListN.{length, getD, set, take, drop, drop-of-length-le}
 use Rattle.definition.specs.Lists.{writeRows}
-use Rattle.layout.specs.Places.{writeRows-length}
 use Rattle.layout.specs.Cells.{cell-rows, rows-copy, cells-block}
 
 pub cells-copied : (xs : List ℕ) (from i : ℕ) (t : List ℕ) {start : ℕ} {u v : List ℕ} → i < length xs → start ≡ from
@@ -14,9 +13,6 @@ pub cells-copied : (xs : List ℕ) (from i : ℕ) (t : List ℕ) {start : ℕ} {
 cells-copied xs from i t {start} {u} {v} h e p q =
     let z : v ≡ set (writeRows set (take i xs) from t) (from + i) (getD xs i 0) = cc in
     z ∙ sym (ap (λ (n : ℕ). writeRows set (take n xs) from t) (add-one i) ∙ rows-copy cell-rows xs 0 from i t h)
-
-pub cells-length : (xs : List ℕ) (i : ℕ) (t : List ℕ) → length (writeRows set xs i t) ≡ length t
-cells-length xs i t = writeRows-length set (λ s j x. length-set s j x) xs i t
 
 -- a table copied onto another of its length
 pub copied : (xs t : List ℕ) → length xs ≡ length t → writeRows set xs 0 t ≡ xs

@@ -9,11 +9,11 @@ use native.Mathlib.Numerals.{add-one}
 use lib.ListN.{length, getD, set, getElem?, List·getD-eq-default, length-append}
 use lib.Seq.{getD-set-same, getD-set-other}
 use lib.Dec.{eqb, ltb}
-use borrow.Author.Tests.{le-leb, lt-ltb, ltb-true, ltb-false, eqb-true, eqb-false}
+use borrow.Author.Tests.{lt-ltb, ltb-true, ltb-false, eqb-true, eqb-false}
 use Rattle.definition.specs.Lists.{rows, writeRows}
 use Rattle.definition.specs.Requests.{at}
 use Rattle.definition.specs.Classes.{Base, Class, Entry, superOf, find, lower}
-use Rattle.definition.specs.Constraints.{World, tieEdges, subtypeEdges, edges, agreesOver, agrees}
+use Rattle.definition.specs.Constraints.{agrees}
 use Rattle.definition.specs.Loading.{withEntry}
 use Rattle.definition.specs.Tables.{putThree, entry, entryAt, putEntry, tieAt, subtypeAt, classRowAt}
 use Rattle.laws.specs.Agreement.{super-falls, find-more}
@@ -21,7 +21,9 @@ use Rattle.layout.specs.Places.{rows-getD, rows-length}
 use Rattle.layout.specs.Cells.{entry-rows, rows-after-last}
 use Rattle.resolution.specs.Quick.{quickClass, quickBase}
 use Rattle.resolution.specs.Lookups.{superCell, cell-none, cell-some}
-use Rattle.constraints.specs.Agreement.{atMost, superIn, agreeIn}
+use Rattle.constraints.specs.Agreement.{superIn, agreeIn}
+use Rattle.laws.specs.Options.{nth-last}
+use Rattle.constraints.specs.Laws.{agree-store}
 use Rattle.entries.specs.World.{worldIn, baseWith, Searchable, Loadable}
 use Rattle.entries.specs.Entering.{Entered}
 use Rattle.entries.proofs.Laws.{copied}
@@ -42,28 +44,6 @@ trial-base counts classes kept cache l m c e h =
     let k : getD (set counts 2 (getD counts 2 0 + 1)) 2 0 ≡ getD counts 2 0 + 1 = getD-set-same counts 2 (getD counts 2 0 + 1) 0 (omega arith) in
     rw (n, k, entries-more cache (getD counts 2 0) l m c h)
 
-at-most : (n : ℕ) → n ≤ 256 → atMost 256 n ≡ n
-unfolding atMost
-at-most n h = rw (le-leb n 256 h, atMost)
-
--- what the test decides, of tables that hold a store's cache, ties, subtype constraints and direct superclasses
-pub agree-is : (w : World) (supers cache : List ℕ) (n : ℕ) (ties : List ℕ) (m : ℕ) (subtypes : List ℕ) (k : ℕ)
-    → ((c : ℕ) → superIn supers c ≡ superOf (w .base) c) → n ≤ 256 → m ≤ 256 → k ≤ 256
-    → rows (entryAt cache) n 0 ≡ w .base .cache → rows (tieAt ties) m 0 ≡ w .ties → rows (subtypeAt subtypes) k 0 ≡ w .subtypes
-    → agreeIn supers cache n ties m subtypes k ≡ agrees w
-unfolding agrees edges
-agree-is w supers cache n ties m subtypes k s hn hm hk e t u =
-    (λ i. agreesOver (λ c. s c i) (entries i) (tied i) (tied i ++ above i))
-  where
-    entries : rows (entryAt cache) (atMost 256 n) 0 ≡ w .base .cache
-    entries = ap (λ (z : ℕ). rows (entryAt cache) z 0) (at-most n hn) ∙ e
-
-    tied : tieEdges (rows (tieAt ties) (atMost 256 m) 0) ≡ tieEdges (w .ties)
-    tied = ap tieEdges (ap (λ (z : ℕ). rows (tieAt ties) z 0) (at-most m hm) ∙ t)
-
-    above : subtypeEdges (rows (subtypeAt subtypes) (atMost 256 k) 0) ≡ subtypeEdges (w .subtypes)
-    above = ap subtypeEdges (ap (λ (z : ℕ). rows (subtypeAt subtypes) z 0) (at-most k hk) ∙ u)
-
 -- Direct superclasses by a table
 
 nth-past : {A : Type 0} (xs : List A) (i : ℕ) → length xs ≤ i → getElem? xs i ≡ none
@@ -75,10 +55,6 @@ nth-before : {A : Type 0} (xs ys : List A) (i : ℕ) → i < length xs → getEl
 nth-before [] ys i h = absurd (omega arith)
 nth-before (x ∷ xs) ys zero h = refl
 nth-before (x ∷ xs) ys (suc i) h = nth-before xs ys i (omega arith)
-
-nth-at : {A : Type 0} (xs : List A) (x : A) → getElem? (xs ++ (x ∷ [])) (length xs) ≡ some x
-nth-at [] x = refl
-nth-at (y ∷ xs) x = nth-at xs x
 
 no-cell : (t : List ℕ) (c : ℕ) → getD t c 0 ≡ 0 → superIn t c ≡ none
 unfolding superIn
@@ -120,7 +96,7 @@ supers-more ks es k p t long less e s c = go (eqb c (length ks)) refl
     here : superIn (set t (length ks) (p + 1)) (length ks) ≡ superOf (record { classes = ks ++ (k ∷ []); cache = es }) (length ks)
     here =
         a-cell (set t (length ks) (p + 1)) (length ks) p less (getD-set-same t (length ks) (p + 1) 0 long)
-        ∙ sym (rw (nth-at ks k, superOf) (rw e (rw (lt-ltb p (length ks) less, lower) refl)))
+        ∙ sym (rw (nth-last ks k, superOf) (rw e (rw (lt-ltb p (length ks) less, lower) refl)))
 
     base : Base
     base = record { classes = ks ++ (k ∷ []); cache = es }
@@ -188,8 +164,8 @@ module _ (counts classes kept cache : List ℕ) (ready : Searchable counts class
         → r ≡ agrees (withEntry (worldIn counts classes kept cache ties subtypes) (at l m) c)
     entry-agreed ties subtypes n i j r ld en ei ej h =
         let f = entries-are n en in
-        h ∙ agree-is (withEntry (worldIn counts classes kept cache ties subtypes) (at l m) c) supers trial n ties i subtypes j supers-are (f .0) (omega (arith, ld .tiesFew))
-        (omega (arith, ld .subtypesFew)) (f .1) (ap (λ (x : ℕ). rows (tieAt ties) x 0) ei) (ap (λ (x : ℕ). rows (subtypeAt subtypes) x 0) ej)
+        h ∙ agree-store (withEntry (worldIn counts classes kept cache ties subtypes) (at l m) c) supers trial ties subtypes n i j supers-are (sym (f .1))
+        (ap (λ (x : ℕ). rows (tieAt ties) x 0) (sym ei)) (ap (λ (x : ℕ). rows (subtypeAt subtypes) x 0) (sym ej)) (f .0) (omega (arith, ld .tiesFew)) (omega (arith, ld .subtypesFew))
 
     -- define: a class k more, below p
     pub class-agreed : (k : Class) (p o : ℕ) (above : List ℕ) (ties subtypes : List ℕ) (n i j : ℕ) (r : Bool) → getD counts 0 0 < 64
@@ -206,8 +182,8 @@ module _ (counts classes kept cache : List ℕ) (ready : Searchable counts class
         let long64 : length supers ≡ 64 = ap length supers-filled ∙ rows-length (superCell more) 64 0 in
         let old : (x : ℕ) → superIn supers x ≡ superOf (record { classes = b .classes; cache = baseWith b k .cache }) x =
         λ x. supers-are x ∙ ap (λ (y : List Entry). superOf (record { classes = b .classes; cache = y }) x) es in
-        h ∙ agree-is (record { base = baseWith b k; ties = rows (tieAt ties) i 0; subtypes = rows (subtypeAt subtypes) j 0 }) above trial n ties i subtypes j
+        h ∙ agree-store (record { base = baseWith b k; ties = rows (tieAt ties) i 0; subtypes = rows (subtypeAt subtypes) j 0 }) above trial ties subtypes n i j
         (λ x. ap (λ (y : List ℕ). superIn y x) t
         ∙ supers-more (b .classes) (baseWith b k .cache) k p supers (omega (arith, long64, classes-few)) less
         (find-more (b .cache) (entry (k .loader) (k .name) (length (b .classes)) ∷ []) (at (k .loader) (k .super)) p super) old x)
-        (f .0) hi hj (f .1 ∙ es) refl refl
+        (sym (f .1 ∙ es)) refl refl (f .0) hi hj

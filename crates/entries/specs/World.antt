@@ -16,7 +16,7 @@ use Rattle.definition.specs.Broken.{broken}
 use Rattle.layout.specs.View.{class-count}
 use Rattle.layout.specs.Unbroken.{unbroken, broken-false}
 use Rattle.unbroken.specs.Steps.{loader-small, class-found}
-use Rattle.unbroken.specs.Calls.{ready}
+use Rattle.unbroken.specs.WholeRows.{ready}
 use Rattle.resolution.specs.Quick.{quickBase}
 use Rattle.resolution.specs.Unbroken.{quick-base}
 

@@ -6,21 +6,18 @@ use Prim.Native.Nat.{ℕ, _+_, _<_, _≤_}
 use native.Mathlib.Omega.{arith}
 use lib.ListN.{length, getD, set, length-set, length-append, List·getD-eq-default}
 use lib.Dec.{ltb}
-use borrow.Author.Tests.{le-leb, ltb-true, ltb-false}
+use borrow.Author.Tests.{ltb-true, ltb-false}
 use Rattle.definition.specs.Lists.{rows, writeRows}
 use Rattle.definition.specs.Classes.{Base, superOf}
 use Rattle.definition.specs.Constraints.{Tie, edges, agrees, posted}
 use Rattle.definition.specs.Tables.{tables, tieAt, putTie}
 use Rattle.layout.specs.Places.{rows-length, rows-getD, writeRows-length}
 use Rattle.layout.specs.Cells.{rows-back, rows-more, cell-rows, tie-rows}
-use Rattle.constraints.specs.Agreement.{atMost, superIn, agreeIn}
+use Rattle.constraints.specs.Agreement.{superIn, agreeIn}
 use Rattle.resolution.specs.Quick.{quickBase, super-past}
 use Rattle.resolution.specs.Lookups.{superCell, cell-super}
 use Rattle.access.specs.Accesses.{worldIn}
-
-at-most : (n : ℕ) → n ≤ 256 → atMost 256 n ≡ n
-unfolding atMost
-at-most n h = rw (le-leb n 256 h, atMost)
+use Rattle.constraints.specs.Laws.{within}
 
 -- The table of superclasses
 
@@ -77,8 +74,8 @@ unfolding agrees edges quickBase
 agree-posted N L K E I S O F zs us c e s z i n =
     rw (
       supers-table N L K E c zs z,
-      at-most (getD N 2 0) e,
-      at-most (getD N 4 0) s,
-      at-most (getD N 3 0 + length us) n,
+      within 256 (getD N 2 0) e,
+      within 256 (getD N 4 0) s,
+      within 256 (getD N 3 0 + length us) n,
       tried I (getD N 3 0) us i n,
     )

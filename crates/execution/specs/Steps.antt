@@ -21,7 +21,8 @@ use Rattle.definition.specs.Tables.{Tables, tables, classRowAt, sizeOf, operand
 use Rattle.definition.specs.Broken.{broken}
 use Rattle.layout.specs.Places.{rows-at, rows-past, stack-length}
 use Rattle.layout.specs.Whole.{All, Listed, Frames}
-use Rattle.layout.specs.Unbroken.{size-small, Unbroken, unbroken}
+use Rattle.layout.specs.Unbroken.{Unbroken, unbroken}
+use Rattle.layout.specs.ReadBack.{size-small}
 use Rattle.layout.specs.View.{countAt, frames-top}
 use Rattle.classfile.specs.Reading.{methodCount, methodPlace, codeLength, codeAt, methodAt, methodIn, quickMethods, partOf}
 use Rattle.resolution.specs.Quick.{quickBase, quickOf, fileIn, loaderIn, loader-quick, methods-quick}

@@ -1,5 +1,5 @@
 -- Rows written downward, from the last to the first: what a loop over a new object's fields has written.
-use mathlib.Core.Path.{_≡_, refl, sym, ap, _∙_}
+use mathlib.Core.Path.{_≡_, ap, _∙_}
 use mathlib.Core.List.{List, _∷_}
 use Prim.Native.Nat.{ℕ, suc, _-_, _+_, _<_, _≤_}
 use native.Mathlib.Omega.{arith}

@@ -1,14 +1,14 @@
 -- What a new object's row holds, by the types of its fields; the empty locals of a new frame.
-use mathlib.Core.Path.{_≡_, refl, ap}
+use mathlib.Core.Path.{_≡_, refl}
 use mathlib.Core.Bool.{Bool, true, false}
-use mathlib.Core.List.{List, [], _∷_, map}
+use mathlib.Core.List.{List}
 use Prim.Native.Nat.{ℕ}
 use lib.ListN.{getD}
 use lib.Dec.{eqb}
 use Rattle.definition.specs.Lists.{rows}
-use Rattle.definition.specs.Classes.{Base, Slot, slots}
+use Rattle.definition.specs.Classes.{Slot}
 use Rattle.definition.specs.Instructions.{pick}
-use Rattle.definition.specs.Machine.{Value, unsetValue, intValue, nullValue, Object, initialValue, newObject}
+use Rattle.definition.specs.Machine.{Value, unsetValue, intValue, nullValue, Object, initialValue}
 use Rattle.definition.specs.Tables.{putLocal}
 
 -- a field of type t begins as 0 or null

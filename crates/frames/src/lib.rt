@@ -1,6 +1,6 @@
 // Cells of frames and objects, read and written totally. A frame's row begins at cell b; a value is a kind and 32 bits.
 ghost use mathlib.Core.Path.{_≡_};
-ghost use Prim.Native.Nat.{_+_, _*_, _<_, _≤_};
+ghost use Prim.Native.Nat.{_+_, _*_, _<_};
 ghost use lib.ListN.{getD, set};
 ghost use Rattle.definition.specs.Machine.{entryFrame};
 ghost use Rattle.definition.specs.Tables.{valueOf, valueAt, putCells, operandAt, putOperand, localAt, putLocal, fieldAt, putField, putHead, putFrame, putObject, frameBase};

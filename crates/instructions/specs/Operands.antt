@@ -1,8 +1,7 @@
 -- Laws of the machine's tests on operands, locals and objects that stand in tables.
-use mathlib.Core.Path.{_≡_, refl, sym, ap, _∙_}
+use mathlib.Core.Path.{_≡_, refl, _∙_}
 use mathlib.Core.Bool.{Bool, true, false, false≢true}
-use mathlib.Core.Option.{Option, none, some}
-use mathlib.Core.List.{List, [], _∷_}
+use mathlib.Core.List.{List}
 use mathlib.Core.Logic.{_≢_}
 use Prim.Native.Nat.{ℕ, zero, suc, _+_, _-_, _<_, _≤_, _%_}
 use native.Mathlib.Omega.{arith}
@@ -15,7 +14,7 @@ use Rattle.definition.specs.Verifier.{pop}
 use Rattle.definition.specs.declared.Refusal.{Refusal}
 use Rattle.definition.specs.declared.Refusal.the-variants.{Word}
 use Rattle.definition.specs.Answers.{Result, refused, ok, _>>=_, need, take?}
-use Rattle.definition.specs.Machine.{Value, unsetValue, intValue, nullValue, objectValue, unlistedValue, Frame, pop!, int!, reference!, kind!, room!, under! }
+use Rattle.definition.specs.Machine.{Value, unsetValue, intValue, nullValue, objectValue, unlistedValue, pop!, int!, reference!, kind!, room!, under! }
 use Rattle.definition.specs.Tables.{valueOf, operandAt, frameAt, frameOf, frameBase, frameIn}
 use Rattle.layout.specs.Places.{rows-at, rows-past, stack-length, stack-top}
 

@@ -1,19 +1,19 @@
 -- What a step is going to do, as a plan of numbers, and what a plan means in rows. A plan speaks of the frame whose row begins at cell b and goes
 -- on at point q; fs are the frames below it. An instruction's function answers a plan whose meaning is what the machine does.
 use mathlib.Core.Path.{_≡_}
-use mathlib.Core.Option.{Option, none, some}
+use mathlib.Core.Option.{none, some}
 use mathlib.Core.List.{List, [], _∷_, _++_}
-use Prim.Native.Nat.{ℕ, suc, _+_, _*_, _-_, _<_, _≤_}
+use Prim.Native.Nat.{ℕ, suc, _+_, _-_, _<_, _≤_}
 use lib.ListN.{length, getD, set}
 use Rattle.definition.specs.Lists.{rows, stack}
 use Rattle.definition.specs.Classes.{Base, Class}
-use Rattle.definition.specs.Constraints.{Tie, World, posted}
+use Rattle.definition.specs.Constraints.{World}
 use Rattle.definition.specs.declared.Instruction.{Instruction}
 use Rattle.definition.specs.Instructions.{Decoded}
 use Rattle.definition.specs.declared.Refusal.the-variants.{Word}
 use Rattle.definition.specs.Answers.{Result, refused, ok, _>>=_, take?}
-use Rattle.definition.specs.Machine.{Value, intValue, objectValue, Object, Frame, existing, newObject, entryFrame, Progress, give, execute}
-use Rattle.definition.specs.Tables.{Tables, valueOf, operandAt, localAt, frame, frameOf, frameAt, frameBase, frameIn, sizeOf, usedFields, objectAt}
+use Rattle.definition.specs.Machine.{Value, objectValue, Object, Frame, existing, newObject, entryFrame, Progress, give, execute}
+use Rattle.definition.specs.Tables.{Tables, valueOf, operandAt, localAt, frame, frameOf, frameBase, frameIn, sizeOf, usedFields, objectAt}
 use Rattle.layout.specs.Cells.{frameWith, withField}
 pub use Rattle.instructions.specs.declared.Plan.{Plan}
 pub use Rattle.instructions.specs.declared.Plan.the-variants.{Refuse, Keep, Above, Local, Give, Finish, Field, Enter, Make}

@@ -4,7 +4,7 @@ use mathlib.Core.Bool.{Bool, true, false}
 use mathlib.Core.Option.{Option, none, some, Option·none-ne-some, Option·some-injective}
 use mathlib.Core.List.{List, [], _∷_, _++_, List·Memᴰ, List·Memᴰ·head, List·Memᴰ·tail, reverse, reverseAux}
 use mathlib.Core.Logic.{_⊎_, inl, inr}
-use Prim.Native.Nat.{ℕ, zero, suc, _+_}
+use Prim.Native.Nat.{ℕ, zero, suc}
 use lib.ListN.{length, getElem?, set}
 use Rattle.definition.specs.Maybe.{_>>=_, need}
 use Rattle.definition.specs.Lists.{Each}
@@ -47,11 +47,6 @@ each-both R [] (w ∷ ys) h i x y r = absurd h
 each-both R (z ∷ xs) [] h i x y r = absurd h
 each-both R (z ∷ xs) (w ∷ ys) h zero x y r = (r, h .1)
 each-both R (z ∷ xs) (w ∷ ys) h (suc i) x y r = (h .0, each-both R xs ys (h .1) i x y r)
-
-pub nth-set-same : {A : Type 0} (xs : List A) (i : ℕ) (x y : A) → getElem? xs i ≡ some x → getElem? (set xs i y) i ≡ some y
-nth-set-same [] i x y h = absurd (Option·none-ne-some x h)
-nth-set-same (z ∷ xs) zero x y h = refl
-nth-set-same (z ∷ xs) (suc i) x y h = nth-set-same xs i x y h
 
 -- a place of a list in which place j was set
 pub nth-set : {A : Type 0} (xs : List A) (j : ℕ) (z : A) (i : ℕ) (x : A) → getElem? xs i ≡ some x → (y : A) × (getElem? (set xs j z) i ≡ some y) × ((y ≡ x) ⊎ ((i ≡ j) × (y ≡ z)))

@@ -2,7 +2,7 @@
 use mathlib.Core.Path.{_≡_, refl}
 use mathlib.Core.Option.{Option, none, some}
 use mathlib.Core.List.{List, [], _++_}
-use Prim.Native.Nat.{ℕ, zero, suc, _+_, _-_, _≤_, _<_}
+use Prim.Native.Nat.{ℕ, zero, suc, _≤_, _<_}
 use native.Mathlib.Omega.{arith}
 use lib.ListN.{getElem?}
 use Rattle.definition.specs.Classes.{Base, Slot, ownSlots, slots, slotsIn, superOf}
@@ -39,17 +39,18 @@ module _ (b : Base) where
   slots-up zero p s = absurd (omega (arith, super-falls b zero p s))
   slots-up (suc n) p s = slots-step n (suc n) p refl s
 
-  bare : (c : ℕ) → superOf b c ≡ none → slots b c ≡ ownSlots b c
+  -- a class with no superclass has its own fields alone
+  pub slots-none : (c : ℕ) → superOf b c ≡ none → slots b c ≡ ownSlots b c
   unfolding slots slotsIn
-  bare zero e = refl
-  bare (suc n) e = rw (e, slotsIn) refl
+  slots-none zero e = refl
+  slots-none (suc n) e = rw (e, slotsIn) refl
 
   -- the class's own fields stand last
   pub slots-own : (c : ℕ) → (pre : List Slot) × (slots b c ≡ pre ++ ownSlots b c)
   slots-own c = go (superOf b c) refl
     where
       go : (o : Option ℕ) → superOf b c ≡ o → (pre : List Slot) × (slots b c ≡ pre ++ ownSlots b c)
-      go none e = ([], bare c e)
+      go none e = ([], slots-none c e)
       go (some p) e = (slots b p, slots-up c p e)
 
   -- an object of a class below d has d's fields where d has them

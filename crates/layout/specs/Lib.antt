@@ -7,6 +7,7 @@ pub mod ObjectRows
 pub mod FrameRows
 pub mod Cells
 pub mod Whole
+pub mod ReadBack
 pub mod Unbroken
 pub mod Fills
 pub mod View

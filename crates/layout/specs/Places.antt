@@ -7,7 +7,7 @@ use mathlib.Core.Logic.{_≢_}
 use Prim.Native.Nat.{ℕ, zero, suc, _+_, _-_, _<_, _≤_}
 use native.Mathlib.Omega.{arith}
 use native.Mathlib.Numerals.{add-one}
-use lib.ListN.{length, getElem?, getD, set, take, drop, replicate}
+use lib.ListN.{length, getElem?, getD, set, take, drop}
 use lib.Seq.{set-set, set-comm, take-suc, length-take-le}
 use lib.Dec.{eqb}
 use borrow.Author.Tests.{eqb-true, eqb-false}
@@ -82,18 +82,6 @@ module _ {A : Type 0} (g : ℕ → A) where
   unfolding stack
   stack-top zero h = absurd (omega arith)
   stack-top (suc k) h = let e : suc k - 1 ≡ k = omega arith in rw e
-
-  pub stack-at : (k j : ℕ) → j < k → getElem? (stack g k) j ≡ some (g (k - (j + 1)))
-  unfolding stack
-  stack-at zero j l = absurd (omega arith)
-  stack-at (suc k) zero l = let e : suc k - (0 + 1) ≡ k = omega arith in rw e
-  stack-at (suc k) (suc j) l = let e : suc k - (suc j + 1) ≡ k - (j + 1) = omega arith in rw e (stack-at k j (omega arith))
-
-  pub stack-past : (k j : ℕ) → k ≤ j → getElem? (stack g k) j ≡ none
-  unfolding stack
-  stack-past zero j l = refl
-  stack-past (suc k) zero l = absurd (omega arith)
-  stack-past (suc k) (suc j) l = stack-past k j (omega arith)
 
 -- two readings that agree at the places in question
 
@@ -301,20 +289,6 @@ module _ {A : Type 0} (p : List ℕ → ℕ → A → List ℕ) (comm : (t : Lis
       let e : length (take j xs) ≡ j = length-take-le j xs (omega arith) in
       rw (take-suc xs j d l, writeRows-snoc (take j xs) (getD xs j d) i t, e)
 
-  pub writeRows-replicate : (x : A) (n i : ℕ) (t : List ℕ) → writeRows p (replicate (suc n) x) i t ≡ p (writeRows p (replicate n x) i t) (i + n) x
-  unfolding writeRows
-  writeRows-replicate x zero i t = let e : i + 0 ≡ i = omega arith in rw e
-  writeRows-replicate x (suc n) i t =
-      let e : i + suc n ≡ suc i + n = omega arith in
-      rw e (ap (λ (s : List ℕ). p s i x) (writeRows-replicate x n (suc i) t) ∙ comm (writeRows p (replicate n x) (suc i) t) i (suc i + n) x x (omega arith))
-
--- the first of two lists, then the second behind it
-pub writeRows-both : {A : Type 0} (p : List ℕ → ℕ → A → List ℕ) (xs ys : List A) (i : ℕ) (t : List ℕ) → writeRows p (xs ++ ys) i t
-    ≡ writeRows p xs i (writeRows p ys (i + length xs) t)
-unfolding writeRows
-writeRows-both p [] ys i t = let e : i + 0 ≡ i = omega arith in rw e
-writeRows-both p (x ∷ xs) ys i t = let e : i + suc (length xs) ≡ suc i + length xs = omega arith in rw (e, writeRows-both p xs ys (suc i) t)
-
 -- single cells: one of the list set is one cell set
 pub written-set : (xs : List ℕ) (i j x : ℕ) (t : List ℕ) → j < length xs → writeRows set (set xs j x) i t ≡ set (writeRows set xs i t) (i + j) x
 unfolding writeRows
@@ -333,12 +307,6 @@ module _ {A : Type 0} (p : List ℕ → ℕ → A → List ℕ) where
   unfolding writeStack
   writeStack-keeps r P n keep [] l a t = refl
   writeStack-keeps r P n keep (x ∷ xs) l a t = keep (writeStack p xs t) (length xs) x (omega arith) (a .0) ∙ writeStack-keeps r P n keep xs (omega arith) (a .1) t
-
-  pub writeRows-keeps : {B : Type 0} (r : List ℕ → B) (P : A → Type 0) (n : ℕ) → ((t : List ℕ) (j : ℕ) (x : A) → j < n → P x → r (p t j x) ≡ r t)
-      → (xs : List A) (i : ℕ) → i + length xs ≤ n → All P xs → (t : List ℕ) → r (writeRows p xs i t) ≡ r t
-  unfolding writeRows
-  writeRows-keeps r P n keep [] i l a t = refl
-  writeRows-keeps r P n keep (x ∷ xs) i l a t = keep (writeRows p xs (suc i) t) i x (omega arith) (a .0) ∙ writeRows-keeps r P n keep xs (suc i) (omega arith) (a .1) t
 
   -- a list's length, whatever is written
   module _ (long : (t : List ℕ) (j : ℕ) (x : A) → length (p t j x) ≡ length t) where

@@ -1,5 +1,5 @@
 -- Rows of three cells and single cells: written back as they were read with no hypothesis, read back as written where they fit, and every other row stays.
-use mathlib.Core.Path.{_≡_, refl, ap, _∙_}
+use mathlib.Core.Path.{_≡_, refl, sym, ap, _∙_}
 use mathlib.Core.List.{List, [], _∷_, _++_}
 use mathlib.Core.Logic.{_≢_}
 use Prim.Native.Nat.{ℕ, suc, _+_, _*_, _<_, _≤_}
@@ -52,6 +52,14 @@ module _ {A : Type 0} {at : List ℕ → ℕ → A} {put : List ℕ → ℕ → 
   pub rows-copy : (xs : List A) (d : A) (i j : ℕ) (t : List ℕ) → j < length xs → writeRows put (take (suc j) xs) i t
       ≡ put (writeRows put (take j xs) i t) (i + j) (getD xs j d)
   rows-copy xs d i j t l = writeRows-copy put (laws .commute) xs d i j t l
+
+  -- rows written in two parts, the second behind the first
+  pub rows-parts : (xs ys : List A) (i : ℕ) (t : List ℕ) → writeRows put (xs ++ ys) i t ≡ writeRows put ys (i + length xs) (writeRows put xs i t)
+  unfolding writeRows
+  rows-parts [] ys i t = let e : i + 0 ≡ i = omega arith in rw e
+  rows-parts (x ∷ xs) ys i t =
+      let e : i + suc (length xs) ≡ suc i + length xs = omega arith in
+      rows-first x (xs ++ ys) i t ∙ (rows-parts xs ys (suc i) (put t i x) ∙ (λ j. writeRows put ys (sym e j) (sym (rows-first x xs i t) j)))
 
   pub rows-after-last : (t : List ℕ) (n : ℕ) (x : A) → suc n * w ≤ length t → rows (at (put t n x)) (suc n) 0 ≡ rows (at t) n 0 ++ (x ∷ [])
   rows-after-last t n x h =

@@ -1,5 +1,5 @@
 -- What tests on lists mean: what holds of each of a list, and the tests that say so.
-use mathlib.Core.Path.{_≡_, refl}
+use mathlib.Core.Path.{_≡_, refl, sym}
 use mathlib.Core.Bool.{Bool, true, false, false≢true}
 use mathlib.Core.List.{List, [], _∷_, _++_}
 use mathlib.Core.Option.{Option, none, some}
@@ -32,6 +32,12 @@ unfolding every
 true-every [] h = refl
 true-every (true ∷ bs) h = true-every bs (h .1)
 true-every (false ∷ bs) h = absurd (false≢true (h .0))
+
+-- two tests that pass together are one
+pub same-test : (a b : Bool) → (a ≡ true → b ≡ true) → (b ≡ true → a ≡ true) → a ≡ b
+same-test true b f g = sym (f refl)
+same-test false true f g = g refl
+same-test false false f g = refl
 
 -- Tests of each
 

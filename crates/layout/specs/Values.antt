@@ -6,7 +6,7 @@ use mathlib.Core.Logic.{_≢_}
 use Prim.Native.Nat.{ℕ, suc, _+_, _*_, _<_, _≤_}
 use native.Mathlib.Omega.{arith}
 use lib.ListN.{length, getD, set, length-set}
-use lib.Seq.{set-getD, set-comm, getD-set-same, getD-set-other}
+use lib.Seq.{set-getD, getD-set-same, getD-set-other}
 use lib.Dec.{eqb}
 use borrow.Author.Tests.{eqb-true}
 use Rattle.definition.specs.Lists.{rows, writeRows, stack, writeStack}
@@ -190,17 +190,3 @@ module _ (b c : ℕ) where
   -- one of n places set
   pub place-set : (t : List ℕ) (n j : ℕ) (v : Value) → j < n → writeRows putPlace (set (rows (placeAt t) n 0) j v) 0 t ≡ putPlace t j v
   place-set t n j v l = writeRows-replace putPlace placeAt place-same (λ s i k w h. place-other s i k w (λ e. omega arith)) t n j v l
-
--- values side by side are cells side by side
-unfoldable pub valueCells : List Value → List ℕ
-valueCells [] = []
-valueCells (v ∷ vs) = kindOf v ∷ bitsOf v ∷ valueCells vs
-
-pub places-cells : (b c : ℕ) (vs : List Value) (i : ℕ) (t : List ℕ) → writeRows (putPlace b c) vs i t ≡ writeRows set (valueCells vs) (b + (c + 2 * i)) t
-unfolding writeRows valueCells putValue
-places-cells b c [] i t = refl
-places-cells b c (v ∷ vs) i t =
-    let a : ℕ = b + (c + 2 * i) in
-    let e : b + (c + 2 * suc i) ≡ suc (suc (b + (c + 2 * i))) = omega arith in
-    let f : b + (c + 2 * i) + 1 ≡ suc (b + (c + 2 * i)) = omega arith in
-    rw (f, places-cells b c vs (suc i) t, e) (set-comm (writeRows set (valueCells vs) (suc (suc a)) t) a (suc a) (kindOf v) (bitsOf v) (λ q. omega arith))

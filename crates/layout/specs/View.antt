@@ -5,31 +5,23 @@ use mathlib.Core.List.{List, [], _∷_, _++_, map, append-nil}
 use Prim.Native.Nat.{ℕ, zero, suc, _+_, _*_, _<_, _≤_}
 use native.Mathlib.Omega.{arith}
 use lib.ListN.{length, getElem?, getD, set, length-map}
-use lib.Seq.{sets, set-getD}
+use lib.Seq.{set-getD}
 use Rattle.definition.specs.Lists.{rows, writeRows, stack, writeStack}
 use Rattle.definition.specs.Requests.{at}
 use Rattle.definition.specs.Classes.{Base, Class}
 use Rattle.definition.specs.Constraints.{Tie, Subtype}
 use Rattle.definition.specs.Machine.{Value, Frame, Progress, existing}
 use Rattle.definition.specs.Loading.{withClass, withEntry}
-use Rattle.definition.specs.Tables.{Tables, tables, classAt, worldOf, putThree, classRowAt, putClassRow, putEntry, putTie, putSubtype, objectAt, putObject, localAt, putLocal, operandAt, putOperand, frameOf, putFrame, frameBase, frameIn, putFrameIn, classRowsOf, keptOf, tiesOf, viewBase, objectsOf, framesOf, viewOver, countsOf, put}
-use Rattle.definition.specs.Calls.{bootRows, addFile, addEntry, progressed, withFrames}
+use Rattle.definition.specs.Tables.{Tables, tables, classAt, worldOf, putThree, classRowAt, putClassRow, putEntry, putTie, putSubtype, objectAt, putObject, localAt, putLocal, operandAt, putOperand, frameOf, putFrame, frameBase, frameIn, putFrameIn, classRowsOf, keptOf, tiesOf, viewBase, objectsOf, framesOf, viewOver, put}
+use Rattle.definition.specs.Calls.{addFile, addEntry, progressed, withFrames}
 use Rattle.layout.specs.Places.{rows-map, rows-there, rows-past, stack-length, stack-cong, writeStack-above, writeStack-two}
-use Rattle.layout.specs.Rows.{class-rows, entry-rows, cell-rows, cells-sets}
+use Rattle.layout.specs.Rows.{class-rows, entry-rows, cell-rows}
 use Rattle.layout.specs.Values.{Unread, unread-value}
 use Rattle.layout.specs.FrameRows.{moved, frameWith, withValue, frame-kept, frame-above, frame-local, frame-given, frameIn-same, frame-unread, unread-frame}
 pub use Rattle.layout.specs.Fills.{countAt, Fills, classes-fill, kept-fill, objects-fill, object-made, object-set, put-view, FillsTask}
 use Rattle.layout.specs.Fills.{put-fills, fill-more, fill-last, count-set, countsOn, counts-fill, cache-fill, ties-fill, ties-more, subtypes-fill, subtypes-more, frames-fill, quote-fill, report-fill}
 
 -- What the calls put
-
--- boot: the eight counts, class 0 and the one entry
-pub boot-writes : (t : Tables)
-    → put bootRows t
-    ≡ tables (sets (t .counts) 0 (1 ∷ 0 ∷ 1 ∷ 0 ∷ 0 ∷ 0 ∷ 0 ∷ 0 ∷ [])) (putThree (t .classes) 0 0 0 0) (t .kept) (putThree (t .cache) 0 0 2 0) (t .ties)
-    (t .subtypes) (t .objects) (t .frames)
-unfolding put writeRows writeStack countsOf putClassRow putEntry
-boot-writes t = rw (cells-sets (1 ∷ 0 ∷ 1 ∷ 0 ∷ 0 ∷ 0 ∷ 0 ∷ 0 ∷ []) 0 (t .counts))
 
 module _ (b : Base) (t : Tables) where
   -- a task's frames alone

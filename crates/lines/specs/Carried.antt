@@ -1,17 +1,16 @@
 -- What a line of a script leaves: how many bytes it printed or that it can't be read, the tables, and the output table with the bytes at
 -- its front.
-use mathlib.Core.Path.{_≡_, refl, sym, ap, subst, _∙_}
+use mathlib.Core.Path.{_≡_, refl, ap, subst, _∙_}
 use mathlib.Core.Option.{Option, none, some}
 use mathlib.Core.List.{List}
 use Prim.Native.Nat.{ℕ}
-use native.Mathlib.Omega.{arith}
 use lib.ListN.{length, set, getD, take}
 use Rattle.definition.specs.Lists.{writeRows}
 use Rattle.definition.specs.Maybe.{_>>=_}
 use Rattle.definition.specs.declared.Reply.{Reply}
 use Rattle.definition.specs.Answers.{details}
 use Rattle.definition.specs.Tables.{Tables, view}
-use Rattle.definition.specs.Calls.{Call, Done, done, turn, perform}
+use Rattle.definition.specs.Calls.{Call, done, turn, perform}
 use Rattle.definition.specs.Script.{Line, Turned, printedLine, turned, readLine, carryOut}
 use Rattle.script.specs.declared.Details.{Details}
 use Rattle.script.specs.Details.{Detailed, shown, turnIn, turn-is}

@@ -9,10 +9,11 @@ use native.Mathlib.Nat.{pos-of-ne-zero}
 use native.Mathlib.Omega.{arith}
 use native.Mathlib.Numerals.{add-one}
 use lib.ListN.{length, getD, take, drop, drop-of-length-le}
-use lib.Seq.{drop-cons, drop-length, take-append-le, drop-append-le}
+use lib.Seq.{drop-length, take-append-le, drop-append-le}
 use lib.Dec.{eqb, ltb}
 use borrow.Author.Tests.{eq-eqb, ne-eqb, eqb-true, eqb-false, lt-ltb, le-ltb, ltb-true, ltb-false}
 use Rattle.definition.specs.Script.{grow, linesOf}
+use Rattle.script.specs.Parts.{next-byte}
 pub use Rattle.lines.specs.declared.Next.{Next}
 pub use Rattle.lines.specs.declared.Next.the-variants.{Line, NotYet}
 
@@ -56,14 +57,11 @@ line-more b bs e = rw (ne-eqb b 10 e, lineLength)
 
 -- byte by byte
 module _ (s : List ℕ) (i : ℕ) where
-  next-byte : i < length s → drop i s ≡ getD s i 0 ∷ drop (i + 1) s
-  next-byte h = rw (add-one, drop-cons s i 0 h)
-
   pub length-here : i < length s → getD s i 0 ≡ 10 → lineLength (drop i s) ≡ 0
-  length-here h e = rw (next-byte h) (line-end (getD s i 0) (drop (i + 1) s) e)
+  length-here h e = rw (next-byte s i h) (line-end (getD s i 0) (drop (i + 1) s) e)
 
   pub length-later : i < length s → getD s i 0 ≢ 10 → lineLength (drop i s) ≡ suc (lineLength (drop (i + 1) s))
-  length-later h e = rw (next-byte h) (line-more (getD s i 0) (drop (i + 1) s) e)
+  length-later h e = rw (next-byte s i h) (line-more (getD s i 0) (drop (i + 1) s) e)
 
   pub length-end : length s ≤ i → lineLength (drop i s) ≡ 0
   unfolding lineLength

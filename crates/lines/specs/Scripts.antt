@@ -16,7 +16,7 @@ use Rattle.definition.specs.Calls.{turn, perform}
 use Rattle.definition.specs.Script.{Line, Turned, turned, readLine, carryOut, script, linesOf}
 use Rattle.script.specs.Lines.{line-long}
 use Rattle.script.specs.Printing.{line-short}
-use Rattle.lines.specs.Ready.{Cut, cut, firstLine, Kind, whole, long, only, Within, first-none, first-kind, kind-within, lineLength, lines-first, lines-whole, lines-only, length-beyond}
+use Rattle.lines.specs.Ready.{Cut, firstLine, Kind, whole, long, only, Within, first-none, first-kind, kind-within, lineLength, lines-first, lines-whole, lines-only, length-beyond}
 
 -- how many bytes were read, what was printed, the tables, and whether a line couldn't be read
 pub record Carried : Type 0 where

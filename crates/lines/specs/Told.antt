@@ -5,16 +5,17 @@ use mathlib.Core.Option.{Option, none, some}
 use mathlib.Core.List.{List, _++_}
 use Prim.Native.Nat.{ℕ, _+_, _-_, _≤_, _<_}
 use native.Mathlib.Omega.{arith}
-use lib.ListN.{length, set, take, drop, length-append, length-drop}
+use lib.ListN.{length, set, take, drop, length-append, length-drop, length-set}
 use lib.Seq.{drop-drop}
 use Rattle.definition.specs.Lists.{writeRows}
 use Rattle.definition.specs.Tables.{Tables}
 use Rattle.definition.specs.Script.{Turned, carryOut}
 use Rattle.script.specs.Printing.{wrote-both}
+use Rattle.layout.specs.Places.{writeRows-length}
 use Rattle.lines.specs.Carried.{Left, Outcome, Printed, Unreadable, left, printedOn, carriedOn}
 use Rattle.lines.specs.Ready.{Cut, cut, firstLine, Next, Line, NotYet, nextOf, next-some, next-not, first-kind, kind-within}
 use Rattle.lines.specs.Scripts.{Carried, stopped, before, onTurned, carryLines, carry-full, carry-waits, carry-line, turned-short, bounded}
-use Rattle.lines.specs.Windows.{cells-length, partOf, putPart, part-all, put-same, put-part}
+use Rattle.lines.specs.Windows.{partOf, putPart, part-all, put-same, put-part}
 pub use Rattle.lines.specs.declared.Progress.{Progress}
 
 -- what carrying out leaves: how far it came, the tables, and the output table with the printed bytes from a place on
@@ -133,7 +134,7 @@ module _ (last : Bool) (s : List ℕ) (at from : ℕ) (out : List ℕ) (t : Tabl
             let bytes : ys ≡ writeRows set (x .output) 0 (partOf from out) = ap (λ (l : Left). l .output) m in
             let fits : from + length (x .output) ≤ length out = omega (arith, turned-short (take (at + b - at) (drop at s)) t x p) in
             let whole : putPart from out ys ≡ writeRows set (x .output) from out = rw bytes (put-part from out (x .output) fits) in
-            let left-over : length (writeRows set (x .output) from out) - (from + length (x .output)) ≡ length out - from - length (x .output) = omega (arith, cells-length (x .output) from out) in
+            let left-over : length (writeRows set (x .output) from out) - (from + length (x .output)) ≡ length out - from - length (x .output) = omega (arith, writeRows-length set length-set (x .output) from out) in
             rw (line-made (some x) p, whole, size, same, left-over, ← drop-drop k at s) (sym (told-before at from out (cut b k) x _))
 
 -- what is told of an input lies within it and within the output

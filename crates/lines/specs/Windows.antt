@@ -4,12 +4,9 @@ use mathlib.Core.List.{List, [], _++_, append-nil, append-assoc}
 use Prim.Native.Nat.{ℕ, suc, _+_, _-_, _≤_, _<_}
 use native.Mathlib.Omega.{arith}
 use lib.ListN.{length, getD, set, take, drop, length-append, length-take, length-drop, take-append-drop, drop-of-length-le}
-use lib.Seq.{take-all, drop-drop, getD-drop, getD-append-add, length-sets}
+use lib.Seq.{take-all, drop-drop, getD-drop, getD-append-add}
 use Rattle.definition.specs.Lists.{writeRows}
-use Rattle.layout.specs.Cells.{cell-rows, rows-copy, cells-sets, cells-block}
-
-pub cells-length : (xs : List ℕ) (i : ℕ) (t : List ℕ) → length (writeRows set xs i t) ≡ length t
-cells-length xs i t = rw (cells-sets xs i t) (length-sets t i xs)
+use Rattle.layout.specs.Cells.{cell-rows, rows-copy, cells-block}
 
 -- a cell past those written
 past : (xs t : List ℕ) (i : ℕ) → length xs ≤ i → i < length t → getD (writeRows set xs 0 t) i 0 ≡ getD t i 0
@@ -35,10 +32,6 @@ moved-more from i w f h =
     let xs = drop from w in
     let short : length (take (i - from) xs) ≤ i = omega (arith, length-take (i - from) xs) in
     rw (k, rows-copy cell-rows xs 0 0 (i - from) w (omega (arith, length-drop from w)), e, past (take (i - from) xs) w i short h, getD-drop from w (i - from) 0, g)
-
-pub moved-length : (from to : ℕ) (w : List ℕ) → length (moved from to w) ≡ length w
-unfolding moved
-moved-length from to w = cells-length (take (to - from) (drop from w)) 0 w
 
 -- only the bytes that are there count
 pub moved-end : (from to : ℕ) (w : List ℕ) → length w ≤ to → moved from (length w) w ≡ moved from to w

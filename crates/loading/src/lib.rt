@@ -4,45 +4,8 @@ use definition::Refusal;
 use definition::Reply;
 pub use recording::record;
 ghost use mathlib.Core.Path.{_≡_};
-ghost use Rattle.definition.specs.Tables.{tables, shaped};
+ghost use Rattle.definition.specs.Tables.{tables};
 ghost use Rattle.definition.specs.Calls.{done, callBoot, callDrop, perform};
-
-// The tables have the published lengths.
-fn has_lengths(
-    counts: &[u16],
-    classes: &[u16],
-    kept: &[u8],
-    cache: &[u16],
-    ties: &[u16],
-    subtypes: &[u16],
-    objects: &[u32],
-    frames: &[u32],
-) -> bool
-    ensures { λ r. ⌜ r ≡ shaped (tables (now (counts .entry)) (now (classes .entry)) (now (kept .entry)) (now (cache .entry)) (now (ties .entry)) (now (subtypes .entry)) (now (objects .entry)) (now (frames .entry))) ⌝ }
-{
-    if counts.len() != 8 {
-        return false;
-    }
-    if classes.len() != 192 {
-        return false;
-    }
-    if kept.len() != 16384 {
-        return false;
-    }
-    if cache.len() != 768 {
-        return false;
-    }
-    if ties.len() != 768 {
-        return false;
-    }
-    if subtypes.len() != 768 {
-        return false;
-    }
-    if objects.len() != 8448 {
-        return false;
-    }
-    frames.len() == 3328
-}
 
 // Class 0 is Object of loader 0, the cache holds only (0, 2), all other rows are emptied.
 pub fn boot(
@@ -57,7 +20,7 @@ pub fn boot(
 ) -> Reply
     ensures { λ r. ⌜ done r (tables (now (counts .exit)) (now (classes .exit)) (now (kept .entry)) (now (cache .exit)) (now (ties .entry)) (now (subtypes .entry)) (now (objects .entry)) (now (frames .entry))) ≡ perform callBoot (tables (now (counts .entry)) (now (classes .entry)) (now (kept .entry)) (now (cache .entry)) (now (ties .entry)) (now (subtypes .entry)) (now (objects .entry)) (now (frames .entry))) ⌝ }
 {
-    if !has_lengths(
+    if !store::is_shaped(
         counts,
         classes,
         kept,

@@ -1,6 +1,6 @@
 -- Laws that the proofs of the lookups share: one turn of a scan of the cache, of a walk upward, and of a loop that writes.
-use mathlib.Core.Path.{_≡_, refl, sym, ap, _∙_}
-use mathlib.Core.Bool.{Bool, true, false}
+use mathlib.Core.Path.{_≡_, refl, ap, _∙_}
+use mathlib.Core.Bool.{true, false}
 use mathlib.Core.Option.{Option, none, some}
 use mathlib.Core.List.{List, [], _∷_, _++_, map, map-append}
 use Prim.Native.Nat.{ℕ, zero, suc, _+_, _-_, _≤_, _<_}
@@ -12,14 +12,14 @@ use borrow.Author.Tests.{eq-eqb, ne-eqb}
 use Rattle.definition.specs.Lists.{rows, writeRows}
 use Rattle.definition.specs.Requests.{Request, at, sameRequest}
 use Rattle.definition.specs.Classes.{Base, Entry, Field, find, superOf, ownSlots, slots}
-use Rattle.definition.specs.Superclasses.{Falls, nearest, below}
-use Rattle.laws.specs.Slots.{slots-up}
+use Rattle.definition.specs.Superclasses.{Falls, below}
+use Rattle.laws.specs.Slots.{slots-up, slots-none}
 use Rattle.laws.specs.Upward.{nearest-here, nearest-up, nearest-none}
 use Rattle.layout.specs.Places.{rows-length, rows-step, rows-none, rows-last}
 use Rattle.classfile.specs.Reading.{fieldCount, quickFields}
 use Rattle.classfile.specs.Searches.{slotOf}
 use Rattle.resolution.specs.Quick.{quickBase, fileIn, own-quick}
-use Rattle.resolution.specs.Slots.{slotType, fieldType, slots-none, size-none, size-some, own-size, own-within}
+use Rattle.resolution.specs.Slots.{slotType, fieldType, size-none, size-some, own-size, own-within}
 
 -- Two requests: the loaders are compared first
 

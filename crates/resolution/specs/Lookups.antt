@@ -1,20 +1,20 @@
 -- What else the lookups answer: a class's name, a method's code, and tables of superclasses and slots.
 use mathlib.Core.Path.{_≡_, refl, sym, ap, _∙_}
-use mathlib.Core.Bool.{Bool, true, false, false≢true}
+use mathlib.Core.Bool.{true, false, false≢true}
 use mathlib.Core.Logic.{_⊎_, inl, inr}
 use mathlib.Core.Option.{Option, none, some}
-use mathlib.Core.List.{List, [], _∷_, map}
+use mathlib.Core.List.{List, []}
 use Prim.Native.Nat.{ℕ, zero, suc, _+_, _≤_, _<_}
 use native.Mathlib.Nat.{zero-add}
 use native.Mathlib.Numerals.{add-one}
 use native.Mathlib.Omega.{arith}
 use lib.ListN.{length, getD, set, getElem?, length-set, List·getD-eq-default}
 use lib.Seq.{take-all}
-use lib.Dec.{eqb, ltb}
+use lib.Dec.{ltb}
 use borrow.Author.Tests.{lt-ltb, le-ltb, ne-eqb}
 use Rattle.definition.specs.Lists.{any, indexOf, rows, writeRows}
 use Rattle.definition.specs.Instructions.{pick}
-use Rattle.definition.specs.Classes.{Base, Class, Field, Method, lower, superOf, alike, methodsOf, hasMethod}
+use Rattle.definition.specs.Classes.{Base, Class, Method, lower, superOf, alike, methodsOf, hasMethod}
 use Rattle.definition.specs.Superclasses.{nearest}
 use Rattle.definition.specs.Tables.{classRowAt}
 use Rattle.laws.specs.Agreement.{super-falls}

@@ -3,17 +3,16 @@
 use mathlib.Core.Path.{_≡_, refl, sym, ap, _∙_}
 use mathlib.Core.Bool.{Bool, true, false}
 use mathlib.Core.Option.{Option, none, some}
-use mathlib.Core.List.{List, [], _∷_, map}
-use Prim.Native.Nat.{ℕ, zero, suc, _+_, _≤_, _<_}
+use mathlib.Core.List.{List, [], map}
+use Prim.Native.Nat.{ℕ, _≤_, _<_}
 use native.Mathlib.Nat.{zero-add}
-use native.Mathlib.Omega.{arith}
-use lib.ListN.{length, getD, getElem?}
+use lib.ListN.{getD, getElem?}
 use lib.Dec.{eqb, ltb}
 use borrow.Author.Tests.{lt-ltb, le-ltb, ltb-true, ltb-false}
-use Rattle.definition.specs.Lists.{any, indexOf, isSome, rows}
-use Rattle.definition.specs.Requests.{Request, at}
+use Rattle.definition.specs.Lists.{any, isSome, rows}
+use Rattle.definition.specs.Requests.{at}
 use Rattle.definition.specs.Instructions.{pick}
-use Rattle.definition.specs.Classes.{Base, Class, Field, Method, Slot, slotIs, find, lower, superOf, loaderOf, ownSlots, slots, hasField, alike, methodsOf, hasMethod}
+use Rattle.definition.specs.Classes.{Base, Class, slotIs, find, lower, superOf, loaderOf, ownSlots, hasField, alike, methodsOf, hasMethod}
 use Rattle.definition.specs.Tables.{Tables, ClassRow, classRowAt, entryAt}
 use Rattle.laws.specs.Stable.{loader-is}
 use Rattle.layout.specs.Places.{rows-at, rows-past}

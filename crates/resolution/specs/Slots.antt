@@ -1,10 +1,9 @@
 -- An object's fields: how many a class has with the inherited ones, which place a declared field has among them, and a field of a name.
 use mathlib.Core.Path.{_≡_, refl, sym, ap, _∙_}
-use mathlib.Core.Bool.{Bool, true, false, false≢true, _&&_}
+use mathlib.Core.Bool.{Bool, true, false}
 use mathlib.Core.Option.{Option, none, some}
 use mathlib.Core.List.{List, [], _∷_, _++_, map}
 use Prim.Native.Nat.{ℕ, zero, suc, _+_, _≤_, _<_}
-use native.Mathlib.Nat.{zero-add}
 use native.Mathlib.Omega.{arith}
 use lib.ListN.{length, getD, length-append, length-map}
 use lib.Dec.{eqb}
@@ -12,7 +11,7 @@ use borrow.Author.Tests.{ne-eqb}
 use Rattle.definition.specs.Lists.{any, indexOf, rows}
 use Rattle.definition.specs.Classes.{Base, Field, Slot, superOf, ownSlots, slots, slotsIn, slotIs}
 use Rattle.laws.specs.Agreement.{super-falls}
-use Rattle.laws.specs.Slots.{slots-up, slots-own}
+use Rattle.laws.specs.Slots.{slots-up, slots-own, slots-none}
 use Rattle.laws.specs.Tests.{any-right}
 use Rattle.layout.specs.Places.{rows-length}
 use Rattle.classfile.specs.Lists.{shift, index-append}
@@ -51,12 +50,6 @@ any-left f [] ys h = h
 any-left f (x ∷ xs) ys h = let e = any-left f xs ys h in λ i. elim (f x) as (λ _. Bool) [ true ↦ true | false ↦ e i ]
 
 module _ (b : Base) where
-  -- a class with no superclass has its own fields alone
-  pub slots-none : (c : ℕ) → superOf b c ≡ none → slots b c ≡ ownSlots b c
-  unfolding slots slotsIn
-  slots-none zero e = refl
-  slots-none (suc n) e = rw (e, slotsIn)
-
   -- How many
 
   pub inherited-none : (c : ℕ) → superOf b c ≡ none → inheritedIn b c ≡ 0
@@ -68,7 +61,7 @@ module _ (b : Base) where
   inherited-some c p e = rw (e, inheritedIn)
 
   pub size-none : (c : ℕ) → superOf b c ≡ none → length (slots b c) ≡ length (ownSlots b c)
-  size-none c e = ap length (slots-none c e)
+  size-none c e = ap length (slots-none b c e)
 
   pub size-some : (c p : ℕ) → superOf b c ≡ some p → length (slots b c) ≡ length (slots b p) + length (ownSlots b c)
   size-some c p e = ap length (slots-up b c p e) ∙ length-append (slots b p) (ownSlots b c)

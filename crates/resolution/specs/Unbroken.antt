@@ -2,29 +2,29 @@
 use mathlib.Core.Path.{_≡_, refl, sym, ap, _∙_, subst}
 use mathlib.Core.Logic.{⊎-elim}
 use mathlib.Core.Bool.{Bool, true, false}
-use mathlib.Core.Option.{Option, none, some}
-use mathlib.Core.List.{List, [], _∷_, map}
+use mathlib.Core.Option.{some}
+use mathlib.Core.List.{List, [], map}
 use Prim.Native.Nat.{ℕ, zero, suc, _+_, _≤_, _<_}
 use native.Mathlib.Nat.{eq-or-lt-of-le}
 use native.Mathlib.Omega.{arith}
-use lib.ListN.{length, getD, take, drop, getElem?}
+use lib.ListN.{length, getD, take, drop}
 use lib.Seq.{take-all}
 use lib.Dec.{eqb, leb}
 use borrow.Author.Tests.{leb-true, leb-false, ne-eqb}
 use Rattle.definition.specs.Lists.{rows}
 use Rattle.definition.specs.Instructions.{pick, shortAt}
-use Rattle.definition.specs.Classes.{Base, Class}
+use Rattle.definition.specs.Classes.{Base}
 use Rattle.definition.specs.File.{File, readFile, classOf, objectClass}
-use Rattle.definition.specs.Tables.{Tables, ClassRow, classRowAt, entryAt, fileAt, classAt, baseOf, classRowsOf, keptOf, cacheOf, viewBase, viewOver, view, Rows}
+use Rattle.definition.specs.Tables.{Tables, ClassRow, classRowAt, fileAt, classAt, keptOf, cacheOf, viewBase, viewOver, view}
 use Rattle.definition.specs.Broken.{broken}
 use Rattle.layout.specs.Tests.{From}
-use Rattle.layout.specs.Places.{rows-length, rows-at, rows-part, rows-take, rows-map, rows-cong}
+use Rattle.layout.specs.Places.{rows-length, rows-part, rows-take, rows-map, rows-cong}
 use Rattle.layout.specs.Whole.{First, ClassSound, Classes}
-use Rattle.layout.specs.Unbroken.{broken-false, object-class}
+use Rattle.layout.specs.Unbroken.{broken-false}
+use Rattle.layout.specs.ReadBack.{object-class, empty-file}
 use Rattle.classfile.specs.Reading.{className, superName, fieldCount, methodCount, quickFields, quickMethods, quickFile, partOf}
-use Rattle.classfile.specs.Rules.{Readable}
-use Rattle.classfile.specs.Laws.{quick-file, file-readable}
-use Rattle.classfile.specs.Searches.{part-there, part-past, file-part, empty-file}
+use Rattle.classfile.specs.Laws.{quick-file}
+use Rattle.classfile.specs.Searches.{part-there, part-past, file-part}
 use Rattle.resolution.specs.Quick.{quickClass, quickBase, quickOf}
 
 -- the first n bytes

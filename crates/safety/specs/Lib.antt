@@ -6,6 +6,7 @@ pub mod Valid
 pub mod Places
 pub mod Later
 pub mod Operands
+pub mod Returns
 pub mod Steps
 pub mod Loads
 pub mod Safe

@@ -4,7 +4,7 @@ use mathlib.Core.Bool.{Bool, true, false, _&&_}
 use mathlib.Core.Option.{none, some, Option·none-ne-some, Option·some-injective}
 use mathlib.Core.List.{List, [], _∷_, _++_, append-assoc, List·Memᴰ, List·Memᴰ·head, List·Memᴰ·tail, Memᴰ·append-left, Memᴰ·append-right}
 use mathlib.Core.Logic.{_⊎_, inl, inr, _≢_}
-use Prim.Native.Nat.{ℕ, zero, suc, _+_, _<_}
+use Prim.Native.Nat.{ℕ, zero, suc, _<_}
 use lib.ListN.{length, getElem?}
 use lib.Dec.{eqb}
 use borrow.Author.Tests.{eqb-true}
@@ -27,11 +27,6 @@ use Rattle.safety.specs.Valid.{Linked, Verified, rooted}
 use Rattle.definition.specs.Maybe as Maybe
 use Rattle.laws.specs.Growth.{Grows, grows-super, sub-edges-more, tie-edges-more, grows-class, grows-entry, nth-lt}
 use Rattle.laws.specs.Stable.{find-last, find-snoc, has-class, has-is, has-stable, loader-is, loader-stable, nearest-stable, real-super, super-stable}
-
-nth-mem : {A : Type 0} (xs : List A) (i : ℕ) (x : A) → getElem? xs i ≡ some x → List·Memᴰ x xs
-nth-mem [] i x h = absurd (Option·none-ne-some x h)
-nth-mem (y ∷ xs) zero x h = List·Memᴰ·head (sym (Option·some-injective y x h))
-nth-mem (y ∷ xs) (suc i) x h = List·Memᴰ·tail (nth-mem xs i x h)
 
 -- The constraints that a definition adds
 

@@ -28,10 +28,12 @@ use Rattle.laws.specs.Runs.{runs-end}
 use Rattle.laws.specs.Wrapped.{wrapped, Ok, ok-at}
 use Rattle.layout.specs.Tests.{All}
 use Rattle.layout.specs.Whole.{Whole, Framed}
-use Rattle.layout.specs.Unbroken.{Lengths, shaped-true, true-shaped, view-put, true-whole, broken-false, object-class}
+use Rattle.layout.specs.Unbroken.{true-whole, broken-false}
+use Rattle.layout.specs.ReadBack.{Lengths, shaped-true, true-shaped, view-put, object-class}
 use Rattle.unbroken.specs.Steps.{step-moves}
 use Rattle.unbroken.specs.OnRows.{accepted-shaped}
-use Rattle.unbroken.specs.Calls.{ready, start-moves, world-progressed, world-recorded, world-defined, define-whole, record-whole, start-whole, step-whole, drop-whole, boot-whole}
+use Rattle.unbroken.specs.Calls.{world-recorded, world-defined, define-whole, record-whole, start-whole, step-whole, drop-whole, boot-whole}
+use Rattle.unbroken.specs.WholeRows.{ready, start-moves, world-progressed}
 use Rattle.safety.specs.Store.{Store, storeOf, booted}
 use Rattle.safety.specs.Valid.{Stack}
 use Rattle.safety.specs.Later.{Kept}

@@ -1,68 +1,39 @@
 -- A step keeps the invariant, and is never stuck.
 use mathlib.Core.Path.{_≡_, refl, sym, ap}
-use mathlib.Core.Bool.{Bool, true, false}
+use mathlib.Core.Bool.{true}
 use mathlib.Core.Option.{Option, none, some, Option·none-ne-some}
 use mathlib.Core.List.{List, [], _∷_, _++_, map, Memᴰ·append-left, Memᴰ·append-right}
 use mathlib.Core.Logic.{inl, inr, _≢_}
 use Prim.Native.Nat.{ℕ, suc, _+_, _-_, _%_}
 use native.Mathlib.Omega.{arith}
 use lib.ListN.{length, getElem?, set}
-use lib.Dec.{eqb, ltb}
-use borrow.Author.Tests.{eqb-true, eqb-false}
+use lib.Dec.{ltb}
 use Rattle.definition.specs.Answers.{Result, _>>=_, ok, take?}
 use Rattle.definition.specs.declared.Refusal.the-variants.{Word}
 use Rattle.definition.specs.Classes.{Class, Method, hasField, hasMethod, loaderOf, slots, superOf}
 use Rattle.definition.specs.Constraints.{Agrees, Tie, World, newTie, posted}
 use Rattle.definition.specs.Instructions.{Decoded}
-use Rattle.definition.specs.Machine.{Frame, Object, Progress, Value, entryFrame, execute, give, initialValue, int!, intValue, newObject, now, room!, nullValue, objectValue, past, pop!, reference!, step, under! }
+use Rattle.definition.specs.Machine.{Frame, Object, Progress, Value, entryFrame, execute, initialValue, int!, intValue, newObject, now, room!, nullValue, objectValue, past, pop!, reference!, step}
 use Rattle.definition.specs.Requests.{at}
 use Rattle.definition.specs.Superclasses.{Below, nearest, same}
-use Rattle.definition.specs.Verifier.{Flow, Note, VerifierType, asReference, effect, entryTypes, flow, meetClass, meetInt, meets, pop, returns, typeClass, typeInt, typeNull, typeOfName, typesAt}
+use Rattle.definition.specs.Verifier.{Flow, Note, VerifierType, effect, entryTypes, flow, meetClass, meetInt, meets, pop, typeClass, typeInt, typeNull, typeOfName, typesAt}
 use Rattle.definition.specs.declared.Instruction.{Instruction}
 use Rattle.definition.specs.declared.Instruction.the-variants.{AconstNull, Aload, Areturn, Astore, Dup, Getfield, Iadd, Iload, Invokevirtual, Ireturn, Istore, Isub, New, Pop, Putfield, Sipush}
 use Rattle.laws.specs.Agreement.{super-falls}
 use Rattle.laws.specs.Chains.{chain-join, chain-more}
-use Rattle.laws.specs.Options.{bind-some, each-at, each-both, each-more, each-set, nth-last, need-true}
+use Rattle.laws.specs.Options.{bind-some, each-at, each-both, each-more, each-set, nth-last}
 use Rattle.laws.specs.Results.{Wp, not-wanted, not-word, wp-bind, wp-known, wp-need, wp-take, wp-there}
 use Rattle.laws.specs.Upward.{below-trans, nearest-below, nearest-finds}
 use Rattle.safety.specs.Conform.{Tied, fits-own, override, tied-turn}
-use Rattle.safety.specs.Places.{Noted, carry, meet-class, meet-name, of-class, of-int, tie-there}
+use Rattle.safety.specs.Places.{Noted, carry, meet-class, meet-name, tie-there}
 use Rattle.safety.specs.Typing.{Known, known}
 use Rattle.safety.specs.Valid.{Conforms, Heap, Later, Linked, Local, Stack, Top, Under, Verified, later-conforms, later-local, later-ops, later-under}
-use Rattle.definition.specs.Maybe as Maybe
 use Rattle.definition.specs.Lists.{Each}
 use Rattle.laws.specs.Members.{MethodAt, method-at}
 use Rattle.laws.specs.Objects.{changed}
-use Rattle.safety.specs.Operands.{Popped, each-pop, int-of, ref-of, flow-is, as-int, kind-of, wp-room, wp-post, wp-object, FieldAt, field-at, ties2, call-arg, call-res}
+use Rattle.safety.specs.Operands.{Popped, each-pop, int-of, ref-of, flow-is, kind-of, wp-room, wp-post, wp-object, FieldAt, field-at, ties2, call-arg, call-res}
 use Rattle.safety.specs.Later.{ties-more, Kept, later-same, later-posted, heap-posted, linked-posted, later-changed, later-join, heap-changed, later-more, heap-more, zeros-conform, entered-top}
-
--- a result is handed to the frame below, or ends the task
-give-kept : (w : World) (os : List Object) (fs : List Frame) (l r : ℕ) (v : Value) → Linked w → Heap w os → Under w os l r fs → Conforms w os l (typeOfName r) v → Wp (give fs w os v) (Kept w os)
-unfolding give
-give-kept w os [] l r v lk hp un cv =
-    let n = int-of w os l typeInt v {ns = []} (unfold meetInt in refl) (rw (un, of-int) at cv) in
-    wp-known (Kept w os) _ _ (n .1) (record { linked = lk; heap = hp; stack = tt; later = later-same w os })
-give-kept w os (g ∷ gs) l r v lk hp (k, m, wt, ti, un) cv = record {
-  linked = lk;
-  heap = hp;
-  later = later-same w os;
-  stack = (
-    k,
-    m,
-    record {
-      τ = wt .τ;
-      typed = record { isClass = wt .typed .isClass; isMethod = wt .typed .isMethod; types = wt .typed .types };
-      operands = rw (wt .split) (carry w os l (k .loader) r v ti cv, wt .operands);
-      locals = wt .locals;
-    },
-    un,
-  );
-}
-
-wp-under : {B : Type 0} (Q : B → Type 0) (fs : List Frame) (f : Unit {0} → Result B) → Wp (f tt) Q → Wp (under! fs >>= f) Q
-unfolding under! _>>=_
-wp-under Q [] f h = h
-wp-under Q (g ∷ gs) f h = wp-room Q (g .operands) f h
+use Rattle.safety.specs.Returns.{each-ret}
 
 module _ (w : World) (os : List Object) (f : Frame) (fs : List Frame) (k : Class) (m : Method)
     (lk : Linked w) (hp : Heap w os) (tp : Top w os f k m) (un : Under w os (k .loader) (m .result) fs) where
@@ -379,50 +350,6 @@ module _ (w : World) (os : List Object) (f : Frame) (fs : List Frame) (k : Class
     each-ins Ireturn e = absurd (Option·none-ne-some fl (unfold effect in e))
     each-ins Areturn e = absurd (Option·none-ne-some fl (unfold effect in e))
 
-  -- a return
-  module _ (i : Decoded) (made : List Note) (nt : Noted w (k .loader) made) where
-    ret-iret : returns Ireturn (m .result) (tp .τ) ≡ some made → Wp (execute w os f fs k i Ireturn) (Kept w os)
-    unfolding execute returns
-    ret-iret e =
-        let a = bind-some _ _ e in
-        let b = bind-some _ _ (a .2) in
-        let q = each-pop (Conforms w os (k .loader)) (tp .τ .operands) (f .operands) (b .0 .top) (b .0 .more) (b .1) (tp .operands) in
-        let n = int-of w os (k .loader) (b .0 .top) (q .0 .top) (b .2) (q .2) in
-        let z : m .result ≡ 1 = eqb-true (m .result) 1 (need-true (eqb (m .result) 1) (a .1)) in
-        wp-under (Kept w os) fs _ (wp-known (Kept w os) _ _ (q .1) (wp-known (Kept w os) _ _ (n .1) (give-kept w os fs (k .loader) (m .result) (q .0 .top) lk hp un (as-int w os (k .loader) (m .result) (q .0 .top) z (n .2)))))
-
-    ret-aret : returns Areturn (m .result) (tp .τ) ≡ some made → Wp (execute w os f fs k i Areturn) (Kept w os)
-    unfolding execute returns
-    ret-aret e = go (eqb (m .result) 1) refl e
-      where
-        go : (t : Bool) → eqb (m .result) 1 ≡ t → (elim t as (λ _. Option (List Note)) [ true ↦ none | false ↦ Maybe._>>=_ (pop (tp .τ .operands)) (λ p. meetClass (m .result) (p .top)) ]) ≡ some made → Wp (under! fs >>= λ _. pop! (f .operands) >>= λ p. reference! (p .top) >>= λ _. give fs w os (p .top)) (Kept w os)
-        go true q r = absurd (Option·none-ne-some made r)
-        go false q r =
-            let b = bind-some _ _ r in
-            let x = each-pop (Conforms w os (k .loader)) (tp .τ .operands) (f .operands) (b .0 .top) (b .0 .more) (b .1) (tp .operands) in
-            let cv = meet-class w os (k .loader) (m .result) (b .0 .top) (x .0 .top) made (b .2) nt (x .2) in
-            wp-under (Kept w os) fs _ (wp-known (Kept w os) _ _ (x .1) (wp-known (Kept w os) _ _ (ref-of w os (k .loader) (typeClass (m .result)) (x .0 .top) {u = typeClass (m .result)} (unfold asReference in refl) cv)
-            (give-kept w os fs (k .loader) (m .result) (x .0 .top) lk hp un (rw (of-class (m .result) (eqb-false (m .result) 1 q)) cv))))
-
-    each-ret : (j : Instruction) → returns j (m .result) (tp .τ) ≡ some made → Wp (execute w os f fs k i j) (Kept w os)
-    unfolding returns
-    each-ret AconstNull e = absurd (Option·none-ne-some made e)
-    each-ret (Sipush n) e = absurd (Option·none-ne-some made e)
-    each-ret (Iload n) e = absurd (Option·none-ne-some made e)
-    each-ret (Aload n) e = absurd (Option·none-ne-some made e)
-    each-ret (Istore n) e = absurd (Option·none-ne-some made e)
-    each-ret (Astore n) e = absurd (Option·none-ne-some made e)
-    each-ret Pop e = absurd (Option·none-ne-some made e)
-    each-ret Dup e = absurd (Option·none-ne-some made e)
-    each-ret Iadd e = absurd (Option·none-ne-some made e)
-    each-ret Isub e = absurd (Option·none-ne-some made e)
-    each-ret (Getfield c n t) e = absurd (Option·none-ne-some made e)
-    each-ret (Putfield c n t) e = absurd (Option·none-ne-some made e)
-    each-ret (Invokevirtual c n t r) e = absurd (Option·none-ne-some made e)
-    each-ret (New c) e = absurd (Option·none-ne-some made e)
-    each-ret Ireturn e = ret-iret e
-    each-ret Areturn e = ret-aret e
-
   one : Wp (step w os f fs) (Kept w os)
   unfolding step now Q
   one =
@@ -433,7 +360,7 @@ module _ (w : World) (os : List Object) (f : Frame) (fs : List Frame) (k : Class
     where
       go : (ve : Verified w k m) (kn : Known (m .code) (m .result) (length (m .code)) 0 (entryTypes k m) (ve .notes) (f .point) (tp .τ)) → Wp (execute w os f fs k (kn .at) (kn .at .instruction)) (Kept w os)
       go ve kn = elim (kn .way) [
-        | inl a ↦ each-ret (kn .at) (a .1 .made) (λ n x. ve .posted n (a .1 .posted n x)) (kn .at .instruction) (a .1 .does)
+        | inl a ↦ each-ret w os f fs k m lk hp tp un (kn .at) (a .1 .made) (λ n x. ve .posted n (a .1 .posted n x)) (kn .at .instruction) (a .1 .does)
         | inr a ↦ each-ins (kn .at) (a .1 .flows) (a .1 .next) (λ n x. ve .posted n (a .1 .posted n x)) (kn .at .instruction) (a .1 .does)
       ]
 

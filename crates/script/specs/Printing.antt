@@ -14,7 +14,7 @@ use borrow.Author.Tests.{lt-ltb, le-ltb}
 use Rattle.definition.specs.Lists.{writeRows}
 use Rattle.definition.specs.Answers.{Details, signed, line}
 use Rattle.definition.specs.Script.{printed, printedInt, printedLine}
-use Rattle.layout.specs.Cells.{cell-rows, rows-first}
+use Rattle.layout.specs.Cells.{cell-rows, rows-parts}
 
 -- the line of a letter, a refusal's number and three details, the last of them an int
 unfoldable pub lineOf : ℕ → ℕ → ℕ → ℕ → ℕ → List ℕ
@@ -32,17 +32,10 @@ pub record Wrote (bs : List ℕ) (at next : ℕ) (before after : List ℕ) : Typ
 
 -- Laws
 
-writeRows-both : (xs ys : List ℕ) (i : ℕ) (t : List ℕ) → writeRows set (xs ++ ys) i t ≡ writeRows set ys (i + length xs) (writeRows set xs i t)
-unfolding writeRows
-writeRows-both [] ys i t = let e : i + 0 ≡ i = omega arith in rw e
-writeRows-both (x ∷ xs) ys i t =
-    let e : i + suc (length xs) ≡ suc i + length xs = omega arith in
-    rows-first cell-rows x (xs ++ ys) i t ∙ writeRows-both xs ys (suc i) (set t i x) ∙ rw (e, rows-first cell-rows x xs i t)
-
 pub wrote-both : (xs ys : List ℕ) (i j k : ℕ) (t u v : List ℕ) → Wrote xs i j t u → Wrote ys j k u v → Wrote (xs ++ ys) i k t v
 wrote-both xs ys i j k t u v p q = record {
   place = omega (arith, p .place, q .place, length-append xs ys);
-  table = q .table ∙ rw (p .place, p .table) (sym (writeRows-both xs ys i t));
+  table = q .table ∙ rw (p .place, p .table) (sym (rows-parts cell-rows xs ys i t));
 }
 
 pub wrote-byte : (x i : ℕ) (t u : List ℕ) → u ≡ set t i x → Wrote (x ∷ []) i (i + 1) t u

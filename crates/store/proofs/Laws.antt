@@ -8,17 +8,17 @@ use native.Mathlib.Omega.{arith}
 use lib.ListN.{length, getD, set}
 use lib.Seq.{getD-set-same, getD-set-other}
 use lib.Dec.{eqb, leb, ltb}
-use borrow.Author.Tests.{eq-eqb, ne-eqb, le-ltb, le-leb, lt-leb, leb-true, eqb-true, eqb-false}
+use borrow.Author.Tests.{ne-eqb, le-ltb, le-leb, lt-leb, leb-true, eqb-true, eqb-false}
 use Rattle.definition.specs.Lists.{every, all, isSome, rows, stack}
 use Rattle.definition.specs.Instructions.{pick}
-use Rattle.definition.specs.Classes.{Base, superOf, slots}
+use Rattle.definition.specs.Classes.{Base, superOf}
 use Rattle.definition.specs.Machine.{Value, unsetValue, intValue, nullValue, objectValue, unlistedValue}
 use Rattle.definition.specs.Tables.{ClassRow, sizeOf, valueOf, classRowAt, usedFields, objectAt, localAt, operandAt, frameOf, frameAt}
 use Rattle.definition.specs.Broken.{isObject}
 use Rattle.laws.specs.Agreement.{super-falls}
 use Rattle.layout.specs.Tests.{every-true}
 use Rattle.layout.specs.Places.{stack-length}
-use Rattle.classfile.specs.Lists.{every-first, every-fails}
+use Rattle.classfile.specs.Lists.{every-first, every-fails, every-last}
 use Rattle.classfile.specs.Reading.{fieldCount}
 use Rattle.resolution.specs.Quick.{quickBase, fileIn, file-there, file-past, either}
 use Rattle.resolution.specs.Slots.{size-none, size-some, own-size}
@@ -27,13 +27,6 @@ use Rattle.store.specs.declared.Fields.{Fields}
 use Rattle.store.specs.declared.Fields.the-variants.{Count, Unfit}
 use Rattle.store.specs.Checks.{fileFits, sourcesFit, linked, linkedSize, Sized, objectSized, valueIn, localIn, objectIn, frameFit}
 use Rattle.store.specs.Same.{sources-first}
-
--- Joined tests
-
-pub every-last : (t : Bool) → every (t ∷ []) ≡ t
-unfolding every
-every-last true = refl
-every-last false = refl
 
 -- A value's cells
 

@@ -4,7 +4,7 @@ use mathlib.Core.Bool.{Bool, true, false}
 use mathlib.Core.List.{List, [], _∷_}
 use Prim.Native.Nat.{ℕ, _+_, _*_, _-_, _<_, _≤_}
 use lib.ListN.{length, getD}
-use lib.Dec.{eqb, leb, ltb}
+use lib.Dec.{leb, ltb}
 use mathlib.Core.Path.{_≡_}
 use Rattle.definition.specs.Lists.{every, all, isSome, rows, stack}
 use Rattle.definition.specs.Classes.{Base, superOf}

@@ -1,29 +1,27 @@
 -- The tests of Checks say the same as word 1. Once every class's file reads, what is read at once is what the definition reads, so the tests after it
 -- may go by it.
 use mathlib.Core.Path.{_≡_, refl, sym, ap, _∙_}
-use mathlib.Core.Bool.{Bool, true, false, not}
-use mathlib.Core.Option.{Option, none, some}
-use mathlib.Core.List.{List, [], _∷_}
+use mathlib.Core.Bool.{Bool, true, not}
+use mathlib.Core.List.{List}
 use Prim.Native.Nat.{ℕ, zero, suc, _+_, _-_, _<_, _≤_}
 use native.Mathlib.Omega.{arith}
 use lib.ListN.{length, getD}
-use lib.Dec.{eqb, leb, ltb}
+use lib.Dec.{ltb}
 use borrow.Author.Tests.{ltb-true, lt-ltb, leb-true, le-leb, eqb-true, eq-eqb}
-use Rattle.definition.specs.Lists.{every, all, isSome, rows, stack}
+use Rattle.definition.specs.Lists.{all, isSome, rows}
 use Rattle.definition.specs.Classes.{Base, superOf}
 use Rattle.definition.specs.Machine.{Value, unsetValue, intValue, nullValue, objectValue, unlistedValue, Object, Frame, existing}
-use Rattle.definition.specs.File.{File, readFile}
-use Rattle.definition.specs.Tables.{Tables, shaped, ClassRow, fileAt, sizeOf, classRowAt, objectAt, frameIn, classRowsOf, keptOf, cacheOf, viewBase, objectsOf, framesOf, viewOver, view}
-use Rattle.definition.specs.Broken.{within, isObject, classesFit, entryFits, valueFits, localFits, objectFits, frameFits, sound, whole, broken}
-use Rattle.layout.specs.Tests.{All, From, every-true, true-every, all-all, all-test, is-some, some-is}
-use Rattle.layout.specs.Places.{rows-length, stack-length, all-rows, rows-all}
+use Rattle.definition.specs.File.{readFile}
+use Rattle.definition.specs.Tables.{Tables, shaped, ClassRow, sizeOf, classRowAt, objectAt, classRowsOf, keptOf, cacheOf, viewBase, objectsOf, framesOf, viewOver, view}
+use Rattle.definition.specs.Broken.{within, isObject, entryFits, valueFits, localFits, objectFits, frameFits, sound, whole, broken}
+use Rattle.layout.specs.Tests.{From, every-true, true-every, all-all, all-test, is-some, some-is, same-test}
+use Rattle.layout.specs.Places.{rows-length, all-rows, rows-all}
 use Rattle.layout.specs.Whole.{First, ClassSound, Classes, fits-classes, classes-fit, existing-some, some-existing}
-use Rattle.layout.specs.Unbroken.{Lengths, Counts, shaped-true, within-true}
-use Rattle.classfile.specs.Lists.{same-test}
+use Rattle.layout.specs.Unbroken.{within-true}
+use Rattle.layout.specs.ReadBack.{shaped-true}
 use Rattle.classfile.specs.Reading.{quickFile, partOf}
 use Rattle.classfile.specs.Laws.{reads-some}
 use Rattle.classfile.specs.Searches.{file-part}
-use Rattle.resolution.specs.Quick.{quickOf}
 use Rattle.resolution.specs.Unbroken.{Sources, part-same, part-within, part-reads, quick-view, row-first, row-other}
 use Rattle.store.specs.Checks.{fileFits, sourcesFit, linked, linksFit, number, valueIn, localIn, objectIn, frameFit, rowsFit, objectsFit, framesFit, valuesFit, checks}
 

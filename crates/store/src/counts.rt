@@ -5,7 +5,8 @@ ghost use lib.Dec.{leb};
 ghost use Rattle.definition.specs.Tables.{tables, shaped};
 ghost use Rattle.definition.specs.Broken.{within};
 
-pub(crate) fn is_shaped(
+// The tables have the published lengths.
+pub fn is_shaped(
     counts: &[u16],
     classes: &[u16],
     kept: &[u8],

@@ -6,6 +6,7 @@ mod values; // values.rt: values of objects' fields and of frames
 mod brokenness; // brokenness.rt: superclasses, and whether a store is broken
 
 pub use brokenness::is_broken;
+pub use counts::is_shaped;
 
 // The number of fields of a class that has a superclass and at most 16 fields.
 pub enum Fields {

@@ -1,6 +1,6 @@
 -- The publishers' desk says what a define would: its 2 or 6 is the word that a define of those bytes gives on a store that isn't broken, by any loader;
 -- where it says 0, no define of them is refused with 2 or 6.
-use mathlib.Core.Path.{_≡_, refl, sym, ap, _∙_}
+use mathlib.Core.Path.{_≡_, refl, ap, _∙_}
 use mathlib.Core.Bool.{true, false, false≢true, not}
 use mathlib.Core.Option.{Option, none, some}
 use mathlib.Core.List.{List, [], _∷_, _++_}
@@ -14,7 +14,7 @@ use Rattle.definition.specs.Answers.{numberOf}
 use Rattle.definition.specs.Classes.{Method}
 use Rattle.definition.specs.Verifier.{Note, notesOf, notesOfMethod}
 use Rattle.definition.specs.File.{File, readFile, classOf}
-use Rattle.definition.specs.Tables.{Tables, view}
+use Rattle.definition.specs.Tables.{Tables}
 use Rattle.definition.specs.Broken.{broken}
 use Rattle.definition.specs.Calls.{callDefine, perform}
 use Rattle.definition.specs.Desk.{verifierNumber, deskNumber}

@@ -26,7 +26,7 @@ use Rattle.laws.specs.Wrapped.{wrap-broken, wrap-carried, Ok}
 use Rattle.layout.specs.Tests.{All}
 use Rattle.layout.specs.Whole.{Whole}
 use Rattle.layout.specs.Unbroken.{broken-false}
-use Rattle.unbroken.specs.Calls.{ready}
+use Rattle.unbroken.specs.WholeRows.{ready}
 use Rattle.unbroken.specs.Refusing.{numberIn, number-on, first-skip, define-first, record-first, start-first, drop-first}
 use Rattle.unbroken.specs.RefusingSteps.{step-first}
 

@@ -2,6 +2,7 @@
 pub mod Steps
 pub mod Progress
 pub mod Accepted
+pub mod WholeRows
 pub mod Calls
 pub mod Refusing
 pub mod RefusingSteps

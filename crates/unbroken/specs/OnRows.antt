@@ -18,7 +18,8 @@ use Rattle.definition.specs.Calls.{Given, bootRows, defineRows, recordRows, sta
 use Rattle.laws.specs.Wrapped.{wrapped, ok-at}
 use Rattle.layout.specs.Whole.{Whole}
 use Rattle.layout.specs.View.{put-view}
-use Rattle.layout.specs.Unbroken.{Lengths, shaped-true, true-shaped, view-put, true-whole, broken-false}
+use Rattle.layout.specs.Unbroken.{true-whole, broken-false}
+use Rattle.layout.specs.ReadBack.{Lengths, shaped-true, true-shaped, view-put}
 use Rattle.unbroken.specs.Calls.{define-whole, record-whole, start-whole, step-whole, drop-whole, boot-whole}
 use Rattle.unbroken.specs.Unbroken.{Keeps}
 use Rattle.definition.specs.OnRows.{givenRows, settle, onRows, goOnRows, runRows, performRows, performAllRows}

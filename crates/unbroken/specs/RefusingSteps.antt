@@ -27,7 +27,7 @@ use Rattle.laws.specs.Upward.{nearest-below, below-true, below-trans}
 use Rattle.laws.specs.Causes.{Cause, cause, first, isSomeAnd, anInt, aNull, aReference, ofKind, isEmpty, noRoom, noRoomBelow, receives, selects, fieldTies, methodTies, plainly, accessing, reading, readCauses, frameCauses, instructionCauses}
 use Rattle.layout.specs.Whole.{ObjectSound}
 use Rattle.unbroken.specs.Steps.{Ready, all-nth}
-use Rattle.unbroken.specs.Calls.{nth-there}
+use Rattle.unbroken.specs.WholeRows.{nth-there}
 use Rattle.unbroken.specs.Refusing.{numberIn, first-need, first-take, first-skip, number-ok, number-there}
 
 -- Two causes of one word, and the causes of an instruction that names no class

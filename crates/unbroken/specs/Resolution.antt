@@ -26,7 +26,8 @@ use Rattle.laws.specs.Wrapped.{Ok, ok-at, then}
 use Rattle.layout.specs.Tests.{All}
 use Rattle.layout.specs.Whole.{Whole}
 use Rattle.unbroken.specs.Accepted.{Entered, Stood, recorded-is, defined-is}
-use Rattle.unbroken.specs.Calls.{ready, world-recorded, world-defined, define-whole, record-whole, start-whole, step-whole, drop-whole}
+use Rattle.unbroken.specs.Calls.{world-recorded, world-defined, define-whole, record-whole, start-whole, step-whole, drop-whole}
+use Rattle.unbroken.specs.WholeRows.{ready}
 use Rattle.unbroken.specs.Unbroken.{Keeps, shown}
 use Rattle.unbroken.specs.Lasting.{IsBoot}
 

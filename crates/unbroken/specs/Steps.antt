@@ -3,7 +3,7 @@ use mathlib.Core.Path.{_≡_, refl, sym, ap, _∙_}
 use mathlib.Core.Bool.{Bool, true, false, _||_}
 use mathlib.Core.Option.{Option, none, some, Option·none-ne-some, Option·some-injective}
 use mathlib.Core.List.{List, [], _∷_, _++_, map}
-use Prim.Native.Nat.{ℕ, zero, suc, _+_, _-_, _≤_, _<_}
+use Prim.Native.Nat.{ℕ, zero, suc, _≤_, _<_}
 use native.Mathlib.Omega.{arith}
 use lib.ListN.{length, getElem?, set, length-append, length-set, length-map}
 use lib.Dec.{eqb, leb, ltb}
@@ -78,7 +78,7 @@ all-nth P [] h i x e = absurd (Option·none-ne-some x e)
 all-nth P (y ∷ xs) h zero x e = rw (Option·some-injective y x e) at (h .0)
 all-nth P (y ∷ xs) h (suc i) x e = all-nth P xs (h .1) i x e
 
-all-set : {A : Type 0} (P : A → Type 0) (xs : List A) → All P xs → (i : ℕ) (y : A) → P y → All P (set xs i y)
+pub all-set : {A : Type 0} (P : A → Type 0) (xs : List A) → All P xs → (i : ℕ) (y : A) → P y → All P (set xs i y)
 all-set P [] h i y p = tt
 all-set P (x ∷ xs) h zero y p = (p, h .1)
 all-set P (x ∷ xs) h (suc i) y p = (h .0, all-set P xs (h .1) i y p)

@@ -12,7 +12,8 @@ use Rattle.definition.specs.Calls.{Given, bootRows, defineRows, recordRows, sta
 use Rattle.laws.specs.Runs.{run-keeps}
 use Rattle.laws.specs.Wrapped.{wrapped, Ok, ok-at}
 use Rattle.layout.specs.Whole.{Whole}
-use Rattle.layout.specs.Unbroken.{shaped-true, true-shaped, view-put, true-whole, broken-false}
+use Rattle.layout.specs.Unbroken.{true-whole, broken-false}
+use Rattle.layout.specs.ReadBack.{shaped-true, true-shaped, view-put}
 use Rattle.unbroken.specs.Calls.{define-whole, record-whole, start-whole, step-whole, drop-whole, boot-whole}
 
 -- a call that keeps whole rows whole

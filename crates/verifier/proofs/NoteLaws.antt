@@ -1,15 +1,13 @@
 -- The table of notes: rows are written in any order, keep the table's length, and are read back.
 use mathlib.Core.Path.{_≡_, sym, ap, _∙_}
-use mathlib.Core.List.{List, [], _∷_, _++_}
+use mathlib.Core.List.{List, _++_}
 use mathlib.Core.Logic.{_≢_}
-use Prim.Native.Nat.{ℕ, suc, _+_, _*_, _≤_}
+use Prim.Native.Nat.{ℕ, _+_, _*_, _≤_}
 use native.Mathlib.Omega.{arith}
 use lib.ListN.{length, set, length-set, length-append}
 use lib.Seq.{set-comm, set-out, set-getD, getD-set-same, getD-set-other}
-use Rattle.definition.specs.Lists.{writeRows}
 use Rattle.definition.specs.Verifier.{Note}
-use Rattle.layout.specs.Places.{writeRows-length}
-use Rattle.layout.specs.Cells.{RowLaws, rows-first}
+use Rattle.layout.specs.Cells.{RowLaws, rows-parts}
 use Rattle.verifier.specs.declared.effects.Meeting.{Meeting}
 use Rattle.verifier.specs.declared.effects.Meeting.the-variants.{Unmet, Met, Noted}
 use Rattle.verifier.specs.Trace.{made, putNote, noteAt, Wrote}
@@ -56,19 +54,6 @@ note-rows = record {
   commute = λ t i j x y l. note-either t i j x y (λ q. omega arith);
 }
 
--- notes are written in two parts
-pub notes-append : (xs ys : List Note) (i : ℕ) (t : List ℕ) → writeRows putNote (xs ++ ys) i t ≡ writeRows putNote ys (i + length xs) (writeRows putNote xs i t)
-unfolding writeRows
-notes-append [] ys i t = let e : i + 0 ≡ i = omega arith in rw e
-notes-append (x ∷ xs) ys i t =
-    let e : i + suc (length xs) ≡ suc i + length xs = omega arith in
-    rw e
-    (rows-first note-rows x (xs ++ ys) i t
-    ∙ (notes-append xs ys (suc i) (putNote t i x) ∙ ap (λ u. writeRows putNote ys (suc i + length xs) u) (sym (rows-first note-rows x xs i t))))
-
-pub notes-length : (xs : List Note) (i : ℕ) (t : List ℕ) → length (writeRows putNote xs i t) ≡ length t
-notes-length xs i t = writeRows-length putNote note-length xs i t
-
 -- What a meeting writes
 
 pub made-few : (m : Meeting) → length (made m) ≤ 1
@@ -83,7 +68,7 @@ wrote-both xs ys from i n m t u v w x = record {
   count = omega (arith, w .count, x .count, length-append xs ys);
   table =
       let e : from + (i + n) ≡ from + i + length xs = omega (arith, w .count) in
-      x .table ∙ (rw (e, w .table) (sym (notes-append xs ys (from + i) t)));
+      x .table ∙ (rw (e, w .table) (sym (rows-parts note-rows xs ys (from + i) t)));
 }
 
 pub wrote-few : (a b : Meeting) (i n : ℕ) (t u : List ℕ) → Wrote (made a ++ made b) i t u n → n ≤ 2

@@ -12,6 +12,7 @@ use Rattle.definition.specs.Lists.{writeRows}
 use Rattle.definition.specs.Maybe.{_>>=_, need}
 use Rattle.definition.specs.Classes.{Class, Method}
 use Rattle.definition.specs.Verifier.{Note, TypeState, Flow, effect, returns, isReturn, verify, entryTypes, notesOfMethod}
+use Rattle.layout.specs.Cells.{rows-parts}
 use Rattle.verifier.specs.declared.turns.Turn.{Turn}
 use Rattle.verifier.specs.declared.turns.Step.the-variants.{Stop, End, Next}
 use Rattle.verifier.specs.declared.methods.Verified.{Verified}
@@ -19,7 +20,7 @@ use Rattle.verifier.specs.declared.methods.Verified.the-variants.{Notes,
 use Rattle.verifier.specs.Types.{typesOf, entryOf}
 use Rattle.verifier.specs.Effects.{going, ending, outcome}
 use Rattle.verifier.specs.Trace.{Turned, halted, settle, turnedBy, turned, Trace, after, onward, trace, made, nextOf, turnOf, putNote, Wrote, Verification, verification, recorded, methodTrace, verified, acceptedNotes, granted}
-use Rattle.verifier.proofs.NoteLaws.{notes-append}
+use Rattle.verifier.proofs.NoteLaws.{note-rows}
 
 -- The verifier says what the walk says
 
@@ -90,7 +91,7 @@ unfolding recorded after
 recorded-after from c ns w t =
     let e : from + (c + length ns) ≡ from + c + length ns = omega arith in
     let f : c + length (ns ++ w .notes) ≡ c + length ns + length (w .notes) = omega (arith, length-append ns (w .notes)) in
-    rw (e, f, notes-append ns (w .notes) (from + c) t)
+    rw (e, f, rows-parts note-rows ns (w .notes) (from + c) t)
 
 pub out-of-turns : (code : List ℕ) (result left p i c : ℕ) (s : TypeState) (t : List ℕ) → left ≤ 0 → recorded i c (trace code result left p s) t ≡ verification Rejected t
 unfolding recorded trace pick writeRows

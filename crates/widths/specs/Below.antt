@@ -16,11 +16,6 @@ pub all-map : {A B : Type 0} (P : B → Type 0) (f : A → B) → ((x : A) → P
 all-map P f h [] = tt
 all-map P f h (x ∷ xs) = (h x, all-map P f h xs)
 
-pub all-set : {A : Type 0} (P : A → Type 0) (xs : List A) (i : ℕ) (y : A) → All P xs → P y → All P (set xs i y)
-all-set P [] i y h p = tt
-all-set P (x ∷ xs) zero y h p = (p, h .1)
-all-set P (x ∷ xs) (suc i) y h p = (h .0, all-set P xs i y (h .1) p)
-
 -- what holds of each with its place, with the place forgotten
 pub from-all : {A : Type 0} (P : ℕ → A → Type 0) (Q : A → Type 0) → ((c : ℕ) (x : A) → P c x → Q x) → (c : ℕ) (xs : List A) → From P c xs → All Q xs
 from-all P Q f c [] h = tt

@@ -13,7 +13,7 @@ use Rattle.definition.specs.Instructions.{Decoded}
 use Rattle.definition.specs.Verifier.{VerifierType, typeInt, typeNull, typeClass, Note, TypeState, Flow, typeOfName, entryTypes, meetClass, meetInt, meets, pop, flow, effect, returns, isReturn, verify, notesOf}
 use Rattle.definition.specs.Widths.{EachBelow}
 use Rattle.layout.specs.Tests.{All, all-both}
-use Rattle.widths.specs.Below.{all-set}
+use Rattle.unbroken.specs.Steps.{all-set}
 use Rattle.widths.specs.Files.{Read, read-on, read-past, read-need, read-nth, InstructionFits, DecodedFits, decode-fits, MethodFits}
 
 -- a class name has 16 bits
@@ -92,9 +92,9 @@ module _ (s : TypeState) (h : StateFits s) where
       read-on LocalFits FlowFits _ _ (read-nth LocalFits (s .locals) i (h .locals)) (λ x hx. read-on TypeFits FlowFits x _ hx (λ t ht. read-past FlowFits _ _ (λ _.
       flows (t ∷ s .operands) (s .locals) [] (ht, h .operands) (h .locals) tt)))
   effect-fits (Istore i) f = read-on Popped FlowFits _ _ (popped (s .operands) (h .operands)) (λ p hp. read-past FlowFits _ _ (λ _. read-past FlowFits _ _ (λ _.
-      flows (p .more) (set (s .locals) i (some (p .top))) [] (hp .1) (all-set LocalFits (s .locals) i (some (p .top)) (h .locals) (hp .0)) tt)))
+      flows (p .more) (set (s .locals) i (some (p .top))) [] (hp .1) (all-set LocalFits (s .locals) (h .locals) i (some (p .top)) (hp .0)) tt)))
   effect-fits (Astore i) f = read-on Popped FlowFits _ _ (popped (s .operands) (h .operands)) (λ p hp. read-past FlowFits _ _ (λ _. read-past FlowFits _ _ (λ _.
-      flows (p .more) (set (s .locals) i (some (p .top))) [] (hp .1) (all-set LocalFits (s .locals) i (some (p .top)) (h .locals) (hp .0)) tt)))
+      flows (p .more) (set (s .locals) i (some (p .top))) [] (hp .1) (all-set LocalFits (s .locals) (h .locals) i (some (p .top)) (hp .0)) tt)))
   effect-fits Pop f = read-on Popped FlowFits _ _ (popped (s .operands) (h .operands)) (λ p hp. flows (p .more) (s .locals) [] (hp .1) (h .locals) tt)
   effect-fits Dup f = read-on Popped FlowFits _ _ (popped (s .operands) (h .operands)) (λ p hp. flows (p .top ∷ p .top ∷ p .more) (s .locals) [] (hp .0, hp) (h .locals) tt)
   effect-fits Iadd f = read-on Popped FlowFits _ _ (popped (s .operands) (h .operands)) (λ p hp. read-on Popped FlowFits _ _ (popped (p .more) (hp .1)) (λ q hq.

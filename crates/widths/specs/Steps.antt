@@ -20,7 +20,8 @@ use Rattle.definition.specs.Verifier.{pop}
 use Rattle.definition.specs.Machine.{Value, unsetValue, intValue, nullValue, objectValue, unlistedValue, Object, Frame, existing, initialValue, newObject, entryFrame, pop!, object!, Progress, Now, now, past, give, execute, step}
 use Rattle.laws.specs.Wrapped.{Ok, then}
 use Rattle.layout.specs.Tests.{All, all-both}
-use Rattle.widths.specs.Below.{all-map, all-set}
+use Rattle.unbroken.specs.Steps.{all-set}
+use Rattle.widths.specs.Below.{all-map}
 use Rattle.widths.specs.Fits.{IntFits, TieFits, ObjectFits, FrameFits}
 use Rattle.widths.specs.Files.{Read, read-nth, InstructionFits, DecodedFits, decode-fits, MethodFits, ClassFits, methods-of-fit}
 
@@ -150,7 +151,7 @@ module _ (w : World) (os : List Object) (classes : All ClassFits (w .base .class
 
     stored : (j : ℕ) (p : record { top : Value; more : List Value }) → Popped p
         → Q (record { world = w; objects = os; frames = past f i (p .more) (set (f .locals) j (p .top)) ∷ fs; result = none })
-    stored j p h = frame-only (p .more) (set (f .locals) j (p .top)) (h .1) (all-set IntFits (f .locals) j (p .top) (top .locals) (h .0))
+    stored j p h = frame-only (p .more) (set (f .locals) j (p .top)) (h .1) (all-set IntFits (f .locals) (top .locals) j (p .top) (h .0))
 
     -- two operands popped, whatever follows
     two-popped : (g : (p q : record { top : Value; more : List Value }) → Result Progress)
@@ -191,7 +192,7 @@ module _ (w : World) (os : List Object) (classes : All ClassFits (w .base .class
         then-on Held Q _ _ (object-fits (w .base) os e (q .top) objects) (λ o held. then Q _ _ (λ j _.
         record {
           ties = tied;
-          objects = all-set ObjectFits os (o .number) _ objects (all-set IntFits (o .object .values) j (p .top) held (hp .0));
+          objects = all-set ObjectFits os objects (o .number) _ (all-set IntFits (o .object .values) held j (p .top) (hp .0));
           frames = (moved (q .more) (f .locals) (hq .1) (top .locals), rest);
         })))))))
     execute-fits (Invokevirtual c n t r) x = then Q _ _ (λ e _. then Q _ _ (λ d _.

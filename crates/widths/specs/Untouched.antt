@@ -18,7 +18,7 @@ use Rattle.layout.specs.Values.{putValue-cell}
 use Rattle.layout.specs.ObjectRows.{putObject-length}
 use Rattle.layout.specs.FrameRows.{putFrame-length}
 use Rattle.layout.specs.Whole.{Framed, Whole}
-use Rattle.layout.specs.Unbroken.{size-small}
+use Rattle.layout.specs.ReadBack.{size-small}
 use Rattle.unbroken.specs.Steps.{all-nth}
 
 -- Cells that a row holds

@@ -3,10 +3,11 @@ use mathlib.Core.Path.{_≡_, refl, ap, _∙_}
 use Prim.Native.Nat.{_-_, _≤_}
 use native.Mathlib.Omega.{arith}
 use denote.Ref.{now}
-use lib.ListN.{length, take, set}
+use lib.ListN.{length, take, set, length-set}
 use lib.Seq.{take-length}
 use Rattle.definition.specs.Lists.{writeRows}
-use Rattle.entries.proofs.Laws.{cells-copied, cells-length}
+use Rattle.layout.specs.Places.{writeRows-length}
+use Rattle.entries.proofs.Laws.{cells-copied}
 use borrow.Author.Needs.{needs}
 use Rattle.entries.proofs.write_cells.Statement.{statement}
 use Rattle.entries.proofs.write_cells.Tie as tie
@@ -25,7 +26,7 @@ loop-again : tie.Need-loop-again Inv-loop μ-loop
 loop-again c = (omega arith, c .before .before .before .before .before .before .loop .inv .1, cells-copied (now (c .before .before .before .before .before .before .before .before .before .before .args .cells)) (c .before .before .before .before .before .before .before .before .before .before .args .from) (c .before .before .before .before .before .before .loop .i) (now (c .before .before .before .before .before .before .before .before .before .before .args .t)) (c .before .before .before .before .before .loop-test .taken) (c .before .before .before .before .before .before .loop .inv .1) (c .before .before .before .before .before .before .loop .inv .2) (c .before .before .put16 .ensures))
 
 same-length : tie.Need-same-length Inv-loop μ-loop
-same-length c = ap length (c .before .loop .inv .2) ∙ cells-length _ _ _
+same-length c = ap length (c .before .loop .inv .2) ∙ writeRows-length set length-set _ _ _
 
 returns : tie.Need-returns Inv-loop μ-loop
 returns c = let e : c .before .loop .i ≡ length (now (c .before .before .before .before .before .args .cells)) = omega arith in c .before .loop .inv .2 ∙ rw (e, take-length)

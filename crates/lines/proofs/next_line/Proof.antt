@@ -2,7 +2,6 @@
 use Rattle.lines.specs.Ready.{next-whole, next-long, next-open, next-none, next-last}
 use borrow.Author.Needs.{needs}
 use borrow.Author.Tests.{not-true, not-false}
-use mathlib.Core.Path.{sym, _∙_}
 use Rattle.lines.proofs.next_line.Statement.{statement}
 use Rattle.lines.proofs.next_line.Tie as tie
 

@@ -7,10 +7,10 @@ use Rattle.loading.proofs.boot.Statement.{statement}
 use Rattle.loading.proofs.boot.Tie as tie
 
 returns : tie.Need-returns
-returns c = boot-denied _ (sym (c .before .has-lengths .ensures) ∙ not-true _ (c .if1 .taken))
+returns c = boot-denied _ (sym (c .before .is-shaped .ensures) ∙ not-true _ (c .if1 .taken))
 
 returns-2 : tie.Need-returns-2
-returns-2 c = rw (c .before .before .put-three2 .ensures, c .before .before .before .before .before .before .put-three .ensures, c .before .before .before .before .before .before .before .before .before .before .write-cells .ensures) (boot-done _ (sym (c .before .before .before .before .before .before .before .before .before .before .before .before .before .before .has-lengths .ensures) ∙ not-false _ (c .before .before .before .before .before .before .before .before .before .before .before .before .before .if1 .left)))
+returns-2 c = rw (c .before .before .put-three2 .ensures, c .before .before .before .before .before .before .put-three .ensures, c .before .before .before .before .before .before .before .before .before .before .write-cells .ensures) (boot-done _ (sym (c .before .before .before .before .before .before .before .before .before .before .before .before .before .before .is-shaped .ensures) ∙ not-false _ (c .before .before .before .before .before .before .before .before .before .before .before .before .before .if1 .left)))
 
 pub boot-spec : {M : Type 1} → statement M
 boot-spec = tie.close (tie.spec (λ c κs. search needs) (λ c. search needs) (λ c. search needs) (λ c. search needs) returns (λ c. search needs) (λ c κs. search needs) (λ c κs. search needs) (λ c κs. search needs) (λ c. search needs) (λ c. search needs) (λ c. search needs) returns-2)

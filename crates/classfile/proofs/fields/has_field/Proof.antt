@@ -1,7 +1,7 @@
 -- The search for a name from field 0 on.
 use mathlib.Core.Path.{ap, _∙_}
 use Rattle.definition.specs.Lists.{any}
-use Rattle.classfile.specs.Lists.{rows-start}
+use Rattle.layout.specs.Places.{rows-start}
 use Rattle.classfile.specs.Reading.{quickFields, fieldNamed}
 use borrow.Author.Needs.{needs}
 use Rattle.classfile.proofs.fields.has_field.Statement.{statement}

@@ -3,7 +3,7 @@ use Prim.Native.Nat.{_-_}
 use mathlib.Core.Path.{_≡_, sym, _∙_}
 use borrow.Author.Tests.{eq-eqb, ne-eqb}
 use Rattle.definition.specs.Lists.{any, rows}
-use Rattle.classfile.specs.Lists.{any-row, any-more, any-end}
+use Rattle.layout.specs.Places.{any-hit, any-on, any-end}
 use Rattle.classfile.specs.Reading.{fieldCount, fieldIn, fieldNamed}
 use borrow.Author.Needs.{needs}
 use Rattle.classfile.proofs.fields.named_from.Statement.{statement}
@@ -23,13 +23,13 @@ returns : tie.Need-returns Inv-loop μ-loop
 unfolding fieldNamed
 returns c =
     let found = eq-eqb _ _ (rw (c .before .field-name .ensures) at (c .if1 .taken)) in
-    sym (any-row _ _ _ _ (c .before .before .loop-test .taken) found) ∙ c .before .before .before .loop .inv
+    sym (any-hit _ _ _ _ (c .before .before .loop-test .taken) found) ∙ c .before .before .before .loop .inv
 
 loop-again : tie.Need-loop-again Inv-loop μ-loop
 unfolding fieldNamed
 loop-again c =
     let other = ne-eqb _ _ (rw (c .before .field-name .ensures) at (c .if1 .left)) in
-    sym (any-more _ _ _ _ (c .before .before .loop-test .taken) other) ∙ c .before .before .before .loop .inv
+    sym (any-on _ _ _ _ (c .before .before .loop-test .taken) other) ∙ c .before .before .before .loop .inv
 
 returns-2 : tie.Need-returns-2 Inv-loop μ-loop
 returns-2 c = sym (any-end _ _ _ _ (c .loop-test .left)) ∙ c .before .loop .inv

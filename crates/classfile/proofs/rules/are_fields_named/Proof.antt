@@ -3,7 +3,8 @@ use Prim.Native.Nat.{_-_}
 use mathlib.Core.Path.{_≡_, sym, ap, _∙_}
 use borrow.Author.Tests.{not-true, not-false}
 use Rattle.definition.specs.Lists.{every, rows}
-use Rattle.classfile.specs.Lists.{rows-start, every-more, every-not, every-end}
+use Rattle.layout.specs.Places.{rows-start}
+use Rattle.classfile.specs.Lists.{every-more, every-not, every-end}
 use Rattle.classfile.specs.Rules.{namedField, namedFields}
 use borrow.Author.Needs.{needs}
 use Rattle.classfile.proofs.rules.are_fields_named.Statement.{statement}

@@ -5,7 +5,8 @@ use native.Mathlib.Omega.{arith}
 use denote.Ref.{now}
 use borrow.Author.Tests.{not-true, not-false}
 use Rattle.definition.specs.Lists.{every, rows}
-use Rattle.classfile.specs.Lists.{rows-start, every-more, every-not, every-end, every-first, every-fails, every-last}
+use Rattle.layout.specs.Places.{rows-start}
+use Rattle.classfile.specs.Lists.{every-more, every-not, every-end, every-first, every-fails, every-last}
 use Rattle.classfile.proofs.Laws.{placed-next}
 use Rattle.classfile.specs.Reading.{methodCount, Placed}
 use Rattle.classfile.specs.Rules.{wholeMethodIn, wholeMethods}

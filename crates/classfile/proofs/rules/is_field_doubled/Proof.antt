@@ -3,7 +3,8 @@ use Prim.Native.Nat.{_-_}
 use mathlib.Core.Path.{_≡_, sym, ap, _∙_}
 use Rattle.definition.specs.Lists.{doubled, rows}
 use Rattle.definition.specs.File.{sameField}
-use Rattle.classfile.specs.Lists.{rows-start, doubled-row, doubled-more, doubled-end}
+use Rattle.layout.specs.Places.{rows-start}
+use Rattle.classfile.specs.Lists.{doubled-row, doubled-more, doubled-end}
 use Rattle.classfile.specs.Reading.{fieldIn, quickFields, fieldNamed}
 use borrow.Author.Needs.{needs}
 use Rattle.classfile.proofs.rules.is_field_doubled.Statement.{statement}

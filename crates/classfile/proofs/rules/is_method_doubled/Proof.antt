@@ -4,7 +4,8 @@ use mathlib.Core.Path.{_≡_, sym, ap, _∙_}
 use native.Mathlib.Omega.{arith}
 use Rattle.definition.specs.Lists.{doubled, rows}
 use Rattle.definition.specs.File.{sameMethod}
-use Rattle.classfile.specs.Lists.{rows-start, doubled-row, doubled-more, doubled-end}
+use Rattle.layout.specs.Places.{rows-start}
+use Rattle.classfile.specs.Lists.{doubled-row, doubled-more, doubled-end}
 use Rattle.classfile.proofs.Laws.{placed-next}
 use Rattle.classfile.specs.Reading.{methodIn, quickMethods, Placed}
 use borrow.Author.Needs.{needs}

@@ -1,5 +1,5 @@
 -- What lies above the class is marked, or is the next class or above it.
-use mathlib.Core.Path.{_≡_, sym, _∙_}
+use mathlib.Core.Path.{sym, _∙_}
 use native.Mathlib.Omega.{arith}
 use lib.ListN.{getD}
 use Rattle.constraints.specs.Agreement.{superIn}

@@ -5,7 +5,7 @@ use native.Mathlib.Omega.{arith}
 use denote.Ref.{now}
 use Rattle.definition.specs.Classes.{loaderOf}
 use Rattle.resolution.specs.Quick.{quickBase, loader-quick, found-at, found-absent}
-use Rattle.defining.proofs.Posted.{posts-none, posts-two, tie-few, two-few}
+use Rattle.defining.proofs.Posted.{posts-none, posts-two, new-few, two-few}
 use borrow.Author.Needs.{needs}
 use Rattle.defining.proofs.overrides.post_override.Statement.{statement}
 use Rattle.defining.proofs.overrides.post_override.Tie as tie
@@ -17,7 +17,7 @@ cast-other : tie.Need-cast-other
 cast-other c = let e : c .loader-of .result ≡ loaderOf (quickBase (now (c .before .before .before .before .before .before .before .before .before .before .args .counts)) (now (c .before .before .before .before .before .before .before .before .before .before .args .classes)) (now (c .before .before .before .before .before .before .before .before .before .before .args .kept)) (now (c .before .before .before .before .before .before .before .before .before .before .args .cache))) (c .before .before .y .given .0 .0) = c .loader-of .ensures ∙ sym (loader-quick (now (c .before .before .before .before .before .before .before .before .before .before .args .counts)) (now (c .before .before .before .before .before .before .before .before .before .before .args .classes)) (now (c .before .before .before .before .before .before .before .before .before .before .args .kept)) (now (c .before .before .before .before .before .before .before .before .before .before .args .cache)) _) in omega (arith, c .before .before .before .before .before .before .before .before .before .before .pre .2 (c .before .before .y .given .0 .0))
 
 cast-first : tie.Need-cast-first
-cast-first c = omega (arith, c .before .before .before .before .before .before .before .before .before .before .before .before .before .before .pre .0, c .before .before .add-tie .ensures .0, tie-few (now (c .before .before .before .before .before .before .before .before .before .before .before .before .before .before .args .ties)) (c .before .before .before .before .before .before .before .before .before .before .before .before .before .before .args .count) (c .before .before .before .before .before .before .before .before .before .before .before .before .before .before .args .loader) (c .before .before .before .before .loader-of .result) (c .before .before .before .before .before .before .before .before .before .before .before .before .before .before .args .argument))
+cast-first c = omega (arith, c .before .before .before .before .before .before .before .before .before .before .before .before .before .before .pre .0, c .before .before .add-tie .ensures .0, new-few (now (c .before .before .before .before .before .before .before .before .before .before .before .before .before .before .args .ties)) (c .before .before .before .before .before .before .before .before .before .before .before .before .before .before .args .count) (c .before .before .before .before .before .before .before .before .before .before .before .before .before .before .args .loader) (c .before .before .before .before .loader-of .result) (c .before .before .before .before .before .before .before .before .before .before .before .before .before .before .args .argument))
 
 cast-result : tie.Need-cast-result
 cast-result c = let f : c .before .before .add-tie2 .result ≤ c .before .before .before .before .before .before .before .before .before .before .before .before .before .before .before .before .before .before .args .count + 2 = two-few _ _ _ _ _ _ _ _ _ (c .before .before .before .before .before .before .add-tie .ensures .0) (c .before .before .add-tie2 .ensures .0) in omega (arith, c .before .before .before .before .before .before .before .before .before .before .before .before .before .before .before .before .before .before .pre .0)

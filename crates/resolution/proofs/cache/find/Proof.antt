@@ -9,7 +9,7 @@ use Rattle.definition.specs.Classes.{Entry, find}
 use Rattle.definition.specs.Lists.{rows}
 use Rattle.definition.specs.Requests.{at}
 use Rattle.definition.specs.Tables.{entryAt}
-use Rattle.classfile.specs.Lists.{rows-start}
+use Rattle.layout.specs.Places.{rows-start}
 use Rattle.resolution.proofs.Laws.{cached-here, cached-later, cached-nowhere}
 use Rattle.resolution.specs.Quick.{found}
 use Rattle.resolution.specs.declared.Found.the-variants.{At}

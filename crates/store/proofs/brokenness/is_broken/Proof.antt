@@ -4,8 +4,8 @@ use mathlib.Core.Path.{_∙_, ap, sym}
 use borrow.Author.Needs.{needs}
 use borrow.Author.Tests.{not-false, not-true}
 use Rattle.layout.specs.Unbroken.{within-true}
-use Rattle.classfile.specs.Lists.{every-fails, every-first}
-use Rattle.store.proofs.Laws.{every-last, object-size}
+use Rattle.classfile.specs.Lists.{every-fails, every-first, every-last}
+use Rattle.store.proofs.Laws.{object-size}
 use Rattle.store.specs.Checks.{checks}
 use Rattle.store.specs.Same.{checks-broken}
 use Rattle.store.proofs.brokenness.is_broken.Statement.{statement}

@@ -2,8 +2,8 @@
 use mathlib.Core.Path.{_∙_, sym}
 use borrow.Author.Needs.{needs}
 use borrow.Author.Tests.{not-false, not-true}
-use Rattle.classfile.specs.Lists.{every-fails, every-first}
-use Rattle.store.proofs.Laws.{every-last, sized-objects}
+use Rattle.classfile.specs.Lists.{every-fails, every-first, every-last}
+use Rattle.store.proofs.Laws.{sized-objects}
 use Rattle.store.specs.Checks.{objectsFit, valuesFit}
 use Rattle.store.proofs.brokenness.values_fit.Statement.{statement}
 use Rattle.store.proofs.brokenness.values_fit.Tie as tie

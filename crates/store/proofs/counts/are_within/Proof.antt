@@ -3,8 +3,7 @@ use mathlib.Core.Path.{_∙_, sym}
 use borrow.Author.Needs.{needs}
 use borrow.Author.Tests.{not-false, not-true}
 use Rattle.definition.specs.Broken.{within}
-use Rattle.classfile.specs.Lists.{every-fails, every-first}
-use Rattle.store.proofs.Laws.{every-last}
+use Rattle.classfile.specs.Lists.{every-fails, every-first, every-last}
 use Rattle.store.proofs.counts.are_within.Statement.{statement}
 use Rattle.store.proofs.counts.are_within.Tie as tie
 

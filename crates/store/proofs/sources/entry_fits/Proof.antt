@@ -4,8 +4,7 @@ use borrow.Author.Needs.{needs}
 use borrow.Author.Tests.{le-ltb, lt-ltb}
 use Rattle.definition.specs.Broken.{entryFits}
 use Rattle.definition.specs.Tables.{entryAt}
-use Rattle.classfile.specs.Lists.{every-fails, every-first}
-use Rattle.store.proofs.Laws.{every-last}
+use Rattle.classfile.specs.Lists.{every-fails, every-first, every-last}
 use Rattle.store.proofs.sources.entry_fits.Statement.{statement}
 use Rattle.store.proofs.sources.entry_fits.Tie as tie
 

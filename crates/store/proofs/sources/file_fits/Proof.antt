@@ -3,8 +3,7 @@ use mathlib.Core.Path.{_∙_, sym}
 use borrow.Author.Needs.{needs}
 use borrow.Author.Tests.{le-leb, le-ltb, lt-leb, lt-ltb}
 use Rattle.definition.specs.Tables.{classRowAt}
-use Rattle.classfile.specs.Lists.{every-fails, every-first}
-use Rattle.store.proofs.Laws.{every-last}
+use Rattle.classfile.specs.Lists.{every-fails, every-first, every-last}
 use Rattle.store.specs.Checks.{fileFits}
 use Rattle.store.proofs.sources.file_fits.Statement.{statement}
 use Rattle.store.proofs.sources.file_fits.Tie as tie

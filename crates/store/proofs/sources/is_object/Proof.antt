@@ -4,8 +4,7 @@ use borrow.Author.Needs.{needs}
 use borrow.Author.Tests.{eq-eqb, ne-eqb}
 use Rattle.definition.specs.Broken.{isObject}
 use Rattle.definition.specs.Tables.{classRowAt}
-use Rattle.classfile.specs.Lists.{every-fails, every-first}
-use Rattle.store.proofs.Laws.{every-last}
+use Rattle.classfile.specs.Lists.{every-fails, every-first, every-last}
 use Rattle.store.proofs.sources.is_object.Statement.{statement}
 use Rattle.store.proofs.sources.is_object.Tie as tie
 

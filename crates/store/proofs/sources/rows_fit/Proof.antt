@@ -2,8 +2,7 @@
 use mathlib.Core.Path.{_∙_, sym}
 use borrow.Author.Needs.{needs}
 use borrow.Author.Tests.{not-false, not-true}
-use Rattle.classfile.specs.Lists.{every-fails, every-first}
-use Rattle.store.proofs.Laws.{every-last}
+use Rattle.classfile.specs.Lists.{every-fails, every-first, every-last}
 use Rattle.store.specs.Checks.{rowsFit}
 use Rattle.store.proofs.sources.rows_fit.Statement.{statement}
 use Rattle.store.proofs.sources.rows_fit.Tie as tie

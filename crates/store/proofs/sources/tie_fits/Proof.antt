@@ -4,8 +4,7 @@ use borrow.Author.Needs.{needs}
 use borrow.Author.Tests.{le-ltb, lt-ltb}
 use Rattle.definition.specs.Broken.{tieFits}
 use Rattle.definition.specs.Tables.{tieAt}
-use Rattle.classfile.specs.Lists.{every-fails, every-first}
-use Rattle.store.proofs.Laws.{every-last}
+use Rattle.classfile.specs.Lists.{every-fails, every-first, every-last}
 use Rattle.store.proofs.sources.tie_fits.Statement.{statement}
 use Rattle.store.proofs.sources.tie_fits.Tie as tie
 

@@ -7,8 +7,8 @@ use borrow.Author.Needs.{needs}
 use borrow.Author.Tests.{le-leb, le-ltb, lt-leb, lt-ltb, not-false, not-true}
 use Rattle.definition.specs.Lists.{all, stack}
 use Rattle.definition.specs.Tables.{operandAt}
-use Rattle.classfile.specs.Lists.{every-fails, every-first}
-use Rattle.store.proofs.Laws.{every-last, frame-tests}
+use Rattle.classfile.specs.Lists.{every-fails, every-first, every-last}
+use Rattle.store.proofs.Laws.{frame-tests}
 use Rattle.store.specs.Checks.{valueIn}
 use Rattle.store.proofs.values.frame_fits.Statement.{statement}
 use Rattle.store.proofs.values.frame_fits.Tie as tie

@@ -2,8 +2,7 @@
 use mathlib.Core.Path.{_∙_, sym}
 use borrow.Author.Needs.{needs}
 use borrow.Author.Tests.{le-ltb, lt-ltb}
-use Rattle.classfile.specs.Lists.{every-fails, every-first}
-use Rattle.store.proofs.Laws.{every-last}
+use Rattle.classfile.specs.Lists.{every-fails, every-first, every-last}
 use Rattle.store.specs.Checks.{objectIn, objectSized}
 use Rattle.store.proofs.values.object_fits.Statement.{statement}
 use Rattle.store.proofs.values.object_fits.Tie as tie

@@ -1,9 +1,9 @@
--- `access::no_object` meets its contract.
+-- `access::receivers::no_object` meets its contract.
 use borrow.Author.Tests.{eq-eqb, ne-eqb}
 use Rattle.access.specs.Members.{noObject}
 use Rattle.definition.specs.Instructions.{pick}
-use Rattle.access.proofs.no_object.Statement.{statement}
-use Rattle.access.proofs.no_object.Tie as tie
+use Rattle.access.proofs.receivers.no_object.Statement.{statement}
+use Rattle.access.proofs.receivers.no_object.Tie as tie
 
 returns : tie.Need-returns
 unfolding noObject pick

@@ -1,11 +1,11 @@
--- `access::getfield` meets its contract.
+-- `access::fields::getfield` meets its contract.
 use mathlib.Core.Path.{sym, _∙_}
 use denote.Ref.{now}
 use borrow.Author.Needs.{needs}
 use Rattle.access.specs.Members.{cached, uncached, getfield-uncached, getfield-undeclared, getfield-right}
 use Rattle.resolution.specs.Quick.{found-at, found-absent, loader-quick}
-use Rattle.access.proofs.getfield.Statement.{statement}
-use Rattle.access.proofs.getfield.Tie as tie
+use Rattle.access.proofs.fields.getfield.Statement.{statement}
+use Rattle.access.proofs.fields.getfield.Tie as tie
 
 returns : tie.Need-returns
 returns c = getfield-uncached _ _ _ _ _ _ _ _ _ _ (uncached _ _ _ _ _ _ _ _ (c .before .before .find .ensures) (c .before .before .before .from8 .ensures .0) (c .enum-told .given .1)) _ _

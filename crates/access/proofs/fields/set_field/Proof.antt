@@ -1,11 +1,11 @@
--- `access::set_field` meets its contract.
+-- `access::fields::set_field` meets its contract.
 use mathlib.Core.Path.{sym, _∙_}
 use borrow.Author.Needs.{needs}
 use borrow.Author.Tests.{not-true, not-false}
 use Rattle.access.specs.Remainders.{write-unkind, write-wrong, write-absent, write-past, write-at, write-none, write-one}
 use Rattle.resolution.specs.Quick.{found-at, found-absent}
-use Rattle.access.proofs.set_field.Statement.{statement}
-use Rattle.access.proofs.set_field.Tie as tie
+use Rattle.access.proofs.fields.set_field.Statement.{statement}
+use Rattle.access.proofs.fields.set_field.Tie as tie
 
 returns : tie.Need-returns
 returns c = rw (c .refuse .ensures) (write-none _ _ _ _ _ _ _ _ _ _ _ _ 0 (c .before .if1 .taken))

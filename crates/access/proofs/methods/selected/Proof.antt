@@ -1,8 +1,8 @@
--- `access::selected` meets its contract.
+-- `access::methods::selected` meets its contract.
 use borrow.Author.Needs.{needs}
 use Rattle.resolution.specs.Quick.{found}
-use Rattle.access.proofs.selected.Statement.{statement}
-use Rattle.access.proofs.selected.Tie as tie
+use Rattle.access.proofs.methods.selected.Statement.{statement}
+use Rattle.access.proofs.methods.selected.Tie as tie
 
 returns : tie.Need-returns
 unfolding found

@@ -1,4 +1,4 @@
--- `access::received` meets its contract.
+-- `access::receivers::received` meets its contract.
 use Prim.Native.Nat.{_<_}
 use mathlib.Core.Path.{_≡_, sym, _∙_}
 use mathlib.Core.Bool.{true}
@@ -12,8 +12,8 @@ use Rattle.definition.specs.Classes.{superOf}
 use Rattle.definition.specs.Superclasses.{below}
 use Rattle.definition.specs.Tables.{tables, objectAt, objectsOf}
 use Rattle.resolution.specs.Quick.{quickBase}
-use Rattle.access.proofs.received.Statement.{statement}
-use Rattle.access.proofs.received.Tie as tie
+use Rattle.access.proofs.receivers.received.Statement.{statement}
+use Rattle.access.proofs.receivers.received.Tie as tie
 
 returns : tie.Need-returns
 returns c = λ I S F. rw (c .no-object .ensures) (object-word (quickBase (now (c .before .before .before .before .before .before .before .args .counts)) (now (c .before .before .before .before .before .before .before .args .classes)) (now (c .before .before .before .before .before .before .before .args .kept)) (now (c .before .before .before .before .before .before .before .args .cache))) (objectsOf (quickBase (now (c .before .before .before .before .before .before .before .args .counts)) (now (c .before .before .before .before .before .before .before .args .classes)) (now (c .before .before .before .before .before .before .before .args .kept)) (now (c .before .before .before .before .before .before .before .args .cache))) (tables (now (c .before .before .before .before .before .before .before .args .counts)) (now (c .before .before .before .before .before .before .before .args .classes)) (now (c .before .before .before .before .before .before .before .args .kept)) (now (c .before .before .before .before .before .before .before .args .cache)) I S (now (c .before .before .before .before .before .before .before .args .objects)) F)) (c .before .before .before .before .before .before .before .args .e) (c .before .before .before .before .before .before .before .args .kind) (c .before .before .before .before .before .before .before .args .bits) (c .before .if1 .taken))

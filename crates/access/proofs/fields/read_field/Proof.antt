@@ -1,10 +1,10 @@
--- `access::read_field` meets its contract.
+-- `access::fields::read_field` meets its contract.
 use mathlib.Core.Path.{sym, _∙_}
 use borrow.Author.Needs.{needs}
 use Rattle.access.specs.Remainders.{read-none, read-wrong, read-absent, read-past, read-at}
 use Rattle.resolution.specs.Quick.{found-at, found-absent}
-use Rattle.access.proofs.read_field.Statement.{statement}
-use Rattle.access.proofs.read_field.Tie as tie
+use Rattle.access.proofs.fields.read_field.Statement.{statement}
+use Rattle.access.proofs.fields.read_field.Tie as tie
 
 returns : tie.Need-returns
 returns c = rw (c .refuse .ensures) (read-none _ _ _ _ _ _ _ _ _ _ _ _ (c .before .if1 .taken))

@@ -1,4 +1,4 @@
--- `access::call_method` meets its contract.
+-- `access::methods::call_method` meets its contract.
 use mathlib.Core.Path.{sym, _∙_}
 use denote.Ref.{now}
 use borrow.Author.Needs.{needs}
@@ -7,8 +7,8 @@ use Rattle.access.specs.Remainders.{call-unkind, call-wrong, call-unsele
 use Rattle.definition.specs.Requests.{at}
 use Rattle.definition.specs.Tables.{objectAt}
 use Rattle.resolution.specs.Quick.{found-at, found-absent, methods-quick}
-use Rattle.access.proofs.call_method.Statement.{statement}
-use Rattle.access.proofs.call_method.Tie as tie
+use Rattle.access.proofs.methods.call_method.Statement.{statement}
+use Rattle.access.proofs.methods.call_method.Tie as tie
 
 returns : tie.Need-returns
 returns c = rw (c .refuse .ensures) (call-none _ _ _ _ _ _ _ _ _ 0 _ _ _ (c .before .if1 .taken))

@@ -1,10 +1,10 @@
--- `access::new_object` meets its contract.
+-- `access::making::new_object` meets its contract.
 use borrow.Author.Needs.{needs}
 use borrow.Author.Tests.{lt-ltb, le-ltb}
 use Rattle.access.specs.Members.{cached, uncached, new-uncached, new-no-room, new-made}
 use Rattle.definition.specs.Requests.{at}
-use Rattle.access.proofs.new_object.Statement.{statement}
-use Rattle.access.proofs.new_object.Tie as tie
+use Rattle.access.proofs.making.new_object.Statement.{statement}
+use Rattle.access.proofs.making.new_object.Tie as tie
 
 returns : tie.Need-returns
 returns c = new-uncached _ _ _ _ _ _ _ _ _ _ (uncached _ _ _ _ _ _ _ _ (c .before .before .find .ensures) (c .before .before .before .from8 .ensures .0) (c .enum-told .given .1))

@@ -1,11 +1,11 @@
--- `access::putfield` meets its contract.
+-- `access::fields::putfield` meets its contract.
 use mathlib.Core.Path.{sym, _∙_}
 use denote.Ref.{now}
 use borrow.Author.Needs.{needs}
 use Rattle.access.specs.Members.{cached, uncached, putfield-uncached, putfield-undeclared, putfield-right}
 use Rattle.resolution.specs.Quick.{found-at, found-absent, loader-quick}
-use Rattle.access.proofs.putfield.Statement.{statement}
-use Rattle.access.proofs.putfield.Tie as tie
+use Rattle.access.proofs.fields.putfield.Statement.{statement}
+use Rattle.access.proofs.fields.putfield.Tie as tie
 
 returns : tie.Need-returns
 returns c = putfield-uncached _ _ _ _ _ _ _ _ _ _ (uncached _ _ _ _ _ _ _ _ (c .before .before .find .ensures) (c .before .before .before .from8 .ensures .0) (c .enum-told .given .1)) _ _

@@ -1,11 +1,11 @@
--- `access::invokevirtual` meets its contract.
+-- `access::methods::invokevirtual` meets its contract.
 use mathlib.Core.Path.{sym, _∙_}
 use denote.Ref.{now}
 use borrow.Author.Needs.{needs}
 use Rattle.access.specs.Members.{cached, uncached, invoke-uncached, invoke-undeclared, invoke-right}
 use Rattle.resolution.specs.Quick.{found-at, found-absent, loader-quick}
-use Rattle.access.proofs.invokevirtual.Statement.{statement}
-use Rattle.access.proofs.invokevirtual.Tie as tie
+use Rattle.access.proofs.methods.invokevirtual.Statement.{statement}
+use Rattle.access.proofs.methods.invokevirtual.Tie as tie
 
 returns : tie.Need-returns
 returns c = invoke-uncached _ _ _ _ _ _ _ _ _ _ (uncached _ _ _ _ _ _ _ _ (c .before .before .find .ensures) (c .before .before .before .from8 .ensures .0) (c .enum-told .given .1)) _ _ _

@@ -1,0 +1,182 @@
+// getfield and putfield: `loader` is the frame class's, the names stand inline.
+use crate::Access;
+use crate::Receiver;
+use crate::receivers::received;
+ghost use mathlib.Core.Path.{_≡_};
+ghost use mathlib.Core.Option.{some};
+ghost use Rattle.definition.specs.Superclasses.{nearest};
+ghost use Rattle.definition.specs.Classes.{superOf, hasField};
+ghost use Rattle.resolution.specs.Quick.{quickBase};
+ghost use Rattle.access.specs.Accesses.{Accessing, always, readField, writeField};
+ghost use Rattle.access.specs.Members.{unlimited, Rest};
+use definition::Instruction;
+use definition::Refusal;
+use instructions::Plan;
+use resolution::Found;
+
+// getfield, once class s is found to declare the field: the value of an object's field takes the object's place.
+fn read_field(
+    counts: &[u16],
+    classes: &[u16],
+    kept: &[u8],
+    cache: &[u16],
+    objects: &[u32],
+    frames: &[u32],
+    b: u32,
+    d: u32,
+    e: u32,
+    s: u32,
+    name: u16,
+    of: u16,
+) -> Plan
+    requires { ⌜ (let B = quickBase (now counts) (now classes) (now kept) (now cache) in nearest (superOf B) (hasField B name of) e ≡ some s) ⌝ }
+    ensures { λ r. ⌜ Rest (now (counts .entry)) (now (classes .entry)) (now (kept .entry)) (now (cache .entry)) (now (objects .entry)) (now (frames .entry)) b d unlimited (λ B os f fs i. readField B os f fs i e s name of) r ⌝ }
+{
+    if d == 0 {
+        return instructions::refuse(14);
+    }
+    let x = frames::operand(frames, b, d - 1);
+    let r = received(counts, classes, kept, cache, objects, e, x.kind, x.bits);
+    match r {
+        Receiver::Wrong(word) => instructions::refuse(word),
+        Receiver::Right(o) => {
+            let Found::At(j) = resolution::slot_of(counts, classes, kept, cache, s, name, of) else {
+                return instructions::refuse(14);
+            };
+            if 16 <= j {
+                return instructions::refuse(14);
+            }
+            let v = frames::field(objects, o, j as u8);
+            Plan::Above(d - 1, v.kind, v.bits)
+        }
+    }
+}
+
+// putfield, once class s is found to declare the field: the value above the object goes into the object's field.
+fn set_field(
+    counts: &[u16],
+    classes: &[u16],
+    kept: &[u8],
+    cache: &[u16],
+    objects: &[u32],
+    frames: &[u32],
+    b: u32,
+    d: u32,
+    e: u32,
+    s: u32,
+    name: u16,
+    of: u16,
+) -> Plan
+    requires { ⌜ (let B = quickBase (now counts) (now classes) (now kept) (now cache) in nearest (superOf B) (hasField B name of) e ≡ some s) ⌝ }
+    ensures { λ r. ⌜ Rest (now (counts .entry)) (now (classes .entry)) (now (kept .entry)) (now (cache .entry)) (now (objects .entry)) (now (frames .entry)) b d unlimited (λ B os f fs i. writeField B os f fs i e s name of) r ⌝ }
+{
+    if d == 0 {
+        return instructions::refuse(14);
+    }
+    let top = d - 1;
+    if top == 0 {
+        return instructions::refuse(14);
+    }
+    let v = frames::operand(frames, b, top);
+    if !instructions::is_kind(of, v.kind, v.bits) {
+        return instructions::refuse(14);
+    }
+    let x = frames::operand(frames, b, top - 1);
+    let r = received(counts, classes, kept, cache, objects, e, x.kind, x.bits);
+    match r {
+        Receiver::Wrong(word) => instructions::refuse(word),
+        Receiver::Right(o) => {
+            let Found::At(j) = resolution::slot_of(counts, classes, kept, cache, s, name, of) else {
+                return instructions::refuse(14);
+            };
+            if 16 <= j {
+                return Plan::Keep(top - 1);
+            }
+            Plan::Field(top - 1, o, j as u8, v.kind, v.bits)
+        }
+    }
+}
+
+pub fn getfield(
+    counts: &[u16],
+    classes: &[u16],
+    kept: &[u8],
+    cache: &[u16],
+    objects: &[u32],
+    frames: &[u32],
+    b: u32,
+    d: u32,
+    loader: u8,
+    class: u16,
+    name: u16,
+    of: u16,
+) -> Access
+    ensures { λ r. ⌜ Accessing (now (counts .entry)) (now (classes .entry)) (now (kept .entry)) (now (cache .entry)) (now (objects .entry)) (now (frames .entry)) b d loader always of 1 (Instruction.Getfield class name of) r ⌝ }
+{
+    let Found::At(e) = resolution::find(counts, cache, cells::from8(loader), class) else {
+        return Access::Unresolved(Refusal::Wanted(loader, class));
+    };
+    let Found::At(s) = resolution::nearest_field(counts, classes, kept, cache, e, name, of) else {
+        return Access::Unresolved(Refusal::Word(7));
+    };
+    let one = resolution::loader_of(counts, classes, s);
+    Access::Resolved(
+        one,
+        read_field(
+            counts,
+            classes,
+            kept,
+            cache,
+            objects,
+            frames,
+            b,
+            d,
+            e,
+            s,
+            name,
+            of,
+        ),
+    )
+}
+
+pub fn putfield(
+    counts: &[u16],
+    classes: &[u16],
+    kept: &[u8],
+    cache: &[u16],
+    objects: &[u32],
+    frames: &[u32],
+    b: u32,
+    d: u32,
+    loader: u8,
+    class: u16,
+    name: u16,
+    of: u16,
+) -> Access
+    ensures { λ r. ⌜ Accessing (now (counts .entry)) (now (classes .entry)) (now (kept .entry)) (now (cache .entry)) (now (objects .entry)) (now (frames .entry)) b d loader always of 1 (Instruction.Putfield class name of) r ⌝ }
+{
+    let Found::At(e) = resolution::find(counts, cache, cells::from8(loader), class) else {
+        return Access::Unresolved(Refusal::Wanted(loader, class));
+    };
+    let Found::At(s) = resolution::nearest_field(counts, classes, kept, cache, e, name, of) else {
+        return Access::Unresolved(Refusal::Word(7));
+    };
+    let one = resolution::loader_of(counts, classes, s);
+    Access::Resolved(
+        one,
+        set_field(
+            counts,
+            classes,
+            kept,
+            cache,
+            objects,
+            frames,
+            b,
+            d,
+            e,
+            s,
+            name,
+            of,
+        ),
+    )
+}

@@ -1,0 +1,271 @@
+-- Tables of the published lengths, and rows that are put into them: no length changes, and whole rows are read back as they are.
+use mathlib.Core.Path.{_≡_, refl, sym, _∙_}
+use mathlib.Core.Bool.{Bool, true, false}
+use mathlib.Core.Option.{Option, none}
+use mathlib.Core.List.{List, [], _∷_}
+use Prim.Native.Nat.{ℕ, zero, suc, _+_, _≤_, _<_}
+use native.Mathlib.Omega.{arith}
+use lib.ListN.{length, getD, set, length-set}
+use lib.Seq.{take-all}
+use lib.Dec.{leb}
+use borrow.Author.Tests.{eqb-true, eq-eqb}
+use Rattle.definition.specs.Lists.{rows, writeRows, stack, writeStack}
+use Rattle.definition.specs.Maybe.{_>>=_, need}
+use Rattle.definition.specs.Classes.{Base, Entry, slots, slotsIn, ownSlots}
+use Rattle.definition.specs.Machine.{Value, unsetValue, intValue, nullValue, objectValue, unlistedValue, Object, Frame}
+use Rattle.definition.specs.File.{File, byte, readFile, objectClass}
+use Rattle.definition.specs.Tables.{Tables, shaped, ClassRow, Rows, fileAt, classAt, baseOf, worldOf, sizeOf, classRowAt, putClassRow, entryAt, putEntry, tieAt, putTie, subtypeAt, putSubtype, objectAt, putObject, operandAt, frameOf, frameAt, putFrame, frameBase, frameIn, putFrameIn, viewBase, objectsOf, framesOf, viewOver, view, countsOf, put}
+use Rattle.layout.specs.Tests.{All, From, every-true, true-every, all-more}
+use Rattle.layout.specs.Places.{rows-take, stack-length, stack-cong, all-stack, writeRows-length, writeStack-length, writeStack-keeps, rows-written, stack-written}
+use Rattle.layout.specs.Rows.{rows-back, class-rows, entry-rows, tie-rows, subtype-rows, cell-rows}
+use Rattle.layout.specs.Values.{Proper, proper-unset, proper-int, proper-null, proper-object, unread-cell}
+use Rattle.layout.specs.ObjectRows.{used-all, putObject-length, object-other, object-back}
+use Rattle.layout.specs.FrameRows.{frame-cells, putFrame-length, FrameProper, unread-row, frame-back}
+use Rattle.layout.specs.Whole.{Local, ValueSound, ObjectSound, Framed, First, ClassSound, Classes, Whole}
+
+-- The published lengths
+
+pub record Lengths (t : Tables) : Type 0 where
+  pub counts : length (t .counts) ≡ 8
+  pub classes : length (t .classes) ≡ 192
+  pub kept : length (t .kept) ≡ 16384
+  pub cache : length (t .cache) ≡ 768
+  pub ties : length (t .ties) ≡ 768
+  pub subtypes : length (t .subtypes) ≡ 768
+  pub objects : length (t .objects) ≡ 8448
+  pub frames : length (t .frames) ≡ 3328
+
+pub shaped-true : (t : Tables) → shaped t ≡ true → Lengths t
+unfolding shaped
+shaped-true t h =
+    let p = every-true _ h in
+    record {
+      counts = eqb-true _ _ (p .0);
+      classes = eqb-true _ _ (p .1 .0);
+      kept = eqb-true _ _ (p .1 .1 .0);
+      cache = eqb-true _ _ (p .1 .1 .1 .0);
+      ties = eqb-true _ _ (p .1 .1 .1 .1 .0);
+      subtypes = eqb-true _ _ (p .1 .1 .1 .1 .1 .0);
+      objects = eqb-true _ _ (p .1 .1 .1 .1 .1 .1 .0);
+      frames = eqb-true _ _ (p .1 .1 .1 .1 .1 .1 .1 .0);
+    }
+
+pub true-shaped : (t : Tables) → Lengths t → shaped t ≡ true
+unfolding shaped
+true-shaped t l =
+    true-every _ (
+      eq-eqb _ _ (l .counts),
+      (
+        eq-eqb _ _ (l .classes),
+        (
+          eq-eqb _ _ (l .kept),
+          (
+            eq-eqb _ _ (l .cache),
+            (eq-eqb _ _ (l .ties), (eq-eqb _ _ (l .subtypes), (eq-eqb _ _ (l .objects), (eq-eqb _ _ (l .frames), tt)))),
+          ),
+        ),
+      ),
+    )
+
+-- what is put changes no length
+pub put-lengths : (r : Rows) (t : Tables) → Lengths t → Lengths (put r t)
+unfolding put putFrameIn
+put-lengths r t l = record {
+  counts = writeRows-length set length-set (countsOf r) 0 (t .counts) ∙ l .counts;
+  classes = writeRows-length putClassRow (class-rows .long) (r .classes) 0 (t .classes) ∙ l .classes;
+  kept = writeRows-length set length-set (r .kept) 0 (t .kept) ∙ l .kept;
+  cache = writeRows-length putEntry (entry-rows .long) (r .cache) 0 (t .cache) ∙ l .cache;
+  ties = writeRows-length putTie (tie-rows .long) (r .ties) 0 (t .ties) ∙ l .ties;
+  subtypes = writeRows-length putSubtype (subtype-rows .long) (r .subtypes) 0 (t .subtypes) ∙ l .subtypes;
+  objects = writeRows-length putObject putObject-length (r .objects) 0 (t .objects) ∙ l .objects;
+  frames =
+      writeStack-length (putFrameIn 1) (λ s i f. putFrame-length s (frameBase 1 i) f) (r .report) (writeStack (putFrameIn 0) (r .quote) (t .frames))
+      ∙ (writeStack-length (putFrameIn 0) (λ s i f. putFrame-length s (frameBase 0 i) f) (r .quote) (t .frames) ∙ l .frames);
+}
+
+-- A class has at most 16 fields; class 0 has no file and none
+
+from-at : (b : Base) (bs : List ℕ) (j : ℕ) (ks : List ClassRow) → From (ClassSound b bs) j ks → (i : ℕ) → i < length ks → sizeOf b (j + i) ≤ 16
+from-at b bs j [] h i l = absurd (omega arith)
+from-at b bs j (k ∷ ks) h zero l = let e : j + 0 ≡ j = omega arith in rw e (h .0 .size)
+from-at b bs j (k ∷ ks) h (suc i) l = let e : j + suc i ≡ suc j + i = omega arith in rw e (from-at b bs (suc j) ks (h .1) i (omega arith))
+
+pub empty-file : readFile [] ≡ none
+unfolding readFile byte _>>=_ need
+empty-file = refl
+
+pub no-file : (bs : List ℕ) (k : ClassRow) → First k → fileAt bs k ≡ none
+unfolding fileAt
+no-file bs k h = rw (h .start, h .size) (none-read (leb 0 (length bs)))
+  where
+    none-read : (u : Bool) → _≡_ {A = Option File} (need u >>= λ _. readFile []) none
+    none-read true = unfold need _>>=_ in empty-file
+    none-read false = unfold need _>>=_ in refl
+
+pub object-class : (bs : List ℕ) (k : ClassRow) → First k → classAt bs k ≡ objectClass
+unfolding classAt
+object-class bs k h = rw (no-file bs k h, classAt) refl
+
+size-zero : (es : List Entry) (bs : List ℕ) (k : ClassRow) (ks : List ClassRow) → First k → sizeOf (baseOf (k ∷ ks) bs es) 0 ≡ 0
+unfolding slots slotsIn ownSlots
+size-zero es bs k ks h = rw (object-class bs k h) refl
+
+pub size-small : (es : List Entry) (bs : List ℕ) (ks : List ClassRow) → Classes (baseOf ks bs es) bs ks → (c : ℕ) → c < length ks
+    → sizeOf (baseOf ks bs es) c ≤ 16
+size-small es bs [] h c l = absurd (omega arith)
+size-small es bs (k ∷ ks) h zero l = omega (arith, size-zero es bs k ks (h .0))
+size-small es bs (k ∷ ks) h (suc c) l = let e : suc c ≡ 1 + c = omega arith in rw e (from-at (baseOf (k ∷ ks) bs es) bs 1 ks (h .1) c (omega arith))
+
+-- Values that are listed
+
+pub value-proper : (m : ℕ) (v : Value) → ValueSound m v → Proper v
+value-proper m unsetValue h = absurd h
+value-proper m (intValue n) h = proper-int n
+value-proper m nullValue h = proper-null
+value-proper m (objectValue o) h = proper-object o
+value-proper m (unlistedValue k b) h = absurd h
+
+pub local-proper : (m : ℕ) (v : Value) → Local m v → Proper v
+local-proper m unsetValue h = proper-unset
+local-proper m (intValue n) h = proper-int n
+local-proper m nullValue h = proper-null
+local-proper m (objectValue o) h = proper-object o
+local-proper m (unlistedValue k b) h = absurd h
+
+pub frame-proper : (n m : ℕ) (f : Frame) → Framed n m f → FrameProper f
+frame-proper n m f h = record {
+  few = h .depth;
+  eight = h .eight;
+  operands = all-more (value-proper m) (f .operands) (h .operands);
+  locals = all-more (local-proper m) (f .locals) (h .locals);
+}
+
+-- Reading what was put
+
+-- eight counts written are the counts
+counts-put : (r : Rows) (c : List ℕ) → length c ≡ 8 → writeRows set (countsOf r) 0 c ≡ countsOf r
+unfolding countsOf
+counts-put r c e =
+    let u : List ℕ = writeRows set (countsOf r) 0 c in
+    let n : length u ≡ 8 = writeRows-length set length-set (countsOf r) 0 c ∙ e in
+    sym (take-all 8 u (omega arith)) ∙ (sym (rows-take u 8 (omega arith)) ∙ rows-back cell-rows (countsOf r) c (omega arith))
+
+objects-put : (b : Base) (n m : ℕ) (os : List Object) (t : List ℕ) → length t ≡ 8448 → length os ≤ 256 → ((c : ℕ) → c < n → sizeOf b c ≤ 16)
+    → All (ObjectSound b n m) os
+    → rows (objectAt b (writeRows putObject os 0 t)) (length os) 0 ≡ os
+objects-put b n m os t e l small h =
+    rows-written putObject putObject-length (objectAt b) (ObjectSound b n m) 8448 256
+    (λ s i x q k p. object-back b s i x (omega arith) (p .size ∙ sym (used-all b (x .class) (small (x .class) (p .class)))) (all-more (value-proper m) (x .values) (p .values)))
+    (λ s i j x k p. object-other b s i j x (λ z. omega arith) (omega (arith, p .size, small (x .class) (p .class))))
+    os 0 (omega arith) h t e
+
+-- a task's frames
+
+frame-under : (k : ℕ) (t : List ℕ) (i j : ℕ) (f : Frame) → i < j → FrameProper f → FrameProper (frameIn t k i) → frameIn (putFrameIn k t j f) k i
+    ≡ frameIn t k i
+unfolding frameIn putFrameIn frameAt frameOf
+frame-under k t i j f l p q =
+    let d : getD t (frameBase k i + 3) 0 ≤ 16 = rw (stack-length (operandAt t (frameBase k i)) (getD t (frameBase k i + 3) 0)) at (q .few) in
+    frame-cells t (putFrame t (frameBase k j) f) (frameBase k i) (λ c h.
+    unread-row (λ s. getD s (frameBase k i + c) 0) (frameBase k j) (unread-cell (frameBase k i + c) (frameBase k j) (frameBase k j + 52) (λ m a b e. omega arith)) f p t)
+
+frames-put : (k : ℕ) (fs : List Frame) (t : List ℕ) → k < 2 → length t ≡ 3328 → length fs ≤ 32 → All FrameProper fs
+    → stack (frameIn (writeStack (putFrameIn k) fs t) k) (length fs) ≡ fs
+unfolding frameIn putFrameIn
+frames-put k fs t two e l h =
+    stack-written (putFrameIn k) (λ s i f. putFrame-length s (frameBase k i) f) (λ s i. frameIn s k i) FrameProper 3328 32
+    (λ s i f q m p. frame-back s (frameBase k i) f (omega arith) p) (frame-under k) fs l h t e
+
+-- the report's rows lie behind the quote's
+frames-behind : (n : ℕ) (gs : List Frame) (t : List ℕ) → n ≤ 32 → length gs ≤ 32 → All FrameProper gs → All FrameProper (stack (frameIn t 0) n)
+    → stack (frameIn (writeStack (putFrameIn 1) gs t) 0) n ≡ stack (frameIn t 0) n
+unfolding frameIn putFrameIn frameAt frameOf
+frames-behind n gs t l m h q =
+    let u : List ℕ = writeStack (putFrameIn 1) gs t in
+    stack-cong (frameIn u 0) (frameIn t 0) n (λ i k.
+    let p : FrameProper (frameIn t 0 i) = all-stack FrameProper (frameIn t 0) n q i k in
+    let d : getD t (frameBase 0 i + 3) 0 ≤ 16 = rw (stack-length (operandAt t (frameBase 0 i)) (getD t (frameBase 0 i + 3) 0)) at (p .few) in
+    frame-cells t u (frameBase 0 i) (λ c z.
+    writeStack-keeps (putFrameIn 1) (λ s. getD s (frameBase 0 i + c) 0) FrameProper 32
+    (λ s j f b r. unread-row (λ s. getD s (frameBase 0 i + c) 0) (frameBase 1 j)
+    (unread-cell (frameBase 0 i + c) (frameBase 1 j) (frameBase 1 j + 52) (λ x a y e. omega arith)) f r s)
+    gs m h t))
+
+module _ (r : Rows) (t : Tables) (l : Lengths t) (w : Whole r) where
+  abbrev counted : writeRows set (countsOf r) 0 (t .counts) ≡ countsOf r
+  counted = counts-put r (t .counts) (l .counts)
+
+  classes-read : rows (classRowAt (writeRows putClassRow (r .classes) 0 (t .classes))) (length (r .classes)) 0 ≡ r .classes
+  classes-read = rows-back class-rows (r .classes) (t .classes) (omega (arith, w .limits .classes, l .classes))
+
+  kept-read : rows (λ i. getD (writeRows set (r .kept) 0 (t .kept)) i 0) (length (r .kept)) 0 ≡ r .kept
+  kept-read = rows-back cell-rows (r .kept) (t .kept) (omega (arith, w .limits .kept, l .kept))
+
+  cache-read : rows (entryAt (writeRows putEntry (r .cache) 0 (t .cache))) (length (r .cache)) 0 ≡ r .cache
+  cache-read = rows-back entry-rows (r .cache) (t .cache) (omega (arith, w .limits .cache, l .cache))
+
+  ties-read : rows (tieAt (writeRows putTie (r .ties) 0 (t .ties))) (length (r .ties)) 0 ≡ r .ties
+  ties-read = rows-back tie-rows (r .ties) (t .ties) (omega (arith, w .limits .ties, l .ties))
+
+  subtypes-read : rows (subtypeAt (writeRows putSubtype (r .subtypes) 0 (t .subtypes))) (length (r .subtypes)) 0 ≡ r .subtypes
+  subtypes-read = rows-back subtype-rows (r .subtypes) (t .subtypes) (omega (arith, w .limits .subtypes, l .subtypes))
+
+  objects-read : rows (objectAt (worldOf r .base) (writeRows putObject (r .objects) 0 (t .objects))) (length (r .objects)) 0 ≡ r .objects
+  objects-read =
+      objects-put (worldOf r .base) (length (r .classes)) (length (r .objects)) (r .objects) (t .objects) (l .objects) (w .limits .objects)
+      (size-small (r .cache) (r .kept) (r .classes) (w .classes)) (w .objects)
+
+  abbrev quoted : List ℕ
+  quoted = writeStack (putFrameIn 0) (r .quote) (t .frames)
+
+  quoted-length : length quoted ≡ 3328
+  unfolding putFrameIn
+  quoted-length = writeStack-length (putFrameIn 0) (λ s i f. putFrame-length s (frameBase 0 i) f) (r .quote) (t .frames) ∙ l .frames
+
+  quote-proper : All FrameProper (r .quote)
+  quote-proper = all-more (frame-proper _ _) (r .quote) (w .quote)
+
+  report-proper : All FrameProper (r .report)
+  report-proper = all-more (frame-proper _ _) (r .report) (w .report)
+
+  quote-read : stack (frameIn (writeStack (putFrameIn 1) (r .report) quoted) 0) (length (r .quote)) ≡ r .quote
+  quote-read =
+      let e : stack (frameIn quoted 0) (length (r .quote)) ≡ r .quote = frames-put 0 (r .quote) (t .frames) (omega arith) (l .frames) (w .limits .quote) quote-proper in
+      frames-behind (length (r .quote)) (r .report) quoted (w .limits .quote) (w .limits .report) report-proper (rw e quote-proper) ∙ e
+
+  report-read : stack (frameIn (writeStack (putFrameIn 1) (r .report) quoted) 1) (length (r .report)) ≡ r .report
+  report-read = frames-put 1 (r .report) quoted (omega arith) quoted-length (w .limits .report) report-proper
+
+  base-read : viewBase (put r t) ≡ worldOf r .base
+  unfolding put countsOf
+  base-read =
+      (λ i. baseOf
+      (rows (classRowAt (put r t .classes)) (getD (counted i) 0 0) 0)
+      (rows (λ j. getD (put r t .kept) j 0) (getD (counted i) 1 0) 0)
+      (rows (entryAt (put r t .cache)) (getD (counted i) 2 0) 0))
+      ∙ (λ i. baseOf (classes-read i) (kept-read i) (cache-read i))
+
+  -- what was put is read back
+  pub view-put : view (put r t) ≡ r
+  unfolding view viewOver objectsOf framesOf put countsOf
+  view-put =
+      (λ i. record {
+        classes = rows (classRowAt (put r t .classes)) (getD (counted i) 0 0) 0;
+        kept = rows (λ j. getD (put r t .kept) j 0) (getD (counted i) 1 0) 0;
+        cache = rows (entryAt (put r t .cache)) (getD (counted i) 2 0) 0;
+        ties = rows (tieAt (put r t .ties)) (getD (counted i) 3 0) 0;
+        subtypes = rows (subtypeAt (put r t .subtypes)) (getD (counted i) 4 0) 0;
+        objects = rows (objectAt (base-read i) (put r t .objects)) (getD (counted i) 5 0) 0;
+        quote = stack (frameIn (put r t .frames) 0) (getD (counted i) 6 0);
+        report = stack (frameIn (put r t .frames) 1) (getD (counted i) 7 0);
+      })
+      ∙ (λ i. record {
+        classes = classes-read i;
+        kept = kept-read i;
+        cache = cache-read i;
+        ties = ties-read i;
+        subtypes = subtypes-read i;
+        objects = objects-read i;
+        quote = quote-read i;
+        report = report-read i;
+      })

@@ -1,0 +1,247 @@
+-- Whole rows as a world: a step or a start may be made in it, what it leaves is whole, and rows stay whole in a later world with one more file.
+use mathlib.Core.Path.{_≡_, refl, sym, ap, _∙_}
+use mathlib.Core.Bool.{Bool, true, false}
+use mathlib.Core.Option.{Option, none, some, Option·none-ne-some, Option·some-injective}
+use mathlib.Core.List.{List, [], _∷_, _++_, map, List·Memᴰ, List·Memᴰ·head, List·Memᴰ·tail}
+use mathlib.Core.Logic.{_⊎_, inl, inr}
+use Prim.Native.Nat.{ℕ, zero, suc, _+_, _≤_, _<_}
+use native.Mathlib.Omega.{arith}
+use lib.ListN.{length, getElem?, drop, length-append, length-map, length-drop}
+use lib.Seq.{take-append-le, drop-append-le, drop-at, take-length}
+use lib.Dec.{leb}
+use borrow.Author.Tests.{leb-true, ltb-true, le-leb}
+use Rattle.definition.specs.Answers.{need}
+use Rattle.definition.specs.Calls.{progressed}
+use Rattle.definition.specs.Classes.{Base, Class, Method, find, hasMethod, loaderOf, superOf}
+use Rattle.definition.specs.Constraints.{Subtype, Tie, World, newTie}
+use Rattle.definition.specs.File.{File, classOf, readFile}
+use Rattle.definition.specs.Lists.{any}
+use Rattle.definition.specs.Loading.{newSubtypes, overrideTie, overrideTies, started, subtypeIs, subtypeOf}
+use Rattle.definition.specs.Machine.{Object, Frame, Progress, intValue, newObject}
+use Rattle.definition.specs.Requests.{Request, at}
+use Rattle.definition.specs.Superclasses.{nearest}
+use Rattle.definition.specs.Tables.{ClassRow, Rows, classAt, fileAt, sizeOf, worldOf}
+use Rattle.definition.specs.Verifier.{Note}
+use Rattle.laws.specs.Agreement.{find-row, super-is}
+use Rattle.laws.specs.Growth.{Grows, grows-super, nth-lt}
+use Rattle.laws.specs.Options.{bind-some, need-true, some-bind}
+use Rattle.laws.specs.Results.{need-ok, take-ok}
+use Rattle.laws.specs.Stable.{slots-stable}
+use Rattle.layout.specs.Tests.{All, all-both, all-more, from-more}
+use Rattle.layout.specs.ReadBack.{object-class}
+use Rattle.layout.specs.Whole.{Between, ClassSound, Classes, First, Framed, From, Listed, ObjectSound, Whole}
+use Rattle.unbroken.specs.Steps.{Moved, Ready, class-found, class-selected, entered-frame, grow-frame, loader-small, made-objects, new-between}
+use Rattle.definition.specs.Maybe as Maybe
+use Rattle.laws.specs.Wrapped.{Ok, then}
+
+-- Lists
+
+all-mem : {A : Type 0} (P : A → Type 0) {xs : List A} {x : A} → All P xs → List·Memᴰ x xs → P x
+all-mem P {xs = y ∷ ys} {x} h (List·Memᴰ·head e) = rw e (h .0)
+all-mem P {xs = y ∷ ys} {x} h (List·Memᴰ·tail m) = all-mem P (h .1) m
+
+pub nth-there : {A : Type 0} (xs : List A) (i : ℕ) → i < length xs → (x : A) × (getElem? xs i ≡ some x)
+nth-there [] i h = absurd (omega arith)
+nth-there (x ∷ xs) zero h = (x, refl)
+nth-there (x ∷ xs) (suc i) h = nth-there xs i (omega arith)
+
+nth-map : {A B : Type 0} (f : A → B) (xs : List A) (i : ℕ) (y : B) → getElem? (map f xs) i ≡ some y → (x : A) × (getElem? xs i ≡ some x) × (f x ≡ y)
+nth-map f [] i y h = absurd (Option·none-ne-some y h)
+nth-map f (x ∷ xs) zero y h = (x, refl, Option·some-injective (f x) y h)
+nth-map f (x ∷ xs) (suc i) y h = nth-map f xs i y h
+
+from-nth : {A : Type 0} (P : ℕ → A → Type 0) (j : ℕ) (xs : List A) → From P j xs → (i : ℕ) (x : A) → getElem? xs i ≡ some x → P (j + i) x
+from-nth P j [] h i x e = absurd (Option·none-ne-some x e)
+from-nth P j (y ∷ xs) h zero x e = let z : j + 0 ≡ j = omega arith in rw (z, sym (Option·some-injective y x e)) (h .0)
+from-nth P j (y ∷ xs) h (suc i) x e = let z : j + suc i ≡ suc j + i = omega arith in rw z (from-nth P (suc j) xs (h .1) i x e)
+
+from-last : {A : Type 0} (P : ℕ → A → Type 0) (j : ℕ) (xs : List A) (y : A) → From P j xs → P (j + length xs) y → From P j (xs ++ (y ∷ []))
+from-last P j [] y h p = let z : j + 0 ≡ j = omega arith in (rw z at p, tt)
+from-last P j (x ∷ xs) y h p = let z : j + suc (length xs) ≡ suc j + length xs = omega arith in (h .0, from-last P (suc j) xs y (h .1) (rw z at p))
+
+-- Rows that are whole, as a world
+
+class-at : (b : Base) (bs : List ℕ) (ks : List ClassRow) → Classes b bs ks → (c : ℕ) (k : ClassRow) → getElem? ks c ≡ some k → ((c ≡ 0) × First k) ⊎ ClassSound b bs c k
+class-at b bs [] h c k e = absurd (Option·none-ne-some k e)
+class-at b bs (x ∷ ks) h zero k e = inl (refl, rw (Option·some-injective x k e) at (h .0))
+class-at b bs (x ∷ ks) h (suc c) k e = let z : suc c ≡ 1 + c = omega arith in inr (rw z (from-nth (ClassSound b bs) 1 ks (h .1) c k e))
+
+pub cls-loader : (bs : List ℕ) (k : ClassRow) (f : File) → fileAt bs k ≡ some f → classAt bs k ≡ classOf (k .loader) f
+unfolding classAt
+cls-loader bs k f e = rw (e, classAt) refl
+
+module _ (r : Rows) (w : Whole r) where
+  abbrev pub W : World
+  W = worldOf r
+
+  abbrev pub N : ℕ
+  N = length (r .classes)
+
+  pub ready : Ready W N (r .objects)
+  ready = record {
+    number = length-map (r .classes) (classAt (r .kept));
+    rooted = record { real = real; supers = supers };
+    loaders = loaders;
+    ties = w .limits .ties;
+    between = w .ties;
+    objects = w .limits .objects;
+    each = w .objects;
+  }
+    where
+      real : (q : Request) (c : ℕ) → find (r .cache) q ≡ some c → (k : Class) × (getElem? (map (classAt (r .kept)) (r .classes)) c ≡ some k)
+      real q c e =
+          let x = find-row (r .cache) q c e in
+          nth-there (map (classAt (r .kept)) (r .classes)) c (omega (arith, length-map (r .classes) (classAt (r .kept)), all-mem (Listed N) (w .cache) (x .1) .class, x .3))
+
+      supers : (c : ℕ) (k : Class) → getElem? (map (classAt (r .kept)) (r .classes)) c ≡ some k → 0 < c → (p : ℕ) × (superOf (W .base) c ≡ some p)
+      supers c k e l =
+          let x = nth-map (classAt (r .kept)) (r .classes) c k e in
+          elim (class-at (W .base) (r .kept) (r .classes) (w .classes) c (x .0) (x .1)) [ inl z ↦ absurd (omega (arith, z .0)) | inr z ↦ (z .super, z .isSuper) ]
+
+      loaders : (c : ℕ) (k : Class) → getElem? (map (classAt (r .kept)) (r .classes)) c ≡ some k → k .loader < 16
+      loaders c k e =
+          let x = nth-map (classAt (r .kept)) (r .classes) c k e in
+          elim (class-at (W .base) (r .kept) (r .classes) (w .classes) c (x .0) (x .1)) [
+            | inl z ↦ rw (sym (x .2), object-class (r .kept) (x .0) (z .1)) (omega arith)
+            | inr z ↦ rw (sym (x .2), cls-loader (r .kept) (x .0) (z .file) (z .reads)) (z .loader)
+          ]
+
+  -- Ties, objects and frames change
+
+  pub tasks-whole : (ts : List Tie) (os : List Object) (q p : List Frame) → length ts ≤ 256 → All Between ts → length os ≤ 256 → All (ObjectSound (W .base) N (length os)) os
+      → length q ≤ 32 → All (Framed N (length os)) q → length p ≤ 32 → All (Framed N (length os)) p
+      → Whole (record { classes = r .classes; kept = r .kept; cache = r .cache; ties = ts; subtypes = r .subtypes; objects = os; quote = q; report = p })
+  tasks-whole ts os q p a b c d e f g h = record {
+    limits = record { classes = w .limits .classes; kept = w .limits .kept; cache = w .limits .cache; ties = a; subtypes = w .limits .subtypes; objects = c; quote = e; report = g };
+    classes = w .classes;
+    cache = w .cache;
+    ties = b;
+    subtypes = w .subtypes;
+    objects = d;
+    quote = f;
+    report = h;
+  }
+
+  pub whole-progressed : (k : ℕ) (o : Progress) → Moved W N (r .objects) o → Whole (progressed k r o)
+  whole-progressed zero o m =
+      tasks-whole (o .world .ties) (o .objects) (o .frames) (r .report) (m .ties) (m .between) (m .objects) (m .each) (m .many) (m .frames)
+      (w .limits .report) (all-more (grow-frame N (length (r .objects)) (length (o .objects)) (m .more)) (r .report) (w .report))
+  whole-progressed (suc k) o m =
+      tasks-whole (o .world .ties) (o .objects) (r .quote) (o .frames) (m .ties) (m .between) (m .objects) (m .each)
+      (w .limits .quote) (all-more (grow-frame N (length (r .objects)) (length (o .objects)) (m .more)) (r .quote) (w .quote)) (m .many) (m .frames)
+
+  -- the rows' classes and constraints are then those of the progress
+  pub world-progressed : (k : ℕ) (o : Progress) → Moved W N (r .objects) o → worldOf (progressed k r o) ≡ o .world
+  world-progressed zero o m = λ i. record { base = sym (m .base) i; ties = o .world .ties; subtypes = sym (m .subtypes) i }
+  world-progressed (suc k) o m = λ i. record { base = sym (m .base) i; ties = o .world .ties; subtypes = sym (m .subtypes) i }
+
+  pub start-moves : (l n m v : ℕ) (fs : List Frame) → Ok (started l n m v W (r .objects) fs) (Moved W N (r .objects))
+  unfolding started
+  start-moves l n m v fs = then Q _ _ (λ _ _. then Q _ _ (λ _ _. then Q _ _ (λ c fc. then Q _ _ (λ s es. then Q _ _ (λ j _. then Q _ _ (λ _ h.
+      let os = r .objects in
+      let e = length-append os (newObject (W .base) c ∷ []) in
+      let lc = class-found W N os ready (at l n) c (take-ok _ _ fc) in
+      record {
+        base = refl;
+        subtypes = refl;
+        ties = w .limits .ties;
+        between = w .ties;
+        more = omega (arith, e);
+        objects = omega (arith, e, ltb-true (length os) 256 (need-ok _ _ h));
+        each = made-objects (W .base) N os c lc (w .objects);
+        many = omega arith;
+        frames = (entered-frame N _ s j (length os) (intValue v) (class-selected W N os ready m 1 1 c s (take-ok _ _ es)) (omega (arith, e)) tt, tt);
+      }))))))
+    where
+      Q : Progress → Type 0
+      Q = Moved W N (r .objects)
+
+  -- A world grows
+
+  module _ (X : World) (gr : Grows W X) (bs : List ℕ) (more : (k : ClassRow) (f : File) → fileAt (r .kept) k ≡ some f → fileAt bs k ≡ some f) where
+    pub same-size : (c : ℕ) → c < N → sizeOf (X .base) c ≡ sizeOf (W .base) c
+    same-size c l = ap length (slots-stable W X (ready .rooted) gr c (nth-there (map (classAt (r .kept)) (r .classes)) c (omega (arith, length-map (r .classes) (classAt (r .kept))))))
+
+    pub grown-class : (c : ℕ) (k : ClassRow) → ClassSound (W .base) (r .kept) c k → ClassSound (X .base) bs c k
+    grown-class c k h =
+        let s = super-is (W .base) c (h .super) (h .isSuper) in
+        let lt : c < N = omega (arith, nth-lt (W .base .classes) c (s .theClass) (s .isClass), length-map (r .classes) (classAt (r .kept))) in
+        record { loader = h .loader; file = h .file; reads = more k (h .file) (h .reads); super = h .super; isSuper = grows-super gr c (h .super) (h .isSuper); size = omega (arith, same-size c lt, h .size) }
+
+    pub grown-objects : (n : ℕ) → N ≤ n → All (ObjectSound (X .base) n (length (r .objects))) (r .objects)
+    grown-objects n l = all-more (λ o h. record { class = omega (arith, h .class); size = h .size ∙ sym (same-size (o .class) (h .class)); values = h .values }) (r .objects) (w .objects)
+
+  pub grown-frames : (n : ℕ) → N ≤ n → (fs : List Frame) → All (Framed N (length (r .objects))) fs → All (Framed n (length (r .objects))) fs
+  grown-frames n l fs h = all-more (λ f x. record { class = omega (arith, x .class); depth = x .depth; operands = x .operands; eight = x .eight; locals = x .locals }) fs h
+
+  pub grown-cache : (n : ℕ) → N ≤ n → All (Listed n) (r .cache)
+  grown-cache n l = all-more (λ e x. record { loader = x .loader; class = omega (arith, x .class) }) (r .cache) (w .cache)
+
+-- A class's row in the kept files
+
+pub grown-classes : (b d : Base) (bs cs : List ℕ) (ks : List ClassRow) → ((c : ℕ) (k : ClassRow) → ClassSound b bs c k → ClassSound d cs c k) → Classes b bs ks → Classes d cs ks
+grown-classes b d bs cs [] f h = tt
+grown-classes b d bs cs (k ∷ ks) f h = (h .0, from-more (ClassSound b bs) (ClassSound d cs) f 1 ks (h .1))
+
+pub classes-last : (b d : Base) (bs cs : List ℕ) (ks : List ClassRow) (x : ClassRow) → 0 < length ks → ((c : ℕ) (k : ClassRow) → ClassSound b bs c k → ClassSound d cs c k) → ClassSound d cs (length ks) x → Classes b bs ks → Classes d cs (ks ++ (x ∷ []))
+classes-last b d bs cs [] x l f p h = absurd (omega arith)
+classes-last b d bs cs (k ∷ ks) x l f p h =
+    let z : suc (length ks) ≡ 1 + length ks = omega arith in
+    (h .0, from-last (ClassSound d cs) 1 ks x (from-more (ClassSound b bs) (ClassSound d cs) f 1 ks (h .1)) (rw z at p))
+
+pub file-more : (bs cs : List ℕ) (k : ClassRow) (f : File) → fileAt bs k ≡ some f → fileAt (bs ++ cs) k ≡ some f
+unfolding fileAt
+file-more bs cs k f e =
+    let a = bind-some _ _ e in
+    let l = leb-true (k .start + k .size) (length bs) (need-true _ (a .1)) in
+    let z : k .size ≤ length (drop (k .start) bs) = omega (arith, length-drop (k .start) bs) in
+    some-bind (Maybe.need (leb (k .start + k .size) (length (bs ++ cs)))) _ (needed _ (le-leb (k .start + k .size) (length (bs ++ cs)) (omega (arith, length-append bs cs))))
+    (rw (drop-append-le (k .start) bs cs (omega arith), take-append-le (k .size) (drop (k .start) bs) cs z) (a .2))
+  where
+    needed : (t : Bool) → t ≡ true → Maybe.need t ≡ some tt
+    needed t q = unfold Maybe.need in rw q refl
+
+pub file-last : (bs cs : List ℕ) (l : ℕ) → fileAt (bs ++ cs) (record { loader = l; start = length bs; size = length cs }) ≡ readFile cs
+unfolding fileAt Maybe._>>=_ Maybe.need
+file-last bs cs l = rw (drop-at bs cs (length bs) refl, take-length cs, le-leb (length bs + length cs) (length (bs ++ cs)) (omega (arith, length-append bs cs))) refl
+
+cls-more : (bs cs : List ℕ) (b : Base) (c : ℕ) (k : ClassRow) → ClassSound b bs c k → classAt (bs ++ cs) k ≡ classAt bs k
+cls-more bs cs b c k h = cls-loader (bs ++ cs) k (h .file) (file-more bs cs k (h .file) (h .reads)) ∙ sym (cls-loader bs k (h .file) (h .reads))
+
+from-cls : (bs cs : List ℕ) (b : Base) (j : ℕ) (ks : List ClassRow) → From (ClassSound b bs) j ks → map (classAt (bs ++ cs)) ks ≡ map (classAt bs) ks
+from-cls bs cs b j [] h = refl
+from-cls bs cs b j (k ∷ ks) h = rw (cls-more bs cs b j k (h .0), from-cls bs cs b (suc j) ks (h .1)) refl
+
+pub kept-same : (bs cs : List ℕ) (b : Base) (ks : List ClassRow) → Classes b bs ks → map (classAt (bs ++ cs)) ks ≡ map (classAt bs) ks
+kept-same bs cs b [] h = refl
+kept-same bs cs b (k ∷ ks) h = rw (object-class (bs ++ cs) k (h .0), object-class bs k (h .0), from-cls bs cs b 1 ks (h .1)) refl
+
+pub map-last : {A B : Type 0} (f : A → B) (xs : List A) (x : A) → map f (xs ++ (x ∷ [])) ≡ map f xs ++ (f x ∷ [])
+map-last f [] x = refl
+map-last {A} {B} f (y ∷ xs) x = ap {B = List B} (λ r. f y ∷ r) (map-last f xs x)
+
+-- Constraints that a definition adds lie between loaders
+
+module _ (b : Base) (h : (c : ℕ) (k : Class) → getElem? (b .classes) c ≡ some k → k .loader < 16) (l : ℕ) (a : l < 16) where
+  over-between : (p : ℕ) (ts : List Tie) (m : Method) → All Between (overrideTie b l p ts m)
+  unfolding overrideTie
+  over-between p ts m = go (nearest (superOf b) (hasMethod b (m .name) (m .argument) (m .result)) p)
+    where
+      go : (o : Option ℕ) → All Between (elim o as (λ _. List Tie) [ none ↦ [] | some y ↦ let us = newTie ts l (loaderOf b y) (m .argument) in us ++ newTie (ts ++ us) l (loaderOf b y) (m .result) ])
+      go none = tt
+      go (some y) = all-both Between (newTie ts l (loaderOf b y) (m .argument)) _ (new-between ts l (loaderOf b y) (m .argument) a (loader-small b h y)) (new-between _ l (loaderOf b y) (m .result) a (loader-small b h y))
+
+  pub overs-between : (p : ℕ) (ts : List Tie) (ms : List Method) → All Between (overrideTies b l p ts ms)
+  unfolding overrideTies
+  overs-between p ts [] = tt
+  overs-between p ts (m ∷ ms) = all-both Between (overrideTie b l p ts m) _ (over-between p ts m) (overs-between p (ts ++ overrideTie b l p ts m) ms)
+
+pub subs-loader : (l : ℕ) → l < 16 → (ss : List Subtype) (ns : List Note) → All (λ (s : Subtype). s .loader < 16) (newSubtypes ss l ns)
+unfolding newSubtypes
+subs-loader l a ss [] = tt
+subs-loader l a ss (n ∷ ns) = go (any (subtypeIs l n) ss) (subs-loader l a ss ns) (subs-loader l a (ss ++ (subtypeOf l n ∷ [])) ns)
+  where
+    go : (t : Bool) → All (λ (s : Subtype). s .loader < 16) (newSubtypes ss l ns) → All (λ (s : Subtype). s .loader < 16) (newSubtypes (ss ++ (subtypeOf l n ∷ [])) l ns)
+        → All (λ (s : Subtype). s .loader < 16) (elim t as (λ _. List Subtype) [ true ↦ newSubtypes ss l ns | false ↦ subtypeOf l n ∷ newSubtypes (ss ++ (subtypeOf l n ∷ [])) l ns ])
+    go true x y = x
+    go false x y = (a, y)
