@@ -79,16 +79,21 @@ pub record Tested (sup : ℕ → Option ℕ) (groups classes : List ℕ) (n note
   pub raised : Stamped 256 a aboves
   pub done : (m : ℕ) → m < a → m < n → getD groups m 0 ≡ m → Passed sup groups classes n noted m
 
+-- nothing is marked where no link starts
+passed-unlinked : (sup : ℕ → Option ℕ) (groups classes : List ℕ) (n noted a : ℕ) → ((y : ℕ) → Link groups n noted a y → ⊥)
+    → Passed sup groups classes n noted a
+passed-unlinked sup groups classes n noted a none = record {
+  stamp = 1;
+  marks = [];
+  first = λ y k. absurd (none y k);
+  closed = λ x y h m. absurd (omega arith);
+  fit = λ b h m. absurd (omega arith);
+}
+
 module _ (sup : ℕ → Option ℕ) (groups classes heads nexts : List ℕ) (n noted : ℕ) (room : n ≤ 1280) (joined : Joined (startOf groups n) noted heads nexts) where
-  -- nothing is marked where no link starts
   passed-none : (a : ℕ) → a < n → getD heads a 0 ≡ 0 → Passed sup groups classes n noted a
-  passed-none a h z = record {
-    stamp = 1;
-    marks = [];
-    first = λ y k. absurd (joined .head a (omega arith) .none (k .number) (omega arith) (k .fits) (k .start));
-    closed = λ x y h m. absurd (omega arith);
-    fit = λ b h m. absurd (omega arith);
-  }
+  passed-none a h z =
+      passed-unlinked sup groups classes n noted a (λ y k. joined .head a (omega arith) .none (k .number) (omega arith) (k .fits) (k .start))
 
   pub tested-start : {a : ℕ} → NextStart groups heads n 0 a
       → Tested sup groups classes n noted a (replicate 1280 0) (replicate 1280 0) (replicate 256 0)
@@ -280,3 +285,8 @@ module _ (sup : ℕ → Option ℕ) (falls : Falls sup) (groups classes : List �
       unfolding agreeOn
       all-agree = places-all (λ a. all (pairOn sup groups classes n noted a) (rows (λ i. i) n 0)) n
           (λ a f. places-all (pairOn sup groups classes n noted a) n (λ b g. pair-agrees a b f g))
+
+    -- without links nothing but ties is to agree
+    pub unlinked-agree : noted ≡ 0 → tiedOn groups classes n ≡ true → true ≡ agreeOn sup groups classes n noted
+    unlinked-agree z h =
+        sym (all-agree (classed-all groups classes n h) (λ a f o. passed-unlinked sup groups classes n noted a (λ y k. omega (arith, k .fits))))

@@ -116,7 +116,7 @@ fn pairs_agree(
     agreed
 }
 
-// Every pair of cached requests agrees, tied ones and others.
+// Every pair of cached requests agrees, tied ones and others. Without subtype constraints there are no others.
 fn requests_agree(
     supers: &[u8],
     groups: &[u16],
@@ -129,6 +129,9 @@ fn requests_agree(
 {
     if !groups_agree(groups, classes, cached) {
         return false;
+    }
+    if noted == 0 {
+        return true;
     }
     let mut heads = [0u16; 1280];
     let mut nexts = [0u16; 1280];

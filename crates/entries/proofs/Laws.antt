@@ -1,18 +1,63 @@
 -- Cells copied one after another.
-use mathlib.Core.Path.{_≡_, sym, ap, _∙_}
-use mathlib.Core.List.{List, [], append-nil}
-use Prim.Native.Nat.{ℕ, _+_, _<_}
+use mathlib.Core.Path.{_≡_, refl, sym, ap, _∙_}
+use mathlib.Core.List.{List, [], _∷_, append-nil}
+use Prim.Native.Nat.{ℕ, zero, suc, _+_, _-_, _<_, _≤_}
 use native.Mathlib.Numerals.{add-one}
 use native.Mathlib.Omega.{arith}
-use lib.ListN.{length, getD, set, take, drop, drop-of-length-le}
+use lib.ListN.{length, getD, set, take, drop, length-set, drop-of-length-le}
+use lib.Seq.{set-out}
 use Rattle.definition.specs.Lists.{writeRows}
 use Rattle.layout.specs.Cells.{cell-rows, rows-copy, cells-block}
 
-pub cells-copied : (xs : List ℕ) (from i : ℕ) (t : List ℕ) {start : ℕ} {u v : List ℕ} → i < length xs → start ≡ from
-    → u ≡ writeRows set (take i xs) from t → v ≡ set u (start + i) (getD xs i 0) → v ≡ writeRows set (take (i + 1) xs) from t
-cells-copied xs from i t {start} {u} {v} h e p q =
-    let z : v ≡ set (writeRows set (take i xs) from t) (from + i) (getD xs i 0) = cc in
-    z ∙ sym (ap (λ (n : ℕ). writeRows set (take n xs) from t) (add-one i) ∙ rows-copy cell-rows xs 0 from i t h)
+-- cells past the end are not written
+written-past : (xs : List ℕ) (from : ℕ) (t : List ℕ) → length t ≤ from → writeRows set xs from t ≡ t
+unfolding writeRows
+written-past [] from t h = refl
+written-past (x ∷ xs) from t h = rw (written-past xs (suc from) t (omega arith)) (set-out t from x h)
+
+-- the first r of the cells are all that there is room for
+written-all : (xs : List ℕ) (from r : ℕ) (t : List ℕ) → (r < length xs → length t ≤ from + r) → writeRows set (take r xs) from t ≡ writeRows set xs from t
+unfolding writeRows
+written-all [] from zero t h = refl
+written-all [] from (suc r) t h = refl
+written-all (x ∷ xs) from zero t h = sym (written-past (x ∷ xs) from t (let l : length t ≤ from + 0 = h (omega arith) in omega arith))
+written-all (x ∷ xs) from (suc r) t h =
+    ap (λ (s : List ℕ). set s from x) (written-all xs (suc from) r t (λ l. let k : length t ≤ from + suc r = h (omega arith) in omega arith))
+
+-- The first i of n cells stand in the table, where n are as many as it has room for.
+pub record Copying (xs t : List ℕ) (from start n i : ℕ) (u : List ℕ) : Type 0 where
+  pub within : i ≤ n
+  pub fits : n ≤ length xs
+  pub room : n ≤ length t - start
+  pub full : n < length xs → length t ≤ start + n
+  pub place : start ≡ from
+  pub sized : length u ≡ length t
+  pub cells : u ≡ writeRows set (take i xs) from t
+
+module _ {xs t : List ℕ} {from start n i : ℕ} {u : List ℕ} (c : Copying xs t from start n i u) where
+  pub copying-more : i < n → Copying xs t from start n (i + 1) (set u (start + i) (getD xs i 0))
+  copying-more h = record {
+    within = omega arith;
+    fits = c .fits;
+    room = c .room;
+    full = c .full;
+    place = c .place;
+    sized = length-set u (start + i) (getD xs i 0) ∙ c .sized;
+    cells =
+        let l : i < length xs = omega arith in
+        let z : set u (start + i) (getD xs i 0) ≡ set (writeRows set (take i xs) from t) (from + i) (getD xs i 0) = λ j. set (c .cells j) (c .place j + i) (getD xs i 0) in
+        z ∙ sym (ap (λ (k : ℕ). writeRows set (take k xs) from t) (add-one i) ∙ rows-copy cell-rows xs 0 from i t l);
+  }
+
+  pub copying-end : n ≤ i → u ≡ writeRows set xs from t
+  copying-end h =
+      let e : i ≡ n = omega arith in
+      c .cells ∙ written-all xs from i t (λ l. let k : length t ≤ start + n = c .full (omega arith) in omega arith)
+
+pub copying-start : {xs t : List ℕ} {from start n : ℕ} → n ≤ length xs → n ≤ length t - start → (n < length xs → length t ≤ start + n) → start ≡ from
+    → Copying xs t from start n 0 t
+unfolding writeRows
+copying-start a b d e = record { within = omega arith; fits = a; room = b; full = d; place = e; sized = refl; cells = refl }
 
 -- a table copied onto another of its length
 pub copied : (xs t : List ℕ) → length xs ≡ length t → writeRows set xs 0 t ≡ xs

@@ -1,18 +1,31 @@
 // Cells and rows written one after another, and a cache with one more entry on copies: what every call that loads goes by.
 ghost use mathlib.Core.Path.{_≡_};
+ghost use Prim.Native.Nat.{_+_, _-_, _<_, _≤_};
 ghost use lib.ListN.{set};
 ghost use Rattle.definition.specs.Lists.{writeRows};
 ghost use Rattle.definition.specs.Tables.{putThree};
 ghost use Rattle.entries.specs.Entering.{Entered};
+
+// How many of n cells, written from `start` on, a table of that size has room for.
+fn room(size: usize, start: usize, n: usize) -> usize
+    ensures { λ r. ⌜ (r ≤ n) × (r ≤ size - start) × (r < n → size ≤ start + r) ⌝ }
+{
+    if size <= start {
+        return 0;
+    }
+    let left = size - start;
+    if left < n { left } else { n }
+}
 
 // Cells written one after another from a place on; past the end nothing is written.
 pub fn write_cells(t: &mut [u16], from: u16, cells: &[u16])
     ensures { λ _. ⌜ now (t .exit) ≡ writeRows set (now (cells .entry)) from (now (t .entry)) ⌝ }
 {
     let start = cells::wide16(from);
+    let n = room(t.len(), start, cells.len());
     let mut i = 0;
-    while i < cells.len() {
-        cells::put16(t, start + i, cells[i]);
+    while i < n {
+        t[start + i] = cells[i];
         i += 1;
     }
 }
@@ -22,9 +35,10 @@ pub fn write_bytes(t: &mut [u8], from: u16, bytes: &[u8])
     ensures { λ _. ⌜ now (t .exit) ≡ writeRows set (now (bytes .entry)) from (now (t .entry)) ⌝ }
 {
     let start = cells::wide16(from);
+    let n = room(t.len(), start, bytes.len());
     let mut i = 0;
-    while i < bytes.len() {
-        cells::put8(t, start + i, bytes[i]);
+    while i < n {
+        t[start + i] = bytes[i];
         i += 1;
     }
 }

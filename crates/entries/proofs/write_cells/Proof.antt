@@ -1,35 +1,27 @@
 -- Before cell i is written, the first i cells stand in the table.
-use mathlib.Core.Path.{_≡_, refl, ap, _∙_}
-use Prim.Native.Nat.{_-_, _≤_}
-use native.Mathlib.Omega.{arith}
-use denote.Ref.{now}
-use lib.ListN.{length, take, set, length-set}
-use lib.Seq.{take-length}
-use Rattle.definition.specs.Lists.{writeRows}
-use Rattle.layout.specs.Places.{writeRows-length}
-use Rattle.entries.proofs.Laws.{cells-copied}
+use Prim.Native.Nat.{_-_}
 use borrow.Author.Needs.{needs}
+use Rattle.entries.proofs.Laws.{Copying, copying-start, copying-more, copying-end}
 use Rattle.entries.proofs.write_cells.Statement.{statement}
 use Rattle.entries.proofs.write_cells.Tie as tie
 
 abbrev Inv-loop : tie.InvT-loop
-Inv-loop t₀ from cells start i₀ t i = (i ≤ length cells) × (start ≡ from) × (t ≡ writeRows set (take i cells) from t₀)
+Inv-loop t₀ from cells start n i₀ t i = Copying cells t₀ from start n i t
 
 abbrev μ-loop : tie.MeasureT-loop
-μ-loop t₀ from cells start i₀ t i = length cells - i
+μ-loop t₀ from cells start n i₀ t i = n - i
 
 loop-holds : tie.Need-loop-holds Inv-loop μ-loop
-unfolding writeRows
-loop-holds c = (omega arith, c .wide16 .ensures .0, refl)
+loop-holds c = copying-start (c .room .ensures .0) (c .room .ensures .1) (c .room .ensures .2) (c .before .wide16 .ensures .0)
 
 loop-again : tie.Need-loop-again Inv-loop μ-loop
-loop-again c = (omega arith, c .before .before .before .before .before .before .loop .inv .1, cells-copied (now (c .before .before .before .before .before .before .before .before .before .before .args .cells)) (c .before .before .before .before .before .before .before .before .before .before .args .from) (c .before .before .before .before .before .before .loop .i) (now (c .before .before .before .before .before .before .before .before .before .before .args .t)) (c .before .before .before .before .before .loop-test .taken) (c .before .before .before .before .before .before .loop .inv .1) (c .before .before .before .before .before .before .loop .inv .2) (c .before .before .put16 .ensures))
+loop-again c = copying-more (c .before .before .loop .inv) (c .before .loop-test .taken)
 
 same-length : tie.Need-same-length Inv-loop μ-loop
-same-length c = ap length (c .before .loop .inv .2) ∙ writeRows-length set length-set _ _ _
+same-length c = c .before .loop .inv .sized
 
 returns : tie.Need-returns Inv-loop μ-loop
-returns c = let e : c .before .loop .i ≡ length (now (c .before .before .before .before .before .args .cells)) = omega arith in c .before .loop .inv .2 ∙ rw (e, take-length)
+returns c = copying-end (c .before .loop .inv) (c .loop-test .left)
 
 pub write-cells-spec : {M : Type 1} → statement M
-write-cells-spec = tie.close (tie.spec Inv-loop μ-loop (λ c κs. search needs) loop-holds (λ c. search needs) (λ c. search needs) (λ c. search needs) (λ c κs. search needs) (λ c. search needs) (λ c. search needs) loop-again same-length returns)
+write-cells-spec = tie.close (tie.spec Inv-loop μ-loop (λ c κs. search needs) (λ c κs. search needs) loop-holds (λ c. search needs) (λ c. search needs) (λ c. search needs) (λ c. search needs) (λ c. search needs) (λ c. search needs) (λ c. search needs) loop-again same-length returns)
