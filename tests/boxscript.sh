@@ -3,10 +3,7 @@
 set -eu
 export LC_ALL=C
 cd "$(dirname "$0")/.."
-mkdir -p target
-if [ ! -x target/bin/boxscript ]; then
-    rt check boxscript >target/boxscript.log 2>&1 || { cat target/boxscript.log; exit 1; }
-fi
+tests/build boxscript
 (cd reference && cargo build --offline --release --quiet --bin boxscript_ref)
 theirs=${CARGO_TARGET_DIR:-reference/target}/release/boxscript_ref
 work=$(mktemp -d)
@@ -62,4 +59,6 @@ for input in "$cases"/*; do
         wrong=1
     fi
 done
+# 300 generated scripts
+(cd reference && TARIFF_BOXSCRIPT=$PWD/../target/bin/boxscript cargo test --offline --release --quiet --test boxscript -- --ignored)
 exit "$wrong"

@@ -6,7 +6,7 @@
 #   tests/differential.sh SECONDS    the same, and more seeds until the time is over
 set -e
 cd "$(dirname "$0")/.."
-reference/libraries.sh
+tests/build host desk
 cd reference
 log=../target/differential.log
 compare() { # LIBRARIES LINKED SEEDS WORDS...
@@ -19,6 +19,9 @@ mirror=$PWD/target/mirror/release
 cargo build --offline --release --quiet -p mirror --target-dir target/mirror
 compare "$mirror" dylib=tariff 40 --target-dir target/mirror >"$log" 2>&1 || { cat "$log"; exit 1; }
 faults=$(sed -n 's/^    ("\([a-z-]*\)",.*/\1/p; s/^const DESK: &str = "\(.*\)";/\1/p' mirror/src/faults.rs)
+# the list has every fault that the mirror can have
+declared=$(sed -n 's/.*FAULTS: \[.*; \([0-9]*\)\].*/\1/p' mirror/src/faults.rs)
+[ "$(echo "$faults" | wc -w)" -eq $((declared + 1)) ] || { echo "not every fault of the mirror is tried"; exit 1; }
 for fault in $faults; do
     if MIRROR_FAULT=$fault compare "$mirror" dylib=tariff 40 --target-dir target/mirror >"$log" 2>&1 || ! grep -q differs "$log"; then
         cat "$log"

@@ -2,13 +2,7 @@
 # The machine as C programs call it: the example examples/quote.c, and tests/host.c.
 set -e
 cd "$(dirname "$0")/.."
-mkdir -p target
-for crate in host desk; do
-    library=target/staticlib/lib$crate.a
-    if [ ! -e "$library" ] || [ -n "$(find crates crates.txt -newer "$library" -print -quit)" ]; then
-        rt staticlib "$crate" >"target/$crate.log" 2>&1 || { cat "target/$crate.log"; exit 1; }
-    fi
-done
+tests/build host desk
 build() { # SOURCE PROGRAM
     gcc -std=c11 -O2 -Wall -Wextra -Werror -Iinclude "$1" target/staticlib/libhost.a target/staticlib/libdesk.a -Wl,-z,now -o "$2"
 }
