@@ -1,4 +1,5 @@
 // A run of steps.
+use crate::places::nowhere;
 use crate::turns::step_unbroken;
 use definition::Answer;
 use definition::Refusal;
@@ -21,7 +22,7 @@ fn is_ran(a: Answer) -> bool
     }
 }
 
-// Up to n steps of a store that is not broken: a step leaves it so, and it isn't tested again.
+// Up to n steps of a store that is not broken: a step leaves it so, and it isn't tested again. The place of the code goes from step to step.
 fn steps(
     counts: &mut [u16],
     classes: &[u16],
@@ -38,8 +39,9 @@ fn steps(
 {
     let mut k: u16 = 0;
     let mut last = Answer::Idle;
+    let mut place = nowhere(classes, kept);
     while k < n {
-        let a = step_unbroken(
+        let walked = step_unbroken(
             counts,
             classes,
             kept,
@@ -48,11 +50,15 @@ fn steps(
             subtypes,
             objects,
             frames,
+            place,
         );
+        let a = walked.answer;
         if !is_ran(a) {
             return Reply::RanFor(k, a);
         }
         last = a;
+        let here = walked.place;
+        place = here;
         k += 1;
     }
     Reply::RanFor(k, last)

@@ -2,4 +2,5 @@
 pub mod Quick
 pub mod Unbroken
 pub mod Lookups
+pub mod Codes
 pub mod Slots

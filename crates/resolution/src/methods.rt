@@ -2,6 +2,7 @@
 use crate::Found;
 use crate::Selection;
 use crate::classes::file_of;
+use crate::classes::row_cell;
 use crate::classes::super_of;
 ghost use mathlib.Core.Path.{_≡_};
 ghost use Rattle.definition.specs.Lists.{any, indexOf};
@@ -9,7 +10,8 @@ ghost use Rattle.definition.specs.Superclasses.{nearest};
 ghost use Rattle.definition.specs.Classes.{superOf, alike, hasMethod};
 ghost use Rattle.classfile.specs.Reading.{quickMethods};
 ghost use Rattle.resolution.specs.Quick.{found, quickBase, fileIn};
-ghost use Rattle.resolution.specs.Lookups.{codeIn, selection};
+ghost use Rattle.resolution.specs.Lookups.{selection};
+ghost use Rattle.resolution.specs.Codes.{Spanned};
 use classfile::MethodFound;
 
 fn declares_method(
@@ -107,16 +109,29 @@ pub fn select_method(
     }
 }
 
-// The code of a class's method, as the part of the kept bytes that it is; no bytes if there is no such method.
-pub fn method_code<'a>(counts: &[u16], classes: &[u16], kept: &'a [u8], c: u32, j: u32) -> &'a [u8]
-    ensures { λ r. ⌜ now r ≡ codeIn (quickMethods (fileIn (now (counts .entry)) (now (classes .entry)) (now (kept .entry)) c)) j ⌝ }
+// Where a part of the kept bytes lies: from `start` up to `end`.
+pub struct Span {
+    pub start: usize,
+    pub end: usize,
+}
+
+// Where the code of a class's method lies; no bytes if there is no such method.
+pub fn code_span(counts: &[u16], classes: &[u16], kept: &[u8], c: u32, j: u32) -> Span
+    ensures { λ r. ⌜ Spanned (now (counts .entry)) (now (classes .entry)) (now (kept .entry)) c j (r .start) (r .end) ⌝ }
 {
     let file = file_of(counts, classes, kept, c);
     if cells::from16(cells::from8(classfile::method_count(file))) <= j {
-        return &kept[0..0];
+        return Span { start: 0, end: 0 };
     }
     let MethodFound::At(_, place) = classfile::method_place(file, j as u8) else {
-        return &kept[0..0];
+        return Span { start: 0, end: 0 };
     };
-    classfile::code(file, place)
+    let code = classfile::code(file, place);
+    let size = code.len();
+    if size == 0 {
+        return Span { start: 0, end: 0 };
+    }
+    let start = cells::wide16(row_cell(classes, c, 1)) + (cells::wide32(place) + 8);
+    let end = start + size;
+    Span { start, end }
 }
