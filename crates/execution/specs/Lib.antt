@@ -2,7 +2,6 @@
 pub mod Carried
 pub mod Agreeing
 pub mod Decisions
-pub mod Places
 pub mod Steps
 pub mod Turns
 pub mod Runs

@@ -1,5 +1,4 @@
 // The decision on the instruction of a task's top frame, on shared tables.
-use crate::places::Place;
 use crate::settling::Decision;
 use crate::settling::plain;
 use crate::settling::settle_access;
@@ -13,7 +12,6 @@ ghost use Prim.Native.Nat.{suc, _+_, _<_};
 ghost use lib.ListN.{getD};
 ghost use Rattle.definition.specs.Tables.{tables, frameBase};
 ghost use Rattle.definition.specs.Broken.{broken};
-ghost use Rattle.execution.specs.Places.{FramePlace};
 ghost use Rattle.execution.specs.Steps.{Chosen};
 ghost use Rattle.execution.specs.Decisions.{Usable, Acted};
 
@@ -151,7 +149,7 @@ pub struct Choice {
     pub next: u32,
 }
 
-// The choice for the top frame of a task, in row m, which begins at cell b, and whose code lies at that place.
+// The choice for the top frame of a task, in row m, which begins at cell b.
 pub(crate) fn choose(
     counts: &[u16],
     classes: &[u16],
@@ -164,15 +162,13 @@ pub(crate) fn choose(
     task: u8,
     m: u16,
     b: u32,
-    place: Place,
 ) -> Choice
-    requires { ⌜ (broken (tables (now counts) (now classes) (now kept) (now cache) (now ties) (now subtypes) (now objects) (now frames)) ≡ false) × (task < 2) × (getD (now counts) (6 + task) 0 ≡ suc m) × (b ≡ frameBase task m) × FramePlace (now counts) (now classes) (now kept) (now frames) b (place .count) (place .class) (place .method) (place .start) (place .end) ⌝ }
+    requires { ⌜ (broken (tables (now counts) (now classes) (now kept) (now cache) (now ties) (now subtypes) (now objects) (now frames)) ≡ false) × (task < 2) × (getD (now counts) (6 + task) 0 ≡ suc m) × (b ≡ frameBase task m) ⌝ }
     ensures { λ r. ⌜ Chosen (now (counts .entry)) (now (classes .entry)) (now (kept .entry)) (now (cache .entry)) (now (ties .entry)) (now (subtypes .entry)) (now (objects .entry)) (now (frames .entry)) task m b (r .posting) (r .plan) (r .next) ⌝ }
 {
+    let c = frames::frame_class(frames, b);
     let p = frames::point(frames, b);
-    let start = place.start;
-    let end = place.end;
-    let code = &kept[start..end];
+    let code = resolution::method_code(counts, classes, kept, c, frames::frame_method(frames, b));
     let Reading::At(i, n) = verifier::decode(code, cells::wide32(p)) else {
         return Choice {
             posting: Posting::Nothing,
@@ -180,7 +176,7 @@ pub(crate) fn choose(
             next: 0,
         };
     };
-    let loader = resolution::loader_of(counts, classes, place.class);
+    let loader = resolution::loader_of(counts, classes, c);
     let r = act(
         counts,
         classes,

@@ -1,5 +1,4 @@
 // One step, a run of steps, and the start of a task, on the lent tables.
-mod places; // places.rt: where the code of a frame's method lies
 mod settling; // settling.rt: a plan with the ties that it posts
 mod deciding; // deciding.rt: the decision on the instruction of a top frame
 mod carrying; // carrying.rt: the one place that writes

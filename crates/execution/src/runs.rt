@@ -1,5 +1,4 @@
 // A run of steps.
-use crate::places::nowhere;
 use crate::turns::step_unbroken;
 use definition::Answer;
 use definition::Refusal;
@@ -22,7 +21,7 @@ fn is_ran(a: Answer) -> bool
     }
 }
 
-// Up to n steps of a store that is not broken: a step leaves it so, and it isn't tested again. The place of the code goes from step to step.
+// Up to n steps of a store that is not broken: a step leaves it so, and it isn't tested again.
 fn steps(
     counts: &mut [u16],
     classes: &[u16],
@@ -39,9 +38,8 @@ fn steps(
 {
     let mut k: u16 = 0;
     let mut last = Answer::Idle;
-    let mut place = nowhere(classes, kept);
     while k < n {
-        let walked = step_unbroken(
+        let a = step_unbroken(
             counts,
             classes,
             kept,
@@ -50,15 +48,11 @@ fn steps(
             subtypes,
             objects,
             frames,
-            place,
         );
-        let a = walked.answer;
         if !is_ran(a) {
             return Reply::RanFor(k, a);
         }
         last = a;
-        let here = walked.place;
-        place = here;
         k += 1;
     }
     Reply::RanFor(k, last)

@@ -2,9 +2,6 @@
 use crate::carrying::carry_out;
 use crate::carrying::post_ties;
 use crate::deciding::choose;
-use crate::places::Place;
-use crate::places::frame_place;
-use crate::places::nowhere;
 use definition::Answer;
 use definition::Refusal;
 ghost use mathlib.Core.Path.{_≡_};
@@ -12,13 +9,6 @@ ghost use mathlib.Core.Bool.{false};
 ghost use Rattle.definition.specs.Tables.{tables};
 ghost use Rattle.definition.specs.Broken.{broken};
 ghost use Rattle.definition.specs.Calls.{done, stepTables};
-ghost use Rattle.execution.specs.Places.{Kept};
-
-// What a step answers, and the place of the code that it went by.
-pub struct Walked {
-    pub answer: Answer,
-    pub place: Place,
-}
 
 // A step of a store that is not broken: decided on shared tables, then ties are posted and the plan carried out.
 pub(crate) fn step_unbroken(
@@ -30,23 +20,17 @@ pub(crate) fn step_unbroken(
     subtypes: &[u16],
     objects: &mut [u32],
     frames: &mut [u32],
-    place: Place,
-) -> Walked
-    requires { ⌜ (broken (tables (now counts) (now classes) (now kept) (now cache) (now ties) (now subtypes) (now objects) (now frames)) ≡ false) × Kept (now classes) (now kept) (place .count) (place .class) (place .method) (place .start) (place .end) ⌝ }
-    ensures { λ r. ⌜ done (r .answer) (tables (now (counts .exit)) (now (classes .entry)) (now (kept .entry)) (now (cache .entry)) (now (ties .exit)) (now (subtypes .entry)) (now (objects .exit)) (now (frames .exit))) ≡ stepTables (tables (now (counts .entry)) (now (classes .entry)) (now (kept .entry)) (now (cache .entry)) (now (ties .entry)) (now (subtypes .entry)) (now (objects .entry)) (now (frames .entry))) ⌝ }
-    ensures { λ r. ⌜ Kept (now (classes .entry)) (now (kept .entry)) (r .place .count) (r .place .class) (r .place .method) (r .place .start) (r .place .end) ⌝ }
+) -> Answer
+    requires { ⌜ broken (tables (now counts) (now classes) (now kept) (now cache) (now ties) (now subtypes) (now objects) (now frames)) ≡ false ⌝ }
+    ensures { λ r. ⌜ done r (tables (now (counts .exit)) (now (classes .entry)) (now (kept .entry)) (now (cache .entry)) (now (ties .exit)) (now (subtypes .entry)) (now (objects .exit)) (now (frames .exit))) ≡ stepTables (tables (now (counts .entry)) (now (classes .entry)) (now (kept .entry)) (now (cache .entry)) (now (ties .entry)) (now (subtypes .entry)) (now (objects .entry)) (now (frames .entry))) ⌝ }
 {
     let task = tasks::turn(counts);
     let n = tasks::frame_count(counts, task);
     if n == 0 {
-        return Walked {
-            answer: Answer::Idle,
-            place,
-        };
+        return Answer::Idle;
     }
     let m = n - 1;
     let b = frames::row(task, m);
-    let here = frame_place(counts, classes, kept, frames, b, place);
     let r = choose(
         counts,
         classes,
@@ -59,12 +43,11 @@ pub(crate) fn step_unbroken(
         task,
         m,
         b,
-        here,
     );
     let posting = r.posting;
     let plan = r.plan;
     post_ties(counts, ties, posting);
-    let answer = carry_out(
+    carry_out(
         counts,
         classes,
         kept,
@@ -76,11 +59,7 @@ pub(crate) fn step_unbroken(
         b,
         r.next,
         plan,
-    );
-    Walked {
-        answer,
-        place: here,
-    }
+    )
 }
 
 // One instruction of the quote if it has a frame, else of the report.
@@ -108,7 +87,7 @@ pub fn step(
     ) {
         return Answer::Refused(Refusal::Word(1));
     }
-    let walked = step_unbroken(
+    step_unbroken(
         counts,
         classes,
         kept,
@@ -117,8 +96,5 @@ pub fn step(
         subtypes,
         objects,
         frames,
-        nowhere(classes, kept),
-    );
-    let answer = walked.answer;
-    answer
+    )
 }

@@ -2,5 +2,4 @@
 pub mod Quick
 pub mod Unbroken
 pub mod Lookups
-pub mod Codes
 pub mod Slots

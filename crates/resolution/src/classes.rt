@@ -12,7 +12,7 @@ ghost use Rattle.resolution.specs.Quick.{found, quickBase, fileIn, loade
 ghost use Rattle.resolution.specs.Lookups.{nameIn, superCell};
 
 // Cells of a class's row.
-pub(crate) fn row_cell(classes: &[u16], c: u32, cell: u8) -> u16
+fn row_cell(classes: &[u16], c: u32, cell: u8) -> u16
     ensures { λ r. ⌜ r ≡ getD (now (classes .entry)) (c * 3 + cell) 0 ⌝ }
 {
     cells::at16(classes, cells::wide32(c) * 3 + cells::wide8(cell))

@@ -2,7 +2,6 @@
 use crate::Found;
 use crate::Selection;
 use crate::classes::file_of;
-use crate::classes::row_cell;
 use crate::classes::super_of;
 ghost use mathlib.Core.Path.{_≡_};
 ghost use Rattle.definition.specs.Lists.{any, indexOf};
@@ -10,8 +9,7 @@ ghost use Rattle.definition.specs.Superclasses.{nearest};
 ghost use Rattle.definition.specs.Classes.{superOf, alike, hasMethod};
 ghost use Rattle.classfile.specs.Reading.{quickMethods};
 ghost use Rattle.resolution.specs.Quick.{found, quickBase, fileIn};
-ghost use Rattle.resolution.specs.Lookups.{selection};
-ghost use Rattle.resolution.specs.Codes.{Spanned};
+ghost use Rattle.resolution.specs.Lookups.{codeIn, selection};
 use classfile::MethodFound;
 
 fn declares_method(
@@ -109,29 +107,16 @@ pub fn select_method(
     }
 }
 
-// Where a part of the kept bytes lies: from `start` up to `end`.
-pub struct Span {
-    pub start: usize,
-    pub end: usize,
-}
-
-// Where the code of a class's method lies; no bytes if there is no such method.
-pub fn code_span(counts: &[u16], classes: &[u16], kept: &[u8], c: u32, j: u32) -> Span
-    ensures { λ r. ⌜ Spanned (now (counts .entry)) (now (classes .entry)) (now (kept .entry)) c j (r .start) (r .end) ⌝ }
+// The code of a class's method, as the part of the kept bytes that it is; no bytes if there is no such method.
+pub fn method_code<'a>(counts: &[u16], classes: &[u16], kept: &'a [u8], c: u32, j: u32) -> &'a [u8]
+    ensures { λ r. ⌜ now r ≡ codeIn (quickMethods (fileIn (now (counts .entry)) (now (classes .entry)) (now (kept .entry)) c)) j ⌝ }
 {
     let file = file_of(counts, classes, kept, c);
     if cells::from16(cells::from8(classfile::method_count(file))) <= j {
-        return Span { start: 0, end: 0 };
+        return &kept[0..0];
     }
     let MethodFound::At(_, place) = classfile::method_place(file, j as u8) else {
-        return Span { start: 0, end: 0 };
+        return &kept[0..0];
     };
-    let code = classfile::code(file, place);
-    let size = code.len();
-    if size == 0 {
-        return Span { start: 0, end: 0 };
-    }
-    let start = cells::wide16(row_cell(classes, c, 1)) + (cells::wide32(place) + 8);
-    let end = start + size;
-    Span { start, end }
+    classfile::code(file, place)
 }

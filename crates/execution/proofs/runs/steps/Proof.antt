@@ -6,7 +6,6 @@ use native.Mathlib.Omega.{arith}
 use borrow.Author.Needs.{needs}
 use lib.ListN.{length}
 use borrow.Author.Tests.{not-true, not-false}
-use Rattle.execution.specs.Places.{Kept}
 use Rattle.execution.specs.Runs.{run-stops, run-on, still-whole, run-ends, run-begins}
 use Rattle.definition.specs.declared.Answer.the-variants.{Idle}
 use Rattle.definition.specs.Broken.{broken}
@@ -16,7 +15,7 @@ use Rattle.execution.proofs.runs.steps.Statement.{statement}
 use Rattle.execution.proofs.runs.steps.Tie as tie
 
 abbrev Inv-loop : tie.InvT-loop
-Inv-loop counts₀ classes kept cache ties₀ subtypes objects₀ frames₀ n k₀ last₀ place₀ counts ties objects frames k last place =
+Inv-loop counts₀ classes kept cache ties₀ subtypes objects₀ frames₀ n k₀ last₀ counts ties objects frames k last =
     (k ≤ n)
     × (runFrom stepTables (n - k) k last (tables counts classes kept cache ties subtypes objects frames)
     ≡ runFrom stepTables n 0 Idle (tables counts₀ classes kept cache ties₀ subtypes objects₀ frames₀))
@@ -25,16 +24,15 @@ Inv-loop counts₀ classes kept cache ties₀ subtypes objects₀ frames₀ n k�
     × (length ties ≡ length ties₀)
     × (length objects ≡ length objects₀)
     × (length frames ≡ length frames₀)
-    × Kept classes kept (place .count) (place .class) (place .method) (place .start) (place .end)
 
 abbrev μ-loop : tie.MeasureT-loop
-μ-loop counts₀ classes kept cache ties₀ subtypes objects₀ frames₀ n k₀ last₀ place₀ counts ties objects frames k last place = n - k
+μ-loop counts₀ classes kept cache ties₀ subtypes objects₀ frames₀ n k₀ last₀ counts ties objects frames k last = n - k
 
 loop-holds : tie.Need-loop-holds Inv-loop μ-loop
-loop-holds c = (omega arith, run-begins _ _, c .before .before .before .before .before .before .before .before .before .pre, refl, refl, refl, refl, c .nowhere .ensures)
+loop-holds c = (omega arith, run-begins _ _, c .before .before .before .before .before .before .before .before .pre, refl, refl, refl, refl)
 
 step-unbroken-requires : tie.Need-step-unbroken-requires Inv-loop μ-loop
-step-unbroken-requires c κs = (c .before .before .before .before .before .loop .inv .2, c .before .before .before .before .before .loop .inv .7)
+step-unbroken-requires c κs = c .before .before .before .before .before .loop .inv .2
 
 same-length : tie.Need-same-length Inv-loop μ-loop
 same-length c = c .before .before .before .before .before .before .before .before .before .before .step-unbroken .kept .0 ∙ c .before .before .before .before .before .before .before .before .before .before .before .before .before .before .before .before .loop .inv .3
@@ -49,16 +47,16 @@ same-length-4 : tie.Need-same-length-4 Inv-loop μ-loop
 same-length-4 c = c .before .before .before .before .before .before .before .before .before .before .step-unbroken .kept .1 .1 .1 .1 .1 .1 .1 .0 ∙ c .before .before .before .before .before .before .before .before .before .before .before .before .before .before .before .before .loop .inv .6
 
 returns : tie.Need-returns Inv-loop μ-loop
-returns c = run-stops _ _ _ _ _ _ (c .before .before .before .before .before .before .before .before .before .before .step-unbroken .ensures .0) (c .before .before .before .before .before .before .before .before .before .before .before .before .before .before .before .loop-test .taken) (sym (c .before .is-ran .ensures) ∙ not-true _ (c .if1 .taken)) ∙ c .before .before .before .before .before .before .before .before .before .before .before .before .before .before .before .before .loop .inv .1
+returns c = run-stops _ _ _ _ _ _ (c .before .before .before .before .before .before .before .before .before .before .step-unbroken .ensures) (c .before .before .before .before .before .before .before .before .before .before .before .before .before .before .before .loop-test .taken) (sym (c .before .is-ran .ensures) ∙ not-true _ (c .if1 .taken)) ∙ c .before .before .before .before .before .before .before .before .before .before .before .before .before .before .before .before .loop .inv .1
 
 add-k : tie.Need-add-k Inv-loop μ-loop
-add-k c = omega (arith, c .before .before .before .before .before .before .before .before .before .before .before .before .before .before .before .before .loop-test .taken, c .before .before .before .before .before .before .before .before .before .before .before .before .before .before .before .before .before .before .before .before .before .before .before .before .before .before .before .fits .n)
+add-k c = omega (arith, c .before .before .before .before .before .before .before .before .before .before .before .before .before .before .before .loop-test .taken)
 
 loop-less : tie.Need-loop-less Inv-loop μ-loop
-loop-less c = omega (arith, c .before .before .before .before .before .before .before .before .before .before .before .before .before .before .before .before .loop-test .taken)
+loop-less c = omega (arith, c .before .before .before .before .before .before .before .before .before .before .before .before .before .before .before .loop-test .taken)
 
 loop-again : tie.Need-loop-again Inv-loop μ-loop
-loop-again c = (omega (arith, c .before .before .before .before .before .before .before .before .before .before .before .before .before .before .before .before .loop-test .taken), run-on _ _ _ _ _ _ (c .before .before .before .before .before .before .before .before .before .before .before .step-unbroken .ensures .0) (c .before .before .before .before .before .before .before .before .before .before .before .before .before .before .before .before .loop-test .taken) (sym (c .before .before .is-ran .ensures) ∙ not-false _ (c .before .if1 .left)) ∙ c .before .before .before .before .before .before .before .before .before .before .before .before .before .before .before .before .before .loop .inv .1, still-whole (c .before .before .before .before .before .before .before .before .before .before .before .before .before .before .before .before .before .before .before .before .before .before .before .before .before .before .before .args .n) (c .before .before .before .before .before .before .before .before .before .before .before .before .before .before .before .before .before .loop .k) (c .before .before .before .before .before .before .before .before .before .before .before .before .before .before .before .before .before .loop .last) _ _ _ (c .before .before .before .before .before .before .before .before .before .before .before .step-unbroken .ensures .0) (c .before .before .before .before .before .before .before .before .before .before .before .before .before .before .before .before .before .loop .inv .2), c .before .before .before .before .before .before .before .before .before .before .before .step-unbroken .kept .0 ∙ c .before .before .before .before .before .before .before .before .before .before .before .before .before .before .before .before .before .loop .inv .3, c .before .before .before .before .before .before .before .before .before .before .before .step-unbroken .kept .1 .1 .1 .1 .0 ∙ c .before .before .before .before .before .before .before .before .before .before .before .before .before .before .before .before .before .loop .inv .4, c .before .before .before .before .before .before .before .before .before .before .before .step-unbroken .kept .1 .1 .1 .1 .1 .1 .0 ∙ c .before .before .before .before .before .before .before .before .before .before .before .before .before .before .before .before .before .loop .inv .5, c .before .before .before .before .before .before .before .before .before .before .before .step-unbroken .kept .1 .1 .1 .1 .1 .1 .1 .0 ∙ c .before .before .before .before .before .before .before .before .before .before .before .before .before .before .before .before .before .loop .inv .6, c .before .before .before .before .before .before .before .before .before .before .before .step-unbroken .ensures .1)
+loop-again c = (omega (arith, c .before .before .before .before .before .before .before .before .before .before .before .before .before .before .before .loop-test .taken), run-on _ _ _ _ _ _ (c .before .before .before .before .before .before .before .before .before .before .step-unbroken .ensures) (c .before .before .before .before .before .before .before .before .before .before .before .before .before .before .before .loop-test .taken) (sym (c .before .is-ran .ensures) ∙ not-false _ (c .if1 .left)) ∙ c .before .before .before .before .before .before .before .before .before .before .before .before .before .before .before .before .loop .inv .1, still-whole (c .before .before .before .before .before .before .before .before .before .before .before .before .before .before .before .before .before .before .before .before .before .before .before .before .before .args .n) (c .before .before .before .before .before .before .before .before .before .before .before .before .before .before .before .before .loop .k) (c .before .before .before .before .before .before .before .before .before .before .before .before .before .before .before .before .loop .last) _ _ _ (c .before .before .before .before .before .before .before .before .before .before .step-unbroken .ensures) (c .before .before .before .before .before .before .before .before .before .before .before .before .before .before .before .before .loop .inv .2), c .before .before .before .before .before .before .before .before .before .before .step-unbroken .kept .0 ∙ c .before .before .before .before .before .before .before .before .before .before .before .before .before .before .before .before .loop .inv .3, c .before .before .before .before .before .before .before .before .before .before .step-unbroken .kept .1 .1 .1 .1 .0 ∙ c .before .before .before .before .before .before .before .before .before .before .before .before .before .before .before .before .loop .inv .4, c .before .before .before .before .before .before .before .before .before .before .step-unbroken .kept .1 .1 .1 .1 .1 .1 .0 ∙ c .before .before .before .before .before .before .before .before .before .before .before .before .before .before .before .before .loop .inv .5, c .before .before .before .before .before .before .before .before .before .before .step-unbroken .kept .1 .1 .1 .1 .1 .1 .1 .0 ∙ c .before .before .before .before .before .before .before .before .before .before .before .before .before .before .before .before .loop .inv .6)
 
 same-length-5 : tie.Need-same-length-5 Inv-loop μ-loop
 same-length-5 c = c .before .loop .inv .3
@@ -81,7 +79,6 @@ steps-spec =
     (tie.spec
     Inv-loop
     μ-loop
-    (λ c κs. search needs)
     loop-holds
     step-unbroken-requires
     (λ c κs. search needs)

@@ -11,10 +11,10 @@ returns : tie.Need-returns
 returns c = step-broken (tables (now (c .before .before .before .before .before .before .before .before .before .before .before .before .before .before .args .counts)) (now (c .before .before .before .before .before .before .before .before .before .before .before .before .before .before .args .classes)) (now (c .before .before .before .before .before .before .before .before .before .before .before .before .before .before .args .kept)) (now (c .before .before .before .before .before .before .before .before .before .before .before .before .before .before .args .cache)) (now (c .before .before .before .before .before .before .before .before .before .before .before .before .before .before .args .ties)) (now (c .before .before .before .before .before .before .before .before .before .before .before .before .before .before .args .subtypes)) (now (c .before .before .before .before .before .before .before .before .before .before .before .before .before .before .args .objects)) (now (c .before .before .before .before .before .before .before .before .before .before .before .before .before .before .args .frames))) (sym (c .before .is-broken .ensures) ∙ c .if1 .taken)
 
 step-unbroken-requires : tie.Need-step-unbroken-requires
-step-unbroken-requires c κs = (sym (c .before .before .before .before .before .before .is-broken .ensures) ∙ c .before .before .before .before .before .if1 .left, c .nowhere .ensures)
+step-unbroken-requires c κs = sym (c .before .before .before .before .before .is-broken .ensures) ∙ c .before .before .before .before .if1 .left
 
 returns-2 : tie.Need-returns-2
-returns-2 c = c .before .before .before .before .before .before .before .before .step-unbroken .ensures .0
+returns-2 c = c .before .before .before .before .before .before .before .before .step-unbroken .ensures
 
 pub step-spec : {M : Type 1} → statement M
 step-spec =
@@ -26,7 +26,6 @@ step-spec =
     (λ c. search needs)
     (λ c. search needs)
     returns
-    (λ c κs. search needs)
     step-unbroken-requires
     (λ c. search needs)
     (λ c. search needs)

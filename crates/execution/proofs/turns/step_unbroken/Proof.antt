@@ -8,13 +8,10 @@ use Rattle.execution.proofs.turns.step_unbroken.Statement.{statement}
 use Rattle.execution.proofs.turns.step_unbroken.Tie as tie
 
 returns : tie.Need-returns
-returns c = (turn-idle _ _ _ _ _ _ _ _ (c .before .before .before .before .before .before .before .before .before .before .before .before .before .pre .0) _ _ (c .before .before .before .turn .ensures) (c .before .frame-count .ensures) (c .if1 .taken), c .before .before .before .before .before .before .before .before .before .before .before .before .before .pre .1)
-
-frame-place-requires : tie.Need-frame-place-requires
-frame-place-requires c κs = c .before .before .before .before .before .before .before .before .before .before .before .before .before .before .before .before .pre .1
+returns c = turn-idle _ _ _ _ _ _ _ _ (c .before .before .before .before .before .before .before .before .before .before .before .before .before .pre) _ _ (c .before .before .before .turn .ensures) (c .before .frame-count .ensures) (c .if1 .taken)
 
 choose-requires : tie.Need-choose-requires
-choose-requires c κs = (c .before .before .before .before .before .before .before .before .before .before .before .before .before .before .before .before .before .before .before .before .before .pre .0, rw (c .before .before .before .before .before .before .before .before .before .before .before .turn .ensures) (turn-two (now (c .before .before .before .before .before .before .before .before .before .before .before .before .before .before .before .before .before .before .before .before .before .args .counts))), turn-count _ _ _ _ _ _ _ _ (c .before .before .before .before .before .before .before .before .before .before .before .before .before .before .before .before .before .before .before .before .before .pre .0) _ _ (c .before .before .before .before .before .before .before .before .before .before .before .turn .ensures) (c .before .before .before .before .before .before .before .before .before .frame-count .ensures) (c .before .before .before .before .before .before .before .before .if1 .left), c .before .before .before .before .before .before .before .row .ensures, c .before .before .before .before .frame-place .ensures)
+choose-requires c κs = (c .before .before .before .before .before .before .before .before .before .before .before .before .before .before .before .before .before .before .pre, rw (c .before .before .before .before .before .before .before .before .turn .ensures) (turn-two (now (c .before .before .before .before .before .before .before .before .before .before .before .before .before .before .before .before .before .before .args .counts))), turn-count _ _ _ _ _ _ _ _ (c .before .before .before .before .before .before .before .before .before .before .before .before .before .before .before .before .before .before .pre) _ _ (c .before .before .before .before .before .before .before .before .turn .ensures) (c .before .before .before .before .before .before .frame-count .ensures) (c .before .before .before .before .before .if1 .left), c .before .before .before .before .row .ensures)
 
 post-ties-requires : tie.Need-post-ties-requires
 post-ties-requires c κs = c .before .before .choose .ensures .ready .ties
@@ -23,7 +20,7 @@ carry-out-requires : tie.Need-carry-out-requires
 carry-out-requires c κs = still-ready _ _ _ _ _ _ _ _ _ _ _ _ _ (c .before .before .before .before .before .before .before .before .before .before .choose .ensures .ready) _ (c .before .before .before .before .before .before .before .post-ties .ensures .0)
 
 returns-2 : tie.Need-returns-2
-returns-2 c = (turn-carried _ _ _ _ _ _ _ _ (c .before .before .before .before .before .before .before .before .before .before .before .before .before .before .before .before .before .before .before .before .before .before .before .before .before .before .before .before .before .before .before .before .before .before .before .before .before .before .before .pre .0) _ _ (c .before .before .before .before .before .before .before .before .before .before .before .before .before .before .before .before .before .before .before .before .before .before .before .before .before .before .before .before .before .turn .ensures) (c .before .before .before .before .before .before .before .before .before .before .before .before .before .before .before .before .before .before .before .before .before .before .before .before .before .before .before .frame-count .ensures) (c .before .before .before .before .before .before .before .before .before .before .before .before .before .before .before .before .before .before .before .before .before .before .before .before .before .before .if1 .left) _ _ _ _ (c .before .before .before .before .before .before .before .before .before .before .before .before .before .before .before .before .before .choose .ensures) _ _ (c .before .before .before .before .before .before .before .before .before .before .before .before .before .before .post-ties .ensures .0) (c .before .before .before .before .before .before .before .before .before .before .before .before .before .before .post-ties .ensures .1) _ _ _ _ (c .before .before .before .before .before .before .carry-out .ensures), c .before .before .before .before .before .before .before .before .before .before .before .before .before .before .before .before .before .before .before .before .before .before .frame-place .ensures .keeps)
+returns-2 c = turn-carried _ _ _ _ _ _ _ _ (c .before .before .before .before .before .before .before .before .before .before .before .before .before .before .before .before .before .before .before .before .before .before .before .before .before .before .before .before .before .before .before .before .before .before .before .before .pre) _ _ (c .before .before .before .before .before .before .before .before .before .before .before .before .before .before .before .before .before .before .before .before .before .before .before .before .before .before .turn .ensures) (c .before .before .before .before .before .before .before .before .before .before .before .before .before .before .before .before .before .before .before .before .before .before .before .before .frame-count .ensures) (c .before .before .before .before .before .before .before .before .before .before .before .before .before .before .before .before .before .before .before .before .before .before .before .if1 .left) _ _ _ _ (c .before .before .before .before .before .before .before .before .before .before .before .before .before .before .before .before .before .choose .ensures) _ _ (c .before .before .before .before .before .before .before .before .before .before .before .before .before .before .post-ties .ensures .0) (c .before .before .before .before .before .before .before .before .before .before .before .before .before .before .post-ties .ensures .1) _ _ _ _ (c .before .before .before .before .before .before .carry-out .ensures)
 
 pub step-unbroken-spec : {M : Type 1} → statement M
 step-unbroken-spec =
@@ -35,7 +32,6 @@ step-unbroken-spec =
     returns
     (λ c. search needs)
     (λ c κs. search needs)
-    frame-place-requires
     choose-requires
     post-ties-requires
     carry-out-requires
