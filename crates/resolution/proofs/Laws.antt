@@ -12,8 +12,7 @@ use borrow.Author.Tests.{eq-eqb, ne-eqb}
 use Rattle.definition.specs.Lists.{rows, writeRows}
 use Rattle.definition.specs.Requests.{Request, at, sameRequest}
 use Rattle.definition.specs.Classes.{Base, Entry, Field, find, superOf, ownSlots, slots}
-use Rattle.definition.specs.Superclasses.{Falls, nearest, below}
-use Rattle.laws.specs.Agreement.{super-falls}
+use Rattle.definition.specs.Superclasses.{Falls, below}
 use Rattle.laws.specs.Slots.{slots-up, slots-none}
 use Rattle.laws.specs.Upward.{nearest-here, nearest-up, nearest-none}
 use Rattle.layout.specs.Places.{rows-length, rows-step, rows-none, rows-last}
@@ -61,15 +60,6 @@ module _ (sup : ℕ → Option ℕ) (falls : Falls sup) (c d : ℕ) where
   pub below-none : (c ≡ d → ⊥) → sup c ≡ none → below sup c d ≡ false
   unfolding below
   below-none n e = rw (nearest-none sup falls (λ x. eqb x d) c (ne-eqb c d n) e, below)
-
--- Nothing is below class 0
-
-pub super-first : (b : Base) → superOf b 0 ≡ none
-super-first b = go (superOf b 0) refl
-  where
-    go : (o : Option ℕ) → superOf b 0 ≡ o → o ≡ none
-    go none e = refl
-    go (some p) e = absurd (omega (arith, super-falls b 0 p e))
 
 -- Numbers written from a place on, the last first
 

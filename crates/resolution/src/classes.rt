@@ -60,13 +60,10 @@ pub fn name_of(counts: &[u16], classes: &[u16], kept: &[u8], c: u32) -> u16
     classfile::class_name(file_of(counts, classes, kept, c))
 }
 
-// The direct superclass, looked up under the class's own loader; its number is lower, or there is none. Below class 0 there is no number.
+// The direct superclass, looked up under the class's own loader; its number is lower, or there is none.
 pub fn super_of(counts: &[u16], classes: &[u16], kept: &[u8], cache: &[u16], c: u32) -> Found
     ensures { λ r. ⌜ r ≡ found (superOf (quickBase (now (counts .entry)) (now (classes .entry)) (now (kept .entry)) (now (cache .entry))) c) ⌝ }
 {
-    if c == 0 {
-        return Found::Absent;
-    }
     if !is_class(counts, c) {
         return Found::Absent;
     }

@@ -7,32 +7,26 @@ use denote.Ref.{now}
 use borrow.Author.Needs.{needs}
 use borrow.Author.Tests.{ltb-false, ltb-true, not-false, not-true}
 use Rattle.definition.specs.Tables.{classRowAt}
-use Rattle.definition.specs.Classes.{superOf}
 use Rattle.classfile.specs.Reading.{superName}
 use Rattle.resolution.specs.Quick.{found, found-absent, found-at, super-higher, super-lower, super-past, super-uncached}
-use Rattle.resolution.proofs.Laws.{super-first}
 use Rattle.resolution.proofs.classes.super_of.Statement.{statement}
 use Rattle.resolution.proofs.classes.super_of.Tie as tie
 
 returns : tie.Need-returns
 unfolding found
-returns c = ap found (sym (ap (superOf _) (c .if1 .taken) ∙ super-first _))
+returns c = ap found (sym (super-past _ _ _ _ _ (ltb-false _ _ (sym (c .before .is-class .ensures) ∙ not-true _ (c .if1 .taken)))))
 
 returns-2 : tie.Need-returns-2
-unfolding found
-returns-2 c = ap found (sym (super-past _ _ _ _ _ (ltb-false _ _ (sym (c .before .is-class .ensures) ∙ not-true _ (c .if2 .taken)))))
+unfolding found classRowAt
+returns-2 c = ap found (sym (super-uncached _ _ _ _ _ (ltb-true _ _ (sym (c .before .before .before .before .before .before .before .is-class .ensures) ∙ not-false _ (c .before .before .before .before .before .before .if1 .left))) _ _ (c .before .before .before .row-cell .ensures ∙ ap (λ (i : ℕ). getD (now (c .before .before .before .before .before .before .before .before .before .before .before .before .args .classes)) i 0) (omega arith)) (c .before .before .before .before .super-name .ensures ∙ ap superName (c .before .before .before .before .before .file-of .ensures)) (found-absent _ (sym (c .before .before .find .ensures) ∙ c .enum-told .given .1))))
 
 returns-3 : tie.Need-returns-3
 unfolding found classRowAt
-returns-3 c = ap found (sym (super-uncached _ _ _ _ _ (ltb-true _ _ (sym (c .before .before .before .before .before .before .before .is-class .ensures) ∙ not-false _ (c .before .before .before .before .before .before .if2 .left))) _ _ (c .before .before .before .row-cell .ensures ∙ ap (λ (i : ℕ). getD (now (c .before .before .before .before .before .before .before .before .before .before .before .before .before .args .classes)) i 0) (omega arith)) (c .before .before .before .before .super-name .ensures ∙ ap superName (c .before .before .before .before .before .file-of .ensures)) (found-absent _ (sym (c .before .before .find .ensures) ∙ c .enum-told .given .1))))
+returns-3 c = ap found (sym (super-lower _ _ _ _ _ (ltb-true _ _ (sym (c .before .before .before .before .before .before .before .before .before .is-class .ensures) ∙ not-false _ (c .before .before .before .before .before .before .before .before .if1 .left))) _ _ (c .before .before .before .before .before .row-cell .ensures ∙ ap (λ (i : ℕ). getD (now (c .before .before .before .before .before .before .before .before .before .before .before .before .before .before .args .classes)) i 0) (omega arith)) (c .before .before .before .before .before .before .super-name .ensures ∙ ap superName (c .before .before .before .before .before .before .before .file-of .ensures)) _ (found-at _ _ (sym (c .before .before .before .before .find .ensures) ∙ c .before .before .p .given .1)) (c .if2 .taken)))
 
 returns-4 : tie.Need-returns-4
 unfolding found classRowAt
-returns-4 c = ap found (sym (super-lower _ _ _ _ _ (ltb-true _ _ (sym (c .before .before .before .before .before .before .before .before .before .is-class .ensures) ∙ not-false _ (c .before .before .before .before .before .before .before .before .if2 .left))) _ _ (c .before .before .before .before .before .row-cell .ensures ∙ ap (λ (i : ℕ). getD (now (c .before .before .before .before .before .before .before .before .before .before .before .before .before .before .before .args .classes)) i 0) (omega arith)) (c .before .before .before .before .before .before .super-name .ensures ∙ ap superName (c .before .before .before .before .before .before .before .file-of .ensures)) _ (found-at _ _ (sym (c .before .before .before .before .find .ensures) ∙ c .before .before .p .given .1)) (c .if3 .taken)))
-
-returns-5 : tie.Need-returns-5
-unfolding found classRowAt
-returns-5 c = ap found (sym (super-higher _ _ _ _ _ (ltb-true _ _ (sym (c .before .before .before .before .before .before .before .before .before .is-class .ensures) ∙ not-false _ (c .before .before .before .before .before .before .before .before .if2 .left))) _ _ (c .before .before .before .before .before .row-cell .ensures ∙ ap (λ (i : ℕ). getD (now (c .before .before .before .before .before .before .before .before .before .before .before .before .before .before .before .args .classes)) i 0) (omega arith)) (c .before .before .before .before .before .before .super-name .ensures ∙ ap superName (c .before .before .before .before .before .before .before .file-of .ensures)) _ (found-at _ _ (sym (c .before .before .before .before .find .ensures) ∙ c .before .before .p .given .1)) (c .if3 .left)))
+returns-4 c = ap found (sym (super-higher _ _ _ _ _ (ltb-true _ _ (sym (c .before .before .before .before .before .before .before .before .before .is-class .ensures) ∙ not-false _ (c .before .before .before .before .before .before .before .before .if1 .left))) _ _ (c .before .before .before .before .before .row-cell .ensures ∙ ap (λ (i : ℕ). getD (now (c .before .before .before .before .before .before .before .before .before .before .before .before .before .before .args .classes)) i 0) (omega arith)) (c .before .before .before .before .before .before .super-name .ensures ∙ ap superName (c .before .before .before .before .before .before .before .file-of .ensures)) _ (found-at _ _ (sym (c .before .before .before .before .find .ensures) ∙ c .before .before .p .given .1)) (c .if2 .left)))
 
 pub super-of-spec : {M : Type 1} → statement M
-super-of-spec = tie.close (tie.spec returns (λ c κs. search needs) returns-2 (λ c κs. search needs) (λ c κs. search needs) (λ c κs. search needs) (λ c κs. search needs) (λ c. search needs) (λ c. search needs) returns-3 returns-4 returns-5)
+super-of-spec = tie.close (tie.spec (λ c κs. search needs) returns (λ c κs. search needs) (λ c κs. search needs) (λ c κs. search needs) (λ c κs. search needs) (λ c. search needs) (λ c. search needs) returns-2 returns-3 returns-4)
