@@ -5,8 +5,16 @@
 #include <stddef.h>
 #include <stdint.h>
 
+#ifdef __cplusplus
+extern "C" {
+#endif
+
 /* 0 if the bytes are a class file that the verifier accepts, 2 if they are no class file, 6 if the verifier rejects it.
    `bytes` is `length` bytes that nothing else changes during the call; they may be any bytes, of any number, also none. */
 uint8_t tariff_check(const uint8_t *bytes, size_t length);
+
+#ifdef __cplusplus
+}
+#endif
 
 #endif

@@ -13,6 +13,7 @@ use definition::Instruction;
 use definition::Refusal;
 use instructions::Plan;
 use resolution::Found;
+use resolution::method_index;
 
 // The class whose method is selected from class c; from class e it is class s.
 fn selected(
@@ -86,15 +87,7 @@ fn call_method(
             ) else {
                 return instructions::refuse(14);
             };
-            let Found::At(j) = resolution::method_index(
-                counts,
-                classes,
-                kept,
-                a,
-                name,
-                argument,
-                result,
-            ) else {
+            let Found::At(j) = method_index(counts, classes, kept, a, name, argument, result) else {
                 return instructions::refuse(14);
             };
             Plan::Enter(top - 1, a, j, o, v.kind, v.bits)

@@ -17,8 +17,8 @@ ghost use Rattle.definition.specs.Loading.{subtypeIs};
 ghost use Rattle.definition.specs.Tables.{tieAt, subtypeAt, putThree};
 ghost use Rattle.constraints.specs.Posting.{newTieIn, newSubtypesIn, newNotesIn, note, tiesAfter, subtypesAfter, roomy, counted, notesPosted};
 
-// Two cells are these two.
-fn are(a: u16, b: u16, x: u16, y: u16) -> bool
+// Two cells are equal to these two.
+fn are_equal(a: u16, b: u16, x: u16, y: u16) -> bool
     ensures { λ r. ⌜ r ≡ (eqb a x && eqb b y) ⌝ }
 {
     if a == x { b == y } else { false }
@@ -46,10 +46,10 @@ fn tie_is(ties: &[u16], i: usize, one: u8, two: u8, name: u16) -> bool
     if at16(ties, i * 3 + 2) != name {
         return false;
     }
-    if are(first, second, near, far) {
+    if are_equal(first, second, near, far) {
         return true;
     }
-    are(first, second, far, near)
+    are_equal(first, second, far, near)
 }
 
 // A tie is among the first rows.
@@ -91,7 +91,7 @@ fn subtype_is(subtypes: &[u16], i: usize, loader: u8, low: u16, high: u16) -> bo
     requires { ⌜ i < 65536 ⌝ }
     ensures { λ r. ⌜ r ≡ subtypeIs loader (note low high) (subtypeAt (now (subtypes .entry)) i) ⌝ }
 {
-    if are(
+    if are_equal(
         at16(subtypes, i * 3),
         at16(subtypes, i * 3 + 1),
         from8(loader),

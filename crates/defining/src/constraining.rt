@@ -1,6 +1,8 @@
 // The constraints of a class that is to be defined: limits, then agreement.
 use crate::overrides::post_methods;
+use cells::at16;
 use constraints::Added;
+use constraints::add_subtypes;
 use definition::Refusal;
 ghost use mathlib.Core.Path.{_≡_};
 ghost use mathlib.Core.Option.{some};
@@ -38,13 +40,13 @@ fn has_room(
     requires { ⌜ length (now file) ≤ 4096 ⌝ }
     ensures { λ r. ⌜ r ≡ roomFor (quickBase (now (counts .entry)) (now (classes .entry)) (now (kept .entry)) (now (cache .entry))) (now (counts .entry)) (now (file .entry)) p tied ⌝ }
 {
-    if 16384 < cells::wide16(cells::at16(counts, 1)) + file.len() {
+    if 16384 < cells::wide16(at16(counts, 1)) + file.len() {
         return false;
     }
-    if 64 <= cells::at16(counts, 0) {
+    if 64 <= at16(counts, 0) {
         return false;
     }
-    if 256 <= cells::at16(counts, 2) {
+    if 256 <= at16(counts, 2) {
         return false;
     }
     if 256 < tied {
@@ -71,7 +73,7 @@ fn class_agrees(
     requires { ⌜ Searchable (now counts) (now classes) (now kept) (now cache) × (getD (now counts) 0 0 < 64) × (getD (now counts) 2 0 < 256) × (tied ≤ 256) × (noted ≤ 256) × (find (quickBase (now counts) (now classes) (now kept) (now cache) .cache) (at loader (superName (now file))) ≡ some p) ⌝ }
     ensures { λ r. ⌜ r ≡ agrees (world (baseWith (quickBase (now (counts .entry)) (now (classes .entry)) (now (kept .entry)) (now (cache .entry))) (classOf loader (quickFile (now (file .entry))))) (rows (tieAt (now (ties .entry))) tied 0) (rows (subtypeAt (now (subtypes .entry))) noted 0)) ⌝ }
 {
-    let class = cells::at16(counts, 0);
+    let class = at16(counts, 0);
     let mut counted = [0u16; 8];
     let mut trial = [0u16; 768];
     entries::enter(
@@ -89,7 +91,7 @@ fn class_agrees(
     constraints::agree(
         &supers,
         &trial,
-        cells::at16(&counted, 2),
+        at16(&counted, 2),
         ties,
         tied,
         subtypes,
@@ -124,18 +126,12 @@ pub(crate) fn decide_constraints(
         kept,
         cache,
         new_ties,
-        cells::at16(counts, 3),
+        at16(counts, 3),
         loader,
         p,
         file,
     );
-    let added = constraints::add_subtypes(
-        new_subtypes,
-        cells::at16(counts, 4),
-        loader,
-        notes,
-        note_count,
-    );
+    let added = add_subtypes(new_subtypes, at16(counts, 4), loader, notes, note_count);
     let Added::Count(noted) = added else {
         return Defining::Refuse(Refusal::Word(10));
     };

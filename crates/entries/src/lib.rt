@@ -53,7 +53,8 @@ pub fn put_three(t: &mut [u16], i: u16, a: u16, b: u16, c: u16)
     cells::put16(t, place + 2, c);
 }
 
-// The counts and the cache with one more entry, on copies of their lengths.
+// The counts and the cache written over the fronts of two tables, of any lengths, with one more entry: its row stands at the old count of entries,
+// and the count grows by 1, from 65535 to 0. A cell past the end of its table is not written.
 pub fn enter(
     counts: &[u16],
     cache: &[u16],

@@ -1,5 +1,5 @@
 -- What a host is told of a call: the answer table's six cells, and the number that the call returns.
-use mathlib.Core.Path.{_≡_, refl, sym, ap, subst}
+use mathlib.Core.Path.{_≡_, refl, sym, ap, subst, _∙_}
 use mathlib.Core.List.{List, [], _∷_}
 use Prim.Native.Nat.{ℕ}
 use lib.ListN.{set}
@@ -11,10 +11,11 @@ use Rattle.definition.specs.declared.Answer.{Answer}
 use Rattle.definition.specs.declared.Answer.the-variants.{Idle, Ran, Finished, Refused}
 use Rattle.definition.specs.declared.Reply.{Reply}
 use Rattle.definition.specs.declared.Reply.the-variants.{Accepted, Defined, Stepped, RanFor, Denied}
-use Rattle.definition.specs.Tables.{Tables}
-use Rattle.definition.specs.Calls.{Call, callStep, callRun, Done, done, stepTables, ofStep, run, perform}
+use Rattle.definition.specs.Tables.{Tables, view}
+use Rattle.definition.specs.Calls.{Call, callStep, callRun, Done, done, turn, stepTables, ofStep, run, perform}
 use Rattle.layout.specs.Cells.{cells-sets}
-use Rattle.script.specs.Details.{refusalNumbers, stepNumbers, replyNumbers, turnIn}
+use Rattle.script.specs.Details.{refusalNumbers, stepNumbers, replyNumbers}
+use Rattle.tasks.specs.Turns.{turnOf, turn-is}
 
 unfoldable pub kindOf : Reply → ℕ
 kindOf Accepted = 0
@@ -37,7 +38,7 @@ pub record Reported (turn : ℕ) (reply : Reply) (before after : List ℕ) (r : 
 -- a call on the tables t leaves the tables u, and its reply is reported
 pub record Called (c : Call) (t u : Tables) (before after : List ℕ) (r : ℕ) : Type 0 where
   pub tables : u ≡ perform c t .tables
-  pub reported : Reported (turnIn (t .counts)) (perform c t .answer) before after r
+  pub reported : Reported (turn (view t)) (perform c t .answer) before after r
 
 -- Laws
 
@@ -74,11 +75,12 @@ pub cells-written : (a b c d e f : ℕ) (t : List ℕ)
     → set (set (set (set (set (set t 0 a) 1 b) 2 c) 3 d) 4 e) 5 f ≡ writeRows set (a ∷ b ∷ c ∷ d ∷ e ∷ f ∷ []) 0 t
 cells-written a b c d e f t = sym (cells-sets (a ∷ b ∷ c ∷ d ∷ e ∷ f ∷ []) 0 t)
 
-pub called : (c : Call) (t u : Tables) (before after : List ℕ) (reply : Reply) (r : ℕ) → record { answer = reply; tables = u } ≡ perform c t
-    → Reported (turnIn (t .counts)) reply before after r → Called c t u before after r
-called c t u before after reply r e p = record {
+pub called : (c : Call) (t u : Tables) (before after : List ℕ) (reply : Reply) (k r : ℕ) → record { answer = reply; tables = u } ≡ perform c t
+    → k ≡ turnOf (t .counts) → Reported k reply before after r → Called c t u before after r
+called c t u before after reply k r e turns p = record {
   tables = ap (λ (d : Done Reply). d .tables) e;
-  reported = subst (λ (a : Reply). Reported (turnIn (t .counts)) a before after r) (ap (λ (d : Done Reply). d .answer) e) p;
+  reported = subst (λ (a : Reply). Reported (turn (view t)) a before after r) (ap (λ (d : Done Reply). d .answer) e)
+      (subst (λ (j : ℕ). Reported j reply before after r) (turns ∙ sym (turn-is t)) p);
 }
 
 -- a step and a run as calls

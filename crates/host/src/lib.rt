@@ -75,7 +75,7 @@ pub extern "C" fn tariff_boot(
 ) -> u8
     ensures { λ r. ⌜ Called callBoot (tables (now (counts .entry)) (now (classes .entry)) (now (kept .entry)) (now (cache .entry)) (now (ties .entry)) (now (subtypes .entry)) (now (objects .entry)) (now (frames .entry))) (tables (now (counts .exit)) (now (classes .exit)) (now (kept .entry)) (now (cache .exit)) (now (ties .entry)) (now (subtypes .entry)) (now (objects .entry)) (now (frames .entry))) (now (answer .entry)) (now (answer .exit)) r ⌝ }
 {
-    let turn = script::turn_of(counts);
+    let turn = tasks::turn(counts);
     let reply = loading::boot(
         counts,
         classes,
@@ -106,7 +106,7 @@ pub extern "C" fn tariff_define(
 ) -> u8
     ensures { λ r. ⌜ Called (callDefine loader (now (file .entry))) (tables (now (counts .entry)) (now (classes .entry)) (now (kept .entry)) (now (cache .entry)) (now (ties .entry)) (now (subtypes .entry)) (now (objects .entry)) (now (frames .entry))) (tables (now (counts .exit)) (now (classes .exit)) (now (kept .exit)) (now (cache .exit)) (now (ties .exit)) (now (subtypes .exit)) (now (objects .entry)) (now (frames .entry))) (now (answer .entry)) (now (answer .exit)) r ⌝ }
 {
-    let turn = script::turn_of(counts);
+    let turn = tasks::turn(counts);
     let reply = loading::define(
         counts,
         classes,
@@ -140,7 +140,7 @@ pub extern "C" fn tariff_record(
 ) -> u8
     ensures { λ r. ⌜ Called (callRecord loader name class) (tables (now (counts .entry)) (now (classes .entry)) (now (kept .entry)) (now (cache .entry)) (now (ties .entry)) (now (subtypes .entry)) (now (objects .entry)) (now (frames .entry))) (tables (now (counts .exit)) (now (classes .entry)) (now (kept .entry)) (now (cache .exit)) (now (ties .entry)) (now (subtypes .entry)) (now (objects .entry)) (now (frames .entry))) (now (answer .entry)) (now (answer .exit)) r ⌝ }
 {
-    let turn = script::turn_of(counts);
+    let turn = tasks::turn(counts);
     let reply = loading::record(
         counts,
         classes,
@@ -177,7 +177,7 @@ pub extern "C" fn tariff_start(
 ) -> u8
     ensures { λ r. ⌜ Called (callStart task loader name method value) (tables (now (counts .entry)) (now (classes .entry)) (now (kept .entry)) (now (cache .entry)) (now (ties .entry)) (now (subtypes .entry)) (now (objects .entry)) (now (frames .entry))) (tables (now (counts .exit)) (now (classes .entry)) (now (kept .entry)) (now (cache .entry)) (now (ties .entry)) (now (subtypes .entry)) (now (objects .exit)) (now (frames .exit))) (now (answer .entry)) (now (answer .exit)) r ⌝ }
 {
-    let turn = script::turn_of(counts);
+    let turn = tasks::turn(counts);
     let reply = execution::start(
         counts,
         classes,
@@ -211,7 +211,7 @@ pub extern "C" fn tariff_step(
 ) -> u8
     ensures { λ r. ⌜ Called callStep (tables (now (counts .entry)) (now (classes .entry)) (now (kept .entry)) (now (cache .entry)) (now (ties .entry)) (now (subtypes .entry)) (now (objects .entry)) (now (frames .entry))) (tables (now (counts .exit)) (now (classes .entry)) (now (kept .entry)) (now (cache .entry)) (now (ties .exit)) (now (subtypes .entry)) (now (objects .exit)) (now (frames .exit))) (now (answer .entry)) (now (answer .exit)) r ⌝ }
 {
-    let turn = script::turn_of(counts);
+    let turn = tasks::turn(counts);
     let result = execution::step(
         counts,
         classes,
@@ -241,7 +241,7 @@ pub extern "C" fn tariff_run(
 ) -> u8
     ensures { λ r. ⌜ Called (callRun n) (tables (now (counts .entry)) (now (classes .entry)) (now (kept .entry)) (now (cache .entry)) (now (ties .entry)) (now (subtypes .entry)) (now (objects .entry)) (now (frames .entry))) (tables (now (counts .exit)) (now (classes .entry)) (now (kept .entry)) (now (cache .entry)) (now (ties .exit)) (now (subtypes .entry)) (now (objects .exit)) (now (frames .exit))) (now (answer .entry)) (now (answer .exit)) r ⌝ }
 {
-    let turn = script::turn_of(counts);
+    let turn = tasks::turn(counts);
     let reply = execution::run(
         counts,
         classes,
@@ -272,7 +272,7 @@ pub extern "C" fn tariff_drop(
 ) -> u8
     ensures { λ r. ⌜ Called (callDrop task) (tables (now (counts .entry)) (now (classes .entry)) (now (kept .entry)) (now (cache .entry)) (now (ties .entry)) (now (subtypes .entry)) (now (objects .entry)) (now (frames .entry))) (tables (now (counts .exit)) (now (classes .entry)) (now (kept .entry)) (now (cache .entry)) (now (ties .entry)) (now (subtypes .entry)) (now (objects .entry)) (now (frames .entry))) (now (answer .entry)) (now (answer .exit)) r ⌝ }
 {
-    let turn = script::turn_of(counts);
+    let turn = tasks::turn(counts);
     let reply = loading::drop_task(
         counts,
         classes,

@@ -13,10 +13,11 @@ use Rattle.definition.specs.Tables.{Tables, view}
 use Rattle.definition.specs.Calls.{Call, done, turn, perform}
 use Rattle.definition.specs.Script.{Line, Turned, printedLine, turned, readLine, carryOut}
 use Rattle.script.specs.declared.Details.{Details}
-use Rattle.script.specs.Details.{Detailed, shown, turnIn, turn-is}
+use Rattle.script.specs.Details.{Detailed, shown}
 use Rattle.script.specs.Printing as printing
 use Rattle.script.specs.Printing.{lineOf}
 use Rattle.script.specs.Facts.{line-facts}
+use Rattle.tasks.specs.Turns.{turnOf, turn-is}
 use Rattle.calls.specs.declared.Call as made
 use Rattle.calls.specs.Made.{callOf}
 use Rattle.lines.specs.Asked.{Asked, Calls, Nothing, Heard}
@@ -43,7 +44,7 @@ carriedOn t out (some x) = printedOn out x
 -- Laws
 
 -- the call made, and its answer printed
-pub answered : (b : ℕ) (t u : Tables) (c : Call) (k : ℕ) (r : Reply) (d : Details) (n : ℕ) (out after : List ℕ) → done r u ≡ perform c t → k ≡ turnIn (t .counts)
+pub answered : (b : ℕ) (t u : Tables) (c : Call) (k : ℕ) (r : Reply) (d : Details) (n : ℕ) (out after : List ℕ) → done r u ≡ perform c t → k ≡ turnOf (t .counts)
     → Detailed k r d → printing.Printed (lineOf b (d .refusal) (d .one) (d .two) (d .three)) n out after
     → left (Printed n) u after ≡ printedOn out (turned b t (perform c t))
 unfolding printedOn turned lineOf shown

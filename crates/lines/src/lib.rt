@@ -96,7 +96,7 @@ fn answer(
 ) -> Outcome
     ensures { λ r. ⌜ left r (tables (now (counts .exit)) (now (classes .exit)) (now (kept .exit)) (now (cache .exit)) (now (ties .exit)) (now (subtypes .exit)) (now (objects .exit)) (now (frames .exit))) (now (out .exit)) ≡ printedOn (now (out .entry)) (turned letter (tables (now (counts .entry)) (now (classes .entry)) (now (kept .entry)) (now (cache .entry)) (now (ties .entry)) (now (subtypes .entry)) (now (objects .entry)) (now (frames .entry))) (perform (callOf call (now (file .entry))) (tables (now (counts .entry)) (now (classes .entry)) (now (kept .entry)) (now (cache .entry)) (now (ties .entry)) (now (subtypes .entry)) (now (objects .entry)) (now (frames .entry))))) ⌝ }
 {
-    let turn = script::turn_of(counts);
+    let turn = tasks::turn(counts);
     let reply = calls::perform(
         counts,
         classes,

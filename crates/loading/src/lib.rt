@@ -1,4 +1,4 @@
-// The calls that load classes and clear tasks: boot and drop, and define and record of the crates below.
+// The calls that load classes and clear tasks: boot and drop, and define and record of crates defining and recording.
 pub use defining::define;
 use definition::Refusal;
 use definition::Reply;

@@ -1,16 +1,9 @@
 -- A printed line's numbers as cells hold them: an int is its 32 bits. Read as people read them they are the definition's details.
 use mathlib.Core.Path.{_≡_, refl, ap}
-use mathlib.Core.Bool.{true, false}
-use mathlib.Core.List.{List}
-use Prim.Native.Nat.{ℕ, zero, suc, _<_}
-use lib.ListN.{getD}
-use lib.Dec.{eqb, eqb·suc-zero}
+use Prim.Native.Nat.{ℕ, _<_}
 use lib.IntN.{pos}
 use native.Mathlib.Omega.{arith}
 use borrow.Author.Tests.{lt-ltb}
-use Rattle.definition.specs.Lists.{stack}
-use Rattle.definition.specs.Tables.{Tables, view, viewOver, framesOf, frameIn}
-use Rattle.definition.specs.Calls.{turn, turnOf}
 use Rattle.definition.specs.Answers as answers
 use Rattle.definition.specs.Answers.{signed, line, refusalDetails, stepDetails, details}
 use Rattle.definition.specs.declared.Refusal.{Refusal}
@@ -80,16 +73,3 @@ module _ (k : ℕ) (small : k < 2147483648) where
 
   pub detailed : (r : Reply) (d : Details) → d ≡ replyNumbers k r → Detailed k r d
   detailed r d e = record { numbered = e; read = rw e (shown-reply r) }
-
--- Whose turn it is, by the count of the quote's frames
-
-unfoldable pub turnIn : List ℕ → ℕ
-turnIn counts = elim (eqb (getD counts 6 0) 0) [ true ↦ 1 | false ↦ 0 ]
-
-pub turn-is : (t : Tables) → turn (view t) ≡ turnIn (t .counts)
-unfolding turn view viewOver framesOf turnOf turnIn stack
-turn-is t = step (getD (t .counts) 6 0)
-  where
-    step : (k : ℕ) → turnOf (stack (frameIn (t .frames) 0) k) ≡ elim (eqb k 0) as (λ _. ℕ) [ true ↦ 1 | false ↦ 0 ]
-    step zero = refl
-    step (suc k) = rw (eqb·suc-zero k)

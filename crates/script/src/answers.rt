@@ -1,7 +1,7 @@
-// The details of an answer, and whose turn it is.
+// The details of an answer.
 use crate::Details;
 ghost use mathlib.Core.Path.{_≡_};
-ghost use Rattle.script.specs.Details.{refusalNumbers, stepNumbers, Detailed, turnIn};
+ghost use Rattle.script.specs.Details.{refusalNumbers, stepNumbers, Detailed};
 use definition::Answer;
 use definition::Refusal;
 use definition::Reply;
@@ -72,11 +72,4 @@ pub fn details_of(turn: u8, reply: Reply) -> Details
         Reply::RanFor(_, answer) => step_details(turn, answer),
         Reply::Denied(refusal) => refusal_details(0, refusal),
     }
-}
-
-// The task whose turn it is: the quote if it has a frame, else the report.
-pub fn turn_of(counts: &[u16]) -> u8
-    ensures { λ r. ⌜ r ≡ turnIn (now (counts .entry)) ⌝ }
-{
-    if cells::at16(counts, 6) == 0 { 1 } else { 0 }
 }

@@ -3,11 +3,10 @@ mod fields; // fields.rt: parts of a line, and where the first field ends
 mod numbers; // numbers.rt: decimal numbers and ints
 mod files; // files.rt: a file as pairs of hexadecimal digits
 mod reading; // reading.rt: a line read as a command
-mod answers; // answers.rt: the details of an answer, and whose turn it is
+mod answers; // answers.rt: the details of an answer
 mod printing; // printing.rt: an answer printed as a line
 
 pub use answers::details_of;
-pub use answers::turn_of;
 pub use printing::print_line;
 pub use reading::read_line;
 

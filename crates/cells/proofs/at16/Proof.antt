@@ -1,3 +1,4 @@
+-- A cell of 16 bits is read at its place; a place past the end reads 0.
 use denote.Ref.{now}
 use mathlib.Core.Path.{sym}
 use lib.ListN.{List·getD-eq-default}
@@ -7,19 +8,15 @@ use Rattle.cells.proofs.at16.Tie as tie
 use Rattle.cells.proofs.at16.Reads as reads
 use Rattle.cells.proofs.at16.Lts as lts
 
--- src/lib.rt:52:22
 mul-result : tie.Need-mul-result
 mul-result c = search needs
 
--- src/lib.rt:52:22
 shared-slice-read-result : tie.Need-shared-slice-read-result
 shared-slice-read-result c = search needs
 
--- src/lib.rt:49:1
 returns : tie.Need-returns
 returns c = search needs
 
--- src/lib.rt:49:1
 returns-2 : tie.Need-returns-2
 returns-2 c = sym (List·getD-eq-default (now (c .before .args .t)) 0 (c .if1 .left))
 

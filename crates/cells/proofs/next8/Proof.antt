@@ -1,3 +1,4 @@
+-- The byte after a place is read; past the end it is 0, and no place is too high to have a place after it.
 use denote.Ref.{now}
 use mathlib.Core.Path.{sym}
 use Prim.Native.Nat.{_+_, _≤_}
@@ -10,19 +11,15 @@ use Rattle.cells.proofs.next8.Reads as reads
 use Rattle.cells.proofs.next8.Lts as lts
 use Rattle.cells.proofs.at8.Reads as at8-reads
 
--- src/lib.rt:86:29
 add-at8 : tie.Need-add-at8
 add-at8 c = search needs
 
--- src/lib.rt:86:22
 at8-requires : tie.Need-at8-requires
 at8-requires c κs = search needs
 
--- src/lib.rt:83:1
 returns : tie.Need-returns
 returns c = search needs
 
--- src/lib.rt:83:1
 returns-2 : tie.Need-returns-2
 returns-2 c = let h : length (now (c .before .before .args .t)) ≤ c .before .before .args .i + 1 = omega arith in sym (List·getD-eq-default (now (c .before .before .args .t)) 0 h)
 

@@ -1,3 +1,4 @@
+-- A byte is written at its place, and no other changes; past the end nothing is written.
 use mathlib.Core.Path.{sym}
 use lib.Seq.{set-out}
 use borrow.Author.Needs.{needs}
@@ -6,20 +7,15 @@ use Rattle.cells.proofs.put8.Tie as tie
 use Rattle.cells.proofs.put8.Reads as reads
 use Rattle.cells.proofs.put8.Lts as lts
 
--- src/lib.rt:74:9
--- src/lib.rt:74:9
 slice-write-t : tie.Need-slice-write-t
 slice-write-t c = search needs
 
--- src/lib.rt:70:1
 same-length : tie.Need-same-length
 same-length c = search needs
 
--- src/lib.rt:70:1
 returns : tie.Need-returns
 returns c = search needs
 
--- src/lib.rt:70:1
 returns-2 : tie.Need-returns-2
 returns-2 c = sym (set-out _ _ _ (c .if1 .left))
 

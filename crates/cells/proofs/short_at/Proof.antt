@@ -1,3 +1,4 @@
+-- 16 bits are the byte at a place and the byte after it, the higher first; a byte past the end is 0.
 use Rattle.definition.specs.Instructions.{shortAt}
 use borrow.Author.Needs.{needs}
 use Rattle.cells.proofs.short_at.Statement.{statement}
@@ -8,31 +9,24 @@ use Rattle.cells.proofs.at8.Reads as at8-reads
 use Rattle.cells.proofs.from8.Reads as from8-reads
 use Rattle.cells.proofs.next8.Reads as next8-reads
 
--- src/lib.rt:93:11
 at8-requires : tie.Need-at8-requires
 at8-requires c κs = search needs
 
--- src/lib.rt:93:5
 from8-requires : tie.Need-from8-requires
 from8-requires c κs = search needs
 
--- src/lib.rt:93:5
 mul-result : tie.Need-mul-result
 mul-result c = search needs
 
--- src/lib.rt:93:36
 next8-requires : tie.Need-next8-requires
 next8-requires c κs = search needs
 
--- src/lib.rt:93:30
 from8-requires-2 : tie.Need-from8-requires-2
 from8-requires-2 c κs = search needs
 
--- src/lib.rt:93:5
 add-result : tie.Need-add-result
 add-result c = search needs
 
--- src/lib.rt:90:1
 returns : tie.Need-returns
 unfolding shortAt
 returns c = rw (c .from82 .ensures .0, c .before .next8 .ensures, c .before .before .from8 .ensures .0, c .before .before .before .at8 .ensures)

@@ -1,4 +1,4 @@
--- `frames::depth` meets its contract.
+-- A frame's operand count is the fourth cell of its row.
 use borrow.Author.Needs.{needs}
 use Rattle.frames.proofs.depth.Statement.{statement}
 use Rattle.frames.proofs.depth.Tie as tie

@@ -1,4 +1,4 @@
--- `frames::field` meets its contract.
+-- A field is read from its two cells in the object's row.
 use borrow.Author.Needs.{needs}
 use Rattle.definition.specs.Tables.{fieldAt}
 use Rattle.frames.proofs.field.Statement.{statement}

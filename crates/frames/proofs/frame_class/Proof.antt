@@ -1,4 +1,4 @@
--- `frames::frame_class` meets its contract.
+-- A frame's class is the first cell of its row.
 use borrow.Author.Needs.{needs}
 use Rattle.frames.proofs.frame_class.Statement.{statement}
 use Rattle.frames.proofs.frame_class.Tie as tie

@@ -1,4 +1,4 @@
--- `frames::frame_method` meets its contract.
+-- The place of a frame's method in its class is the second cell of its row.
 use borrow.Author.Needs.{needs}
 use Rattle.frames.proofs.frame_method.Statement.{statement}
 use Rattle.frames.proofs.frame_method.Tie as tie

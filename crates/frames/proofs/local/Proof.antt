@@ -1,4 +1,4 @@
--- `frames::local` meets its contract.
+-- A local is read from its two cells in the frame's row.
 use borrow.Author.Needs.{needs}
 use Rattle.definition.specs.Tables.{localAt}
 use Rattle.frames.proofs.local.Statement.{statement}

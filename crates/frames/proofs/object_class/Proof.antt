@@ -1,4 +1,4 @@
--- `frames::object_class` meets its contract.
+-- An object's class is the first cell of its row.
 use borrow.Author.Needs.{needs}
 use Rattle.frames.proofs.object_class.Statement.{statement}
 use Rattle.frames.proofs.object_class.Tie as tie

@@ -1,4 +1,4 @@
--- `frames::operand` meets its contract.
+-- An operand, counted from the lowest, is read from its two cells in the frame's row.
 use borrow.Author.Needs.{needs}
 use Rattle.definition.specs.Tables.{operandAt}
 use Rattle.frames.proofs.operand.Statement.{statement}

@@ -1,4 +1,4 @@
--- `frames::pair` meets its contract.
+-- A value is read from two cells, its kind and then its bits; a cell past the end reads 0.
 use borrow.Author.Needs.{needs}
 use Rattle.definition.specs.Tables.{valueAt}
 use Rattle.frames.proofs.pair.Statement.{statement}

@@ -1,4 +1,4 @@
--- `frames::point` meets its contract.
+-- A frame's point is the third cell of its row.
 use borrow.Author.Needs.{needs}
 use Rattle.frames.proofs.point.Statement.{statement}
 use Rattle.frames.proofs.point.Tie as tie

@@ -1,4 +1,4 @@
--- `frames::write_depth` meets its contract.
+-- A frame's operand count is written, and no other cell.
 use borrow.Author.Needs.{needs}
 use Rattle.frames.proofs.write_depth.Statement.{statement}
 use Rattle.frames.proofs.write_depth.Tie as tie

@@ -1,4 +1,4 @@
--- `frames::write_entry` meets its contract.
+-- A frame's row is written as one that is just entered: its class and method, this and the argument as its locals, point 0 and no operands.
 use borrow.Author.Needs.{needs}
 use Rattle.frames.specs.Initial.{putUnset}
 use Rattle.definition.specs.Instructions.{pick}

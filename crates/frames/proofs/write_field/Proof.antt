@@ -1,4 +1,4 @@
--- `frames::write_field` meets its contract.
+-- A field is written into its two cells in the object's row.
 use mathlib.Core.Path.{sym}
 use borrow.Author.Needs.{needs}
 use Rattle.definition.specs.Tables.{putField}

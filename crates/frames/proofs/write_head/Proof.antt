@@ -1,4 +1,4 @@
--- `frames::write_head` meets its contract.
+-- A frame's class and method are written, with point 0 and no operands.
 use borrow.Author.Needs.{needs}
 use Rattle.frames.proofs.write_head.Statement.{statement}
 use Rattle.frames.proofs.write_head.Tie as tie

@@ -1,4 +1,4 @@
--- `frames::write_initial` meets its contract.
+-- A field begins as 0 if its type is int, and as null if its type is a class name.
 use borrow.Author.Needs.{needs}
 use borrow.Author.Tests.{eq-eqb, ne-eqb}
 use Rattle.frames.specs.Initial.{initialOf}

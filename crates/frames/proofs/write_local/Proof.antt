@@ -1,4 +1,4 @@
--- `frames::write_local` meets its contract.
+-- A local is written into its two cells in the frame's row.
 use mathlib.Core.Path.{sym}
 use borrow.Author.Needs.{needs}
 use Rattle.definition.specs.Tables.{putLocal}

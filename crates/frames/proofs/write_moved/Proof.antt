@@ -1,4 +1,4 @@
--- `frames::write_moved` meets its contract.
+-- A frame's point and operand count are written, and no other cell.
 use borrow.Author.Needs.{needs}
 use Rattle.frames.proofs.write_moved.Statement.{statement}
 use Rattle.frames.proofs.write_moved.Tie as tie

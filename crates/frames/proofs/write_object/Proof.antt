@@ -1,4 +1,4 @@
--- `frames::write_object` meets its contract.
+-- A new object's row is written: its class, and what each of its fields begins as.
 use Prim.Native.Nat.{_-_, _≤_}
 use mathlib.Core.Path.{_≡_, refl, sym, _∙_}
 use native.Mathlib.Omega.{arith}

@@ -1,4 +1,4 @@
--- `frames::write_operand` meets its contract.
+-- An operand, counted from the lowest, is written into its two cells in the frame's row.
 use mathlib.Core.Path.{sym}
 use borrow.Author.Needs.{needs}
 use Rattle.definition.specs.Tables.{putOperand}

@@ -1,4 +1,4 @@
--- `frames::write_pair` meets its contract.
+-- A value is written into two cells, its kind and then its bits; past the end nothing is written.
 use borrow.Author.Needs.{needs}
 use Rattle.frames.proofs.write_pair.Statement.{statement}
 use Rattle.frames.proofs.write_pair.Tie as tie

@@ -1,4 +1,4 @@
--- `frames::write_unset` meets its contract.
+-- Locals 2 to 7 of a frame are written as not set.
 use borrow.Author.Needs.{needs}
 use Rattle.frames.specs.Initial.{putUnset}
 use Rattle.definition.specs.Instructions.{pick}

@@ -8,7 +8,7 @@ returns : tie.Need-returns
 returns c =
     let at1 = c .before .before .before .before .before .before in
     let at2 = at1 .before .before in
-    called _ _ _ _ _ _ _ (at1 .drop-task .ensures) (rw (at2 .turn-of .ensures) at (c .before .before .report .ensures))
+    called _ _ _ _ _ _ _ _ (at1 .drop-task .ensures) (at2 .turn .ensures) (c .before .before .report .ensures)
 
 pub tariff-drop-spec : {M : Type 1} → statement M
 tariff-drop-spec =

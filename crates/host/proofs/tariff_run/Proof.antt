@@ -8,7 +8,7 @@ returns : tie.Need-returns
 returns c =
     let at1 = c .before .before .before .before .before .before .before .before .before .before .before .before in
     let at2 = at1 .before .before .before .before .before in
-    called _ _ _ _ _ _ _ (ran _ _ _ _ (at1 .run .ensures)) (rw (at2 .turn-of .ensures) at (c .before .before .report .ensures))
+    called _ _ _ _ _ _ _ _ (ran _ _ _ _ (at1 .run .ensures)) (at2 .turn .ensures) (c .before .before .report .ensures)
 
 pub tariff-run-spec : {M : Type 1} → statement M
 tariff-run-spec =

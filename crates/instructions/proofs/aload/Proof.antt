@@ -1,4 +1,4 @@
--- `instructions::aload` meets its contract.
+-- aload puts a local above the operands; it is refused if there is no room, no such local, or no reference in it.
 use mathlib.Core.Path.{sym, _∙_}
 use native.Mathlib.Omega.{arith}
 use borrow.Author.Needs.{needs}

@@ -1,4 +1,4 @@
--- `instructions::areturn` meets its contract.
+-- areturn gives a reference to the frame below; it is refused if that frame has no room, if the top operand is no reference, or in a first frame.
 use mathlib.Core.Path.{sym, _∙_}
 use native.Mathlib.Omega.{arith}
 use borrow.Author.Needs.{needs}

@@ -1,4 +1,4 @@
--- `instructions::astore` meets its contract.
+-- astore takes the top operand into a local; it is refused if there is no operand, if it is no reference, or if there is no such local.
 use mathlib.Core.Path.{sym, _∙_}
 use borrow.Author.Needs.{needs}
 use borrow.Author.Tests.{not-true, not-false}

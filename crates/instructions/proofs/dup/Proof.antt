@@ -1,4 +1,4 @@
--- `instructions::dup` meets its contract.
+-- dup puts the top operand above itself, and is refused if there is no room or no operand.
 use native.Mathlib.Omega.{arith}
 use denote.Ref.{now}
 use borrow.Author.Needs.{needs}

@@ -1,4 +1,4 @@
--- `instructions::has_room_below` meets its contract.
+-- The frame below has room for a result if it has fewer than 16 operands; a first frame needs none.
 use borrow.Author.Needs.{needs}
 use borrow.Author.Tests.{eq-eqb, ne-eqb}
 use Rattle.instructions.specs.Operands.{roomBelow}

@@ -1,4 +1,4 @@
--- `instructions::iload` meets its contract.
+-- iload puts a local above the operands; it is refused if there is no room, no such local, or no int in it.
 use native.Mathlib.Omega.{arith}
 use borrow.Author.Needs.{needs}
 use Rattle.instructions.specs.Operands.{room-full, room-free, take-past, take-at, int-is, int-not}

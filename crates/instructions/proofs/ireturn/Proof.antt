@@ -1,4 +1,4 @@
--- `instructions::ireturn` meets its contract.
+-- ireturn gives an int to the frame below, or finishes the task; it is refused if that frame has no room, or if the top operand is no int.
 use mathlib.Core.Path.{sym, _∙_}
 use native.Mathlib.Omega.{arith}
 use borrow.Author.Needs.{needs}

@@ -1,4 +1,4 @@
--- `instructions::is_kind` meets its contract.
+-- For int, cells must hold an int; for a class name, a reference.
 use borrow.Author.Needs.{needs}
 use borrow.Author.Tests.{eq-eqb, ne-eqb}
 use Rattle.instructions.specs.Operands.{isKind}

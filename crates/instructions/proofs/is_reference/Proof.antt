@@ -1,4 +1,4 @@
--- `instructions::is_reference` meets its contract.
+-- Cells hold a reference just if they hold null or an object.
 use borrow.Author.Tests.{eq-eqb, ne-eqb}
 use Rattle.instructions.specs.Operands.{isReference}
 use Rattle.definition.specs.Instructions.{pick}

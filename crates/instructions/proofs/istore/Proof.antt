@@ -1,4 +1,4 @@
--- `instructions::istore` meets its contract.
+-- istore takes the top operand into a local; it is refused if there is no operand, if it is no int, or if there is no such local.
 use borrow.Author.Needs.{needs}
 use Rattle.instructions.specs.Operands.{pop-none, pop-some, take-past, take-at, int-is, int-not}
 use Rattle.instructions.specs.Plans.{meaning}

@@ -1,4 +1,4 @@
--- `instructions::isub` meets its contract.
+-- isub puts the difference of the two top operands in their place, modulo 2^32; it is refused if they are not two ints.
 use native.Mathlib.Omega.{arith}
 use borrow.Author.Needs.{needs}
 use Rattle.instructions.specs.Operands.{pop-none, pop-some, int-is, int-not, subtracted}

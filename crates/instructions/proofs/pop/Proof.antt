@@ -1,4 +1,4 @@
--- `instructions::pop` meets its contract.
+-- pop takes the top operand away, and is refused if there is none.
 use borrow.Author.Needs.{needs}
 use Rattle.instructions.specs.Operands.{pop-none, pop-some}
 use Rattle.instructions.specs.Plans.{meaning}

@@ -1,4 +1,4 @@
--- `instructions::sipush` meets its contract.
+-- sipush puts its int above the operands, and is refused if there is no room.
 use native.Mathlib.Omega.{arith}
 use borrow.Author.Needs.{needs}
 use Rattle.instructions.specs.Operands.{room-full, room-free}

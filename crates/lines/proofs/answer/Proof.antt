@@ -10,7 +10,7 @@ returns c =
     let at2 = at1 .before .before in
     let at3 = at2 .before .before .before .before .before .before .before .before .before .before .before .before .before .before .before .before .before in
     let at4 = at3 .before .before .before .before .before .before .before .before .before in
-    answered _ _ _ _ _ _ _ _ _ _ (at3 .perform .ensures) (at4 .turn-of .ensures) (at2 .details-of .ensures) (at1 .print-line .ensures)
+    answered _ _ _ _ _ _ _ _ _ _ (at3 .perform .ensures) (at4 .turn .ensures) (at2 .details-of .ensures) (at1 .print-line .ensures)
 
 pub answer-spec : {M : Type 1} → statement M
 answer-spec =

@@ -1,4 +1,4 @@
--- `access::fields::getfield` meets its contract.
+-- getfield is refused if its class is not loaded under the loader or declares no such field, itself or upward; else the field is read.
 use mathlib.Core.Path.{sym, _∙_}
 use denote.Ref.{now}
 use borrow.Author.Needs.{needs}

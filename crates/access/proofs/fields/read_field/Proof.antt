@@ -1,4 +1,4 @@
--- `access::fields::read_field` meets its contract.
+-- getfield, once the field is found: the value of the object's field takes the object's place.
 use mathlib.Core.Path.{sym, _∙_}
 use borrow.Author.Needs.{needs}
 use Rattle.access.specs.Remainders.{read-none, read-wrong, read-absent, read-past, read-at}

@@ -1,4 +1,4 @@
--- `access::fields::set_field` meets its contract.
+-- putfield, once the field is found: the value above the object goes into the object's field.
 use mathlib.Core.Path.{sym, _∙_}
 use borrow.Author.Needs.{needs}
 use borrow.Author.Tests.{not-true, not-false}

@@ -1,4 +1,4 @@
--- `access::making::new_object` meets its contract.
+-- new is refused if its class is not loaded under the loader, or if there is no room for an object or an operand; else an object is made.
 use borrow.Author.Needs.{needs}
 use borrow.Author.Tests.{lt-ltb, le-ltb}
 use Rattle.access.specs.Members.{cached, uncached, new-uncached, new-no-room, new-made}

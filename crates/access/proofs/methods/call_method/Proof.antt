@@ -1,4 +1,4 @@
--- `access::methods::call_method` meets its contract.
+-- invokevirtual, once the method is found: a frame is entered in the method selected from the receiver's own class.
 use mathlib.Core.Path.{sym, _∙_}
 use denote.Ref.{now}
 use borrow.Author.Needs.{needs}

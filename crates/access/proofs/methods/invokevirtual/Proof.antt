@@ -1,4 +1,4 @@
--- `access::methods::invokevirtual` meets its contract.
+-- invokevirtual is refused if its class is not loaded under the loader or declares no such method, itself or upward; else a frame is entered.
 use mathlib.Core.Path.{sym, _∙_}
 use denote.Ref.{now}
 use borrow.Author.Needs.{needs}

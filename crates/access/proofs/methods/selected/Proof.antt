@@ -1,4 +1,4 @@
--- `access::methods::selected` meets its contract.
+-- The selection from a receiver's class is the nearest declaration upward; from the class that was looked up it is the one already found.
 use borrow.Author.Needs.{needs}
 use Rattle.resolution.specs.Quick.{found}
 use Rattle.access.proofs.methods.selected.Statement.{statement}

@@ -1,4 +1,4 @@
--- `access::receivers::no_object` meets its contract.
+-- A receiver that is no object is refused as null if it is null, and else as of the wrong kind.
 use borrow.Author.Tests.{eq-eqb, ne-eqb}
 use Rattle.access.specs.Members.{noObject}
 use Rattle.definition.specs.Instructions.{pick}

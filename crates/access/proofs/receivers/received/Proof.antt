@@ -1,4 +1,4 @@
--- `access::receivers::received` meets its contract.
+-- A receiver is right just if it is an object that exists, of the class that was found or below it.
 use Prim.Native.Nat.{_<_}
 use mathlib.Core.Path.{_≡_, sym, _∙_}
 use mathlib.Core.Bool.{true}

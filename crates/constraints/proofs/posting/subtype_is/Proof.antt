@@ -7,19 +7,19 @@ use Rattle.constraints.proofs.posting.subtype_is.Tie as tie
 
 returns : tie.Need-returns
 returns c =
-    let are = c .before .before .are in
+    let equal = c .before .before .are-equal in
     let from8 = c .before .before .before .from8 in
     let at162 = c .before .before .before .before .at162 in
     let at16 = c .before .before .before .before .before .at16 in
     rw (c .at163 .ensures) (sym (subtype-low _ _ _ _ _
-    (sym (rw (at16 .ensures, at162 .ensures, from8 .ensures .0) at (are .ensures)) ∙ c .before .if1 .taken)))
+    (sym (rw (at16 .ensures, at162 .ensures, from8 .ensures .0) at (equal .ensures)) ∙ c .before .if1 .taken)))
 
 returns-2 : tie.Need-returns-2
 returns-2 c =
     let from8 = c .before .before .from8 in
     let at162 = c .before .before .before .at162 in
     let at16 = c .before .before .before .before .at16 in
-    sym (subtype-not _ _ _ _ _ (sym (rw (at16 .ensures, at162 .ensures, from8 .ensures .0) at (c .before .are .ensures)) ∙ c .if1 .left))
+    sym (subtype-not _ _ _ _ _ (sym (rw (at16 .ensures, at162 .ensures, from8 .ensures .0) at (c .before .are-equal .ensures)) ∙ c .if1 .left))
 
 pub subtype-is-spec : {M : Type 1} → statement M
 subtype-is-spec =

@@ -17,20 +17,20 @@ returns-2 c =
     let at162 = c .before .before .before .before .before .before .at162 in
     let at16 = c .before .before .before .before .before .before .before .at16 in
     sym (tie-straight _ _ _ _ _ (sym (at163 .ensures) ∙ if1 .left)
-    (sym (rw (at16 .ensures, at162 .ensures, from8 .ensures .0, from82 .ensures .0) at (c .before .are .ensures)) ∙ c .if2 .taken))
+    (sym (rw (at16 .ensures, at162 .ensures, from8 .ensures .0, from82 .ensures .0) at (c .before .are-equal .ensures)) ∙ c .if2 .taken))
 
 returns-3 : tie.Need-returns-3
 returns-3 c =
-    let are = c .before .before .are in
+    let equal = c .before .before .are-equal in
     let if1 = c .before .before .before .if1 in
     let at163 = c .before .before .before .before .at163 in
     let from82 = c .before .before .before .before .before .from82 in
     let from8 = c .before .before .before .before .before .before .from8 in
     let at162 = c .before .before .before .before .before .before .before .at162 in
     let at16 = c .before .before .before .before .before .before .before .before .at16 in
-    (rw (at16 .ensures, at162 .ensures, from8 .ensures .0, from82 .ensures .0) at (c .are2 .ensures))
+    (rw (at16 .ensures, at162 .ensures, from8 .ensures .0, from82 .ensures .0) at (c .are-equal2 .ensures))
     ∙ sym (tie-turned _ _ _ _ _ (sym (at163 .ensures) ∙ if1 .left)
-    (sym (rw (at16 .ensures, at162 .ensures, from8 .ensures .0, from82 .ensures .0) at (are .ensures)) ∙ c .before .if2 .left))
+    (sym (rw (at16 .ensures, at162 .ensures, from8 .ensures .0, from82 .ensures .0) at (equal .ensures)) ∙ c .before .if2 .left))
 
 pub tie-is-spec : {M : Type 1} → statement M
 tie-is-spec =
