@@ -4,3 +4,4 @@ pub mod Driven
 pub mod Laws
 pub mod Safely
 pub mod Encoding
+pub mod Room
