@@ -8,7 +8,9 @@ use Rattle.defining.proofs.decide_class.Tie as tie
 
 decide-constraints-requires : tie.Need-decide-constraints-requires
 unfolding aboveOf quickFile
-decide-constraints-requires c κs = (c .before .before .before .before .before .before .before .before .before .before .before .before .before .before .before .before .pre .0, c .before .before .before .before .before .before .before .before .before .before .before .before .before .before .before .before .pre .1, c .before .before .before .before .before .before .before .before .before .before .before .before .before .before .before .before .pre .2, c .before .before .before .before .before .before .before .before .before .before .before .before .before .before .before .before .pre .3, c .before .before .before .before .before .before .before .before .before .before .before .before .before .before .before .before .pre .4, super-cached _ _ _ (rw (c .before .before .before .above2 .given .1) at (c .before .before .before .before .before .find-super .ensures)))
+decide-constraints-requires c κs =
+    let at16 = c .before .before .before .before .before .before .before .before .before .before .before .before .before .before .before .before in
+    (at16 .pre .0, at16 .pre .1, at16 .pre .2, at16 .pre .3, at16 .pre .4, super-cached _ _ _ (rw (c .before .before .before .above2 .given .1) at (c .before .before .before .before .before .find-super .ensures)))
 
 returns : tie.Need-returns
 unfolding aboveOf Decided

@@ -16,23 +16,52 @@ use Rattle.defining.proofs.define.Tie as tie
 
 cast-size : tie.Need-cast-size
 unfolding Room
-cast-size c = let room : (getD (now (c .before .before .before .before .before .before .before .before .before .before .before .before .before .before .before .before .before .before .before .before .before .before .before .before .before .before .before .before .before .before .before .before .before .before .before .before .before .before .before .before .args .counts)) 0 0 ≤ 64) × (getD (now (c .before .before .before .before .before .before .before .before .before .before .before .before .before .before .before .before .before .before .before .before .before .before .before .before .before .before .before .before .before .before .before .before .before .before .before .before .before .before .before .before .args .counts)) 1 0 ≤ 16384) × (getD (now (c .before .before .before .before .before .before .before .before .before .before .before .before .before .before .before .before .before .before .before .before .before .before .before .before .before .before .before .before .before .before .before .before .before .before .before .before .before .before .before .before .args .counts)) 2 0 ≤ 256) × (length (now (c .before .before .before .before .before .before .before .before .before .before .before .before .before .before .before .before .before .before .before .before .before .before .before .before .before .before .before .before .before .before .before .before .before .before .before .before .before .before .before .before .args .file)) ≤ 4096) = rw (c .before .before .before .before .before .before .before .before .before .before .before .before .before .before .before .before .before .before .plan2 .given .1) at (c .before .before .before .before .before .before .before .before .before .before .before .before .before .before .before .before .before .before .before .before .before .before .decide-define .ensures .room) in omega (arith, room .3)
+cast-size c =
+    let at18 = c .before .before .before .before .before .before .before .before .before .before .before .before .before .before .before .before .before .before in
+    let at22 = at18 .before .before .before .before in
+    let at40 = at22 .before .before .before .before .before .before .before .before .before .before .before .before .before .before .before .before .before .before in
+    let counts = now (at40 .args .counts) in
+    let room : (getD counts 0 0 ≤ 64) × (getD counts 1 0 ≤ 16384) × (getD counts 2 0 ≤ 256) × (length (now (at40 .args .file)) ≤ 4096) = rw (at18 .plan2 .given .1) at (at22 .decide-define .ensures .room) in omega (arith, room .3)
 
 add-next : tie.Need-add-next
 unfolding Room
-add-next c = let room : (getD (now (c .before .before .before .before .before .before .before .before .before .before .before .before .before .before .before .before .before .before .before .before .before .before .before .before .before .before .before .before .before .before .before .before .before .before .before .before .before .before .before .before .before .before .before .before .before .before .before .before .before .before .before .before .before .before .args .counts)) 0 0 ≤ 64) × (getD (now (c .before .before .before .before .before .before .before .before .before .before .before .before .before .before .before .before .before .before .before .before .before .before .before .before .before .before .before .before .before .before .before .before .before .before .before .before .before .before .before .before .before .before .before .before .before .before .before .before .before .before .before .before .before .before .args .counts)) 1 0 ≤ 16384) × (getD (now (c .before .before .before .before .before .before .before .before .before .before .before .before .before .before .before .before .before .before .before .before .before .before .before .before .before .before .before .before .before .before .before .before .before .before .before .before .before .before .before .before .before .before .before .before .before .before .before .before .before .before .before .before .before .before .args .counts)) 2 0 ≤ 256) × (length (now (c .before .before .before .before .before .before .before .before .before .before .before .before .before .before .before .before .before .before .before .before .before .before .before .before .before .before .before .before .before .before .before .before .before .before .before .before .before .before .before .before .before .before .before .before .before .before .before .before .before .before .before .before .before .before .args .file)) ≤ 4096) = rw (c .before .before .before .before .before .before .before .before .before .before .before .before .before .before .before .before .before .before .before .before .before .before .before .before .before .before .before .before .before .before .before .before .plan2 .given .1) at (c .before .before .before .before .before .before .before .before .before .before .before .before .before .before .before .before .before .before .before .before .before .before .before .before .before .before .before .before .before .before .before .before .before .before .before .before .decide-define .ensures .room) in omega (arith, c .before .before .before .before .before .before .before .before .before .before .before .before .before .before .before .before .before .before .at16 .ensures, room .0)
+add-next c =
+    let at18 = c .before .before .before .before .before .before .before .before .before .before .before .before .before .before .before .before .before .before in
+    let at32 = at18 .before .before .before .before .before .before .before .before .before .before .before .before .before .before in
+    let at36 = at32 .before .before .before .before in
+    let at54 = at36 .before .before .before .before .before .before .before .before .before .before .before .before .before .before .before .before .before .before in
+    let counts = now (at54 .args .counts) in
+    let room : (getD counts 0 0 ≤ 64) × (getD counts 1 0 ≤ 16384) × (getD counts 2 0 ≤ 256) × (length (now (at54 .args .file)) ≤ 4096) = rw (at32 .plan2 .given .1) at (at36 .decide-define .ensures .room) in omega (arith, at18 .at16 .ensures, room .0)
 
 add-end : tie.Need-add-end
 unfolding Room
-add-end c = let room : (getD (now (c .before .before .before .before .before .before .before .before .before .before .before .before .before .before .before .before .before .before .before .before .before .before .before .before .before .before .before .before .before .before .before .before .before .before .before .before .before .before .before .before .before .before .before .before .before .before .before .before .before .before .before .before .before .before .args .counts)) 0 0 ≤ 64) × (getD (now (c .before .before .before .before .before .before .before .before .before .before .before .before .before .before .before .before .before .before .before .before .before .before .before .before .before .before .before .before .before .before .before .before .before .before .before .before .before .before .before .before .before .before .before .before .before .before .before .before .before .before .before .before .before .before .args .counts)) 1 0 ≤ 16384) × (getD (now (c .before .before .before .before .before .before .before .before .before .before .before .before .before .before .before .before .before .before .before .before .before .before .before .before .before .before .before .before .before .before .before .before .before .before .before .before .before .before .before .before .before .before .before .before .before .before .before .before .before .before .before .before .before .before .args .counts)) 2 0 ≤ 256) × (length (now (c .before .before .before .before .before .before .before .before .before .before .before .before .before .before .before .before .before .before .before .before .before .before .before .before .before .before .before .before .before .before .before .before .before .before .before .before .before .before .before .before .before .before .before .before .before .before .before .before .before .before .before .before .before .before .args .file)) ≤ 4096) = rw (c .before .before .before .before .before .before .before .before .before .before .before .before .before .before .before .before .before .before .before .before .before .before .before .before .before .before .before .before .before .before .before .before .plan2 .given .1) at (c .before .before .before .before .before .before .before .before .before .before .before .before .before .before .before .before .before .before .before .before .before .before .before .before .before .before .before .before .before .before .before .before .before .before .before .before .decide-define .ensures .room) in omega (arith, c .before .before .before .before .before .before .before .before .before .before .before .before .before .before .before .before .at162 .ensures, room .1, room .3)
+add-end c =
+    let at16 = c .before .before .before .before .before .before .before .before .before .before .before .before .before .before .before .before in
+    let at32 = at16 .before .before .before .before .before .before .before .before .before .before .before .before .before .before .before .before in
+    let at36 = at32 .before .before .before .before in
+    let at54 = at36 .before .before .before .before .before .before .before .before .before .before .before .before .before .before .before .before .before .before in
+    let counts = now (at54 .args .counts) in
+    let room : (getD counts 0 0 ≤ 64) × (getD counts 1 0 ≤ 16384) × (getD counts 2 0 ≤ 256) × (length (now (at54 .args .file)) ≤ 4096) = rw (at32 .plan2 .given .1) at (at36 .decide-define .ensures .room) in omega (arith, at16 .at162 .ensures, room .1, room .3)
 
 add-rows : tie.Need-add-rows
 unfolding Room
-add-rows c = let room : (getD (now (c .before .before .before .before .before .before .before .before .before .before .before .before .before .before .before .before .before .before .before .before .before .before .before .before .before .before .before .before .before .before .before .before .before .before .before .before .before .before .before .before .before .before .before .before .before .before .before .before .before .before .before .before .before .before .args .counts)) 0 0 ≤ 64) × (getD (now (c .before .before .before .before .before .before .before .before .before .before .before .before .before .before .before .before .before .before .before .before .before .before .before .before .before .before .before .before .before .before .before .before .before .before .before .before .before .before .before .before .before .before .before .before .before .before .before .before .before .before .before .before .before .before .args .counts)) 1 0 ≤ 16384) × (getD (now (c .before .before .before .before .before .before .before .before .before .before .before .before .before .before .before .before .before .before .before .before .before .before .before .before .before .before .before .before .before .before .before .before .before .before .before .before .before .before .before .before .before .before .before .before .before .before .before .before .before .before .before .before .before .before .args .counts)) 2 0 ≤ 256) × (length (now (c .before .before .before .before .before .before .before .before .before .before .before .before .before .before .before .before .before .before .before .before .before .before .before .before .before .before .before .before .before .before .before .before .before .before .before .before .before .before .before .before .before .before .before .before .before .before .before .before .before .before .before .before .before .before .args .file)) ≤ 4096) = rw (c .before .before .before .before .before .before .before .before .before .before .before .before .before .before .before .before .before .before .before .before .before .before .before .before .before .before .before .before .before .before .before .before .plan2 .given .1) at (c .before .before .before .before .before .before .before .before .before .before .before .before .before .before .before .before .before .before .before .before .before .before .before .before .before .before .before .before .before .before .before .before .before .before .before .before .decide-define .ensures .room) in omega (arith, c .before .before .before .before .before .before .before .before .before .before .before .before .before .before .at163 .ensures, room .2)
+add-rows c =
+    let at14 = c .before .before .before .before .before .before .before .before .before .before .before .before .before .before in
+    let at32 = at14 .before .before .before .before .before .before .before .before .before .before .before .before .before .before .before .before .before .before in
+    let at36 = at32 .before .before .before .before in
+    let at54 = at36 .before .before .before .before .before .before .before .before .before .before .before .before .before .before .before .before .before .before in
+    let counts = now (at54 .args .counts) in
+    let room : (getD counts 0 0 ≤ 64) × (getD counts 1 0 ≤ 16384) × (getD counts 2 0 ≤ 256) × (length (now (at54 .args .file)) ≤ 4096) = rw (at32 .plan2 .given .1) at (at36 .decide-define .ensures .room) in omega (arith, at14 .at163 .ensures, room .2)
 
 cast-number : tie.Need-cast-number
 unfolding Room
-cast-number c = let room : (getD (now (c .before .before .before .before .before .before .before .before .before .before .before .before .before .before .before .before .before .before .before .before .before .before .before .before .before .before .before .before .before .before .before .before .before .before .before .before .before .before .before .before .before .before .before .before .before .before .before .before .before .before .before .before .before .before .before .before .before .before .before .args .counts)) 0 0 ≤ 64) × (getD (now (c .before .before .before .before .before .before .before .before .before .before .before .before .before .before .before .before .before .before .before .before .before .before .before .before .before .before .before .before .before .before .before .before .before .before .before .before .before .before .before .before .before .before .before .before .before .before .before .before .before .before .before .before .before .before .before .before .before .before .before .args .counts)) 1 0 ≤ 16384) × (getD (now (c .before .before .before .before .before .before .before .before .before .before .before .before .before .before .before .before .before .before .before .before .before .before .before .before .before .before .before .before .before .before .before .before .before .before .before .before .before .before .before .before .before .before .before .before .before .before .before .before .before .before .before .before .before .before .before .before .before .before .before .args .counts)) 2 0 ≤ 256) × (length (now (c .before .before .before .before .before .before .before .before .before .before .before .before .before .before .before .before .before .before .before .before .before .before .before .before .before .before .before .before .before .before .before .before .before .before .before .before .before .before .before .before .before .before .before .before .before .before .before .before .before .before .before .before .before .before .before .before .before .before .before .args .file)) ≤ 4096) = rw (c .before .before .before .before .before .before .before .before .before .before .before .before .before .before .before .before .before .before .before .before .before .before .before .before .before .before .before .before .before .before .before .before .before .before .before .before .before .plan2 .given .1) at (c .before .before .before .before .before .before .before .before .before .before .before .before .before .before .before .before .before .before .before .before .before .before .before .before .before .before .before .before .before .before .before .before .before .before .before .before .before .before .before .before .before .decide-define .ensures .room) in omega (arith, c .before .before .before .before .before .before .before .before .before .before .before .before .before .before .before .before .before .before .before .before .before .before .before .at16 .ensures, room .0)
+cast-number c =
+    let at23 = c .before .before .before .before .before .before .before .before .before .before .before .before .before .before .before .before .before .before .before .before .before .before .before in
+    let at37 = at23 .before .before .before .before .before .before .before .before .before .before .before .before .before .before in
+    let at41 = at37 .before .before .before .before in
+    let at59 = at41 .before .before .before .before .before .before .before .before .before .before .before .before .before .before .before .before .before .before in
+    let counts = now (at59 .args .counts) in
+    let room : (getD counts 0 0 ≤ 64) × (getD counts 1 0 ≤ 16384) × (getD counts 2 0 ≤ 256) × (length (now (at59 .args .file)) ≤ 4096) = rw (at37 .plan2 .given .1) at (at41 .decide-define .ensures .room) in omega (arith, at23 .at16 .ensures, room .0)
 
 returns : tie.Need-returns
 unfolding defineDone
@@ -59,15 +88,28 @@ same-length-12 c = c .before .before .before .before .before .before .before .be
 returns-2 : tie.Need-returns-2
 unfolding defineDone classWritten
 returns-2 c =
-    (λ i. done (Defined (c .before .before .before .before .before .before .before .before .before .before .before .before .before .before .before .before .before .before .before .before .before .before .before .at16 .ensures i)) (tables
-    ((c .before .before .write-cells3 .ensures ∙ (λ j. writeRows set ((c .before .before .before .before .before .before .before .before .before .before .before .before .before .before .before .before .before .before .before .before .before .before .before .at16 .ensures j + 1) ∷ (c .before .before .before .before .before .before .before .before .before .before .before .before .before .before .before .before .before .before .before .before .before .at162 .ensures j + length (now (c .before .before .before .before .before .before .before .before .before .before .before .before .before .before .before .before .before .before .before .before .before .before .before .before .before .before .before .before .before .before .before .before .before .before .before .before .before .before .before .before .before .before .before .before .before .before .before .before .before .before .before .before .before .before .before .before .before .before .before .args .file))) ∷ (c .before .before .before .before .before .before .before .before .before .before .before .before .before .before .before .before .before .before .before .at163 .ensures j + 1) ∷ c .before .before .before .before .before .before .before .before .before .before .before .before .before .before .before .before .before .before .before .before .before .before .before .before .before .before .before .before .before .before .before .before .before .before .before .before .before .plan2 .given .0 .1 .0 ∷ c .before .before .before .before .before .before .before .before .before .before .before .before .before .before .before .before .before .before .before .before .before .before .before .before .before .before .before .before .before .before .before .before .before .before .before .before .before .plan2 .given .0 .1 .1 .0 ∷ []) 0 (now (c .before .before .before .before .before .before .before .before .before .before .before .before .before .before .before .before .before .before .before .before .before .before .before .before .before .before .before .before .before .before .before .before .before .before .before .before .before .before .before .before .before .before .before .before .before .before .before .before .before .before .before .before .before .before .before .before .before .before .before .args .counts)))) i)
-    ((c .before .before .before .before .before .before .before .before .before .before .before .before .before .before .before .before .put-three .ensures ∙ (λ j. putThree (now (c .before .before .before .before .before .before .before .before .before .before .before .before .before .before .before .before .before .before .before .before .before .before .before .before .before .before .before .before .before .before .before .before .before .before .before .before .before .before .before .before .before .before .before .before .before .before .before .before .before .before .before .before .before .before .before .before .before .before .before .args .classes)) (c .before .before .before .before .before .before .before .before .before .before .before .before .before .before .before .before .before .before .before .before .before .before .before .at16 .ensures j) (c .before .before .before .before .before .before .before .before .before .before .before .before .before .before .before .before .before .before .from8 .ensures .0 j) (c .before .before .before .before .before .before .before .before .before .before .before .before .before .before .before .before .before .before .before .before .before .at162 .ensures j) (length (now (c .before .before .before .before .before .before .before .before .before .before .before .before .before .before .before .before .before .before .before .before .before .before .before .before .before .before .before .before .before .before .before .before .before .before .before .before .before .before .before .before .before .before .before .before .before .before .before .before .before .before .before .before .before .before .before .before .before .before .before .args .file))))) i)
-    ((c .before .before .before .before .before .before .before .before .before .before .before .before .write-bytes .ensures ∙ (λ j. writeRows set (now (c .before .before .before .before .before .before .before .before .before .before .before .before .before .before .before .before .before .before .before .before .before .before .before .before .before .before .before .before .before .before .before .before .before .before .before .before .before .before .before .before .before .before .before .before .before .before .before .before .before .before .before .before .before .before .before .before .before .before .before .args .file)) (c .before .before .before .before .before .before .before .before .before .before .before .before .before .before .before .before .before .before .before .before .before .at162 .ensures j) (now (c .before .before .before .before .before .before .before .before .before .before .before .before .before .before .before .before .before .before .before .before .before .before .before .before .before .before .before .before .before .before .before .before .before .before .before .before .before .before .before .before .before .before .before .before .before .before .before .before .before .before .before .before .before .before .before .before .before .before .before .args .kept)))) i)
-    ((c .before .before .before .before .before .before .before .put-three2 .ensures ∙ (λ j. putThree (now (c .before .before .before .before .before .before .before .before .before .before .before .before .before .before .before .before .before .before .before .before .before .before .before .before .before .before .before .before .before .before .before .before .before .before .before .before .before .before .before .before .before .before .before .before .before .before .before .before .before .before .before .before .before .before .before .before .before .before .before .args .cache)) (c .before .before .before .before .before .before .before .before .before .before .before .before .before .before .before .before .before .before .before .at163 .ensures j) (c .before .before .before .before .before .before .before .before .before .before .before .before .before .before .before .before .before .before .from8 .ensures .0 j) (c .before .before .before .before .before .before .before .before .class-name .ensures j) (c .before .before .before .before .before .before .before .before .before .before .before .before .before .before .before .before .before .before .before .before .before .before .before .at16 .ensures j))) i)
-    (c .before .before .before .before .before .before .before .before .before .before .before .before .before .before .before .before .before .before .before .before .before .before .before .before .before .before .before .before .before .before .before .before .write-cells .ensures i)
-    (c .before .before .before .before .before .before .before .before .before .before .before .before .before .before .before .before .before .before .before .before .before .before .before .before .before .before .before .write-cells2 .ensures i)
-    (now (c .before .before .before .before .before .before .before .before .before .before .before .before .before .before .before .before .before .before .before .before .before .before .before .before .before .before .before .before .before .before .before .before .before .before .before .before .before .before .before .before .before .before .before .before .before .before .before .before .before .before .before .before .before .before .before .before .before .before .before .args .objects)) (now (c .before .before .before .before .before .before .before .before .before .before .before .before .before .before .before .before .before .before .before .before .before .before .before .before .before .before .before .before .before .before .before .before .before .before .before .before .before .before .before .before .before .before .before .before .before .before .before .before .before .before .before .before .before .before .before .before .before .before .before .args .frames))))
-    ∙ rw (c .before .before .before .before .before .before .before .before .before .before .before .before .before .before .before .before .before .before .before .before .before .before .before .before .before .before .before .before .before .before .before .before .before .before .before .before .before .plan2 .given .1) at (c .before .before .before .before .before .before .before .before .before .before .before .before .before .before .before .before .before .before .before .before .before .before .before .before .before .before .before .before .before .before .before .before .before .before .before .before .before .before .before .before .before .decide-define .ensures .whole)
+    let at8 = c .before .before .before .before .before .before .before .before in
+    let at12 = at8 .before .before .before .before in
+    let at16 = at12 .before .before .before .before in
+    let at18 = at16 .before .before in
+    let at19 = at18 .before in
+    let at21 = at19 .before .before in
+    let at23 = at21 .before .before in
+    let at27 = at23 .before .before .before .before in
+    let at32 = at27 .before .before .before .before .before in
+    let at37 = at32 .before .before .before .before .before in
+    let at41 = at37 .before .before .before .before in
+    let at59 = at41 .before .before .before .before .before .before .before .before .before .before .before .before .before .before .before .before .before .before in
+    let file = now (at59 .args .file) in
+    (λ i. done (Defined (at23 .at16 .ensures i)) (tables
+    ((c .before .before .write-cells3 .ensures ∙ (λ j. writeRows set ((at23 .at16 .ensures j + 1) ∷ (at21 .at162 .ensures j + length file) ∷ (at19 .at163 .ensures j + 1) ∷ at37 .plan2 .given .0 .1 .0 ∷ at37 .plan2 .given .0 .1 .1 .0 ∷ []) 0 (now (at59 .args .counts)))) i)
+    ((at16 .put-three .ensures ∙ (λ j. putThree (now (at59 .args .classes)) (at23 .at16 .ensures j) (at18 .from8 .ensures .0 j) (at21 .at162 .ensures j) (length file))) i)
+    ((at12 .write-bytes .ensures ∙ (λ j. writeRows set file (at21 .at162 .ensures j) (now (at59 .args .kept)))) i)
+    ((c .before .before .before .before .before .before .before .put-three2 .ensures ∙ (λ j. putThree (now (at59 .args .cache)) (at19 .at163 .ensures j) (at18 .from8 .ensures .0 j) (at8 .class-name .ensures j) (at23 .at16 .ensures j))) i)
+    (at32 .write-cells .ensures i)
+    (at27 .write-cells2 .ensures i)
+    (now (at59 .args .objects)) (now (at59 .args .frames))))
+    ∙ rw (at37 .plan2 .given .1) at (at41 .decide-define .ensures .whole)
 
 pub define-spec : {M : Type 1} → statement M
 define-spec = tie.close (tie.spec (λ c. search needs) (λ c. search needs) (λ c κs. search needs) (λ c. search needs) (λ c. search needs) (λ c. search needs) (λ c. search needs) (λ c. search needs) (λ c κs. search needs) (λ c. search needs) (λ c κs. search needs) (λ c κs. search needs) (λ c κs. search needs) (λ c κs. search needs) cast-size (λ c κs. search needs) (λ c κs. search needs) (λ c κs. search needs) (λ c κs. search needs) (λ c κs. search needs) add-next add-end add-rows (λ c. search needs) (λ c κs. search needs) cast-number (λ c. search needs) (λ c. search needs) (λ c. search needs) (λ c. search needs) (λ c. search needs) (λ c. search needs) returns same-length-7 same-length-8 same-length-9 same-length-10 same-length-11 same-length-12 returns-2)

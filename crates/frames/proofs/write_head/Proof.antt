@@ -4,7 +4,10 @@ use Rattle.frames.proofs.write_head.Statement.{statement}
 use Rattle.frames.proofs.write_head.Tie as tie
 
 returns : tie.Need-returns
-returns c = rw (c .before .before .write-moved .ensures, c .before .before .before .before .before .before .put322 .ensures, c .before .before .before .before .before .before .before .before .before .before .before .put32 .ensures, c .before .before .before .before .before .before .before .before .before .before .before .before .wide32 .ensures .0, c .before .before .before .before .before .before .before .wide322 .ensures .0)
+returns c =
+    let at11 = c .before .before .before .before .before .before .before .before .before .before .before in
+    let at12 = at11 .before in
+    rw (c .before .before .write-moved .ensures, c .before .before .before .before .before .before .put322 .ensures, at11 .put32 .ensures, at12 .wide32 .ensures .0, c .before .before .before .before .before .before .before .wide322 .ensures .0)
 
 pub write-head-spec : {M : Type 1} → statement M
 write-head-spec =

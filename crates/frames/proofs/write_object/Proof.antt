@@ -34,7 +34,10 @@ loop-less : tie.Need-loop-less Inv-loop μ-loop
 loop-less c = omega arith
 
 loop-again : tie.Need-loop-again Inv-loop μ-loop
-loop-again c = (omega arith, rw (c .before .before .write-initial .ensures, c .before .before .before .at16 .ensures, c .before .before .before .before .wide8 .ensures .0, c .before .before .before .before .before .before .before .loop .inv .1) (sym (writeRows-down (putField (c .before .before .before .before .before .before .before .before .before .before .before .before .before .before .before .args .o)) (λ j. initialOf (getD (now (c .before .before .before .before .before .before .before .before .before .before .before .before .before .before .before .args .types)) j 0)) (c .before .before .before .before .before .before .before .before .before .before .before .before .before .before .before .args .n) (c .before .before .before .before .before .before .before .loop .i) _ (omega arith) (omega arith))), c .before .before .write-initial .kept .0 ∙ c .before .before .before .before .before .before .before .loop .inv .2)
+loop-again c =
+    let at7 = c .before .before .before .before .before .before .before in
+    let at15 = at7 .before .before .before .before .before .before .before .before in
+    (omega arith, rw (c .before .before .write-initial .ensures, c .before .before .before .at16 .ensures, c .before .before .before .before .wide8 .ensures .0, at7 .loop .inv .1) (sym (writeRows-down (putField (at15 .args .o)) (λ j. initialOf (getD (now (at15 .args .types)) j 0)) (at15 .args .n) (at7 .loop .i) _ (omega arith) (omega arith))), c .before .before .write-initial .kept .0 ∙ at7 .loop .inv .2)
 
 same-length : tie.Need-same-length Inv-loop μ-loop
 same-length c = c .before .loop .inv .2 ∙ c .before .before .before .before .put32 .kept .0

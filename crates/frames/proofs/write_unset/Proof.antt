@@ -8,7 +8,12 @@ use Rattle.frames.proofs.write_unset.Tie as tie
 
 returns : tie.Need-returns
 unfolding putUnset valueOf pick
-returns c = rw (c .before .before .write-local6 .ensures, c .before .before .before .before .before .before .write-local5 .ensures, c .before .before .before .before .before .before .before .before .before .before .write-local4 .ensures, c .before .before .before .before .before .before .before .before .before .before .before .before .before .before .write-local3 .ensures, c .before .before .before .before .before .before .before .before .before .before .before .before .before .before .before .before .before .before .write-local2 .ensures, c .before .before .before .before .before .before .before .before .before .before .before .before .before .before .before .before .before .before .before .before .before .before .write-local .ensures)
+returns c =
+    let at10 = c .before .before .before .before .before .before .before .before .before .before in
+    let at14 = at10 .before .before .before .before in
+    let at18 = at14 .before .before .before .before in
+    let at22 = at18 .before .before .before .before in
+    rw (c .before .before .write-local6 .ensures, c .before .before .before .before .before .before .write-local5 .ensures, at10 .write-local4 .ensures, at14 .write-local3 .ensures, at18 .write-local2 .ensures, at22 .write-local .ensures)
 
 pub write-unset-spec : {M : Type 1} → statement M
 write-unset-spec =

@@ -26,11 +26,16 @@ returns-3 c = record { says = λ w os kl p n. rw (c .refuse3 .ensures, under-roo
 
 returns-4 : tie.Need-returns-4
 unfolding meaning execute _>>=_ frameOf need give stack
-returns-4 c = record { says = λ w os kl p n. rw (c .refuse4 .ensures, under-room _ _ _, sym (c .before .before .before .before .before .before .before .has-room-below .ensures) ∙ not-false _ (c .before .before .before .before .before .before .if1 .left), pop-some _ _ (c .before .before .before .before .before .if2 .left), ← c .before .before .before .before .operand .ensures, reference-is _ _ (sym (c .before .before .before .is-reference .ensures) ∙ not-false _ (c .before .before .if3 .left)), c .before .if4 .taken, reference-no-int _ _ (sym (c .before .before .before .is-reference .ensures) ∙ not-false _ (c .before .before .if3 .left))); fits = λ B t e. rw (c .refuse4 .ensures) tt }
+returns-4 c =
+    let at3 = c .before .before .before in
+    record { says = λ w os kl p n. rw (c .refuse4 .ensures, under-room _ _ _, sym (c .before .before .before .before .before .before .before .has-room-below .ensures) ∙ not-false _ (c .before .before .before .before .before .before .if1 .left), pop-some _ _ (c .before .before .before .before .before .if2 .left), ← c .before .before .before .before .operand .ensures, reference-is _ _ (sym (at3 .is-reference .ensures) ∙ not-false _ (c .before .before .if3 .left)), c .before .if4 .taken, reference-no-int _ _ (sym (at3 .is-reference .ensures) ∙ not-false _ (c .before .before .if3 .left))); fits = λ B t e. rw (c .refuse4 .ensures) tt }
 
 returns-5 : tie.Need-returns-5
 unfolding meaning execute _>>=_ frameOf need
-returns-5 c = record { says = λ w os kl p n. rw (under-room _ _ _, sym (c .before .before .before .before .before .before .has-room-below .ensures) ∙ not-false _ (c .before .before .before .before .before .if1 .left), pop-some _ _ (c .before .before .before .before .if2 .left), ← c .before .before .before .operand .ensures, reference-is _ _ (sym (c .before .before .is-reference .ensures) ∙ not-false _ (c .before .if3 .left))); fits = λ B t e. (omega (arith, c .if4 .left), rw e (room-below _ _ _ (sym (c .before .before .before .before .before .before .has-room-below .ensures) ∙ not-false _ (c .before .before .before .before .before .if1 .left)) (c .if4 .left))) }
+returns-5 c =
+    let at5 = c .before .before .before .before .before in
+    let at6 = at5 .before in
+    record { says = λ w os kl p n. rw (under-room _ _ _, sym (at6 .has-room-below .ensures) ∙ not-false _ (at5 .if1 .left), pop-some _ _ (c .before .before .before .before .if2 .left), ← c .before .before .before .operand .ensures, reference-is _ _ (sym (c .before .before .is-reference .ensures) ∙ not-false _ (c .before .if3 .left))); fits = λ B t e. (omega (arith, c .if4 .left), rw e (room-below _ _ _ (sym (at6 .has-room-below .ensures) ∙ not-false _ (at5 .if1 .left)) (c .if4 .left))) }
 
 pub areturn-spec : {M : Type 1} → statement M
 areturn-spec =

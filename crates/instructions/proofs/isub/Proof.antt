@@ -24,11 +24,17 @@ returns-3 c = record { says = λ w os fs k p n. rw (c .refuse3 .ensures, pop-som
 
 returns-4 : tie.Need-returns-4
 unfolding meaning execute _>>=_ frameOf
-returns-4 c = record { says = λ w os fs k p n. rw (c .refuse4 .ensures, pop-some _ _ (c .before .before .before .before .before .before .before .before .if1 .left), pop-some _ _ (c .before .before .before .before .before .before .before .if2 .left), ← c .before .before .before .before .before .before .operand .ensures, int-is _ _ (c .before .before .before .before .if3 .left), ← c .before .before .before .operand2 .ensures, int-not _ _ (c .before .if4 .taken)); fits = λ few B t k m. rw (c .refuse4 .ensures) tt }
+returns-4 c =
+    let at8 = c .before .before .before .before .before .before .before .before in
+    record { says = λ w os fs k p n. rw (c .refuse4 .ensures, pop-some _ _ (at8 .if1 .left), pop-some _ _ (c .before .before .before .before .before .before .before .if2 .left), ← c .before .before .before .before .before .before .operand .ensures, int-is _ _ (c .before .before .before .before .if3 .left), ← c .before .before .before .operand2 .ensures, int-not _ _ (c .before .if4 .taken)); fits = λ few B t k m. rw (c .refuse4 .ensures) tt }
 
 returns-5 : tie.Need-returns-5
 unfolding meaning execute _>>=_ frameOf valueOf pick
-returns-5 c = record { says = λ w os fs k p n. rw (pop-some _ _ (c .before .before .before .before .before .before .before .before .if1 .left), pop-some _ _ (c .before .before .before .before .before .before .before .if2 .left), ← c .before .before .before .before .before .before .operand .ensures, int-is _ _ (c .before .before .before .before .if3 .left), ← c .before .before .before .operand2 .ensures, int-is _ _ (c .before .if4 .left), subtracted (c .wrapping-sub-u32 .result) (c .before .before .before .operand2 .result .bits) (c .before .before .before .before .before .before .operand .result .bits) (omega arith) (omega arith) (omega arith) (c .wrapping-sub-u32 .ensures)); fits = λ few B t k m. omega arith }
+returns-5 c =
+    let at3 = c .before .before .before in
+    let at6 = at3 .before .before .before in
+    let at8 = at6 .before .before in
+    record { says = λ w os fs k p n. rw (pop-some _ _ (at8 .if1 .left), pop-some _ _ (c .before .before .before .before .before .before .before .if2 .left), ← at6 .operand .ensures, int-is _ _ (c .before .before .before .before .if3 .left), ← at3 .operand2 .ensures, int-is _ _ (c .before .if4 .left), subtracted (c .wrapping-sub-u32 .result) (at3 .operand2 .result .bits) (at6 .operand .result .bits) (omega arith) (omega arith) (omega arith) (c .wrapping-sub-u32 .ensures)); fits = λ few B t k m. omega arith }
 
 pub isub-spec : {M : Type 1} → statement M
 isub-spec =

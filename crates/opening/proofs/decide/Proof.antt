@@ -22,19 +22,40 @@ cast-find : tie.Need-cast-find
 cast-find c = omega (arith, known-loader (c .before .before .before .before .before .before .before .before .before .args .loader) (c .before .before .before .before .before .before .before .before .before .args .name) (c .before .before .before .before .before .before .before .before .before .args .method) (sym (c .before .before .before .are-known .ensures) ∙ not-false _ (c .before .before .if2 .left)))
 
 cast-t20 : tie.Need-cast-t20
-cast-t20 c = omega (arith, known-loader (c .before .before .before .before .before .before .before .before .before .before .before .before .args .loader) (c .before .before .before .before .before .before .before .before .before .before .before .before .args .name) (c .before .before .before .before .before .before .before .before .before .before .before .before .args .method) (sym (c .before .before .before .before .before .before .are-known .ensures) ∙ not-false _ (c .before .before .before .before .before .if2 .left)))
+cast-t20 c =
+    let at12 = c .before .before .before .before .before .before .before .before .before .before .before .before in
+    omega (arith, known-loader (at12 .args .loader) (at12 .args .name) (at12 .args .method) (sym (c .before .before .before .before .before .before .are-known .ensures) ∙ not-false _ (c .before .before .before .before .before .if2 .left)))
 
 returns-4 : tie.Need-returns-4
 returns-4 c = open-wanted _ _ _ _ _ _ _ _ (c .before .before .before .before .before .before .before .if1 .left) (sym (c .before .before .before .before .before .before .are-known .ensures) ∙ not-false _ (c .before .before .before .before .before .if2 .left)) (rw (c .before .before .before .if3 .left) at (sym (c .before .before .before .before .frame-count .ensures))) (uncached _ _ _ _ _ _ _ _ (c .before .before .find .ensures) refl (c .enum-told .given .1))
 
 returns-5 : tie.Need-returns-5
-returns-5 c = open-absent _ _ _ _ _ _ _ _ (c .before .before .before .before .before .before .before .before .before .before .before .if1 .left) (sym (c .before .before .before .before .before .before .before .before .before .before .are-known .ensures) ∙ not-false _ (c .before .before .before .before .before .before .before .before .before .if2 .left)) (rw (c .before .before .before .before .before .before .before .if3 .left) at (sym (c .before .before .before .before .before .before .before .before .frame-count .ensures))) _ (cached _ _ _ _ _ _ _ _ (c .before .before .before .before .before .before .find .ensures) refl _ (c .before .before .before .before .c .given .1)) (selection-absent _ _ _ _ _ (sym (c .before .before .select-method .ensures) ∙ c .enum-told2 .given .1))
+returns-5 c =
+    let at8 = c .before .before .before .before .before .before .before .before in
+    let at9 = at8 .before in
+    let at10 = at9 .before in
+    let at11 = at10 .before in
+    open-absent _ _ _ _ _ _ _ _ (at11 .if1 .left) (sym (at10 .are-known .ensures) ∙ not-false _ (at9 .if2 .left)) (rw (c .before .before .before .before .before .before .before .if3 .left) at (sym (at8 .frame-count .ensures))) _ (cached _ _ _ _ _ _ _ _ (c .before .before .before .before .before .before .find .ensures) refl _ (c .before .before .before .before .c .given .1)) (selection-absent _ _ _ _ _ (sym (c .before .before .select-method .ensures) ∙ c .enum-told2 .given .1))
 
 returns-6 : tie.Need-returns-6
-returns-6 c = let x = (selection-at _ _ _ _ _ _ _ (sym (c .before .before .before .before .before .select-method .ensures) ∙ c .before .before .before .s .given .1)) in open-full _ _ _ _ _ _ _ _ (c .before .before .before .before .before .before .before .before .before .before .before .before .before .before .if1 .left) (sym (c .before .before .before .before .before .before .before .before .before .before .before .before .before .are-known .ensures) ∙ not-false _ (c .before .before .before .before .before .before .before .before .before .before .before .before .if2 .left)) (rw (c .before .before .before .before .before .before .before .before .before .before .if3 .left) at (sym (c .before .before .before .before .before .before .before .before .before .before .before .frame-count .ensures))) _ (cached _ _ _ _ _ _ _ _ (c .before .before .before .before .before .before .before .before .before .find .ensures) refl _ (c .before .before .before .before .before .before .before .c .given .1)) _ (x .0) _ (x .1) (rw (c .before .at16 .ensures) at (c .if4 .taken))
+returns-6 c =
+    let at9 = c .before .before .before .before .before .before .before .before .before in
+    let at10 = at9 .before in
+    let at11 = at10 .before in
+    let at12 = at11 .before in
+    let at13 = at12 .before in
+    let at14 = at13 .before in
+    let x = (selection-at _ _ _ _ _ _ _ (sym (c .before .before .before .before .before .select-method .ensures) ∙ c .before .before .before .s .given .1)) in open-full _ _ _ _ _ _ _ _ (at14 .if1 .left) (sym (at13 .are-known .ensures) ∙ not-false _ (at12 .if2 .left)) (rw (at10 .if3 .left) at (sym (at11 .frame-count .ensures))) _ (cached _ _ _ _ _ _ _ _ (at9 .find .ensures) refl _ (c .before .before .before .before .before .before .before .c .given .1)) _ (x .0) _ (x .1) (rw (c .before .at16 .ensures) at (c .if4 .taken))
 
 returns-7 : tie.Need-returns-7
-returns-7 c = let x = (selection-at _ _ _ _ _ _ _ (sym (c .before .before .before .before .before .select-method .ensures) ∙ c .before .before .before .s .given .1)) in open-first _ _ _ _ _ _ _ _ (c .before .before .before .before .before .before .before .before .before .before .before .before .before .before .if1 .left) (sym (c .before .before .before .before .before .before .before .before .before .before .before .before .before .are-known .ensures) ∙ not-false _ (c .before .before .before .before .before .before .before .before .before .before .before .before .if2 .left)) (rw (c .before .before .before .before .before .before .before .before .before .before .if3 .left) at (sym (c .before .before .before .before .before .before .before .before .before .before .before .frame-count .ensures))) _ (cached _ _ _ _ _ _ _ _ (c .before .before .before .before .before .before .before .before .before .find .ensures) refl _ (c .before .before .before .before .before .before .before .c .given .1)) _ (x .0) _ (x .1) (rw (c .before .at16 .ensures) at (c .if4 .left))
+returns-7 c =
+    let at9 = c .before .before .before .before .before .before .before .before .before in
+    let at10 = at9 .before in
+    let at11 = at10 .before in
+    let at12 = at11 .before in
+    let at13 = at12 .before in
+    let at14 = at13 .before in
+    let x = (selection-at _ _ _ _ _ _ _ (sym (c .before .before .before .before .before .select-method .ensures) ∙ c .before .before .before .s .given .1)) in open-first _ _ _ _ _ _ _ _ (at14 .if1 .left) (sym (at13 .are-known .ensures) ∙ not-false _ (at12 .if2 .left)) (rw (at10 .if3 .left) at (sym (at11 .frame-count .ensures))) _ (cached _ _ _ _ _ _ _ _ (at9 .find .ensures) refl _ (c .before .before .before .before .before .before .before .c .given .1)) _ (x .0) _ (x .1) (rw (c .before .at16 .ensures) at (c .if4 .left))
 
 pub decide-spec : {M : Type 1} → statement M
 decide-spec =

@@ -16,7 +16,11 @@ returns-2 c = rw (c .before .before .before .before .before .before .posting .gi
 
 returns-3 : tie.Need-returns-3
 unfolding toPost writeRows
-returns-3 c = rw (c .before .before .before .before .before .before .before .before .before .before .before .posting2 .given .1, c .before .before .write-tie3 .ensures, c .before .before .before .before .before .before .before .write-tie2 .ensures, c .before .before .before .from163 .ensures .0, c .before .before .before .before .before .before .before .before .from162 .ensures .0, add-one (c .before .before .before .before .before .before .before .before .before .before .before .before .before .before .args .n))
+returns-3 c =
+    let at8 = c .before .before .before .before .before .before .before .before in
+    let at11 = at8 .before .before .before in
+    let at14 = at11 .before .before .before in
+    rw (at11 .posting2 .given .1, c .before .before .write-tie3 .ensures, c .before .before .before .before .before .before .before .write-tie2 .ensures, c .before .before .before .from163 .ensures .0, at8 .from162 .ensures .0, add-one (at14 .args .n))
 
 pub write-ties-spec : {M : Type 1} → statement M
 write-ties-spec =

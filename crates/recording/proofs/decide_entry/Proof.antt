@@ -24,18 +24,27 @@ returns-2 c = taken _ _ _ _ _ (found-at _ _ (sym (c .before .before .before .bef
 
 returns-3 : tie.Need-returns-3
 unfolding recordedBy quickBase
-returns-3 c = let n : length (rows (entryAt (now (c .before .before .before .before .before .before .before .before .before .before .before .args .cache))) (getD (now (c .before .before .before .before .before .before .before .before .before .before .before .args .counts)) 2 0) 0) ≡ getD (now (c .before .before .before .before .before .before .before .before .before .before .before .args .counts)) 2 0 = rows-length _ _ _ in full _ _ _ _ (found-absent _ (sym (c .before .before .before .before .find .ensures) ∙ c .before .before .enum-told .given .1)) (omega (arith, c .before .at16 .ensures, c .if2 .taken))
+returns-3 c =
+    let at11 = c .before .before .before .before .before .before .before .before .before .before .before in
+    let counts = now (at11 .args .counts) in
+    let n : length (rows (entryAt (now (at11 .args .cache))) (getD counts 2 0) 0) ≡ getD counts 2 0 = rows-length _ _ _ in full _ _ _ _ (found-absent _ (sym (c .before .before .before .before .find .ensures) ∙ c .before .before .enum-told .given .1)) (omega (arith, c .before .at16 .ensures, c .if2 .taken))
 
 entry-agrees-requires : tie.Need-entry-agrees-requires
 entry-agrees-requires c κs = (c .before .before .before .before .before .before .before .before .before .before .before .pre, omega (arith, c .before .at16 .ensures, c .if2 .left))
 
 returns-4 : tie.Need-returns-4
 unfolding recordedBy quickBase
-returns-4 c = let n : length (rows (entryAt (now (c .before .before .before .before .before .before .before .before .before .before .before .before .before .args .cache))) (getD (now (c .before .before .before .before .before .before .before .before .before .before .before .before .before .args .counts)) 2 0) 0) ≡ getD (now (c .before .before .before .before .before .before .before .before .before .before .before .before .before .args .counts)) 2 0 = rows-length _ _ _ in clash _ _ _ _ (found-absent _ (sym (c .before .before .before .before .before .before .find .ensures) ∙ c .before .before .before .before .enum-told .given .1)) (omega (arith, c .before .before .before .at16 .ensures, c .before .before .if2 .left)) (sym (c .before .entry-agrees .ensures) ∙ not-true _ (c .if3 .taken))
+returns-4 c =
+    let at13 = c .before .before .before .before .before .before .before .before .before .before .before .before .before in
+    let counts = now (at13 .args .counts) in
+    let n : length (rows (entryAt (now (at13 .args .cache))) (getD counts 2 0) 0) ≡ getD counts 2 0 = rows-length _ _ _ in clash _ _ _ _ (found-absent _ (sym (c .before .before .before .before .before .before .find .ensures) ∙ c .before .before .before .before .enum-told .given .1)) (omega (arith, c .before .before .before .at16 .ensures, c .before .before .if2 .left)) (sym (c .before .entry-agrees .ensures) ∙ not-true _ (c .if3 .taken))
 
 returns-5 : tie.Need-returns-5
 unfolding recordedBy quickBase
-returns-5 c = let n : length (rows (entryAt (now (c .before .before .before .before .before .before .before .before .before .before .before .before .before .args .cache))) (getD (now (c .before .before .before .before .before .before .before .before .before .before .before .before .before .args .counts)) 2 0) 0) ≡ getD (now (c .before .before .before .before .before .before .before .before .before .before .before .before .before .args .counts)) 2 0 = rows-length _ _ _ in fine _ _ _ _ (found-absent _ (sym (c .before .before .before .before .before .before .find .ensures) ∙ c .before .before .before .before .enum-told .given .1)) (omega (arith, c .before .before .before .at16 .ensures, c .before .before .if2 .left)) (sym (c .before .entry-agrees .ensures) ∙ not-false _ (c .if3 .left))
+returns-5 c =
+    let at13 = c .before .before .before .before .before .before .before .before .before .before .before .before .before in
+    let counts = now (at13 .args .counts) in
+    let n : length (rows (entryAt (now (at13 .args .cache))) (getD counts 2 0) 0) ≡ getD counts 2 0 = rows-length _ _ _ in fine _ _ _ _ (found-absent _ (sym (c .before .before .before .before .before .before .find .ensures) ∙ c .before .before .before .before .enum-told .given .1)) (omega (arith, c .before .before .before .at16 .ensures, c .before .before .if2 .left)) (sym (c .before .entry-agrees .ensures) ∙ not-false _ (c .if3 .left))
 
 pub decide-entry-spec : {M : Type 1} → statement M
 decide-entry-spec = tie.close (tie.spec (λ c κs. search needs) (λ c. search needs) (λ c κs. search needs) returns returns-2 (λ c. search needs) (λ c κs. search needs) returns-3 entry-agrees-requires returns-4 returns-5)

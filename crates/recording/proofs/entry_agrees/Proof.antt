@@ -7,7 +7,11 @@ use Rattle.recording.proofs.entry_agrees.Statement.{statement}
 use Rattle.recording.proofs.entry_agrees.Tie as tie
 
 returns : tie.Need-returns
-returns c = entry-agreed (now (c .before .before .before .before .before .before .before .before .before .before .before .before .before .before .before .before .before .before .before .before .before .before .before .args .counts)) (now (c .before .before .before .before .before .before .before .before .before .before .before .before .before .before .before .before .before .before .before .before .before .before .before .args .classes)) (now (c .before .before .before .before .before .before .before .before .before .before .before .before .before .before .before .before .before .before .before .before .before .before .before .args .kept)) (now (c .before .before .before .before .before .before .before .before .before .before .before .before .before .before .before .before .before .before .before .before .before .before .before .args .cache)) (c .before .before .before .before .before .before .before .before .before .before .before .before .before .before .before .before .before .before .before .before .before .before .before .pre .0 .base) (c .before .before .before .before .before .before .before .before .before .before .before .before .before .before .before .before .before .before .before .before .before .before .before .pre .1) _ _ _ _ _ _ _ refl refl (c .before .before .before .before .before .before .before .before .before .before .before .before .before .before .enter .ensures) _ _ refl (c .before .before .before .before .before .before .before .before .fill-supers .ensures) _ _ _ _ _ _ (c .before .before .before .before .before .before .before .before .before .before .before .before .before .before .before .before .before .before .before .before .before .before .before .pre .0) (c .before .before .before .at16 .ensures) (c .before .before .at162 .ensures) (c .before .at163 .ensures) (c .agree .ensures)
+returns c =
+    let at8 = c .before .before .before .before .before .before .before .before in
+    let at14 = at8 .before .before .before .before .before .before in
+    let at23 = at14 .before .before .before .before .before .before .before .before .before in
+    entry-agreed (now (at23 .args .counts)) (now (at23 .args .classes)) (now (at23 .args .kept)) (now (at23 .args .cache)) (at23 .pre .0 .base) (at23 .pre .1) _ _ _ _ _ _ _ refl refl (at14 .enter .ensures) _ _ refl (at8 .fill-supers .ensures) _ _ _ _ _ _ (at23 .pre .0) (c .before .before .before .at16 .ensures) (c .before .before .at162 .ensures) (c .before .at163 .ensures) (c .agree .ensures)
 
 pub entry-agrees-spec : {M : Type 1} → statement M
 entry-agrees-spec = tie.close (tie.spec (λ c. search needs) (λ c. search needs) (λ c κs. search needs) (λ c. search needs) (λ c. search needs) (λ c. search needs) (λ c κs. search needs) (λ c. search needs) (λ c. search needs) (λ c. search needs) (λ c κs. search needs) (λ c κs. search needs) (λ c κs. search needs) (λ c κs. search needs) returns)

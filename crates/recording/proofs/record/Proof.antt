@@ -14,7 +14,11 @@ use Rattle.recording.proofs.record.Tie as tie
 
 add-put16 : tie.Need-add-put16
 unfolding Room
-add-put16 c = let h : getD (now (c .before .before .before .before .before .before .before .before .before .before .before .before .before .before .before .before .before .before .before .before .before .args .counts)) 2 0 ≤ 256 = rw (c .before .before .before .before .before .before .before .before .plan2 .given .1) at (c .before .before .before .before .before .before .before .before .before .before .decide-record .ensures .room) in omega (arith, c .before .before .before .before .before .at16 .ensures)
+add-put16 c =
+    let at8 = c .before .before .before .before .before .before .before .before in
+    let at10 = at8 .before .before in
+    let at21 = at10 .before .before .before .before .before .before .before .before .before .before .before in
+    let h : getD (now (at21 .args .counts)) 2 0 ≤ 256 = rw (at8 .plan2 .given .1) at (at10 .decide-record .ensures .room) in omega (arith, c .before .before .before .before .before .at16 .ensures)
 
 returns : tie.Need-returns
 unfolding recordDone
@@ -27,12 +31,16 @@ returns-2 c = rw (c .enum-told .given .1) at (c .before .before .decide-record .
 returns-3 : tie.Need-returns-3
 unfolding recordDone
 returns-3 c =
+    let at8 = c .before .before .before .before .before .before .before .before in
+    let at11 = at8 .before .before .before in
+    let at13 = at11 .before .before in
+    let at24 = at13 .before .before .before .before .before .before .before .before .before .before .before in
     (λ i. done Accepted (tables
-    ((c .before .before .put16 .ensures ∙ (λ j. set (now (c .before .before .before .before .before .before .before .before .before .before .before .before .before .before .before .before .before .before .before .before .before .before .before .before .args .counts)) 2 (c .before .before .before .before .before .before .before .before .at16 .ensures j + 1))) i)
-    (now (c .before .before .before .before .before .before .before .before .before .before .before .before .before .before .before .before .before .before .before .before .before .before .before .before .args .classes)) (now (c .before .before .before .before .before .before .before .before .before .before .before .before .before .before .before .before .before .before .before .before .before .before .before .before .args .kept))
-    ((c .before .before .before .before .before .before .put-three .ensures ∙ (λ j. putThree (now (c .before .before .before .before .before .before .before .before .before .before .before .before .before .before .before .before .before .before .before .before .before .before .before .before .args .cache)) (c .before .before .before .before .before .before .before .before .at16 .ensures j) (c .before .before .before .before .before .before .before .before .before .before .before .plan2 .given .0 .0) (c .before .before .before .before .before .before .before .before .before .before .before .plan2 .given .0 .1 .0) (c .before .before .before .before .before .before .before .before .before .before .before .plan2 .given .0 .1 .1 .0))) i)
-    (now (c .before .before .before .before .before .before .before .before .before .before .before .before .before .before .before .before .before .before .before .before .before .before .before .before .args .ties)) (now (c .before .before .before .before .before .before .before .before .before .before .before .before .before .before .before .before .before .before .before .before .before .before .before .before .args .subtypes)) (now (c .before .before .before .before .before .before .before .before .before .before .before .before .before .before .before .before .before .before .before .before .before .before .before .before .args .objects)) (now (c .before .before .before .before .before .before .before .before .before .before .before .before .before .before .before .before .before .before .before .before .before .before .before .before .args .frames))))
-    ∙ rw (c .before .before .before .before .before .before .before .before .before .before .before .plan2 .given .1) at (c .before .before .before .before .before .before .before .before .before .before .before .before .before .decide-record .ensures .whole)
+    ((c .before .before .put16 .ensures ∙ (λ j. set (now (at24 .args .counts)) 2 (at8 .at16 .ensures j + 1))) i)
+    (now (at24 .args .classes)) (now (at24 .args .kept))
+    ((c .before .before .before .before .before .before .put-three .ensures ∙ (λ j. putThree (now (at24 .args .cache)) (at8 .at16 .ensures j) (at11 .plan2 .given .0 .0) (at11 .plan2 .given .0 .1 .0) (at11 .plan2 .given .0 .1 .1 .0))) i)
+    (now (at24 .args .ties)) (now (at24 .args .subtypes)) (now (at24 .args .objects)) (now (at24 .args .frames))))
+    ∙ rw (at11 .plan2 .given .1) at (at13 .decide-record .ensures .whole)
 
 pub record-spec : {M : Type 1} → statement M
 record-spec = tie.close (tie.spec (λ c κs. search needs) (λ c. search needs) (λ c. search needs) (λ c. search needs) (λ c κs. search needs) (λ c κs. search needs) add-put16 (λ c κs. search needs) (λ c. search needs) (λ c. search needs) returns (λ c. search needs) (λ c. search needs) returns-2 (λ c. search needs) (λ c. search needs) returns-3)

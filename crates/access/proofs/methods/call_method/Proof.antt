@@ -24,18 +24,52 @@ selected-requires c κs = c .before .before .before .before .before .before .bef
 
 returns-4 : tie.Need-returns-4
 unfolding objectAt
-returns-4 c = rw (c .refuse5 .ensures) (call-unselected _ _ _ _ _ _ _ _ _ _ _ _ (c .before .before .before .before .before .before .before .before .before .before .before .before .before .before .if1 .left) (c .before .before .before .before .before .before .before .before .before .before .before .before .operand .ensures) _ _ (c .before .before .before .before .before .before .before .before .before .before .before .before .before .if2 .left) (sym (c .before .before .before .before .before .before .before .before .before .before .before .is-kind .ensures) ∙ not-false _ (c .before .before .before .before .before .before .before .before .before .before .if3 .left)) _ _ (c .before .before .before .before .before .before .before .before .before .operand2 .ensures) _ (c .before .before .before .before .before .before .before .before .received .ensures) _ (c .before .before .before .before .before .before .r2 .given .1) (rw (c .before .before .before .before .object-class .ensures) at (found-absent _ (sym (c .before .before .before .selected .ensures) ∙ c .before .enum-told .given .1))))
+returns-4 c =
+    let at8 = c .before .before .before .before .before .before .before .before in
+    let at9 = at8 .before in
+    let at10 = at9 .before in
+    let at11 = at10 .before in
+    let at12 = at11 .before in
+    let at13 = at12 .before in
+    let at14 = at13 .before in
+    rw (c .refuse5 .ensures) (call-unselected _ _ _ _ _ _ _ _ _ _ _ _ (at14 .if1 .left) (at12 .operand .ensures) _ _ (at13 .if2 .left) (sym (at11 .is-kind .ensures) ∙ not-false _ (at10 .if3 .left)) _ _ (at9 .operand2 .ensures) _ (at8 .received .ensures) _ (c .before .before .before .before .before .before .r2 .given .1) (rw (c .before .before .before .before .object-class .ensures) at (found-absent _ (sym (c .before .before .before .selected .ensures) ∙ c .before .enum-told .given .1))))
 
 returns-5 : tie.Need-returns-5
 unfolding objectAt
-returns-5 c = rw (c .refuse6 .ensures) (call-absent _ _ _ _ _ _ _ _ _ _ _ _ (c .before .before .before .before .before .before .before .before .before .before .before .before .before .before .before .before .before .before .if1 .left) (c .before .before .before .before .before .before .before .before .before .before .before .before .before .before .before .before .operand .ensures) _ _ (c .before .before .before .before .before .before .before .before .before .before .before .before .before .before .before .before .before .if2 .left) (sym (c .before .before .before .before .before .before .before .before .before .before .before .before .before .before .before .is-kind .ensures) ∙ not-false _ (c .before .before .before .before .before .before .before .before .before .before .before .before .before .before .if3 .left)) _ _ (c .before .before .before .before .before .before .before .before .before .before .before .before .before .operand2 .ensures) _ (c .before .before .before .before .before .before .before .before .before .before .before .before .received .ensures) _ (c .before .before .before .before .before .before .before .before .before .before .r2 .given .1) _ (rw (c .before .before .before .before .before .before .before .before .object-class .ensures) at (found-at _ _ (sym (c .before .before .before .before .before .before .before .selected .ensures) ∙ c .before .before .before .before .before .a .given .1))) (rw (methods-quick (now (c .before .before .before .before .before .before .before .before .before .before .before .before .before .before .before .before .before .before .before .before .before .before .before .before .before .args .counts)) (now (c .before .before .before .before .before .before .before .before .before .before .before .before .before .before .before .before .before .before .before .before .before .before .before .before .before .args .classes)) (now (c .before .before .before .before .before .before .before .before .before .before .before .before .before .before .before .before .before .before .before .before .before .before .before .before .before .args .kept)) (now (c .before .before .before .before .before .before .before .before .before .before .before .before .before .before .before .before .before .before .before .before .before .before .before .before .before .args .cache)) _) (found-absent _ (sym (c .before .before .before .method-index .ensures) ∙ c .before .enum-told2 .given .1))))
+returns-5 c =
+    let at8 = c .before .before .before .before .before .before .before .before in
+    let at10 = at8 .before .before in
+    let at12 = at10 .before .before in
+    let at13 = at12 .before in
+    let at14 = at13 .before in
+    let at15 = at14 .before in
+    let at16 = at15 .before in
+    let at17 = at16 .before in
+    let at18 = at17 .before in
+    let at25 = at18 .before .before .before .before .before .before .before in
+    rw (c .refuse6 .ensures) (call-absent _ _ _ _ _ _ _ _ _ _ _ _ (at18 .if1 .left) (at16 .operand .ensures) _ _ (at17 .if2 .left) (sym (at15 .is-kind .ensures) ∙ not-false _ (at14 .if3 .left)) _ _ (at13 .operand2 .ensures) _ (at12 .received .ensures) _ (at10 .r2 .given .1) _ (rw (at8 .object-class .ensures) at (found-at _ _ (sym (c .before .before .before .before .before .before .before .selected .ensures) ∙ c .before .before .before .before .before .a .given .1))) (rw (methods-quick (now (at25 .args .counts)) (now (at25 .args .classes)) (now (at25 .args .kept)) (now (at25 .args .cache)) _) (found-absent _ (sym (c .before .before .before .method-index .ensures) ∙ c .before .enum-told2 .given .1))))
 
 returns-6 : tie.Need-returns-6
-returns-6 c = rw (c .refuse4 .ensures) (call-wrong _ _ _ _ _ _ _ _ _ _ _ _ (c .before .before .before .before .before .before .before .before .before .before .if1 .left) (c .before .before .before .before .before .before .before .before .operand .ensures) _ _ (c .before .before .before .before .before .before .before .before .before .if2 .left) (sym (c .before .before .before .before .before .before .before .is-kind .ensures) ∙ not-false _ (c .before .before .before .before .before .before .if3 .left)) _ _ (c .before .before .before .before .before .operand2 .ensures) _ (c .before .before .before .before .received .ensures) _ (c .before .before .r .given .1))
+returns-6 c =
+    let at8 = c .before .before .before .before .before .before .before .before in
+    let at9 = at8 .before in
+    let at10 = at9 .before in
+    rw (c .refuse4 .ensures) (call-wrong _ _ _ _ _ _ _ _ _ _ _ _ (at10 .if1 .left) (at8 .operand .ensures) _ _ (at9 .if2 .left) (sym (c .before .before .before .before .before .before .before .is-kind .ensures) ∙ not-false _ (c .before .before .before .before .before .before .if3 .left)) _ _ (c .before .before .before .before .before .operand2 .ensures) _ (c .before .before .before .before .received .ensures) _ (c .before .before .r .given .1))
 
 returns-7 : tie.Need-returns-7
 unfolding objectAt
-returns-7 c = call-at _ _ _ _ _ _ _ _ _ _ _ _ (c .before .before .before .before .before .before .before .before .before .before .before .before .before .before .before .before .before .before .if1 .left) (c .before .before .before .before .before .before .before .before .before .before .before .before .before .before .before .before .operand .ensures) _ _ (c .before .before .before .before .before .before .before .before .before .before .before .before .before .before .before .before .before .if2 .left) (sym (c .before .before .before .before .before .before .before .before .before .before .before .before .before .before .before .is-kind .ensures) ∙ not-false _ (c .before .before .before .before .before .before .before .before .before .before .before .before .before .before .if3 .left)) _ _ (c .before .before .before .before .before .before .before .before .before .before .before .before .before .operand2 .ensures) _ (c .before .before .before .before .before .before .before .before .before .before .before .before .received .ensures) _ (c .before .before .before .before .before .before .before .before .before .before .r2 .given .1) _ (rw (c .before .before .before .before .before .before .before .before .object-class .ensures) at (found-at _ _ (sym (c .before .before .before .before .before .before .before .selected .ensures) ∙ c .before .before .before .before .before .a .given .1))) _ (rw (methods-quick (now (c .before .before .before .before .before .before .before .before .before .before .before .before .before .before .before .before .before .before .before .before .before .before .before .before .before .args .counts)) (now (c .before .before .before .before .before .before .before .before .before .before .before .before .before .before .before .before .before .before .before .before .before .before .before .before .before .args .classes)) (now (c .before .before .before .before .before .before .before .before .before .before .before .before .before .before .before .before .before .before .before .before .before .before .before .before .before .args .kept)) (now (c .before .before .before .before .before .before .before .before .before .before .before .before .before .before .before .before .before .before .before .before .before .before .before .before .before .args .cache)) _) (found-at _ _ (sym (c .before .before .before .method-index .ensures) ∙ c .before .j .given .1)))
+returns-7 c =
+    let at8 = c .before .before .before .before .before .before .before .before in
+    let at10 = at8 .before .before in
+    let at12 = at10 .before .before in
+    let at13 = at12 .before in
+    let at14 = at13 .before in
+    let at15 = at14 .before in
+    let at16 = at15 .before in
+    let at17 = at16 .before in
+    let at18 = at17 .before in
+    let at25 = at18 .before .before .before .before .before .before .before in
+    call-at _ _ _ _ _ _ _ _ _ _ _ _ (at18 .if1 .left) (at16 .operand .ensures) _ _ (at17 .if2 .left) (sym (at15 .is-kind .ensures) ∙ not-false _ (at14 .if3 .left)) _ _ (at13 .operand2 .ensures) _ (at12 .received .ensures) _ (at10 .r2 .given .1) _ (rw (at8 .object-class .ensures) at (found-at _ _ (sym (c .before .before .before .before .before .before .before .selected .ensures) ∙ c .before .before .before .before .before .a .given .1))) _ (rw (methods-quick (now (at25 .args .counts)) (now (at25 .args .classes)) (now (at25 .args .kept)) (now (at25 .args .cache)) _) (found-at _ _ (sym (c .before .before .before .method-index .ensures) ∙ c .before .j .given .1)))
 
 pub call-method-spec : {M : Type 1} → statement M
 call-method-spec =

@@ -17,7 +17,11 @@ call-method-requires : tie.Need-call-method-requires
 call-method-requires c κs = found-at _ _ (sym (c .before .before .before .before .nearest-method .ensures) ∙ c .before .before .s .given .1)
 
 returns-3 : tie.Need-returns-3
-returns-3 c = invoke-right _ _ _ _ _ _ _ _ _ _ _ (cached _ _ _ _ _ _ _ _ (c .before .before .before .before .before .before .before .before .before .find .ensures) (c .before .before .before .before .before .before .before .before .before .before .from8 .ensures .0) _ (c .before .before .before .before .before .before .before .e .given .1)) _ _ (c .before .loader-of .ensures ∙ sym (loader-quick (now (c .before .before .before .before .before .before .before .before .before .before .before .before .before .before .before .before .before .args .counts)) (now (c .before .before .before .before .before .before .before .before .before .before .before .before .before .before .before .before .before .args .classes)) (now (c .before .before .before .before .before .before .before .before .before .before .before .before .before .before .before .before .before .args .kept)) (now (c .before .before .before .before .before .before .before .before .before .before .before .before .before .before .before .before .before .args .cache)) _)) _ _ _ _ (found-at _ _ (sym (c .before .before .before .before .before .nearest-method .ensures) ∙ c .before .before .before .s .given .1)) (c .call-method .ensures)
+returns-3 c =
+    let at9 = c .before .before .before .before .before .before .before .before .before in
+    let at10 = at9 .before in
+    let at17 = at10 .before .before .before .before .before .before .before in
+    invoke-right _ _ _ _ _ _ _ _ _ _ _ (cached _ _ _ _ _ _ _ _ (at9 .find .ensures) (at10 .from8 .ensures .0) _ (c .before .before .before .before .before .before .before .e .given .1)) _ _ (c .before .loader-of .ensures ∙ sym (loader-quick (now (at17 .args .counts)) (now (at17 .args .classes)) (now (at17 .args .kept)) (now (at17 .args .cache)) _)) _ _ _ _ (found-at _ _ (sym (c .before .before .before .before .before .nearest-method .ensures) ∙ c .before .before .before .s .given .1)) (c .call-method .ensures)
 
 pub invokevirtual-spec : {M : Type 1} → statement M
 invokevirtual-spec =

@@ -10,8 +10,9 @@ use Rattle.classfile.proofs.methods.code.Tie as tie
 returns : tie.Need-returns
 unfolding codeAt
 returns c =
-    let bytes = now (c .before .before .before .before .before .before .before .args .bytes) in
-    let place = c .before .before .before .before .before .before .before .args .place in
+    let at7 = c .before .before .before .before .before .before .before in
+    let bytes = now (at7 .args .bytes) in
+    let place = at7 .args .place in
     rw (
       c .before .least2 .ensures,
       c .before .before .before .before .least .ensures,

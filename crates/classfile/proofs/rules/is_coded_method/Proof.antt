@@ -22,9 +22,10 @@ returns-2 c =
 returns-3 : tie.Need-returns-3
 unfolding codedMethod nextPlace
 returns-3 c =
-    let some = le-leb _ _ (rw (c .before .before .before .before .code-length .ensures) at (c .before .before .before .if1 .left)) in
-    let few = le-leb _ _ (rw (c .before .before .before .before .code-length .ensures) at (c .before .before .if2 .left)) in
-    rw (c .before .wide32 .ensures .0, c .wide16 .ensures .0, c .before .before .before .before .code-length .ensures)
+    let at4 = c .before .before .before .before in
+    let some = le-leb _ _ (rw (at4 .code-length .ensures) at (c .before .before .before .if1 .left)) in
+    let few = le-leb _ _ (rw (at4 .code-length .ensures) at (c .before .before .if2 .left)) in
+    rw (c .before .wide32 .ensures .0, c .wide16 .ensures .0, at4 .code-length .ensures)
     (sym (every-first _ _ some ∙ every-first _ _ few ∙ every-last _))
 
 pub is-coded-method-spec : {M : Type 1} → statement M

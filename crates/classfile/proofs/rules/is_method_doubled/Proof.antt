@@ -36,11 +36,12 @@ returns c =
 
 loop-again : tie.Need-loop-again Inv-loop μ-loop
 loop-again c =
+    let at4 = c .before .before .before .before in
     let count = c .before .before .before .before .before .before .method-count .ensures in
     let never = sym (c .before .before .is-repeated .ensures) ∙ c .before .if1 .left in (
       omega arith,
-      placed-next _ _ _ _ (c .before .before .before .before .loop .inv .1) (c .next-place .ensures .0) (c .next-place .ensures .1),
-      sym (doubled-more _ _ _ _ (c .before .before .before .loop-test .taken) (rw count never)) ∙ c .before .before .before .before .loop .inv .2,
+      placed-next _ _ _ _ (at4 .loop .inv .1) (c .next-place .ensures .0) (c .next-place .ensures .1),
+      sym (doubled-more _ _ _ _ (c .before .before .before .loop-test .taken) (rw count never)) ∙ at4 .loop .inv .2,
     )
 
 returns-2 : tie.Need-returns-2 Inv-loop μ-loop

@@ -58,10 +58,11 @@ returns-4 c =
 returns-5 : tie.Need-returns-5
 unfolding readable
 returns-5 c =
+    let at8 = c .before .before .before .before .before .before .before .before in
     let twice = ap not (sym (c .before .is-field-doubled .ensures) ∙ c .if5 .taken) in
     sym
     (reads-as _
-    ∙ every-first _ _ (sizes (c .before .before .before .before .before .before .before .before))
+    ∙ every-first _ _ (sizes (at8))
     ∙ every-first _ _ (titles (c .before .before .before .before .before .before))
     ∙ every-first _ _ (fields (c .before .before .before .before))
     ∙ every-first _ _ (methods (c .before .before))
@@ -70,11 +71,12 @@ returns-5 c =
 returns-6 : tie.Need-returns-6
 unfolding readable
 returns-6 c =
+    let at9 = c .before .before .before .before .before .before .before .before .before in
     let once = ap not (sym (c .before .before .is-field-doubled .ensures) ∙ c .before .if5 .left) in
     rw (c .is-method-doubled .ensures)
     (sym
     (reads-as _
-    ∙ every-first _ _ (sizes (c .before .before .before .before .before .before .before .before .before))
+    ∙ every-first _ _ (sizes (at9))
     ∙ every-first _ _ (titles (c .before .before .before .before .before .before .before))
     ∙ every-first _ _ (fields (c .before .before .before .before .before))
     ∙ every-first _ _ (methods (c .before .before .before))

@@ -19,17 +19,26 @@ group-places-requires c κs =
 
 requests-agree-requires : tie.Need-requests-agree-requires
 requests-agree-requires c κs =
-    (c .before .before .before .before .before .before .before .before .before .before .before .before .before .before .before .before .before .before .before .before .at-most .ensures .1, c .before .before .before .before .before .before .before .before .before .before .before .before .before .before .before .before .before .before .at-most3 .ensures .1, rooted-less (omega arith) (c .before .before .before .before .group-places .ensures .rooted))
+    let at18 = c .before .before .before .before .before .before .before .before .before .before .before .before .before .before .before .before .before .before in
+    let at20 = at18 .before .before in
+    (at20 .at-most .ensures .1, at18 .at-most3 .ensures .1, rooted-less (omega arith) (c .before .before .before .before .group-places .ensures .rooted))
 
 returns : tie.Need-returns
 returns c =
-    let args = c .before .before .before .before .before .before .before .before .before .before .before .before .before .before .before .before .before .before .before .before .before .before .before .before .before .before .args in
-    let cached = c .before .before .before .before .before .before .before .before .before .before .before .before .before .before .before .before .before .before .before .before .before .at-most in
-    let tied = c .before .before .before .before .before .before .before .before .before .before .before .before .before .before .before .before .before .before .before .before .at-most2 in
-    let noted = c .before .before .before .before .before .before .before .before .before .before .before .before .before .before .before .before .before .before .before .at-most3 in
-    let numbers = c .before .before .before .before .before .before .before .before .before .before .before .before .before .before .before .before .before .number-places in
-    let nodes = c .before .before .before .before .before .before .before .before .before .before .before .before .before .number-nodes in
-    let classes = c .before .before .before .before .before .before .before .before .before .list-classes in
+    let at9 = c .before .before .before .before .before .before .before .before .before in
+    let at13 = at9 .before .before .before .before in
+    let at17 = at13 .before .before .before .before in
+    let at19 = at17 .before .before in
+    let at20 = at19 .before in
+    let at21 = at20 .before in
+    let at26 = at21 .before .before .before .before .before in
+    let args = at26 .args in
+    let cached = at21 .at-most in
+    let tied = at20 .at-most2 in
+    let noted = at19 .at-most3 in
+    let numbers = at17 .number-places in
+    let nodes = at13 .number-nodes in
+    let classes = at9 .list-classes in
     let groups = c .before .before .before .before .before .group-places in
     c .requests-agree .ensures
     ∙ agree-counted _ (now (args .cache)) (now (args .ties)) (now (args .subtypes)) _ _ _ _ _ _ _ _ (cached .ensures .0) (tied .ensures .0) (noted .ensures .0)

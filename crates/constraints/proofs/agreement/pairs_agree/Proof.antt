@@ -49,8 +49,9 @@ loop-holds c =
 
 loop-again : tie.Need-loop-again Inv-loop μ-loop Inv-pairs μ-pairs
 loop-again c =
+    let at22 = c .before .before .before .before .before .before .before .before .before .before .before .before .before .before .before .before .before .before .before .before .before .before in
     let loop = c .before .before .before .before .before .loop in
-    let falls = super-falls (now (c .before .before .before .before .before .before .before .before .before .before .before .before .before .before .before .before .before .before .before .before .before .before .args .supers)) in (
+    let falls = super-falls (now (at22 .args .supers)) in (
       loop .inv .0,
       omega arith,
       below-more _ _ (loop .inv .2)
@@ -67,11 +68,15 @@ pairs-less c =
 
 pairs-again : tie.Need-pairs-again Inv-loop μ-loop Inv-pairs μ-pairs
 pairs-again c =
+    let at8 = c .before .before .before .before .before .before .before .before in
+    let at11 = at8 .before .before .before in
+    let at12 = at11 .before in
+    let at19 = at12 .before .before .before .before .before .before .before in
     let loop = c .before .before .loop in
-    let search = c .before .before .before .before .before .before .before .before .search in
-    let pairs = c .before .before .before .before .before .before .before .before .before .before .before .before .pairs in (
+    let search = at8 .search in
+    let pairs = at12 .pairs in (
       loop .inv .0,
-      tested-next _ _ _ _ _ _ _ (omega (arith, c .before .before .before .before .before .before .before .before .before .before .before .before .before .before .before .before .before .before .before .pre .0)) (c .before .before .before .before .before .before .before .before .before .before .before .before .before .before .before .before .before .before .before .pre .3) refl (c .before .before .before .before .before .before .before .before .before .before .before .pairs-test .taken) (pairs .inv .1) (search .ensures)
+      tested-next _ _ _ _ _ _ _ (omega (arith, at19 .pre .0)) (at19 .pre .3) refl (at11 .pairs-test .taken) (pairs .inv .1) (search .ensures)
           (search .kept .1 .1 .1 .1 .1 .1 .1 .1 .0 ∙ pairs .inv .1 .queueLong) (c .before .before .before .before .mark-above .ensures) (λ b h. loop .inv .2 b (omega arith)) (c .next-start2 .ensures),
     )
 
@@ -84,12 +89,16 @@ returns c =
 
 returns-2 : tie.Need-returns-2 Inv-loop μ-loop Inv-pairs μ-pairs
 returns-2 c =
+    let at11 = c .before .before .before .before .before .before .before .before .before .before .before in
+    let at14 = at11 .before .before .before in
+    let at15 = at14 .before in
+    let at22 = at15 .before .before .before .before .before .before .before in
     let loop = c .before .before .before .before .before .loop in
-    let pairs = c .before .before .before .before .before .before .before .before .before .before .before .before .before .before .before .pairs in
-    let falls = super-falls (now (c .before .before .before .before .before .before .before .before .before .before .before .before .before .before .before .before .before .before .before .before .before .before .args .supers)) in
+    let pairs = at15 .pairs in
+    let falls = super-falls (now (at22 .args .supers)) in
     let pair = marked-unfit _ _ _ _ _ _ _ falls (c .before .before .before .before .before .before .before .mark-above .ensures) _ (c .before .pair-agrees .ensures) (c .if1 .taken) in
-    not-agreed _ falls _ _ _ _ (c .before .before .before .before .before .before .before .before .before .before .before .before .before .before .before .before .before .before .before .before .before .before .pre .2) _ _ (c .before .before .before .before .before .before .before .before .before .before .before .before .before .before .pairs-test .taken) (c .before .before .before .before .loop-test .taken) (pairs .inv .1 .own (c .before .before .before .before .before .before .before .before .before .before .before .before .before .before .pairs-test .taken))
-    (c .before .before .before .before .before .before .before .before .before .before .before .search .ensures .sound (loop .b) (pair .0)) (pair .1)
+    not-agreed _ falls _ _ _ _ (at22 .pre .2) _ _ (at14 .pairs-test .taken) (c .before .before .before .before .loop-test .taken) (pairs .inv .1 .own (at14 .pairs-test .taken))
+    (at11 .search .ensures .sound (loop .b) (pair .0)) (pair .1)
 
 pub pairs-agree-spec : {M : Type 1} → statement M
 pairs-agree-spec =

@@ -29,8 +29,11 @@ join-requires c κs =
 
 pairs-agree-requires : tie.Need-pairs-agree-requires
 pairs-agree-requires c κs =
-    let pre = c .before .before .before .before .before .before .before .before .before .before .before .before .before .pre in
-    (pre .0, pre .1, pre .2, c .before .before .before .before .join .ensures, sym (c .before .before .before .before .before .before .before .before .before .groups-agree .ensures) ∙ not-false _ (c .before .before .before .before .before .before .before .before .if1 .left))
+    let at8 = c .before .before .before .before .before .before .before .before in
+    let at9 = at8 .before in
+    let at13 = at9 .before .before .before .before in
+    let pre = at13 .pre in
+    (pre .0, pre .1, pre .2, c .before .before .before .before .join .ensures, sym (at9 .groups-agree .ensures) ∙ not-false _ (at8 .if1 .left))
 
 pub requests-agree-spec : {M : Type 1} → statement M
 requests-agree-spec =

@@ -25,12 +25,14 @@ cast-put16 c = omega (arith, root-low (c .root .ensures))
 
 loop-again : tie.Need-loop-again Inv-loop μ-loop
 loop-again c =
+    let at3 = c .before .before .before in
+    let at9 = at3 .before .before .before .before .before .before in
     let loop = c .before .before .before .before .before .before .loop in
-    let args = c .before .before .before .before .before .before .before .before .before .args in
+    let args = at9 .args in
     rw (c .before .before .put16 .ensures) (
       omega arith,
-      fill-more (λ q. q) (λ q v. Root (now (args .ups)) q v) (loop .groups) (loop .p) (c .before .before .before .root .result) (omega (arith, loop .inv .2)) (λ q h r. omega arith)
-          (loop .inv .1) (c .before .before .before .root .ensures),
+      fill-more (λ q. q) (λ q v. Root (now (args .ups)) q v) (loop .groups) (loop .p) (at3 .root .result) (omega (arith, loop .inv .2)) (λ q h r. omega arith)
+          (loop .inv .1) (at3 .root .ensures),
       length-set (loop .groups) _ _ ∙ loop .inv .2,
     )
 

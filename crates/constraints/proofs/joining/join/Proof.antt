@@ -21,12 +21,15 @@ loop-holds c = (omega arith, c .before .before .before .pre .3)
 loop-again : tie.Need-loop-again Inv-loop μ-loop
 unfolding startOf
 loop-again c =
+    let at8 = c .before .before .before .before .before .before .before .before in
+    let at9 = at8 .before in
+    let at13 = at9 .before .before .before .before in
     let enter = c .before .before .before .before .enter in
     let place = c .before .before .before .before .before .before .before .place in
-    let loop = c .before .before .before .before .before .before .before .before .before .loop in
-    let pre = c .before .before .before .before .before .before .before .before .before .before .before .before .before .pre in
-    let low : place .result < 1280 = rw (place .ensures .0) (pre .2 (loop .e) (c .before .before .before .before .before .before .before .before .loop-test .taken)) in
-    (omega arith, rw (enter .ensures .0, enter .ensures .1) (joined-more _ _ _ _ _ (place .ensures .0) low (omega (arith, c .before .before .before .before .before .before .before .before .loop-test .taken)) (loop .inv .1)))
+    let loop = at9 .loop in
+    let pre = at13 .pre in
+    let low : place .result < 1280 = rw (place .ensures .0) (pre .2 (loop .e) (at8 .loop-test .taken)) in
+    (omega arith, rw (enter .ensures .0, enter .ensures .1) (joined-more _ _ _ _ _ (place .ensures .0) low (omega (arith, at8 .loop-test .taken)) (loop .inv .1)))
 
 same-length : tie.Need-same-length Inv-loop μ-loop
 same-length c =

@@ -25,13 +25,15 @@ class-at-requires c κs =
 
 loop-again : tie.Need-loop-again Inv-loop μ-loop
 loop-again c =
+    let at3 = c .before .before .before in
+    let at11 = at3 .before .before .before .before .before .before .before .before in
     let loop = c .before .before .before .before .before .before .before .loop in
-    let args = c .before .before .before .before .before .before .before .before .before .before .before .args in
+    let args = at11 .args in
     rw (c .before .before .put16 .ensures) (
       omega arith,
       fill-more (λ p. p) (λ p v. v ≡ getD (now (args .cache)) (getD (now (args .nodes)) p 0 * 3 + 2) 0) (loop .classes) (loop .p)
-          (c .before .before .before .class-at .result) (omega (arith, loop .inv .2)) (λ p h q. omega arith) (loop .inv .1)
-          (rw (c .before .before .before .before .place .ensures .0) at (c .before .before .before .class-at .ensures)),
+          (at3 .class-at .result) (omega (arith, loop .inv .2)) (λ p h q. omega arith) (loop .inv .1)
+          (rw (c .before .before .before .before .place .ensures .0) at (at3 .class-at .ensures)),
       length-set (loop .classes) _ _ ∙ loop .inv .2,
     )
 

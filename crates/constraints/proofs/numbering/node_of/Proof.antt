@@ -18,11 +18,12 @@ loop-holds c = follow-first _ _ (c .before .before .before .before .pre .2)
 
 returns : tie.Need-returns Inv-loop μ-loop
 returns c =
+    let at9 = c .before .before .before .before .before .before .before .before .before in
     let loop = c .before .before .before .before .loop in
     let test = c .before .before .before .loop-test in
     rw (c .at16 .ensures)
     (node-found _ _ (loop .inv) (omega (arith, test .taken)) (sym (c .before .before .at322 .ensures) ∙ c .before .if1 .taken ∙ c .before .before .before .before .before .at32 .ensures)
-    (c .before .before .before .before .before .before .before .before .before .pre .1 (loop .follow - 1) (omega (arith, loop .inv .high, test .taken))))
+    (at9 .pre .1 (loop .follow - 1) (omega (arith, loop .inv .high, test .taken))))
 
 loop-less : tie.Need-loop-less Inv-loop μ-loop
 loop-less c =
@@ -32,10 +33,11 @@ loop-less c =
 
 loop-again : tie.Need-loop-again Inv-loop μ-loop
 loop-again c =
+    let at9 = c .before .before .before .before .before .before .before .before .before in
     let loop = c .before .before .before .before .loop in
     let test = c .before .before .before .loop-test in
     rw (c .place .ensures .0)
-    (follow-next _ _ (omega (arith, test .taken)) (c .before .before .before .before .before .before .before .before .before .pre .3 (loop .follow - 1) (omega (arith, loop .inv .high, test .taken)))
+    (follow-next _ _ (omega (arith, test .taken)) (at9 .pre .3 (loop .follow - 1) (omega (arith, loop .inv .high, test .taken)))
     (λ q. c .before .if1 .left (c .before .before .at322 .ensures ∙ q ∙ sym (c .before .before .before .before .before .at32 .ensures))) (loop .inv))
 
 returns-2 : tie.Need-returns-2 Inv-loop μ-loop

@@ -22,22 +22,30 @@ loop-holds c = (omega arith, λ q h. absurd (omega arith), joined-none _, c .bef
 
 node-of-requires : tie.Need-node-of-requires Inv-loop μ-loop
 node-of-requires c κs =
+    let at10 = c .before .before .before .before .before .before .before .before .before .before in
     let bucket = c .before .before .before .before .bucket in
     let loop = c .before .before .before .before .before .before .before .loop in
-    let key = bucket-key (now (c .before .before .before .before .before .before .before .before .before .before .args .numbers)) (loop .p) _ _ (bucket .ensures .0) (c .before .before .before .before .before .at32 .ensures) in
+    let key = bucket-key (now (at10 .args .numbers)) (loop .p) _ _ (bucket .ensures .0) (c .before .before .before .before .before .at32 .ensures) in
     (omega arith, loop .inv .1, rw (c .place .ensures .0, sym key) (loop .inv .2 .head (bucket .result) (omega (arith, bucket .ensures .1))), loop .inv .2 .next)
 
 loop-again : tie.Need-loop-again Inv-loop μ-loop
 loop-again c =
-    let bucket = c .before .before .before .before .before .before .before .before .before .before .before .before .before .before .bucket in
-    let loop = c .before .before .before .before .before .before .before .before .before .before .before .before .before .before .before .before .before .loop in
+    let at9 = c .before .before .before .before .before .before .before .before .before in
+    let at14 = at9 .before .before .before .before .before in
+    let at15 = at14 .before in
+    let at16 = at15 .before in
+    let at17 = at16 .before in
+    let at20 = at17 .before .before .before in
+    let numbers = now (at20 .args .numbers) in
+    let bucket = at14 .bucket in
+    let loop = at17 .loop in
     let enter = c .before .before .enter in
-    let key = bucket-key (now (c .before .before .before .before .before .before .before .before .before .before .before .before .before .before .before .before .before .before .before .before .args .numbers)) (loop .p) _ _ (bucket .ensures .0) (c .before .before .before .before .before .before .before .before .before .before .before .before .before .before .before .at32 .ensures) in
+    let key = bucket-key numbers (loop .p) _ _ (bucket .ensures .0) (at15 .at32 .ensures) in
     rw (c .before .before .before .before .before .before .before .put16 .ensures, enter .ensures .0, enter .ensures .1) (
       omega arith,
-      fill-more (λ q. q) (λ q v. First (now (c .before .before .before .before .before .before .before .before .before .before .before .before .before .before .before .before .before .before .before .before .args .numbers)) q v) (loop .nodes) (loop .p) (c .before .before .before .before .before .before .before .before .before .node-of .result) (omega (arith, loop .inv .3))
-          (λ q h r. omega arith) (loop .inv .1) (c .before .before .before .before .before .before .before .before .before .node-of .ensures),
-      joined-more _ _ _ _ _ key (omega (arith, bucket .ensures .1)) (omega (arith, c .before .before .before .before .before .before .before .before .before .before .before .before .before .before .before .before .loop-test .taken)) (loop .inv .2),
+      fill-more (λ q. q) (λ q v. First numbers q v) (loop .nodes) (loop .p) (at9 .node-of .result) (omega (arith, loop .inv .3))
+          (λ q h r. omega arith) (loop .inv .1) (at9 .node-of .ensures),
+      joined-more _ _ _ _ _ key (omega (arith, bucket .ensures .1)) (omega (arith, at16 .loop-test .taken)) (loop .inv .2),
       length-set (loop .nodes) _ _ ∙ loop .inv .3,
     )
 

@@ -6,7 +6,10 @@ use Rattle.constraints.proofs.numbering.number_places.Tie as tie
 
 returns : tie.Need-returns
 returns c =
-    all-put (c .before .before .before .before .before .before .before .before .before .before .before .before .before .before .before .before .before .before .number-rows .ensures) (c .before .before .before .before .before .before .before .before .before .before .before .before .before .before .number-rows2 .ensures) (c .before .before .before .before .before .before .before .before .before .before .number-rows3 .ensures) (c .before .before .before .before .before .before .number-rows4 .ensures) (c .before .before .number-rows5 .ensures)
+    let at10 = c .before .before .before .before .before .before .before .before .before .before in
+    let at14 = at10 .before .before .before .before in
+    let at18 = at14 .before .before .before .before in
+    all-put (at18 .number-rows .ensures) (at14 .number-rows2 .ensures) (at10 .number-rows3 .ensures) (c .before .before .before .before .before .before .number-rows4 .ensures) (c .before .before .number-rows5 .ensures)
 
 pub number-places-spec : {M : Type 1} → statement M
 number-places-spec =

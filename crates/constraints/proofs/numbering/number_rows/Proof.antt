@@ -22,12 +22,14 @@ loop-holds c = (omega arith, λ i h. absurd (omega arith), λ p h. refl, refl)
 
 loop-again : tie.Need-loop-again Inv-loop μ-loop
 loop-again c =
+    let at3 = c .before .before .before in
+    let at9 = at3 .before .before .before .before .before .before in
     let loop = c .before .before .before .before .before .before .loop in
-    let args = c .before .before .before .before .before .before .before .before .before .args in
+    let args = at9 .args in
     rw (c .before .before .put32 .ensures) (
       omega arith,
       fill-more (λ p. args .from + p) (λ p v. requestOf v ≡ requestIn (now (args .t)) (args .loader) (args .name) p) (loop .numbers) (loop .i)
-          (c .before .before .before .row-number .result) (omega (arith, loop .inv .3)) (λ p h q. omega arith) (loop .inv .1) (c .before .before .before .row-number .ensures),
+          (at3 .row-number .result) (omega (arith, loop .inv .3)) (λ p h q. omega arith) (loop .inv .1) (at3 .row-number .ensures),
       kept-set (now (args .numbers)) (loop .numbers) _ _ _ (omega arith) (loop .inv .2),
       length-set (loop .numbers) _ _ ∙ loop .inv .3,
     )

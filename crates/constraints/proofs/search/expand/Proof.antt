@@ -21,27 +21,35 @@ loop-holds c =
 
 visit-requires : tie.Need-visit-requires Inv-loop μ-loop
 visit-requires c κs =
+    let at11 = c .before .before .before .before .before .before .before .before .before .before .before in
     let loop = c .before .before .before .before .loop in
     let test = c .before .before .before .loop-test in
-    let args = c .before .before .before .before .before .before .before .before .before .before .before .args in
-    let pre = c .before .before .before .before .before .before .before .before .before .before .before .pre in
+    let args = at11 .args in
+    let pre = at11 .pre in
     let fits : args .cached + args .noted + (loop .follow - 1) < args .cached + args .noted + args .noted = omega (arith, loop .inv .high, test .taken) in
     (omega (arith, pre .3 .low (args .cached + args .noted + (loop .follow - 1)) fits, c .before .before .place2 .ensures .0), pre .2, loop .inv .queued)
 
 loop-less : tie.Need-loop-less Inv-loop μ-loop
 loop-less c =
-    let loop = c .before .before .before .before .before .before .before .before .before .before .loop in
-    let test = c .before .before .before .before .before .before .before .before .before .loop-test in
-    let n = c .before .before .before .before .before .before .before .before .before .before .before .before .before .before .before .before .before .pre .4 .next (loop .follow - 1) (omega (arith, loop .inv .high, test .taken)) in
+    let at9 = c .before .before .before .before .before .before .before .before .before in
+    let at10 = at9 .before in
+    let at17 = at10 .before .before .before .before .before .before .before in
+    let loop = at10 .loop in
+    let test = at9 .loop-test in
+    let n = at17 .pre .4 .next (loop .follow - 1) (omega (arith, loop .inv .high, test .taken)) in
     omega (arith, n .high, c .place3 .ensures .0, test .taken)
 
 loop-again : tie.Need-loop-again Inv-loop μ-loop
 unfolding endOf
 loop-again c =
-    let loop = c .before .before .before .before .before .before .before .before .before .before .loop in
-    let test = c .before .before .before .before .before .before .before .before .before .loop-test in
-    let n = c .before .before .before .before .before .before .before .before .before .before .before .before .before .before .before .before .before .pre .4 .next (loop .follow - 1) (omega (arith, loop .inv .high, test .taken)) in
-    rw (c .place3 .ensures .0) (expanding-one _ _ _ _ _ (omega (arith, test .taken)) n (loop .inv) (rw (c .before .before .before .before .before .before .before .before .place2 .ensures .0) at (c .before .before .before .before .before .visit .ensures)))
+    let at8 = c .before .before .before .before .before .before .before .before in
+    let at9 = at8 .before in
+    let at10 = at9 .before in
+    let at17 = at10 .before .before .before .before .before .before .before in
+    let loop = at10 .loop in
+    let test = at9 .loop-test in
+    let n = at17 .pre .4 .next (loop .follow - 1) (omega (arith, loop .inv .high, test .taken)) in
+    rw (c .place3 .ensures .0) (expanding-one _ _ _ _ _ (omega (arith, test .taken)) n (loop .inv) (rw (at8 .place2 .ensures .0) at (c .before .before .before .before .before .visit .ensures)))
 
 same-length : tie.Need-same-length Inv-loop μ-loop
 same-length c =

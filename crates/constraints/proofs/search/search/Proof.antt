@@ -21,14 +21,16 @@ expand-requires c κs =
 
 loop-holds : tie.Need-loop-holds Inv-loop μ-loop
 loop-holds c =
-    let args = c .before .before .before .before .before .before .before .before .before .before .before .before .args in
-    let pre = c .before .before .before .before .before .before .before .before .before .before .before .before .pre in
+    let at12 = c .before .before .before .before .before .before .before .before .before .before .before .before in
+    let args = at12 .args in
+    let pre = at12 .pre in
     searching-start _ _ _ _ _ (none-marked (args .a) (args .stamp) (now (args .marks)) (now (args .queue)) (pre .6) (pre .5) (pre .7)) (c .before .before .before .before .expand .ensures)
 
 expand-requires-2 : tie.Need-expand-requires-2 Inv-loop μ-loop
 expand-requires-2 c κs =
+    let at18 = c .before .before .before .before .before .before .before .before .before .before .before .before .before .before .before .before .before .before in
     let loop = c .before .before .before .before .before .loop in
-    let pre = c .before .before .before .before .before .before .before .before .before .before .before .before .before .before .before .before .before .before .pre in
+    let pre = at18 .pre in
     (rw (c .before .before .place .ensures .0) (queue-low (pre .2) (loop .inv .queued) (loop .done) (c .before .before .before .before .loop-test .taken)), pre .1, pre .2, pre .3, pre .4, loop .inv .queued)
 
 add-done : tie.Need-add-done Inv-loop μ-loop

@@ -19,16 +19,22 @@ returns-2 c =
 
 add-result : tie.Need-add-result
 add-result c =
-    let args = c .before .before .before .before .before .before .before .before .before .before .before .before .before .before .args in
-    let pre = c .before .before .before .before .before .before .before .before .before .before .before .before .before .before .pre in
+    let at9 = c .before .before .before .before .before .before .before .before .before in
+    let at10 = at9 .before in
+    let at14 = at10 .before .before .before .before in
+    let args = at14 .args in
+    let pre = at14 .pre in
     let low : args .tail < 1280 = room (args .cached) (args .stamp) (args .group) (now (args .marks)) (now (args .queue)) (args .tail) (pre .2) (pre .0)
-    (λ q. c .before .before .before .before .before .before .before .before .before .if1 .left (c .before .before .before .before .before .before .before .before .before .before .at16 .ensures ∙ q)) in
+    (λ q. at9 .if1 .left (at10 .at16 .ensures ∙ q)) in
     omega arith
 
 returns-3 : tie.Need-returns-3
 returns-3 c =
-    let pre = c .before .before .before .before .before .before .before .before .before .before .before .before .before .before .pre in
-    rw (c .before .before .before .before .before .before .before .put16 .ensures, c .before .before .put162 .ensures) (visit-new _ _ _ _ _ _ (pre .2) (pre .0) (λ q. c .before .before .before .before .before .before .before .before .before .if1 .left (c .before .before .before .before .before .before .before .before .before .before .at16 .ensures ∙ q)))
+    let at9 = c .before .before .before .before .before .before .before .before .before in
+    let at10 = at9 .before in
+    let at14 = at10 .before .before .before .before in
+    let pre = at14 .pre in
+    rw (c .before .before .before .before .before .before .before .put16 .ensures, c .before .before .put162 .ensures) (visit-new _ _ _ _ _ _ (pre .2) (pre .0) (λ q. at9 .if1 .left (at10 .at16 .ensures ∙ q)))
 
 pub visit-spec : {M : Type 1} → statement M
 visit-spec =

@@ -33,7 +33,12 @@ add-result c = omega (arith, c .size-of .ensures .1, c .before .from16 .ensures 
 
 returns-5 : tie.Need-returns-5
 unfolding roomFor every
-returns-5 c = rw (← c .before .before .before .before .before .before .before .before .before .before .before .at16 .ensures, ← c .before .before .before .before .before .before .before .before .before .before .wide16 .ensures .0, le-leb _ _ (c .before .before .before .before .before .before .before .before .before .if1 .left), ← c .before .before .before .before .before .before .before .before .at162 .ensures, lt-ltb _ _ (c .before .before .before .before .before .before .before .if2 .left), ← c .before .before .before .before .before .before .at163 .ensures, lt-ltb _ _ (c .before .before .before .before .before .if3 .left), le-leb _ _ (c .before .before .before .before .if4 .left), every, ← c .size-of .ensures .0, ← c .before .before .before .field-count .ensures, ← c .before .before .from8 .ensures .0, ← c .before .from16 .ensures .0) (sym (every-last _))
+returns-5 c =
+    let at8 = c .before .before .before .before .before .before .before .before in
+    let at9 = at8 .before in
+    let at10 = at9 .before in
+    let at11 = at10 .before in
+    rw (← at11 .at16 .ensures, ← at10 .wide16 .ensures .0, le-leb _ _ (at9 .if1 .left), ← at8 .at162 .ensures, lt-ltb _ _ (c .before .before .before .before .before .before .before .if2 .left), ← c .before .before .before .before .before .before .at163 .ensures, lt-ltb _ _ (c .before .before .before .before .before .if3 .left), le-leb _ _ (c .before .before .before .before .if4 .left), every, ← c .size-of .ensures .0, ← c .before .before .before .field-count .ensures, ← c .before .before .from8 .ensures .0, ← c .before .from16 .ensures .0) (sym (every-last _))
 
 pub has-room-spec : {M : Type 1} → statement M
 has-room-spec = tie.close (tie.spec (λ c κs. search needs) (λ c κs. search needs) add-if1 returns (λ c κs. search needs) returns-2 (λ c κs. search needs) returns-3 returns-4 (λ c κs. search needs) (λ c κs. search needs) (λ c κs. search needs) (λ c κs. search needs) add-result returns-5)

@@ -27,7 +27,10 @@ post-method-requires : tie.Need-post-method-requires Inv-loop μ-loop
 post-method-requires c κs = (omega (arith, c .before .before .before .method-count .ensures, c .before .loop-test .taken), omega (arith, c .before .before .loop .inv .1), omega (arith, c .before .before .loop .inv .1, c .before .before .loop .inv .2, c .before .loop-test .taken), c .before .before .before .before .before .before .before .before .before .before .pre .3)
 
 loop-again : tie.Need-loop-again Inv-loop μ-loop
-loop-again c = (omega arith, omega (arith, c .before .before .before .before .before .loop .inv .1, c .before .before .before .before .loop-test .taken, posted-few _ _ _ _ _ _ _ _ _ (c .before .before .post-method .ensures)), posted-long _ _ _ _ _ (c .before .before .post-method .ensures) ∙ c .before .before .before .before .before .loop .inv .2, posts-on _ _ _ _ _ _ _ _ _ _ _ _ (c .before .before .before .before .loop-test .taken) (omega (arith, c .before .before .before .before .before .loop .inv .1, c .before .before .before .before .before .loop .inv .2, c .before .before .before .before .loop-test .taken)) (c .before .before .before .before .before .loop .inv .3) (c .before .before .post-method .ensures))
+loop-again c =
+    let at4 = c .before .before .before .before in
+    let at5 = at4 .before in
+    (omega arith, omega (arith, at5 .loop .inv .1, at4 .loop-test .taken, posted-few _ _ _ _ _ _ _ _ _ (c .before .before .post-method .ensures)), posted-long _ _ _ _ _ (c .before .before .post-method .ensures) ∙ at5 .loop .inv .2, posts-on _ _ _ _ _ _ _ _ _ _ _ _ (at4 .loop-test .taken) (omega (arith, at5 .loop .inv .1, at5 .loop .inv .2, at4 .loop-test .taken)) (at5 .loop .inv .3) (c .before .before .post-method .ensures))
 
 same-length : tie.Need-same-length Inv-loop μ-loop
 same-length c = c .before .loop .inv .2 ∙ sym (c .before .before .before .before .before .before .before .before .before .pre .2)

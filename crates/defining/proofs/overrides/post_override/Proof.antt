@@ -14,16 +14,36 @@ returns : tie.Need-returns
 returns c = posts-none _ _ _ _ _ _ _ _ (found-absent _ (sym (c .before .before .nearest-method .ensures) ∙ c .enum-told .given .1))
 
 cast-other : tie.Need-cast-other
-cast-other c = let e : c .loader-of .result ≡ loaderOf (quickBase (now (c .before .before .before .before .before .before .before .before .before .before .args .counts)) (now (c .before .before .before .before .before .before .before .before .before .before .args .classes)) (now (c .before .before .before .before .before .before .before .before .before .before .args .kept)) (now (c .before .before .before .before .before .before .before .before .before .before .args .cache))) (c .before .before .y .given .0 .0) = c .loader-of .ensures ∙ sym (loader-quick (now (c .before .before .before .before .before .before .before .before .before .before .args .counts)) (now (c .before .before .before .before .before .before .before .before .before .before .args .classes)) (now (c .before .before .before .before .before .before .before .before .before .before .args .kept)) (now (c .before .before .before .before .before .before .before .before .before .before .args .cache)) _) in omega (arith, c .before .before .before .before .before .before .before .before .before .before .pre .2 (c .before .before .y .given .0 .0))
+cast-other c =
+    let at10 = c .before .before .before .before .before .before .before .before .before .before in
+    let counts = now (at10 .args .counts) in
+    let classes = now (at10 .args .classes) in
+    let kept = now (at10 .args .kept) in
+    let cache = now (at10 .args .cache) in
+    let e : c .loader-of .result ≡ loaderOf (quickBase counts classes kept cache) (c .before .before .y .given .0 .0) = c .loader-of .ensures ∙ sym (loader-quick counts classes kept cache _) in omega (arith, at10 .pre .2 (c .before .before .y .given .0 .0))
 
 cast-first : tie.Need-cast-first
-cast-first c = omega (arith, c .before .before .before .before .before .before .before .before .before .before .before .before .before .before .pre .0, c .before .before .add-tie .ensures .0, new-few (now (c .before .before .before .before .before .before .before .before .before .before .before .before .before .before .args .ties)) (c .before .before .before .before .before .before .before .before .before .before .before .before .before .before .args .count) (c .before .before .before .before .before .before .before .before .before .before .before .before .before .before .args .loader) (c .before .before .before .before .loader-of .result) (c .before .before .before .before .before .before .before .before .before .before .before .before .before .before .args .argument))
+cast-first c =
+    let at14 = c .before .before .before .before .before .before .before .before .before .before .before .before .before .before in
+    omega (arith, at14 .pre .0, c .before .before .add-tie .ensures .0, new-few (now (at14 .args .ties)) (at14 .args .count) (at14 .args .loader) (c .before .before .before .before .loader-of .result) (at14 .args .argument))
 
 cast-result : tie.Need-cast-result
-cast-result c = let f : c .before .before .add-tie2 .result ≤ c .before .before .before .before .before .before .before .before .before .before .before .before .before .before .before .before .before .before .args .count + 2 = two-few _ _ _ _ _ _ _ _ _ (c .before .before .before .before .before .before .add-tie .ensures .0) (c .before .before .add-tie2 .ensures .0) in omega (arith, c .before .before .before .before .before .before .before .before .before .before .before .before .before .before .before .before .before .before .pre .0)
+cast-result c =
+    let at18 = c .before .before .before .before .before .before .before .before .before .before .before .before .before .before .before .before .before .before in
+    let f : c .before .before .add-tie2 .result ≤ at18 .args .count + 2 = two-few _ _ _ _ _ _ _ _ _ (c .before .before .before .before .before .before .add-tie .ensures .0) (c .before .before .add-tie2 .ensures .0) in omega (arith, at18 .pre .0)
 
 returns-2 : tie.Need-returns-2
-returns-2 c = let e : c .before .before .before .before .before .before .before .before .loader-of .result ≡ loaderOf (quickBase (now (c .before .before .before .before .before .before .before .before .before .before .before .before .before .before .before .before .before .before .args .counts)) (now (c .before .before .before .before .before .before .before .before .before .before .before .before .before .before .before .before .before .before .args .classes)) (now (c .before .before .before .before .before .before .before .before .before .before .before .before .before .before .before .before .before .before .args .kept)) (now (c .before .before .before .before .before .before .before .before .before .before .before .before .before .before .before .before .before .before .args .cache))) (c .before .before .before .before .before .before .before .before .before .before .y .given .0 .0) = c .before .before .before .before .before .before .before .before .loader-of .ensures ∙ sym (loader-quick (now (c .before .before .before .before .before .before .before .before .before .before .before .before .before .before .before .before .before .before .args .counts)) (now (c .before .before .before .before .before .before .before .before .before .before .before .before .before .before .before .before .before .before .args .classes)) (now (c .before .before .before .before .before .before .before .before .before .before .before .before .before .before .before .before .before .before .args .kept)) (now (c .before .before .before .before .before .before .before .before .before .before .before .before .before .before .before .before .before .before .args .cache)) _) in posts-two _ _ _ _ _ _ _ _ _ _ _ _ _ _ (found-at _ _ (sym (c .before .before .before .before .before .before .before .before .before .before .before .before .nearest-method .ensures) ∙ c .before .before .before .before .before .before .before .before .before .before .y .given .1)) (sym e) (omega (arith, c .before .before .before .before .before .before .before .before .before .before .before .before .before .before .before .before .before .before .pre .1)) (c .before .before .before .before .before .before .add-tie .ensures .0) (c .before .before .before .before .before .before .add-tie .ensures .1) (c .before .before .add-tie2 .ensures .0) (c .before .before .add-tie2 .ensures .1)
+returns-2 c =
+    let at6 = c .before .before .before .before .before .before in
+    let at8 = at6 .before .before in
+    let at10 = at8 .before .before in
+    let at12 = at10 .before .before in
+    let at18 = at12 .before .before .before .before .before .before in
+    let counts = now (at18 .args .counts) in
+    let classes = now (at18 .args .classes) in
+    let kept = now (at18 .args .kept) in
+    let cache = now (at18 .args .cache) in
+    let e : at8 .loader-of .result ≡ loaderOf (quickBase counts classes kept cache) (at10 .y .given .0 .0) = at8 .loader-of .ensures ∙ sym (loader-quick counts classes kept cache _) in posts-two _ _ _ _ _ _ _ _ _ _ _ _ _ _ (found-at _ _ (sym (at12 .nearest-method .ensures) ∙ at10 .y .given .1)) (sym e) (omega (arith, at18 .pre .1)) (at6 .add-tie .ensures .0) (at6 .add-tie .ensures .1) (c .before .before .add-tie2 .ensures .0) (c .before .before .add-tie2 .ensures .1)
 
 pub post-override-spec : {M : Type 1} → statement M
 post-override-spec = tie.close (tie.spec (λ c κs. search needs) (λ c. search needs) (λ c. search needs) returns (λ c κs. search needs) cast-other (λ c κs. search needs) cast-first (λ c κs. search needs) cast-result (λ c. search needs) returns-2)

@@ -12,19 +12,35 @@ use Rattle.defining.proofs.superclasses.find_super.Tie as tie
 
 returns : tie.Need-returns
 unfolding aboveOf quickFile quickBase
-returns c = super-taken (classOf (c .before .before .before .before .before .before .before .before .before .before .args .loader) (quickFile (now (c .before .before .before .before .before .before .before .before .before .before .args .file)))) (quickBase (now (c .before .before .before .before .before .before .before .before .before .before .args .counts)) (now (c .before .before .before .before .before .before .before .before .before .before .args .classes)) (now (c .before .before .before .before .before .before .before .before .before .before .args .kept)) (now (c .before .before .before .before .before .before .before .before .before .before .args .cache))) _ _ (superName (now (c .before .before .before .before .before .before .before .before .before .before .args .file))) (c .before .before .before .before .from8 .ensures .0) (c .before .before .before .class-name .ensures) refl _ (found-at _ _ (sym (c .before .before .find .ensures) ∙ c .enum-told2 .given .1))
+returns c =
+    let at10 = c .before .before .before .before .before .before .before .before .before .before in
+    let file = now (at10 .args .file) in
+    super-taken (classOf (at10 .args .loader) (quickFile file)) (quickBase (now (at10 .args .counts)) (now (at10 .args .classes)) (now (at10 .args .kept)) (now (at10 .args .cache))) _ _ (superName file) (c .before .before .before .before .from8 .ensures .0) (c .before .before .before .class-name .ensures) refl _ (found-at _ _ (sym (c .before .before .find .ensures) ∙ c .enum-told2 .given .1))
 
 returns-2 : tie.Need-returns-2
 unfolding aboveOf quickFile quickBase
-returns-2 c = super-wanted (classOf (c .before .before .before .before .before .before .before .before .before .before .before .before .before .before .args .loader) (quickFile (now (c .before .before .before .before .before .before .before .before .before .before .before .before .before .before .args .file)))) (quickBase (now (c .before .before .before .before .before .before .before .before .before .before .before .before .before .before .args .counts)) (now (c .before .before .before .before .before .before .before .before .before .before .before .before .before .before .args .classes)) (now (c .before .before .before .before .before .before .before .before .before .before .before .before .before .before .args .kept)) (now (c .before .before .before .before .before .before .before .before .before .before .before .before .before .before .args .cache))) _ _ _ (c .before .before .before .before .before .before .before .before .from8 .ensures .0) (c .before .before .before .before .before .before .before .class-name .ensures) (c .before .before .before .super-name .ensures) (found-absent _ (sym (c .before .before .before .before .before .before .find .ensures) ∙ c .before .before .before .before .enum-told .given .1)) (found-absent _ (sym (c .before .before .find2 .ensures) ∙ c .enum-told3 .given .1))
+returns-2 c =
+    let at8 = c .before .before .before .before .before .before .before .before in
+    let at14 = at8 .before .before .before .before .before .before in
+    super-wanted (classOf (at14 .args .loader) (quickFile (now (at14 .args .file)))) (quickBase (now (at14 .args .counts)) (now (at14 .args .classes)) (now (at14 .args .kept)) (now (at14 .args .cache))) _ _ _ (at8 .from8 .ensures .0) (c .before .before .before .before .before .before .before .class-name .ensures) (c .before .before .before .super-name .ensures) (found-absent _ (sym (c .before .before .before .before .before .before .find .ensures) ∙ c .before .before .before .before .enum-told .given .1)) (found-absent _ (sym (c .before .before .find2 .ensures) ∙ c .enum-told3 .given .1))
 
 returns-3 : tie.Need-returns-3
 unfolding aboveOf quickFile quickBase
-returns-3 c = super-hidden (classOf (c .before .before .before .before .before .before .before .before .before .before .before .before .before .before .before .before .before .args .loader) (quickFile (now (c .before .before .before .before .before .before .before .before .before .before .before .before .before .before .before .before .before .args .file)))) (quickBase (now (c .before .before .before .before .before .before .before .before .before .before .before .before .before .before .before .before .before .args .counts)) (now (c .before .before .before .before .before .before .before .before .before .before .before .before .before .before .before .before .before .args .classes)) (now (c .before .before .before .before .before .before .before .before .before .before .before .before .before .before .before .before .before .args .kept)) (now (c .before .before .before .before .before .before .before .before .before .before .before .before .before .before .before .before .before .args .cache))) _ _ _ (c .before .before .before .before .before .before .before .before .before .before .before .from8 .ensures .0) (c .before .before .before .before .before .before .before .before .before .before .class-name .ensures) (c .before .before .before .before .before .before .super-name .ensures) (found-absent _ (sym (c .before .before .before .before .before .before .before .before .before .find .ensures) ∙ c .before .before .before .before .before .before .before .enum-told .given .1)) _ (found-at _ _ (sym (c .before .before .before .before .before .find2 .ensures) ∙ c .before .before .before .p .given .1)) (sym (c .before .hides-any .ensures) ∙ c .if1 .taken)
+returns-3 c =
+    let at9 = c .before .before .before .before .before .before .before .before .before in
+    let at10 = at9 .before in
+    let at11 = at10 .before in
+    let at17 = at11 .before .before .before .before .before .before in
+    super-hidden (classOf (at17 .args .loader) (quickFile (now (at17 .args .file)))) (quickBase (now (at17 .args .counts)) (now (at17 .args .classes)) (now (at17 .args .kept)) (now (at17 .args .cache))) _ _ _ (at11 .from8 .ensures .0) (at10 .class-name .ensures) (c .before .before .before .before .before .before .super-name .ensures) (found-absent _ (sym (at9 .find .ensures) ∙ c .before .before .before .before .before .before .before .enum-told .given .1)) _ (found-at _ _ (sym (c .before .before .before .before .before .find2 .ensures) ∙ c .before .before .before .p .given .1)) (sym (c .before .hides-any .ensures) ∙ c .if1 .taken)
 
 returns-4 : tie.Need-returns-4
 unfolding aboveOf quickFile quickBase
-returns-4 c = super-fits (classOf (c .before .before .before .before .before .before .before .before .before .before .before .before .before .before .before .before .before .args .loader) (quickFile (now (c .before .before .before .before .before .before .before .before .before .before .before .before .before .before .before .before .before .args .file)))) (quickBase (now (c .before .before .before .before .before .before .before .before .before .before .before .before .before .before .before .before .before .args .counts)) (now (c .before .before .before .before .before .before .before .before .before .before .before .before .before .before .before .before .before .args .classes)) (now (c .before .before .before .before .before .before .before .before .before .before .before .before .before .before .before .before .before .args .kept)) (now (c .before .before .before .before .before .before .before .before .before .before .before .before .before .before .before .before .before .args .cache))) _ _ _ (c .before .before .before .before .before .before .before .before .before .before .before .from8 .ensures .0) (c .before .before .before .before .before .before .before .before .before .before .class-name .ensures) (c .before .before .before .before .before .before .super-name .ensures) (found-absent _ (sym (c .before .before .before .before .before .before .before .before .before .find .ensures) ∙ c .before .before .before .before .before .before .before .enum-told .given .1)) _ (found-at _ _ (sym (c .before .before .before .before .before .find2 .ensures) ∙ c .before .before .before .p .given .1)) (sym (c .before .hides-any .ensures) ∙ c .if1 .left)
+returns-4 c =
+    let at9 = c .before .before .before .before .before .before .before .before .before in
+    let at10 = at9 .before in
+    let at11 = at10 .before in
+    let at17 = at11 .before .before .before .before .before .before in
+    super-fits (classOf (at17 .args .loader) (quickFile (now (at17 .args .file)))) (quickBase (now (at17 .args .counts)) (now (at17 .args .classes)) (now (at17 .args .kept)) (now (at17 .args .cache))) _ _ _ (at11 .from8 .ensures .0) (at10 .class-name .ensures) (c .before .before .before .before .before .before .super-name .ensures) (found-absent _ (sym (at9 .find .ensures) ∙ c .before .before .before .before .before .before .before .enum-told .given .1)) _ (found-at _ _ (sym (c .before .before .before .before .before .find2 .ensures) ∙ c .before .before .before .p .given .1)) (sym (c .before .hides-any .ensures) ∙ c .if1 .left)
 
 pub find-super-spec : {M : Type 1} → statement M
 find-super-spec = tie.close (tie.spec (λ c κs. search needs) (λ c κs. search needs) (λ c κs. search needs) (λ c. search needs) (λ c. search needs) returns (λ c κs. search needs) (λ c κs. search needs) (λ c. search needs) (λ c. search needs) returns-2 (λ c κs. search needs) returns-3 returns-4)

@@ -12,7 +12,11 @@ add-write-depth : tie.Need-add-write-depth
 add-write-depth c = let h : c .before .depth .result < 16 = rw (c .before .depth .ensures, c .before .before .before .row .ensures) (c .before .before .before .before .before .before .pre .1) in omega (arith, h)
 
 returns : tie.Need-returns
-returns c = (c .before .before .write-frame-count .ensures, rw (c .before .before .before .before .before .before .write-operand .ensures, c .before .before .before .before .before .before .before .before .before .before .write-depth .ensures, c .before .before .before .before .before .before .before .before .before .before .before .before .depth .ensures, c .before .before .before .before .before .before .before .before .before .before .before .before .before .before .row .ensures))
+returns c =
+    let at10 = c .before .before .before .before .before .before .before .before .before .before in
+    let at12 = at10 .before .before in
+    let at14 = at12 .before .before in
+    (c .before .before .write-frame-count .ensures, rw (c .before .before .before .before .before .before .write-operand .ensures, at10 .write-depth .ensures, at12 .depth .ensures, at14 .row .ensures))
 
 pub give-spec : {M : Type 1} → statement M
 give-spec =

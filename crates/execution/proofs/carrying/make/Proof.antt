@@ -17,7 +17,11 @@ add-put16 c = omega (arith, c .before .before .before .before .before .before .b
 
 returns : tie.Need-returns
 unfolding valueOf pick
-returns c = (rw (c .before .before .put16 .ensures, c .before .before .before .before .before .before .before .before .before .before .before .before .before .before .before .at16 .ensures), (rw (c .before .before .before .before .before .before .before .before .before .before .before .write-new .ensures, c .before .before .before .before .before .before .before .before .before .before .before .before .from16 .ensures .0, c .before .before .before .before .before .before .before .before .before .before .before .before .before .before .before .at16 .ensures), rw (c .before .before .before .before .before .before .push .ensures, c .before .before .before .before .before .before .before .from162 .ensures .0, c .before .before .before .before .before .before .before .before .before .before .before .before .before .before .before .at16 .ensures)))
+returns c =
+    let at11 = c .before .before .before .before .before .before .before .before .before .before .before in
+    let at12 = at11 .before in
+    let at15 = at12 .before .before .before in
+    (rw (c .before .before .put16 .ensures, at15 .at16 .ensures), (rw (at11 .write-new .ensures, at12 .from16 .ensures .0, at15 .at16 .ensures), rw (c .before .before .before .before .before .before .push .ensures, c .before .before .before .before .before .before .before .from162 .ensures .0, at15 .at16 .ensures)))
 
 pub make-spec : {M : Type 1} → statement M
 make-spec =

@@ -8,22 +8,32 @@ use Rattle.execution.proofs.deciding.act.Statement.{statement}
 use Rattle.execution.proofs.deciding.act.Tie as tie
 
 settle-access-requires : tie.Need-settle-access-requires
-settle-access-requires c κs = (c .before .before .before .before .before .before .before .before .before .before .before .before .pre .0 .counts, c .before .before .before .before .before .before .before .before .before .before .before .before .pre .0 .ties, narrow _ _ _ _ _ (c .before .before .before .before .before .before .before .before .before .before .before .before .pre .0) (c .getfield .result) (c .getfield .ensures .declared))
+settle-access-requires c κs =
+    let at12 = c .before .before .before .before .before .before .before .before .before .before .before .before in
+    (at12 .pre .0 .counts, at12 .pre .0 .ties, narrow _ _ _ _ _ (at12 .pre .0) (c .getfield .result) (c .getfield .ensures .declared))
 
 settle-access-requires-2 : tie.Need-settle-access-requires-2
-settle-access-requires-2 c κs = (c .before .before .before .before .before .before .before .before .before .before .before .before .pre .0 .counts, c .before .before .before .before .before .before .before .before .before .before .before .before .pre .0 .ties, narrow _ _ _ _ _ (c .before .before .before .before .before .before .before .before .before .before .before .before .pre .0) (c .putfield .result) (c .putfield .ensures .declared))
+settle-access-requires-2 c κs =
+    let at12 = c .before .before .before .before .before .before .before .before .before .before .before .before in
+    (at12 .pre .0 .counts, at12 .pre .0 .ties, narrow _ _ _ _ _ (at12 .pre .0) (c .putfield .result) (c .putfield .ensures .declared))
 
 add-settle-access : tie.Need-add-settle-access
 add-settle-access c = omega (arith, c .before .before .before .before .before .before .before .before .before .before .before .pre .1)
 
 settle-access-requires-3 : tie.Need-settle-access-requires-3
-settle-access-requires-3 c κs = (c .before .before .before .before .before .before .before .before .before .before .before .before .pre .0 .counts, c .before .before .before .before .before .before .before .before .before .before .before .before .pre .0 .ties, narrow _ _ _ _ _ (c .before .before .before .before .before .before .before .before .before .before .before .before .pre .0) (c .invokevirtual .result) (c .invokevirtual .ensures .declared))
+settle-access-requires-3 c κs =
+    let at12 = c .before .before .before .before .before .before .before .before .before .before .before .before in
+    (at12 .pre .0 .counts, at12 .pre .0 .ties, narrow _ _ _ _ _ (at12 .pre .0) (c .invokevirtual .result) (c .invokevirtual .ensures .declared))
 
 returns : tie.Need-returns
-returns c = rw (c .plain .ensures .0, c .plain .ensures .1, c .before .before .enum-told .given .1) (acted-frame _ _ _ _ _ _ _ _ _ _ _ _ _ _ _ (c .before .before .before .before .before .before .before .before .before .before .before .before .pre .0 .counts .ties) (c .before .aconst-null .ensures (now (c .before .before .before .before .before .before .before .before .before .before .before .before .args .frames)) (c .before .before .before .before .before .before .before .before .before .before .before .before .args .b)))
+returns c =
+    let at12 = c .before .before .before .before .before .before .before .before .before .before .before .before in
+    rw (c .plain .ensures .0, c .plain .ensures .1, c .before .before .enum-told .given .1) (acted-frame _ _ _ _ _ _ _ _ _ _ _ _ _ _ _ (at12 .pre .0 .counts .ties) (c .before .aconst-null .ensures (now (at12 .args .frames)) (at12 .args .b)))
 
 returns-2 : tie.Need-returns-2
-returns-2 c = rw (c .plain2 .ensures .0, c .plain2 .ensures .1, c .before .before .before .i .given .1) (acted-frame _ _ _ _ _ _ _ _ _ _ _ _ _ _ _ (c .before .before .before .before .before .before .before .before .before .before .before .before .before .pre .0 .counts .ties) (c .before .sipush .ensures (now (c .before .before .before .before .before .before .before .before .before .before .before .before .before .args .frames)) (c .before .before .before .before .before .before .before .before .before .before .before .before .before .args .b)))
+returns-2 c =
+    let at13 = c .before .before .before .before .before .before .before .before .before .before .before .before .before in
+    rw (c .plain2 .ensures .0, c .plain2 .ensures .1, c .before .before .before .i .given .1) (acted-frame _ _ _ _ _ _ _ _ _ _ _ _ _ _ _ (at13 .pre .0 .counts .ties) (c .before .sipush .ensures (now (at13 .args .frames)) (at13 .args .b)))
 
 returns-3 : tie.Need-returns-3
 returns-3 c = rw (c .plain3 .ensures .0, c .plain3 .ensures .1, c .before .before .before .i2 .given .1) (acted-frame _ _ _ _ _ _ _ _ _ _ _ _ _ _ _ (c .before .before .before .before .before .before .before .before .before .before .before .before .before .pre .0 .counts .ties) (c .before .iload .ensures))
@@ -38,7 +48,9 @@ returns-6 : tie.Need-returns-6
 returns-6 c = rw (c .plain6 .ensures .0, c .plain6 .ensures .1, c .before .before .before .i5 .given .1) (acted-frame _ _ _ _ _ _ _ _ _ _ _ _ _ _ _ (c .before .before .before .before .before .before .before .before .before .before .before .before .before .pre .0 .counts .ties) (c .before .astore .ensures))
 
 returns-7 : tie.Need-returns-7
-returns-7 c = rw (c .plain7 .ensures .0, c .plain7 .ensures .1, c .before .before .enum-told2 .given .1) (acted-frame _ _ _ _ _ _ _ _ _ _ _ _ _ _ _ (c .before .before .before .before .before .before .before .before .before .before .before .before .pre .0 .counts .ties) (c .before .pop .ensures (now (c .before .before .before .before .before .before .before .before .before .before .before .before .args .frames)) (c .before .before .before .before .before .before .before .before .before .before .before .before .args .b)))
+returns-7 c =
+    let at12 = c .before .before .before .before .before .before .before .before .before .before .before .before in
+    rw (c .plain7 .ensures .0, c .plain7 .ensures .1, c .before .before .enum-told2 .given .1) (acted-frame _ _ _ _ _ _ _ _ _ _ _ _ _ _ _ (at12 .pre .0 .counts .ties) (c .before .pop .ensures (now (at12 .args .frames)) (at12 .args .b)))
 
 returns-8 : tie.Need-returns-8
 returns-8 c = rw (c .plain8 .ensures .0, c .plain8 .ensures .1, c .before .before .enum-told3 .given .1) (acted-frame _ _ _ _ _ _ _ _ _ _ _ _ _ _ _ (c .before .before .before .before .before .before .before .before .before .before .before .before .pre .0 .counts .ties) (c .before .dup .ensures))
@@ -56,10 +68,14 @@ returns-12 : tie.Need-returns-12
 returns-12 c = rw (c .before .before .before .i7 .given .1) (acted-access _ _ _ _ _ _ _ _ _ _ _ _ _ _ _ _ _ _ _ _ _ (c .before .before .before .before .before .before .before .before .before .before .before .before .before .pre .0 .counts .ties) (c .before .putfield .ensures) refl (c .settle-access2 .ensures))
 
 returns-13 : tie.Need-returns-13
-returns-13 c = rw (c .before .before .before .i8 .given .1) (acted-access _ _ _ _ _ _ _ _ _ _ _ _ _ _ _ _ _ _ _ _ _ (c .before .before .before .before .before .before .before .before .before .before .before .before .before .pre .0 .counts .ties) (c .before .invokevirtual .ensures) (frames-room (now (c .before .before .before .before .before .before .before .before .before .before .before .before .before .args .frames)) (c .before .before .before .before .before .before .before .before .before .before .before .before .before .args .task) (c .before .before .before .before .before .before .before .before .before .before .before .before .before .args .m)) (c .settle-access3 .ensures))
+returns-13 c =
+    let at13 = c .before .before .before .before .before .before .before .before .before .before .before .before .before in
+    rw (c .before .before .before .i8 .given .1) (acted-access _ _ _ _ _ _ _ _ _ _ _ _ _ _ _ _ _ _ _ _ _ (at13 .pre .0 .counts .ties) (c .before .invokevirtual .ensures) (frames-room (now (at13 .args .frames)) (at13 .args .task) (at13 .args .m)) (c .settle-access3 .ensures))
 
 returns-14 : tie.Need-returns-14
-returns-14 c = rw (c .plain11 .ensures .0, c .plain11 .ensures .1, c .before .before .before .i9 .given .1) (acted-make _ _ _ _ _ _ _ _ _ _ _ _ _ _ _ (c .before .before .before .before .before .before .before .before .before .before .before .before .before .pre .0 .counts .ties) _ refl (c .before .new-object .ensures) (λ e. c .before .before .before .before .before .before .before .before .before .before .before .before .before .pre .0 .sizes _ e))
+returns-14 c =
+    let at13 = c .before .before .before .before .before .before .before .before .before .before .before .before .before in
+    rw (c .plain11 .ensures .0, c .plain11 .ensures .1, c .before .before .before .i9 .given .1) (acted-make _ _ _ _ _ _ _ _ _ _ _ _ _ _ _ (at13 .pre .0 .counts .ties) _ refl (c .before .new-object .ensures) (λ e. at13 .pre .0 .sizes _ e))
 
 returns-15 : tie.Need-returns-15
 returns-15 c = rw (c .plain12 .ensures .0, c .plain12 .ensures .1, c .before .before .enum-told6 .given .1) (acted-return _ _ _ _ _ _ _ _ _ _ _ _ _ _ _ (c .before .before .before .before .before .before .before .before .before .before .before .before .pre .0 .counts .ties) (c .before .ireturn .ensures))

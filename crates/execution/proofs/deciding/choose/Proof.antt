@@ -11,22 +11,63 @@ use Rattle.execution.proofs.deciding.choose.Statement.{statement}
 use Rattle.execution.proofs.deciding.choose.Tie as tie
 
 returns : tie.Need-returns
-returns c = rw (c .refuse .ensures) (chosen-unreadable _ _ _ _ _ _ _ _ (c .before .before .before .before .before .before .before .before .before .before .before .before .before .before .before .before .before .pre .0) _ _ _ (c .before .before .before .before .before .before .before .before .before .before .before .before .before .before .before .before .before .pre .1) (c .before .before .before .before .before .before .before .before .before .before .before .before .before .before .before .before .before .pre .2) (c .before .before .before .before .before .before .before .before .before .before .before .before .before .before .before .before .before .pre .3) _ _ _ _ (c .before .before .before .before .before .before .before .before .frame-class .ensures) (c .before .before .before .before .before .before .frame-method .ensures) (c .before .before .before .before .before .before .before .point .ensures) (c .before .before .before .before .before .method-code .ensures) 0 (rw (c .before .before .before .before .wide32 .ensures .0) at (unread _ _ (c .before .before .before .decode .ensures) (c .before .enum-told .given .1))))
+returns c =
+    let at8 = c .before .before .before .before .before .before .before .before in
+    let at17 = at8 .before .before .before .before .before .before .before .before .before in
+    rw (c .refuse .ensures) (chosen-unreadable _ _ _ _ _ _ _ _ (at17 .pre .0) _ _ _ (at17 .pre .1) (at17 .pre .2) (at17 .pre .3) _ _ _ _ (at8 .frame-class .ensures) (c .before .before .before .before .before .before .frame-method .ensures) (c .before .before .before .before .before .before .before .point .ensures) (c .before .before .before .before .before .method-code .ensures) 0 (rw (c .before .before .before .before .wide32 .ensures .0) at (unread _ _ (c .before .before .before .decode .ensures) (c .before .enum-told .given .1))))
 
 cast-act : tie.Need-cast-act
-cast-act c = let h : c .before .loader-of .result < 16 = rw (c .before .loader-of .ensures, ← loader-quick (now (c .before .before .before .before .before .before .before .before .before .before .before .before .before .before .before .before .before .before .before .args .counts)) (now (c .before .before .before .before .before .before .before .before .before .before .before .before .before .before .before .before .before .before .before .args .classes)) (now (c .before .before .before .before .before .before .before .before .before .before .before .before .before .before .before .before .before .before .before .args .kept)) (now (c .before .before .before .before .before .before .before .before .before .before .before .before .before .before .before .before .before .before .before .args .cache)) (c .before .before .before .before .before .before .before .before .before .before .frame-class .result)) (usable (tables (now (c .before .before .before .before .before .before .before .before .before .before .before .before .before .before .before .before .before .before .before .args .counts)) (now (c .before .before .before .before .before .before .before .before .before .before .before .before .before .before .before .before .before .before .before .args .classes)) (now (c .before .before .before .before .before .before .before .before .before .before .before .before .before .before .before .before .before .before .before .args .kept)) (now (c .before .before .before .before .before .before .before .before .before .before .before .before .before .before .before .before .before .before .before .args .cache)) (now (c .before .before .before .before .before .before .before .before .before .before .before .before .before .before .before .before .before .before .before .args .ties)) (now (c .before .before .before .before .before .before .before .before .before .before .before .before .before .before .before .before .before .before .before .args .subtypes)) (now (c .before .before .before .before .before .before .before .before .before .before .before .before .before .before .before .before .before .before .before .args .objects)) (now (c .before .before .before .before .before .before .before .before .before .before .before .before .before .before .before .before .before .before .before .args .frames))) (c .before .before .before .before .before .before .before .before .before .before .before .before .before .before .before .before .before .before .before .pre .0) .loaders (c .before .before .before .before .before .before .before .before .before .before .frame-class .result)) in omega (arith, h)
+cast-act c =
+    let at10 = c .before .before .before .before .before .before .before .before .before .before in
+    let at19 = at10 .before .before .before .before .before .before .before .before .before in
+    let counts = now (at19 .args .counts) in
+    let classes = now (at19 .args .classes) in
+    let kept = now (at19 .args .kept) in
+    let cache = now (at19 .args .cache) in
+    let h : c .before .loader-of .result < 16 = rw (c .before .loader-of .ensures, ← loader-quick counts classes kept cache (at10 .frame-class .result)) (usable (tables counts classes kept cache (now (at19 .args .ties)) (now (at19 .args .subtypes)) (now (at19 .args .objects)) (now (at19 .args .frames))) (at19 .pre .0) .loaders (at10 .frame-class .result)) in omega (arith, h)
 
 act-requires : tie.Need-act-requires
-act-requires c κs = (usable (tables (now (c .before .before .before .before .before .before .before .before .before .before .before .before .before .before .before .before .before .before .before .args .counts)) (now (c .before .before .before .before .before .before .before .before .before .before .before .before .before .before .before .before .before .before .before .args .classes)) (now (c .before .before .before .before .before .before .before .before .before .before .before .before .before .before .before .before .before .before .before .args .kept)) (now (c .before .before .before .before .before .before .before .before .before .before .before .before .before .before .before .before .before .before .before .args .cache)) (now (c .before .before .before .before .before .before .before .before .before .before .before .before .before .before .before .before .before .before .before .args .ties)) (now (c .before .before .before .before .before .before .before .before .before .before .before .before .before .before .before .before .before .before .before .args .subtypes)) (now (c .before .before .before .before .before .before .before .before .before .before .before .before .before .before .before .before .before .before .before .args .objects)) (now (c .before .before .before .before .before .before .before .before .before .before .before .before .before .before .before .before .before .before .before .args .frames))) (c .before .before .before .before .before .before .before .before .before .before .before .before .before .before .before .before .before .before .before .pre .0), row-low (tables (now (c .before .before .before .before .before .before .before .before .before .before .before .before .before .before .before .before .before .before .before .args .counts)) (now (c .before .before .before .before .before .before .before .before .before .before .before .before .before .before .before .before .before .before .before .args .classes)) (now (c .before .before .before .before .before .before .before .before .before .before .before .before .before .before .before .before .before .before .before .args .kept)) (now (c .before .before .before .before .before .before .before .before .before .before .before .before .before .before .before .before .before .before .before .args .cache)) (now (c .before .before .before .before .before .before .before .before .before .before .before .before .before .before .before .before .before .before .before .args .ties)) (now (c .before .before .before .before .before .before .before .before .before .before .before .before .before .before .before .before .before .before .before .args .subtypes)) (now (c .before .before .before .before .before .before .before .before .before .before .before .before .before .before .before .before .before .before .before .args .objects)) (now (c .before .before .before .before .before .before .before .before .before .before .before .before .before .before .before .before .before .before .before .args .frames))) (c .before .before .before .before .before .before .before .before .before .before .before .before .before .before .before .before .before .before .before .pre .0) _ _ (c .before .before .before .before .before .before .before .before .before .before .before .before .before .before .before .before .before .before .before .pre .1) (c .before .before .before .before .before .before .before .before .before .before .before .before .before .before .before .before .before .before .before .pre .2))
+act-requires c κs =
+    let at19 = c .before .before .before .before .before .before .before .before .before .before .before .before .before .before .before .before .before .before .before in
+    let counts = now (at19 .args .counts) in
+    let classes = now (at19 .args .classes) in
+    let kept = now (at19 .args .kept) in
+    let cache = now (at19 .args .cache) in
+    let ties = now (at19 .args .ties) in
+    let subtypes = now (at19 .args .subtypes) in
+    let objects = now (at19 .args .objects) in
+    let frames = now (at19 .args .frames) in
+    (usable (tables counts classes kept cache ties subtypes objects frames) (at19 .pre .0), row-low (tables counts classes kept cache ties subtypes objects frames) (at19 .pre .0) _ _ (at19 .pre .1) (at19 .pre .2))
 
 add-t27 : tie.Need-add-t27
-add-t27 c = omega (arith, c .wide322 .ensures .0, next-fits _ _ _ _ _ _ _ _ (c .before .before .before .before .before .before .before .before .before .before .before .before .before .before .before .before .before .before .before .before .before .pre .0) _ _ _ (c .before .before .before .before .before .before .before .before .before .before .before .before .before .before .before .before .before .before .before .before .before .pre .1) (c .before .before .before .before .before .before .before .before .before .before .before .before .before .before .before .before .before .before .before .before .before .pre .2) (c .before .before .before .before .before .before .before .before .before .before .before .before .before .before .before .before .before .before .before .before .before .pre .3) _ _ _ _ (c .before .before .before .before .before .before .before .before .before .before .before .before .frame-class .ensures) (c .before .before .before .before .before .before .before .before .before .before .frame-method .ensures) (c .before .before .before .before .before .before .before .before .before .before .before .point .ensures) (c .before .before .before .before .before .before .before .before .before .method-code .ensures) _ _ (rw (c .before .before .before .before .before .before .before .before .wide32 .ensures .0) at (read-at _ _ (c .before .before .before .before .before .before .before .decode .ensures) _ _ (c .before .before .before .before .before .i .given .1))))
+add-t27 c =
+    let at8 = c .before .before .before .before .before .before .before .before in
+    let at9 = at8 .before in
+    let at10 = at9 .before in
+    let at11 = at10 .before in
+    let at12 = at11 .before in
+    let at21 = at12 .before .before .before .before .before .before .before .before .before in
+    omega (arith, c .wide322 .ensures .0, next-fits _ _ _ _ _ _ _ _ (at21 .pre .0) _ _ _ (at21 .pre .1) (at21 .pre .2) (at21 .pre .3) _ _ _ _ (at12 .frame-class .ensures) (at10 .frame-method .ensures) (at11 .point .ensures) (at9 .method-code .ensures) _ _ (rw (at8 .wide32 .ensures .0) at (read-at _ _ (c .before .before .before .before .before .before .before .decode .ensures) _ _ (c .before .before .before .before .before .i .given .1))))
 
 cast-t21 : tie.Need-cast-t21
-cast-t21 c = omega (arith, c .wide322 .ensures .0, next-fits _ _ _ _ _ _ _ _ (c .before .before .before .before .before .before .before .before .before .before .before .before .before .before .before .before .before .before .before .before .before .pre .0) _ _ _ (c .before .before .before .before .before .before .before .before .before .before .before .before .before .before .before .before .before .before .before .before .before .pre .1) (c .before .before .before .before .before .before .before .before .before .before .before .before .before .before .before .before .before .before .before .before .before .pre .2) (c .before .before .before .before .before .before .before .before .before .before .before .before .before .before .before .before .before .before .before .before .before .pre .3) _ _ _ _ (c .before .before .before .before .before .before .before .before .before .before .before .before .frame-class .ensures) (c .before .before .before .before .before .before .before .before .before .before .frame-method .ensures) (c .before .before .before .before .before .before .before .before .before .before .before .point .ensures) (c .before .before .before .before .before .before .before .before .before .method-code .ensures) _ _ (rw (c .before .before .before .before .before .before .before .before .wide32 .ensures .0) at (read-at _ _ (c .before .before .before .before .before .before .before .decode .ensures) _ _ (c .before .before .before .before .before .i .given .1))))
+cast-t21 c =
+    let at8 = c .before .before .before .before .before .before .before .before in
+    let at9 = at8 .before in
+    let at10 = at9 .before in
+    let at11 = at10 .before in
+    let at12 = at11 .before in
+    let at21 = at12 .before .before .before .before .before .before .before .before .before in
+    omega (arith, c .wide322 .ensures .0, next-fits _ _ _ _ _ _ _ _ (at21 .pre .0) _ _ _ (at21 .pre .1) (at21 .pre .2) (at21 .pre .3) _ _ _ _ (at12 .frame-class .ensures) (at10 .frame-method .ensures) (at11 .point .ensures) (at9 .method-code .ensures) _ _ (rw (at8 .wide32 .ensures .0) at (read-at _ _ (c .before .before .before .before .before .before .before .decode .ensures) _ _ (c .before .before .before .before .before .i .given .1))))
 
 returns-2 : tie.Need-returns-2
-returns-2 c = rw (c .wide322 .ensures .0) (chosen _ _ _ _ _ _ _ _ (c .before .before .before .before .before .before .before .before .before .before .before .before .before .before .before .before .before .before .before .before .before .pre .0) _ _ _ (c .before .before .before .before .before .before .before .before .before .before .before .before .before .before .before .before .before .before .before .before .before .pre .1) (c .before .before .before .before .before .before .before .before .before .before .before .before .before .before .before .before .before .before .before .before .before .pre .2) (c .before .before .before .before .before .before .before .before .before .before .before .before .before .before .before .before .before .before .before .before .before .pre .3) _ _ _ _ (c .before .before .before .before .before .before .before .before .before .before .before .before .frame-class .ensures) (c .before .before .before .before .before .before .before .before .before .before .frame-method .ensures) (c .before .before .before .before .before .before .before .before .before .before .before .point .ensures) (c .before .before .before .before .before .before .before .before .before .method-code .ensures) _ _ _ _ _ _ (rw (c .before .before .before .before .before .before .before .before .wide32 .ensures .0) at (read-at _ _ (c .before .before .before .before .before .before .before .decode .ensures) _ _ (c .before .before .before .before .before .i .given .1))) (c .before .before .depth .ensures) (c .before .before .before .loader-of .ensures) (c .before .act .ensures))
+returns-2 c =
+    let at8 = c .before .before .before .before .before .before .before .before in
+    let at9 = at8 .before in
+    let at10 = at9 .before in
+    let at11 = at10 .before in
+    let at12 = at11 .before in
+    let at21 = at12 .before .before .before .before .before .before .before .before .before in
+    rw (c .wide322 .ensures .0) (chosen _ _ _ _ _ _ _ _ (at21 .pre .0) _ _ _ (at21 .pre .1) (at21 .pre .2) (at21 .pre .3) _ _ _ _ (at12 .frame-class .ensures) (at10 .frame-method .ensures) (at11 .point .ensures) (at9 .method-code .ensures) _ _ _ _ _ _ (rw (at8 .wide32 .ensures .0) at (read-at _ _ (c .before .before .before .before .before .before .before .decode .ensures) _ _ (c .before .before .before .before .before .i .given .1))) (c .before .before .depth .ensures) (c .before .before .before .loader-of .ensures) (c .before .act .ensures))
 
 pub choose-spec : {M : Type 1} → statement M
 choose-spec =

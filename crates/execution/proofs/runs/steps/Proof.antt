@@ -47,7 +47,11 @@ same-length-4 : tie.Need-same-length-4 Inv-loop μ-loop
 same-length-4 c = c .before .before .before .before .before .before .before .before .before .before .step-unbroken .kept .1 .1 .1 .1 .1 .1 .1 .0 ∙ c .before .before .before .before .before .before .before .before .before .before .before .before .before .before .before .before .loop .inv .6
 
 returns : tie.Need-returns Inv-loop μ-loop
-returns c = run-stops _ _ _ _ _ _ (c .before .before .before .before .before .before .before .before .before .before .step-unbroken .ensures) (c .before .before .before .before .before .before .before .before .before .before .before .before .before .before .before .loop-test .taken) (sym (c .before .is-ran .ensures) ∙ not-true _ (c .if1 .taken)) ∙ c .before .before .before .before .before .before .before .before .before .before .before .before .before .before .before .before .loop .inv .1
+returns c =
+    let at10 = c .before .before .before .before .before .before .before .before .before .before in
+    let at15 = at10 .before .before .before .before .before in
+    let at16 = at15 .before in
+    run-stops _ _ _ _ _ _ (at10 .step-unbroken .ensures) (at15 .loop-test .taken) (sym (c .before .is-ran .ensures) ∙ not-true _ (c .if1 .taken)) ∙ at16 .loop .inv .1
 
 add-k : tie.Need-add-k Inv-loop μ-loop
 add-k c = omega (arith, c .before .before .before .before .before .before .before .before .before .before .before .before .before .before .before .loop-test .taken)
@@ -56,7 +60,12 @@ loop-less : tie.Need-loop-less Inv-loop μ-loop
 loop-less c = omega (arith, c .before .before .before .before .before .before .before .before .before .before .before .before .before .before .before .loop-test .taken)
 
 loop-again : tie.Need-loop-again Inv-loop μ-loop
-loop-again c = (omega (arith, c .before .before .before .before .before .before .before .before .before .before .before .before .before .before .before .loop-test .taken), run-on _ _ _ _ _ _ (c .before .before .before .before .before .before .before .before .before .before .step-unbroken .ensures) (c .before .before .before .before .before .before .before .before .before .before .before .before .before .before .before .loop-test .taken) (sym (c .before .is-ran .ensures) ∙ not-false _ (c .if1 .left)) ∙ c .before .before .before .before .before .before .before .before .before .before .before .before .before .before .before .before .loop .inv .1, still-whole (c .before .before .before .before .before .before .before .before .before .before .before .before .before .before .before .before .before .before .before .before .before .before .before .before .before .args .n) (c .before .before .before .before .before .before .before .before .before .before .before .before .before .before .before .before .loop .k) (c .before .before .before .before .before .before .before .before .before .before .before .before .before .before .before .before .loop .last) _ _ _ (c .before .before .before .before .before .before .before .before .before .before .step-unbroken .ensures) (c .before .before .before .before .before .before .before .before .before .before .before .before .before .before .before .before .loop .inv .2), c .before .before .before .before .before .before .before .before .before .before .step-unbroken .kept .0 ∙ c .before .before .before .before .before .before .before .before .before .before .before .before .before .before .before .before .loop .inv .3, c .before .before .before .before .before .before .before .before .before .before .step-unbroken .kept .1 .1 .1 .1 .0 ∙ c .before .before .before .before .before .before .before .before .before .before .before .before .before .before .before .before .loop .inv .4, c .before .before .before .before .before .before .before .before .before .before .step-unbroken .kept .1 .1 .1 .1 .1 .1 .0 ∙ c .before .before .before .before .before .before .before .before .before .before .before .before .before .before .before .before .loop .inv .5, c .before .before .before .before .before .before .before .before .before .before .step-unbroken .kept .1 .1 .1 .1 .1 .1 .1 .0 ∙ c .before .before .before .before .before .before .before .before .before .before .before .before .before .before .before .before .loop .inv .6)
+loop-again c =
+    let at10 = c .before .before .before .before .before .before .before .before .before .before in
+    let at15 = at10 .before .before .before .before .before in
+    let at16 = at15 .before in
+    let at25 = at16 .before .before .before .before .before .before .before .before .before in
+    (omega (arith, at15 .loop-test .taken), run-on _ _ _ _ _ _ (at10 .step-unbroken .ensures) (at15 .loop-test .taken) (sym (c .before .is-ran .ensures) ∙ not-false _ (c .if1 .left)) ∙ at16 .loop .inv .1, still-whole (at25 .args .n) (at16 .loop .k) (at16 .loop .last) _ _ _ (at10 .step-unbroken .ensures) (at16 .loop .inv .2), at10 .step-unbroken .kept .0 ∙ at16 .loop .inv .3, at10 .step-unbroken .kept .1 .1 .1 .1 .0 ∙ at16 .loop .inv .4, at10 .step-unbroken .kept .1 .1 .1 .1 .1 .1 .0 ∙ at16 .loop .inv .5, at10 .step-unbroken .kept .1 .1 .1 .1 .1 .1 .1 .0 ∙ at16 .loop .inv .6)
 
 same-length-5 : tie.Need-same-length-5 Inv-loop μ-loop
 same-length-5 c = c .before .loop .inv .3

@@ -14,7 +14,12 @@ add-agree : tie.Need-add-agree
 add-agree c = omega (arith, c .before .before .before .before .before .before .before .before .before .before .before .before .before .at16 .ensures, c .before .before .before .before .before .before .before .before .before .before .before .before .before .before .before .before .before .before .before .before .pre .2, c .tie-number .ensures .0)
 
 returns : tie.Need-returns
-returns c = c .agree .ensures ∙ rw (c .before .before .before .before .before .before .before .fill-supers .ensures, c .before .before .before .before .before .before .before .before .before .before .write-ties .ensures, c .before .before .before .before .before .before .before .before .before .before .before .before .before .copy-rows .ensures, c .before .before .before .before .at162 .ensures, c .before .at163 .ensures, c .before .before .before .before .before .before .before .before .before .before .before .before .before .before .before .at16 .ensures, c .before .before .tie-number .ensures .0) (agree-posted _ _ _ _ _ _ [] [] _ _ (c .before .before .before .before .before .before .before .before .before .before .before .before .before .before .before .before .before .before .before .before .before .before .pre .0 .classes) (c .before .before .before .before .before .before .before .before .before .before .before .before .before .before .before .before .before .before .before .before .before .before .pre .0 .cache) (c .before .before .before .before .before .before .before .before .before .before .before .before .before .before .before .before .before .before .before .before .before .before .pre .0 .subtypes) refl (c .before .before .before .before .before .before .before .before .before .before .before .before .before .before .before .before .before .before .before .before .before .before .pre .1) (c .before .before .before .before .before .before .before .before .before .before .before .before .before .before .before .before .before .before .before .before .before .before .pre .2))
+returns c =
+    let at10 = c .before .before .before .before .before .before .before .before .before .before in
+    let at13 = at10 .before .before .before in
+    let at15 = at13 .before .before in
+    let at22 = at15 .before .before .before .before .before .before .before in
+    c .agree .ensures ∙ rw (c .before .before .before .before .before .before .before .fill-supers .ensures, at10 .write-ties .ensures, at13 .copy-rows .ensures, c .before .before .before .before .at162 .ensures, c .before .at163 .ensures, at15 .at16 .ensures, c .before .before .tie-number .ensures .0) (agree-posted _ _ _ _ _ _ [] [] _ _ (at22 .pre .0 .classes) (at22 .pre .0 .cache) (at22 .pre .0 .subtypes) refl (at22 .pre .1) (at22 .pre .2))
 
 pub agrees-with-spec : {M : Type 1} → statement M
 agrees-with-spec =

@@ -14,7 +14,14 @@ add-put16 c = omega (arith, c .before .before .before .before .before .before .b
 
 returns : tie.Need-returns
 unfolding valueOf pick
-returns c = (rw (c .before .before .write-frame-count .ensures, c .before .before .before .before .before .before .put16 .ensures, c .before .before .before .before .before .before .before .before .before .before .before .before .before .before .before .before .before .before .before .before .at16 .ensures), (rw (c .before .before .before .before .before .before .before .before .before .before .before .before .before .before .before .before .write-new .ensures, c .before .before .before .before .before .before .before .before .before .before .before .before .before .before .before .before .before .from16 .ensures .0, c .before .before .before .before .before .before .before .before .before .before .before .before .before .before .before .before .before .before .before .before .at16 .ensures), rw (c .before .before .before .before .before .before .before .before .before .before .write-entry .ensures, c .before .before .before .before .before .before .before .before .before .before .before .before .row .ensures, c .before .before .before .before .before .before .before .before .before .before .before .from162 .ensures .0, c .before .before .before .before .before .before .before .before .before .before .before .before .before .before .before .before .before .before .before .before .at16 .ensures)))
+returns c =
+    let at10 = c .before .before .before .before .before .before .before .before .before .before in
+    let at11 = at10 .before in
+    let at12 = at11 .before in
+    let at16 = at12 .before .before .before .before in
+    let at17 = at16 .before in
+    let at20 = at17 .before .before .before in
+    (rw (c .before .before .write-frame-count .ensures, c .before .before .before .before .before .before .put16 .ensures, at20 .at16 .ensures), (rw (at16 .write-new .ensures, at17 .from16 .ensures .0, at20 .at16 .ensures), rw (at10 .write-entry .ensures, at12 .row .ensures, at11 .from162 .ensures .0, at20 .at16 .ensures)))
 
 pub begin-spec : {M : Type 1} → statement M
 begin-spec =

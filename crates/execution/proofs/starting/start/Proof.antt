@@ -16,7 +16,11 @@ returns : tie.Need-returns
 returns c = (rw (c .before .r .given .1) at (c .before .before .before .decide-start .ensures)) (c .before .before .before .before .before .before .before .before .before .before .before .before .before .before .before .args .value)
 
 returns-2 : tie.Need-returns-2
-returns-2 c = let f = (rw (c .before .before .before .before .before .before .before .before .before .before .before .r2 .given .1) at (c .before .before .before .before .before .before .before .before .before .before .before .before .before .decide-start .ensures)) in start-first _ _ _ _ _ _ _ _ (f .0) _ _ _ _ _ _ (f .1) _ _ _ _ _ _ refl (c .before .before .before .before .before .before .begin .ensures .0) (c .before .before .before .before .before .before .begin .ensures .1 .0) (c .before .before .before .before .before .before .begin .ensures .1 .1)
+returns-2 c =
+    let at6 = c .before .before .before .before .before .before in
+    let at11 = at6 .before .before .before .before .before in
+    let at13 = at11 .before .before in
+    let f = (rw (at11 .r2 .given .1) at (at13 .decide-start .ensures)) in start-first _ _ _ _ _ _ _ _ (f .0) _ _ _ _ _ _ (f .1) _ _ _ _ _ _ refl (at6 .begin .ensures .0) (at6 .begin .ensures .1 .0) (at6 .begin .ensures .1 .1)
 
 pub start-spec : {M : Type 1} → statement M
 start-spec =

@@ -8,7 +8,9 @@ use Rattle.execution.proofs.turns.step.Statement.{statement}
 use Rattle.execution.proofs.turns.step.Tie as tie
 
 returns : tie.Need-returns
-returns c = step-broken (tables (now (c .before .before .before .before .before .before .before .before .before .before .before .before .before .before .args .counts)) (now (c .before .before .before .before .before .before .before .before .before .before .before .before .before .before .args .classes)) (now (c .before .before .before .before .before .before .before .before .before .before .before .before .before .before .args .kept)) (now (c .before .before .before .before .before .before .before .before .before .before .before .before .before .before .args .cache)) (now (c .before .before .before .before .before .before .before .before .before .before .before .before .before .before .args .ties)) (now (c .before .before .before .before .before .before .before .before .before .before .before .before .before .before .args .subtypes)) (now (c .before .before .before .before .before .before .before .before .before .before .before .before .before .before .args .objects)) (now (c .before .before .before .before .before .before .before .before .before .before .before .before .before .before .args .frames))) (sym (c .before .is-broken .ensures) ∙ c .if1 .taken)
+returns c =
+    let at14 = c .before .before .before .before .before .before .before .before .before .before .before .before .before .before in
+    step-broken (tables (now (at14 .args .counts)) (now (at14 .args .classes)) (now (at14 .args .kept)) (now (at14 .args .cache)) (now (at14 .args .ties)) (now (at14 .args .subtypes)) (now (at14 .args .objects)) (now (at14 .args .frames))) (sym (c .before .is-broken .ensures) ∙ c .if1 .taken)
 
 step-unbroken-requires : tie.Need-step-unbroken-requires
 step-unbroken-requires c κs = sym (c .before .before .before .before .before .is-broken .ensures) ∙ c .before .before .before .before .if1 .left

@@ -19,7 +19,9 @@ loop-holds : tie.Need-loop-holds Inv-loop μ-loop
 loop-holds c = (refl, refl)
 
 loop-again : tie.Need-loop-again Inv-loop μ-loop
-loop-again c = (rw (c .before .before .put8 .ensures, c .before .before .before .before .wide8 .ensures .0, c .before .before .before .super-cell .ensures) (sym (write-next _ _ _ (c .before .before .before .before .before .before .loop-test .taken)) ∙ c .before .before .before .before .before .before .before .loop .inv .0), ap length (c .before .before .put8 .ensures) ∙ simp length-set (c .before .before .before .before .before .before .before .loop .inv .1))
+loop-again c =
+    let at7 = c .before .before .before .before .before .before .before in
+    (rw (c .before .before .put8 .ensures, c .before .before .before .before .wide8 .ensures .0, c .before .before .before .super-cell .ensures) (sym (write-next _ _ _ (c .before .before .before .before .before .before .loop-test .taken)) ∙ at7 .loop .inv .0), ap length (c .before .before .put8 .ensures) ∙ simp length-set (at7 .loop .inv .1))
 
 returns : tie.Need-returns Inv-loop μ-loop
 returns c = sym (write-end _ _ _ _ (c .loop-test .left)) ∙ c .before .loop .inv .0

@@ -34,7 +34,11 @@ loop-less : tie.Need-loop-less Inv-loop μ-loop
 loop-less c = super-falls _ _ _ (found-at _ _ (sym (c .before .before .before .super-of .ensures) ∙ c .before .p .given .1))
 
 loop-again : tie.Need-loop-again Inv-loop μ-loop
-loop-again c = let l : c .before .p .given .0 .0 < c .before .before .before .before .before .loop .at = super-falls _ _ _ (found-at _ _ (sym (c .before .before .before .super-of .ensures) ∙ c .before .p .given .1)) in (omega (arith, c .before .before .before .before .before .loop .inv .0, l), omega (arith, c .before .before .before .before .before .loop .inv .0, c .before .before .before .before .before .loop .inv .1, c .before .before .before .before .own-size .ensures .1, l), count-up _ _ _ _ _ _ _ _ (c .before .before .before .before .own-size .ensures .0) _ (found-at _ _ (sym (c .before .before .before .super-of .ensures) ∙ c .before .p .given .1)) (c .before .before .before .before .before .loop .inv .2), c .before .before .before .before .before .loop .inv .3)
+loop-again c =
+    let at3 = c .before .before .before in
+    let at4 = at3 .before in
+    let at5 = at4 .before in
+    let l : c .before .p .given .0 .0 < at5 .loop .at = super-falls _ _ _ (found-at _ _ (sym (at3 .super-of .ensures) ∙ c .before .p .given .1)) in (omega (arith, at5 .loop .inv .0, l), omega (arith, at5 .loop .inv .0, at5 .loop .inv .1, at4 .own-size .ensures .1, l), count-up _ _ _ _ _ _ _ _ (at4 .own-size .ensures .0) _ (found-at _ _ (sym (at3 .super-of .ensures) ∙ c .before .p .given .1)) (at5 .loop .inv .2), at5 .loop .inv .3)
 
 pub size-of-spec : {M : Type 1} → statement M
 size-of-spec = tie.close (tie.spec Inv-loop μ-loop (λ c κs. search needs) returns loop-holds (λ c κs. search needs) (λ c. search needs) (λ c κs. search needs) (λ c. search needs) (λ c. search needs) returns-2 loop-less loop-again)

@@ -23,7 +23,9 @@ unfolding quickFields
 loop-holds c = (rw (c .field-count .ensures, rows-map fieldType (fieldIn (now (c .before .before .before .args .file))) (fieldCount (now (c .before .before .before .args .file))) 0), refl)
 
 loop-again : tie.Need-loop-again Inv-loop μ-loop
-loop-again c = (rw (c .before .before .put16 .ensures, c .before .before .before .before .before .wide32 .ensures .0, c .before .before .before .before .wide8 .ensures .0, c .before .before .before .field-type .ensures) (sym (write-last _ _ _ _ (c .before .before .before .before .before .before .before .loop-test .taken)) ∙ c .before .before .before .before .before .before .before .before .loop .inv .0), ap length (c .before .before .put16 .ensures) ∙ simp length-set (c .before .before .before .before .before .before .before .before .loop .inv .1))
+loop-again c =
+    let at8 = c .before .before .before .before .before .before .before .before in
+    (rw (c .before .before .put16 .ensures, c .before .before .before .before .before .wide32 .ensures .0, c .before .before .before .before .wide8 .ensures .0, c .before .before .before .field-type .ensures) (sym (write-last _ _ _ _ (c .before .before .before .before .before .before .before .loop-test .taken)) ∙ at8 .loop .inv .0), ap length (c .before .before .put16 .ensures) ∙ simp length-set (at8 .loop .inv .1))
 
 returns : tie.Need-returns Inv-loop μ-loop
 returns c = sym (write-end _ _ _ _ (c .loop-test .left)) ∙ c .before .loop .inv .0

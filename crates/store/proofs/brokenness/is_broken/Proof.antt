@@ -32,7 +32,9 @@ values-fit-requires c κs = (within-true _ (sym (c .before .before .before .befo
 
 returns-5 : tie.Need-returns-5
 unfolding checks
-returns-5 c = ap not (c .values-fit .ensures ∙ sym (every-first _ _ (sym (c .before .before .before .before .before .before .before .before .is-shaped .ensures) ∙ not-false _ (c .before .before .before .before .before .before .before .if1 .left)) ∙ (every-first _ _ (sym (c .before .before .before .before .before .before .are-within .ensures) ∙ not-false _ (c .before .before .before .before .before .if2 .left)) ∙ (every-first _ _ (sym (c .before .before .before .before .sources-fit .ensures) ∙ not-false _ (c .before .before .before .if3 .left)) ∙ (every-first _ _ (sym (c .before .before .rows-fit .ensures) ∙ not-false _ (c .before .if4 .left)) ∙ (every-last _)))))) ∙ sym (checks-broken _)
+returns-5 c =
+    let at8 = c .before .before .before .before .before .before .before .before in
+    ap not (c .values-fit .ensures ∙ sym (every-first _ _ (sym (at8 .is-shaped .ensures) ∙ not-false _ (c .before .before .before .before .before .before .before .if1 .left)) ∙ (every-first _ _ (sym (c .before .before .before .before .before .before .are-within .ensures) ∙ not-false _ (c .before .before .before .before .before .if2 .left)) ∙ (every-first _ _ (sym (c .before .before .before .before .sources-fit .ensures) ∙ not-false _ (c .before .before .before .if3 .left)) ∙ (every-first _ _ (sym (c .before .before .rows-fit .ensures) ∙ not-false _ (c .before .if4 .left)) ∙ (every-last _)))))) ∙ sym (checks-broken _)
 
 pub is-broken-spec : {M : Type 1} → statement M
 is-broken-spec = tie.close (tie.spec (λ c κs. search needs) returns (λ c κs. search needs) returns-2 (λ c κs. search needs) returns-3 (λ c κs. search needs) returns-4 values-fit-requires returns-5)

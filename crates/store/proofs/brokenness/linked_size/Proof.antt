@@ -18,12 +18,19 @@ use Rattle.store.proofs.brokenness.linked_size.Tie as tie
 -- the sum is the class's size
 whole : (c : tie.After-wide82) → c .before .wide8 .result + c .wide82 .result ≡ sizeOf (quickBase (now (c .before .before .before .before .before .before .before .before .before .before .before .before .before .before .before .before .args .counts)) (now (c .before .before .before .before .before .before .before .before .before .before .before .before .before .before .before .before .args .classes)) (now (c .before .before .before .before .before .before .before .before .before .before .before .before .before .before .before .before .args .kept)) (now (c .before .before .before .before .before .before .before .before .before .before .before .before .before .before .before .before .args .cache))) (c .before .before .before .before .before .before .before .before .before .before .from16 .result)
 whole c =
-    let p = c .before .before .before .before .before .before .before .p .given .0 .0 in
-    let s = (found-at _ _ (sym (c .before .before .before .before .before .before .before .before .before .super-of .ensures) ∙ c .before .before .before .before .before .before .before .p .given .1)) in
-    let l : p < c .before .before .before .before .before .before .before .before .before .before .from16 .result = super-falls _ _ _ s in
-    let below : p < c .before .before .before .before .before .before .before .before .before .before .before .before .before .before .before .before .args .c = omega (arith, l, c .before .before .before .before .before .before .before .before .before .before .from16 .ensures .0) in
-    let size : c .before .wide8 .result ≡ sizeOf (quickBase (now (c .before .before .before .before .before .before .before .before .before .before .before .before .before .before .before .before .args .counts)) (now (c .before .before .before .before .before .before .before .before .before .before .before .before .before .before .before .before .args .classes)) (now (c .before .before .before .before .before .before .before .before .before .before .before .before .before .before .before .before .args .kept)) (now (c .before .before .before .before .before .before .before .before .before .before .before .before .before .before .before .before .args .cache))) p = c .before .wide8 .ensures .0 ∙ (c .before .before .at8 .ensures ∙ (ap (λ (i : ℕ). getD (now (c .before .before .before .before .before .before .before .before .before .before .before .before .before .before .before .before .args .sizes)) i 0) (c .before .before .before .wide32 .ensures .0) ∙ c .before .before .before .before .before .before .before .before .before .before .before .before .before .before .before .before .pre p below .0)) in
-    let own : c .wide82 .result ≡ fieldCount (fileIn (now (c .before .before .before .before .before .before .before .before .before .before .before .before .before .before .before .before .args .counts)) (now (c .before .before .before .before .before .before .before .before .before .before .before .before .before .before .before .before .args .classes)) (now (c .before .before .before .before .before .before .before .before .before .before .before .before .before .before .before .before .args .kept)) (c .before .before .before .before .before .before .before .before .before .before .from16 .result)) = c .wide82 .ensures .0 ∙ (c .before .before .before .before .field-count .ensures ∙ ap fieldCount (c .before .before .before .before .before .file-of .ensures)) in
+    let at7 = c .before .before .before .before .before .before .before in
+    let at9 = at7 .before .before in
+    let at10 = at9 .before in
+    let at16 = at10 .before .before .before .before .before .before in
+    let counts = now (at16 .args .counts) in
+    let classes = now (at16 .args .classes) in
+    let kept = now (at16 .args .kept) in
+    let p = at7 .p .given .0 .0 in
+    let s = (found-at _ _ (sym (at9 .super-of .ensures) ∙ at7 .p .given .1)) in
+    let l : p < at10 .from16 .result = super-falls _ _ _ s in
+    let below : p < at16 .args .c = omega (arith, l, at10 .from16 .ensures .0) in
+    let size : c .before .wide8 .result ≡ sizeOf (quickBase counts classes kept (now (at16 .args .cache))) p = c .before .wide8 .ensures .0 ∙ (c .before .before .at8 .ensures ∙ (ap (λ (i : ℕ). getD (now (at16 .args .sizes)) i 0) (c .before .before .before .wide32 .ensures .0) ∙ at16 .pre p below .0)) in
+    let own : c .wide82 .result ≡ fieldCount (fileIn counts classes kept (at10 .from16 .result)) = c .wide82 .ensures .0 ∙ (c .before .before .before .before .field-count .ensures ∙ ap fieldCount (c .before .before .before .before .before .file-of .ensures)) in
     size-sum _ _ _ _ _ _ _ _ s size own
 
 returns : tie.Need-returns

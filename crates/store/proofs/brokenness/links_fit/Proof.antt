@@ -22,7 +22,10 @@ abbrev μ-loop : tie.MeasureT-loop
 
 loop-holds : tie.Need-loop-holds Inv-loop μ-loop
 unfolding linksFit
-loop-holds c = (omega arith, ap length (c .before .before .before .put8 .ensures) ∙ simp length-set (c .before .before .before .before .before .before .before .before .before .before .pre .0), rw (c .before .before .before .put8 .ensures) (sized-first _ (now (c .before .before .before .before .before .before .before .before .before .before .args .sizes)) (c .before .before .before .before .before .before .before .before .before .before .pre .0) (c .before .before .before .before .before .before .before .before .before .before .pre .2)), rw (c .at16 .ensures))
+loop-holds c =
+    let at3 = c .before .before .before in
+    let at10 = at3 .before .before .before .before .before .before .before in
+    (omega arith, ap length (at3 .put8 .ensures) ∙ simp length-set (at10 .pre .0), rw (at3 .put8 .ensures) (sized-first _ (now (at10 .args .sizes)) (at10 .pre .0) (at10 .pre .2)), rw (c .at16 .ensures))
 
 linked-size-requires : tie.Need-linked-size-requires Inv-loop μ-loop
 linked-size-requires c κs = c .before .before .loop .inv .2
@@ -34,7 +37,14 @@ returns : tie.Need-returns Inv-loop μ-loop
 returns c = (sym (rows-hit _ _ _ _ (c .before .before .before .before .loop-test .taken) (said-unfit _ _ (sym (c .before .before .linked-size .ensures) ∙ c .enum-told .given .1))) ∙ c .before .before .before .before .before .loop .inv .3, λ h. absurd (false≢true h))
 
 loop-again : tie.Need-loop-again Inv-loop μ-loop
-loop-again c = (omega arith, ap length (c .before .before .put82 .ensures) ∙ simp length-set (c .before .before .before .before .before .before .before .before .before .before .before .loop .inv .1), rw (c .before .before .put82 .ensures, c .before .before .before .wide16 .ensures .0) (sized-more _ (c .before .before .before .before .before .before .before .before .before .before .before .loop .sizes) _ _ (c .before .before .before .before .before .before .before .before .before .before .before .loop .inv .2) (omega (arith, c .before .before .before .before .before .before .before .before .before .before .before .loop .inv .1, c .before .before .before .before .before .before .before .before .before .before .loop-test .taken, c .before .before .before .before .before .before .before .before .before .before .before .before .at16 .ensures, c .before .before .before .before .before .before .before .before .before .before .before .before .before .before .before .before .before .before .before .before .before .before .pre .1)) (size-said _ _ _ (sym (c .before .before .before .before .before .before .before .before .linked-size .ensures) ∙ c .before .before .before .before .before .before .size .given .1) .1) (linked-small _ _ (size-said _ _ _ (sym (c .before .before .before .before .before .before .before .before .linked-size .ensures) ∙ c .before .before .before .before .before .before .size .given .1) .0))), sym (rows-on _ _ _ _ (c .before .before .before .before .before .before .before .before .before .before .loop-test .taken) (size-said _ _ _ (sym (c .before .before .before .before .before .before .before .before .linked-size .ensures) ∙ c .before .before .before .before .before .before .size .given .1) .0)) ∙ c .before .before .before .before .before .before .before .before .before .before .before .loop .inv .3)
+loop-again c =
+    let at6 = c .before .before .before .before .before .before in
+    let at8 = at6 .before .before in
+    let at10 = at8 .before .before in
+    let at11 = at10 .before in
+    let at12 = at11 .before in
+    let at22 = at12 .before .before .before .before .before .before .before .before .before .before in
+    (omega arith, ap length (c .before .before .put82 .ensures) ∙ simp length-set (at11 .loop .inv .1), rw (c .before .before .put82 .ensures, c .before .before .before .wide16 .ensures .0) (sized-more _ (at11 .loop .sizes) _ _ (at11 .loop .inv .2) (omega (arith, at11 .loop .inv .1, at10 .loop-test .taken, at12 .at16 .ensures, at22 .pre .1)) (size-said _ _ _ (sym (at8 .linked-size .ensures) ∙ at6 .size .given .1) .1) (linked-small _ _ (size-said _ _ _ (sym (at8 .linked-size .ensures) ∙ at6 .size .given .1) .0))), sym (rows-on _ _ _ _ (at10 .loop-test .taken) (size-said _ _ _ (sym (at8 .linked-size .ensures) ∙ at6 .size .given .1) .0)) ∙ at11 .loop .inv .3)
 
 same-length-2 : tie.Need-same-length-2 Inv-loop μ-loop
 same-length-2 c = c .before .loop .inv .1 ∙ sym (c .before .before .before .before .before .before .before .before .before .before .before .before .pre .0)

@@ -23,11 +23,15 @@ loop-holds c = (omega arith, ap (all _) (rows-start _ _))
 
 returns : tie.Need-returns Inv-loop μ-loop
 unfolding fieldAt valueAt
-returns c = sym (rows-hit _ (fieldAt (now (c .before .before .before .before .before .before .before .before .before .args .objects)) (c .before .before .before .before .before .before .before .before .before .args .o)) _ _ (c .before .before .before .before .before .loop-test .taken) (rw (← c .before .before .before .before .before .before .before .wide16 .ensures .0, ← c .before .before .before .before .wide8 .ensures .0, ← c .before .before .before .at32 .ensures, ← c .before .before .at322 .ensures) (sym (c .before .value-fits .ensures) ∙ not-true _ (c .if1 .taken)))) ∙ c .before .before .before .before .before .before .loop .inv .1
+returns c =
+    let at9 = c .before .before .before .before .before .before .before .before .before in
+    sym (rows-hit _ (fieldAt (now (at9 .args .objects)) (at9 .args .o)) _ _ (c .before .before .before .before .before .loop-test .taken) (rw (← c .before .before .before .before .before .before .before .wide16 .ensures .0, ← c .before .before .before .before .wide8 .ensures .0, ← c .before .before .before .at32 .ensures, ← c .before .before .at322 .ensures) (sym (c .before .value-fits .ensures) ∙ not-true _ (c .if1 .taken)))) ∙ c .before .before .before .before .before .before .loop .inv .1
 
 loop-again : tie.Need-loop-again Inv-loop μ-loop
 unfolding fieldAt valueAt
-loop-again c = (omega arith, sym (rows-on _ (fieldAt (now (c .before .before .before .before .before .before .before .before .before .args .objects)) (c .before .before .before .before .before .before .before .before .before .args .o)) _ _ (c .before .before .before .before .before .loop-test .taken) (rw (← c .before .before .before .before .before .before .before .wide16 .ensures .0, ← c .before .before .before .before .wide8 .ensures .0, ← c .before .before .before .at32 .ensures, ← c .before .before .at322 .ensures) (sym (c .before .value-fits .ensures) ∙ not-false _ (c .if1 .left)))) ∙ c .before .before .before .before .before .before .loop .inv .1)
+loop-again c =
+    let at9 = c .before .before .before .before .before .before .before .before .before in
+    (omega arith, sym (rows-on _ (fieldAt (now (at9 .args .objects)) (at9 .args .o)) _ _ (c .before .before .before .before .before .loop-test .taken) (rw (← c .before .before .before .before .before .before .before .wide16 .ensures .0, ← c .before .before .before .before .wide8 .ensures .0, ← c .before .before .before .at32 .ensures, ← c .before .before .at322 .ensures) (sym (c .before .value-fits .ensures) ∙ not-false _ (c .if1 .left)))) ∙ c .before .before .before .before .before .before .loop .inv .1)
 
 returns-2 : tie.Need-returns-2 Inv-loop μ-loop
 returns-2 c = sym (rows-end _ _ _ _ (c .loop-test .left)) ∙ c .before .loop .inv .1

@@ -20,10 +20,21 @@ returns-2 : tie.Need-returns-2
 returns-2 c = sym (frame-tests _ _ _ _ ∙ (every-first _ _ (rw (← c .before .before .before .before .before .wide32 .ensures .0, ← c .before .before .before .before .at32 .ensures) (lt-ltb _ _ (c .before .before .before .if1 .left))) ∙ (every-fails _ _ (rw (← c .before .before .wide322 .ensures .0, ← c .before .at322 .ensures) (lt-leb _ _ (c .if2 .taken))))))
 
 returns-3 : tie.Need-returns-3
-returns-3 c = sym (frame-tests _ _ _ _ ∙ (every-first _ _ (rw (← c .before .before .before .before .before .before .before .wide32 .ensures .0, ← c .before .before .before .before .before .before .at32 .ensures) (lt-ltb _ _ (c .before .before .before .before .before .if1 .left))) ∙ (every-first _ _ (rw (← c .before .before .before .before .wide322 .ensures .0, ← c .before .before .before .at322 .ensures) (le-leb _ _ (c .before .before .if2 .left))) ∙ (every-fails _ _ (ap (λ (d : ℕ). all (valueIn (c .before .before .before .before .before .before .before .before .before .args .made)) (stack (operandAt (now (c .before .before .before .before .before .before .before .before .before .args .frames)) (c .before .before .before .before .before .before .before .before .before .args .b)) d)) (sym (c .before .before .before .at322 .ensures ∙ ap (λ (i : ℕ). getD (now (c .before .before .before .before .before .before .before .before .before .args .frames)) (i + 3) 0) (c .before .before .before .before .wide322 .ensures .0))) ∙ (sym (c .before .operands-fit .ensures) ∙ not-true _ (c .if3 .taken)))))))
+returns-3 c =
+    let at3 = c .before .before .before in
+    let at4 = at3 .before in
+    let at9 = at4 .before .before .before .before .before in
+    let frames = now (at9 .args .frames) in
+    sym (frame-tests _ _ _ _ ∙ (every-first _ _ (rw (← c .before .before .before .before .before .before .before .wide32 .ensures .0, ← c .before .before .before .before .before .before .at32 .ensures) (lt-ltb _ _ (c .before .before .before .before .before .if1 .left))) ∙ (every-first _ _ (rw (← at4 .wide322 .ensures .0, ← at3 .at322 .ensures) (le-leb _ _ (c .before .before .if2 .left))) ∙ (every-fails _ _ (ap (λ (d : ℕ). all (valueIn (at9 .args .made)) (stack (operandAt frames (at9 .args .b)) d)) (sym (at3 .at322 .ensures ∙ ap (λ (i : ℕ). getD frames (i + 3) 0) (at4 .wide322 .ensures .0))) ∙ (sym (c .before .operands-fit .ensures) ∙ not-true _ (c .if3 .taken)))))))
 
 returns-4 : tie.Need-returns-4
-returns-4 c = c .locals-fit .ensures ∙ sym (frame-tests _ _ _ _ ∙ (every-first _ _ (rw (← c .before .before .before .before .before .before .before .before .wide32 .ensures .0, ← c .before .before .before .before .before .before .before .at32 .ensures) (lt-ltb _ _ (c .before .before .before .before .before .before .if1 .left))) ∙ (every-first _ _ (rw (← c .before .before .before .before .before .wide322 .ensures .0, ← c .before .before .before .before .at322 .ensures) (le-leb _ _ (c .before .before .before .if2 .left))) ∙ (every-first _ _ (ap (λ (d : ℕ). all (valueIn (c .before .before .before .before .before .before .before .before .before .before .args .made)) (stack (operandAt (now (c .before .before .before .before .before .before .before .before .before .before .args .frames)) (c .before .before .before .before .before .before .before .before .before .before .args .b)) d)) (sym (c .before .before .before .before .at322 .ensures ∙ ap (λ (i : ℕ). getD (now (c .before .before .before .before .before .before .before .before .before .before .args .frames)) (i + 3) 0) (c .before .before .before .before .before .wide322 .ensures .0))) ∙ (sym (c .before .before .operands-fit .ensures) ∙ not-false _ (c .before .if3 .left))) ∙ (every-last _)))))
+returns-4 c =
+    let at4 = c .before .before .before .before in
+    let at5 = at4 .before in
+    let at8 = at5 .before .before .before in
+    let at10 = at8 .before .before in
+    let frames = now (at10 .args .frames) in
+    c .locals-fit .ensures ∙ sym (frame-tests _ _ _ _ ∙ (every-first _ _ (rw (← at8 .wide32 .ensures .0, ← c .before .before .before .before .before .before .before .at32 .ensures) (lt-ltb _ _ (c .before .before .before .before .before .before .if1 .left))) ∙ (every-first _ _ (rw (← at5 .wide322 .ensures .0, ← at4 .at322 .ensures) (le-leb _ _ (c .before .before .before .if2 .left))) ∙ (every-first _ _ (ap (λ (d : ℕ). all (valueIn (at10 .args .made)) (stack (operandAt frames (at10 .args .b)) d)) (sym (at4 .at322 .ensures ∙ ap (λ (i : ℕ). getD frames (i + 3) 0) (at5 .wide322 .ensures .0))) ∙ (sym (c .before .before .operands-fit .ensures) ∙ not-false _ (c .before .if3 .left))) ∙ (every-last _)))))
 
 pub frame-fits-spec : {M : Type 1} → statement M
 frame-fits-spec = tie.close (tie.spec (λ c κs. search needs) (λ c κs. search needs) returns (λ c κs. search needs) (λ c. search needs) (λ c κs. search needs) returns-2 (λ c κs. search needs) returns-3 (λ c κs. search needs) returns-4)

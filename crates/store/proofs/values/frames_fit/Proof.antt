@@ -23,11 +23,17 @@ loop-holds c = rw (c .before .before .before .before .before .before .from16 .en
 
 returns : tie.Need-returns Inv-loop μ-loop
 unfolding frameIn
-returns c = sym (stack-hit _ (frameIn (now (c .before .before .before .before .before .before .before .before .before .before .before .before .before .before .before .args .frames)) (c .before .before .before .before .before .before .before .before .before .before .before .before .before .before .before .args .task)) _ (c .before .before .before .loop-test .taken) (rw (← c .before .before .before .before .before .before .before .before .from8 .ensures .0, ← c .before .before .before .before .before .before .before .from163 .ensures .0, ← c .before .before .from164 .ensures .0) (sym (c .before .frame-fits .ensures) ∙ not-true _ (c .if1 .taken)))) ∙ c .before .before .before .before .loop .inv
+returns c =
+    let at8 = c .before .before .before .before .before .before .before .before in
+    let at15 = at8 .before .before .before .before .before .before .before in
+    sym (stack-hit _ (frameIn (now (at15 .args .frames)) (at15 .args .task)) _ (c .before .before .before .loop-test .taken) (rw (← at8 .from8 .ensures .0, ← c .before .before .before .before .before .before .before .from163 .ensures .0, ← c .before .before .from164 .ensures .0) (sym (c .before .frame-fits .ensures) ∙ not-true _ (c .if1 .taken)))) ∙ c .before .before .before .before .loop .inv
 
 loop-again : tie.Need-loop-again Inv-loop μ-loop
 unfolding frameIn
-loop-again c = sym (stack-on _ (frameIn (now (c .before .before .before .before .before .before .before .before .before .before .before .before .before .before .before .args .frames)) (c .before .before .before .before .before .before .before .before .before .before .before .before .before .before .before .args .task)) _ (c .before .before .before .loop-test .taken) (rw (← c .before .before .before .before .before .before .before .before .from8 .ensures .0, ← c .before .before .before .before .before .before .before .from163 .ensures .0, ← c .before .before .from164 .ensures .0) (sym (c .before .frame-fits .ensures) ∙ not-false _ (c .if1 .left)))) ∙ c .before .before .before .before .loop .inv
+loop-again c =
+    let at8 = c .before .before .before .before .before .before .before .before in
+    let at15 = at8 .before .before .before .before .before .before .before in
+    sym (stack-on _ (frameIn (now (at15 .args .frames)) (at15 .args .task)) _ (c .before .before .before .loop-test .taken) (rw (← at8 .from8 .ensures .0, ← c .before .before .before .before .before .before .before .from163 .ensures .0, ← c .before .before .from164 .ensures .0) (sym (c .before .frame-fits .ensures) ∙ not-false _ (c .if1 .left)))) ∙ c .before .before .before .before .loop .inv
 
 returns-2 : tie.Need-returns-2 Inv-loop μ-loop
 returns-2 c = sym (stack-end _ _ _ (omega (arith, c .loop-test .left))) ∙ c .before .loop .inv

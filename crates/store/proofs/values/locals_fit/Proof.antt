@@ -23,11 +23,15 @@ loop-holds c = (omega arith, ap (all _) (rows-start _ _))
 
 returns : tie.Need-returns Inv-loop μ-loop
 unfolding localAt valueAt
-returns c = sym (rows-hit _ (localAt (now (c .before .before .before .before .before .before .before .before .before .args .frames)) (c .before .before .before .before .before .before .before .before .before .args .b)) _ _ (c .before .before .before .before .before .before .loop-test .taken) (rw (← c .before .before .before .before .before .wide32 .ensures .0, ← c .before .before .before .before .wide8 .ensures .0, ← c .before .before .before .at32 .ensures, ← c .before .before .at322 .ensures) (sym (c .before .local-fits .ensures) ∙ not-true _ (c .if1 .taken)))) ∙ c .before .before .before .before .before .before .before .loop .inv .1
+returns c =
+    let at9 = c .before .before .before .before .before .before .before .before .before in
+    sym (rows-hit _ (localAt (now (at9 .args .frames)) (at9 .args .b)) _ _ (c .before .before .before .before .before .before .loop-test .taken) (rw (← c .before .before .before .before .before .wide32 .ensures .0, ← c .before .before .before .before .wide8 .ensures .0, ← c .before .before .before .at32 .ensures, ← c .before .before .at322 .ensures) (sym (c .before .local-fits .ensures) ∙ not-true _ (c .if1 .taken)))) ∙ c .before .before .before .before .before .before .before .loop .inv .1
 
 loop-again : tie.Need-loop-again Inv-loop μ-loop
 unfolding localAt valueAt
-loop-again c = (omega arith, sym (rows-on _ (localAt (now (c .before .before .before .before .before .before .before .before .before .args .frames)) (c .before .before .before .before .before .before .before .before .before .args .b)) _ _ (c .before .before .before .before .before .before .loop-test .taken) (rw (← c .before .before .before .before .before .wide32 .ensures .0, ← c .before .before .before .before .wide8 .ensures .0, ← c .before .before .before .at32 .ensures, ← c .before .before .at322 .ensures) (sym (c .before .local-fits .ensures) ∙ not-false _ (c .if1 .left)))) ∙ c .before .before .before .before .before .before .before .loop .inv .1)
+loop-again c =
+    let at9 = c .before .before .before .before .before .before .before .before .before in
+    (omega arith, sym (rows-on _ (localAt (now (at9 .args .frames)) (at9 .args .b)) _ _ (c .before .before .before .before .before .before .loop-test .taken) (rw (← c .before .before .before .before .before .wide32 .ensures .0, ← c .before .before .before .before .wide8 .ensures .0, ← c .before .before .before .at32 .ensures, ← c .before .before .at322 .ensures) (sym (c .before .local-fits .ensures) ∙ not-false _ (c .if1 .left)))) ∙ c .before .before .before .before .before .before .before .loop .inv .1)
 
 returns-2 : tie.Need-returns-2 Inv-loop μ-loop
 returns-2 c = sym (rows-end _ _ _ _ (c .loop-test .left)) ∙ c .before .loop .inv .1

@@ -22,11 +22,15 @@ loop-holds c = refl
 
 returns : tie.Need-returns Inv-loop μ-loop
 unfolding operandAt valueAt
-returns c = sym (stack-hit _ (operandAt (now (c .before .before .before .before .before .before .before .before .before .args .frames)) (c .before .before .before .before .before .before .before .before .before .args .b)) _ (c .before .before .before .before .before .before .loop-test .taken) (rw (← c .before .before .before .before .before .wide32 .ensures .0, ← c .before .before .before .before .wide322 .ensures .0, ← c .before .before .before .at32 .ensures, ← c .before .before .at322 .ensures) (sym (c .before .value-fits .ensures) ∙ not-true _ (c .if1 .taken)))) ∙ c .before .before .before .before .before .before .before .loop .inv
+returns c =
+    let at9 = c .before .before .before .before .before .before .before .before .before in
+    sym (stack-hit _ (operandAt (now (at9 .args .frames)) (at9 .args .b)) _ (c .before .before .before .before .before .before .loop-test .taken) (rw (← c .before .before .before .before .before .wide32 .ensures .0, ← c .before .before .before .before .wide322 .ensures .0, ← c .before .before .before .at32 .ensures, ← c .before .before .at322 .ensures) (sym (c .before .value-fits .ensures) ∙ not-true _ (c .if1 .taken)))) ∙ c .before .before .before .before .before .before .before .loop .inv
 
 loop-again : tie.Need-loop-again Inv-loop μ-loop
 unfolding operandAt valueAt
-loop-again c = sym (stack-on _ (operandAt (now (c .before .before .before .before .before .before .before .before .before .args .frames)) (c .before .before .before .before .before .before .before .before .before .args .b)) _ (c .before .before .before .before .before .before .loop-test .taken) (rw (← c .before .before .before .before .before .wide32 .ensures .0, ← c .before .before .before .before .wide322 .ensures .0, ← c .before .before .before .at32 .ensures, ← c .before .before .at322 .ensures) (sym (c .before .value-fits .ensures) ∙ not-false _ (c .if1 .left)))) ∙ c .before .before .before .before .before .before .before .loop .inv
+loop-again c =
+    let at9 = c .before .before .before .before .before .before .before .before .before in
+    sym (stack-on _ (operandAt (now (at9 .args .frames)) (at9 .args .b)) _ (c .before .before .before .before .before .before .loop-test .taken) (rw (← c .before .before .before .before .before .wide32 .ensures .0, ← c .before .before .before .before .wide322 .ensures .0, ← c .before .before .before .at32 .ensures, ← c .before .before .at322 .ensures) (sym (c .before .value-fits .ensures) ∙ not-false _ (c .if1 .left)))) ∙ c .before .before .before .before .before .before .before .loop .inv
 
 returns-2 : tie.Need-returns-2 Inv-loop μ-loop
 returns-2 c = sym (stack-end _ _ _ (omega (arith, c .loop-test .left))) ∙ c .before .loop .inv

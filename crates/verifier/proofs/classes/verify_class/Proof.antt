@@ -25,11 +25,12 @@ there c = omega (arith, c .before .before .method-count .ensures, c .loop-test .
 
 few : (c : tie.After-more Inv-loop μ-loop) → c .more .given .0 .0 < 65536
 few c =
+    let at4 = c .before .before .before .before in
     let k = c .before .before .before .before .before .before .before in
     let bs = now (k .before .before .before .before .args .bytes) in
     let own = className bs in
     let w = traceOf own (methodIn bs (k .loop .j)) in
-    let a = accepted-walk (k .loop .count) w (k .loop .notes) (c .before .before .before .before .verify-numbered .last .1 .1 .0) (c .more .given .0 .0) (rw (c .more .given .1) at (c .before .before .before .before .verify-numbered .ensures)) in
+    let a = accepted-walk (k .loop .count) w (k .loop .notes) (at4 .verify-numbered .last .1 .1 .0) (c .more .given .0 .0) (rw (c .more .given .1) at (at4 .verify-numbered .ensures)) in
     omega (arith, a .1, method-small bs (λ i. omega (arith, k .before .before .before .shared-slice-known .given i)) own (k .loop .j))
 
 loop-holds : tie.Need-loop-holds Inv-loop μ-loop
@@ -56,16 +57,18 @@ add-count c =
     )
 
 loop-again : tie.Need-loop-again Inv-loop μ-loop
-loop-again c = (
-  omega arith,
-  omega (arith, few (c .before), c .before .before .before .before .before .before .before .before .loop .inv .1),
-  c .before .before .before .before .before .verify-numbered .kept .1 .1 .0
-      ∙ c .before .before .before .before .before .before .before .before .loop .inv .2,
-  sym
-      (class-goes _ _ _ _ _ _ (there (c .before .before .before .before .before .before .before))
-      (rw (c .before .more .given .1) at (c .before .before .before .before .before .verify-numbered .ensures)))
-      ∙ c .before .before .before .before .before .before .before .before .loop .inv .3,
-)
+loop-again c =
+    let at5 = c .before .before .before .before .before in
+    let at8 = at5 .before .before .before in (
+      omega arith,
+      omega (arith, few (c .before), at8 .loop .inv .1),
+      at5 .verify-numbered .kept .1 .1 .0
+          ∙ at8 .loop .inv .2,
+      sym
+          (class-goes _ _ _ _ _ _ (there (c .before .before .before .before .before .before .before))
+          (rw (c .before .more .given .1) at (at5 .verify-numbered .ensures)))
+          ∙ at8 .loop .inv .3,
+    )
 
 returns-2 : tie.Need-returns-2 Inv-loop μ-loop
 returns-2 c = sym (class-ends _ _ _ _ (omega (arith, c .before .before .method-count .ensures, c .loop-test .left))) ∙ c .before .loop .inv .3

@@ -13,14 +13,17 @@ returns c =
 
 returns-2 : tie.Need-returns-2
 returns-2 c =
+    let at9 = c .before .before .before .before .before .before .before .before .before in
+    let at11 = at9 .before .before in
+    let at14 = at11 .before .before .before in
     c .before .before .verify-method .ensures
     ∙ ap
-    (λ w. verified (c .before .before .before .before .before .before .before .before .before .before .before .before .before .before .args .from) w
-    (now (c .before .before .before .before .before .before .before .before .before .before .before .before .before .before .args .notes)))
+    (λ w. verified (at14 .args .from) w
+    (now (at14 .args .notes)))
     (trace-found _ _ _ _ _ _ _
-    (found-at _ _ (c .before .before .before .before .before .before .before .before .before .before .before .before .before .before .pre) _
-    (c .before .before .before .before .before .before .before .before .before .before .before .method-place .ensures) _ _
-    (c .before .before .before .before .before .before .before .before .before .place .given .1))
+    (found-at _ _ (at14 .pre) _
+    (at11 .method-place .ensures) _ _
+    (at9 .place .given .1))
     (c .before .before .before .before .before .before .before .class-name .ensures)
     (c .before .before .before .before .before .before .method-argument .ensures) (c .before .before .before .before .before .method-result .ensures)
     (c .before .before .before .before .code .ensures))

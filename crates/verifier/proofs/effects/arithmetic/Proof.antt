@@ -35,8 +35,9 @@ returns-3 c =
 returns-4 : tie.Need-returns-4
 unfolding outcomeOf going effect typesOf _>>=_
 returns-4 c =
+    let at9 = c .before .before .before .before .before .before .before .before .before in
     rw (
-      popped-top _ _ _ (c .before .before .before .before .before .before .before .before .before .pop .ensures)
+      popped-top _ _ _ (at9 .pop .ensures)
           (c .before .before .before .before .before .before .before .x .given .1),
       popped-top _ _ _ (c .before .before .before .before .before .pop2 .ensures) (c .before .before .before .y .given .1),
       int-is _ (c .before .if1 .left),
@@ -46,8 +47,9 @@ returns-4 c =
 returns-5 : tie.Need-returns-5
 unfolding outcomeOf going effect typesOf _>>=_ notesIn
 returns-5 c =
+    let at9 = c .before .before .before .before .before .before .before .before .before in
     rw (
-      popped-top _ _ _ (c .before .before .before .before .before .before .before .before .before .pop .ensures)
+      popped-top _ _ _ (at9 .pop .ensures)
           (c .before .before .before .before .before .before .before .x .given .1),
       popped-top _ _ _ (c .before .before .before .before .before .pop2 .ensures) (c .before .before .before .y .given .1),
       int-is _ (c .before .if1 .left),

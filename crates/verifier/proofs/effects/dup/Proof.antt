@@ -18,9 +18,10 @@ returns c = rw (popped-empty _ _ _ (c .before .before .pop .ensures) (c .enum-to
 returns-2 : tie.Need-returns-2
 unfolding outcomeOf going effect typesOf _>>=_ notesIn pop
 returns-2 c =
-    let whole : stack (operandAt (c .before .before .before .before .before .args .types .operands))
-    (c .before .before .before .before .before .args .types .depth) ≡ typeOf (c .before .before .t .given .0 .0) ∷ stack
-    (operandAt (c .before .before .before .before .before .args .types .operands)) (c .before .before .t .given .0 .1 .0) = pop-whole _ _ _
+    let at5 = c .before .before .before .before .before in
+    let whole : stack (operandAt (at5 .args .types .operands))
+    (at5 .args .types .depth) ≡ typeOf (c .before .before .t .given .0 .0) ∷ stack
+    (operandAt (at5 .args .types .operands)) (c .before .before .t .given .0 .1 .0) = pop-whole _ _ _
     (popped-top _ _ _ (c .before .before .before .before .pop .ensures) (c .before .before .t .given .1)) in
     rw (c .push .ensures, whole)
 

@@ -31,10 +31,13 @@ returns-3 c =
 returns-4 : tie.Need-returns-4
 unfolding outcomeOf going effect typesOf _>>=_ need
 returns-4 c =
+    let at8 = c .before .before .before .before .before .before .before .before in
+    let at9 = at8 .before in
+    let at10 = at9 .before in
     rw (
-      sym (c .before .before .before .before .before .before .before .before .before .named .ensures)
-          ∙ not-false _ (c .before .before .before .before .before .before .before .before .if1 .left),
-      positive (c .before .before .before .before .before .before .before .before .before .before .args .r)
+      sym (at9 .named .ensures)
+          ∙ not-false _ (at8 .if1 .left),
+      positive (at10 .args .r)
           (c .before .before .before .before .before .before .before .if2 .left),
       popped-top _ _ _ (c .before .before .before .before .before .before .pop .ensures) (c .before .before .before .before .x .given .1),
       popped-empty _ _ _ (c .before .before .pop2 .ensures) (c .enum-told2 .given .1),
@@ -43,13 +46,19 @@ returns-4 c =
 returns-5 : tie.Need-returns-5
 unfolding outcomeOf going effect typesOf _>>=_ need
 returns-5 c =
+    let at8 = c .before .before .before .before .before .before .before .before in
+    let at10 = at8 .before .before in
+    let at11 = at10 .before in
+    let at12 = at11 .before in
+    let at13 = at12 .before in
+    let at14 = at13 .before in
     rw (
-      sym (c .before .before .before .before .before .before .before .before .before .before .before .before .before .named .ensures)
-          ∙ not-false _ (c .before .before .before .before .before .before .before .before .before .before .before .before .if1 .left),
-      positive (c .before .before .before .before .before .before .before .before .before .before .before .before .before .before .args .r)
-          (c .before .before .before .before .before .before .before .before .before .before .before .if2 .left),
-      popped-top _ _ _ (c .before .before .before .before .before .before .before .before .before .before .pop .ensures)
-          (c .before .before .before .before .before .before .before .before .x .given .1),
+      sym (at13 .named .ensures)
+          ∙ not-false _ (at12 .if1 .left),
+      positive (at14 .args .r)
+          (at11 .if2 .left),
+      popped-top _ _ _ (at10 .pop .ensures)
+          (at8 .x .given .1),
       popped-top _ _ _ (c .before .before .before .before .before .before .pop2 .ensures) (c .before .before .before .before .y .given .1),
       c .before .meet-class .ensures,
       c .meet-name .ensures,

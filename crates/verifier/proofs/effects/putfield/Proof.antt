@@ -25,8 +25,9 @@ returns-2 c =
 returns-3 : tie.Need-returns-3
 unfolding outcomeOf going effect typesOf _>>=_ need
 returns-3 c =
+    let at8 = c .before .before .before .before .before .before .before .before in
     rw (
-      sym (c .before .before .before .before .before .before .before .before .named .ensures)
+      sym (at8 .named .ensures)
           ∙ not-false _ (c .before .before .before .before .before .before .before .if1 .left),
       popped-top _ _ _ (c .before .before .before .before .before .before .pop .ensures) (c .before .before .before .before .x .given .1),
       popped-empty _ _ _ (c .before .before .pop2 .ensures) (c .enum-told2 .given .1),
@@ -35,10 +36,13 @@ returns-3 c =
 returns-4 : tie.Need-returns-4
 unfolding outcomeOf going effect typesOf _>>=_ need
 returns-4 c =
+    let at9 = c .before .before .before .before .before .before .before .before .before in
+    let at10 = at9 .before in
+    let at11 = at10 .before in
     rw (
-      sym (c .before .before .before .before .before .before .before .before .before .before .before .named .ensures)
-          ∙ not-false _ (c .before .before .before .before .before .before .before .before .before .before .if1 .left),
-      popped-top _ _ _ (c .before .before .before .before .before .before .before .before .before .pop .ensures)
+      sym (at11 .named .ensures)
+          ∙ not-false _ (at10 .if1 .left),
+      popped-top _ _ _ (at9 .pop .ensures)
           (c .before .before .before .before .before .before .before .x .given .1),
       popped-top _ _ _ (c .before .before .before .before .before .pop2 .ensures) (c .before .before .before .y .given .1),
       c .before .meet-class .ensures,

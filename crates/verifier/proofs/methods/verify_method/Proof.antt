@@ -62,22 +62,26 @@ returns-2 c =
     ∙ c .before .before .before .before .before .before .before .before .loop .inv .3
 
 loop-again : tie.Need-loop-again Inv-loop μ-loop
-loop-again c = (
-  omega arith,
-  omega (
-    arith,
-    few (c .before .before .before .before .before .before),
-    c .before .before .before .before .before .before .before .before .before .before .loop .inv .1,
-    c .before .before .before .before .before .before .before .before .before .loop-test .taken,
-  ),
-  c .before .before .before .before .before .before .write-notes .kept .0
-      ∙ c .before .before .before .before .before .before .before .before .before .before .loop .inv .2,
-  sym
-      (walk-goes _ _ _ _ _ _ _ _ _ _ _ (c .before .before .before .before .before .before .before .before .before .loop-test .taken)
-      (c .before .before .before .before .before .before .before .before .turn-at .ensures)
-      (c .before .before .before .before .before .before .write-notes .ensures) _ (c .before .before .step .given .1))
-      ∙ c .before .before .before .before .before .before .before .before .before .before .loop .inv .3,
-)
+loop-again c =
+    let at6 = c .before .before .before .before .before .before in
+    let at8 = at6 .before .before in
+    let at9 = at8 .before in
+    let at10 = at9 .before in (
+      omega arith,
+      omega (
+        arith,
+        few (at6),
+        at10 .loop .inv .1,
+        at9 .loop-test .taken,
+      ),
+      at6 .write-notes .kept .0
+          ∙ at10 .loop .inv .2,
+      sym
+          (walk-goes _ _ _ _ _ _ _ _ _ _ _ (at9 .loop-test .taken)
+          (at8 .turn-at .ensures)
+          (at6 .write-notes .ensures) _ (c .before .before .step .given .1))
+          ∙ at10 .loop .inv .3,
+    )
 
 returns-3 : tie.Need-returns-3 Inv-loop μ-loop
 returns-3 c = sym (out-of-turns _ _ _ _ _ _ _ _ (c .loop-test .left)) ∙ c .before .loop .inv .3

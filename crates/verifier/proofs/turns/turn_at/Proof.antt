@@ -13,10 +13,12 @@ returns c = c .stop .ensures ∙ sym (turned-none _ _ _ (c .before .before .befo
 
 add-end : tie.Need-add-end
 add-end c =
+    let at4 = c .before .before .before .before in
+    let at6 = at4 .before .before in
     omega (
       arith,
-      at-within (now (c .before .before .before .before .before .before .args .code)) (c .before .before .before .before .before .before .args .p)
-          (c .before .before .before .before .decode .result) (c .before .before .before .before .decode .ensures) (c .before .before .i .given .0 .0)
+      at-within (now (at6 .args .code)) (at6 .args .p)
+          (at4 .decode .result) (at4 .decode .ensures) (c .before .before .i .given .0 .0)
           (c .before .before .i .given .0 .1 .0) (c .before .before .i .given .1),
     )
 
