@@ -19,7 +19,7 @@ use Rattle.definition.specs.Instructions.{Decoded, pick}
 use Rattle.definition.specs.declared.Refusal.{Refusal}
 use Rattle.definition.specs.declared.Refusal.the-variants.{Word, Wanted}
 use Rattle.definition.specs.Answers.{Result, refused, ok, _>>=_, need, take?}
-use Rattle.definition.specs.Machine.{unsetValue, intValue, nullValue, unlistedValue, Object, Frame, object!, Progress, execute}
+use Rattle.definition.specs.Machine.{emptyValue, intValue, nullValue, unlistedValue, Object, Frame, object!, Progress, execute}
 use Rattle.definition.specs.Tables.{Tables, tables, entryAt, valueOf, objectAt, usedFields, sizeOf, operandAt, frameOf, objectsOf, tiesOf}
 use Rattle.laws.specs.Agreement.{super-falls}
 use Rattle.laws.specs.Upward.{nearest-below, below-true, below-trans}
@@ -89,7 +89,7 @@ pub field-used : (B : Base) (c e s n t j : ℕ) → below (superOf B) c e ≡ tr
 unfolding usedFields pick
 field-used B c e s n t j h g i few = go (leb (sizeOf B c) 16) refl
   where
-    declared : Below (superOf B) s c
+    declared : Below (superOf B) c s
     declared =
         below-trans (below-true (superOf B) (super-falls B) c e h) (nearest-below (superOf B) (super-falls B) (hasField B n t) e s g .0)
 
@@ -115,20 +115,20 @@ module _ (B : Base) (os : List Object) (e k b : ℕ) where
       null n true = refl
       null n false = refl
 
-      unset : (u : Bool) → object! B os e (pick u unsetValue (unlistedValue k b)) ≡ refused (Word 14)
-      unset true = refl
-      unset false = refl
+      empty : (u : Bool) → object! B os e (pick u emptyValue (unlistedValue k b)) ≡ refused (Word 14)
+      empty true = refl
+      empty false = refl
 
-      bare : (u : Bool) → object! B os e (pick u (pick (eqb k 0) unsetValue (unlistedValue k b)) (unlistedValue k b)) ≡ refused (Word 14)
-      bare true = unset (eqb k 0)
+      bare : (u : Bool) → object! B os e (pick u (pick (eqb k 0) emptyValue (unlistedValue k b)) (unlistedValue k b)) ≡ refused (Word 14)
+      bare true = empty (eqb k 0)
       bare false = refl
 
-      int : (u : Bool) → object! B os e (pick u (intValue b) (pick (eqb b 0) (pick (eqb k 0) unsetValue (unlistedValue k b)) (unlistedValue k b))) ≡ refused (Word 14)
+      int : (u : Bool) → object! B os e (pick u (intValue b) (pick (eqb b 0) (pick (eqb k 0) emptyValue (unlistedValue k b)) (unlistedValue k b))) ≡ refused (Word 14)
       int true = refl
       int false = bare (eqb b 0)
 
       two : (u : Bool) → eqb k 2 ≡ u
-          → object! B os e (pick (eqb k 1) (intValue b) (pick (eqb b 0) (pick (eqb k 0) unsetValue (pick (eqb k 2) nullValue (unlistedValue k b))) (unlistedValue k b)))
+          → object! B os e (pick (eqb k 1) (intValue b) (pick (eqb b 0) (pick (eqb k 0) emptyValue (pick (eqb k 2) nullValue (unlistedValue k b))) (unlistedValue k b)))
           ≡ refused (Word (pick (eqb k 2) (pick (eqb b 0) 11 14) 14))
       two true q = let z : k ≡ 2 = eqb-true k 2 q in rw z (null 2 (eqb b 0))
       two false q = rw q (int (eqb k 1))

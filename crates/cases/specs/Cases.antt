@@ -13,7 +13,7 @@ use Rattle.definition.specs.Answers.{Details, line, details, numberOf, endsIn}
 use Rattle.definition.specs.Constraints.{Tie, Subtype}
 use Rattle.definition.specs.Tables.{Tables, tie, subtype, view}
 use Rattle.definition.specs.Calls.{turn, boot, Call, callDefine, callRecord, callStart, callStep, callRun, perform, performAll}
-use Rattle.definition.specs.Samples.{fileF, plain, coded, lifts, pushes, ready, tied12, tied123}
+use Rattle.definition.specs.Computing.Samples.{fileF, plain, coded, lifts, pushes, ready, tied12, tied123}
 
 -- case p: after a boot and the calls `before`, which are all accepted and leave these ties and subtype constraints, `last` answers `expect`, and
 -- changes the tables or not

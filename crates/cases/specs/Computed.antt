@@ -21,8 +21,8 @@ use Rattle.definition.specs.Machine.{existing, initialValue, newObject, pop!, i
 use Rattle.definition.specs.Loading.{subtypeIs, newSubtypes, overrideTie, overrideTies, hides, define, recorded, started}
 use Rattle.definition.specs.Tables.{Rows, fileAt, classAt}
 use Rattle.definition.specs.Calls.{turn, turnOf, bootRows, defineRows, recordRows, startRows, dropRows, answerOf, stepTask, stepOn, stepRows}
-use Rattle.definition.specs.OnRows.{settle, onRows, runRows, performRows, performAllRows}
-use Rattle.definition.specs.Samples.{fileF, two, method, fileOf, plain, taker, coded, lifts, pushes, ready, tied12, tied123}
+use Rattle.definition.specs.Computing.OnRows.{settle, onRows, runRows, performRows, performAllRows}
+use Rattle.definition.specs.Computing.Samples.{fileF, two, method, fileOf, plain, taker, coded, lifts, pushes, ready, tied12, tied123}
 use Rattle.definition.specs.Script as Script
 use Rattle.laws.specs.Refused.{refusal}
 use Rattle.layout.specs.Tests.{All}

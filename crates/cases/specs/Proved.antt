@@ -14,7 +14,7 @@ use Rattle.definition.specs.Maybe.{_>>=_}
 use Rattle.definition.specs.Answers.{details}
 use Rattle.definition.specs.Tables.{Tables, tables, shaped, Rows, view}
 use Rattle.definition.specs.Calls.{turn, bootRows, boot, perform}
-use Rattle.definition.specs.OnRows.{performRows, performAllRows}
+use Rattle.definition.specs.Computing.OnRows.{performRows, performAllRows}
 use Rattle.definition.specs.Script.{Line, readLine, printedLine, turned, carryOut, script, linesOf, boxscript}
 use Rattle.laws.specs.Refused.{refusal, refused-same}
 use Rattle.layout.specs.Tests.{All, is-some}

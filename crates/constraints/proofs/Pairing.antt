@@ -46,7 +46,7 @@ module _ (marks aboves classes : List ℕ) (stamp a b : ℕ) where
 
   module _ (sup : ℕ → Option ℕ) (falls : Falls sup) (r : Raised sup (getD classes a 0) stamp aboves) (t : Bool) (is : t ≡ pairMarked marks aboves classes stamp a b) where
     -- a test that passed
-    pub marked-fits : not t ≡ false → Marked stamp marks b → Below sup (getD classes b 0) (getD classes a 0)
+    pub marked-fits : not t ≡ false → Marked stamp marks b → Below sup (getD classes a 0) (getD classes b 0)
     marked-fits h m =
         below-true sup falls (getD classes a 0) (getD classes b 0)
         (sym (above-below aboves stamp (getD classes a 0) (getD classes b 0) sup falls r) ∙ sym (marked-pair m) ∙ sym is ∙ not-false t h)
@@ -69,7 +69,7 @@ pub record Passed (sup : ℕ → Option ℕ) (groups classes : List ℕ) (n note
   pub marks : List ℕ
   pub first : (y : ℕ) → Link groups n noted a y → Marked stamp marks y
   pub closed : (x y : ℕ) → n ≤ x → Marked stamp marks x → Link groups n noted x y → Marked stamp marks y
-  pub fit : (b : ℕ) → b < n → Marked stamp marks b → Below sup (getD classes b 0) (getD classes a 0)
+  pub fit : (b : ℕ) → b < n → Marked stamp marks b → Below sup (getD classes a 0) (getD classes b 0)
 
 -- the firsts of groups below a have passed, and a is one
 pub record Tested (sup : ℕ → Option ℕ) (groups classes : List ℕ) (n noted a : ℕ) (marks queue aboves : List ℕ) : Type 0 where
@@ -108,7 +108,7 @@ module _ (sup : ℕ → Option ℕ) (groups classes heads nexts : List ℕ) (n n
   pub tested-next : {a c stamp : ℕ} {marks queue aboves marks′ queue′ aboves′ : List ℕ} → stamp ≡ a + 1 → a < n
       → Tested sup groups classes n noted a marks queue aboves → Searched groups n noted stamp a marks′ → length queue′ ≡ 1280
       → Raised sup (getD classes a 0) stamp aboves′
-      → ((b : ℕ) → b < n → Marked stamp marks′ b → Below sup (getD classes b 0) (getD classes a 0)) → NextStart groups heads n (a + 1) c
+      → ((b : ℕ) → b < n → Marked stamp marks′ b → Below sup (getD classes a 0) (getD classes b 0)) → NextStart groups heads n (a + 1) c
       → Tested sup groups classes n noted c marks′ queue′ aboves′
   tested-next {a} {c} {stamp} {marks} {queue} {aboves} {marks′} e h t s long u f r = record {
     own = r .here;
@@ -219,13 +219,13 @@ module _ (sup : ℕ → Option ℕ) (falls : Falls sup) (groups classes : List �
         m : ℕ
         fits : m < n
         own : group m ≡ m
-        lower : Below sup (class m) (class a)
+        lower : Below sup (class a) (class m)
         reached : (y ≡ m) ⊎ Marked (all-passed m fits own .stamp) (all-passed m fits own .marks) y
 
       held-on : {a x y : ℕ} → Link groups n noted x y → Held a x → Held a y
       held-on {a} {x} {y} l h = go (h .reached) (ltb x n) refl
         where
-          from : (m : ℕ) (f : m < n) (o : group m ≡ m) → Below sup (class m) (class a) → x ≡ m → Held a y
+          from : (m : ℕ) (f : m < n) (o : group m ≡ m) → Below sup (class a) (class m) → x ≡ m → Held a y
           from m f o b e =
               record { m = m; fits = f; own = o; lower = b; reached = inr (all-passed m f o .first y (rw e at l)) }
 
@@ -250,15 +250,15 @@ module _ (sup : ℕ → Option ℕ) (falls : Falls sup) (groups classes : List �
           let l = link-in (r .0) z (rw (r .1) at m) in (l .0, l .1, held-on (l .2) (r .2))
 
       -- what a leads to has its class or one above it
-      led-fits : (a b : ℕ) → a < n → b < n → group a ≡ a → Led groups n noted a b → Below sup (class b) (class a)
+      led-fits : (a b : ℕ) → a < n → b < n → group a ≡ a → Led groups n noted a b → Below sup (class a) (class b)
       led-fits a b f g o c = let r = held f o c in
           let e : b ≡ r .0 = ap (λ (k : Request). k .name) (r .1) in end (rw (sym e) at (r .2))
         where
-          end : Held a b → Below sup (class b) (class a)
+          end : Held a b → Below sup (class a) (class b)
           end h = go (h .reached)
             where
               go : (b ≡ h .m) ⊎ Marked (all-passed (h .m) (h .fits) (h .own) .stamp) (all-passed (h .m) (h .fits) (h .own) .marks) b
-                  → Below sup (class b) (class a)
+                  → Below sup (class a) (class b)
               go (inl e) = rw e (h .lower)
               go (inr k) = below-trans (h .lower) (all-passed (h .m) (h .fits) (h .own) .fit b g k)
 

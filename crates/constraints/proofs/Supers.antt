@@ -61,13 +61,13 @@ some-class u p e = rw (e, classOf) refl
 pub record Raising (sup : ℕ → Option ℕ) (c stamp next : ℕ) (aboves : List ℕ) : Type 0 where
   pub stamped : Stamped 256 stamp aboves
   pub few : next < 256
-  pub here : (p : ℕ) → next ≡ suc p → Below sup p c
-  pub sound : (d : ℕ) → Marked stamp aboves d → Below sup d c
-  pub all : (d : ℕ) → Below sup d c → ((d ≡ c) ⊎ Marked stamp aboves d) ⊎ ((p : ℕ) × (next ≡ suc p) × Below sup d p)
+  pub here : (p : ℕ) → next ≡ suc p → Below sup c p
+  pub sound : (d : ℕ) → Marked stamp aboves d → Below sup c d
+  pub all : (d : ℕ) → Below sup c d → ((d ≡ c) ⊎ Marked stamp aboves d) ⊎ ((p : ℕ) × (next ≡ suc p) × Below sup p d)
 
 module _ (sup : ℕ → Option ℕ) (c stamp : ℕ) where
   -- what lies above a class is it or lies above the next
-  onward : {d x u : ℕ} → sup x ≡ classOf u → Below sup d x → (d ≡ x) ⊎ ((p : ℕ) × (u ≡ suc p) × Below sup d p)
+  onward : {d x u : ℕ} → sup x ≡ classOf u → Below sup x d → (d ≡ x) ⊎ ((p : ℕ) × (u ≡ suc p) × Below sup p d)
   onward e (same q) = inl (sym q)
   onward {d} {x} {u} e (up {p} s b) = inr (p, class-some u p (sym e ∙ s), b)
 
@@ -80,7 +80,7 @@ module _ (sup : ℕ → Option ℕ) (c stamp : ℕ) where
     all = λ d b. first d (onward e b);
   }
     where
-      first : (d : ℕ) → (d ≡ c) ⊎ ((p : ℕ) × (u ≡ suc p) × Below sup d p) → ((d ≡ c) ⊎ Marked stamp aboves d) ⊎ ((p : ℕ) × (u ≡ suc p) × Below sup d p)
+      first : (d : ℕ) → (d ≡ c) ⊎ ((p : ℕ) × (u ≡ suc p) × Below sup p d) → ((d ≡ c) ⊎ Marked stamp aboves d) ⊎ ((p : ℕ) × (u ≡ suc p) × Below sup p d)
       first d (inl q) = inl (inl q)
       first d (inr r) = inr r
 
@@ -97,20 +97,20 @@ module _ (sup : ℕ → Option ℕ) (c stamp : ℕ) where
       long : x < length aboves
       long = omega (arith, s .few, s .stamped .long)
 
-      old : (d : ℕ) → Marked stamp aboves d ⊎ (d ≡ x) → Below sup d c
+      old : (d : ℕ) → Marked stamp aboves d ⊎ (d ≡ x) → Below sup c d
       old d (inl m) = s .sound d m
       old d (inr q) = rw q (s .here x i)
 
       it : {d : ℕ} → d ≡ x → Marked stamp (set aboves x stamp) d
       it q = rw q (new-mark stamp x aboves long)
 
-      rest : (d : ℕ) → (d ≡ x) ⊎ ((p : ℕ) × (u ≡ suc p) × Below sup d p)
-          → ((d ≡ c) ⊎ Marked stamp (set aboves x stamp) d) ⊎ ((p : ℕ) × (u ≡ suc p) × Below sup d p)
+      rest : (d : ℕ) → (d ≡ x) ⊎ ((p : ℕ) × (u ≡ suc p) × Below sup p d)
+          → ((d ≡ c) ⊎ Marked stamp (set aboves x stamp) d) ⊎ ((p : ℕ) × (u ≡ suc p) × Below sup p d)
       rest d (inl q) = inl (inr (it q))
       rest d (inr r) = inr r
 
-      more : (d : ℕ) → ((d ≡ c) ⊎ Marked stamp aboves d) ⊎ ((p : ℕ) × (f ≡ suc p) × Below sup d p)
-          → ((d ≡ c) ⊎ Marked stamp (set aboves x stamp) d) ⊎ ((p : ℕ) × (u ≡ suc p) × Below sup d p)
+      more : (d : ℕ) → ((d ≡ c) ⊎ Marked stamp aboves d) ⊎ ((p : ℕ) × (f ≡ suc p) × Below sup p d)
+          → ((d ≡ c) ⊎ Marked stamp (set aboves x stamp) d) ⊎ ((p : ℕ) × (u ≡ suc p) × Below sup p d)
       more d (inl (inl q)) = inl (inl q)
       more d (inl (inr m)) = inl (inr (keep-mark stamp x aboves long d m))
       more d (inr r) = let q : r .0 ≡ x = omega (arith, r .1, i) in rest d (onward e (rw q at (r .2)))
@@ -118,7 +118,7 @@ module _ (sup : ℕ → Option ℕ) (c stamp : ℕ) where
   pub raised : (u : ℕ) (aboves : List ℕ) → u ≤ 0 → Raising sup c stamp u aboves → Raised sup c stamp aboves
   raised u aboves h s = record { stamped = s .stamped; sound = s .sound; all = λ d b. go d (s .all d b) }
     where
-      go : (d : ℕ) → ((d ≡ c) ⊎ Marked stamp aboves d) ⊎ ((p : ℕ) × (u ≡ suc p) × Below sup d p) → (d ≡ c) ⊎ Marked stamp aboves d
+      go : (d : ℕ) → ((d ≡ c) ⊎ Marked stamp aboves d) ⊎ ((p : ℕ) × (u ≡ suc p) × Below sup p d) → (d ≡ c) ⊎ Marked stamp aboves d
       go d (inl r) = r
       go d (inr r) = absurd (omega (arith, r .1))
 

@@ -19,8 +19,8 @@ classOf (suc p) = some p
 -- the marks are the classes above c
 pub record Raised (sup : ℕ → Option ℕ) (c stamp : ℕ) (aboves : List ℕ) : Type 0 where
   pub stamped : Stamped 256 stamp aboves
-  pub sound : (d : ℕ) → Marked stamp aboves d → Below sup d c
-  pub all : (d : ℕ) → Below sup d c → (d ≡ c) ⊎ Marked stamp aboves d
+  pub sound : (d : ℕ) → Marked stamp aboves d → Below sup c d
+  pub all : (d : ℕ) → Below sup c d → (d ≡ c) ⊎ Marked stamp aboves d
 
 -- c is d, or d is marked
 unfoldable pub isAbove : List ℕ → ℕ → ℕ → ℕ → Bool

@@ -4,6 +4,7 @@ use mathlib.Core.Option.{Option, none, some}
 use Prim.Native.Nat.{ℕ, _-_}
 use lib.IntN.{ℤ, pos, negsuc}
 use lib.Dec.{ltb}
+use Rattle.definition.specs.Numbers.{wordWanted, intRange, signBit}
 use Rattle.definition.specs.Requests.{Request}
 pub use Rattle.definition.specs.declared.Refusal.{Refusal}
 pub use Rattle.definition.specs.declared.Refusal.the-variants.{Wanted, Word}
@@ -15,7 +16,7 @@ pub use Rattle.definition.specs.declared.Reply.the-variants.{Accepted, D
 -- Ints: 32 bits, read as signed where people read them
 
 unfoldable pub signed : ℕ → ℤ
-signed n = elim (ltb n 2147483648) [ true ↦ pos n | false ↦ negsuc (4294967295 - n) ]
+signed n = elim (ltb n signBit) [ true ↦ pos n | false ↦ negsuc (intRange - 1 - n) ]
 
 -- Words of refusal by number
 
@@ -23,7 +24,7 @@ abbrev pub wanted : Request → Refusal
 wanted r = Wanted (r .loader) (r .name)
 
 unfoldable pub number : Refusal → ℕ
-number (Wanted l n) = 5
+number (Wanted l n) = wordWanted
 number (Word n) = n
 
 -- the number of a step's answer and of a call's: 0 if it isn't refused. A run that ends in a refused step is itself accepted.
@@ -68,7 +69,7 @@ line n a b c = record { refusal = n; one = a; two = b; three = c }
 
 -- wanted: loader, name, and the task whose step wants it, 0 if no step does
 unfoldable pub refusalDetails : ℕ → Refusal → Details
-refusalDetails k (Wanted l n) = line 5 (pos l) (pos n) (pos k)
+refusalDetails k (Wanted l n) = line wordWanted (pos l) (pos n) (pos k)
 refusalDetails k (Word n) = line n (pos 0) (pos 0) (pos 0)
 
 -- idle, ran or finished as 0, 1, 2; the task; the result or 0. `turn` is the task whose turn it was.

@@ -1,26 +1,27 @@
 -- Word 1, 'broken': tables that are no store.
 use mathlib.Core.Bool.{Bool, true, false, not}
 use mathlib.Core.List.{List, [], _∷_}
-use Prim.Native.Nat.{ℕ}
+use Prim.Native.Nat.{ℕ, _+_}
 use lib.ListN.{length, getD}
 use lib.Dec.{eqb, leb, ltb}
+use Rattle.definition.specs.Numbers.{loaderLimit, classLimit, keptLimit, cacheLimit, tieLimit, subtypeLimit, objectLimit, fieldLimit, frameLimit, operandLimit, countClasses, countKept, countCache, countTies, countSubtypes, countObjects, countFrames}
 use Rattle.definition.specs.Lists.{every, all, allFrom, isSome}
 use Rattle.definition.specs.Classes.{Base, Entry, superOf}
 use Rattle.definition.specs.Constraints.{Tie, Subtype}
-use Rattle.definition.specs.Machine.{Value, unsetValue, intValue, nullValue, objectValue, unlistedValue, Object, Frame, existing}
+use Rattle.definition.specs.Machine.{Value, emptyValue, intValue, nullValue, objectValue, unlistedValue, Object, Frame, existing}
 use Rattle.definition.specs.Tables.{Tables, shaped, ClassRow, Rows, fileAt, baseOf, sizeOf, view}
 
 -- each count within its limit
 unfoldable pub within : List ℕ → Bool
 within c = every
-    (leb (getD c 0 0) 64
-    ∷ leb (getD c 1 0) 16384
-    ∷ leb (getD c 2 0) 256
-    ∷ leb (getD c 3 0) 256
-    ∷ leb (getD c 4 0) 256
-    ∷ leb (getD c 5 0) 256
-    ∷ leb (getD c 6 0) 32
-    ∷ leb (getD c 7 0) 32
+    (leb (getD c countClasses 0) classLimit
+    ∷ leb (getD c countKept 0) keptLimit
+    ∷ leb (getD c countCache 0) cacheLimit
+    ∷ leb (getD c countTies 0) tieLimit
+    ∷ leb (getD c countSubtypes 0) subtypeLimit
+    ∷ leb (getD c countObjects 0) objectLimit
+    ∷ leb (getD c countFrames 0) frameLimit
+    ∷ leb (getD c (countFrames + 1) 0) frameLimit
     ∷ [])
 
 -- class 0, if there, is boot's Object
@@ -29,7 +30,7 @@ isObject k = every (eqb (k .loader) 0 ∷ eqb (k .start) 0 ∷ eqb (k .size) 0 �
 
 -- another class, of number c: its kept file reads by the file rules, its superclass is cached with a lower number, it has at most 16 fields
 unfoldable pub classFits : Base → List ℕ → ℕ → ClassRow → Bool
-classFits b bs c k = every (ltb (k .loader) 16 ∷ isSome (fileAt bs k) ∷ isSome (superOf b c) ∷ leb (sizeOf b c) 16 ∷ [])
+classFits b bs c k = every (ltb (k .loader) loaderLimit ∷ isSome (fileAt bs k) ∷ isSome (superOf b c) ∷ leb (sizeOf b c) fieldLimit ∷ [])
 
 unfoldable pub classesFit : Base → List ℕ → List ClassRow → Bool
 classesFit b bs [] = true
@@ -37,24 +38,24 @@ classesFit b bs (k ∷ ks) = every (isObject k ∷ allFrom (classFits b bs) 1 ks
 
 -- no class, object or loader number is unused or too large; n classes there are
 unfoldable pub entryFits : ℕ → Entry → Bool
-entryFits n e = every (ltb (e .request .loader) 16 ∷ ltb (e .class) n ∷ [])
+entryFits n e = every (ltb (e .request .loader) loaderLimit ∷ ltb (e .class) n ∷ [])
 
 unfoldable pub tieFits : Tie → Bool
-tieFits t = every (ltb (t .one) 16 ∷ ltb (t .two) 16 ∷ [])
+tieFits t = every (ltb (t .one) loaderLimit ∷ ltb (t .two) loaderLimit ∷ [])
 
 unfoldable pub subtypeFits : Subtype → Bool
-subtypeFits s = ltb (s .loader) 16
+subtypeFits s = ltb (s .loader) loaderLimit
 
 -- a value's kind is listed, for a field or operand and for a local, which alone may be empty
 unfoldable pub valueFits : List Object → Value → Bool
-valueFits os unsetValue = false
+valueFits os emptyValue = false
 valueFits os (intValue n) = true
 valueFits os nullValue = true
 valueFits os (objectValue o) = isSome (existing os o)
 valueFits os (unlistedValue k b) = false
 
 unfoldable pub localFits : List Object → Value → Bool
-localFits os unsetValue = true
+localFits os emptyValue = true
 localFits os (intValue n) = true
 localFits os nullValue = true
 localFits os (objectValue o) = isSome (existing os o)
@@ -64,7 +65,7 @@ unfoldable pub objectFits : ℕ → List Object → Object → Bool
 objectFits n os o = every (ltb (o .class) n ∷ all (valueFits os) (o .values) ∷ [])
 
 unfoldable pub frameFits : ℕ → List Object → Frame → Bool
-frameFits n os f = every (ltb (f .class) n ∷ leb (length (f .operands)) 16 ∷ all (valueFits os) (f .operands) ∷ all (localFits os) (f .locals) ∷ [])
+frameFits n os f = every (ltb (f .class) n ∷ leb (length (f .operands)) operandLimit ∷ all (valueFits os) (f .operands) ∷ all (localFits os) (f .locals) ∷ [])
 
 unfoldable pub sound : Rows → Bool
 sound r = every

@@ -6,6 +6,7 @@ use mathlib.Core.List.{List, [], _∷_, _++_}
 use Prim.Native.Nat.{ℕ, zero, suc, _+_}
 use lib.ListN.{length}
 use lib.Dec.{leb, ltb}
+use Rattle.definition.specs.Numbers.{wordBroken, wordFile, wordUnknown, wordTaken, wordWanted, wordUnverified, wordAbsent, wordHidden, wordClash, wordFull, wordNull, wordBusy, wordMisnamed, wordStuck, nameObject, loaderLimit, taskLimit, keptLimit, runLimit}
 use Rattle.definition.specs.Requests.{at}
 use Rattle.definition.specs.Constraints.{World}
 use Rattle.definition.specs.Answers.{Refusal, Word, Answer, Idle, Ran, Finished, Refused, Reply, Accepted, Defined, Stepped, RanFor, Denied, Result, refused, ok, _>>=_, need, take?}
@@ -29,7 +30,7 @@ abbrev pub bootRows : Rows
 bootRows = record {
   classes = record { loader = 0; start = 0; size = 0 } ∷ [];
   kept = [];
-  cache = record { request = at 0 2; class = 0 } ∷ [];
+  cache = record { request = at 0 nameObject; class = 0 } ∷ [];
   ties = [];
   subtypes = [];
   objects = [];
@@ -98,8 +99,8 @@ framesIn (suc k) r = r .report
 -- define. Refusals: 3 2 6 4 5 8 10 9
 unfoldable pub defineRows : ℕ → List ℕ → Rows → Result (Given Reply)
 defineRows l bs r =
-    need (ltb l 16) (Word 3) >>= λ _. take? (readFile bs) (Word 2) >>= λ f.
-    define (leb (length (r .kept) + length bs) 16384) (classOf l f) (worldOf r) >>= λ w.
+    need (ltb l loaderLimit) (Word wordUnknown) >>= λ _. take? (readFile bs) (Word wordFile) >>= λ f.
+    define (leb (length (r .kept) + length bs) keptLimit) (classOf l f) (worldOf r) >>= λ w.
     given (Defined (length (r .classes))) (addFile l bs r w)
 
 -- record. 3 13 4 10 9
@@ -109,11 +110,11 @@ recordRows l n c r = recorded l n c (worldOf r) >>= λ w. given Accepted (addEnt
 -- start of task k. 3 12 5 7 10
 unfoldable pub startRows : ℕ → ℕ → ℕ → ℕ → ℕ → Rows → Result (Given Reply)
 startRows k l n m v r =
-    need (ltb k 2) (Word 3) >>= λ _. started l n m v (worldOf r) (r .objects) (framesIn k r) >>= λ o. given Accepted (progressed k r o)
+    need (ltb k taskLimit) (Word wordUnknown) >>= λ _. started l n m v (worldOf r) (r .objects) (framesIn k r) >>= λ o. given Accepted (progressed k r o)
 
 -- drop of task k. 3
 unfoldable pub dropRows : ℕ → Rows → Result (Given Reply)
-dropRows k r = need (ltb k 2) (Word 3) >>= λ _. given Accepted (withFrames k r [])
+dropRows k r = need (ltb k taskLimit) (Word wordUnknown) >>= λ _. given Accepted (withFrames k r [])
 
 -- step: one instruction of the quote if it has a frame, else of the report; w is what the rows' classes, cache and constraints are
 
@@ -154,11 +155,11 @@ carried deny t (refused w) = done (deny w) t
 carried deny t (ok g) = done (g .answer) (put (g .rows) t)
 
 unfoldable pub wrap : {A : Type 0} → (Refusal → A) → (Rows → Result (Given A)) → Tables → Done A
-wrap {A} deny f t = elim (broken t) as (λ _. Done A) [ true ↦ done (deny (Word 1)) t | false ↦ carried deny t (f (view t)) ]
+wrap {A} deny f t = elim (broken t) as (λ _. Done A) [ true ↦ done (deny (Word wordBroken)) t | false ↦ carried deny t (f (view t)) ]
 
 -- boot checks the lengths alone
 unfoldable pub boot : Tables → Done Reply
-boot t = elim (shaped t) as (λ _. Done Reply) [ true ↦ done Accepted (put bootRows t) | false ↦ done (Denied (Word 1)) t ]
+boot t = elim (shaped t) as (λ _. Done Reply) [ true ↦ done Accepted (put bootRows t) | false ↦ done (Denied (Word wordBroken)) t ]
 
 unfoldable pub stepTables : Tables → Done Answer
 stepTables t = wrap Refused stepRows t
@@ -179,8 +180,8 @@ module _ (one : Tables → Done Answer) where
 -- n is 1 to 65,535. Refusals: 1 3
 unfoldable pub run : ℕ → Tables → Done Reply
 run n t = elim (broken t) as (λ _. Done Reply) [
-  | true ↦ done (Denied (Word 1)) t
-  | false ↦ elim (leb 1 n && leb n 65535) as (λ _. Done Reply) [ true ↦ runFrom stepTables n 0 Idle t | false ↦ done (Denied (Word 3)) t ]
+  | true ↦ done (Denied (Word wordBroken)) t
+  | false ↦ elim (leb 1 n && leb n runLimit) as (λ _. Done Reply) [ true ↦ runFrom stepTables n 0 Idle t | false ↦ done (Denied (Word wordUnknown)) t ]
 ]
 
 -- Lists of calls
@@ -196,16 +197,16 @@ pub data Call : Type 0 where
 
 -- the words that each call may refuse with, in the order in which the definitions above test them; a run's last answer may be any of a step's
 unfoldable pub stepRefusals : List ℕ
-stepRefusals = 1 ∷ 14 ∷ 5 ∷ 7 ∷ 10 ∷ 9 ∷ 11 ∷ []
+stepRefusals = wordBroken ∷ wordStuck ∷ wordWanted ∷ wordAbsent ∷ wordFull ∷ wordClash ∷ wordNull ∷ []
 
 unfoldable pub refusalsOf : Call → List ℕ
-refusalsOf callBoot = 1 ∷ []
-refusalsOf (callDefine l bs) = 1 ∷ 3 ∷ 2 ∷ 6 ∷ 4 ∷ 5 ∷ 8 ∷ 10 ∷ 9 ∷ []
-refusalsOf (callRecord l n c) = 1 ∷ 3 ∷ 13 ∷ 4 ∷ 10 ∷ 9 ∷ []
-refusalsOf (callStart k l n m v) = 1 ∷ 3 ∷ 12 ∷ 5 ∷ 7 ∷ 10 ∷ []
+refusalsOf callBoot = wordBroken ∷ []
+refusalsOf (callDefine l bs) = wordBroken ∷ wordUnknown ∷ wordFile ∷ wordUnverified ∷ wordTaken ∷ wordWanted ∷ wordHidden ∷ wordFull ∷ wordClash ∷ []
+refusalsOf (callRecord l n c) = wordBroken ∷ wordUnknown ∷ wordMisnamed ∷ wordTaken ∷ wordFull ∷ wordClash ∷ []
+refusalsOf (callStart k l n m v) = wordBroken ∷ wordUnknown ∷ wordBusy ∷ wordWanted ∷ wordAbsent ∷ wordFull ∷ []
 refusalsOf callStep = stepRefusals
-refusalsOf (callRun n) = 1 ∷ 3 ∷ []
-refusalsOf (callDrop k) = 1 ∷ 3 ∷ []
+refusalsOf (callRun n) = wordBroken ∷ wordUnknown ∷ []
+refusalsOf (callDrop k) = wordBroken ∷ wordUnknown ∷ []
 
 abbrev pub ofStep : Done Answer → Done Reply
 ofStep d = done (Stepped (d .answer)) (d .tables)

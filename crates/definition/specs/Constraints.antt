@@ -6,6 +6,7 @@ use mathlib.Core.List.{List, [], _∷_, _++_}
 use Prim.Native.Nat.{ℕ}
 use lib.ListN.{length}
 use lib.Dec.{eqb, leb}
+use Rattle.definition.specs.Numbers.{wordClash, wordFull, nameInt, tieLimit}
 use Rattle.definition.specs.Lists.{all, any}
 use Rattle.definition.specs.Requests.{Request, at, Edge, Chain, has, reach}
 use Rattle.definition.specs.Superclasses.{Below, below}
@@ -49,7 +50,7 @@ edges w = tieEdges (w .ties) ++ subtypeEdges (w .subtypes)
 
 pub record Agrees (w : World) : Type 0 where
   pub tied : {a b : Request} {c d : ℕ} → find (w .base .cache) a ≡ some c → find (w .base .cache) b ≡ some d → Chain (tieEdges (w .ties)) a b → c ≡ d
-  pub led : {a b : Request} {c d : ℕ} → find (w .base .cache) a ≡ some c → find (w .base .cache) b ≡ some d → Chain (edges w) a b → Below (superOf (w .base)) d c
+  pub led : {a b : Request} {c d : ℕ} → find (w .base .cache) a ≡ some c → find (w .base .cache) b ≡ some d → Chain (edges w) a b → Below (superOf (w .base)) c d
 
 -- the pair of a, of class c, and b, where T is what ties and L what all constraints reach from a
 unfoldable pub pairAgrees : (ℕ → Option ℕ) → List Entry → ℕ → List Request → List Request → Request → Bool
@@ -81,7 +82,7 @@ unfoldable pub tieIs : ℕ → ℕ → ℕ → Tie → Bool
 tieIs l m n t = eqb (t .name) n && ((eqb (t .one) l && eqb (t .two) m) || (eqb (t .one) m && eqb (t .two) l))
 
 unfoldable pub newTie : List Tie → ℕ → ℕ → ℕ → List Tie
-newTie ts l m n = elim (eqb l m || eqb n 1 || any (tieIs l m n) ts) [ true ↦ [] | false ↦ record { one = l; two = m; name = n } ∷ [] ]
+newTie ts l m n = elim (eqb l m || eqb n nameInt || any (tieIs l m n) ts) [ true ↦ [] | false ↦ record { one = l; two = m; name = n } ∷ [] ]
 
 abbrev pub posted : World → List Tie → World
 posted w us = record { base = w .base; ties = w .ties ++ us; subtypes = w .subtypes }
@@ -93,4 +94,4 @@ agreesAfter w (u ∷ us) = agrees (posted w (u ∷ us))
 
 -- 10, then 9; `room` is what else the call needs room for
 unfoldable pub post : World → Bool → List Tie → Result World
-post w room us = need (leb (length (w .ties ++ us)) 256 && room) (Word 10) >>= λ _. need (agreesAfter w us) (Word 9) >>= λ _. ok (posted w us)
+post w room us = need (leb (length (w .ties ++ us)) tieLimit && room) (Word wordFull) >>= λ _. need (agreesAfter w us) (Word wordClash) >>= λ _. ok (posted w us)

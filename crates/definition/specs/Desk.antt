@@ -2,12 +2,13 @@
 use mathlib.Core.Option.{none, some}
 use mathlib.Core.List.{List}
 use Prim.Native.Nat.{ℕ}
+use Rattle.definition.specs.Numbers.{wordFile, wordUnverified}
 use Rattle.definition.specs.Verifier.{notesOf}
 use Rattle.definition.specs.File.{File, readFile, classOf}
 
 -- the verifier doesn't ask for the loader
 unfoldable pub verifierNumber : File → ℕ
-verifierNumber f = elim (notesOf (classOf 0 f) (f .methods)) [ none ↦ 6 | some _ ↦ 0 ]
+verifierNumber f = elim (notesOf (classOf 0 f) (f .methods)) [ none ↦ wordUnverified | some _ ↦ 0 ]
 
 unfoldable pub deskNumber : List ℕ → ℕ
-deskNumber bs = elim (readFile bs) [ none ↦ 2 | some f ↦ verifierNumber f ]
+deskNumber bs = elim (readFile bs) [ none ↦ wordFile | some f ↦ verifierNumber f ]

@@ -5,6 +5,7 @@ use mathlib.Core.List.{List, [], _∷_}
 use Prim.Native.Nat.{ℕ, zero, suc, _+_, _*_}
 use lib.ListN.{length, take, drop}
 use lib.Dec.{eqb, leb}
+use Rattle.definition.specs.Numbers.{nameObject, versionOne, fileLimit, memberLimit, codeLimit, byteRange}
 use Rattle.definition.specs.Lists.{doubled}
 use Rattle.definition.specs.Maybe.{_>>=_, need}
 use Rattle.definition.specs.Classes.{Class, Field, Method, alike}
@@ -26,7 +27,7 @@ byte (b ∷ bs) = some (record { value = b; more = bs })
 
 -- 16 bits
 unfoldable pub short : List ℕ → Option (Got ℕ)
-short bs = byte bs >>= λ a. byte (a .more) >>= λ b. some (record { value = a .value * 256 + b .value; more = b .more })
+short bs = byte bs >>= λ a. byte (a .more) >>= λ b. some (record { value = a .value * byteRange + b .value; more = b .more })
 
 -- a name or type of at least n
 unfoldable pub name : ℕ → List ℕ → Option (Got ℕ)
@@ -34,7 +35,7 @@ name n bs = short bs >>= λ x. need (leb n (x .value)) >>= λ _. some x
 
 -- a byte with a count, 0 to 8
 unfoldable pub count : List ℕ → Option (Got ℕ)
-count bs = byte bs >>= λ x. need (leb (x .value) 8) >>= λ _. some x
+count bs = byte bs >>= λ x. need (leb (x .value) memberLimit) >>= λ _. some x
 
 -- for each field its name and type
 unfoldable pub fieldsIn : ℕ → List ℕ → Option (Got (List Field))
@@ -48,7 +49,7 @@ unfoldable pub methodsIn : ℕ → List ℕ → Option (Got (List Method))
 methodsIn zero bs = some (record { value = []; more = bs })
 methodsIn (suc k) bs =
     name 1 bs >>= λ n. name 1 (n .more) >>= λ a. name 1 (a .more) >>= λ r. short (r .more) >>= λ l.
-    need (leb 1 (l .value) && leb (l .value) 512 && leb (l .value) (length (l .more))) >>= λ _.
+    need (leb 1 (l .value) && leb (l .value) codeLimit && leb (l .value) (length (l .more))) >>= λ _.
     methodsIn k (drop (l .value) (l .more)) >>= λ ms.
     some (record { value = record { name = n .value; argument = a .value; result = r .value; code = take (l .value) (l .more) } ∷ ms .value; more = ms .more })
 
@@ -66,9 +67,9 @@ sameMethod m n = alike (m .name) (m .argument) (m .result) n
 -- version 1, the length of all that follows it, both class names, fields, methods, nothing after, at most 4,096 bytes, none doubled
 unfoldable pub readFile : List ℕ → Option File
 readFile bs =
-    need (leb (length bs) 4096) >>= λ _. byte bs >>= λ v. need (eqb (v .value) 1) >>= λ _.
+    need (leb (length bs) fileLimit) >>= λ _. byte bs >>= λ v. need (eqb (v .value) versionOne) >>= λ _.
     short (v .more) >>= λ n. need (eqb (n .value) (length (n .more))) >>= λ _.
-    name 2 (n .more) >>= λ c. name 2 (c .more) >>= λ s.
+    name nameObject (n .more) >>= λ c. name nameObject (c .more) >>= λ s.
     count (s .more) >>= λ k. fieldsIn (k .value) (k .more) >>= λ fs.
     count (fs .more) >>= λ j. methodsIn (j .value) (j .more) >>= λ ms. need (ends (ms .more)) >>= λ _.
     need (not (doubled sameField (fs .value))) >>= λ _. need (not (doubled sameMethod (ms .value))) >>= λ _.
@@ -80,4 +81,4 @@ classOf l f = record { loader = l; name = f .name; super = f .super; fields = f 
 
 -- Object of loader 0, with no superclass, fields or methods; it has no file
 abbrev pub objectClass : Class
-objectClass = record { loader = 0; name = 2; super = 0; fields = []; methods = [] }
+objectClass = record { loader = 0; name = nameObject; super = 0; fields = []; methods = [] }

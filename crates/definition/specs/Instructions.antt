@@ -5,6 +5,7 @@ use mathlib.Core.List.{List}
 use Prim.Native.Nat.{ℕ, suc, _+_, _*_}
 use lib.ListN.{length, getD}
 use lib.Dec.{eqb, leb, ltb}
+use Rattle.definition.specs.Numbers.{byteRange}
 pub use Rattle.definition.specs.declared.Opcode.{Opcode}
 pub use Rattle.definition.specs.declared.Opcode.the-variants.{OpAconstNull, OpSipush, OpIload, OpAload, OpIstore, OpAstore, OpPop, OpDup, OpIadd, OpIsub, OpGetfield, OpPutfield, OpInvokevirtual, OpNew, OpIreturn, OpAreturn, OpUnknown}
 pub use Rattle.definition.specs.declared.Instruction.{Instruction}
@@ -46,7 +47,7 @@ inlineLength OpUnknown = 0
 
 -- 16 bits inline at place i
 unfoldable pub shortAt : List ℕ → ℕ → ℕ
-shortAt s i = getD s i 0 * 256 + getD s (i + 1) 0
+shortAt s i = getD s i 0 * byteRange + getD s (i + 1) 0
 
 -- signed 16 bits as 32
 unfoldable pub extend : ℕ → ℕ

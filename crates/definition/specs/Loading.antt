@@ -5,6 +5,7 @@ use mathlib.Core.List.{List, [], _∷_, _++_}
 use Prim.Native.Nat.{ℕ, _+_}
 use lib.ListN.{length, getElem?}
 use lib.Dec.{eqb, leb, ltb}
+use Rattle.definition.specs.Numbers.{wordUnknown, wordTaken, wordUnverified, wordAbsent, wordHidden, wordClash, wordFull, wordBusy, wordMisnamed, nameInt, nameObject, loaderLimit, classLimit, cacheLimit, tieLimit, subtypeLimit, objectLimit, fieldLimit}
 use Rattle.definition.specs.Lists.{every, any, indexOf, isNone}
 use Rattle.definition.specs.Requests.{Request, at}
 use Rattle.definition.specs.Superclasses.{nearest}
@@ -66,41 +67,41 @@ withEntry w r c = record {
 -- define, of a file that was read as the class k; `room` is whether its bytes can be kept. Refusals: 6 4 5 8 10 9
 unfoldable pub define : Bool → Class → World → Result World
 define room k w =
-    take? (notesOf k (k .methods)) (Word 6) >>= λ ns.
-    need (isNone (find (w .base .cache) (at (k .loader) (k .name)))) (Word 4) >>= λ _.
+    take? (notesOf k (k .methods)) (Word wordUnverified) >>= λ ns.
+    need (isNone (find (w .base .cache) (at (k .loader) (k .name)))) (Word wordTaken) >>= λ _.
     take? (find (w .base .cache) (at (k .loader) (k .super))) (wanted (at (k .loader) (k .super))) >>= λ p.
-    need (not (any (hides (w .base) p) (k .fields))) (Word 8) >>= λ _.
+    need (not (any (hides (w .base) p) (k .fields))) (Word wordHidden) >>= λ _.
     (let us = overrideTies (w .base) (k .loader) p (w .ties) (k .methods) in
     let ss = newSubtypes (w .subtypes) (k .loader) ns in
     need (every
     (room
-    ∷ ltb (length (w .base .classes)) 64
-    ∷ ltb (length (w .base .cache)) 256
-    ∷ leb (length (w .ties ++ us)) 256
-    ∷ leb (length (w .subtypes ++ ss)) 256
-    ∷ leb (length (slots (w .base) p) + length (k .fields)) 16
-    ∷ [])) (Word 10) >>= λ _.
-    need (agrees (withClass w k us ss)) (Word 9) >>= λ _. ok (withClass w k us ss))
+    ∷ ltb (length (w .base .classes)) classLimit
+    ∷ ltb (length (w .base .cache)) cacheLimit
+    ∷ leb (length (w .ties ++ us)) tieLimit
+    ∷ leb (length (w .subtypes ++ ss)) subtypeLimit
+    ∷ leb (length (slots (w .base) p) + length (k .fields)) fieldLimit
+    ∷ [])) (Word wordFull) >>= λ _.
+    need (agrees (withClass w k us ss)) (Word wordClash) >>= λ _. ok (withClass w k us ss))
 
 -- record. Refusals: 3 13 4 10 9
 unfoldable pub recorded : ℕ → ℕ → ℕ → World → Result World
 recorded l n c w =
-    need (ltb l 16 && leb 2 n) (Word 3) >>= λ _.
-    take? (getElem? (w .base .classes) c) (Word 3) >>= λ k.
-    need (eqb (k .name) n) (Word 13) >>= λ _.
+    need (ltb l loaderLimit && leb nameObject n) (Word wordUnknown) >>= λ _.
+    take? (getElem? (w .base .classes) c) (Word wordUnknown) >>= λ k.
+    need (eqb (k .name) n) (Word wordMisnamed) >>= λ _.
     elim (find (w .base .cache) (at l n)) [
-      | some d ↦ need (eqb d c) (Word 4) >>= λ _. ok w
-      | none ↦ need (ltb (length (w .base .cache)) 256) (Word 10) >>= λ _.
-          need (agrees (withEntry w (at l n) c)) (Word 9) >>= λ _. ok (withEntry w (at l n) c)
+      | some d ↦ need (eqb d c) (Word wordTaken) >>= λ _. ok w
+      | none ↦ need (ltb (length (w .base .cache)) cacheLimit) (Word wordFull) >>= λ _.
+          need (agrees (withEntry w (at l n) c)) (Word wordClash) >>= λ _. ok (withEntry w (at l n) c)
     ]
 
 -- start: a new object and a first frame in the method selected for (m, int, int). Refusals: 3 12 5 7 10
 unfoldable pub started : ℕ → ℕ → ℕ → ℕ → World → List Object → List Frame → Result Progress
 started l n m v w os fs =
-    need (ltb l 16 && leb 2 n && leb 1 m) (Word 3) >>= λ _.
-    need (leb (length fs) 0) (Word 12) >>= λ _.
+    need (ltb l loaderLimit && leb nameObject n && leb 1 m) (Word wordUnknown) >>= λ _.
+    need (leb (length fs) 0) (Word wordBusy) >>= λ _.
     take? (find (w .base .cache) (at l n)) (wanted (at l n)) >>= λ c.
-    take? (nearest (superOf (w .base)) (hasMethod (w .base) m 1 1) c) (Word 7) >>= λ s.
-    take? (indexOf (alike m 1 1) (methodsOf (w .base) s)) (Word 7) >>= λ j.
-    need (ltb (length os) 256) (Word 10) >>= λ _.
+    take? (nearest (superOf (w .base)) (hasMethod (w .base) m nameInt nameInt) c) (Word wordAbsent) >>= λ s.
+    take? (indexOf (alike m nameInt nameInt) (methodsOf (w .base) s)) (Word wordAbsent) >>= λ j.
+    need (ltb (length os) objectLimit) (Word wordFull) >>= λ _.
     ok (record { world = w; objects = os ++ (newObject (w .base) c ∷ []); frames = entryFrame s j (length os) (intValue v) ∷ []; result = none })

@@ -5,6 +5,7 @@ use mathlib.Core.List.{List, [], _∷_, _++_, map}
 use Prim.Native.Nat.{ℕ, suc, _+_, _-_, _%_}
 use lib.ListN.{length, getElem?, set}
 use lib.Dec.{eqb, ltb}
+use Rattle.definition.specs.Numbers.{wordAbsent, wordFull, wordNull, wordStuck, nameInt, objectLimit, frameLimit, operandLimit, intRange}
 use Rattle.definition.specs.Lists.{indexOf}
 use Rattle.definition.specs.Requests.{at}
 use Rattle.definition.specs.Superclasses.{nearest, below}
@@ -16,7 +17,7 @@ use Rattle.definition.specs.Answers.{Word, wanted, Result, refused, ok, 
 
 -- an empty local, an int's 32 bits, null, an object's number, or a pair of cells that docs/STORE.md doesn't list
 pub data Value : Type 0 where
-  unsetValue : Value
+  emptyValue : Value
   intValue : ℕ → Value
   nullValue : Value
   objectValue : ℕ → Value
@@ -43,53 +44,53 @@ existing os o = getElem? os o
 -- Fields begin as 0 or null; local 0 holds this and local 1 the argument, the rest begin empty
 
 unfoldable pub initialValue : Slot → Value
-initialValue s = elim (eqb (s .type) 1) [ true ↦ intValue 0 | false ↦ nullValue ]
+initialValue s = elim (eqb (s .type) nameInt) [ true ↦ intValue 0 | false ↦ nullValue ]
 
 unfoldable pub newObject : Base → ℕ → Object
 newObject w c = record { class = c; values = map initialValue (slots w c) }
 
-abbrev pub unsetLocals : List Value
-unsetLocals = unsetValue ∷ unsetValue ∷ unsetValue ∷ unsetValue ∷ unsetValue ∷ unsetValue ∷ []
+abbrev pub emptyLocals : List Value
+emptyLocals = emptyValue ∷ emptyValue ∷ emptyValue ∷ emptyValue ∷ emptyValue ∷ emptyValue ∷ []
 
 abbrev pub entryFrame : ℕ → ℕ → ℕ → Value → Frame
-entryFrame c j o v = record { class = c; method = j; point = 0; operands = []; locals = objectValue o ∷ v ∷ unsetLocals }
+entryFrame c j o v = record { class = c; method = j; point = 0; operands = []; locals = objectValue o ∷ v ∷ emptyLocals }
 
 -- Operands and locals, refused 14 if missing or of the wrong kind
 
 unfoldable pub pop! : List Value → Result (record { top : Value; more : List Value })
-pop! vs = take? (pop vs) (Word 14)
+pop! vs = take? (pop vs) (Word wordStuck)
 
 unfoldable pub int! : Value → Result ℕ
-int! unsetValue = refused (Word 14)
+int! emptyValue = refused (Word wordStuck)
 int! (intValue n) = ok n
-int! nullValue = refused (Word 14)
-int! (objectValue o) = refused (Word 14)
-int! (unlistedValue k b) = refused (Word 14)
+int! nullValue = refused (Word wordStuck)
+int! (objectValue o) = refused (Word wordStuck)
+int! (unlistedValue k b) = refused (Word wordStuck)
 
 -- null or an object
 unfoldable pub reference! : Value → Result Value
-reference! unsetValue = refused (Word 14)
-reference! (intValue n) = refused (Word 14)
+reference! emptyValue = refused (Word wordStuck)
+reference! (intValue n) = refused (Word wordStuck)
 reference! nullValue = ok nullValue
 reference! (objectValue o) = ok (objectValue o)
-reference! (unlistedValue k b) = refused (Word 14)
+reference! (unlistedValue k b) = refused (Word wordStuck)
 
 -- an int for int, a reference for a class name
 unfoldable pub kind! : ℕ → Value → Result (Unit {0})
-kind! t v = elim (eqb t 1) [ true ↦ int! v >>= λ _. ok tt | false ↦ reference! v >>= λ _. ok tt ]
+kind! t v = elim (eqb t nameInt) [ true ↦ int! v >>= λ _. ok tt | false ↦ reference! v >>= λ _. ok tt ]
 
 -- room for one operand more
 unfoldable pub room! : List Value → Result (Unit {0})
-room! vs = need (ltb (length vs) 16) (Word 10)
+room! vs = need (ltb (length vs) operandLimit) (Word wordFull)
 
 -- the receiver: an object whose class is e or below it; 14, then 11 for null
 unfoldable pub object! : Base → List Object → ℕ → Value → Result (record { number : ℕ; object : Object })
-object! w os e unsetValue = refused (Word 14)
-object! w os e (intValue n) = refused (Word 14)
-object! w os e nullValue = refused (Word 11)
+object! w os e emptyValue = refused (Word wordStuck)
+object! w os e (intValue n) = refused (Word wordStuck)
+object! w os e nullValue = refused (Word wordNull)
 object! w os e (objectValue o) =
-    take? (existing os o) (Word 14) >>= λ k. need (below (superOf w) (k .class) e) (Word 14) >>= λ _. ok (record { number = o; object = k })
-object! w os e (unlistedValue k b) = refused (Word 14)
+    take? (existing os o) (Word wordStuck) >>= λ k. need (below (superOf w) (k .class) e) (Word wordStuck) >>= λ _. ok (record { number = o; object = k })
+object! w os e (unlistedValue k b) = refused (Word wordStuck)
 
 -- What a step leaves: constraints, objects, the task's frames, and a first frame's result
 
@@ -107,8 +108,8 @@ pub record Now : Type 0 where
 
 unfoldable pub now : World → Frame → Result Now
 now w f =
-    take? (getElem? (w .base .classes) (f .class)) (Word 14) >>= λ k. take? (getElem? (k .methods) (f .method)) (Word 14) >>= λ m.
-    take? (decode (m .code) (f .point)) (Word 14) >>= λ i. ok (record { theClass = k; method = m; at = i })
+    take? (getElem? (w .base .classes) (f .class)) (Word wordStuck) >>= λ k. take? (getElem? (k .methods) (f .method)) (Word wordStuck) >>= λ m.
+    take? (decode (m .code) (f .point)) (Word wordStuck) >>= λ i. ok (record { theClass = k; method = m; at = i })
 
 -- the frame past its instruction, with new operands and locals
 abbrev pub past : Frame → Decoded → List Value → List Value → Frame
@@ -138,34 +139,34 @@ module _ (w : World) (os : List Object) (f : Frame) (fs : List Frame) (k : Class
   unfoldable pub execute : Instruction → Result Progress
   execute AconstNull = room! (f .operands) >>= λ _. on (nullValue ∷ f .operands) (f .locals)
   execute (Sipush n) = room! (f .operands) >>= λ _. on (intValue n ∷ f .operands) (f .locals)
-  execute (Iload j) = room! (f .operands) >>= λ _. take? (getElem? (f .locals) j) (Word 14) >>= λ v. int! v >>= λ n. on (v ∷ f .operands) (f .locals)
-  execute (Aload j) = room! (f .operands) >>= λ _. take? (getElem? (f .locals) j) (Word 14) >>= λ v. reference! v >>= λ _. on (v ∷ f .operands) (f .locals)
+  execute (Iload j) = room! (f .operands) >>= λ _. take? (getElem? (f .locals) j) (Word wordStuck) >>= λ v. int! v >>= λ n. on (v ∷ f .operands) (f .locals)
+  execute (Aload j) = room! (f .operands) >>= λ _. take? (getElem? (f .locals) j) (Word wordStuck) >>= λ v. reference! v >>= λ _. on (v ∷ f .operands) (f .locals)
   execute (Istore j) =
-      pop! (f .operands) >>= λ p. int! (p .top) >>= λ n. take? (getElem? (f .locals) j) (Word 14) >>= λ _. on (p .more) (set (f .locals) j (p .top))
+      pop! (f .operands) >>= λ p. int! (p .top) >>= λ n. take? (getElem? (f .locals) j) (Word wordStuck) >>= λ _. on (p .more) (set (f .locals) j (p .top))
   execute (Astore j) =
-      pop! (f .operands) >>= λ p. reference! (p .top) >>= λ _. take? (getElem? (f .locals) j) (Word 14) >>= λ _. on (p .more) (set (f .locals) j (p .top))
+      pop! (f .operands) >>= λ p. reference! (p .top) >>= λ _. take? (getElem? (f .locals) j) (Word wordStuck) >>= λ _. on (p .more) (set (f .locals) j (p .top))
   execute Pop = pop! (f .operands) >>= λ p. on (p .more) (f .locals)
   execute Dup = room! (f .operands) >>= λ _. pop! (f .operands) >>= λ p. on (p .top ∷ p .top ∷ p .more) (f .locals)
   execute Iadd =
       pop! (f .operands) >>= λ p. pop! (p .more) >>= λ q. int! (p .top) >>= λ b. int! (q .top) >>= λ a.
-      on (intValue ((a + b) % 4294967296) ∷ q .more) (f .locals)
+      on (intValue ((a + b) % intRange) ∷ q .more) (f .locals)
   execute Isub =
       pop! (f .operands) >>= λ p. pop! (p .more) >>= λ q. int! (p .top) >>= λ b. int! (q .top) >>= λ a.
-      on (intValue ((a + 4294967296 - b) % 4294967296) ∷ q .more) (f .locals)
+      on (intValue ((a + intRange - b) % intRange) ∷ q .more) (f .locals)
   execute (Getfield c n t) =
       take? (find (w .base .cache) (at (k .loader) c)) (wanted (at (k .loader) c)) >>= λ e.
-      take? (nearest (superOf (w .base)) (hasField (w .base) n t) e) (Word 7) >>= λ d.
+      take? (nearest (superOf (w .base)) (hasField (w .base) n t) e) (Word wordAbsent) >>= λ d.
       post w true (newTie (w .ties) (loaderOf (w .base) d) (k .loader) t) >>= λ w′.
       pop! (f .operands) >>= λ p. object! (w .base) os e (p .top) >>= λ o.
-      take? (indexOf (slotIs d n t) (slots (w .base) d)) (Word 14) >>= λ j.
-      take? (getElem? (o .object .values) j) (Word 14) >>= λ v.
+      take? (indexOf (slotIs d n t) (slots (w .base) d)) (Word wordStuck) >>= λ j.
+      take? (getElem? (o .object .values) j) (Word wordStuck) >>= λ v.
       ok (record { world = w′; objects = os; frames = past f i (v ∷ p .more) (f .locals) ∷ fs; result = none })
   execute (Putfield c n t) =
       take? (find (w .base .cache) (at (k .loader) c)) (wanted (at (k .loader) c)) >>= λ e.
-      take? (nearest (superOf (w .base)) (hasField (w .base) n t) e) (Word 7) >>= λ d.
+      take? (nearest (superOf (w .base)) (hasField (w .base) n t) e) (Word wordAbsent) >>= λ d.
       post w true (newTie (w .ties) (loaderOf (w .base) d) (k .loader) t) >>= λ w′.
       pop! (f .operands) >>= λ p. pop! (p .more) >>= λ q. kind! t (p .top) >>= λ _. object! (w .base) os e (q .top) >>= λ o.
-      take? (indexOf (slotIs d n t) (slots (w .base) d)) (Word 14) >>= λ j.
+      take? (indexOf (slotIs d n t) (slots (w .base) d)) (Word wordStuck) >>= λ j.
       ok (record {
         world = w′;
         objects = set os (o .number) (record { class = o .object .class; values = set (o .object .values) j (p .top) });
@@ -174,17 +175,17 @@ module _ (w : World) (os : List Object) (f : Frame) (fs : List Frame) (k : Class
       })
   execute (Invokevirtual c n t r) =
       take? (find (w .base .cache) (at (k .loader) c)) (wanted (at (k .loader) c)) >>= λ e.
-      take? (nearest (superOf (w .base)) (hasMethod (w .base) n t r) e) (Word 7) >>= λ d.
+      take? (nearest (superOf (w .base)) (hasMethod (w .base) n t r) e) (Word wordAbsent) >>= λ d.
       (let us = newTie (w .ties) (loaderOf (w .base) d) (k .loader) t in
       let vs = newTie (w .ties ++ us) (loaderOf (w .base) d) (k .loader) r in
-      post w (ltb (suc (length fs)) 32) (us ++ vs)) >>= λ w′.
+      post w (ltb (suc (length fs)) frameLimit) (us ++ vs)) >>= λ w′.
       pop! (f .operands) >>= λ p. pop! (p .more) >>= λ q. kind! t (p .top) >>= λ _. object! (w .base) os e (q .top) >>= λ o.
-      take? (nearest (superOf (w .base)) (hasMethod (w .base) n t r) (o .object .class)) (Word 14) >>= λ s.
-      take? (indexOf (alike n t r) (methodsOf (w .base) s)) (Word 14) >>= λ j.
+      take? (nearest (superOf (w .base)) (hasMethod (w .base) n t r) (o .object .class)) (Word wordStuck) >>= λ s.
+      take? (indexOf (alike n t r) (methodsOf (w .base) s)) (Word wordStuck) >>= λ j.
       ok (record { world = w′; objects = os; frames = entryFrame s j (o .number) (p .top) ∷ past f i (q .more) (f .locals) ∷ fs; result = none })
   execute (New c) =
       take? (find (w .base .cache) (at (k .loader) c)) (wanted (at (k .loader) c)) >>= λ e.
-      need (ltb (length os) 256 && ltb (length (f .operands)) 16) (Word 10) >>= λ _.
+      need (ltb (length os) objectLimit && ltb (length (f .operands)) operandLimit) (Word wordFull) >>= λ _.
       ok (record { world = w; objects = os ++ (newObject (w .base) e ∷ []); frames = past f i (objectValue (length os) ∷ f .operands) (f .locals) ∷ fs; result = none })
   execute Ireturn = under! fs >>= λ _. pop! (f .operands) >>= λ p. int! (p .top) >>= λ _. give fs w os (p .top)
   execute Areturn = under! fs >>= λ _. pop! (f .operands) >>= λ p. reference! (p .top) >>= λ _. give fs w os (p .top)

@@ -13,44 +13,44 @@ use Rattle.definition.specs.Superclasses.{Below, below}
 use Rattle.definition.specs.Classes.{find, superOf, loaderOf, slots}
 use Rattle.definition.specs.Constraints.{World}
 use Rattle.definition.specs.Verifier.{VerifierType, typeInt, typeNull, typeClass, typeOfName, typesIn}
-use Rattle.definition.specs.Machine.{Value, unsetValue, intValue, nullValue, objectValue, unlistedValue, Object, Frame, existing}
+use Rattle.definition.specs.Machine.{Value, emptyValue, intValue, nullValue, objectValue, unlistedValue, Object, Frame, existing}
 use Rattle.definition.specs.Tables.{Tables, Rows, worldOf, view}
 
 -- A value in a place of type t under loader l, in words: of type int an int; null where the type is null; of a class name null or an object
 -- that exists and, if the request is loaded, is of that class or below it
 
 abbrev pub Placed : World → List Object → ℕ → VerifierType → Value → Type 0
-Placed w os l typeInt unsetValue = ⊥
+Placed w os l typeInt emptyValue = ⊥
 Placed w os l typeInt (intValue n) = Unit {0}
 Placed w os l typeInt nullValue = ⊥
 Placed w os l typeInt (objectValue o) = ⊥
 Placed w os l typeInt (unlistedValue k b) = ⊥
-Placed w os l typeNull unsetValue = ⊥
+Placed w os l typeNull emptyValue = ⊥
 Placed w os l typeNull (intValue n) = ⊥
 Placed w os l typeNull nullValue = Unit {0}
 Placed w os l typeNull (objectValue o) = ⊥
 Placed w os l typeNull (unlistedValue k b) = ⊥
-Placed w os l (typeClass n) unsetValue = ⊥
+Placed w os l (typeClass n) emptyValue = ⊥
 Placed w os l (typeClass n) (intValue m) = ⊥
 Placed w os l (typeClass n) nullValue = Unit {0}
 Placed w os l (typeClass n) (objectValue o) =
-    (b : Object) × (existing os o ≡ some b) × ((d : ℕ) → find (w .base .cache) (at l n) ≡ some d → Below (superOf (w .base)) d (b .class))
+    (b : Object) × (existing os o ≡ some b) × ((d : ℕ) → find (w .base .cache) (at l n) ≡ some d → Below (superOf (w .base)) (b .class) d)
 Placed w os l (typeClass n) (unlistedValue k b) = ⊥
 
 -- The same as a test
 
 unfoldable pub placed : World → List Object → ℕ → VerifierType → Value → Bool
-placed w os l typeInt unsetValue = false
+placed w os l typeInt emptyValue = false
 placed w os l typeInt (intValue n) = true
 placed w os l typeInt nullValue = false
 placed w os l typeInt (objectValue o) = false
 placed w os l typeInt (unlistedValue k b) = false
-placed w os l typeNull unsetValue = false
+placed w os l typeNull emptyValue = false
 placed w os l typeNull (intValue n) = false
 placed w os l typeNull nullValue = true
 placed w os l typeNull (objectValue o) = false
 placed w os l typeNull (unlistedValue k b) = false
-placed w os l (typeClass n) unsetValue = false
+placed w os l (typeClass n) emptyValue = false
 placed w os l (typeClass n) (intValue m) = false
 placed w os l (typeClass n) nullValue = true
 placed w os l (typeClass n) (objectValue o) = elim (existing os o) [

@@ -5,6 +5,7 @@ use mathlib.Core.Option.{some}
 use mathlib.Core.List.{List}
 use Prim.Native.Nat.{ℕ}
 use lib.ListN.{getElem?}
+use Rattle.definition.specs.Numbers.{wordStuck}
 use Rattle.definition.specs.declared.Reply.{Reply}
 use Rattle.definition.specs.Answers.{numberOf, endsIn}
 use Rattle.definition.specs.Tables.{view}
@@ -17,4 +18,4 @@ pub record Safe (d : Done (List Reply)) : Type 0 where
   pub placed : misplaced (d .tables) ≡ 0
   pub words : AllPlaced (view (d .tables))
   pub unbroken : broken (d .tables) ≡ false
-  pub notStuck : (i : ℕ) (a : Reply) → getElem? (d .answer) i ≡ some a → (numberOf a ≡ 14 → ⊥) × (endsIn a ≡ 14 → ⊥)
+  pub notStuck : (i : ℕ) (a : Reply) → getElem? (d .answer) i ≡ some a → (numberOf a ≡ wordStuck → ⊥) × (endsIn a ≡ wordStuck → ⊥)

@@ -6,6 +6,7 @@ use Prim.Native.Nat.{ℕ, zero, suc, _+_, _-_, _*_, _/_, _%_}
 use lib.ListN.{length}
 use lib.IntN.{ℤ, pos, negsuc}
 use lib.Dec.{eqb, leb, ltb}
+use Rattle.definition.specs.Numbers.{shortRange, intRange, signBit}
 use Rattle.definition.specs.Maybe.{_>>=_, need}
 use Rattle.definition.specs.Answers.{Details, Reply, details}
 use Rattle.definition.specs.Tables.{Tables, view}
@@ -29,14 +30,14 @@ unfoldable pub upTo : ℕ → List ℕ → Option ℕ
 upTo m bs = decimal bs >>= λ n. need (leb n m) >>= λ _. some n
 
 abbrev pub short : List ℕ → Option ℕ
-short bs = upTo 65535 bs
+short bs = upTo (shortRange - 1) bs
 
 -- an int, as 32 bits; it may have a minus
 unfoldable pub int : List ℕ → Option ℕ
 int [] = none
 int (b ∷ bs) = elim (eqb b 45) [
-  | true ↦ upTo 2147483648 bs >>= λ n. some ((4294967296 - n) % 4294967296)
-  | false ↦ upTo 2147483647 (b ∷ bs)
+  | true ↦ upTo signBit bs >>= λ n. some ((intRange - n) % intRange)
+  | false ↦ upTo (signBit - 1) (b ∷ bs)
 ]
 
 -- A file: one or more pairs of hexadecimal digits, of either case

@@ -6,10 +6,10 @@ use mathlib.Core.Option.{Option, none, some}
 use Prim.Native.Nat.{ℕ, zero, suc, _<_}
 use lib.Dec.{eqb}
 
--- `Below sup d c`: c is d, or lies below it
-pub data Below (sup : ℕ → Option ℕ) (d : ℕ) : ℕ → Type 0 where
-  same : {c : ℕ} → c ≡ d → Below sup d c
-  up : {c p : ℕ} → sup c ≡ some p → Below sup d p → Below sup d c
+-- `Below sup c d`: c is d, or lies below it
+pub data Below (sup : ℕ → Option ℕ) : ℕ → ℕ → Type 0 where
+  same : {c d : ℕ} → c ≡ d → Below sup c d
+  up : {c p d : ℕ} → sup c ≡ some p → Below sup p d → Below sup c d
 
 abbrev pub Falls : (ℕ → Option ℕ) → Type 0
 Falls sup = (c p : ℕ) → sup c ≡ some p → p < c

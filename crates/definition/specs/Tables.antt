@@ -5,13 +5,14 @@ use mathlib.Core.List.{List, [], _∷_, map}
 use Prim.Native.Nat.{ℕ, _+_, _*_}
 use lib.ListN.{length, take, drop, getD, set}
 use lib.Dec.{eqb, leb}
+use Rattle.definition.specs.Numbers.{keptLimit, fieldLimit, frameLimit, localCount, countClasses, countKept, countCache, countTies, countSubtypes, countObjects, countFrames, rowCells, valueCells, objectCells, fieldsCell, frameCells, methodCell, pointCell, depthCell, localsCell, operandsCell, countsLength, classesLength, cacheLength, tiesLength, subtypesLength, objectsLength, framesLength, kindEmpty, kindInt, kindNull, kindObject}
 use Rattle.definition.specs.Lists.{every, rows, writeRows, stack, writeStack}
 use Rattle.definition.specs.Maybe.{_>>=_, need}
 use Rattle.definition.specs.Requests.{at}
 use Rattle.definition.specs.Classes.{Base, Class, Entry, slots}
 use Rattle.definition.specs.Constraints.{Tie, Subtype, World}
 use Rattle.definition.specs.Instructions.{pick}
-use Rattle.definition.specs.Machine.{Value, unsetValue, intValue, nullValue, objectValue, unlistedValue, Object, Frame}
+use Rattle.definition.specs.Machine.{Value, emptyValue, intValue, nullValue, objectValue, unlistedValue, Object, Frame}
 use Rattle.definition.specs.File.{File, readFile, classOf, objectClass}
 
 pub record Tables : Type 0 where
@@ -30,14 +31,14 @@ tables n c k e t s o f = record { counts = n; classes = c; kept = k; cache = e; 
 -- the published lengths
 unfoldable pub shaped : Tables → Bool
 shaped t = every
-    (eqb (length (t .counts)) 8
-    ∷ eqb (length (t .classes)) 192
-    ∷ eqb (length (t .kept)) 16384
-    ∷ eqb (length (t .cache)) 768
-    ∷ eqb (length (t .ties)) 768
-    ∷ eqb (length (t .subtypes)) 768
-    ∷ eqb (length (t .objects)) 8448
-    ∷ eqb (length (t .frames)) 3328
+    (eqb (length (t .counts)) countsLength
+    ∷ eqb (length (t .classes)) classesLength
+    ∷ eqb (length (t .kept)) keptLimit
+    ∷ eqb (length (t .cache)) cacheLength
+    ∷ eqb (length (t .ties)) tiesLength
+    ∷ eqb (length (t .subtypes)) subtypesLength
+    ∷ eqb (length (t .objects)) objectsLength
+    ∷ eqb (length (t .frames)) framesLength
     ∷ [])
 
 -- The store as rows. A class is its loader and where its file is kept, so that classes are always read off the kept files.
@@ -77,10 +78,10 @@ sizeOf b c = length (slots b c)
 -- Cells. Class rows, cache entries, ties and subtype constraints have three cells each.
 
 abbrev pub threeAt : {A : Type 0} → (ℕ → ℕ → ℕ → A) → List ℕ → ℕ → A
-threeAt make t i = make (getD t (i * 3) 0) (getD t (i * 3 + 1) 0) (getD t (i * 3 + 2) 0)
+threeAt make t i = make (getD t (i * rowCells) 0) (getD t (i * rowCells + 1) 0) (getD t (i * rowCells + 2) 0)
 
 abbrev pub putThree : List ℕ → ℕ → ℕ → ℕ → ℕ → List ℕ
-putThree t i a b c = set (set (set t (i * 3) a) (i * 3 + 1) b) (i * 3 + 2) c
+putThree t i a b c = set (set (set t (i * rowCells) a) (i * rowCells + 1) b) (i * rowCells + 2) c
 
 abbrev pub classRow : ℕ → ℕ → ℕ → ClassRow
 classRow l s n = record { loader = l; start = s; size = n }
@@ -122,19 +123,19 @@ putSubtype t i e = putThree t i (e .loader) (e .low) (e .high)
 
 unfoldable pub valueOf : ℕ → ℕ → Value
 valueOf k b =
-    pick (eqb k 1) (intValue b)
-    (pick (eqb k 3) (objectValue b)
-    (pick (eqb b 0) (pick (eqb k 0) unsetValue (pick (eqb k 2) nullValue (unlistedValue k b))) (unlistedValue k b)))
+    pick (eqb k kindInt) (intValue b)
+    (pick (eqb k kindObject) (objectValue b)
+    (pick (eqb b 0) (pick (eqb k kindEmpty) emptyValue (pick (eqb k kindNull) nullValue (unlistedValue k b))) (unlistedValue k b)))
 
 unfoldable pub kindOf : Value → ℕ
-kindOf unsetValue = 0
-kindOf (intValue n) = 1
-kindOf nullValue = 2
-kindOf (objectValue o) = 3
+kindOf emptyValue = kindEmpty
+kindOf (intValue n) = kindInt
+kindOf nullValue = kindNull
+kindOf (objectValue o) = kindObject
 kindOf (unlistedValue k b) = k
 
 unfoldable pub bitsOf : Value → ℕ
-bitsOf unsetValue = 0
+bitsOf emptyValue = 0
 bitsOf (intValue n) = n
 bitsOf nullValue = 0
 bitsOf (objectValue o) = o
@@ -152,47 +153,47 @@ putValue t i v = putCells t i (kindOf v) (bitsOf v)
 -- An object has 33 cells: its class, then 16 values, of which those of its class's fields are used
 
 unfoldable pub fieldAt : List ℕ → ℕ → ℕ → Value
-fieldAt t o i = valueAt t (o * 33 + (1 + 2 * i))
+fieldAt t o i = valueAt t (o * objectCells + (fieldsCell + valueCells * i))
 
 unfoldable pub putField : ℕ → List ℕ → ℕ → Value → List ℕ
-putField o t i v = putValue t (o * 33 + (1 + 2 * i)) v
+putField o t i v = putValue t (o * objectCells + (fieldsCell + valueCells * i)) v
 
 -- a class with more than 16 fields is broken; no row has room for more
 unfoldable pub usedFields : Base → ℕ → ℕ
-usedFields b c = pick (leb (sizeOf b c) 16) (sizeOf b c) 16
+usedFields b c = pick (leb (sizeOf b c) fieldLimit) (sizeOf b c) fieldLimit
 
 unfoldable pub objectAt : Base → List ℕ → ℕ → Object
-objectAt b t o = record { class = getD t (o * 33) 0; values = rows (fieldAt t o) (usedFields b (getD t (o * 33) 0)) 0 }
+objectAt b t o = record { class = getD t (o * objectCells) 0; values = rows (fieldAt t o) (usedFields b (getD t (o * objectCells) 0)) 0 }
 
 unfoldable pub putObject : List ℕ → ℕ → Object → List ℕ
-putObject t o x = writeRows (putField o) (x .values) 0 (set t (o * 33) (x .class))
+putObject t o x = writeRows (putField o) (x .values) 0 (set t (o * objectCells) (x .class))
 
 -- A frame has 52 cells: class, method, point, operand count, 8 locals, 16 operands from the lowest
 
 unfoldable pub localAt : List ℕ → ℕ → ℕ → Value
-localAt t b i = valueAt t (b + (4 + 2 * i))
+localAt t b i = valueAt t (b + (localsCell + valueCells * i))
 
 unfoldable pub putLocal : ℕ → List ℕ → ℕ → Value → List ℕ
-putLocal b t i v = putValue t (b + (4 + 2 * i)) v
+putLocal b t i v = putValue t (b + (localsCell + valueCells * i)) v
 
 unfoldable pub operandAt : List ℕ → ℕ → ℕ → Value
-operandAt t b i = valueAt t (b + (20 + 2 * i))
+operandAt t b i = valueAt t (b + (operandsCell + valueCells * i))
 
 unfoldable pub putOperand : ℕ → List ℕ → ℕ → Value → List ℕ
-putOperand b t i v = putValue t (b + (20 + 2 * i)) v
+putOperand b t i v = putValue t (b + (operandsCell + valueCells * i)) v
 
 abbrev pub frame : ℕ → ℕ → ℕ → List Value → List Value → Frame
 frame c m p o l = record { class = c; method = m; point = p; operands = o; locals = l }
 
 -- the frame whose row begins at cell b, at point p with d operands
 unfoldable pub frameOf : List ℕ → ℕ → ℕ → ℕ → Frame
-frameOf t b p d = frame (getD t b 0) (getD t (b + 1) 0) p (stack (operandAt t b) d) (rows (localAt t b) 8 0)
+frameOf t b p d = frame (getD t b 0) (getD t (b + methodCell) 0) p (stack (operandAt t b) d) (rows (localAt t b) localCount 0)
 
 unfoldable pub frameAt : List ℕ → ℕ → Frame
-frameAt t b = frameOf t b (getD t (b + 2) 0) (getD t (b + 3) 0)
+frameAt t b = frameOf t b (getD t (b + pointCell) 0) (getD t (b + depthCell) 0)
 
 abbrev pub putHead : List ℕ → ℕ → ℕ → ℕ → ℕ → ℕ → List ℕ
-putHead t b c m p d = set (set (set (set t b c) (b + 1) m) (b + 2) p) (b + 3) d
+putHead t b c m p d = set (set (set (set t b c) (b + methodCell) m) (b + pointCell) p) (b + depthCell) d
 
 unfoldable pub putFrame : List ℕ → ℕ → Frame → List ℕ
 putFrame t b f =
@@ -200,7 +201,7 @@ putFrame t b f =
 
 -- where row i of task k begins: each task has 32 rows, its first frame in the first
 abbrev pub frameBase : ℕ → ℕ → ℕ
-frameBase k i = (k * 32 + i) * 52
+frameBase k i = (k * frameLimit + i) * frameCells
 
 unfoldable pub frameIn : List ℕ → ℕ → ℕ → Frame
 frameIn t k i = frameAt t (frameBase k i)
@@ -211,29 +212,29 @@ putFrameIn k t i f = putFrame t (frameBase k i) f
 -- The used rows: classes, kept bytes, cache entries, ties, subtype constraints, objects, and each task's frames, by their counts
 
 abbrev pub classRowsOf : Tables → List ClassRow
-classRowsOf t = rows (classRowAt (t .classes)) (getD (t .counts) 0 0) 0
+classRowsOf t = rows (classRowAt (t .classes)) (getD (t .counts) countClasses 0) 0
 
 abbrev pub keptOf : Tables → List ℕ
-keptOf t = rows (λ i. getD (t .kept) i 0) (getD (t .counts) 1 0) 0
+keptOf t = rows (λ i. getD (t .kept) i 0) (getD (t .counts) countKept 0) 0
 
 abbrev pub cacheOf : Tables → List Entry
-cacheOf t = rows (entryAt (t .cache)) (getD (t .counts) 2 0) 0
+cacheOf t = rows (entryAt (t .cache)) (getD (t .counts) countCache 0) 0
 
 abbrev pub tiesOf : Tables → List Tie
-tiesOf t = rows (tieAt (t .ties)) (getD (t .counts) 3 0) 0
+tiesOf t = rows (tieAt (t .ties)) (getD (t .counts) countTies 0) 0
 
 abbrev pub subtypesOf : Tables → List Subtype
-subtypesOf t = rows (subtypeAt (t .subtypes)) (getD (t .counts) 4 0) 0
+subtypesOf t = rows (subtypeAt (t .subtypes)) (getD (t .counts) countSubtypes 0) 0
 
 abbrev pub viewBase : Tables → Base
 viewBase t = baseOf (classRowsOf t) (keptOf t) (cacheOf t)
 
 unfoldable pub objectsOf : Base → Tables → List Object
-objectsOf b t = rows (objectAt b (t .objects)) (getD (t .counts) 5 0) 0
+objectsOf b t = rows (objectAt b (t .objects)) (getD (t .counts) countObjects 0) 0
 
 -- task 0 is the quote, 1 the report; the top frame first
 unfoldable pub framesOf : Tables → ℕ → List Frame
-framesOf t k = stack (frameIn (t .frames) k) (getD (t .counts) (6 + k) 0)
+framesOf t k = stack (frameIn (t .frames) k) (getD (t .counts) (countFrames + k) 0)
 
 -- the rows, where classes have the fields that b gives them
 unfoldable pub viewOver : Base → Tables → Rows

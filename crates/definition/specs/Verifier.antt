@@ -5,6 +5,7 @@ use mathlib.Core.List.{List, [], _∷_, _++_}
 use Prim.Native.Nat.{ℕ, zero, suc, _+_}
 use lib.ListN.{length, getElem?, set}
 use lib.Dec.{eqb, leb}
+use Rattle.definition.specs.Numbers.{nameInt, nameObject, operandLimit}
 use Rattle.definition.specs.Maybe.{_>>=_, need}
 use Rattle.definition.specs.Classes.{Class, Method}
 use Rattle.definition.specs.Instructions.{Instruction, AconstNull, Sipush, Iload, Aload, Istore, Astore, Pop, Dup, Iadd, Isub, Getfield, Putfield, Invokevirtual, New, Ireturn, Areturn, decode}
@@ -31,7 +32,7 @@ pub record Flow : Type 0 where
 
 -- the type that a name stands for
 unfoldable pub typeOfName : ℕ → VerifierType
-typeOfName n = elim (eqb n 1) [ true ↦ typeInt | false ↦ typeClass n ]
+typeOfName n = elim (eqb n nameInt) [ true ↦ typeInt | false ↦ typeClass n ]
 
 -- point 0: local 0 the class's own name, local 1 the argument type, the rest unset
 abbrev pub entryTypes : Class → Method → TypeState
@@ -50,7 +51,7 @@ meetInt typeNull = none
 meetInt (typeClass a) = none
 
 unfoldable pub meets : VerifierType → ℕ → Option (List Note)
-meets t b = elim (eqb b 1) [ true ↦ meetInt t | false ↦ meetClass b t ]
+meets t b = elim (eqb b nameInt) [ true ↦ meetInt t | false ↦ meetClass b t ]
 
 unfoldable pub asReference : VerifierType → Option VerifierType
 asReference typeInt = none
@@ -63,7 +64,7 @@ pop (x ∷ xs) = some (record { top = x; more = xs })
 
 -- at most 16 operands
 abbrev pub flow : List VerifierType → List (Option VerifierType) → List Note → Option Flow
-flow o l n = need (leb (length o) 16) >>= λ _. some (record { types = record { operands = o; locals = l }; notes = n })
+flow o l n = need (leb (length o) operandLimit) >>= λ _. some (record { types = record { operands = o; locals = l }; notes = n })
 
 -- the effect of an instruction that is no return; notes on the receiver before those on the value
 unfoldable pub effect : Instruction → TypeState → Option Flow
@@ -80,14 +81,14 @@ effect Dup s = pop (s .operands) >>= λ p. flow (p .top ∷ p .top ∷ p .more) 
 effect Iadd s = pop (s .operands) >>= λ p. pop (p .more) >>= λ q. meetInt (p .top) >>= λ _. meetInt (q .top) >>= λ _. flow (typeInt ∷ q .more) (s .locals) []
 effect Isub s = pop (s .operands) >>= λ p. pop (p .more) >>= λ q. meetInt (p .top) >>= λ _. meetInt (q .top) >>= λ _. flow (typeInt ∷ q .more) (s .locals) []
 effect (Getfield c f t) s =
-    need (leb 2 c && leb 1 f && leb 1 t) >>= λ _. pop (s .operands) >>= λ p. meetClass c (p .top) >>= λ a. flow (typeOfName t ∷ p .more) (s .locals) a
+    need (leb nameObject c && leb 1 f && leb 1 t) >>= λ _. pop (s .operands) >>= λ p. meetClass c (p .top) >>= λ a. flow (typeOfName t ∷ p .more) (s .locals) a
 effect (Putfield c f t) s =
-    need (leb 2 c && leb 1 f && leb 1 t) >>= λ _. pop (s .operands) >>= λ p. pop (p .more) >>= λ q.
+    need (leb nameObject c && leb 1 f && leb 1 t) >>= λ _. pop (s .operands) >>= λ p. pop (p .more) >>= λ q.
     meetClass c (q .top) >>= λ a. meets (p .top) t >>= λ b. flow (q .more) (s .locals) (a ++ b)
 effect (Invokevirtual c m t r) s =
-    need (leb 2 c && leb 1 m && leb 1 t && leb 1 r) >>= λ _. pop (s .operands) >>= λ p. pop (p .more) >>= λ q.
+    need (leb nameObject c && leb 1 m && leb 1 t && leb 1 r) >>= λ _. pop (s .operands) >>= λ p. pop (p .more) >>= λ q.
     meetClass c (q .top) >>= λ a. meets (p .top) t >>= λ b. flow (typeOfName r ∷ q .more) (s .locals) (a ++ b)
-effect (New c) s = need (leb 2 c) >>= λ _. flow (typeClass c ∷ s .operands) (s .locals) []
+effect (New c) s = need (leb nameObject c) >>= λ _. flow (typeClass c ∷ s .operands) (s .locals) []
 effect Ireturn s = none
 effect Areturn s = none
 
@@ -107,8 +108,8 @@ returns (Getfield c f t) r s = none
 returns (Putfield c f t) r s = none
 returns (Invokevirtual c m t q) r s = none
 returns (New c) r s = none
-returns Ireturn r s = need (eqb r 1) >>= λ _. pop (s .operands) >>= λ p. meetInt (p .top)
-returns Areturn r s = elim (eqb r 1) [ true ↦ none | false ↦ pop (s .operands) >>= λ p. meetClass r (p .top) ]
+returns Ireturn r s = need (eqb r nameInt) >>= λ _. pop (s .operands) >>= λ p. meetInt (p .top)
+returns Areturn r s = elim (eqb r nameInt) [ true ↦ none | false ↦ pop (s .operands) >>= λ p. meetClass r (p .top) ]
 
 unfoldable pub isReturn : Instruction → Bool
 isReturn AconstNull = false

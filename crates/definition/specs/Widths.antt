@@ -1,6 +1,7 @@
 -- The widths of cells and arguments: bytes, 16-bit numbers and 32-bit numbers.
 use mathlib.Core.List.{List, [], _∷_}
 use Prim.Native.Nat.{ℕ, _<_}
+use Rattle.definition.specs.Numbers.{byteRange, shortRange, intRange}
 use Rattle.definition.specs.Tables.{Tables}
 use Rattle.definition.specs.Calls.{Call, callBoot, callDefine, callRecord, callStart, callStep, callRun, callDrop}
 
@@ -10,21 +11,21 @@ EachBelow w [] = Unit {0}
 EachBelow w (x ∷ xs) = (x < w) × EachBelow w xs
 
 pub record Widths (t : Tables) : Type 0 where
-  pub counts : EachBelow 65536 (t .counts)
-  pub classes : EachBelow 65536 (t .classes)
-  pub kept : EachBelow 256 (t .kept)
-  pub cache : EachBelow 65536 (t .cache)
-  pub ties : EachBelow 65536 (t .ties)
-  pub subtypes : EachBelow 65536 (t .subtypes)
-  pub objects : EachBelow 4294967296 (t .objects)
-  pub frames : EachBelow 4294967296 (t .frames)
+  pub counts : EachBelow shortRange (t .counts)
+  pub classes : EachBelow shortRange (t .classes)
+  pub kept : EachBelow byteRange (t .kept)
+  pub cache : EachBelow shortRange (t .cache)
+  pub ties : EachBelow shortRange (t .ties)
+  pub subtypes : EachBelow shortRange (t .subtypes)
+  pub objects : EachBelow intRange (t .objects)
+  pub frames : EachBelow intRange (t .frames)
 
 -- a call's arguments have their widths: bytes in a file, 16-bit names, an int of 32 bits
 abbrev pub Fitting : Call → Type 0
 Fitting callBoot = Unit {0}
-Fitting (callDefine l bs) = EachBelow 256 bs
-Fitting (callRecord l n c) = n < 65536
-Fitting (callStart k l n m v) = v < 4294967296
+Fitting (callDefine l bs) = EachBelow byteRange bs
+Fitting (callRecord l n c) = n < shortRange
+Fitting (callStart k l n m v) = v < intRange
 Fitting callStep = Unit {0}
 Fitting (callRun n) = Unit {0}
 Fitting (callDrop k) = Unit {0}

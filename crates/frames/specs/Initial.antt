@@ -8,7 +8,7 @@ use lib.Dec.{eqb}
 use Rattle.definition.specs.Lists.{rows}
 use Rattle.definition.specs.Classes.{Slot}
 use Rattle.definition.specs.Instructions.{pick}
-use Rattle.definition.specs.Machine.{Value, unsetValue, intValue, nullValue, Object, initialValue}
+use Rattle.definition.specs.Machine.{Value, emptyValue, intValue, nullValue, Object, initialValue}
 use Rattle.definition.specs.Tables.{putLocal}
 
 -- a field of type t begins as 0 or null
@@ -20,9 +20,9 @@ abbrev pub initialObject : ℕ → List ℕ → ℕ → Object
 initialObject c ts n = record { class = c; values = rows (λ i. initialOf (getD ts i 0)) n 0 }
 
 -- locals 2 to 7 emptied
-unfoldable pub putUnset : ℕ → List ℕ → List ℕ
-putUnset b t =
-    putLocal b (putLocal b (putLocal b (putLocal b (putLocal b (putLocal b t 7 unsetValue) 6 unsetValue) 5 unsetValue) 4 unsetValue) 3 unsetValue) 2 unsetValue
+unfoldable pub putEmpty : ℕ → List ℕ → List ℕ
+putEmpty b t =
+    putLocal b (putLocal b (putLocal b (putLocal b (putLocal b (putLocal b t 7 emptyValue) 6 emptyValue) 5 emptyValue) 4 emptyValue) 3 emptyValue) 2 emptyValue
 
 pub initial-value : (s : Slot) → initialValue s ≡ initialOf (s .type)
 unfolding initialValue initialOf pick

@@ -5,7 +5,7 @@ ghost use lib.ListN.{getD, set};
 ghost use Rattle.definition.specs.Machine.{entryFrame};
 ghost use Rattle.definition.specs.Tables.{valueOf, valueAt, putCells, operandAt, putOperand, localAt, putLocal, fieldAt, putField, putHead, putFrame, putObject, frameBase};
 ghost use Rattle.layout.specs.Cells.{moved};
-ghost use Rattle.frames.specs.Initial.{initialOf, initialObject, putUnset};
+ghost use Rattle.frames.specs.Initial.{initialOf, initialObject, putEmpty};
 
 // A value's two cells.
 pub struct Cell {
@@ -150,8 +150,8 @@ fn write_head(frames: &mut [u32], b: u32, c: u32, j: u32)
     write_moved(frames, b, 0, 0);
 }
 
-fn write_unset(frames: &mut [u32], b: u32)
-    ensures { λ _. ⌜ now (frames .exit) ≡ putUnset b (now (frames .entry)) ⌝ }
+fn write_empty(frames: &mut [u32], b: u32)
+    ensures { λ _. ⌜ now (frames .exit) ≡ putEmpty b (now (frames .entry)) ⌝ }
 {
     write_local(frames, b, 7, 0, 0);
     write_local(frames, b, 6, 0, 0);
@@ -166,7 +166,7 @@ pub fn write_entry(frames: &mut [u32], b: u32, c: u32, j: u32, o: u32, kind: u32
     ensures { λ _. ⌜ now (frames .exit) ≡ putFrame (now (frames .entry)) b (entryFrame c j o (valueOf kind bits)) ⌝ }
 {
     write_head(frames, b, c, j);
-    write_unset(frames, b);
+    write_empty(frames, b);
     write_local(frames, b, 1, kind, bits);
     write_local(frames, b, 0, 3, o);
 }

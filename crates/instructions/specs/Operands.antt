@@ -14,7 +14,7 @@ use Rattle.definition.specs.Verifier.{pop}
 use Rattle.definition.specs.declared.Refusal.{Refusal}
 use Rattle.definition.specs.declared.Refusal.the-variants.{Word}
 use Rattle.definition.specs.Answers.{Result, refused, ok, _>>=_, need, take?}
-use Rattle.definition.specs.Machine.{Value, unsetValue, intValue, nullValue, objectValue, unlistedValue, pop!, int!, reference!, kind!, room!, under! }
+use Rattle.definition.specs.Machine.{Value, emptyValue, intValue, nullValue, objectValue, unlistedValue, pop!, int!, reference!, kind!, room!, under! }
 use Rattle.definition.specs.Tables.{valueOf, operandAt, frameAt, frameOf, frameBase, frameIn}
 use Rattle.layout.specs.Places.{rows-at, rows-past, stack-length, stack-top}
 
@@ -62,16 +62,16 @@ int-not k b h = rw (ne-eqb k 1 h) (object (eqb k 3))
     null true = refl
     null false = refl
 
-    unset : (u : Bool) → int! (pick u unsetValue (pick (eqb k 2) nullValue (unlistedValue k b))) ≡ refused (Word 14)
-    unset true = refl
-    unset false = null (eqb k 2)
+    empty : (u : Bool) → int! (pick u emptyValue (pick (eqb k 2) nullValue (unlistedValue k b))) ≡ refused (Word 14)
+    empty true = refl
+    empty false = null (eqb k 2)
 
-    bare : (u : Bool) → int! (pick u (pick (eqb k 0) unsetValue (pick (eqb k 2) nullValue (unlistedValue k b))) (unlistedValue k b)) ≡ refused (Word 14)
-    bare true = unset (eqb k 0)
+    bare : (u : Bool) → int! (pick u (pick (eqb k 0) emptyValue (pick (eqb k 2) nullValue (unlistedValue k b))) (unlistedValue k b)) ≡ refused (Word 14)
+    bare true = empty (eqb k 0)
     bare false = refl
 
     object : (u : Bool)
-        → int! (pick u (objectValue b) (pick (eqb b 0) (pick (eqb k 0) unsetValue (pick (eqb k 2) nullValue (unlistedValue k b))) (unlistedValue k b))) ≡ refused (Word 14)
+        → int! (pick u (objectValue b) (pick (eqb b 0) (pick (eqb k 0) emptyValue (pick (eqb k 2) nullValue (unlistedValue k b))) (unlistedValue k b))) ≡ refused (Word 14)
     object true = refl
     object false = bare (eqb b 0)
 
@@ -93,15 +93,15 @@ module _ (k b : ℕ) where
       null n true = refl
       null n false = refl
 
-      unset : (u : Bool) → reference! (pick u unsetValue (unlistedValue k b)) ≡ refused (Word 14)
-      unset true = refl
-      unset false = refl
+      empty : (u : Bool) → reference! (pick u emptyValue (unlistedValue k b)) ≡ refused (Word 14)
+      empty true = refl
+      empty false = refl
 
-      bare : (u : Bool) → reference! (pick u (pick (eqb k 0) unsetValue (unlistedValue k b)) (unlistedValue k b)) ≡ refused (Word 14)
-      bare true = unset (eqb k 0)
+      bare : (u : Bool) → reference! (pick u (pick (eqb k 0) emptyValue (unlistedValue k b)) (unlistedValue k b)) ≡ refused (Word 14)
+      bare true = empty (eqb k 0)
       bare false = refl
 
-      int : (u : Bool) → reference! (pick u (intValue b) (pick (eqb b 0) (pick (eqb k 0) unsetValue (unlistedValue k b)) (unlistedValue k b))) ≡ refused (Word 14)
+      int : (u : Bool) → reference! (pick u (intValue b) (pick (eqb b 0) (pick (eqb k 0) emptyValue (unlistedValue k b)) (unlistedValue k b))) ≡ refused (Word 14)
       int true = refl
       int false = bare (eqb b 0)
 

@@ -118,10 +118,10 @@ agrees-true w h = record { tied = tied′; led = led′ }
     tied′ : {a b : Request} {c d : ℕ} → find (w .base .cache) a ≡ some c → find (w .base .cache) b ≡ some d → Chain ts a b → c ≡ d
     tied′ {a} {b} {c} {d} p q k = eqb-true c d (rw (q, chain-leads ts a b k, pairAgrees) at (pair-at w ts es a b c d (row-at w a c h p) p q))
 
-    led′ : {a b : Request} {c d : ℕ} → find (w .base .cache) a ≡ some c → find (w .base .cache) b ≡ some d → Chain es a b → Below (superOf (w .base)) d c
+    led′ : {a b : Request} {c d : ℕ} → find (w .base .cache) a ≡ some c → find (w .base .cache) b ≡ some d → Chain es a b → Below (superOf (w .base)) c d
     led′ {a} {b} {c} {d} p q k = go (has b (reach ts a)) (has b (reach es a)) (chain-leads es a b k) (rw (q, pairAgrees) at (pair-at w ts es a b c d (row-at w a c h p) p q))
       where
-        go : (t s : Bool) → s ≡ true → (elim t as (λ _. Bool) [ true ↦ eqb c d | false ↦ elim s as (λ _. Bool) [ true ↦ below (superOf (w .base)) c d | false ↦ true ] ]) ≡ true → Below (superOf (w .base)) d c
+        go : (t s : Bool) → s ≡ true → (elim t as (λ _. Bool) [ true ↦ eqb c d | false ↦ elim s as (λ _. Bool) [ true ↦ below (superOf (w .base)) c d | false ↦ true ] ]) ≡ true → Below (superOf (w .base)) c d
         go true s e r = same (eqb-true c d r)
         go false true e r = below-true (superOf (w .base)) (super-falls (w .base)) c d r
         go false false e r = absurd (false≢true e)

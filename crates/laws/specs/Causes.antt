@@ -16,7 +16,7 @@ use Rattle.definition.specs.Classes.{Class, find, superOf, loaderOf, slots, has
 use Rattle.definition.specs.Constraints.{Tie, World, agrees, newTie, agreesAfter}
 use Rattle.definition.specs.Instructions.{decode}
 use Rattle.definition.specs.Verifier.{Note, notesOf}
-use Rattle.definition.specs.Machine.{Value, unsetValue, intValue, nullValue, objectValue, unlistedValue, Object, Frame, Now, existing}
+use Rattle.definition.specs.Machine.{Value, emptyValue, intValue, nullValue, objectValue, unlistedValue, Object, Frame, Now, existing}
 use Rattle.definition.specs.Loading.{newSubtypes, overrideTies, hides, withClass, withEntry}
 use Rattle.definition.specs.File.{File, readFile, classOf}
 use Rattle.definition.specs.Tables.{Tables, shaped, Rows, worldOf, view}
@@ -101,21 +101,21 @@ startCauses k l n m r =
 -- step: unreadable 14, 5 7 10 9, other 14, 11
 
 abbrev pub anInt : Value → Bool
-anInt unsetValue = false
+anInt emptyValue = false
 anInt (intValue n) = true
 anInt nullValue = false
 anInt (objectValue o) = false
 anInt (unlistedValue k b) = false
 
 abbrev pub aNull : Value → Bool
-aNull unsetValue = false
+aNull emptyValue = false
 aNull (intValue n) = false
 aNull nullValue = true
 aNull (objectValue o) = false
 aNull (unlistedValue k b) = false
 
 abbrev pub aReference : Value → Bool
-aReference unsetValue = false
+aReference emptyValue = false
 aReference (intValue n) = false
 aReference nullValue = true
 aReference (objectValue o) = true
@@ -146,7 +146,7 @@ noRoomBelow (g ∷ gs) = noRoom (g .operands)
 module _ (w : World) (os : List Object) where
   -- null, or an object whose class is e or below it
   abbrev pub receives : ℕ → Value → Bool
-  receives e unsetValue = false
+  receives e emptyValue = false
   receives e (intValue n) = false
   receives e nullValue = true
   receives e (objectValue o) = isSomeAnd (existing os o) (λ b. below (superOf (w .base)) (b .class) e)
@@ -154,7 +154,7 @@ module _ (w : World) (os : List Object) where
 
   -- null, or an object from whose class a method is selected
   abbrev pub selects : ℕ → ℕ → ℕ → Value → Bool
-  selects n t r unsetValue = false
+  selects n t r emptyValue = false
   selects n t r (intValue m) = false
   selects n t r nullValue = true
   selects n t r (objectValue o) = isSomeAnd (existing os o) (λ b. isSome (nearest (superOf (w .base)) (hasMethod (w .base) n t r) (b .class)))

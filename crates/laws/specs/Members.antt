@@ -22,7 +22,7 @@ pub record FieldPlace (b : Base) (c d n t : ℕ) : Type 0 where
   pub owner : slot .owner ≡ d
   pub type : slot .type ≡ t
 
-pub field-place : (b : Base) (c d n t : ℕ) → hasField b n t d ≡ true → Below (superOf b) d c → FieldPlace b c d n t
+pub field-place : (b : Base) (c d n t : ℕ) → hasField b n t d ≡ true → Below (superOf b) c d → FieldPlace b c d n t
 unfolding hasField slotIs
 field-place b c d n t h bl =
     let so = slots-own b d in

@@ -18,7 +18,7 @@ use Rattle.definition.specs.Classes.{Base, Class, find}
 use Rattle.definition.specs.Constraints.{Tie, World, agrees, post}
 use Rattle.definition.specs.File.{File, readFile}
 use Rattle.definition.specs.Instructions.{Decoded}
-use Rattle.definition.specs.Machine.{Value, unsetValue, intValue, nullValue, objectValue, unlistedValue, Object, Frame, Now, pop!, int!, reference!, kind!, room!, object!, now, under!, give, execute, step}
+use Rattle.definition.specs.Machine.{Value, emptyValue, intValue, nullValue, objectValue, unlistedValue, Object, Frame, Now, pop!, int!, reference!, kind!, room!, object!, now, under!, give, execute, step}
 use Rattle.definition.specs.Loading.{define, recorded, started, withEntry}
 use Rattle.definition.specs.Tables.{Rows, worldOf}
 use Rattle.definition.specs.Calls.{stepRefusals, refusalsOf, Call, callBoot, callDefine, callRecord, callStart, callStep, callRun, callDrop, defineRows, recordRows, startRows, dropRows, stepTask, stepOn, stepRows}
@@ -68,7 +68,7 @@ module _ (P : Refusal → Type 0) where
 module _ (P : Refusal → Type 0) (stuck : P (Word 14)) (full : P (Word 10)) (clash : P (Word 9)) (absent : P (Word 7)) (null : P (Word 11)) where
   int-refuses : (v : Value) → Refuses P (int! v)
   unfolding int!
-  int-refuses unsetValue = stuck
+  int-refuses emptyValue = stuck
   int-refuses (intValue n) = tt
   int-refuses nullValue = stuck
   int-refuses (objectValue o) = stuck
@@ -76,7 +76,7 @@ module _ (P : Refusal → Type 0) (stuck : P (Word 14)) (full : P (Word 10)) (cl
 
   reference-refuses : (v : Value) → Refuses P (reference! v)
   unfolding reference!
-  reference-refuses unsetValue = stuck
+  reference-refuses emptyValue = stuck
   reference-refuses (intValue n) = stuck
   reference-refuses nullValue = tt
   reference-refuses (objectValue o) = tt
@@ -92,7 +92,7 @@ module _ (P : Refusal → Type 0) (stuck : P (Word 14)) (full : P (Word 10)) (cl
 
   object-refuses : (w : Base) (os : List Object) (e : ℕ) (v : Value) → Refuses P (object! w os e v)
   unfolding object!
-  object-refuses w os e unsetValue = stuck
+  object-refuses w os e emptyValue = stuck
   object-refuses w os e (intValue n) = stuck
   object-refuses w os e nullValue = null
   object-refuses w os e (objectValue o) = on-take P _ _ _ (λ _. stuck) (λ _ _. on-need P _ _ _ stuck (λ _. tt))

@@ -54,6 +54,6 @@ module _ (b : Base) where
       go (some p) e = (slots b p, slots-up c p e)
 
   -- an object of a class below d has d's fields where d has them
-  pub slots-below : {c d : ℕ} → Below (superOf b) d c → (i : ℕ) (s : Slot) → getElem? (slots b d) i ≡ some s → getElem? (slots b c) i ≡ some s
+  pub slots-below : {c d : ℕ} → Below (superOf b) c d → (i : ℕ) (s : Slot) → getElem? (slots b d) i ≡ some s → getElem? (slots b c) i ≡ some s
   slots-below (same q) i s h = rw q h
   slots-below (up {c} {p} e z) i s h = rw (slots-up c p e) (nth-more (slots b p) (ownSlots b c) i s (slots-below z i s h))

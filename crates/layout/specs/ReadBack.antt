@@ -12,13 +12,13 @@ use borrow.Author.Tests.{eqb-true, eq-eqb}
 use Rattle.definition.specs.Lists.{rows, writeRows, stack, writeStack}
 use Rattle.definition.specs.Maybe.{_>>=_, need}
 use Rattle.definition.specs.Classes.{Base, Entry, slots, slotsIn, ownSlots}
-use Rattle.definition.specs.Machine.{Value, unsetValue, intValue, nullValue, objectValue, unlistedValue, Object, Frame}
+use Rattle.definition.specs.Machine.{Value, emptyValue, intValue, nullValue, objectValue, unlistedValue, Object, Frame}
 use Rattle.definition.specs.File.{File, byte, readFile, objectClass}
 use Rattle.definition.specs.Tables.{Tables, shaped, ClassRow, Rows, fileAt, classAt, baseOf, worldOf, sizeOf, classRowAt, putClassRow, entryAt, putEntry, tieAt, putTie, subtypeAt, putSubtype, objectAt, putObject, operandAt, frameOf, frameAt, putFrame, frameBase, frameIn, putFrameIn, viewBase, objectsOf, framesOf, viewOver, view, countsOf, put}
 use Rattle.layout.specs.Tests.{All, From, every-true, true-every, all-more}
 use Rattle.layout.specs.Places.{rows-take, stack-length, stack-cong, all-stack, writeRows-length, writeStack-length, writeStack-keeps, rows-written, stack-written}
 use Rattle.layout.specs.Rows.{rows-back, class-rows, entry-rows, tie-rows, subtype-rows, cell-rows}
-use Rattle.layout.specs.Values.{Proper, proper-unset, proper-int, proper-null, proper-object, unread-cell}
+use Rattle.layout.specs.Values.{Proper, proper-empty, proper-int, proper-null, proper-object, unread-cell}
 use Rattle.layout.specs.ObjectRows.{used-all, putObject-length, object-other, object-back}
 use Rattle.layout.specs.FrameRows.{frame-cells, putFrame-length, FrameProper, unread-row, frame-back}
 use Rattle.layout.specs.Whole.{Local, ValueSound, ObjectSound, Framed, First, ClassSound, Classes, Whole}
@@ -119,14 +119,14 @@ size-small es bs (k ∷ ks) h (suc c) l = let e : suc c ≡ 1 + c = omega arith 
 -- Values that are listed
 
 pub value-proper : (m : ℕ) (v : Value) → ValueSound m v → Proper v
-value-proper m unsetValue h = absurd h
+value-proper m emptyValue h = absurd h
 value-proper m (intValue n) h = proper-int n
 value-proper m nullValue h = proper-null
 value-proper m (objectValue o) h = proper-object o
 value-proper m (unlistedValue k b) h = absurd h
 
 pub local-proper : (m : ℕ) (v : Value) → Local m v → Proper v
-local-proper m unsetValue h = proper-unset
+local-proper m emptyValue h = proper-empty
 local-proper m (intValue n) h = proper-int n
 local-proper m nullValue h = proper-null
 local-proper m (objectValue o) h = proper-object o

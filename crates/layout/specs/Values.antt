@@ -11,7 +11,7 @@ use lib.Dec.{eqb}
 use borrow.Author.Tests.{eqb-true}
 use Rattle.definition.specs.Lists.{rows, writeRows, stack, writeStack}
 use Rattle.definition.specs.Instructions.{pick}
-use Rattle.definition.specs.Machine.{Value, unsetValue, intValue, nullValue, objectValue, unlistedValue}
+use Rattle.definition.specs.Machine.{Value, emptyValue, intValue, nullValue, objectValue, unlistedValue}
 use Rattle.definition.specs.Tables.{valueOf, kindOf, bitsOf, valueAt, putCells, putValue}
 use Rattle.layout.specs.Tests.{All}
 use Rattle.layout.specs.Places.{writeRows-replace, rows-written, stack-written}
@@ -26,22 +26,22 @@ kind-value k b = one (eqb k 1) refl
     null true e = sym (eqb-true k 2 e)
     null false e = refl
 
-    unset : (u : Bool) → eqb k 0 ≡ u → kindOf (pick u unsetValue (pick (eqb k 2) nullValue (unlistedValue k b))) ≡ k
-    unset true e = sym (eqb-true k 0 e)
-    unset false e = null (eqb k 2) refl
+    empty : (u : Bool) → eqb k 0 ≡ u → kindOf (pick u emptyValue (pick (eqb k 2) nullValue (unlistedValue k b))) ≡ k
+    empty true e = sym (eqb-true k 0 e)
+    empty false e = null (eqb k 2) refl
 
-    bare : (u : Bool) → kindOf (pick u (pick (eqb k 0) unsetValue (pick (eqb k 2) nullValue (unlistedValue k b))) (unlistedValue k b)) ≡ k
-    bare true = unset (eqb k 0) refl
+    bare : (u : Bool) → kindOf (pick u (pick (eqb k 0) emptyValue (pick (eqb k 2) nullValue (unlistedValue k b))) (unlistedValue k b)) ≡ k
+    bare true = empty (eqb k 0) refl
     bare false = refl
 
     three : (u : Bool) → eqb k 3 ≡ u
-        → kindOf (pick u (objectValue b) (pick (eqb b 0) (pick (eqb k 0) unsetValue (pick (eqb k 2) nullValue (unlistedValue k b))) (unlistedValue k b))) ≡ k
+        → kindOf (pick u (objectValue b) (pick (eqb b 0) (pick (eqb k 0) emptyValue (pick (eqb k 2) nullValue (unlistedValue k b))) (unlistedValue k b))) ≡ k
     three true e = sym (eqb-true k 3 e)
     three false e = bare (eqb b 0)
 
     one : (u : Bool) → eqb k 1 ≡ u
         → kindOf (pick u (intValue b) (pick (eqb k 3) (objectValue b)
-        (pick (eqb b 0) (pick (eqb k 0) unsetValue (pick (eqb k 2) nullValue (unlistedValue k b))) (unlistedValue k b)))) ≡ k
+        (pick (eqb b 0) (pick (eqb k 0) emptyValue (pick (eqb k 2) nullValue (unlistedValue k b))) (unlistedValue k b)))) ≡ k
     one true e = sym (eqb-true k 1 e)
     one false e = three (eqb k 3) refl
 
@@ -53,22 +53,22 @@ bits-value k b = one (eqb k 1)
     null true e = sym e
     null false e = refl
 
-    unset : (u : Bool) → b ≡ 0 → bitsOf (pick u unsetValue (pick (eqb k 2) nullValue (unlistedValue k b))) ≡ b
-    unset true e = sym e
-    unset false e = null (eqb k 2) e
+    empty : (u : Bool) → b ≡ 0 → bitsOf (pick u emptyValue (pick (eqb k 2) nullValue (unlistedValue k b))) ≡ b
+    empty true e = sym e
+    empty false e = null (eqb k 2) e
 
-    bare : (u : Bool) → eqb b 0 ≡ u → bitsOf (pick u (pick (eqb k 0) unsetValue (pick (eqb k 2) nullValue (unlistedValue k b))) (unlistedValue k b)) ≡ b
-    bare true e = unset (eqb k 0) (eqb-true b 0 e)
+    bare : (u : Bool) → eqb b 0 ≡ u → bitsOf (pick u (pick (eqb k 0) emptyValue (pick (eqb k 2) nullValue (unlistedValue k b))) (unlistedValue k b)) ≡ b
+    bare true e = empty (eqb k 0) (eqb-true b 0 e)
     bare false e = refl
 
     three : (u : Bool)
-        → bitsOf (pick u (objectValue b) (pick (eqb b 0) (pick (eqb k 0) unsetValue (pick (eqb k 2) nullValue (unlistedValue k b))) (unlistedValue k b))) ≡ b
+        → bitsOf (pick u (objectValue b) (pick (eqb b 0) (pick (eqb k 0) emptyValue (pick (eqb k 2) nullValue (unlistedValue k b))) (unlistedValue k b))) ≡ b
     three true = refl
     three false = bare (eqb b 0) refl
 
     one : (u : Bool)
         → bitsOf (pick u (intValue b) (pick (eqb k 3) (objectValue b)
-        (pick (eqb b 0) (pick (eqb k 0) unsetValue (pick (eqb k 2) nullValue (unlistedValue k b))) (unlistedValue k b)))) ≡ b
+        (pick (eqb b 0) (pick (eqb k 0) emptyValue (pick (eqb k 2) nullValue (unlistedValue k b))) (unlistedValue k b)))) ≡ b
     one true = refl
     one false = three (eqb k 3)
 
@@ -76,9 +76,9 @@ bits-value k b = one (eqb k 1)
 abbrev pub Proper : Value → Type 0
 Proper v = valueOf (kindOf v) (bitsOf v) ≡ v
 
-pub proper-unset : Proper unsetValue
+pub proper-empty : Proper emptyValue
 unfolding valueOf kindOf bitsOf pick
-proper-unset = refl
+proper-empty = refl
 
 pub proper-int : (n : ℕ) → Proper (intValue n)
 unfolding valueOf kindOf bitsOf pick

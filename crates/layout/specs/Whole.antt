@@ -10,7 +10,7 @@ use borrow.Author.Tests.{eqb-true, eq-eqb, leb-true, le-leb, ltb-true, lt-ltb}
 use Rattle.definition.specs.Lists.{isSome}
 use Rattle.definition.specs.Classes.{Base, Entry, superOf}
 use Rattle.definition.specs.Constraints.{Tie, Subtype}
-use Rattle.definition.specs.Machine.{Value, unsetValue, intValue, nullValue, objectValue, unlistedValue, Object, Frame, existing}
+use Rattle.definition.specs.Machine.{Value, emptyValue, intValue, nullValue, objectValue, unlistedValue, Object, Frame, existing}
 use Rattle.definition.specs.File.{File}
 use Rattle.definition.specs.Tables.{ClassRow, Rows, fileAt, sizeOf, worldOf}
 use Rattle.definition.specs.Broken.{isObject, classFits, classesFit, entryFits, tieFits, subtypeFits, valueFits, localFits, objectFits, frameFits, sound}
@@ -21,7 +21,7 @@ use Rattle.layout.specs.Tests.{all-all, all-test, all-more, from-all, al
 
 -- a local: alone it may be empty
 abbrev pub Local : ℕ → Value → Type 0
-Local m unsetValue = Unit {0}
+Local m emptyValue = Unit {0}
 Local m (intValue n) = Unit {0}
 Local m nullValue = Unit {0}
 Local m (objectValue o) = o < m
@@ -29,7 +29,7 @@ Local m (unlistedValue k b) = ⊥
 
 -- a field or an operand
 abbrev pub ValueSound : ℕ → Value → Type 0
-ValueSound m unsetValue = ⊥
+ValueSound m emptyValue = ⊥
 ValueSound m (intValue n) = Unit {0}
 ValueSound m nullValue = Unit {0}
 ValueSound m (objectValue o) = o < m
@@ -145,7 +145,7 @@ some-existing (x ∷ os) (suc o) h = let l = some-existing os o h in omega arith
 module _ (os : List Object) where
   pub local-fits : (v : Value) → Local (length os) v → localFits os v ≡ true
   unfolding localFits
-  local-fits unsetValue h = refl
+  local-fits emptyValue h = refl
   local-fits (intValue n) h = refl
   local-fits nullValue h = refl
   local-fits (objectValue o) h = existing-some os o h
@@ -153,7 +153,7 @@ module _ (os : List Object) where
 
   pub fits-local : (v : Value) → localFits os v ≡ true → Local (length os) v
   unfolding localFits
-  fits-local unsetValue h = tt
+  fits-local emptyValue h = tt
   fits-local (intValue n) h = tt
   fits-local nullValue h = tt
   fits-local (objectValue o) h = some-existing os o h
@@ -161,7 +161,7 @@ module _ (os : List Object) where
 
   pub value-fits : (v : Value) → ValueSound (length os) v → valueFits os v ≡ true
   unfolding valueFits
-  value-fits unsetValue h = absurd h
+  value-fits emptyValue h = absurd h
   value-fits (intValue n) h = refl
   value-fits nullValue h = refl
   value-fits (objectValue o) h = existing-some os o h
@@ -169,7 +169,7 @@ module _ (os : List Object) where
 
   pub fits-value : (v : Value) → valueFits os v ≡ true → ValueSound (length os) v
   unfolding valueFits
-  fits-value unsetValue h = absurd (false≢true h)
+  fits-value emptyValue h = absurd (false≢true h)
   fits-value (intValue n) h = tt
   fits-value nullValue h = tt
   fits-value (objectValue o) h = some-existing os o h

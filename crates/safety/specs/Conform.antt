@@ -18,14 +18,14 @@ pub record Fits (w : World) (c : ℕ) (r : Request) : Type 0 where
   pub via : Request
   pub class : ℕ
   pub cached : find (w .base .cache) via ≡ some class
-  pub under : Below (superOf (w .base)) class c
+  pub under : Below (superOf (w .base)) c class
   pub leads : Chain (edges w) via r
 
 -- Lemma 12 of the loading paper
-pub fits-below : {w : World} {c d : ℕ} {r : Request} → Agrees w → Fits w c r → find (w .base .cache) r ≡ some d → Below (superOf (w .base)) d c
+pub fits-below : {w : World} {c d : ℕ} {r : Request} → Agrees w → Fits w c r → find (w .base .cache) r ≡ some d → Below (superOf (w .base)) c d
 fits-below g f h = below-trans (f .under) (g .led (f .cached) h (f .leads))
 
-pub fits-own : {w : World} {c d : ℕ} {r : Request} → find (w .base .cache) r ≡ some d → Below (superOf (w .base)) d c → Fits w c r
+pub fits-own : {w : World} {c d : ℕ} {r : Request} → find (w .base .cache) r ≡ some d → Below (superOf (w .base)) c d → Fits w c r
 fits-own {w} {c} {d} {r} h b = record { via = r; class = d; cached = h; under = b; leads = stay refl }
 
 pub fits-on : {w : World} {c : ℕ} {r s : Request} → Fits w c r → Chain (edges w) r s → Fits w c s
@@ -60,14 +60,14 @@ fits-tied {w} f k = fits-on f (tied-leads w k)
 
 pub override : (w : World) (R : ℕ → Request) (test : ℕ → Bool) {c d e f : ℕ}
     → ((x p y : ℕ) → test x ≡ true → superOf (w .base) x ≡ some p → nearest (superOf (w .base)) test p ≡ some y → Tied w (R x) (R y))
-    → Below (superOf (w .base)) d c → nearest (superOf (w .base)) test c ≡ some e → nearest (superOf (w .base)) test d ≡ some f → Tied w (R e) (R f)
+    → Below (superOf (w .base)) c d → nearest (superOf (w .base)) test c ≡ some e → nearest (superOf (w .base)) test d ≡ some f → Tied w (R e) (R f)
 override w R test {c} {d} {e} {f} ties (same q) he hf = stay (ap R (Option·some-injective e f (sym he ∙ rw (sym q) at hf)))
 override w R test {c} {d} {e} {f} ties (up {p} s b) he hf = go (test c) refl (λ y hy. override w R test ties b hy hf)
   where
     sup : ℕ → Option ℕ
     sup = superOf (w .base)
 
-    found : (y : ℕ) × (nearest sup test p ≡ some y) × Below sup f y
+    found : (y : ℕ) × (nearest sup test p ≡ some y) × Below sup y f
     found = let r = nearest-below sup (super-falls (w .base)) test d f hf in nearest-finds sup (super-falls (w .base)) test (below-trans b (r .0)) (r .1)
 
     go : (t : Bool) → test c ≡ t → ((y : ℕ) → nearest sup test p ≡ some y → Tied w (R y) (R f)) → Tied w (R e) (R f)
@@ -79,7 +79,7 @@ override w R test {c} {d} {e} {f} ties (up {p} s b) he hf = go (test c) refl (λ
 -- Lemma 8 of the loading paper: what is found from a class is found from each class below it, if no class that passes has one above it that passes
 pub unhidden : (sup : ℕ → Option ℕ) → Falls sup → (test : ℕ → Bool) {c d f : ℕ}
     → ((x p y : ℕ) → test x ≡ true → sup x ≡ some p → nearest sup test p ≡ some y → ⊥)
-    → Below sup d c → nearest sup test d ≡ some f → nearest sup test c ≡ some f
+    → Below sup c d → nearest sup test d ≡ some f → nearest sup test c ≡ some f
 unhidden sup falls test {c} {d} {f} alone (same q) h = rw q h
 unhidden sup falls test {c} {d} {f} alone (up {p} s b) h = go (test c) refl (unhidden sup falls test alone b h)
   where

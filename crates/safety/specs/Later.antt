@@ -112,7 +112,7 @@ heap-grows v w lk gr os hp z o b e =
     }
 
 -- a frame that enters a method: its object, of the method's class or below, and its argument
-pub entered-top : (w : World) (os : List Object) → Linked w → (s n t r : ℕ) (ma : MethodAt (w .base) s n t r) (o : ℕ) (b : Object) → getElem? os o ≡ some b → Below (superOf (w .base)) s (b .class)
+pub entered-top : (w : World) (os : List Object) → Linked w → (s n t r : ℕ) (ma : MethodAt (w .base) s n t r) (o : ℕ) (b : Object) → getElem? os o ≡ some b → Below (superOf (w .base)) (b .class) s
     → (v : Value) → Conforms w os (loaderOf (w .base) s) (typeOfName t) v → Top w os (entryFrame s (ma .place) o v) (ma .theClass) (ma .method)
 entered-top w os lk s n t r ma o b th bl v cv =
     let ve = lk .verified s (ma .place) (ma .theClass) (ma .method) (ma .isClass) (ma .isMethod) in

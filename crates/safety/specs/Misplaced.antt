@@ -7,7 +7,7 @@ use Prim.Native.Nat.{ℕ, suc, _<_}
 use lib.ListN.{length, getElem?}
 use Rattle.definition.specs.Classes.{Class, Method, find, loaderOf, slots, superOf}
 use Rattle.definition.specs.Constraints.{Agrees, World}
-use Rattle.definition.specs.Machine.{Frame, Object, Value, intValue, nullValue, objectValue, unsetValue, unlistedValue, existing}
+use Rattle.definition.specs.Machine.{Frame, Object, Value, intValue, nullValue, objectValue, emptyValue, unlistedValue, existing}
 use Rattle.definition.specs.Misplaced.{failures, misplacedFields, misplacedInFrame, misplacedInFrames, placed, placedLocal, typesOf, waitingTypes, misplacedIn}
 use Rattle.definition.specs.Requests.{at}
 use Rattle.definition.specs.Superclasses.{below}
@@ -31,17 +31,17 @@ use lib.Dec.{ltb}
 
 conforms-placed : (w : World) (os : List Object) → Agrees w → (l : ℕ) (t : VerifierType) (v : Value) → Conforms w os l t v → placed w os l t v ≡ true
 unfolding placed existing
-conforms-placed w os g l typeInt unsetValue h = absurd h
+conforms-placed w os g l typeInt emptyValue h = absurd h
 conforms-placed w os g l typeInt (unlistedValue α β) h = absurd h
 conforms-placed w os g l typeInt (intValue n) h = refl
 conforms-placed w os g l typeInt nullValue h = absurd h
 conforms-placed w os g l typeInt (objectValue o) h = absurd h
-conforms-placed w os g l typeNull unsetValue h = absurd h
+conforms-placed w os g l typeNull emptyValue h = absurd h
 conforms-placed w os g l typeNull (unlistedValue α β) h = absurd h
 conforms-placed w os g l typeNull (intValue n) h = absurd h
 conforms-placed w os g l typeNull nullValue h = refl
 conforms-placed w os g l typeNull (objectValue o) h = absurd h
-conforms-placed w os g l (typeClass n) unsetValue h = absurd h
+conforms-placed w os g l (typeClass n) emptyValue h = absurd h
 conforms-placed w os g l (typeClass n) (unlistedValue α β) h = absurd h
 conforms-placed w os g l (typeClass n) (intValue m) h = absurd h
 conforms-placed w os g l (typeClass n) nullValue h = refl

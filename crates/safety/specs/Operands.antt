@@ -11,7 +11,7 @@ use lib.Dec.{eqb}
 use Rattle.definition.specs.Answers.{Result, _>>=_, ok, take?}
 use Rattle.definition.specs.Classes.{find, hasField, loaderOf, slots, superOf}
 use Rattle.definition.specs.Constraints.{Agrees, Tie, World, newTie, post, posted, tieEdges}
-use Rattle.definition.specs.Machine.{Object, Value, int!, intValue, kind!, nullValue, object!, objectValue, pop!, reference!, room!, unsetValue, unlistedValue, existing}
+use Rattle.definition.specs.Machine.{Object, Value, int!, intValue, kind!, nullValue, object!, objectValue, pop!, reference!, room!, emptyValue, unlistedValue, existing}
 use Rattle.definition.specs.Requests.{Chain, at}
 use Rattle.definition.specs.Superclasses.{Below}
 use Rattle.definition.specs.Verifier.{Flow, Note, VerifierType, asReference, flow, meetInt, pop, typeClass, typeInt, typeNull, typeOfName}
@@ -44,7 +44,7 @@ each-pop R (x ∷ xs) (v ∷ vs) t us e h =
 
 pub int-of : (w : World) (os : List Object) (l : ℕ) (t : VerifierType) (v : Value) {ns : List Note} → meetInt t ≡ some ns → Conforms w os l t v → (n : ℕ) × (int! v ≡ ok n) × Conforms w os l typeInt v
 unfolding meetInt int!
-int-of w os l typeInt unsetValue e h = absurd h
+int-of w os l typeInt emptyValue e h = absurd h
 int-of w os l typeInt (unlistedValue α β) e h = absurd h
 int-of w os l typeInt (intValue n) e h = (n, refl, tt)
 int-of w os l typeInt nullValue e h = absurd h
@@ -55,12 +55,12 @@ int-of w os l (typeClass a) v {ns} e h = absurd (Option·none-ne-some ns e)
 pub ref-of : (w : World) (os : List Object) (l : ℕ) (t : VerifierType) (v : Value) {u : VerifierType} → asReference t ≡ some u → Conforms w os l t v → reference! v ≡ ok v
 unfolding asReference reference!
 ref-of w os l typeInt v {u} e h = absurd (Option·none-ne-some u e)
-ref-of w os l typeNull unsetValue e h = absurd h
+ref-of w os l typeNull emptyValue e h = absurd h
 ref-of w os l typeNull (unlistedValue α β) e h = absurd h
 ref-of w os l typeNull (intValue n) e h = absurd h
 ref-of w os l typeNull nullValue e h = refl
 ref-of w os l typeNull (objectValue o) e h = refl
-ref-of w os l (typeClass a) unsetValue e h = absurd h
+ref-of w os l (typeClass a) emptyValue e h = absurd h
 ref-of w os l (typeClass a) (unlistedValue α β) e h = absurd h
 ref-of w os l (typeClass a) (intValue n) e h = absurd h
 ref-of w os l (typeClass a) nullValue e h = refl
@@ -77,12 +77,12 @@ unfolding kind! typeOfName int! reference! _>>=_
 kind-of w os l t v h = go (eqb t 1) v h
   where
     go : (z : Bool) (v : Value) → Conforms w os l (elim z as (λ _. VerifierType) [ true ↦ typeInt | false ↦ typeClass t ]) v → (elim z as (λ _. Result (Unit {0})) [ true ↦ int! v >>= λ _. ok tt | false ↦ reference! v >>= λ _. ok tt ]) ≡ ok tt
-    go true unsetValue h = absurd h
+    go true emptyValue h = absurd h
     go true (unlistedValue α β) h = absurd h
     go true (intValue n) h = refl
     go true nullValue h = absurd h
     go true (objectValue o) h = absurd h
-    go false unsetValue h = absurd h
+    go false emptyValue h = absurd h
     go false (unlistedValue α β) h = absurd h
     go false (intValue n) h = absurd h
     go false nullValue h = refl
@@ -100,9 +100,9 @@ wp-post w room us Q g h = wp-need Q _ _ _ (not-word 10 (omega arith)) (λ _. wp-
 
 -- the object behind a receiver
 pub wp-object : (w : World) (os : List Object) (l c e : ℕ) (v : Value) (Q : record { number : ℕ; object : Object } → Type 0) → Agrees w → find (w .base .cache) (at l c) ≡ some e → Conforms w os l (typeClass c) v
-    → ((o : ℕ) (b : Object) → getElem? os o ≡ some b → Below (superOf (w .base)) e (b .class) → v ≡ objectValue o → Q (record { number = o; object = b })) → Wp (object! (w .base) os e v) Q
+    → ((o : ℕ) (b : Object) → getElem? os o ≡ some b → Below (superOf (w .base)) (b .class) e → v ≡ objectValue o → Q (record { number = o; object = b })) → Wp (object! (w .base) os e v) Q
 unfolding object! existing
-wp-object w os l c e unsetValue Q g f h q = absurd h
+wp-object w os l c e emptyValue Q g f h q = absurd h
 wp-object w os l c e (unlistedValue α β) Q g f h q = absurd h
 wp-object w os l c e (intValue n) Q g f h q = absurd h
 wp-object w os l c e nullValue Q g f h q = not-word 11 (omega arith)
@@ -117,7 +117,7 @@ pub record FieldAt (w : World) (os : List Object) (b : Object) (d n t : ℕ) : T
   pub there : getElem? (b .values) (field .place) ≡ some value
   pub conforms : Conforms w os (loaderOf (w .base) d) (typeOfName t) value
 
-pub field-at : (w : World) (os : List Object) (b : Object) (d n t : ℕ) → hasField (w .base) n t d ≡ true → Below (superOf (w .base)) d (b .class) → ObjectSound w os b → FieldAt w os b d n t
+pub field-at : (w : World) (os : List Object) (b : Object) (d n t : ℕ) → hasField (w .base) n t d ≡ true → Below (superOf (w .base)) (b .class) d → ObjectSound w os b → FieldAt w os b d n t
 field-at w os b d n t h bl ob =
     let p = field-place (w .base) (b .class) d n t h bl in
     let x = each-at (λ s v. Conforms w os (loaderOf (w .base) (s .owner)) (typeOfName (s .type)) v) (slots (w .base) (b .class)) (b .values) (ob .filled) (p .place) (p .slot) (p .isSlot) in

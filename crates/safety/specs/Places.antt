@@ -9,7 +9,7 @@ use lib.Dec.{eqb}
 use borrow.Author.Tests.{eqb-true, eqb-false, ne-eqb}
 use Rattle.definition.specs.Constraints.{Agrees, Tie, World, agreesAfter, edges, newTie, posted, subtypeEdges, tieEdges, tieIs}
 use Rattle.definition.specs.Lists.{any}
-use Rattle.definition.specs.Machine.{Object, Value, intValue, nullValue, objectValue, unsetValue, unlistedValue}
+use Rattle.definition.specs.Machine.{Object, Value, intValue, nullValue, objectValue, emptyValue, unlistedValue}
 use Rattle.definition.specs.Requests.{Chain, Edge, at, hop, stay}
 use Rattle.definition.specs.Verifier.{Note, VerifierType, meetClass, meetInt, meets, typeClass, typeInt, typeNull, typeOfName}
 use Rattle.laws.specs.Agreement.{agrees-true}
@@ -28,12 +28,12 @@ note-edge w e m = Memᴰ·append-right (tieEdges (w .ties)) m
 pub meet-class : (w : World) (os : List Object) (l b : ℕ) (t : VerifierType) (v : Value) (ns : List Note) → meetClass b t ≡ some ns → Noted w l ns → Conforms w os l t v → Conforms w os l (typeClass b) v
 unfolding meetClass
 meet-class w os l b typeInt v ns e p h = absurd (Option·none-ne-some ns e)
-meet-class w os l b typeNull unsetValue ns e p h = h
+meet-class w os l b typeNull emptyValue ns e p h = h
 meet-class w os l b typeNull (unlistedValue α β) ns e p h = h
 meet-class w os l b typeNull (intValue n) ns e p h = h
 meet-class w os l b typeNull nullValue ns e p h = h
 meet-class w os l b typeNull (objectValue n) ns e p h = absurd h
-meet-class w os l b (typeClass a) unsetValue ns e p h = h
+meet-class w os l b (typeClass a) emptyValue ns e p h = h
 meet-class w os l b (typeClass a) (unlistedValue α β) ns e p h = h
 meet-class w os l b (typeClass a) (intValue n) ns e p h = h
 meet-class w os l b (typeClass a) nullValue ns e p h = h
@@ -68,12 +68,12 @@ unfolding typeOfName
 carry w os l m n v t h = go (eqb n 1) refl v h
   where
     go : (z : Bool) → eqb n 1 ≡ z → (v : Value) → Conforms w os l (elim z as (λ _. VerifierType) [ true ↦ typeInt | false ↦ typeClass n ]) v → Conforms w os m (elim z as (λ _. VerifierType) [ true ↦ typeInt | false ↦ typeClass n ]) v
-    go true e unsetValue h = h
+    go true e emptyValue h = h
     go true e (unlistedValue α β) h = h
     go true e (intValue x) h = h
     go true e nullValue h = h
     go true e (objectValue o) h = h
-    go false e unsetValue h = h
+    go false e emptyValue h = h
     go false e (unlistedValue α β) h = h
     go false e (intValue x) h = h
     go false e nullValue h = h

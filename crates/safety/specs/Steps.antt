@@ -257,7 +257,7 @@ module _ (w : World) (os : List Object) (f : Frame) (fs : List Frame) (k : Class
         (each-more (later-local z (k .loader)) (tp .τ .locals) (f .locals) (tp .locals))))
 
     -- a frame is entered, and this one waits
-    enter : (u : World) → Later w os u os → Linked u → Heap u os → (s n t r : ℕ) (ma : MethodAt (u .base) s n t r) (o : ℕ) (z : Object) → getElem? os o ≡ some z → Below (superOf (u .base)) s (z .class)
+    enter : (u : World) → Later w os u os → Linked u → Heap u os → (s n t r : ℕ) (ma : MethodAt (u .base) s n t r) (o : ℕ) (z : Object) → getElem? os o ≡ some z → Below (superOf (u .base)) (z .class) s
         → (v : Value) → Conforms u os (loaderOf (u .base) s) (typeOfName t) v → (r ≢ 1 → Tied u (at (loaderOf (u .base) s) r) (at (k .loader) r))
         → (ts : List VerifierType) (ns : List Note) → flow (typeOfName r ∷ ts) (tp .τ .locals) ns ≡ some fl → (vs : List Value) → Each (Conforms w os (k .loader)) ts vs
         → Kept w os (record { world = u; objects = os; frames = entryFrame s (ma .place) o v ∷ past f i vs (f .locals) ∷ fs; result = none })
@@ -307,8 +307,8 @@ module _ (w : World) (os : List Object) (f : Frame) (fs : List Frame) (k : Class
         wp-there (Kept w os) _ _ _ (nf .1) (wp-there (Kept w os) _ _ _ (ma .index)
         (into d b (nf .0) g o z th bl (nf .1) fd (ns .0) ma (x .0 .top) cv (q .more) _ e (y .0 .more) (y .3))))))))))))
       where
-        into : (d b s : ℕ) → Agrees (posted w (ties2 (w .ties) (loaderOf (w .base) d) (k .loader) t r)) → (o : ℕ) (z : Object) → getElem? os o ≡ some z → Below (superOf (w .base)) b (z .class)
-            → nearest (superOf (w .base)) (hasMethod (w .base) n t r) (z .class) ≡ some s → nearest (superOf (w .base)) (hasMethod (w .base) n t r) b ≡ some d → Below (superOf (w .base)) s (z .class)
+        into : (d b s : ℕ) → Agrees (posted w (ties2 (w .ties) (loaderOf (w .base) d) (k .loader) t r)) → (o : ℕ) (z : Object) → getElem? os o ≡ some z → Below (superOf (w .base)) (z .class) b
+            → nearest (superOf (w .base)) (hasMethod (w .base) n t r) (z .class) ≡ some s → nearest (superOf (w .base)) (hasMethod (w .base) n t r) b ≡ some d → Below (superOf (w .base)) (z .class) s
             → (ma : MethodAt (w .base) s n t r) (v : Value) → Conforms w os (k .loader) (typeOfName t) v
             → (ts : List VerifierType) (rs : List Note) → flow (typeOfName r ∷ ts) (tp .τ .locals) rs ≡ some fl → (vs : List Value) → Each (Conforms w os (k .loader)) ts vs
             → Kept w os (record { world = posted w (ties2 (w .ties) (loaderOf (w .base) d) (k .loader) t r); objects = os; frames = entryFrame s (ma .place) o v ∷ past f i vs (f .locals) ∷ fs; result = none })

@@ -8,7 +8,7 @@ use Prim.Native.Nat.{ℕ, _<_}
 use lib.ListN.{length, getElem?}
 use Rattle.definition.specs.Classes.{Class, Method, find, hasMethod, loaderOf, slots, superOf}
 use Rattle.definition.specs.Constraints.{Agrees, World, posted, subtypeEdges}
-use Rattle.definition.specs.Machine.{Frame, Object, Value, intValue, nullValue, objectValue, unsetValue, unlistedValue}
+use Rattle.definition.specs.Machine.{Frame, Object, Value, intValue, nullValue, objectValue, emptyValue, unlistedValue}
 use Rattle.definition.specs.Requests.{Request, at}
 use Rattle.definition.specs.Superclasses.{nearest}
 use Rattle.definition.specs.Verifier.{Note, TypeState, VerifierType, entryTypes, typeClass, typeInt, typeNull, typeOfName, typesAt, verify}
@@ -27,17 +27,17 @@ pub record Holds (w : World) (os : List Object) (l n o : ℕ) : Type 0 where
 
 -- a value of a type under a loader
 abbrev pub Conforms : World → List Object → ℕ → VerifierType → Value → Type 0
-Conforms w os l typeInt unsetValue = ⊥
+Conforms w os l typeInt emptyValue = ⊥
 Conforms w os l typeInt (unlistedValue α β) = ⊥
 Conforms w os l typeInt (intValue n) = Unit {0}
 Conforms w os l typeInt nullValue = ⊥
 Conforms w os l typeInt (objectValue o) = ⊥
-Conforms w os l typeNull unsetValue = ⊥
+Conforms w os l typeNull emptyValue = ⊥
 Conforms w os l typeNull (unlistedValue α β) = ⊥
 Conforms w os l typeNull (intValue n) = ⊥
 Conforms w os l typeNull nullValue = Unit {0}
 Conforms w os l typeNull (objectValue o) = ⊥
-Conforms w os l (typeClass n) unsetValue = ⊥
+Conforms w os l (typeClass n) emptyValue = ⊥
 Conforms w os l (typeClass n) (unlistedValue α β) = ⊥
 Conforms w os l (typeClass n) (intValue m) = ⊥
 Conforms w os l (typeClass n) nullValue = Unit {0}
@@ -45,7 +45,7 @@ Conforms w os l (typeClass n) (objectValue o) = Holds w os l n o
 
 -- a value that is a reference refers to an object
 abbrev pub Exists : List Object → Value → Type 0
-Exists os unsetValue = Unit {0}
+Exists os emptyValue = Unit {0}
 Exists os (unlistedValue α β) = Unit {0}
 Exists os (intValue n) = Unit {0}
 Exists os nullValue = Unit {0}
@@ -122,24 +122,24 @@ pub record Later (v : World) (os : List Object) (w : World) (qs : List Object) :
 
 module _ {v w : World} {os qs : List Object} (z : Later v os w qs) where
   pub later-conforms : (l : ℕ) (t : VerifierType) (x : Value) → Conforms v os l t x → Conforms w qs l t x
-  later-conforms l typeInt unsetValue h = h
+  later-conforms l typeInt emptyValue h = h
   later-conforms l typeInt (unlistedValue α β) h = h
   later-conforms l typeInt (intValue n) h = h
   later-conforms l typeInt nullValue h = h
   later-conforms l typeInt (objectValue o) h = h
-  later-conforms l typeNull unsetValue h = h
+  later-conforms l typeNull emptyValue h = h
   later-conforms l typeNull (unlistedValue α β) h = h
   later-conforms l typeNull (intValue n) h = h
   later-conforms l typeNull nullValue h = h
   later-conforms l typeNull (objectValue o) h = h
-  later-conforms l (typeClass n) unsetValue h = h
+  later-conforms l (typeClass n) emptyValue h = h
   later-conforms l (typeClass n) (unlistedValue α β) h = h
   later-conforms l (typeClass n) (intValue m) h = h
   later-conforms l (typeClass n) nullValue h = h
   later-conforms l (typeClass n) (objectValue o) h = let d = z .objects o (h .object) (h .there) in record { object = d .0; there = d .1; fits = rw (d .2) (grows-fits (z .grows) (h .fits)) }
 
   later-exists : (x : Value) → Exists os x → Exists qs x
-  later-exists unsetValue h = h
+  later-exists emptyValue h = h
   later-exists (unlistedValue α β) h = h
   later-exists (intValue n) h = h
   later-exists nullValue h = h

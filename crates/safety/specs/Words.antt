@@ -12,7 +12,7 @@ use Rattle.definition.specs.Superclasses.{Below, below}
 use Rattle.definition.specs.Classes.{find, superOf, loaderOf, slots}
 use Rattle.definition.specs.Constraints.{World}
 use Rattle.definition.specs.Verifier.{VerifierType, typeInt, typeNull, typeClass, typeOfName}
-use Rattle.definition.specs.Machine.{Value, unsetValue, intValue, nullValue, objectValue, unlistedValue, Object, Frame, existing}
+use Rattle.definition.specs.Machine.{Value, emptyValue, intValue, nullValue, objectValue, unlistedValue, Object, Frame, existing}
 use Rattle.definition.specs.Tables.{Rows, worldOf}
 use Rattle.definition.specs.Misplaced.{Placed, placed, PlacedLocal, placedLocal, failures, misplacedFields, FrameTypes, typesOf, misplacedInFrame, misplacedInFrames, misplacedIn, FieldsPlaced, FramePlaced, FramesPlaced, AllPlaced}
 use Rattle.laws.specs.Upward.{below-true, true-below}
@@ -26,12 +26,12 @@ module _ (w : World) (os : List Object) (l : ℕ) where
   Loaded : Object → Option ℕ → Bool
   Loaded b x = elim x as (λ _. Bool) [ none ↦ true | some d ↦ below (superOf (w .base)) (b .class) d ]
 
-  loaded-is : (b : Object) (x : Option ℕ) → Loaded b x ≡ true → (d : ℕ) → x ≡ some d → Below (superOf (w .base)) d (b .class)
+  loaded-is : (b : Object) (x : Option ℕ) → Loaded b x ≡ true → (d : ℕ) → x ≡ some d → Below (superOf (w .base)) (b .class) d
   unfolding Loaded
   loaded-is b none q d e = absurd (Option·none-ne-some d e)
   loaded-is b (some c) q d e = rw (Option·some-injective c d e) at (below-true (superOf (w .base)) (super-falls (w .base)) (b .class) c q)
 
-  is-loaded : (b : Object) (x : Option ℕ) → ((d : ℕ) → x ≡ some d → Below (superOf (w .base)) d (b .class)) → Loaded b x ≡ true
+  is-loaded : (b : Object) (x : Option ℕ) → ((d : ℕ) → x ≡ some d → Below (superOf (w .base)) (b .class) d) → Loaded b x ≡ true
   unfolding Loaded
   is-loaded b none h = refl
   is-loaded b (some c) h = true-below (superOf (w .base)) (super-falls (w .base)) (b .class) c (h c refl)
@@ -43,17 +43,17 @@ module _ (w : World) (os : List Object) (l : ℕ) where
 
   pub placed-is : (t : VerifierType) (v : Value) → placed w os l t v ≡ true → Placed w os l t v
   unfolding placed Loaded
-  placed-is typeInt unsetValue h = absurd (false≢true h)
+  placed-is typeInt emptyValue h = absurd (false≢true h)
   placed-is typeInt (intValue n) h = tt
   placed-is typeInt nullValue h = absurd (false≢true h)
   placed-is typeInt (objectValue o) h = absurd (false≢true h)
   placed-is typeInt (unlistedValue k b) h = absurd (false≢true h)
-  placed-is typeNull unsetValue h = absurd (false≢true h)
+  placed-is typeNull emptyValue h = absurd (false≢true h)
   placed-is typeNull (intValue n) h = absurd (false≢true h)
   placed-is typeNull nullValue h = tt
   placed-is typeNull (objectValue o) h = absurd (false≢true h)
   placed-is typeNull (unlistedValue k b) h = absurd (false≢true h)
-  placed-is (typeClass n) unsetValue h = absurd (false≢true h)
+  placed-is (typeClass n) emptyValue h = absurd (false≢true h)
   placed-is (typeClass n) (intValue m) h = absurd (false≢true h)
   placed-is (typeClass n) nullValue h = tt
   placed-is (typeClass n) (objectValue o) h = object-is n o (existing os o) refl h
@@ -61,17 +61,17 @@ module _ (w : World) (os : List Object) (l : ℕ) where
 
   pub is-placed : (t : VerifierType) (v : Value) → Placed w os l t v → placed w os l t v ≡ true
   unfolding placed Loaded
-  is-placed typeInt unsetValue h = absurd h
+  is-placed typeInt emptyValue h = absurd h
   is-placed typeInt (intValue n) h = refl
   is-placed typeInt nullValue h = absurd h
   is-placed typeInt (objectValue o) h = absurd h
   is-placed typeInt (unlistedValue k b) h = absurd h
-  is-placed typeNull unsetValue h = absurd h
+  is-placed typeNull emptyValue h = absurd h
   is-placed typeNull (intValue n) h = absurd h
   is-placed typeNull nullValue h = refl
   is-placed typeNull (objectValue o) h = absurd h
   is-placed typeNull (unlistedValue k b) h = absurd h
-  is-placed (typeClass n) unsetValue h = absurd h
+  is-placed (typeClass n) emptyValue h = absurd h
   is-placed (typeClass n) (intValue m) h = absurd h
   is-placed (typeClass n) nullValue h = refl
   is-placed (typeClass n) (objectValue o) (b, e, f) = rw (e, placed) (is-loaded b (find (w .base .cache) (at l n)) f)

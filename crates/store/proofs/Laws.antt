@@ -12,7 +12,7 @@ use borrow.Author.Tests.{ne-eqb, le-ltb, le-leb, lt-leb, leb-true, eqb-true, eqb
 use Rattle.definition.specs.Lists.{every, all, isSome, rows, stack}
 use Rattle.definition.specs.Instructions.{pick}
 use Rattle.definition.specs.Classes.{Base, superOf}
-use Rattle.definition.specs.Machine.{Value, unsetValue, intValue, nullValue, objectValue, unlistedValue}
+use Rattle.definition.specs.Machine.{Value, emptyValue, intValue, nullValue, objectValue, unlistedValue}
 use Rattle.definition.specs.Tables.{ClassRow, sizeOf, valueOf, classRowAt, usedFields, objectAt, localAt, operandAt, frameOf, frameAt}
 use Rattle.definition.specs.Broken.{isObject}
 use Rattle.laws.specs.Agreement.{super-falls}
@@ -35,7 +35,7 @@ unfolding valueIn pick
 null-value m k b true = refl
 null-value m k b false = refl
 
-empty-value : (m k b : ℕ) (t : Bool) → localIn m (pick t unsetValue (unlistedValue k b)) ≡ t
+empty-value : (m k b : ℕ) (t : Bool) → localIn m (pick t emptyValue (unlistedValue k b)) ≡ t
 unfolding localIn pick
 empty-value m k b true = refl
 empty-value m k b false = refl
@@ -61,7 +61,7 @@ module _ (m k b : ℕ) where
   unfolding valueIn valueOf pick
   none-fits x y z = rw (ne-eqb k 1 x, ne-eqb k 3 y, ne-eqb k 2 z) (go (eqb b 0) (eqb k 0))
     where
-      go : (t u : Bool) → valueIn m (pick t (pick u unsetValue (unlistedValue k b)) (unlistedValue k b)) ≡ false
+      go : (t u : Bool) → valueIn m (pick t (pick u emptyValue (unlistedValue k b)) (unlistedValue k b)) ≡ false
       go true true = refl
       go true false = refl
       go false u = refl

@@ -8,7 +8,7 @@ use lib.Dec.{leb, ltb}
 use mathlib.Core.Path.{_≡_}
 use Rattle.definition.specs.Lists.{every, all, isSome, rows, stack}
 use Rattle.definition.specs.Classes.{Base, superOf}
-use Rattle.definition.specs.Machine.{Value, unsetValue, intValue, nullValue, objectValue, unlistedValue, Object, Frame}
+use Rattle.definition.specs.Machine.{Value, emptyValue, intValue, nullValue, objectValue, unlistedValue, Object, Frame}
 use Rattle.definition.specs.File.{readFile}
 use Rattle.definition.specs.Tables.{Tables, shaped, ClassRow, classRowAt, entryAt, tieAt, subtypeAt, fieldAt, objectAt, frameIn, sizeOf}
 use Rattle.definition.specs.Broken.{within, isObject, entryFits, tieFits, subtypeFits}
@@ -52,14 +52,14 @@ objectSized sizes t o = record { class = getD t (o * 33) 0; values = rows (field
 -- Values, where there are m objects; objects and frames, where there are n classes
 
 unfoldable pub valueIn : ℕ → Value → Bool
-valueIn m unsetValue = false
+valueIn m emptyValue = false
 valueIn m (intValue n) = true
 valueIn m nullValue = true
 valueIn m (objectValue o) = ltb o m
 valueIn m (unlistedValue k b) = false
 
 unfoldable pub localIn : ℕ → Value → Bool
-localIn m unsetValue = true
+localIn m emptyValue = true
 localIn m (intValue n) = true
 localIn m nullValue = true
 localIn m (objectValue o) = ltb o m

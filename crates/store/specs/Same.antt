@@ -10,7 +10,7 @@ use lib.Dec.{ltb}
 use borrow.Author.Tests.{ltb-true, lt-ltb, leb-true, le-leb, eqb-true, eq-eqb}
 use Rattle.definition.specs.Lists.{all, isSome, rows}
 use Rattle.definition.specs.Classes.{Base, superOf}
-use Rattle.definition.specs.Machine.{Value, unsetValue, intValue, nullValue, objectValue, unlistedValue, Object, Frame, existing}
+use Rattle.definition.specs.Machine.{Value, emptyValue, intValue, nullValue, objectValue, unlistedValue, Object, Frame, existing}
 use Rattle.definition.specs.File.{readFile}
 use Rattle.definition.specs.Tables.{Tables, shaped, ClassRow, sizeOf, classRowAt, objectAt, classRowsOf, keptOf, cacheOf, viewBase, objectsOf, framesOf, viewOver, view}
 use Rattle.definition.specs.Broken.{within, isObject, entryFits, valueFits, localFits, objectFits, frameFits, sound, whole, broken}
@@ -38,7 +38,7 @@ existing-same os o = same-test _ _ (λ h. lt-ltb o (length os) (some-existing os
 
 value-same : (os : List Object) (v : Value) → valueFits os v ≡ valueIn (length os) v
 unfolding valueFits valueIn
-value-same os unsetValue = refl
+value-same os emptyValue = refl
 value-same os (intValue n) = refl
 value-same os nullValue = refl
 value-same os (objectValue o) = existing-same os o
@@ -46,7 +46,7 @@ value-same os (unlistedValue k b) = refl
 
 local-same : (os : List Object) (v : Value) → localFits os v ≡ localIn (length os) v
 unfolding localFits localIn
-local-same os unsetValue = refl
+local-same os emptyValue = refl
 local-same os (intValue n) = refl
 local-same os nullValue = refl
 local-same os (objectValue o) = existing-same os o

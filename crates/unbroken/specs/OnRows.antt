@@ -22,7 +22,7 @@ use Rattle.layout.specs.Unbroken.{true-whole, broken-false}
 use Rattle.layout.specs.ReadBack.{Lengths, shaped-true, true-shaped, view-put}
 use Rattle.unbroken.specs.Calls.{define-whole, record-whole, start-whole, step-whole, drop-whole, boot-whole}
 use Rattle.unbroken.specs.Unbroken.{Keeps}
-use Rattle.definition.specs.OnRows.{givenRows, settle, onRows, goOnRows, runRows, performRows, performAllRows}
+use Rattle.definition.specs.Computing.OnRows.{givenRows, settle, onRows, goOnRows, runRows, performRows, performAllRows}
 
 -- Tables that show rows
 

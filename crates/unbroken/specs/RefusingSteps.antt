@@ -17,7 +17,7 @@ use Rattle.definition.specs.Classes.{Class, find, superOf, slots, slotIs, hasFi
 use Rattle.definition.specs.Constraints.{Tie, World, posted, agreesAfter, post}
 use Rattle.definition.specs.Instructions.{Decoded}
 use Rattle.definition.specs.Lists.{indexOf, isSome, isNone}
-use Rattle.definition.specs.Machine.{Value, unsetValue, intValue, nullValue, objectValue, unlistedValue, Object, Frame, Progress, Now, existing, pop!, int!, reference!, kind!, room!, object!, past, entryFrame, now, under!, give, execute, step}
+use Rattle.definition.specs.Machine.{Value, emptyValue, intValue, nullValue, objectValue, unlistedValue, Object, Frame, Progress, Now, existing, pop!, int!, reference!, kind!, room!, object!, past, entryFrame, now, under!, give, execute, step}
 use Rattle.definition.specs.Verifier.{pop}
 use Rattle.definition.specs.Maybe as Maybe
 use Rattle.laws.specs.Agreement.{super-falls}
@@ -46,7 +46,7 @@ first-past c n cs = refl
 
 reference-stuck : {B : Type 0} (v : Value) (g : ℕ → Result B) → aReference v ≡ true → numberIn (int! v >>= g) ≡ 14
 unfolding numberIn int! _>>=_ number
-reference-stuck unsetValue g h = refl
+reference-stuck emptyValue g h = refl
 reference-stuck (intValue n) g h = absurd (false≢true h)
 reference-stuck nullValue g h = refl
 reference-stuck (objectValue o) g h = refl
@@ -58,7 +58,7 @@ Popped = record { top : Value; more : List Value }
 module _ {B : Type 0} (cs : List Cause) where
   first-int : (v : Value) (g : ℕ → Result B) → ((n : ℕ) → v ≡ intValue n → numberIn (g n) ≡ first cs) → numberIn (int! v >>= g) ≡ first (cause 14 (not (anInt v)) ∷ cs)
   unfolding numberIn first int! _>>=_ number
-  first-int unsetValue g h = refl
+  first-int emptyValue g h = refl
   first-int (intValue n) g h = h n refl
   first-int nullValue g h = refl
   first-int (objectValue o) g h = refl
@@ -66,7 +66,7 @@ module _ {B : Type 0} (cs : List Cause) where
 
   first-reference : (v : Value) (g : Value → Result B) → ((x : Value) → aReference v ≡ true → numberIn (g x) ≡ first cs) → numberIn (reference! v >>= g) ≡ first (cause 14 (not (aReference v)) ∷ cs)
   unfolding numberIn first reference! _>>=_ number
-  first-reference unsetValue g h = refl
+  first-reference emptyValue g h = refl
   first-reference (intValue n) g h = refl
   first-reference nullValue g h = h nullValue refl
   first-reference (objectValue o) g h = h (objectValue o) refl
@@ -78,12 +78,12 @@ module _ {B : Type 0} (cs : List Cause) where
     where
       go : (b : Bool) (v : Value) → numberIn ((elim b as (λ _. Result (Unit {0})) [ true ↦ int! v >>= λ _. ok tt | false ↦ reference! v >>= λ _. ok tt ]) >>= g)
           ≡ first (cause 14 (not (elim b as (λ _. Bool) [ true ↦ anInt v | false ↦ aReference v ])) ∷ cs)
-      go true unsetValue = refl
+      go true emptyValue = refl
       go true (intValue n) = h
       go true nullValue = refl
       go true (objectValue o) = refl
       go true (unlistedValue α β) = refl
-      go false unsetValue = refl
+      go false emptyValue = refl
       go false (intValue n) = refl
       go false nullValue = h
       go false (objectValue o) = h
@@ -142,10 +142,10 @@ module _ {B : Type 0} (w : World) (os : List Object) where
 
   -- one more test of the object, which null passes
   first-object : (e : ℕ) (v : Value) (more : Value → Bool) (g : record { number : ℕ; object : Object } → Result B) → more nullValue ≡ true
-      → ((o : ℕ) (b : Object) → getElem? os o ≡ some b → Below (superOf (w .base)) e (b .class) → numberIn (g (record { number = o; object = b })) ≡ first (cause 14 (not (more (objectValue o))) ∷ []))
+      → ((o : ℕ) (b : Object) → getElem? os o ≡ some b → Below (superOf (w .base)) (b .class) e → numberIn (g (record { number = o; object = b })) ≡ first (cause 14 (not (more (objectValue o))) ∷ []))
       → numberIn (object! (w .base) os e v >>= g) ≡ first (cause 14 (not (receives w os e v)) ∷ cause 14 (not (more v)) ∷ cause 11 (aNull v) ∷ [])
   unfolding numberIn first object! existing need take? _>>=_ number
-  first-object e unsetValue more g n h = refl
+  first-object e emptyValue more g n h = refl
   first-object e (intValue x) more g n h = refl
   first-object e nullValue more g n h = rw n refl
   first-object e (objectValue o) more g n h = go (getElem? os o) refl
@@ -208,7 +208,7 @@ module _ (w : World) (n : ℕ) (os : List Object) (rd : Ready w n os) (f : Frame
   give-reference (x ∷ gs) v h = number-ok _
 
   -- in an object of class e or below it stands the field that is found upward of e
-  module _ (e d x t : ℕ) (b : Object) (o : ℕ) (q : getElem? os o ≡ some b) (l : Below (superOf (w .base)) e (b .class)) (p : nearest (superOf (w .base)) (hasField (w .base) x t) e ≡ some d) where
+  module _ (e d x t : ℕ) (b : Object) (o : ℕ) (q : getElem? os o ≡ some b) (l : Below (superOf (w .base)) (b .class) e) (p : nearest (superOf (w .base)) (hasField (w .base) x t) e ≡ some d) where
     place : FieldPlace (w .base) (b .class) d x t
     place = let u = nearest-below (superOf (w .base)) (super-falls (w .base)) (hasField (w .base) x t) e d p in field-place (w .base) (b .class) d x t (u .1) (below-trans l (u .0))
 

@@ -13,7 +13,7 @@ use Rattle.definition.specs.Classes.{Base, Class, Slot, find, hasMethod, loader
 use Rattle.definition.specs.Constraints.{Tie, World, newTie, post, posted, tieIs}
 use Rattle.definition.specs.Instructions.{Decoded}
 use Rattle.definition.specs.Lists.{any}
-use Rattle.definition.specs.Machine.{Frame, Now, Object, Progress, Value, entryFrame, execute, give, initialValue, int!, intValue, newObject, now, nullValue, object!, objectValue, past, pop!, reference!, room!, step, under!, unsetValue, unlistedValue, existing}
+use Rattle.definition.specs.Machine.{Frame, Now, Object, Progress, Value, entryFrame, execute, give, initialValue, int!, intValue, newObject, now, nullValue, object!, objectValue, past, pop!, reference!, room!, step, under!, emptyValue, unlistedValue, existing}
 use Rattle.definition.specs.Requests.{Request, at}
 use Rattle.definition.specs.Superclasses.{nearest}
 use Rattle.definition.specs.Verifier.{pop}
@@ -37,21 +37,21 @@ never w a e = absurd (let z : _≡_ {A = ℕ} 0 1 = cc in omega arith)
 -- Values
 
 value-local : (m : ℕ) (v : Value) → ValueSound m v → Local m v
-value-local m unsetValue h = tt
+value-local m emptyValue h = tt
 value-local m (unlistedValue α β) h = absurd h
 value-local m (intValue n) h = tt
 value-local m nullValue h = tt
 value-local m (objectValue o) h = h
 
 grow-value : (m k : ℕ) → m ≤ k → (v : Value) → ValueSound m v → ValueSound k v
-grow-value m k l unsetValue h = h
+grow-value m k l emptyValue h = h
 grow-value m k l (unlistedValue α β) h = h
 grow-value m k l (intValue n) h = h
 grow-value m k l nullValue h = h
 grow-value m k l (objectValue o) h = omega arith
 
 grow-local : (m k : ℕ) → m ≤ k → (v : Value) → Local m v → Local k v
-grow-local m k l unsetValue h = h
+grow-local m k l emptyValue h = h
 grow-local m k l (unlistedValue α β) h = h
 grow-local m k l (intValue n) h = h
 grow-local m k l nullValue h = h
@@ -59,7 +59,7 @@ grow-local m k l (objectValue o) h = omega arith
 
 int-value : (m : ℕ) (v : Value) (n : ℕ) → int! v ≡ ok n → ValueSound m v
 unfolding int!
-int-value m unsetValue n e = never _ _ e
+int-value m emptyValue n e = never _ _ e
 int-value m (unlistedValue α β) n e = never _ _ e
 int-value m (intValue x) n e = tt
 int-value m nullValue n e = tt
@@ -67,7 +67,7 @@ int-value m (objectValue o) n e = never _ _ e
 
 ref-value : (m : ℕ) (v x : Value) → reference! v ≡ ok x → Local m v → ValueSound m v
 unfolding reference!
-ref-value m unsetValue x e h = never _ _ e
+ref-value m emptyValue x e h = never _ _ e
 ref-value m (unlistedValue α β) x e h = never _ _ e
 ref-value m (intValue n) x e h = tt
 ref-value m nullValue x e h = tt
@@ -95,7 +95,7 @@ pop-all m (v ∷ vs) p h e = rw (sym (ok-inj e)) (record { top = h .0; more = h 
 
 pub object-is : (b : Base) (os : List Object) (e : ℕ) (v : Value) (p : record { number : ℕ; object : Object }) → object! b os e v ≡ ok p → getElem? os (p .number) ≡ some (p .object)
 unfolding object! existing
-object-is b os e unsetValue p h = never _ _ h
+object-is b os e emptyValue p h = never _ _ h
 object-is b os e (unlistedValue α β) p h = never _ _ h
 object-is b os e (intValue n) p h = never _ _ h
 object-is b os e nullValue p h = never _ _ h

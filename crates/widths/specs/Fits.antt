@@ -11,7 +11,7 @@ use borrow.Author.Tests.{leb-true}
 use Rattle.definition.specs.Lists.{writeRows, writeStack}
 use Rattle.definition.specs.Classes.{Base, Entry}
 use Rattle.definition.specs.Constraints.{Tie, Subtype}
-use Rattle.definition.specs.Machine.{Value, unsetValue, intValue, nullValue, objectValue, unlistedValue, Object, Frame}
+use Rattle.definition.specs.Machine.{Value, emptyValue, intValue, nullValue, objectValue, unlistedValue, Object, Frame}
 use Rattle.definition.specs.File.{File}
 use Rattle.definition.specs.Tables.{Tables, ClassRow, Rows, fileAt, worldOf, putThree, putClassRow, entryAt, putEntry, tieAt, putTie, subtypeAt, putSubtype, valueOf, kindOf, bitsOf, valueAt, putValue, fieldAt, putField, usedFields, objectAt, putObject, localAt, putLocal, operandAt, putOperand, frameOf, frameAt, putFrame, frameBase, frameIn, putFrameIn, viewBase, objectsOf, framesOf, viewOver, view, countsOf, put}
 use Rattle.definition.specs.Widths.{EachBelow, Widths}
@@ -24,7 +24,7 @@ use Rattle.widths.specs.Below.{all-zip, from-all, below-cell, below-set,
 
 -- an int has 32 bits
 abbrev pub IntFits : Value → Type 0
-IntFits unsetValue = Unit {0}
+IntFits emptyValue = Unit {0}
 IntFits (intValue n) = n < 4294967296
 IntFits nullValue = Unit {0}
 IntFits (objectValue o) = Unit {0}
@@ -63,7 +63,7 @@ pub record RowsFit (r : Rows) : Type 0 where
 
 bits-fit : (v : Value) → bitsOf v < 4294967296 → IntFits v
 unfolding bitsOf
-bits-fit unsetValue h = tt
+bits-fit emptyValue h = tt
 bits-fit (intValue n) h = h
 bits-fit nullValue h = tt
 bits-fit (objectValue o) h = tt
@@ -149,14 +149,14 @@ pub record CellsFit (v : Value) : Type 0 where
 
 local-cells : (m : ℕ) → m ≤ 256 → (v : Value) → Local m v → IntFits v → CellsFit v
 unfolding kindOf bitsOf
-local-cells m l unsetValue h f = record { kind = omega arith; bits = omega arith }
+local-cells m l emptyValue h f = record { kind = omega arith; bits = omega arith }
 local-cells m l (intValue n) h f = record { kind = omega arith; bits = f }
 local-cells m l nullValue h f = record { kind = omega arith; bits = omega arith }
 local-cells m l (objectValue o) h f = record { kind = omega arith; bits = omega arith }
 local-cells m l (unlistedValue k b) h f = absurd h
 
 value-cells : (m : ℕ) → m ≤ 256 → (v : Value) → ValueSound m v → IntFits v → CellsFit v
-value-cells m l unsetValue h f = absurd h
+value-cells m l emptyValue h f = absurd h
 value-cells m l (intValue n) h f = local-cells m l (intValue n) h f
 value-cells m l nullValue h f = local-cells m l nullValue h f
 value-cells m l (objectValue o) h f = local-cells m l (objectValue o) h f

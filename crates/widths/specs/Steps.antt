@@ -17,7 +17,7 @@ use Rattle.definition.specs.Classes.{Base, Class, slots, loaderOf, methodsOf, a
 use Rattle.definition.specs.Constraints.{Tie, World, tieIs, newTie, post}
 use Rattle.definition.specs.Instructions.{Decoded}
 use Rattle.definition.specs.Verifier.{pop}
-use Rattle.definition.specs.Machine.{Value, unsetValue, intValue, nullValue, objectValue, unlistedValue, Object, Frame, existing, initialValue, newObject, entryFrame, pop!, object!, Progress, Now, now, past, give, execute, step}
+use Rattle.definition.specs.Machine.{Value, emptyValue, intValue, nullValue, objectValue, unlistedValue, Object, Frame, existing, initialValue, newObject, entryFrame, pop!, object!, Progress, Now, now, past, give, execute, step}
 use Rattle.laws.specs.Wrapped.{Ok, then}
 use Rattle.layout.specs.Tests.{All, all-both}
 use Rattle.unbroken.specs.Steps.{all-set}
@@ -51,7 +51,7 @@ pop-fits (v ∷ vs) h = (h .0, h .1)
 
 object-fits : (b : Base) (os : List Object) (e : ℕ) (v : Value) → All ObjectFits os → Ok (object! b os e v) (λ o. ObjectFits (o .object))
 unfolding object! existing
-object-fits b os e unsetValue h = tt
+object-fits b os e emptyValue h = tt
 object-fits b os e (intValue n) h = tt
 object-fits b os e nullValue h = tt
 object-fits b os e (objectValue o) h =

@@ -19,7 +19,7 @@ abbrev Inv-loop : tie.InvT-loop
 Inv-loop supers groups classes cached noted heads nexts marks queue aboves agreed₀ a stamp b₀ agreed b =
     (agreed ≡ true)
     × (b ≤ cached)
-    × ((d : ℕ) → d < b → Marked stamp marks d → Below (superIn supers) (getD classes d 0) (getD classes a 0))
+    × ((d : ℕ) → d < b → Marked stamp marks d → Below (superIn supers) (getD classes a 0) (getD classes d 0))
 
 abbrev μ-loop : tie.MeasureT-loop
 μ-loop supers groups classes cached noted heads nexts marks queue aboves agreed₀ a stamp b₀ agreed b = cached - b

@@ -15,8 +15,8 @@ use Rattle.definition.specs.Loading.{subtypeIs, newSubtypes, overrideTie
 use Rattle.definition.specs.Tables.{fileAt, classAt}
 use Rattle.definition.specs.Calls.{defineRows, recordRows, startRows, dropRows, answerOf, stepTask, stepOn, stepRows, carried}
 use Rattle.definition.specs.Answers.{refused, number, numberOfStep, numberOf, _>>=_, need, take?}
-use Rattle.definition.specs.OnRows.{settle, onRows, runRows, performRows, performAllRows}
-use Rattle.definition.specs.Samples.{two, method, fileOf, plain, fileF, taker, coded, lifts, pushes, ready, tied12, tied123}
+use Rattle.definition.specs.Computing.OnRows.{settle, onRows, runRows, performRows, performAllRows}
+use Rattle.definition.specs.Computing.Samples.{two, method, fileOf, plain, fileF, taker, coded, lifts, pushes, ready, tied12, tied123}
 use Rattle.definition.specs.Maybe as Maybe
 use Rattle.definition.specs.Answers.{Refusal, Denied}
 use Rattle.definition.specs.Tables.{Tables}

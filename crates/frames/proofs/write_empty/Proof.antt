@@ -1,13 +1,13 @@
 -- Locals 2 to 7 of a frame are written as not set.
 use borrow.Author.Needs.{needs}
-use Rattle.frames.specs.Initial.{putUnset}
+use Rattle.frames.specs.Initial.{putEmpty}
 use Rattle.definition.specs.Instructions.{pick}
 use Rattle.definition.specs.Tables.{valueOf}
-use Rattle.frames.proofs.write_unset.Statement.{statement}
-use Rattle.frames.proofs.write_unset.Tie as tie
+use Rattle.frames.proofs.write_empty.Statement.{statement}
+use Rattle.frames.proofs.write_empty.Tie as tie
 
 returns : tie.Need-returns
-unfolding putUnset valueOf pick
+unfolding putEmpty valueOf pick
 returns c =
     let at10 = c .before .before .before .before .before .before .before .before .before .before in
     let at14 = at10 .before .before .before .before in
@@ -15,8 +15,8 @@ returns c =
     let at22 = at18 .before .before .before .before in
     rw (c .before .before .write-local6 .ensures, c .before .before .before .before .before .before .write-local5 .ensures, at10 .write-local4 .ensures, at14 .write-local3 .ensures, at18 .write-local2 .ensures, at22 .write-local .ensures)
 
-pub write-unset-spec : {M : Type 1} → statement M
-write-unset-spec =
+pub write-empty-spec : {M : Type 1} → statement M
+write-empty-spec =
     tie.close
     (tie.spec
     (λ c κs. search needs)
