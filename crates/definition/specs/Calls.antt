@@ -7,13 +7,12 @@ use Prim.Native.Nat.{ℕ, zero, suc, _+_}
 use lib.ListN.{length}
 use lib.Dec.{leb, ltb}
 use Rattle.definition.specs.Numbers.{wordBroken, wordFile, wordUnknown, wordTaken, wordWanted, wordUnverified, wordAbsent, wordHidden, wordClash, wordFull, wordNull, wordBusy, wordMisnamed, wordStuck, nameObject, loaderLimit, taskLimit, keptLimit, runLimit}
-use Rattle.definition.specs.Requests.{at}
 use Rattle.definition.specs.Constraints.{World}
 use Rattle.definition.specs.Answers.{Refusal, Word, Answer, Idle, Ran, Finished, Refused, Reply, Accepted, Defined, Stepped, RanFor, Denied, Result, refused, ok, _>>=_, need, take?}
 use Rattle.definition.specs.Machine.{Frame, Progress, step}
 use Rattle.definition.specs.Loading.{define, recorded, started}
 use Rattle.definition.specs.File.{readFile, classOf}
-use Rattle.definition.specs.Tables.{Tables, shaped, Rows, worldOf, view, put}
+use Rattle.definition.specs.Tables.{Tables, shaped, Rows, rowsOf, withClasses, withKept, withCache, withTies, withSubtypes, withObjects, withFrames, framesIn, classRow, entry, worldOf, view, put}
 use Rattle.definition.specs.Broken.{broken}
 
 -- On rows: an answer with the rows that the call leaves
@@ -27,74 +26,20 @@ given a r = ok (record { answer = a; rows = r })
 
 -- boot: class 0 is Object of loader 0, the cache holds only (0, 2), all other rows are emptied
 abbrev pub bootRows : Rows
-bootRows = record {
-  classes = record { loader = 0; start = 0; size = 0 } ∷ [];
-  kept = [];
-  cache = record { request = at 0 nameObject; class = 0 } ∷ [];
-  ties = [];
-  subtypes = [];
-  objects = [];
-  quote = [];
-  report = [];
-}
+bootRows = rowsOf (classRow 0 0 0 ∷ []) [] (entry 0 nameObject 0 ∷ []) [] [] [] [] []
 
--- the next class, with its file behind the kept ones
+-- the next class, with its file behind the kept ones; cache and constraints as w has them
 abbrev pub addFile : ℕ → List ℕ → Rows → World → Rows
-addFile l bs r w = record {
-  classes = r .classes ++ (record { loader = l; start = length (r .kept); size = length bs } ∷ []);
-  kept = r .kept ++ bs;
-  cache = w .base .cache;
-  ties = w .ties;
-  subtypes = w .subtypes;
-  objects = r .objects;
-  quote = r .quote;
-  report = r .report;
-}
+addFile l bs r w =
+    withClasses (r .classes ++ (classRow l (length (r .kept)) (length bs) ∷ [])) (withKept (r .kept ++ bs)
+    (withCache (w .base .cache) (withTies (w .ties) (withSubtypes (w .subtypes) r))))
 
 abbrev pub addEntry : Rows → World → Rows
-addEntry r w = record {
-  classes = r .classes;
-  kept = r .kept;
-  cache = w .base .cache;
-  ties = r .ties;
-  subtypes = r .subtypes;
-  objects = r .objects;
-  quote = r .quote;
-  report = r .report;
-}
+addEntry r w = withCache (w .base .cache) r
 
 -- a task's progress: ties, objects, and the task's frames
 abbrev pub progressed : ℕ → Rows → Progress → Rows
-progressed zero r o = record {
-  classes = r .classes;
-  kept = r .kept;
-  cache = r .cache;
-  ties = o .world .ties;
-  subtypes = r .subtypes;
-  objects = o .objects;
-  quote = o .frames;
-  report = r .report;
-}
-progressed (suc k) r o = record {
-  classes = r .classes;
-  kept = r .kept;
-  cache = r .cache;
-  ties = o .world .ties;
-  subtypes = r .subtypes;
-  objects = o .objects;
-  quote = r .quote;
-  report = o .frames;
-}
-
-abbrev pub withFrames : ℕ → Rows → List Frame → Rows
-withFrames zero r fs = record
-    { classes = r .classes; kept = r .kept; cache = r .cache; ties = r .ties; subtypes = r .subtypes; objects = r .objects; quote = fs; report = r .report }
-withFrames (suc k) r fs = record
-    { classes = r .classes; kept = r .kept; cache = r .cache; ties = r .ties; subtypes = r .subtypes; objects = r .objects; quote = r .quote; report = fs }
-
-abbrev pub framesIn : ℕ → Rows → List Frame
-framesIn zero r = r .quote
-framesIn (suc k) r = r .report
+progressed k r o = withFrames k (o .frames) (withObjects (o .objects) (withTies (o .world .ties) r))
 
 -- define. Refusals: 3 2 6 4 5 8 10 9
 unfoldable pub defineRows : ℕ → List ℕ → Rows → Result (Given Reply)
@@ -114,7 +59,7 @@ startRows k l n m v r =
 
 -- drop of task k. 3
 unfoldable pub dropRows : ℕ → Rows → Result (Given Reply)
-dropRows k r = need (ltb k taskLimit) (Word wordUnknown) >>= λ _. given Accepted (withFrames k r [])
+dropRows k r = need (ltb k taskLimit) (Word wordUnknown) >>= λ _. given Accepted (withFrames k [] r)
 
 -- step: one instruction of the quote if it has a frame, else of the report; w is what the rows' classes, cache and constraints are
 
@@ -184,50 +129,70 @@ run n t = elim (broken t) as (λ _. Done Reply) [
   | false ↦ elim (leb 1 n && leb n runLimit) as (λ _. Done Reply) [ true ↦ runFrom stepTables n 0 Idle t | false ↦ done (Denied (Word wordUnknown)) t ]
 ]
 
--- Lists of calls
+-- A call but boot, step and run refuses or puts rows: what it does is said on rows alone
+pub data RowCall : Type 0 where
+  rowDefine : ℕ → List ℕ → RowCall
+  rowRecord : ℕ → ℕ → ℕ → RowCall
+  rowStart : ℕ → ℕ → ℕ → ℕ → ℕ → RowCall
+  rowDrop : ℕ → RowCall
+
+abbrev pub onRowCall : RowCall → Rows → Result (Given Reply)
+onRowCall (rowDefine l bs) = defineRows l bs
+onRowCall (rowRecord l n c) = recordRows l n c
+onRowCall (rowStart k l n m v) = startRows k l n m v
+onRowCall (rowDrop k) = dropRows k
 
 pub data Call : Type 0 where
   callBoot : Call
-  callDefine : ℕ → List ℕ → Call
-  callRecord : ℕ → ℕ → ℕ → Call
-  callStart : ℕ → ℕ → ℕ → ℕ → ℕ → Call
+  callRows : RowCall → Call
   callStep : Call
   callRun : ℕ → Call
-  callDrop : ℕ → Call
+
+abbrev pub callDefine : ℕ → List ℕ → Call
+callDefine l bs = callRows (rowDefine l bs)
+
+abbrev pub callRecord : ℕ → ℕ → ℕ → Call
+callRecord l n c = callRows (rowRecord l n c)
+
+abbrev pub callStart : ℕ → ℕ → ℕ → ℕ → ℕ → Call
+callStart k l n m v = callRows (rowStart k l n m v)
+
+abbrev pub callDrop : ℕ → Call
+callDrop k = callRows (rowDrop k)
 
 -- the words that each call may refuse with, in the order in which the definitions above test them; a run's last answer may be any of a step's
 unfoldable pub stepRefusals : List ℕ
 stepRefusals = wordBroken ∷ wordStuck ∷ wordWanted ∷ wordAbsent ∷ wordFull ∷ wordClash ∷ wordNull ∷ []
 
+-- those of a call on rows come after 'broken'
+unfoldable pub rowRefusals : RowCall → List ℕ
+rowRefusals (rowDefine l bs) = wordUnknown ∷ wordFile ∷ wordUnverified ∷ wordTaken ∷ wordWanted ∷ wordHidden ∷ wordFull ∷ wordClash ∷ []
+rowRefusals (rowRecord l n c) = wordUnknown ∷ wordMisnamed ∷ wordTaken ∷ wordFull ∷ wordClash ∷ []
+rowRefusals (rowStart k l n m v) = wordUnknown ∷ wordBusy ∷ wordWanted ∷ wordAbsent ∷ wordFull ∷ []
+rowRefusals (rowDrop k) = wordUnknown ∷ []
+
 unfoldable pub refusalsOf : Call → List ℕ
 refusalsOf callBoot = wordBroken ∷ []
-refusalsOf (callDefine l bs) = wordBroken ∷ wordUnknown ∷ wordFile ∷ wordUnverified ∷ wordTaken ∷ wordWanted ∷ wordHidden ∷ wordFull ∷ wordClash ∷ []
-refusalsOf (callRecord l n c) = wordBroken ∷ wordUnknown ∷ wordMisnamed ∷ wordTaken ∷ wordFull ∷ wordClash ∷ []
-refusalsOf (callStart k l n m v) = wordBroken ∷ wordUnknown ∷ wordBusy ∷ wordWanted ∷ wordAbsent ∷ wordFull ∷ []
+refusalsOf (callRows c) = wordBroken ∷ rowRefusals c
 refusalsOf callStep = stepRefusals
 refusalsOf (callRun n) = wordBroken ∷ wordUnknown ∷ []
-refusalsOf (callDrop k) = wordBroken ∷ wordUnknown ∷ []
 
 abbrev pub ofStep : Done Answer → Done Reply
 ofStep d = done (Stepped (d .answer)) (d .tables)
 
 unfoldable pub perform : Call → Tables → Done Reply
 perform callBoot t = boot t
-perform (callDefine l bs) t = wrap Denied (defineRows l bs) t
-perform (callRecord l n c) t = wrap Denied (recordRows l n c) t
-perform (callStart k l n m v) t = wrap Denied (startRows k l n m v) t
+perform (callRows c) t = wrap Denied (onRowCall c) t
 perform callStep t = ofStep (stepTables t)
 perform (callRun n) t = run n t
-perform (callDrop k) t = wrap Denied (dropRows k) t
 
--- each call's answer, and the tables after the last
+-- Lists of calls: each call's answer, and the tables after the last
 unfoldable pub performAll : List Call → Tables → Done (List Reply)
 performAll [] t = done [] t
 performAll (c ∷ cs) t = let d = perform c t in let e = performAll cs (d .tables) in done (d .answer ∷ e .answer) (e .tables)
 
--- a store that a list of calls leads to from an accepted boot
-pub record ComesFromBoot (t : Tables) : Type 0 where
-  pub before : Tables
-  pub accepted : boot before .answer ≡ Accepted
-  pub calls : List Call
-  pub leaves : performAll calls (boot before .tables) .tables ≡ t
+-- A store that comes from a boot: one that an accepted boot leaves, or a call on such a store. So one that a list of calls leads to from an accepted
+-- boot (`led-from-boot`, `from-boot-led`, crate safety).
+pub data ComesFromBoot : Tables → Type 0 where
+  afterBoot : (t : Tables) → boot t .answer ≡ Accepted → ComesFromBoot (boot t .tables)
+  afterCall : (c : Call) (t : Tables) → ComesFromBoot t → ComesFromBoot (perform c t .tables)

@@ -1,8 +1,12 @@
 -- The store as lent tables: lengths, cells, and how the used rows are read and written. docs/STORE.md publishes this layout.
+--
+-- A store is spoken of at four levels. `Tables` are the cells as lent, unused ones too: what a caller holds and a contract determines. `Rows` are what
+-- the used cells say (`view`; `put` writes them back): what a call decides on and changes. A `World` is what the rows say of classes, with the files
+-- read, and of constraints (`worldOf`): what agreement is asked of. A `Base` is the classes and the cache alone: what resolution looks at.
 use mathlib.Core.Bool.{Bool}
 use mathlib.Core.Option.{Option, none, some}
 use mathlib.Core.List.{List, [], _∷_, map}
-use Prim.Native.Nat.{ℕ, _+_, _*_}
+use Prim.Native.Nat.{ℕ, zero, suc, _+_, _*_}
 use lib.ListN.{length, take, drop, getD, set}
 use lib.Dec.{eqb, leb}
 use Rattle.definition.specs.Numbers.{keptLimit, fieldLimit, frameLimit, localCount, countClasses, countKept, countCache, countTies, countSubtypes, countObjects, countFrames, rowCells, valueCells, objectCells, fieldsCell, frameCells, methodCell, pointCell, depthCell, localsCell, operandsCell, countsLength, classesLength, cacheLength, tiesLength, subtypesLength, objectsLength, framesLength, kindEmpty, kindInt, kindNull, kindObject}
@@ -57,6 +61,40 @@ pub record Rows : Type 0 where
   pub objects : List Object
   pub quote : List Frame
   pub report : List Frame
+
+abbrev pub rowsOf : List ClassRow → List ℕ → List Entry → List Tie → List Subtype → List Object → List Frame → List Frame → Rows
+rowsOf c k e t s o q p = record { classes = c; kept = k; cache = e; ties = t; subtypes = s; objects = o; quote = q; report = p }
+
+-- One part of the rows replaced, the rest as it was: a call names what it changes
+
+abbrev pub withClasses : List ClassRow → Rows → Rows
+withClasses x r = rowsOf x (r .kept) (r .cache) (r .ties) (r .subtypes) (r .objects) (r .quote) (r .report)
+
+abbrev pub withKept : List ℕ → Rows → Rows
+withKept x r = rowsOf (r .classes) x (r .cache) (r .ties) (r .subtypes) (r .objects) (r .quote) (r .report)
+
+abbrev pub withCache : List Entry → Rows → Rows
+withCache x r = rowsOf (r .classes) (r .kept) x (r .ties) (r .subtypes) (r .objects) (r .quote) (r .report)
+
+abbrev pub withTies : List Tie → Rows → Rows
+withTies x r = rowsOf (r .classes) (r .kept) (r .cache) x (r .subtypes) (r .objects) (r .quote) (r .report)
+
+abbrev pub withSubtypes : List Subtype → Rows → Rows
+withSubtypes x r = rowsOf (r .classes) (r .kept) (r .cache) (r .ties) x (r .objects) (r .quote) (r .report)
+
+abbrev pub withObjects : List Object → Rows → Rows
+withObjects x r = rowsOf (r .classes) (r .kept) (r .cache) (r .ties) (r .subtypes) x (r .quote) (r .report)
+
+-- what is said of task k: 0 is the quote, any other the report
+abbrev pub ofTask : {A : Type 0} → ℕ → A → A → A
+ofTask zero quote report = quote
+ofTask (suc k) quote report = report
+
+abbrev pub framesIn : ℕ → Rows → List Frame
+framesIn k r = ofTask k (r .quote) (r .report)
+
+abbrev pub withFrames : ℕ → List Frame → Rows → Rows
+withFrames k x r = rowsOf (r .classes) (r .kept) (r .cache) (r .ties) (r .subtypes) (r .objects) (ofTask k x (r .quote)) (ofTask k (r .report) x)
 
 unfoldable pub fileAt : List ℕ → ClassRow → Option File
 fileAt bs k = need (leb (k .start + k .size) (length bs)) >>= λ _. readFile (take (k .size) (drop (k .start) bs))
@@ -238,16 +276,7 @@ framesOf t k = stack (frameIn (t .frames) k) (getD (t .counts) (countFrames + k)
 
 -- the rows, where classes have the fields that b gives them
 unfoldable pub viewOver : Base → Tables → Rows
-viewOver b t = record {
-  classes = classRowsOf t;
-  kept = keptOf t;
-  cache = cacheOf t;
-  ties = tiesOf t;
-  subtypes = subtypesOf t;
-  objects = objectsOf b t;
-  quote = framesOf t 0;
-  report = framesOf t 1;
-}
+viewOver b t = rowsOf (classRowsOf t) (keptOf t) (cacheOf t) (tiesOf t) (subtypesOf t) (objectsOf b t) (framesOf t 0) (framesOf t 1)
 
 unfoldable pub view : Tables → Rows
 view t = viewOver (viewBase t) t

@@ -3,7 +3,7 @@ use mathlib.Core.List.{List, [], _∷_}
 use Prim.Native.Nat.{ℕ, _<_}
 use Rattle.definition.specs.Numbers.{byteRange, shortRange, intRange}
 use Rattle.definition.specs.Tables.{Tables}
-use Rattle.definition.specs.Calls.{Call, callBoot, callDefine, callRecord, callStart, callStep, callRun, callDrop}
+use Rattle.definition.specs.Calls.{RowCall, rowDefine, rowRecord, rowStart, rowDrop, Call, callBoot, callRows, callStep, callRun}
 
 -- each number is below w
 abbrev pub EachBelow : ℕ → List ℕ → Type 0
@@ -21,11 +21,15 @@ pub record Widths (t : Tables) : Type 0 where
   pub frames : EachBelow intRange (t .frames)
 
 -- a call's arguments have their widths: bytes in a file, 16-bit names, an int of 32 bits
+
+abbrev pub FittingRows : RowCall → Type 0
+FittingRows (rowDefine l bs) = EachBelow byteRange bs
+FittingRows (rowRecord l n c) = n < shortRange
+FittingRows (rowStart k l n m v) = v < intRange
+FittingRows (rowDrop k) = Unit {0}
+
 abbrev pub Fitting : Call → Type 0
 Fitting callBoot = Unit {0}
-Fitting (callDefine l bs) = EachBelow byteRange bs
-Fitting (callRecord l n c) = n < shortRange
-Fitting (callStart k l n m v) = v < intRange
+Fitting (callRows c) = FittingRows c
 Fitting callStep = Unit {0}
 Fitting (callRun n) = Unit {0}
-Fitting (callDrop k) = Unit {0}

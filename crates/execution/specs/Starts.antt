@@ -16,9 +16,9 @@ use Rattle.definition.specs.declared.Reply.the-variants.{Accepted, Denied}
 use Rattle.definition.specs.Answers.{Result, _>>=_, need}
 use Rattle.definition.specs.Machine.{intValue, newObject, entryFrame, Progress}
 use Rattle.definition.specs.Loading.{started}
-use Rattle.definition.specs.Tables.{Tables, tables, Rows, putObject, sizeOf, putFrame, frameBase, worldOf, objectsOf, viewOver, view}
+use Rattle.definition.specs.Tables.{Tables, tables, Rows, putObject, sizeOf, putFrame, frameBase, worldOf, objectsOf, viewOver, view, framesIn}
 use Rattle.definition.specs.Broken.{broken}
-use Rattle.definition.specs.Calls.{Given, given, progressed, framesIn, startRows, done, carried, wrap, callStart, perform}
+use Rattle.definition.specs.Calls.{Given, given, progressed, startRows, done, carried, wrap, callStart, perform}
 use Rattle.layout.specs.View.{objects-fill, object-made, quiet-writes, first-entered}
 use Rattle.resolution.specs.Quick.{quickBase, quickOf}
 use Rattle.resolution.specs.Unbroken.{quick-rows}

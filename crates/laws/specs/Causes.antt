@@ -19,9 +19,9 @@ use Rattle.definition.specs.Verifier.{Note, notesOf}
 use Rattle.definition.specs.Machine.{Value, emptyValue, intValue, nullValue, objectValue, unlistedValue, Object, Frame, Now, existing}
 use Rattle.definition.specs.Loading.{newSubtypes, overrideTies, hides, withClass, withEntry}
 use Rattle.definition.specs.File.{File, readFile, classOf}
-use Rattle.definition.specs.Tables.{Tables, shaped, Rows, worldOf, view}
+use Rattle.definition.specs.Tables.{Tables, shaped, Rows, framesIn, worldOf, view}
 use Rattle.definition.specs.Broken.{broken}
-use Rattle.definition.specs.Calls.{framesIn, Call, callBoot, callDefine, callRecord, callStart, callStep, callRun, callDrop, refusalsOf}
+use Rattle.definition.specs.Calls.{Call, callBoot, callStep, callRun, refusalsOf, RowCall, rowDefine, rowRecord, rowStart, rowDrop, callRows, rowRefusals}
 use Rattle.laws.specs.Refusals.{running}
 
 -- a word by its number, and whether it applies
@@ -239,25 +239,25 @@ frameCauses w os (f ∷ fs) = readCauses w os f fs (reading w f)
 
 -- Every call; 1 before all else
 
+unfoldable pub rowCauses : RowCall → Rows → List Cause
+rowCauses (rowDefine l bs) r = defineCauses l bs r
+rowCauses (rowRecord l n c) r = recordCauses l n c r
+rowCauses (rowStart k l n m v) r = startCauses k l n m r
+rowCauses (rowDrop k) r = cause 3 (not (ltb k 2)) ∷ []
+
 unfoldable pub causes : Call → Tables → List Cause
 causes callBoot t = cause 1 (not (shaped t)) ∷ []
-causes (callDefine l bs) t = cause 1 (broken t) ∷ defineCauses l bs (view t)
-causes (callRecord l n c) t = cause 1 (broken t) ∷ recordCauses l n c (view t)
-causes (callStart k l n m v) t = cause 1 (broken t) ∷ startCauses k l n m (view t)
+causes (callRows c) t = cause 1 (broken t) ∷ rowCauses c (view t)
 causes callStep t = cause 1 (broken t) ∷ frameCauses (worldOf (view t)) (view t .objects) (running (view t .quote) (view t .report))
 causes (callRun n) t = cause 1 (broken t) ∷ cause 3 (not (leb 1 n && leb n 65535)) ∷ []
-causes (callDrop k) t = cause 1 (broken t) ∷ cause 3 (not (ltb k 2)) ∷ []
 
 -- The paper's order: that of `refusalsOf`, but for a step, where 14 stands twice
 
 unfoldable pub order : Call → List ℕ
 order callBoot = refusalsOf callBoot
-order (callDefine l bs) = refusalsOf (callDefine l bs)
-order (callRecord l n c) = refusalsOf (callRecord l n c)
-order (callStart k l n m v) = refusalsOf (callStart k l n m v)
+order (callRows c) = refusalsOf (callRows c)
 order callStep = 1 ∷ 14 ∷ 5 ∷ 7 ∷ 10 ∷ 9 ∷ 14 ∷ 11 ∷ []
 order (callRun n) = refusalsOf (callRun n)
-order (callDrop k) = refusalsOf (callDrop k)
 
 -- their words
 abbrev pub words : List Cause → List ℕ
@@ -290,13 +290,17 @@ frame-order w os (f ∷ fs) = go (reading w f)
     go none = refl
     go (some n) = rw (instruction-order w os f fs (n .theClass) (n .at .instruction)) refl
 
+rows-order : (c : RowCall) (r : Rows) → words (rowCauses c r) ≡ rowRefusals c
+unfolding rowCauses rowRefusals defineCauses recordCauses startCauses
+rows-order (rowDefine l bs) r = refl
+rows-order (rowRecord l n c) r = refl
+rows-order (rowStart k l n m v) r = refl
+rows-order (rowDrop k) r = refl
+
 -- the words that `causes` lists stand in the paper's order
 pub in-order : (c : Call) (t : Tables) → words (causes c t) ≡ order c
-unfolding causes order refusalsOf defineCauses recordCauses startCauses
+unfolding causes order refusalsOf
 in-order callBoot t = refl
-in-order (callDefine l bs) t = refl
-in-order (callRecord l n c) t = refl
-in-order (callStart k l n m v) t = refl
+in-order (callRows c) t = rw (rows-order c (view t)) refl
 in-order callStep t = rw (frame-order (worldOf (view t)) (view t .objects) (running (view t .quote) (view t .report))) refl
 in-order (callRun n) t = refl
-in-order (callDrop k) t = refl

@@ -16,4 +16,5 @@ pub mod Causes
 pub mod Wrapped
 pub mod Runs
 pub mod Turns
+pub mod Tasks
 pub mod Refused

@@ -21,7 +21,7 @@ use Rattle.definition.specs.Instructions.{Decoded}
 use Rattle.definition.specs.Machine.{Value, emptyValue, intValue, nullValue, objectValue, unlistedValue, Object, Frame, Now, pop!, int!, reference!, kind!, room!, object!, now, under!, give, execute, step}
 use Rattle.definition.specs.Loading.{define, recorded, started, withEntry}
 use Rattle.definition.specs.Tables.{Rows, worldOf}
-use Rattle.definition.specs.Calls.{stepRefusals, refusalsOf, Call, callBoot, callDefine, callRecord, callStart, callStep, callRun, callDrop, defineRows, recordRows, startRows, dropRows, stepTask, stepOn, stepRows}
+use Rattle.definition.specs.Calls.{stepRefusals, refusalsOf, Call, callBoot, callDefine, callRecord, callStart, callStep, callRun, callDrop, defineRows, recordRows, startRows, dropRows, stepTask, stepOn, stepRows, RowCall, rowDefine, rowRecord, rowStart, rowDrop, onRowCall, callRows, rowRefusals}
 
 -- what holds of the refusal, if it is one
 abbrev pub Refuses : {A : Type 0} → (Refusal → Type 0) → Result A → Type 0
@@ -186,14 +186,17 @@ pub record StepNeeds (r : Rows) (l n : ℕ) : Type 0 where
   pub loader : reads .theClass .loader ≡ l
 
 -- the one request that a call needs: a definition its superclass, a start its class, a step the class that its instruction names
+abbrev pub RowNeeds : RowCall → Rows → ℕ → ℕ → Type 0
+RowNeeds (rowDefine k bs) r l n = (f : File) × (readFile bs ≡ some f) × (l ≡ k) × (n ≡ f .super)
+RowNeeds (rowRecord k x c) r l n = ⊥
+RowNeeds (rowStart j k x m v) r l n = (l ≡ k) × (n ≡ x)
+RowNeeds (rowDrop j) r l n = ⊥
+
 abbrev pub Needs : Call → Rows → ℕ → ℕ → Type 0
 Needs callBoot r l n = ⊥
-Needs (callDefine k bs) r l n = (f : File) × (readFile bs ≡ some f) × (l ≡ k) × (n ≡ f .super)
-Needs (callRecord k x c) r l n = ⊥
-Needs (callStart j k x m v) r l n = (l ≡ k) × (n ≡ x)
+Needs (callRows c) r l n = RowNeeds c r l n
 Needs callStep r l n = StepNeeds r l n
 Needs (callRun k) r l n = ⊥
-Needs (callDrop j) r l n = ⊥
 
 abbrev pub Due : Call → Rows → Refusal → Type 0
 Due c r (Wanted l n) = (any (eqb 5) (refusalsOf c) ≡ true) × Needs c r l n × (find (r .cache) (at l n) ≡ none)
@@ -220,16 +223,16 @@ step-due r = go (r .quote) (r .report) (λ f fs e. e)
     go [] (f ∷ fs) s = unfold stepOn in task 1 f fs (s f fs refl)
     go [] [] s = unfold stepOn in tt
 
-pub define-due : (l : ℕ) (bs : List ℕ) (r : Rows) → Refuses (Due (callDefine l bs) r) (defineRows l bs r)
-unfolding defineRows define refusalsOf any
+define-due : (l : ℕ) (bs : List ℕ) (r : Rows) → Refuses (Due (callDefine l bs) r) (defineRows l bs r)
+unfolding defineRows define refusalsOf rowRefusals any
 define-due l bs r =
     let P : Refusal → Type 0 = Due (callDefine l bs) r in
     on-need P _ _ _ refl (λ _. on-take P _ _ _ (λ _. refl) (λ f e. on-bind P _ _
     (on-take P _ _ _ (λ _. refl) (λ _ _. on-need P _ _ _ refl (λ _. on-take P _ _ _ (λ m. (refl, (f, e, refl, refl), m)) (λ _ _.
     on-need P _ _ _ refl (λ _. on-need P _ _ _ refl (λ _. on-need P _ _ _ refl (λ _. tt))))))) (λ _ _. tt)))
 
-pub record-due : (l n c : ℕ) (r : Rows) → Refuses (Due (callRecord l n c) r) (recordRows l n c r)
-unfolding recordRows recorded refusalsOf any
+record-due : (l n c : ℕ) (r : Rows) → Refuses (Due (callRecord l n c) r) (recordRows l n c r)
+unfolding recordRows recorded refusalsOf rowRefusals any
 record-due l n c r =
     on-bind P _ _ (on-need P _ _ _ refl (λ _. on-take P _ _ _ (λ _. refl) (λ _ _. on-need P _ _ _ refl (λ _. go (find (r .cache) (at l n)))))) (λ _ _. tt)
   where
@@ -243,14 +246,20 @@ record-due l n c r =
     go none = on-need P _ _ _ refl (λ _. on-need P _ _ _ refl (λ _. tt))
     go (some d) = on-need P _ _ _ refl (λ _. tt)
 
-pub start-due : (k l n m v : ℕ) (r : Rows) → Refuses (Due (callStart k l n m v) r) (startRows k l n m v r)
-unfolding startRows started refusalsOf any
+start-due : (k l n m v : ℕ) (r : Rows) → Refuses (Due (callStart k l n m v) r) (startRows k l n m v r)
+unfolding startRows started refusalsOf rowRefusals any
 start-due k l n m v r =
     let P : Refusal → Type 0 = Due (callStart k l n m v) r in
     on-need P _ _ _ refl (λ _. on-bind P _ _
     (on-need P _ _ _ refl (λ _. on-need P _ _ _ refl (λ _. on-take P _ _ _ (λ e. (refl, (refl, refl), e)) (λ _ _.
     on-take P _ _ _ (λ _. refl) (λ _ _. on-take P _ _ _ (λ _. refl) (λ _ _. on-need P _ _ _ refl (λ _. tt))))))) (λ _ _. tt))
 
-pub drop-due : (k : ℕ) (r : Rows) → Refuses (Due (callDrop k) r) (dropRows k r)
-unfolding dropRows refusalsOf any
+drop-due : (k : ℕ) (r : Rows) → Refuses (Due (callDrop k) r) (dropRows k r)
+unfolding dropRows refusalsOf rowRefusals any
 drop-due k r = on-need (Due (callDrop k) r) _ _ _ refl (λ _. tt)
+
+pub rows-due : (c : RowCall) (r : Rows) → Refuses (Due (callRows c) r) (onRowCall c r)
+rows-due (rowDefine l bs) r = define-due l bs r
+rows-due (rowRecord l n c) r = record-due l n c r
+rows-due (rowStart k l n m v) r = start-due k l n m v r
+rows-due (rowDrop k) r = drop-due k r

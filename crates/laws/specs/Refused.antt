@@ -21,10 +21,10 @@ use Rattle.definition.specs.Constraints.{World}
 use Rattle.definition.specs.Machine.{Frame}
 use Rattle.definition.specs.Tables.{Tables, shaped, Rows, worldOf, view, put}
 use Rattle.definition.specs.Broken.{broken}
-use Rattle.definition.specs.Calls.{Given, bootRows, defineRows, recordRows, startRows, dropRows, answerOf, stepTask, stepOn, stepRows, Done, done, wrap, boot, stepTables, runFrom, run, Call, callBoot, callDefine, callRecord, callStart, callStep, callRun, callDrop, stepRefusals, refusalsOf, perform}
+use Rattle.definition.specs.Calls.{Given, bootRows, defineRows, recordRows, startRows, dropRows, answerOf, stepTask, stepOn, stepRows, Done, done, wrap, boot, stepTables, runFrom, run, Call, callBoot, callStep, callRun, stepRefusals, refusalsOf, perform, RowCall, rowDefine, rowRecord, rowStart, rowDrop, onRowCall, callRows}
 use Rattle.laws.specs.Wrapped.{wrapped, Ok, then, ok-at}
 use Rattle.laws.specs.Runs.{run-is}
-use Rattle.laws.specs.Refusals.{Refuses, Needs, Due, due-listed, step-due, define-due, record-due, start-due, drop-due}
+use Rattle.laws.specs.Refusals.{Refuses, Needs, Due, due-listed, step-due, rows-due}
 
 -- the refusal of a call, if it is one. A run that ends in a refused step is itself accepted.
 abbrev pub refusal : Reply → Option Refusal
@@ -45,21 +45,27 @@ Went g = refusal (Stepped (g .answer)) ≡ none
 
 -- What is accepted on rows answers no refusal
 
-pub define-taken : (l : ℕ) (bs : List ℕ) (r : Rows) → Ok (defineRows l bs r) Taken
+define-taken : (l : ℕ) (bs : List ℕ) (r : Rows) → Ok (defineRows l bs r) Taken
 unfolding defineRows
 define-taken l bs r = then Taken _ _ (λ _ _. then Taken _ _ (λ _ _. then Taken _ _ (λ _ _. refl)))
 
-pub record-taken : (l n c : ℕ) (r : Rows) → Ok (recordRows l n c r) Taken
+record-taken : (l n c : ℕ) (r : Rows) → Ok (recordRows l n c r) Taken
 unfolding recordRows
 record-taken l n c r = then Taken _ _ (λ _ _. refl)
 
-pub start-taken : (k l n m v : ℕ) (r : Rows) → Ok (startRows k l n m v r) Taken
+start-taken : (k l n m v : ℕ) (r : Rows) → Ok (startRows k l n m v r) Taken
 unfolding startRows
 start-taken k l n m v r = then Taken _ _ (λ _ _. then Taken _ _ (λ _ _. refl))
 
-pub drop-taken : (k : ℕ) (r : Rows) → Ok (dropRows k r) Taken
+drop-taken : (k : ℕ) (r : Rows) → Ok (dropRows k r) Taken
 unfolding dropRows
 drop-taken k r = then Taken _ _ (λ _ _. refl)
+
+pub rows-taken : (c : RowCall) (r : Rows) → Ok (onRowCall c r) Taken
+rows-taken (rowDefine l bs) r = define-taken l bs r
+rows-taken (rowRecord l n c) r = record-taken l n c r
+rows-taken (rowStart k l n m v) r = start-taken k l n m v r
+rows-taken (rowDrop k) r = drop-taken k r
 
 answer-went : (k : ℕ) (o : Option ℕ) → refusal (Stepped (answerOf k o)) ≡ none
 unfolding answerOf
@@ -138,12 +144,9 @@ step-refusing t w = wrap-refusing callStep t Refused (λ a. refusal (Stepped a))
 pub refused-same : (c : Call) (t : Tables) (w : Refusal) → refusal (perform c t .answer) ≡ some w → Refusing c t (perform c t .tables) w
 unfolding perform refusalsOf any
 refused-same callBoot t w q = boot-refusing t w q
-refused-same (callDefine l bs) t w q = wrap-refusing _ t Denied refusal (λ w. refl) (defineRows l bs) (define-taken l bs (view t)) (define-due l bs (view t)) refl w q
-refused-same (callRecord l n c) t w q = wrap-refusing _ t Denied refusal (λ w. refl) (recordRows l n c) (record-taken l n c (view t)) (record-due l n c (view t)) refl w q
-refused-same (callStart k l n m v) t w q = wrap-refusing _ t Denied refusal (λ w. refl) (startRows k l n m v) (start-taken k l n m v (view t)) (start-due k l n m v (view t)) refl w q
+refused-same (callRows c) t w q = wrap-refusing (callRows c) t Denied refusal (λ w. refl) (onRowCall c) (rows-taken c (view t)) (rows-due c (view t)) refl w q
 refused-same callStep t w q = step-refusing t w q
 refused-same (callRun n) t w q = run-refusing n t w q
-refused-same (callDrop k) t w q = wrap-refusing _ t Denied refusal (λ w. refl) (dropRows k) (drop-taken k (view t)) (drop-due k (view t)) refl w q
 
 -- its word is listed
 pub refused-listed : (c : Call) (t : Tables) (w : Refusal) → refusal (perform c t .answer) ≡ some w → any (eqb (number w)) (refusalsOf c) ≡ true

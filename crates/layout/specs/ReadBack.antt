@@ -9,12 +9,13 @@ use lib.ListN.{length, getD, set, length-set}
 use lib.Seq.{take-all}
 use lib.Dec.{leb}
 use borrow.Author.Tests.{eqb-true, eq-eqb}
+use Rattle.definition.specs.Numbers.{countClasses, countKept, countCache, countTies, countSubtypes, countObjects, countFrames}
 use Rattle.definition.specs.Lists.{rows, writeRows, stack, writeStack}
 use Rattle.definition.specs.Maybe.{_>>=_, need}
 use Rattle.definition.specs.Classes.{Base, Entry, slots, slotsIn, ownSlots}
 use Rattle.definition.specs.Machine.{Value, emptyValue, intValue, nullValue, objectValue, unlistedValue, Object, Frame}
 use Rattle.definition.specs.File.{File, byte, readFile, objectClass}
-use Rattle.definition.specs.Tables.{Tables, shaped, ClassRow, Rows, fileAt, classAt, baseOf, worldOf, sizeOf, classRowAt, putClassRow, entryAt, putEntry, tieAt, putTie, subtypeAt, putSubtype, objectAt, putObject, operandAt, frameOf, frameAt, putFrame, frameBase, frameIn, putFrameIn, viewBase, objectsOf, framesOf, viewOver, view, countsOf, put}
+use Rattle.definition.specs.Tables.{Tables, shaped, ClassRow, Rows, rowsOf, fileAt, classAt, baseOf, worldOf, sizeOf, classRowAt, putClassRow, entryAt, putEntry, tieAt, putTie, subtypeAt, putSubtype, objectAt, putObject, operandAt, frameOf, frameAt, putFrame, frameBase, frameIn, putFrameIn, viewBase, objectsOf, framesOf, viewOver, view, countsOf, put}
 use Rattle.layout.specs.Tests.{All, From, every-true, true-every, all-more}
 use Rattle.layout.specs.Places.{rows-take, stack-length, stack-cong, all-stack, writeRows-length, writeStack-length, writeStack-keeps, rows-written, stack-written}
 use Rattle.layout.specs.Rows.{rows-back, class-rows, entry-rows, tie-rows, subtype-rows, cell-rows}
@@ -249,23 +250,13 @@ module _ (r : Rows) (t : Tables) (l : Lengths t) (w : Whole r) where
   pub view-put : view (put r t) ≡ r
   unfolding view viewOver objectsOf framesOf put countsOf
   view-put =
-      (λ i. record {
-        classes = rows (classRowAt (put r t .classes)) (getD (counted i) 0 0) 0;
-        kept = rows (λ j. getD (put r t .kept) j 0) (getD (counted i) 1 0) 0;
-        cache = rows (entryAt (put r t .cache)) (getD (counted i) 2 0) 0;
-        ties = rows (tieAt (put r t .ties)) (getD (counted i) 3 0) 0;
-        subtypes = rows (subtypeAt (put r t .subtypes)) (getD (counted i) 4 0) 0;
-        objects = rows (objectAt (base-read i) (put r t .objects)) (getD (counted i) 5 0) 0;
-        quote = stack (frameIn (put r t .frames) 0) (getD (counted i) 6 0);
-        report = stack (frameIn (put r t .frames) 1) (getD (counted i) 7 0);
-      })
-      ∙ (λ i. record {
-        classes = classes-read i;
-        kept = kept-read i;
-        cache = cache-read i;
-        ties = ties-read i;
-        subtypes = subtypes-read i;
-        objects = objects-read i;
-        quote = quote-read i;
-        report = report-read i;
-      })
+      (λ i. rowsOf
+      (rows (classRowAt (put r t .classes)) (getD (counted i) countClasses 0) 0)
+      (rows (λ j. getD (put r t .kept) j 0) (getD (counted i) countKept 0) 0)
+      (rows (entryAt (put r t .cache)) (getD (counted i) countCache 0) 0)
+      (rows (tieAt (put r t .ties)) (getD (counted i) countTies 0) 0)
+      (rows (subtypeAt (put r t .subtypes)) (getD (counted i) countSubtypes 0) 0)
+      (rows (objectAt (base-read i) (put r t .objects)) (getD (counted i) countObjects 0) 0)
+      (stack (frameIn (put r t .frames) 0) (getD (counted i) countFrames 0))
+      (stack (frameIn (put r t .frames) 1) (getD (counted i) (countFrames + 1) 0)))
+      ∙ (λ i. rowsOf (classes-read i) (kept-read i) (cache-read i) (ties-read i) (subtypes-read i) (objects-read i) (quote-read i) (report-read i))

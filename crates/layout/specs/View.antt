@@ -12,8 +12,8 @@ use Rattle.definition.specs.Classes.{Base, Class}
 use Rattle.definition.specs.Constraints.{Tie, Subtype}
 use Rattle.definition.specs.Machine.{Value, Frame, Progress, existing}
 use Rattle.definition.specs.Loading.{withClass, withEntry}
-use Rattle.definition.specs.Tables.{Tables, tables, classAt, worldOf, putThree, classRowAt, putClassRow, putEntry, putTie, putSubtype, objectAt, putObject, localAt, putLocal, operandAt, putOperand, frameOf, putFrame, frameBase, frameIn, putFrameIn, classRowsOf, keptOf, tiesOf, viewBase, objectsOf, framesOf, viewOver, put}
-use Rattle.definition.specs.Calls.{addFile, addEntry, progressed, withFrames}
+use Rattle.definition.specs.Tables.{Tables, tables, classAt, worldOf, putThree, classRowAt, putClassRow, putEntry, putTie, putSubtype, objectAt, putObject, localAt, putLocal, operandAt, putOperand, frameOf, putFrame, frameBase, frameIn, putFrameIn, classRowsOf, keptOf, tiesOf, viewBase, objectsOf, framesOf, viewOver, put, withFrames}
+use Rattle.definition.specs.Calls.{addFile, addEntry, progressed}
 use Rattle.layout.specs.Places.{rows-map, rows-there, rows-past, stack-length, stack-cong, writeStack-above, writeStack-two}
 use Rattle.layout.specs.Rows.{class-rows, entry-rows, cell-rows}
 use Rattle.layout.specs.Values.{Unread, unread-value}
@@ -26,20 +26,20 @@ use Rattle.layout.specs.Fills.{put-fills, fill-more, fill-last, count-se
 module _ (b : Base) (t : Tables) where
   -- a task's frames alone
   pub frames-writes : (k : ℕ) (fs : List Frame) (n : ℕ) (u : List ℕ) → k < 2 → FillsTask k fs t n u
-      → put (withFrames k (viewOver b t) fs) t
+      → put (withFrames k fs (viewOver b t)) t
       ≡ tables (set (t .counts) (6 + k) n) (t .classes) (t .kept) (t .cache) (t .ties) (t .subtypes) (t .objects) u
   unfolding viewOver
   frames-writes zero fs n u two h =
-      put-fills (withFrames 0 (viewOver b t) fs) t (classes-fill t) (kept-fill t) (cache-fill t) (ties-fill t) (subtypes-fill t) (objects-fill t b)
+      put-fills (withFrames 0 fs (viewOver b t)) t (classes-fill t) (kept-fill t) (cache-fill t) (ties-fill t) (subtypes-fill t) (objects-fill t b)
       (quote-fill t fs n u h) (count-set 6 n (omega arith) (counts-fill t))
   frames-writes (suc zero) fs n u two h =
-      put-fills (withFrames 1 (viewOver b t) fs) t (classes-fill t) (kept-fill t) (cache-fill t) (ties-fill t) (subtypes-fill t) (objects-fill t b)
+      put-fills (withFrames 1 fs (viewOver b t)) t (classes-fill t) (kept-fill t) (cache-fill t) (ties-fill t) (subtypes-fill t) (objects-fill t b)
       (report-fill t fs n u h) (count-set 7 n (omega arith) (counts-fill t))
   frames-writes (suc (suc k)) fs n u two h = absurd (omega arith)
 
   -- drop: one count
   pub drop-writes : (k : ℕ) → k < 2
-      → put (withFrames k (viewOver b t) []) t
+      → put (withFrames k [] (viewOver b t)) t
       ≡ tables (set (t .counts) (6 + k) 0) (t .classes) (t .kept) (t .cache) (t .ties) (t .subtypes) (t .objects) (t .frames)
   unfolding writeStack
   drop-writes k two = frames-writes k [] 0 (t .frames) two (record { count = refl; cells = refl; apart = λ e. refl })

@@ -9,9 +9,9 @@ use Rattle.definition.specs.declared.Refusal.the-variants.{Word}
 use Rattle.definition.specs.declared.Reply.the-variants.{Accepted, Denied}
 use Rattle.definition.specs.Lists.{writeRows, writeStack}
 use Rattle.definition.specs.Answers.{_>>=_, need}
-use Rattle.definition.specs.Tables.{Tables, tables, shaped, putThree, putClassRow, putEntry, countsOf, view, viewBase, put}
+use Rattle.definition.specs.Tables.{Tables, tables, shaped, putThree, putClassRow, putEntry, countsOf, view, viewBase, put, withFrames}
 use Rattle.definition.specs.Broken.{broken}
-use Rattle.definition.specs.Calls.{done, boot, withFrames, dropRows, callBoot, callDrop, perform}
+use Rattle.definition.specs.Calls.{done, boot, dropRows, callBoot, callDrop, perform}
 use Rattle.layout.specs.View.{drop-writes}
 use Rattle.entries.proofs.Calls.{wrap-broken, wrap-refused, wrap-given}
 
@@ -45,6 +45,6 @@ module _ (t : Tables) (k : ℕ) where
         ≡ perform (callDrop k) t
     unfolding perform dropRows need _>>=_ view
     drop-done h =
-        wrap-given Denied (dropRows k) t sound Accepted (withFrames k (view t) [])
+        wrap-given Denied (dropRows k) t sound Accepted (withFrames k [] (view t))
         (tables (set (t .counts) (6 + k) 0) (t .classes) (t .kept) (t .cache) (t .ties) (t .subtypes) (t .objects) (t .frames))
         (rw (lt-ltb k 2 h, need)) (drop-writes (viewBase t) t k h)

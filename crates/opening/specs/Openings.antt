@@ -18,8 +18,7 @@ use Rattle.definition.specs.declared.Refusal.the-variants.{Wanted, Word}
 use Rattle.definition.specs.Answers.{Result, refused, ok, _>>=_, need, take?}
 use Rattle.definition.specs.Machine.{intValue, Object, newObject, entryFrame, Progress}
 use Rattle.definition.specs.Loading.{started}
-use Rattle.definition.specs.Tables.{Tables, tables, frameIn, objectsOf, framesOf, viewOver}
-use Rattle.definition.specs.Calls.{framesIn}
+use Rattle.definition.specs.Tables.{Tables, tables, frameIn, objectsOf, framesOf, viewOver, framesIn}
 use Rattle.layout.specs.Places.{stack-length}
 use Rattle.layout.specs.View.{countAt, objects-fill}
 use Rattle.resolution.specs.Quick.{quickBase}

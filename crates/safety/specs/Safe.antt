@@ -20,9 +20,10 @@ use Rattle.laws.specs.Agreement.{agrees-true, find-row, super-falls, super-is}
 use Rattle.laws.specs.Members.{method-at}
 use Rattle.laws.specs.Options.{nth-last}
 use Rattle.laws.specs.Results.{Wp, not-wanted, not-word, wp-need, wp-take}
+use Rattle.laws.specs.Tasks.{of-task}
 use Rattle.laws.specs.Tests.{none-is}
 use Rattle.laws.specs.Upward.{nearest-below}
-use Rattle.safety.specs.Store.{Store, booted, inQuote, inReport, inWorld}
+use Rattle.safety.specs.Store.{Store, booted, inTask, inWorld}
 use Rattle.safety.specs.Loads.{linked-class, linked-entry, ss, us}
 use Rattle.safety.specs.Operands.{as-int}
 use Rattle.safety.specs.Later.{Kept, heap-grows, heap-more, later-more, later-same, zeros-conform, entered-top}
@@ -110,13 +111,14 @@ valid-world s (ok w) v h =
     let z : Later (s .world) (s .objects) w (s .objects) = record { grows = h .grows; objects = numbered-same (s .objects) } in
     record { linked = h .linked; heap = heap-grows (s .world) w (rooted (v .linked)) (h .grows) (s .objects) (v .heap) z; quote = later-stack z (s .quote) (v .quote); report = later-stack z (s .report) (v .report) }
 
-pub valid-quote : (s : Store) (r : Result Progress) → Valid s → Wp r (Kept (s .world) (s .objects)) → Valid (inQuote s r)
-valid-quote s (refused w) v h = v
-valid-quote s (ok o) v h = record { linked = h .linked; heap = h .heap; quote = h .stack; report = later-stack (h .later) (s .report) (v .report) }
-
-pub valid-report : (s : Store) (r : Result Progress) → Valid s → Wp r (Kept (s .world) (s .objects)) → Valid (inReport s r)
-valid-report s (refused w) v h = v
-valid-report s (ok o) v h = record { linked = h .linked; heap = h .heap; report = h .stack; quote = later-stack (h .later) (s .quote) (v .quote) }
+pub valid-task : (k : ℕ) (s : Store) (r : Result Progress) → Valid s → Wp r (Kept (s .world) (s .objects)) → Valid (inTask k s r)
+valid-task k s (refused w) v h = v
+valid-task k s (ok o) v h = record {
+  linked = h .linked;
+  heap = h .heap;
+  quote = of-task (Stack (o .world) (o .objects)) k (h .stack) (later-stack (h .later) (s .quote) (v .quote));
+  report = of-task (Stack (o .world) (o .objects)) k (later-stack (h .later) (s .report) (v .report)) (h .stack);
+}
 
 pub valid-booted : Valid booted
 valid-booted = record {

@@ -18,13 +18,14 @@ use Rattle.definition.specs.Answers.{number, numberOf, endsIn, numberOfStep, Re
 use Rattle.definition.specs.Constraints.{World, Agrees}
 use Rattle.definition.specs.File.{classOf}
 use Rattle.definition.specs.Machine.{Frame, Progress}
-use Rattle.definition.specs.Tables.{Tables, shaped, Rows, worldOf, view, put}
+use Rattle.definition.specs.Tables.{Tables, shaped, Rows, worldOf, view, put, framesIn, withFrames}
 use Rattle.definition.specs.Broken.{broken}
-use Rattle.definition.specs.Calls.{Given, bootRows, progressed, framesIn, withFrames, defineRows, recordRows, startRows, dropRows, answerOf, stepTask, stepOn, stepRows, Done, done, wrap, boot, stepTables, runFrom, run, Call, callBoot, callDefine, callRecord, callStart, callStep, callRun, callDrop, perform, performAll, ComesFromBoot}
+use Rattle.definition.specs.Calls.{Given, bootRows, progressed, defineRows, recordRows, startRows, dropRows, answerOf, stepTask, stepOn, stepRows, Done, done, wrap, boot, stepTables, runFrom, run, Call, callBoot, callStep, callRun, perform, performAll, ComesFromBoot, RowCall, rowDefine, rowRecord, rowStart, rowDrop, onRowCall, callRows, afterBoot, afterCall}
 use Rattle.definition.specs.Misplaced.{misplaced}
 use Rattle.definition.specs.Safety.{Safe}
 use Rattle.laws.specs.Results.{NotStuck, Wp, not-word, ok-inj, wp-need, wp-take}
 use Rattle.laws.specs.Runs.{runs-end}
+use Rattle.laws.specs.Tasks.{of-task}
 use Rattle.laws.specs.Wrapped.{wrapped, Ok, ok-at}
 use Rattle.layout.specs.Tests.{All}
 use Rattle.layout.specs.Whole.{Whole, Framed}
@@ -32,13 +33,13 @@ use Rattle.layout.specs.Unbroken.{true-whole, broken-false}
 use Rattle.layout.specs.ReadBack.{Lengths, shaped-true, true-shaped, view-put, object-class}
 use Rattle.unbroken.specs.Steps.{step-moves}
 use Rattle.unbroken.specs.OnRows.{accepted-shaped}
-use Rattle.unbroken.specs.Calls.{world-recorded, world-defined, define-whole, record-whole, start-whole, step-whole, drop-whole, boot-whole}
+use Rattle.unbroken.specs.Calls.{world-recorded, world-defined, step-whole, rows-whole, boot-whole}
 use Rattle.unbroken.specs.WholeRows.{ready, start-moves, world-progressed}
 use Rattle.safety.specs.Store.{Store, storeOf, booted}
 use Rattle.safety.specs.Valid.{Stack}
 use Rattle.safety.specs.Later.{Kept}
 use Rattle.safety.specs.Steps.{step-kept}
-use Rattle.safety.specs.Safe.{Valid, Loaded, define-kept, record-kept, start-kept, valid-world, valid-quote, valid-report, valid-booted}
+use Rattle.safety.specs.Safe.{Valid, Loaded, define-kept, record-kept, start-kept, valid-world, valid-task, valid-booted}
 use Rattle.safety.specs.Misplaced.{valid-placed}
 use Rattle.safety.specs.Words.{placed-words}
 
@@ -94,8 +95,7 @@ module _ (r : Rows) (w : Whole r) (v : Good r) where
       (subst (λ (z : World). Valid (in-world S z)) (sym (world-recorded r w l n c x e)) (valid-world S (ok x) v h), (zero-fine, zero-fine)))
 
   progress-good : (k : ℕ) (o : Progress) → worldOf (progressed k r o) ≡ o .world → Kept (S .world) (S .objects) o → Good (progressed k r o)
-  progress-good zero o q h = subst (λ (z : World). Valid (record { world = z; objects = o .objects; quote = o .frames; report = r .report })) (sym q) (valid-quote S (ok o) v h)
-  progress-good (suc k) o q h = subst (λ (z : World). Valid (record { world = z; objects = o .objects; quote = r .quote; report = o .frames })) (sym q) (valid-report S (ok o) v h)
+  progress-good k o q h = subst (λ (z : World). Valid (in-world (storeOf (progressed k r o)) z)) (sym q) (valid-task k S (ok o) v h)
 
   start-good : (k l n m x : ℕ) → Wp (startRows k l n m x r) Q
   unfolding startRows numberOf endsIn
@@ -123,13 +123,23 @@ module _ (r : Rows) (w : Whole r) (v : Good r) where
       go [] (f ∷ fs) x y a b c d = unfold stepOn in task-good 1 f fs y b d
       go [] [] x y a b c d = unfold stepOn numberOfStep in (v, zero-fine)
 
-  dropped-good : (k : ℕ) → Good (withFrames k r [])
-  dropped-good zero = record { linked = v .linked; heap = v .heap; quote = tt; report = v .report }
-  dropped-good (suc k) = record { linked = v .linked; heap = v .heap; quote = v .quote; report = tt }
+  dropped-good : (k : ℕ) → Good (withFrames k [] r)
+  dropped-good k = record {
+    linked = v .linked;
+    heap = v .heap;
+    quote = of-task (Stack (S .world) (S .objects)) k {q = []} tt (v .quote);
+    report = of-task (Stack (S .world) (S .objects)) k {p = []} (v .report) tt;
+  }
 
   drop-good : (k : ℕ) → Wp (dropRows k r) Q
   unfolding dropRows numberOf endsIn
   drop-good k = wp-need Q _ _ _ (not-word 3 (omega arith)) (λ _. (dropped-good k, (zero-fine, zero-fine)))
+
+  rows-good : (c : RowCall) → Wp (onRowCall c r) Q
+  rows-good (rowDefine l bs) = define-good l bs
+  rows-good (rowRecord l n c) = record-good l n c
+  rows-good (rowStart k l n m x) = start-good k l n m x
+  rows-good (rowDrop k) = drop-good k
 
 boot-good : Good bootRows
 boot-good = subst Valid (sym same) valid-booted
@@ -204,12 +214,9 @@ boot-sane t h = rw (h, boot) ((unfold numberOf endsIn in (zero-fine, zero-fine))
 perform-sane : (c : Call) (t : Tables) → Sane t → Fine (perform c t .answer) × Sane (perform c t .tables)
 unfolding perform
 perform-sane callBoot t s = boot-sane t (true-shaped t (broken-false t (s .unbroken) .0))
-perform-sane (callDefine l bs) t s = wrap-sane Denied Fine (defineRows l bs) t s denied-fine (λ r w. define-whole r w l bs) (λ r w v. define-good r w v l bs)
-perform-sane (callRecord l n c) t s = wrap-sane Denied Fine (recordRows l n c) t s denied-fine (λ r w. record-whole r w l n c) (λ r w v. record-good r w v l n c)
-perform-sane (callStart k l n m x) t s = wrap-sane Denied Fine (startRows k l n m x) t s denied-fine (λ r w. start-whole r w k l n m x) (λ r w v. start-good r w v k l n m x)
+perform-sane (callRows c) t s = wrap-sane Denied Fine (onRowCall c) t s denied-fine (λ r w. rows-whole r w c) (λ r w v. rows-good r w v c)
 perform-sane callStep t s = let d = step-sane t s in unfold numberOf endsIn in ((d .0, zero-fine), d .1)
 perform-sane (callRun n) t s = run-sane n t s
-perform-sane (callDrop k) t s = wrap-sane Denied Fine (dropRows k) t s denied-fine (λ r w. drop-whole r w k) (λ r w v. drop-good r w v k)
 
 all-sane : (cs : List Call) (t : Tables) → Sane t → ((i : ℕ) (a : Reply) → getElem? (performAll cs t .answer) i ≡ some a → Fine a) × Sane (performAll cs t .tables)
 unfolding performAll
@@ -235,8 +242,10 @@ safety t h cs = safe-on (boot t .tables) (boot-sane t (accepted-shaped t h) .1) 
 
 -- Every store that comes from a boot
 
+-- what an accepted boot leaves is sane, and every call keeps a sane store so
 from-boot : (t : Tables) → ComesFromBoot t → Sane t
-from-boot t b = subst Sane (b .leaves) (all-sane (b .calls) (boot (b .before) .tables) (boot-sane (b .before) (accepted-shaped (b .before) (b .accepted)) .1) .1)
+from-boot t (afterBoot u a) = boot-sane u (accepted-shaped u a) .1
+from-boot t (afterCall c u b) = perform-sane c u (from-boot u b) .1
 
 -- whatever calls follow: nothing is misplaced or broken, and no call is stuck
 pub safe-from-boot : (t : Tables) → ComesFromBoot t → (cs : List Call) → Safe (performAll cs t)
@@ -247,15 +256,32 @@ pub agrees-from-boot : (t : Tables) → ComesFromBoot t → Agrees (worldOf (vie
 agrees-from-boot t b = from-boot t b .valid .linked .agreed
 
 -- and what calls make of it comes from that boot too
-calls-join : (ds cs : List Call) (t : Tables) → performAll (ds ++ cs) t .tables ≡ performAll cs (performAll ds t .tables) .tables
-unfolding performAll
-calls-join [] cs t = refl
-calls-join (d ∷ ds) cs t = calls-join ds cs (perform d t .tables)
-
 pub later-from-boot : (t : Tables) → ComesFromBoot t → (cs : List Call) → ComesFromBoot (performAll cs t .tables)
-later-from-boot t b cs = record {
-  before = b .before;
-  accepted = b .accepted;
-  calls = b .calls ++ cs;
-  leaves = calls-join (b .calls) cs (boot (b .before) .tables) ∙ ap (λ (z : Tables). performAll cs z .tables) (b .leaves);
+unfolding performAll
+later-from-boot t b [] = b
+later-from-boot t b (c ∷ cs) = later-from-boot (perform c t .tables) (afterCall c t b) cs
+
+-- A store comes from a boot exactly if a list of calls leads to it from what an accepted boot leaves
+
+pub record LedTo (t : Tables) : Type 0 where
+  pub before : Tables
+  pub accepted : boot before .answer ≡ Accepted
+  pub calls : List Call
+  pub leaves : performAll calls (boot before .tables) .tables ≡ t
+
+pub led-from-boot : (t : Tables) → LedTo t → ComesFromBoot t
+led-from-boot t l = subst ComesFromBoot (l .leaves) (later-from-boot (boot (l .before) .tables) (afterBoot (l .before) (l .accepted)) (l .calls))
+
+one-more : (cs : List Call) (c : Call) (t : Tables) → performAll (cs ++ (c ∷ [])) t .tables ≡ perform c (performAll cs t .tables) .tables
+unfolding performAll
+one-more [] c t = refl
+one-more (d ∷ cs) c t = one-more cs c (perform d t .tables)
+
+pub from-boot-led : (t : Tables) → ComesFromBoot t → LedTo t
+from-boot-led t (afterBoot u a) = record { before = u; accepted = a; calls = []; leaves = unfold performAll in refl }
+from-boot-led t (afterCall c u b) = let l = from-boot-led u b in record {
+  before = l .before;
+  accepted = l .accepted;
+  calls = l .calls ++ (c ∷ []);
+  leaves = one-more (l .calls) c (boot (l .before) .tables) ∙ ap (λ (z : Tables). perform c z .tables) (l .leaves);
 }

@@ -1,10 +1,11 @@
 -- The store over classes, as the invariant speaks of it.
 use mathlib.Core.List.{List, [], _∷_}
+use Prim.Native.Nat.{ℕ}
 use Rattle.definition.specs.Requests.{at}
 use Rattle.definition.specs.Constraints.{World}
 use Rattle.definition.specs.Machine.{Object, Frame, Progress}
 use Rattle.definition.specs.Answers.{Result, refused, ok}
-use Rattle.definition.specs.Tables.{Rows, worldOf}
+use Rattle.definition.specs.Tables.{Rows, ofTask, worldOf}
 
 pub record Store : Type 0 where
   pub world : World
@@ -32,10 +33,6 @@ abbrev pub inWorld : Store → Result World → Store
 inWorld s (refused r) = s
 inWorld s (ok w) = record { world = w; objects = s .objects; quote = s .quote; report = s .report }
 
-abbrev pub inQuote : Store → Result Progress → Store
-inQuote s (refused r) = s
-inQuote s (ok o) = record { world = o .world; objects = o .objects; quote = o .frames; report = s .report }
-
-abbrev pub inReport : Store → Result Progress → Store
-inReport s (refused r) = s
-inReport s (ok o) = record { world = o .world; objects = o .objects; quote = s .quote; report = o .frames }
+abbrev pub inTask : ℕ → Store → Result Progress → Store
+inTask k s (refused r) = s
+inTask k s (ok o) = record { world = o .world; objects = o .objects; quote = ofTask k (o .frames) (s .quote); report = ofTask k (s .report) (o .frames) }

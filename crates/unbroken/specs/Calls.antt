@@ -9,14 +9,14 @@ use lib.ListN.{length, getElem?, length-append, length-map}
 use lib.Dec.{leb}
 use borrow.Author.Tests.{leb-true, ltb-true}
 use Rattle.definition.specs.Answers.{ok}
-use Rattle.definition.specs.Calls.{Given, addEntry, addFile, bootRows, defineRows, dropRows, recordRows, startRows, stepOn, stepRows, withFrames, stepTask, framesIn}
+use Rattle.definition.specs.Calls.{Given, addEntry, addFile, bootRows, defineRows, dropRows, recordRows, startRows, stepOn, stepRows, stepTask, RowCall, rowDefine, rowRecord, rowStart, rowDrop, onRowCall}
 use Rattle.definition.specs.Classes.{Base, Class, Entry, find, ownSlots, slots, superOf}
 use Rattle.definition.specs.Constraints.{Subtype, Tie, World}
 use Rattle.definition.specs.File.{File, classOf, readFile}
 use Rattle.definition.specs.Loading.{define, recorded, withClass, withEntry}
 use Rattle.definition.specs.Machine.{Frame}
 use Rattle.definition.specs.Requests.{at}
-use Rattle.definition.specs.Tables.{ClassRow, Rows, baseOf, classAt, fileAt, sizeOf, worldOf}
+use Rattle.definition.specs.Tables.{ClassRow, Rows, baseOf, classAt, fileAt, sizeOf, worldOf, withFrames, framesIn}
 use Rattle.laws.specs.Agreement.{find-more, is-super}
 use Rattle.laws.specs.Growth.{Grows, grows-class, grows-entry}
 use Rattle.laws.specs.Options.{nth-last}
@@ -28,7 +28,7 @@ use Rattle.layout.specs.Whole.{Between, Classes, Framed, Listed, ObjectSound, W
 use Rattle.unbroken.specs.Steps.{class-found, step-moves}
 use Rattle.laws.specs.Wrapped.{Ok, ok-at, then}
 use Rattle.unbroken.specs.Accepted.{recorded-is, defined-is}
-use Rattle.unbroken.specs.WholeRows.{cls-loader, W, N, ready, tasks-whole, whole-progressed, start-moves, same-size, grown-class, grown-objects, grown-frames, grown-cache, grown-classes, classes-last, file-more, file-last, kept-same, map-last, overs-between, subs-loader}
+use Rattle.unbroken.specs.WholeRows.{cls-loader, W, N, ready, frames-whole, whole-progressed, start-moves, same-size, grown-class, grown-objects, grown-frames, grown-cache, grown-classes, classes-last, file-more, file-last, kept-same, map-last, overs-between, subs-loader}
 
 -- Loads
 
@@ -155,15 +155,15 @@ module _ (r : Rows) (w : Whole r) where
   abbrev Stays : {A : Type 0} → Given A → Type 0
   Stays g = Whole (g .rows)
 
-  pub define-whole : (l : ℕ) (bs : List ℕ) → Ok (defineRows l bs r) Stays
+  define-whole : (l : ℕ) (bs : List ℕ) → Ok (defineRows l bs r) Stays
   unfolding defineRows
   define-whole l bs = then Stays _ _ (λ _ a. then Stays _ _ (λ f rf. then Stays _ _ (λ v e. whole-define l bs f v (ltb-true l 16 (need-ok _ _ a)) (take-ok _ _ rf) e)))
 
-  pub record-whole : (l n c : ℕ) → Ok (recordRows l n c r) Stays
+  record-whole : (l n c : ℕ) → Ok (recordRows l n c r) Stays
   unfolding recordRows
   record-whole l n c = then Stays _ _ (λ v e. whole-record l n c v e)
 
-  pub start-whole : (k l n m v : ℕ) → Ok (startRows k l n m v r) Stays
+  start-whole : (k l n m v : ℕ) → Ok (startRows k l n m v r) Stays
   unfolding startRows
   start-whole k l n m v = then Stays _ _ (λ _ _. then Stays _ _ (λ o e. whole-progressed r w k o (ok-at _ _ (start-moves r w l n m v (framesIn k r)) o e)))
 
@@ -180,13 +180,15 @@ module _ (r : Rows) (w : Whole r) where
       go [] (f ∷ fs) a b c d = unfold stepOn in task-whole 1 f fs b d
       go [] [] a b c d = unfold stepOn in w
 
-  dropped-whole : (k : ℕ) → Whole (withFrames k r [])
-  dropped-whole zero = tasks-whole r w (r .ties) (r .objects) [] (r .report) (w .limits .ties) (w .ties) (w .limits .objects) (w .objects) (omega arith) tt (w .limits .report) (w .report)
-  dropped-whole (suc k) = tasks-whole r w (r .ties) (r .objects) (r .quote) [] (w .limits .ties) (w .ties) (w .limits .objects) (w .objects) (w .limits .quote) (w .quote) (omega arith) tt
-
-  pub drop-whole : (k : ℕ) → Ok (dropRows k r) Stays
+  drop-whole : (k : ℕ) → Ok (dropRows k r) Stays
   unfolding dropRows
-  drop-whole k = then Stays _ _ (λ _ _. dropped-whole k)
+  drop-whole k = then Stays _ _ (λ _ _. frames-whole r w k [] (omega arith) tt)
+
+  pub rows-whole : (c : RowCall) → Ok (onRowCall c r) Stays
+  rows-whole (rowDefine l bs) = define-whole l bs
+  rows-whole (rowRecord l n c) = record-whole l n c
+  rows-whole (rowStart k l n m v) = start-whole k l n m v
+  rows-whole (rowDrop k) = drop-whole k
 
 pub boot-whole : Whole bootRows
 boot-whole = record {

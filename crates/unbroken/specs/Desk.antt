@@ -18,7 +18,7 @@ use Rattle.definition.specs.Tables.{Tables}
 use Rattle.definition.specs.Broken.{broken}
 use Rattle.definition.specs.Calls.{callDefine, perform}
 use Rattle.definition.specs.Desk.{verifierNumber, deskNumber}
-use Rattle.laws.specs.Causes.{cause, first, defineCauses, causes}
+use Rattle.laws.specs.Causes.{cause, first, defineCauses, rowCauses, causes}
 use Rattle.unbroken.specs.First.{found, applied, first-applies}
 
 -- the verifier doesn't ask for the loader
@@ -30,11 +30,11 @@ notes-same l f (m ∷ ms) = ap (λ (o : Option (List Note)). notesOfMethod (clas
 module _ (l : ℕ) (bs : List ℕ) (t : Tables) where
   module _ (h : broken t ≡ false) (small : l < 16) where
     unread : readFile bs ≡ none → first (causes (callDefine l bs) t) ≡ 2
-    unfolding causes defineCauses isNone
+    unfolding causes rowCauses defineCauses isNone
     unread e = rw e (found (cause 1 (broken t) ∷ cause 3 (not (ltb l 16)) ∷ []) 2 _ (h, (ap not (lt-ltb l 16 small), tt)))
 
     unverified : (f : File) → readFile bs ≡ some f → notesOf (classOf 0 f) (f .methods) ≡ none → first (causes (callDefine l bs) t) ≡ 6
-    unfolding causes defineCauses isNone
+    unfolding causes rowCauses defineCauses isNone
     unverified f e q = rw e (rw (notes-same l f (f .methods) ∙ q) (found (cause 1 (broken t) ∷ cause 3 (not (ltb l 16)) ∷ cause 2 false ∷ []) 6 _ (h, (ap not (lt-ltb l 16 small), (refl, tt)))))
 
     -- 2 or 6
@@ -52,11 +52,11 @@ module _ (l : ℕ) (bs : List ℕ) (t : Tables) where
 
   module _ (f : File) (e : readFile bs ≡ some f) where
     read : first (causes (callDefine l bs) t) ≡ 2 → ⊥
-    unfolding causes defineCauses any isNone
+    unfolding causes rowCauses defineCauses any isNone
     read q = false≢true (rw e at (applied (causes (callDefine l bs) t) 1 q))
 
     verified : (ns : List Note) → notesOf (classOf 0 f) (f .methods) ≡ some ns → first (causes (callDefine l bs) t) ≡ 6 → ⊥
-    unfolding causes defineCauses any isNone
+    unfolding causes rowCauses defineCauses any isNone
     verified ns n q = false≢true (rw (e, notes-same l f (f .methods) ∙ n) at (applied (causes (callDefine l bs) t) 5 q))
 
   -- 0

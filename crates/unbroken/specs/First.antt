@@ -18,16 +18,16 @@ use Rattle.definition.specs.Answers.{number, numberOfStep, numberOf, Result, re
 use Rattle.definition.specs.Machine.{Frame, step}
 use Rattle.definition.specs.Tables.{Tables, shaped, Rows, worldOf, view, put}
 use Rattle.definition.specs.Broken.{broken}
-use Rattle.definition.specs.Calls.{Given, bootRows, defineRows, recordRows, startRows, dropRows, stepTask, stepOn, stepRows, Done, done, carried, wrap, boot, stepTables, runFrom, run, Call, callBoot, callDefine, callRecord, callStart, callStep, callRun, callDrop, perform}
-use Rattle.laws.specs.Causes.{Cause, cause, first, frameCauses, causes}
+use Rattle.definition.specs.Calls.{Given, bootRows, stepTask, stepOn, stepRows, Done, done, carried, wrap, boot, stepTables, runFrom, run, Call, callBoot, callStep, callRun, perform, onRowCall, callRows}
+use Rattle.laws.specs.Causes.{Cause, cause, first, frameCauses, rowCauses, causes}
 use Rattle.laws.specs.Refusals.{running}
-use Rattle.laws.specs.Refused.{refusal, define-taken, record-taken, start-taken, drop-taken, step-went, runs-taken}
+use Rattle.laws.specs.Refused.{refusal, rows-taken, step-went, runs-taken}
 use Rattle.laws.specs.Wrapped.{wrap-broken, wrap-carried, Ok}
 use Rattle.layout.specs.Tests.{All}
 use Rattle.layout.specs.Whole.{Whole}
 use Rattle.layout.specs.Unbroken.{broken-false}
 use Rattle.unbroken.specs.WholeRows.{ready}
-use Rattle.unbroken.specs.Refusing.{numberIn, number-on, first-skip, define-first, record-first, start-first, drop-first}
+use Rattle.unbroken.specs.Refusing.{numberIn, number-on, first-skip, rows-first}
 use Rattle.unbroken.specs.RefusingSteps.{step-first}
 
 -- What `first` says
@@ -137,9 +137,6 @@ run-first n t = go (broken t) (leb 1 n && leb n 65535)
 pub first-applies : (c : Call) (t : Tables) → numberOf (perform c t .answer) ≡ first (causes c t)
 unfolding perform causes numberOf numberOfStep stepTables
 first-applies callBoot t = boot-first t
-first-applies (callDefine l bs) t = wrap-first Denied (λ a. a) (λ w. refl) (defineRows l bs) t _ (define-taken l bs (view t)) (λ _. define-first (view t) l bs)
-first-applies (callRecord l n c) t = wrap-first Denied (λ a. a) (λ w. refl) (recordRows l n c) t _ (record-taken l n c (view t)) (λ _. record-first (view t) l n c)
-first-applies (callStart k l n m v) t = wrap-first Denied (λ a. a) (λ w. refl) (startRows k l n m v) t _ (start-taken k l n m v (view t)) (λ _. start-first (view t) k l n m v)
+first-applies (callRows c) t = wrap-first Denied (λ a. a) (λ w. refl) (onRowCall c) t (rowCauses c (view t)) (rows-taken c (view t)) (λ _. rows-first (view t) c)
 first-applies callStep t = wrap-first Refused Stepped (λ w. refl) stepRows t _ (step-went (view t)) (λ w. step-rows-first (view t) w)
 first-applies (callRun n) t = run-first n t
-first-applies (callDrop k) t = wrap-first Denied (λ a. a) (λ w. refl) (dropRows k) t _ (drop-taken k (view t)) (λ _. drop-first (view t) k)

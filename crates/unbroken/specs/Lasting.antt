@@ -12,8 +12,8 @@ use Rattle.definition.specs.declared.Reply.{Reply}
 use Rattle.definition.specs.declared.Reply.the-variants.{Denied}
 use Rattle.definition.specs.Requests.{Request}
 use Rattle.definition.specs.Classes.{find}
-use Rattle.definition.specs.Tables.{Tables, Rows, ClassRow, worldOf, view}
-use Rattle.definition.specs.Calls.{Given, progressed, framesIn, withFrames, wrap, defineRows, recordRows, startRows, dropRows, stepTask, stepOn, stepRows, stepTables, Call, callBoot, callDefine, callRecord, callStart, callStep, callRun, callDrop, perform, performAll}
+use Rattle.definition.specs.Tables.{Tables, Rows, ClassRow, worldOf, view, framesIn, withFrames}
+use Rattle.definition.specs.Calls.{Given, progressed, wrap, defineRows, recordRows, startRows, dropRows, stepTask, stepOn, stepRows, stepTables, Call, callBoot, callStep, callRun, perform, performAll, RowCall, rowDefine, rowRecord, rowStart, rowDrop, onRowCall, callRows}
 use Rattle.definition.specs.Constraints.{World}
 use Rattle.definition.specs.Loading.{started}
 use Rattle.definition.specs.Machine.{Object, Frame, Progress, newObject}
@@ -23,7 +23,7 @@ use Rattle.laws.specs.Runs.{run-keeps}
 use Rattle.laws.specs.Wrapped.{Ok, ok-at, then}
 use Rattle.layout.specs.Tests.{All}
 use Rattle.unbroken.specs.Accepted.{Entered, Stood, recorded-is, defined-is}
-use Rattle.unbroken.specs.Calls.{define-whole, record-whole, start-whole, step-whole, drop-whole}
+use Rattle.unbroken.specs.Calls.{step-whole, rows-whole}
 use Rattle.definition.specs.Answers.{Result}
 use Rattle.unbroken.specs.Progress.{Advances, step-advances}
 use Rattle.unbroken.specs.Unbroken.{Keeps, shown}
@@ -72,12 +72,10 @@ record-lasts l n c r = then (λ (g : Given Reply). Lasts r (g .rows)) _ _ (λ v 
     cache v (inr x) q d h = subst (λ (w : World). find (w .base .cache) q ≡ some d) (x .is) (find-more (r .cache) _ q d h)
 
 progress-lasts : (k : ℕ) (r : Rows) (o : Progress) → Numbered (r .objects) (o .objects) → Lasts r (progressed k r o)
-progress-lasts zero r o n = record { cache = λ q c h. h; classes = λ c k h. h; kept = λ i b h. h; objects = n }
-progress-lasts (suc k) r o n = record { cache = λ q c h. h; classes = λ c k h. h; kept = λ i b h. h; objects = n }
+progress-lasts k r o n = record { cache = λ q c h. h; classes = λ c k h. h; kept = λ i b h. h; objects = n }
 
-frames-last : (k : ℕ) (r : Rows) (fs : List Frame) → Lasts r (withFrames k r fs)
-frames-last zero r fs = record { cache = λ q c h. h; classes = λ c k h. h; kept = λ i b h. h; objects = numbered-same (r .objects) }
-frames-last (suc k) r fs = record { cache = λ q c h. h; classes = λ c k h. h; kept = λ i b h. h; objects = numbered-same (r .objects) }
+frames-last : (k : ℕ) (r : Rows) (fs : List Frame) → Lasts r (withFrames k fs r)
+frames-last k r fs = record { cache = λ q c h. h; classes = λ c k h. h; kept = λ i b h. h; objects = numbered-same (r .objects) }
 
 started-numbered : (l n m v : ℕ) (w : World) (os : List Object) (fs : List Frame) → Ok (started l n m v w os fs) (λ o. Numbered os (o .objects))
 unfolding started
@@ -96,6 +94,12 @@ start-lasts k l n m v r = then L _ _ (λ _ _. then L _ _ (λ o e. progress-lasts
 drop-lasts : (k : ℕ) (r : Rows) → Ok (dropRows k r) (λ g. Lasts r (g .rows))
 unfolding dropRows
 drop-lasts k r = then (λ (g : Given Reply). Lasts r (g .rows)) _ _ (λ _ _. frames-last k r [])
+
+rows-last : (c : RowCall) (r : Rows) → Ok (onRowCall c r) (λ g. Lasts r (g .rows))
+rows-last (rowDefine l bs) r = define-lasts l bs r
+rows-last (rowRecord l n c) r = record-lasts l n c r
+rows-last (rowStart k l n m v) r = start-lasts k l n m v r
+rows-last (rowDrop k) r = drop-lasts k r
 
 step-lasts : (r : Rows) → Ok (stepRows r) (λ g. Lasts r (g .rows))
 unfolding stepRows
@@ -121,23 +125,17 @@ one-lasts t = wrap-lasts Refused stepRows t step-whole step-lasts
 
 abbrev pub IsBoot : Call → Type 0
 IsBoot callBoot = Unit {0}
-IsBoot (callDefine l bs) = ⊥
-IsBoot (callRecord l n c) = ⊥
-IsBoot (callStart k l n m v) = ⊥
+IsBoot (callRows c) = ⊥
 IsBoot callStep = ⊥
 IsBoot (callRun n) = ⊥
-IsBoot (callDrop k) = ⊥
 
 -- the cache never changes an entry, accepted files are kept, and an object is never freed or given another class
 pub lasting : (c : Call) → (IsBoot c → ⊥) → (t : Tables) → Lasts (view t) (view (perform c t .tables))
 unfolding perform
 lasting callBoot h t = absurd (h tt)
-lasting (callDefine l bs) h t = wrap-lasts Denied (defineRows l bs) t (λ r w. define-whole r w l bs) (define-lasts l bs)
-lasting (callRecord l n c) h t = wrap-lasts Denied (recordRows l n c) t (λ r w. record-whole r w l n c) (record-lasts l n c)
-lasting (callStart k l n m v) h t = wrap-lasts Denied (startRows k l n m v) t (λ r w. start-whole r w k l n m v) (start-lasts k l n m v)
+lasting (callRows c) h t = wrap-lasts Denied (onRowCall c) t (λ r w. rows-whole r w c) (rows-last c)
 lasting callStep h t = one-lasts t
 lasting (callRun n) h t = run-keeps (λ s. Lasts (view t) (view s)) (λ s l. lasts-join l (one-lasts s)) n t (lasts-same (view t))
-lasting (callDrop k) h t = wrap-lasts Denied (dropRows k) t (λ r w. drop-whole r w k) (drop-lasts k)
 
 pub lasting-all : (cs : List Call) → All (λ c. IsBoot c → ⊥) cs → (t : Tables) → Lasts (view t) (view (performAll cs t .tables))
 unfolding performAll

@@ -15,14 +15,14 @@ use Rattle.definition.specs.Classes.{find}
 use Rattle.definition.specs.Constraints.{World}
 use Rattle.definition.specs.File.{File, readFile, classOf}
 use Rattle.definition.specs.Tables.{Tables, Rows, worldOf, view, classAt}
-use Rattle.definition.specs.Calls.{Given, addFile, defineRows, recordRows, callDefine, callRecord, perform}
+use Rattle.definition.specs.Calls.{Given, addFile, defineRows, recordRows, callDefine, callRecord, perform, rowDefine, rowRecord}
 use Rattle.laws.specs.Options.{nth-last}
 use Rattle.laws.specs.Results.{need-ok, take-ok}
 use Rattle.laws.specs.Stable.{find-last}
 use Rattle.laws.specs.Wrapped.{Ok, ok-at, then}
 use Rattle.layout.specs.Whole.{Whole}
 use Rattle.unbroken.specs.Accepted.{Entered, Stood, recorded-is, defined-is}
-use Rattle.unbroken.specs.Calls.{world-defined, define-whole, record-whole}
+use Rattle.unbroken.specs.Calls.{world-defined, rows-whole}
 use Rattle.unbroken.specs.Unbroken.{shown}
 
 -- class c was defined by loader l from the bytes; before it there were the classes of r, after it those of s
@@ -54,7 +54,7 @@ define-as l bs r w = then Q _ _ (λ _ a. then Q _ _ (λ f rf. then Q _ _ (λ v e
 
 pub define-answers : (l : ℕ) (bs : List ℕ) (t : Tables) (c : ℕ) → perform (callDefine l bs) t .answer ≡ Defined c → DefinedAs l bs c (view t) (view (perform (callDefine l bs) t .tables))
 unfolding perform
-define-answers l bs t c = shown Denied (defineRows l bs) (λ a s. a ≡ Defined c → DefinedAs l bs c (view t) s) t (λ r w. define-whole r w l bs)
+define-answers l bs t c = shown Denied (defineRows l bs) (λ a s. a ≡ Defined c → DefinedAs l bs c (view t) s) t (λ r w. rows-whole r w (rowDefine l bs))
     (λ w e. let z : _≡_ {A = ℕ} 0 1 = cc in absurd (omega arith))
     (λ w g e. ok-at (λ (g : Given Reply). (c : ℕ) → g .answer ≡ Defined c → DefinedAs l bs c (view t) (g .rows)) _ (define-as l bs (view t) w) g e c)
 
@@ -68,6 +68,6 @@ record-as l n c r = then (λ (g : Given Reply). find (g .rows .cache) (at l n) �
 
 pub record-answers : (l n c : ℕ) (t : Tables) → perform (callRecord l n c) t .answer ≡ Accepted → find (view (perform (callRecord l n c) t .tables) .cache) (at l n) ≡ some c
 unfolding perform
-record-answers l n c t = shown Denied (recordRows l n c) (λ a s. a ≡ Accepted → find (s .cache) (at l n) ≡ some c) t (λ r w. record-whole r w l n c)
+record-answers l n c t = shown Denied (recordRows l n c) (λ a s. a ≡ Accepted → find (s .cache) (at l n) ≡ some c) t (λ r w. rows-whole r w (rowRecord l n c))
     (λ w e. let z : _≡_ {A = ℕ} 0 1 = cc in absurd (omega arith))
     (λ w g e _. ok-at (λ (g : Given Reply). find (g .rows .cache) (at l n) ≡ some c) _ (record-as l n c (view t)) g e)

@@ -14,13 +14,13 @@ use Rattle.definition.specs.declared.Reply.the-variants.{Accepted, Stepped, Den
 use Rattle.definition.specs.Answers.{Result}
 use Rattle.definition.specs.Tables.{Tables, shaped, Rows, view, put}
 use Rattle.definition.specs.Broken.{broken}
-use Rattle.definition.specs.Calls.{Given, bootRows, defineRows, recordRows, startRows, dropRows, stepRows, Done, done, wrap, boot, stepTables, goOn, runFrom, run, Call, callBoot, callDefine, callRecord, callStart, callStep, callRun, callDrop, perform, performAll}
+use Rattle.definition.specs.Calls.{Given, bootRows, stepRows, Done, done, wrap, boot, stepTables, goOn, runFrom, run, Call, callBoot, callStep, callRun, perform, performAll, onRowCall, callRows}
 use Rattle.laws.specs.Wrapped.{wrapped, ok-at}
 use Rattle.layout.specs.Whole.{Whole}
 use Rattle.layout.specs.View.{put-view}
 use Rattle.layout.specs.Unbroken.{true-whole, broken-false}
 use Rattle.layout.specs.ReadBack.{Lengths, shaped-true, true-shaped, view-put}
-use Rattle.unbroken.specs.Calls.{define-whole, record-whole, start-whole, step-whole, drop-whole, boot-whole}
+use Rattle.unbroken.specs.Calls.{step-whole, rows-whole, boot-whole}
 use Rattle.unbroken.specs.Unbroken.{Keeps}
 use Rattle.definition.specs.Computing.OnRows.{givenRows, settle, onRows, goOnRows, runRows, performRows, performAllRows}
 
@@ -96,12 +96,9 @@ same-run n t r s = rw (s .unbroken, run) (go (leb 1 n && leb n 65535))
 pub same-perform : (c : Call) (t : Tables) (r : Rows) → Shows t r → Same (perform c t .answer) (perform c t .tables) (performRows c r)
 unfolding perform performRows
 same-perform callBoot t r s = same-boot t (true-shaped t (broken-false t (s .unbroken) .0))
-same-perform (callDefine l bs) t r s = same-wrap Denied (defineRows l bs) (λ r w. define-whole r w l bs) t r s
-same-perform (callRecord l n c) t r s = same-wrap Denied (recordRows l n c) (λ r w. record-whole r w l n c) t r s
-same-perform (callStart k l n m v) t r s = same-wrap Denied (startRows k l n m v) (λ r w. start-whole r w k l n m v) t r s
+same-perform (callRows c) t r s = same-wrap Denied (onRowCall c) (λ r w. rows-whole r w c) t r s
 same-perform callStep t r s = let d = same-step t r s in (ap Stepped (d .0), d .1)
 same-perform (callRun n) t r s = same-run n t r s
-same-perform (callDrop k) t r s = same-wrap Denied (dropRows k) (λ r w. drop-whole r w k) t r s
 
 pub same-all : (cs : List Call) (t : Tables) (r : Rows) → Shows t r → Same (performAll cs t .answer) (performAll cs t .tables) (performAllRows cs r)
 unfolding performAll performAllRows
@@ -124,19 +121,13 @@ still deny f t q = wrapped deny f t (λ _ z. z ≡ t) (λ _. refl) (λ _ _. refl
 
 abbrev pub OneStep : Call → Type 0
 OneStep callBoot = ⊥
-OneStep (callDefine l bs) = Unit {0}
-OneStep (callRecord l n c) = Unit {0}
-OneStep (callStart k l n m v) = Unit {0}
+OneStep (callRows c) = Unit {0}
 OneStep callStep = Unit {0}
 OneStep (callRun n) = ⊥
-OneStep (callDrop k) = Unit {0}
 
 pub rows-same : (c : Call) → OneStep c → (t : Tables) (r : Rows) → Shows t r → performRows c r .rows ≡ r → perform c t .tables ≡ t
 unfolding perform performRows
 rows-same callBoot h t r s q = absurd h
-rows-same (callDefine l bs) h t r s q = still Denied (defineRows l bs) t (subst (λ (x : Rows). onRows Denied (defineRows l bs) x .rows ≡ x) (sym (s .rows)) q)
-rows-same (callRecord l n c) h t r s q = still Denied (recordRows l n c) t (subst (λ (x : Rows). onRows Denied (recordRows l n c) x .rows ≡ x) (sym (s .rows)) q)
-rows-same (callStart k l n m v) h t r s q = still Denied (startRows k l n m v) t (subst (λ (x : Rows). onRows Denied (startRows k l n m v) x .rows ≡ x) (sym (s .rows)) q)
+rows-same (callRows c) h t r s q = still Denied (onRowCall c) t (subst (λ (x : Rows). onRows Denied (onRowCall c) x .rows ≡ x) (sym (s .rows)) q)
 rows-same callStep h t r s q = unfold stepTables in still Refused stepRows t (subst (λ (x : Rows). onRows Refused stepRows x .rows ≡ x) (sym (s .rows)) q)
 rows-same (callRun n) h t r s q = absurd h
-rows-same (callDrop k) h t r s q = still Denied (dropRows k) t (subst (λ (x : Rows). onRows Denied (dropRows k) x .rows ≡ x) (sym (s .rows)) q)

@@ -17,13 +17,13 @@ use Rattle.definition.specs.Lists.{any, indexOf, isNone}
 use Rattle.definition.specs.Loading.{hides, withEntry, define, recorded, started}
 use Rattle.definition.specs.Verifier.{notesOf}
 use Rattle.definition.specs.File.{File, readFile, classOf}
-use Rattle.definition.specs.Tables.{Rows, worldOf}
-use Rattle.definition.specs.Calls.{framesIn, defineRows, recordRows, startRows, dropRows}
+use Rattle.definition.specs.Tables.{Rows, worldOf, framesIn}
+use Rattle.definition.specs.Calls.{defineRows, recordRows, startRows, dropRows, RowCall, rowDefine, rowRecord, rowStart, rowDrop, onRowCall}
 use Rattle.definition.specs.Maybe as Maybe
 use Rattle.laws.specs.Agreement.{super-falls}
 use Rattle.laws.specs.Members.{method-at}
 use Rattle.laws.specs.Upward.{nearest-below}
-use Rattle.laws.specs.Causes.{Cause, cause, first, isSomeAnd, definePasses, defineClashes, defineCauses, recordCauses, startCauses}
+use Rattle.laws.specs.Causes.{Cause, cause, first, isSomeAnd, definePasses, defineClashes, defineCauses, recordCauses, startCauses, rowCauses}
 
 -- the number of a result
 unfoldable pub numberIn : {A : Type 0} → Result A → ℕ
@@ -92,7 +92,7 @@ module _ (r : Rows) where
       first-take _ (find (r .cache) (at l (f .super))) (wanted (at l (f .super))) _ (λ p q. rw (q, e) (first-unless _ (any (hides (W .base) p) (f .fields)) (Word 8) _
       (first-need _ _ (Word 10) _ (λ _. first-need [] _ (Word 9) _ (λ _. number-ok _)))))))
 
-  pub define-first : (l : ℕ) (bs : List ℕ) → numberIn (defineRows l bs r) ≡ first (defineCauses l bs r)
+  define-first : (l : ℕ) (bs : List ℕ) → numberIn (defineRows l bs r) ≡ first (defineCauses l bs r)
   unfolding defineRows defineCauses number Maybe._>>=_
   define-first l bs = first-need _ (ltb l 16) (Word 3) _ (λ _. first-take _ (readFile bs) (Word 2) _ (λ f e. rw e (number-on (define _ (classOf l f) W) _ ∙ define-class l bs f)))
 
@@ -104,7 +104,7 @@ module _ (r : Rows) where
   entry-first l n c none = first-need _ _ (Word 10) _ (λ _. first-need [] _ (Word 9) _ (λ _. number-ok _)) ∙ sym (first-skip 4 _)
   entry-first l n c (some d) = first-need _ (eqb d c) (Word 4) _ (λ _. number-ok W ∙ sym (first-skip 10 _ ∙ first-skip 9 _))
 
-  pub record-first : (l n c : ℕ) → numberIn (recordRows l n c r) ≡ first (recordCauses l n c r)
+  record-first : (l n c : ℕ) → numberIn (recordRows l n c r) ≡ first (recordCauses l n c r)
   unfolding recordRows recordCauses recorded number
   record-first l n c = number-on (recorded l n c W) _ ∙ first-need _ (ltb l 16 && leb 2 n) (Word 3) _ (λ _. first-take _ (getElem? (W .base .classes) c) (Word 3) _ (λ k e. rw e
       (first-need _ (eqb (k .name) n) (Word 13) _ (λ _. entry-first l n c (find (r .cache) (at l n)))))) ∙ sym (first-or 3 _ _ _)
@@ -118,10 +118,17 @@ module _ (r : Rows) where
       let a = method-at (W .base) s m 1 1 (nearest-below (superOf (W .base)) (super-falls (W .base)) (hasMethod (W .base) m 1 1) c s e .1) in
       number-there _ (indexOf (alike m 1 1) (methodsOf (W .base) s)) (Word 7) _ (a .index) (first-need [] _ (Word 10) _ (λ _. number-ok _)))))))
 
-  pub start-first : (k l n m v : ℕ) → numberIn (startRows k l n m v r) ≡ first (startCauses k l n m r)
+  start-first : (k l n m v : ℕ) → numberIn (startRows k l n m v r) ≡ first (startCauses k l n m r)
   unfolding startRows startCauses number
   start-first k l n m v = first-need _ (ltb k 2) (Word 3) _ (λ _. number-on (started l n m v W (r .objects) (framesIn k r)) _ ∙ started-first k l n m v) ∙ sym (first-or 3 _ _ _)
 
-  pub drop-first : (k : ℕ) → numberIn (dropRows k r) ≡ first (cause 3 (not (ltb k 2)) ∷ [])
+  drop-first : (k : ℕ) → numberIn (dropRows k r) ≡ first (cause 3 (not (ltb k 2)) ∷ [])
   unfolding dropRows number
   drop-first k = first-need [] (ltb k 2) (Word 3) _ (λ _. number-ok _)
+
+  pub rows-first : (c : RowCall) → numberIn (onRowCall c r) ≡ first (rowCauses c r)
+  unfolding rowCauses
+  rows-first (rowDefine l bs) = define-first l bs
+  rows-first (rowRecord l n c) = record-first l n c
+  rows-first (rowStart k l n m v) = start-first k l n m v
+  rows-first (rowDrop k) = drop-first k

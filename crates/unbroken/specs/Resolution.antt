@@ -17,7 +17,7 @@ use Rattle.definition.specs.Classes.{Base, Class, find, superOf, loaderOf, slot
 use Rattle.definition.specs.Constraints.{World}
 use Rattle.definition.specs.Machine.{Frame, Progress}
 use Rattle.definition.specs.Tables.{Tables, Rows, worldOf, view}
-use Rattle.definition.specs.Calls.{Given, progressed, defineRows, recordRows, startRows, dropRows, stepTask, stepOn, stepRows, wrap, stepTables, Call, callBoot, callDefine, callRecord, callStart, callStep, callRun, callDrop, perform, performAll}
+use Rattle.definition.specs.Calls.{Given, progressed, defineRows, recordRows, startRows, dropRows, stepTask, stepOn, stepRows, wrap, stepTables, Call, callBoot, callStep, callRun, perform, performAll, RowCall, rowDefine, rowRecord, rowStart, rowDrop, onRowCall, callRows}
 use Rattle.laws.specs.Growth.{Grows, grows-class, grows-entry}
 use Rattle.laws.specs.Results.{need-ok, take-ok}
 use Rattle.laws.specs.Runs.{run-keeps}
@@ -26,7 +26,7 @@ use Rattle.laws.specs.Wrapped.{Ok, ok-at, then}
 use Rattle.layout.specs.Tests.{All}
 use Rattle.layout.specs.Whole.{Whole}
 use Rattle.unbroken.specs.Accepted.{Entered, Stood, recorded-is, defined-is}
-use Rattle.unbroken.specs.Calls.{world-recorded, world-defined, define-whole, record-whole, start-whole, step-whole, drop-whole}
+use Rattle.unbroken.specs.Calls.{world-recorded, world-defined, step-whole, rows-whole}
 use Rattle.unbroken.specs.WholeRows.{ready}
 use Rattle.unbroken.specs.Unbroken.{Keeps, shown}
 use Rattle.unbroken.specs.Lasting.{IsBoot}
@@ -108,8 +108,7 @@ module _ (r : Rows) (w : Whole r) where
   -- a start, a step and a drop change no class and no cache entry
 
   progress-resolves : (k : ℕ) (o : Progress) → Resolves (W .base) (worldOf (progressed k r o) .base)
-  progress-resolves zero o = resolves-same (W .base)
-  progress-resolves (suc k) o = resolves-same (W .base)
+  progress-resolves k o = resolves-same (W .base)
 
   start-resolves : (k l n m v : ℕ) → Ok (startRows k l n m v r) Q
   unfolding startRows
@@ -117,8 +116,13 @@ module _ (r : Rows) (w : Whole r) where
 
   drop-resolves : (k : ℕ) → Ok (dropRows k r) Q
   unfolding dropRows
-  drop-resolves zero = then Q _ _ (λ _ _. resolves-same (W .base))
-  drop-resolves (suc k) = then Q _ _ (λ _ _. resolves-same (W .base))
+  drop-resolves k = then Q _ _ (λ _ _. resolves-same (W .base))
+
+  rows-resolve : (c : RowCall) → Ok (onRowCall c r) Q
+  rows-resolve (rowDefine l bs) = define-resolves l bs
+  rows-resolve (rowRecord l n c) = record-resolves l n c
+  rows-resolve (rowStart k l n m v) = start-resolves k l n m v
+  rows-resolve (rowDrop k) = drop-resolves k
 
   step-resolves : Ok (stepRows r) Q
   unfolding stepRows
@@ -146,13 +150,10 @@ one-resolves t = wrap-resolves Refused stepRows t step-whole step-resolves
 pub resolution-lasts : (c : Call) → (IsBoot c → ⊥) → (t : Tables) → Resolves (worldOf (view t) .base) (worldOf (view (perform c t .tables)) .base)
 unfolding perform
 resolution-lasts callBoot i t = absurd (i tt)
-resolution-lasts (callDefine l bs) i t = wrap-resolves Denied (defineRows l bs) t (λ r w. define-whole r w l bs) (λ r w. define-resolves r w l bs)
-resolution-lasts (callRecord l n c) i t = wrap-resolves Denied (recordRows l n c) t (λ r w. record-whole r w l n c) (λ r w. record-resolves r w l n c)
-resolution-lasts (callStart k l n m v) i t = wrap-resolves Denied (startRows k l n m v) t (λ r w. start-whole r w k l n m v) (λ r w. start-resolves r w k l n m v)
+resolution-lasts (callRows c) i t = wrap-resolves Denied (onRowCall c) t (λ r w. rows-whole r w c) (λ r w. rows-resolve r w c)
 resolution-lasts callStep i t = one-resolves t
 resolution-lasts (callRun n) i t =
     run-keeps (Later t) (λ s p. resolves-join p (one-resolves s)) n t (resolves-same (worldOf (view t) .base))
-resolution-lasts (callDrop k) i t = wrap-resolves Denied (dropRows k) t (λ r w. drop-whole r w k) (λ r w. drop-resolves r w k)
 
 -- whatever calls follow
 pub resolution-lasts-all : (cs : List Call) → All (λ c. IsBoot c → ⊥) cs → (t : Tables) → Resolves (worldOf (view t) .base) (worldOf (view (performAll cs t .tables)) .base)

@@ -15,13 +15,13 @@ use Rattle.definition.specs.declared.Reply.the-variants.{Denied}
 use Rattle.definition.specs.Answers.{ok}
 use Rattle.definition.specs.Constraints.{World}
 use Rattle.definition.specs.Machine.{Frame, Progress, step}
-use Rattle.definition.specs.Tables.{Tables, Rows, worldOf, view}
+use Rattle.definition.specs.Tables.{Tables, Rows, worldOf, view, framesIn}
 use Rattle.definition.specs.Broken.{broken}
-use Rattle.definition.specs.Calls.{Given, progressed, framesIn, defineRows, recordRows, startRows, dropRows, answerOf, stepTask, stepOn, stepRows, Done, done, stepTables, runFrom, run, Call, callBoot, callDefine, callRecord, callStart, callStep, callRun, callDrop, perform}
+use Rattle.definition.specs.Calls.{Given, progressed, defineRows, recordRows, startRows, dropRows, answerOf, stepTask, stepOn, stepRows, Done, done, stepTables, runFrom, run, Call, callBoot, callStep, callRun, perform, RowCall, rowDefine, rowRecord, rowStart, rowDrop, onRowCall, callRows}
 use Rattle.laws.specs.Results.{bind-ok, need-ok}
 use Rattle.laws.specs.Runs.{runs-end}
 use Rattle.laws.specs.Wrapped.{Ok, ok-at, then}
-use Rattle.unbroken.specs.Calls.{define-whole, record-whole, start-whole, step-whole, drop-whole}
+use Rattle.unbroken.specs.Calls.{step-whole, rows-whole}
 use Rattle.unbroken.specs.Progress.{Advances, step-advances}
 use Rattle.unbroken.specs.Unbroken.{shown}
 
@@ -101,14 +101,17 @@ run-kept n t h = go (broken t) (leb 1 n && leb n 65535)
     go false false = refl
 
 -- a boot, a start of the report, a drop of the report
+abbrev pub MovesReportRows : RowCall → Type 0
+MovesReportRows (rowDefine l bs) = ⊥
+MovesReportRows (rowRecord l n c) = ⊥
+MovesReportRows (rowStart k l n m v) = k ≡ 1
+MovesReportRows (rowDrop k) = k ≡ 1
+
 abbrev pub MovesReport : Call → Type 0
 MovesReport callBoot = Unit {0}
-MovesReport (callDefine l bs) = ⊥
-MovesReport (callRecord l n c) = ⊥
-MovesReport (callStart k l n m v) = k ≡ 1
+MovesReport (callRows c) = MovesReportRows c
 MovesReport callStep = ⊥
 MovesReport (callRun n) = ⊥
-MovesReport (callDrop k) = k ≡ 1
 
 abbrev Stays : Tables → Reply → Rows → Type 0
 Stays t a r = r .report ≡ view t .report
@@ -136,14 +139,15 @@ drop-stays zero r h = then (λ g. g .rows .report ≡ r .report) _ _ (λ _ _. re
 drop-stays (suc zero) r h = absurd (h refl)
 drop-stays (suc (suc k)) r h = then (λ g. g .rows .report ≡ r .report) _ _ (λ _ e. absurd (let z = ltb-true (suc (suc k)) 2 (need-ok _ _ e) in omega arith))
 
+rows-stay : (c : RowCall) (r : Rows) → (MovesReportRows c → ⊥) → Ok (onRowCall c r) (λ g. g .rows .report ≡ r .report)
+rows-stay (rowDefine l bs) r h = define-stays l bs r
+rows-stay (rowRecord l n c) r h = record-stays l n c r
+rows-stay (rowStart k l n m v) r h = start-stays k l n m v r h
+rows-stay (rowDrop k) r h = drop-stays k r h
+
 pub report-stays : (c : Call) (t : Tables) → (view t .quote ≡ [] → ⊥) → (MovesReport c → ⊥) → view (perform c t .tables) .report ≡ view t .report
 unfolding perform
 report-stays callBoot t h m = absurd (m tt)
-report-stays (callDefine l bs) t h m = shown Denied (defineRows l bs) (Stays t) t (λ r w. define-whole r w l bs) (λ w. refl)
-    (λ _ g e. ok-at _ _ (define-stays l bs (view t)) g e)
-report-stays (callRecord l n c) t h m = shown Denied (recordRows l n c) (Stays t) t (λ r w. record-whole r w l n c) (λ w. refl)
-    (λ _ g e. ok-at _ _ (record-stays l n c (view t)) g e)
-report-stays (callStart k l n m v) t h x = shown Denied (startRows k l n m v) (Stays t) t (λ r w. start-whole r w k l n m v) (λ w. refl) (λ _ g e. ok-at _ _ (start-stays k l n m v (view t) x) g e)
+report-stays (callRows c) t h m = shown Denied (onRowCall c) (Stays t) t (λ r w. rows-whole r w c) (λ w. refl) (λ _ g e. ok-at _ _ (rows-stay c (view t) m) g e)
 report-stays callStep t h m = step-kept t h .0
 report-stays (callRun n) t h m = run-kept n t h
-report-stays (callDrop k) t h x = shown Denied (dropRows k) (Stays t) t (λ r w. drop-whole r w k) (λ w. refl) (λ _ g e. ok-at _ _ (drop-stays k (view t) x) g e)

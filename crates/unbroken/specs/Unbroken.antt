@@ -8,13 +8,13 @@ use Rattle.definition.specs.declared.Reply.the-variants.{Denied}
 use Rattle.definition.specs.Answers.{Result, ok}
 use Rattle.definition.specs.Tables.{Tables, shaped, Rows, view}
 use Rattle.definition.specs.Broken.{broken}
-use Rattle.definition.specs.Calls.{Given, bootRows, defineRows, recordRows, startRows, dropRows, stepRows, wrap, boot, stepTables, Call, callBoot, callDefine, callRecord, callStart, callStep, callRun, callDrop, perform}
+use Rattle.definition.specs.Calls.{Given, bootRows, stepRows, wrap, boot, stepTables, Call, callBoot, callStep, callRun, perform, onRowCall, callRows}
 use Rattle.laws.specs.Runs.{run-keeps}
 use Rattle.laws.specs.Wrapped.{wrapped, Ok, ok-at}
 use Rattle.layout.specs.Whole.{Whole}
 use Rattle.layout.specs.Unbroken.{true-whole, broken-false}
 use Rattle.layout.specs.ReadBack.{shaped-true, true-shaped, view-put}
-use Rattle.unbroken.specs.Calls.{define-whole, record-whole, start-whole, step-whole, drop-whole, boot-whole}
+use Rattle.unbroken.specs.Calls.{step-whole, rows-whole, boot-whole}
 
 -- a call that keeps whole rows whole
 abbrev pub Keeps : {A : Type 0} → (Rows → Result (Given A)) → Type 0
@@ -44,9 +44,6 @@ boot-unbroken t h = rw (h, boot) (true-whole bootRows t (shaped-true t h) boot-w
 pub kept-unbroken : (c : Call) (t : Tables) → broken t ≡ false → broken (perform c t .tables) ≡ false
 unfolding perform
 kept-unbroken callBoot t h = boot-unbroken t (true-shaped t (broken-false t h .0))
-kept-unbroken (callDefine l bs) t h = wrap-unbroken Denied (defineRows l bs) t h (λ r w. define-whole r w l bs)
-kept-unbroken (callRecord l n c) t h = wrap-unbroken Denied (recordRows l n c) t h (λ r w. record-whole r w l n c)
-kept-unbroken (callStart k l n m v) t h = wrap-unbroken Denied (startRows k l n m v) t h (λ r w. start-whole r w k l n m v)
+kept-unbroken (callRows c) t h = wrap-unbroken Denied (onRowCall c) t h (λ r w. rows-whole r w c)
 kept-unbroken callStep t h = step-unbroken t h
 kept-unbroken (callRun n) t h = run-keeps (λ z. broken z ≡ false) step-unbroken n t h
-kept-unbroken (callDrop k) t h = wrap-unbroken Denied (dropRows k) t h (λ r w. drop-whole r w k)

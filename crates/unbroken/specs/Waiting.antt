@@ -24,9 +24,9 @@ use Rattle.definition.specs.Instructions.{Decoded}
 use Rattle.definition.specs.Loading.{started}
 use Rattle.definition.specs.File.{classOf}
 use Rattle.definition.specs.Machine.{Object, Frame, Progress, Now, now, execute, step}
-use Rattle.definition.specs.Tables.{Tables, Rows, worldOf, view}
+use Rattle.definition.specs.Tables.{Tables, Rows, worldOf, view, withFrames}
 use Rattle.definition.specs.Broken.{broken}
-use Rattle.definition.specs.Calls.{Given, progressed, withFrames, defineRows, recordRows, startRows, dropRows, stepTask, stepOn, stepRows, Done, done, carried, wrap, stepTables, run, Call, callBoot, callDefine, callRecord, callStart, callStep, callRun, callDrop, perform, performAll}
+use Rattle.definition.specs.Calls.{Given, progressed, defineRows, recordRows, startRows, dropRows, stepTask, stepOn, stepRows, Done, done, carried, wrap, stepTables, run, Call, callBoot, callStep, callRun, perform, performAll, RowCall, rowDefine, rowRecord, rowStart, rowDrop, onRowCall, callRows}
 use Rattle.laws.specs.Agreement.{nth-more}
 use Rattle.laws.specs.Refusals.{classIn, running}
 use Rattle.laws.specs.Refused.{step-refused}
@@ -36,7 +36,7 @@ use Rattle.laws.specs.Runs.{run-keeps}
 use Rattle.layout.specs.Tests.{All, all-more}
 use Rattle.layout.specs.Whole.{Whole}
 use Rattle.unbroken.specs.Accepted.{defined-is}
-use Rattle.unbroken.specs.Calls.{world-defined, define-whole, record-whole, start-whole, drop-whole}
+use Rattle.unbroken.specs.Calls.{world-defined, rows-whole}
 use Rattle.unbroken.specs.Unbroken.{Keeps, shown, kept-unbroken}
 use Rattle.unbroken.specs.Lasting.{Lasts, IsBoot, lasting-all}
 
@@ -50,23 +50,23 @@ pub record QuoteWants (f : Frame) (fs : List Frame) (l c : ℕ) (r : Rows) : Typ
   pub missing : find (r .cache) (at l c) ≡ none
 
 -- neither a boot nor a drop of the quote
+abbrev pub KeepsQuoteRows : RowCall → Type 0
+KeepsQuoteRows (rowDefine l bs) = Unit {0}
+KeepsQuoteRows (rowRecord l n c) = Unit {0}
+KeepsQuoteRows (rowStart k l n m v) = Unit {0}
+KeepsQuoteRows (rowDrop k) = k ≡ 0 → ⊥
+
 abbrev pub KeepsQuote : Call → Type 0
 KeepsQuote callBoot = ⊥
-KeepsQuote (callDefine l bs) = Unit {0}
-KeepsQuote (callRecord l n c) = Unit {0}
-KeepsQuote (callStart k l n m v) = Unit {0}
+KeepsQuote (callRows c) = KeepsQuoteRows c
 KeepsQuote callStep = Unit {0}
 KeepsQuote (callRun n) = Unit {0}
-KeepsQuote (callDrop k) = k ≡ 0 → ⊥
 
 no-boot : (d : Call) → KeepsQuote d → IsBoot d → ⊥
 no-boot callBoot b i = b
-no-boot (callDefine l bs) b i = i
-no-boot (callRecord l n c) b i = i
-no-boot (callStart k l n m v) b i = i
+no-boot (callRows c) b i = i
 no-boot callStep b i = i
 no-boot (callRun n) b i = i
-no-boot (callDrop k) b i = i
 
 no-boots : (cs : List Call) → All KeepsQuote cs → All (λ d. IsBoot d → ⊥) cs
 no-boots cs b = all-more no-boot cs b
@@ -161,7 +161,13 @@ module _ (f : Frame) (fs : List Frame) (l c : ℕ) where
   drop-waits : (j : ℕ) (r : Rows) → (j ≡ 0 → ⊥) → QuoteWants f fs l c r → Ok (dropRows j r) Q
   unfolding dropRows
   drop-waits zero r n h = absurd (n refl)
-  drop-waits (suc j) r n h = then Q _ _ (λ _ _. still r (withFrames (suc j) r []) refl (λ k i. i) h)
+  drop-waits (suc j) r n h = then Q _ _ (λ _ _. still r (withFrames (suc j) [] r) refl (λ k i. i) h)
+
+  rows-wait : (d : RowCall) → KeepsQuoteRows d → (r : Rows) → Whole r → QuoteWants f fs l c r → Ok (onRowCall d r) Q
+  rows-wait (rowDefine m bs) b r w h = define-waits m bs r w h
+  rows-wait (rowRecord m n d) b r w h = record-waits m n d r h
+  rows-wait (rowStart j m n x v) b r w h = start-waits j m n x v r h
+  rows-wait (rowDrop j) b r w h = drop-waits j r b h
 
   abbrev Waits : Rows → Type 0
   Waits s = find (s .cache) (at l c) ≡ none → QuoteWants f fs l c s
@@ -172,12 +178,9 @@ module _ (f : Frame) (fs : List Frame) (l c : ℕ) where
   call-waits : (d : Call) → KeepsQuote d → (t : Tables) → broken t ≡ false → QuoteWants f fs l c (view t) → Waits (view (perform d t .tables))
   unfolding perform
   call-waits callBoot b t h q = absurd b
-  call-waits (callDefine m bs) b t h q = wrap-waits (defineRows m bs) t (λ r w. define-whole r w m bs) (λ w. define-waits m bs (view t) w q) q
-  call-waits (callRecord m n d) b t h q = wrap-waits (recordRows m n d) t (λ r w. record-whole r w m n d) (λ _. record-waits m n d (view t) q) q
-  call-waits (callStart j m n x v) b t h q = wrap-waits (startRows j m n x v) t (λ r w. start-whole r w j m n x v) (λ _. start-waits j m n x v (view t) q) q
+  call-waits (callRows d) b t h q = wrap-waits (onRowCall d) t (λ r w. rows-whole r w d) (λ w. rows-wait d b (view t) w q) q
   call-waits callStep b t h q = subst (λ (s : Tables). Waits (view s)) (sym (ap (λ (d : Done Answer). d .tables) (wants-tables t h q))) (λ _. q)
   call-waits (callRun n) b t h q = subst (λ (s : Tables). Waits (view s)) (sym (run-same n t (Wanted l c) (wants-tables t h q))) (λ _. q)
-  call-waits (callDrop j) b t h q = wrap-waits (dropRows j) t (λ r w. drop-whole r w j) (λ _. drop-waits j (view t) b q) q
 
   all-wait : (cs : List Call) → All KeepsQuote cs → (t : Tables) → broken t ≡ false → QuoteWants f fs l c (view t) → find (view (performAll cs t .tables) .cache) (at l c) ≡ none
       → (broken (performAll cs t .tables) ≡ false) × QuoteWants f fs l c (view (performAll cs t .tables))

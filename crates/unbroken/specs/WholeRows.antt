@@ -20,7 +20,7 @@ use Rattle.definition.specs.Loading.{newSubtypes, overrideTie, overrideTies, st
 use Rattle.definition.specs.Machine.{Object, Frame, Progress, intValue, newObject}
 use Rattle.definition.specs.Requests.{Request, at}
 use Rattle.definition.specs.Superclasses.{nearest}
-use Rattle.definition.specs.Tables.{ClassRow, Rows, classAt, fileAt, sizeOf, worldOf}
+use Rattle.definition.specs.Tables.{ClassRow, Rows, classAt, fileAt, sizeOf, worldOf, withTies, withObjects, withFrames}
 use Rattle.definition.specs.Verifier.{Note}
 use Rattle.laws.specs.Agreement.{find-row, super-is}
 use Rattle.laws.specs.Growth.{Grows, grows-super, nth-lt}
@@ -32,6 +32,7 @@ use Rattle.layout.specs.ReadBack.{object-class}
 use Rattle.layout.specs.Whole.{Between, ClassSound, Classes, First, Framed, From, Listed, ObjectSound, Whole}
 use Rattle.unbroken.specs.Steps.{Moved, Ready, class-found, class-selected, entered-frame, grow-frame, loader-small, made-objects, new-between}
 use Rattle.definition.specs.Maybe as Maybe
+use Rattle.laws.specs.Tasks.{of-task}
 use Rattle.laws.specs.Wrapped.{Ok, then}
 
 -- Lists
@@ -106,34 +107,53 @@ module _ (r : Rows) (w : Whole r) where
             | inr z ↦ rw (sym (x .2), cls-loader (r .kept) (x .0) (z .file) (z .reads)) (z .loader)
           ]
 
-  -- Ties, objects and frames change
+  -- Frames of a task change; ties and objects change; both, as a task goes on
 
-  pub tasks-whole : (ts : List Tie) (os : List Object) (q p : List Frame) → length ts ≤ 256 → All Between ts → length os ≤ 256 → All (ObjectSound (W .base) N (length os)) os
-      → length q ≤ 32 → All (Framed N (length os)) q → length p ≤ 32 → All (Framed N (length os)) p
-      → Whole (record { classes = r .classes; kept = r .kept; cache = r .cache; ties = ts; subtypes = r .subtypes; objects = os; quote = q; report = p })
-  tasks-whole ts os q p a b c d e f g h = record {
-    limits = record { classes = w .limits .classes; kept = w .limits .kept; cache = w .limits .cache; ties = a; subtypes = w .limits .subtypes; objects = c; quote = e; report = g };
+  pub frames-whole : (k : ℕ) (fs : List Frame) → length fs ≤ 32 → All (Framed N (length (r .objects))) fs → Whole (withFrames k fs r)
+  frames-whole k fs a b = record {
+    limits = record {
+      classes = w .limits .classes;
+      kept = w .limits .kept;
+      cache = w .limits .cache;
+      ties = w .limits .ties;
+      subtypes = w .limits .subtypes;
+      objects = w .limits .objects;
+      quote = of-task (λ (x : List Frame). length x ≤ 32) k a (w .limits .quote);
+      report = of-task (λ (x : List Frame). length x ≤ 32) k (w .limits .report) a;
+    };
     classes = w .classes;
     cache = w .cache;
-    ties = b;
+    ties = w .ties;
     subtypes = w .subtypes;
-    objects = d;
-    quote = f;
-    report = h;
+    objects = w .objects;
+    quote = of-task (All (Framed N (length (r .objects)))) k b (w .quote);
+    report = of-task (All (Framed N (length (r .objects)))) k (w .report) b;
   }
 
-  pub whole-progressed : (k : ℕ) (o : Progress) → Moved W N (r .objects) o → Whole (progressed k r o)
-  whole-progressed zero o m =
-      tasks-whole (o .world .ties) (o .objects) (o .frames) (r .report) (m .ties) (m .between) (m .objects) (m .each) (m .many) (m .frames)
-      (w .limits .report) (all-more (grow-frame N (length (r .objects)) (length (o .objects)) (m .more)) (r .report) (w .report))
-  whole-progressed (suc k) o m =
-      tasks-whole (o .world .ties) (o .objects) (r .quote) (o .frames) (m .ties) (m .between) (m .objects) (m .each)
-      (w .limits .quote) (all-more (grow-frame N (length (r .objects)) (length (o .objects)) (m .more)) (r .quote) (w .quote)) (m .many) (m .frames)
+  heap-whole : (o : Progress) → Moved W N (r .objects) o → Whole (withObjects (o .objects) (withTies (o .world .ties) r))
+  heap-whole o m = record {
+    limits = record {
+      classes = w .limits .classes;
+      kept = w .limits .kept;
+      cache = w .limits .cache;
+      ties = m .ties;
+      subtypes = w .limits .subtypes;
+      objects = m .objects;
+      quote = w .limits .quote;
+      report = w .limits .report;
+    };
+    classes = w .classes;
+    cache = w .cache;
+    ties = m .between;
+    subtypes = w .subtypes;
+    objects = m .each;
+    quote = all-more (grow-frame N (length (r .objects)) (length (o .objects)) (m .more)) (r .quote) (w .quote);
+    report = all-more (grow-frame N (length (r .objects)) (length (o .objects)) (m .more)) (r .report) (w .report);
+  }
 
   -- the rows' classes and constraints are then those of the progress
   pub world-progressed : (k : ℕ) (o : Progress) → Moved W N (r .objects) o → worldOf (progressed k r o) ≡ o .world
-  world-progressed zero o m = λ i. record { base = sym (m .base) i; ties = o .world .ties; subtypes = sym (m .subtypes) i }
-  world-progressed (suc k) o m = λ i. record { base = sym (m .base) i; ties = o .world .ties; subtypes = sym (m .subtypes) i }
+  world-progressed k o m = λ i. record { base = sym (m .base) i; ties = o .world .ties; subtypes = sym (m .subtypes) i }
 
   pub start-moves : (l n m v : ℕ) (fs : List Frame) → Ok (started l n m v W (r .objects) fs) (Moved W N (r .objects))
   unfolding started
@@ -176,6 +196,9 @@ module _ (r : Rows) (w : Whole r) where
 
   pub grown-cache : (n : ℕ) → N ≤ n → All (Listed n) (r .cache)
   grown-cache n l = all-more (λ e x. record { loader = x .loader; class = omega (arith, x .class) }) (r .cache) (w .cache)
+
+pub whole-progressed : (r : Rows) (w : Whole r) (k : ℕ) (o : Progress) → Moved (W r w) (N r w) (r .objects) o → Whole (progressed k r o)
+whole-progressed r w k o m = frames-whole (withObjects (o .objects) (withTies (o .world .ties) r)) (heap-whole r w o m) k (o .frames) (m .many) (m .frames)
 
 -- A class's row in the kept files
 

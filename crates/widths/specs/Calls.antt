@@ -15,9 +15,10 @@ use Rattle.definition.specs.Superclasses.{nearest}
 use Rattle.definition.specs.Verifier.{Note}
 use Rattle.definition.specs.Machine.{Frame, Progress, newObject, intValue}
 use Rattle.definition.specs.Loading.{subtypeIs, subtypeOf, newSubtypes, overrideTie, overrideTies, define, recorded, started}
-use Rattle.definition.specs.Tables.{Rows, worldOf}
-use Rattle.definition.specs.Calls.{Given, bootRows, progressed, withFrames, framesIn, defineRows, recordRows, startRows, dropRows, stepTask, stepOn, stepRows}
-use Rattle.definition.specs.Widths.{EachBelow}
+use Rattle.definition.specs.Tables.{Rows, worldOf, withTies, withObjects, withFrames, framesIn}
+use Rattle.definition.specs.Calls.{Given, bootRows, progressed, defineRows, recordRows, startRows, dropRows, stepTask, stepOn, stepRows, RowCall, rowDefine, rowRecord, rowStart, rowDrop, onRowCall}
+use Rattle.definition.specs.Widths.{EachBelow, FittingRows}
+use Rattle.laws.specs.Tasks.{of-task}
 use Rattle.laws.specs.Wrapped.{Ok, then}
 use Rattle.layout.specs.Tests.{All, all-both}
 use Rattle.unbroken.specs.Accepted.{recorded-is}
@@ -86,6 +87,25 @@ record-world l n c w v h f e = elim (recorded-is l n c w v e) [
 abbrev pub Fit : {A : Type 0} → Given A → Type 0
 Fit g = RowsFit (g .rows)
 
+-- frames of a task change; and ties and objects, as a task goes on
+
+frames-fit : (r : Rows) → RowsFit r → (k : ℕ) (fs : List Frame) → All FrameFits fs → RowsFit (withFrames k fs r)
+frames-fit r f k fs h = record {
+  kept = f .kept;
+  cache = f .cache;
+  ties = f .ties;
+  subtypes = f .subtypes;
+  objects = f .objects;
+  quote = of-task (All FrameFits) k h (f .quote);
+  report = of-task (All FrameFits) k (f .report) h;
+}
+
+progressed-fits : (r : Rows) → RowsFit r → (k : ℕ) (o : Progress) → ProgressFits o → RowsFit (progressed k r o)
+progressed-fits r f k o p = frames-fit (withObjects (o .objects) (withTies (o .world .ties) r)) moved k (o .frames) (p .frames)
+  where
+    moved : RowsFit (withObjects (o .objects) (withTies (o .world .ties) r))
+    moved = record { kept = f .kept; cache = f .cache; ties = p .ties; subtypes = f .subtypes; objects = p .objects; quote = f .quote; report = f .report }
+
 module _ (r : Rows) (f : RowsFit r) where
   world-fits : WorldFits (worldOf r)
   world-fits = record { cache = f .cache; ties = f .ties; subtypes = f .subtypes }
@@ -93,11 +113,7 @@ module _ (r : Rows) (f : RowsFit r) where
   class-list : All ClassFits (worldOf r .base .classes)
   class-list = classes-fit (r .kept) (f .kept) (r .classes)
 
-  progressed-fits : (k : ℕ) (o : Progress) → ProgressFits o → RowsFit (progressed k r o)
-  progressed-fits zero o p = record { kept = f .kept; cache = f .cache; ties = p .ties; subtypes = f .subtypes; objects = p .objects; quote = p .frames; report = f .report }
-  progressed-fits (suc k) o p = record { kept = f .kept; cache = f .cache; ties = p .ties; subtypes = f .subtypes; objects = p .objects; quote = f .quote; report = p .frames }
-
-  pub define-fits : (l : ℕ) (bs : List ℕ) → EachBelow 256 bs → Ok (defineRows l bs r) Fit
+  define-fits : (l : ℕ) (bs : List ℕ) → EachBelow 256 bs → Ok (defineRows l bs r) Fit
   unfolding defineRows
   define-fits l bs h = then Fit _ _ (λ _ _.
       then-on (λ x. ClassFits (classOf l x)) Fit _ _ (take-read (λ x. ClassFits (classOf l x)) (readFile bs) _ (file-fits l bs h)) (λ x hx.
@@ -112,7 +128,7 @@ module _ (r : Rows) (f : RowsFit r) where
         report = f .report;
       })))
 
-  pub record-fits : (l n c : ℕ) → n < 65536 → Ok (recordRows l n c r) Fit
+  record-fits : (l n c : ℕ) → n < 65536 → Ok (recordRows l n c r) Fit
   unfolding recordRows
   record-fits l n c h = then Fit _ _ (λ w e.
       record {
@@ -137,14 +153,14 @@ module _ (r : Rows) (f : RowsFit r) where
         frames = (entered-fits s j _ (intValue v) hj h, tt);
       }))))))
 
-  pub start-fits : (k l n m v : ℕ) → v < 4294967296 → Ok (startRows k l n m v r) Fit
+  start-fits : (k l n m v : ℕ) → v < 4294967296 → Ok (startRows k l n m v r) Fit
   unfolding startRows
-  start-fits k l n m v h = then Fit _ _ (λ _ _. then-on ProgressFits Fit _ _ (started-fits l n m v (framesIn k r) h) (λ o p. progressed-fits k o p))
+  start-fits k l n m v h = then Fit _ _ (λ _ _. then-on ProgressFits Fit _ _ (started-fits l n m v (framesIn k r) h) (λ o p. progressed-fits r f k o p))
 
   task-fits : (k : ℕ) (g : Frame) (gs : List Frame) → All FrameFits (g ∷ gs) → Ok (stepTask k (worldOf r) g gs r) Fit
   unfolding stepTask
   task-fits k g gs h =
-      then-on ProgressFits Fit _ _ (step-fits (worldOf r) (r .objects) class-list (f .ties) (f .objects) g gs (h .0) (h .1)) (λ o p. progressed-fits k o p)
+      then-on ProgressFits Fit _ _ (step-fits (worldOf r) (r .objects) class-list (f .ties) (f .objects) g gs (h .0) (h .1)) (λ o p. progressed-fits r f k o p)
 
   pub step-rows-fit : Ok (stepRows r) Fit
   unfolding stepRows
@@ -155,13 +171,15 @@ module _ (r : Rows) (f : RowsFit r) where
       go [] (g ∷ gs) a b = unfold stepOn in task-fits 1 g gs b
       go [] [] a b = unfold stepOn in f
 
-  dropped-fits : (k : ℕ) → RowsFit (withFrames k r [])
-  dropped-fits zero = record { kept = f .kept; cache = f .cache; ties = f .ties; subtypes = f .subtypes; objects = f .objects; quote = tt; report = f .report }
-  dropped-fits (suc k) = record { kept = f .kept; cache = f .cache; ties = f .ties; subtypes = f .subtypes; objects = f .objects; quote = f .quote; report = tt }
-
-  pub drop-fits : (k : ℕ) → Ok (dropRows k r) Fit
+  drop-fits : (k : ℕ) → Ok (dropRows k r) Fit
   unfolding dropRows
-  drop-fits k = then Fit _ _ (λ _ _. dropped-fits k)
+  drop-fits k = then Fit _ _ (λ _ _. frames-fit r f k [] tt)
+
+  pub rows-fit : (c : RowCall) → FittingRows c → Ok (onRowCall c r) Fit
+  rows-fit (rowDefine l bs) h = define-fits l bs h
+  rows-fit (rowRecord l n c) h = record-fits l n c h
+  rows-fit (rowStart k l n m v) h = start-fits k l n m v h
+  rows-fit (rowDrop k) h = drop-fits k
 
 pub boot-fits : RowsFit bootRows
 boot-fits = record { kept = tt; cache = (omega arith, tt); ties = tt; subtypes = tt; objects = tt; quote = tt; report = tt }

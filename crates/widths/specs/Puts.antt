@@ -9,11 +9,11 @@ use Rattle.definition.specs.declared.Reply.{Reply}
 use Rattle.definition.specs.declared.Reply.the-variants.{Accepted, Denied}
 use Rattle.definition.specs.Answers.{Result, ok}
 use Rattle.definition.specs.Tables.{Tables, shaped, Rows, view, put}
-use Rattle.definition.specs.Calls.{Given, bootRows, defineRows, recordRows, startRows, dropRows, stepRows, Done, done, wrap, boot, stepTables, Call, callBoot, callDefine, callRecord, callStart, callStep, callRun, callDrop, perform}
+use Rattle.definition.specs.Calls.{Given, bootRows, stepRows, Done, done, wrap, boot, stepTables, Call, callBoot, callStep, callRun, perform, onRowCall, callRows}
 use Rattle.laws.specs.Wrapped.{wrapped, ok-at}
 use Rattle.layout.specs.Whole.{Whole}
 use Rattle.layout.specs.Unbroken.{broken-false}
-use Rattle.unbroken.specs.Calls.{define-whole, record-whole, start-whole, step-whole, drop-whole, boot-whole}
+use Rattle.unbroken.specs.Calls.{step-whole, rows-whole, boot-whole}
 use Rattle.unbroken.specs.Unbroken.{Keeps}
 
 -- an accepted call put its rows, which are whole
@@ -48,19 +48,13 @@ step-puts t = wrapped-puts Refused stepRows t step-whole
 
 abbrev pub Runs : Call → Type 0
 Runs callBoot = ⊥
-Runs (callDefine l bs) = ⊥
-Runs (callRecord l n c) = ⊥
-Runs (callStart k l n m v) = ⊥
+Runs (callRows c) = ⊥
 Runs callStep = ⊥
 Runs (callRun n) = Unit {0}
-Runs (callDrop k) = ⊥
 
 pub call-puts : (c : Call) → (Runs c → ⊥) → (t : Tables) → Puts t (perform c t .tables)
 unfolding perform
 call-puts callBoot h t = boot-puts t
-call-puts (callDefine l bs) h t = wrapped-puts Denied (defineRows l bs) t (λ r w. define-whole r w l bs)
-call-puts (callRecord l n c) h t = wrapped-puts Denied (recordRows l n c) t (λ r w. record-whole r w l n c)
-call-puts (callStart k l n m v) h t = wrapped-puts Denied (startRows k l n m v) t (λ r w. start-whole r w k l n m v)
+call-puts (callRows c) h t = wrapped-puts Denied (onRowCall c) t (λ r w. rows-whole r w c)
 call-puts callStep h t = step-puts t
 call-puts (callRun n) h t = absurd (h tt)
-call-puts (callDrop k) h t = wrapped-puts Denied (dropRows k) t (λ r w. drop-whole r w k)

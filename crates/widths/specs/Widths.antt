@@ -10,16 +10,16 @@ use Rattle.definition.specs.declared.Reply.{Reply}
 use Rattle.definition.specs.declared.Reply.the-variants.{Accepted, Denied}
 use Rattle.definition.specs.Answers.{Result}
 use Rattle.definition.specs.Tables.{Tables, shaped, Rows, view, put}
-use Rattle.definition.specs.Calls.{Given, bootRows, defineRows, recordRows, startRows, dropRows, stepRows, Done, done, wrap, boot, stepTables, Call, callBoot, callDefine, callRecord, callStart, callStep, callRun, callDrop, perform, performAll}
+use Rattle.definition.specs.Calls.{Given, bootRows, stepRows, Done, done, wrap, boot, stepTables, Call, callBoot, callStep, callRun, perform, performAll, onRowCall, callRows}
 use Rattle.definition.specs.Widths.{Widths, Fitting}
 use Rattle.laws.specs.Runs.{run-keeps}
 use Rattle.laws.specs.Wrapped.{Ok, ok-at}
 use Rattle.layout.specs.Tests.{All}
-use Rattle.unbroken.specs.Calls.{define-whole, record-whole, start-whole, step-whole, drop-whole, boot-whole}
+use Rattle.unbroken.specs.Calls.{step-whole, rows-whole, boot-whole}
 use Rattle.unbroken.specs.Unbroken.{Keeps}
 use Rattle.widths.specs.Fits.{RowsFit, view-fits, put-widths}
 use Rattle.widths.specs.Puts.{wrap-puts}
-use Rattle.widths.specs.Calls.{define-fits, record-fits, start-fits, step-rows-fit, drop-fits, boot-fits}
+use Rattle.widths.specs.Calls.{step-rows-fit, rows-fit, boot-fits}
 
 -- a call that leaves rows whose numbers have their widths
 abbrev KeepsFit : {A : Type 0} → (Rows → Result (Given A)) → Type 0
@@ -49,12 +49,9 @@ step-widths t w = wrap-widths Refused stepRows t step-whole step-rows-fit w
 pub widths-kept : (c : Call) (t : Tables) → Widths t → Fitting c → Widths (perform c t .tables)
 unfolding perform
 widths-kept callBoot t w f = boot-widths t w
-widths-kept (callDefine l bs) t w f = wrap-widths Denied (defineRows l bs) t (λ r h. define-whole r h l bs) (λ r h. define-fits r h l bs f) w
-widths-kept (callRecord l n c) t w f = wrap-widths Denied (recordRows l n c) t (λ r h. record-whole r h l n c) (λ r h. record-fits r h l n c f) w
-widths-kept (callStart k l n m v) t w f = wrap-widths Denied (startRows k l n m v) t (λ r h. start-whole r h k l n m v) (λ r h. start-fits r h k l n m v f) w
+widths-kept (callRows c) t w f = wrap-widths Denied (onRowCall c) t (λ r h. rows-whole r h c) (λ r h. rows-fit r h c f) w
 widths-kept callStep t w f = step-widths t w
 widths-kept (callRun n) t w f = run-keeps Widths step-widths n t w
-widths-kept (callDrop k) t w f = wrap-widths Denied (dropRows k) t (λ r h. drop-whole r h k) (λ r h. drop-fits r h k) w
 
 -- every list of calls
 pub widths-all : (cs : List Call) (t : Tables) → Widths t → All Fitting cs → Widths (performAll cs t .tables)

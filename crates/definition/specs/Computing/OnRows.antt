@@ -5,7 +5,7 @@ use Prim.Native.Nat.{ℕ, zero, suc}
 use lib.Dec.{leb}
 use Rattle.definition.specs.Answers.{Refusal, Word, Answer, Idle, Ran, Finished, Refused, Reply, Accepted, Stepped, RanFor, Denied, Result, refused, ok}
 use Rattle.definition.specs.Tables.{Rows}
-use Rattle.definition.specs.Calls.{Given, bootRows, defineRows, recordRows, startRows, dropRows, stepRows, Call, callBoot, callDefine, callRecord, callStart, callStep, callRun, callDrop}
+use Rattle.definition.specs.Calls.{Given, bootRows, stepRows, onRowCall, Call, callBoot, callRows, callStep, callRun}
 
 abbrev pub givenRows : {A : Type 0} → A → Rows → Given A
 givenRows a r = record { answer = a; rows = r }
@@ -32,12 +32,9 @@ ofStepRows g = givenRows (Stepped (g .answer)) (g .rows)
 
 unfoldable pub performRows : Call → Rows → Given Reply
 performRows callBoot r = givenRows Accepted bootRows
-performRows (callDefine l bs) r = onRows Denied (defineRows l bs) r
-performRows (callRecord l n c) r = onRows Denied (recordRows l n c) r
-performRows (callStart k l n m v) r = onRows Denied (startRows k l n m v) r
+performRows (callRows c) r = onRows Denied (onRowCall c) r
 performRows callStep r = ofStepRows (onRows Refused stepRows r)
 performRows (callRun n) r = elim (leb 1 n && leb n 65535) as (λ _. Given Reply) [ true ↦ runRows n 0 Idle r | false ↦ givenRows (Denied (Word 3)) r ]
-performRows (callDrop k) r = onRows Denied (dropRows k) r
 
 unfoldable pub performAllRows : List Call → Rows → Given (List Reply)
 performAllRows [] r = givenRows [] r
