@@ -8,9 +8,13 @@ use cells::put16;
 use cells::put32;
 use cells::wide16;
 use cells::wide32;
+use definition::numbers::CACHE_LIMIT;
+use definition::numbers::ROW_CELLS;
+use definition::numbers::SHORT_RANGE;
 ghost use mathlib.Core.Path.{_≡_};
 ghost use Prim.Native.Nat.{ℕ, _+_, _*_, _<_, _≤_};
 ghost use lib.ListN.{length, getD};
+ghost use Rattle.definition.specs.Numbers.{cacheLimit, rowCells};
 ghost use Rattle.definition.specs.Requests.{at};
 ghost use Rattle.constraints.specs.Agreement.{atMost};
 ghost use Rattle.constraints.specs.Nodes.{requestOf, requestIn, Numbered, AllNumbered, First, NodesOf, ClassesOf, bucketOf, bucketIn};
@@ -18,16 +22,20 @@ ghost use Rattle.constraints.specs.Joining.{Last};
 
 // A count of rows, at most 256.
 pub(crate) fn at_most(count: u16) -> usize
-    ensures { λ r. ⌜ (r ≡ atMost 256 count) × (r ≤ 256) ⌝ }
+    ensures { λ r. ⌜ (r ≡ atMost cacheLimit count) × (r ≤ cacheLimit) ⌝ }
 {
-    if count <= 256 { wide16(count) } else { 256 }
+    if count <= CACHE_LIMIT {
+        wide16(count)
+    } else {
+        CACHE_LIMIT as usize
+    }
 }
 
 // The number of a request.
 fn request_number(loader: u16, name: u16) -> u32
     ensures { λ r. ⌜ requestOf r ≡ at loader name ⌝ }
 {
-    from16(loader) * 65536 + from16(name)
+    from16(loader) * SHORT_RANGE + from16(name)
 }
 
 // The number of row i of a table, whose loader and name stand in these cells of it.
@@ -35,7 +43,10 @@ fn row_number(t: &[u16], loader: usize, name: usize, i: usize) -> u32
     requires { ⌜ (loader < 3) × (name < 3) × (i < 256) ⌝ }
     ensures { λ r. ⌜ requestOf r ≡ requestIn (now (t .entry)) loader name i ⌝ }
 {
-    request_number(at16(t, i * 3 + loader), at16(t, i * 3 + name))
+    request_number(
+        at16(t, i * ROW_CELLS + loader),
+        at16(t, i * ROW_CELLS + name),
+    )
 }
 
 // The numbers of the first `count` rows of a table, written from a place on.
@@ -84,7 +95,7 @@ pub(crate) fn number_places(
 fn bucket(number: u32) -> usize
     ensures { λ r. ⌜ (r ≡ bucketOf number) × (r < 1024) ⌝ }
 {
-    wide32((number / 65536 * 31 + number % 65536) % 1024)
+    wide32((number / SHORT_RANGE * 31 + number % SHORT_RANGE) % 1024)
 }
 
 // The node of place p: that of the last place before it with the same number, or p itself. `last` is one more than the last place before
@@ -125,9 +136,9 @@ pub(crate) fn number_nodes(numbers: &[u32], n: usize, nodes: &mut [u16])
 // The class of a row of the cache.
 fn class_at(cache: &[u16], row: usize) -> u16
     requires { ⌜ row < 1280 ⌝ }
-    ensures { λ r. ⌜ r ≡ getD (now (cache .entry)) (row * 3 + 2) 0 ⌝ }
+    ensures { λ r. ⌜ r ≡ getD (now (cache .entry)) (row * rowCells + 2) 0 ⌝ }
 {
-    at16(cache, row * 3 + 2)
+    at16(cache, row * ROW_CELLS + 2)
 }
 
 // What each cached request means: the class of the first row with its node.

@@ -5,6 +5,9 @@ use cells::from8;
 use cells::from16;
 use cells::put16;
 use cells::wide16;
+use definition::numbers::ROW_CELLS;
+use definition::numbers::SUBTYPE_LIMIT;
+use definition::numbers::SUBTYPES_LENGTH;
 ghost use mathlib.Core.Path.{_≡_};
 ghost use Prim.Native.Nat.{_+_, _<_};
 ghost use lib.ListN.{length};
@@ -29,9 +32,9 @@ fn put_row(t: &mut [u16], i: usize, a: u16, b: u16, c: u16)
     requires { ⌜ i < 65536 ⌝ }
     ensures { λ _. ⌜ now (t .exit) ≡ putThree (now (t .entry)) i a b c ⌝ }
 {
-    put16(t, i * 3, a);
-    put16(t, i * 3 + 1, b);
-    put16(t, i * 3 + 2, c);
+    put16(t, i * ROW_CELLS, a);
+    put16(t, i * ROW_CELLS + 1, b);
+    put16(t, i * ROW_CELLS + 2, c);
 }
 
 // Row i is a tie of two loaders, in either order, on a name.
@@ -39,11 +42,11 @@ fn tie_is(ties: &[u16], i: usize, one: u8, two: u8, name: u16) -> bool
     requires { ⌜ i < 65536 ⌝ }
     ensures { λ r. ⌜ r ≡ tieIs one two name (tieAt (now (ties .entry)) i) ⌝ }
 {
-    let first = at16(ties, i * 3);
-    let second = at16(ties, i * 3 + 1);
+    let first = at16(ties, i * ROW_CELLS);
+    let second = at16(ties, i * ROW_CELLS + 1);
     let near = from8(one);
     let far = from8(two);
-    if at16(ties, i * 3 + 2) != name {
+    if at16(ties, i * ROW_CELLS + 2) != name {
         return false;
     }
     if are_equal(first, second, near, far) {
@@ -92,12 +95,12 @@ fn subtype_is(subtypes: &[u16], i: usize, loader: u8, low: u16, high: u16) -> bo
     ensures { λ r. ⌜ r ≡ subtypeIs loader (note low high) (subtypeAt (now (subtypes .entry)) i) ⌝ }
 {
     if are_equal(
-        at16(subtypes, i * 3),
-        at16(subtypes, i * 3 + 1),
+        at16(subtypes, i * ROW_CELLS),
+        at16(subtypes, i * ROW_CELLS + 1),
         from8(loader),
         low,
     ) {
-        return at16(subtypes, i * 3 + 2) == high;
+        return at16(subtypes, i * ROW_CELLS + 2) == high;
     }
     false
 }
@@ -141,10 +144,10 @@ pub fn add_subtypes(
     ensures { λ r. ⌜ r ≡ counted (roomy (now (subtypes .entry))) (count + length (newNotesIn (now (subtypes .entry)) count loader (now (notes .entry)) «note_count»)) ⌝ }
     ensures { λ _. ⌜ now (subtypes .exit) ≡ notesPosted (now (subtypes .entry)) count (newNotesIn (now (subtypes .entry)) count loader (now (notes .entry)) «note_count») ⌝ }
 {
-    if subtypes.len() < 768 {
+    if subtypes.len() < SUBTYPES_LENGTH {
         return Added::Full;
     }
-    if 256 < count {
+    if SUBTYPE_LIMIT < count {
         return Added::Full;
     }
     let n = wide16(note_count);
@@ -158,7 +161,7 @@ pub fn add_subtypes(
             at16(notes, i * 2),
             at16(notes, i * 2 + 1),
         );
-        if 256 < next {
+        if SUBTYPE_LIMIT < next {
             return Added::Full;
         }
         total = next as u16;
