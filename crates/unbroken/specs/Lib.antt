@@ -13,6 +13,7 @@ pub mod OnRows
 pub mod Record
 pub mod Loaded
 pub mod Tasks
+pub mod Parts
 pub mod Lasting
 pub mod Resolution
 pub mod Waiting

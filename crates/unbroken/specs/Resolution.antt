@@ -29,7 +29,7 @@ use Rattle.unbroken.specs.Accepted.{Entered, Stood, recorded-is, defined
 use Rattle.unbroken.specs.Calls.{world-recorded, world-defined, step-whole, rows-whole}
 use Rattle.unbroken.specs.WholeRows.{ready}
 use Rattle.unbroken.specs.Unbroken.{Keeps, shown}
-use Rattle.unbroken.specs.Lasting.{IsBoot}
+use Rattle.unbroken.specs.Lasting.{Unloads}
 
 abbrev pub There : Base → ℕ → Type 0
 There b c = (k : Class) × (getElem? (b .classes) c ≡ some k)
@@ -147,7 +147,7 @@ one-resolves : (t : Tables) → Later t (stepTables t .tables)
 unfolding stepTables
 one-resolves t = wrap-resolves Refused stepRows t step-whole step-resolves
 
-pub resolution-lasts : (c : Call) → (IsBoot c → ⊥) → (t : Tables) → Resolves (worldOf (view t) .base) (worldOf (view (perform c t .tables)) .base)
+pub resolution-lasts : (c : Call) → (Unloads c → ⊥) → (t : Tables) → Resolves (worldOf (view t) .base) (worldOf (view (perform c t .tables)) .base)
 unfolding perform
 resolution-lasts callBoot i t = absurd (i tt)
 resolution-lasts (callRows c) i t = wrap-resolves Denied (onRowCall c) t (λ r w. rows-whole r w c) (λ r w. rows-resolve r w c)
@@ -156,7 +156,7 @@ resolution-lasts (callRun n) i t =
     run-keeps (Later t) (λ s p. resolves-join p (one-resolves s)) n t (resolves-same (worldOf (view t) .base))
 
 -- whatever calls follow
-pub resolution-lasts-all : (cs : List Call) → All (λ c. IsBoot c → ⊥) cs → (t : Tables) → Resolves (worldOf (view t) .base) (worldOf (view (performAll cs t .tables)) .base)
+pub resolution-lasts-all : (cs : List Call) → All (λ c. Unloads c → ⊥) cs → (t : Tables) → Resolves (worldOf (view t) .base) (worldOf (view (performAll cs t .tables)) .base)
 unfolding performAll
 resolution-lasts-all [] i t = resolves-same (worldOf (view t) .base)
 resolution-lasts-all (c ∷ cs) i t = resolves-join (resolution-lasts c (i .0) t) (resolution-lasts-all cs (i .1) (perform c t .tables))

@@ -38,7 +38,7 @@ use Rattle.layout.specs.Whole.{Whole}
 use Rattle.unbroken.specs.Accepted.{defined-is}
 use Rattle.unbroken.specs.Calls.{world-defined, rows-whole}
 use Rattle.unbroken.specs.Unbroken.{Keeps, shown, kept-unbroken}
-use Rattle.unbroken.specs.Lasting.{Lasts, IsBoot, lasting-all}
+use Rattle.unbroken.specs.Lasting.{Lasts, Unloads, loads-last-all}
 
 -- The quote has frame f on top, where it can read n; n names a class, which isn't cached
 pub record QuoteWants (f : Frame) (fs : List Frame) (l c : ℕ) (r : Rows) : Type 0 where
@@ -62,13 +62,13 @@ KeepsQuote (callRows c) = KeepsQuoteRows c
 KeepsQuote callStep = Unit {0}
 KeepsQuote (callRun n) = Unit {0}
 
-no-boot : (d : Call) → KeepsQuote d → IsBoot d → ⊥
+no-boot : (d : Call) → KeepsQuote d → Unloads d → ⊥
 no-boot callBoot b i = b
 no-boot (callRows c) b i = i
 no-boot callStep b i = i
 no-boot (callRun n) b i = i
 
-no-boots : (cs : List Call) → All KeepsQuote cs → All (λ d. IsBoot d → ⊥) cs
+no-boots : (cs : List Call) → All KeepsQuote cs → All (λ d. Unloads d → ⊥) cs
 no-boots cs b = all-more no-boot cs b
 
 missing-before : (r s : Rows) → Lasts r s → (l c : ℕ) → find (s .cache) (at l c) ≡ none → find (r .cache) (at l c) ≡ none
@@ -188,7 +188,7 @@ module _ (f : Frame) (fs : List Frame) (l c : ℕ) where
   all-wait [] b t h q m = (h, q)
   all-wait (d ∷ cs) b t h q m =
       let s : Tables = perform d t .tables in
-      all-wait cs (b .1) s (kept-unbroken d t h) (call-waits d (b .0) t h q (missing-before (view s) _ (lasting-all cs (no-boots cs (b .1)) s) l c m)) m
+      all-wait cs (b .1) s (kept-unbroken d t h) (call-waits d (b .0) t h q (missing-before (view s) _ (loads-last-all cs (no-boots cs (b .1)) s) l c m)) m
 
 -- The statement
 

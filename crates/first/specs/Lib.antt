@@ -1,0 +1,3 @@
+-- The first document's machine, kept, and what today's machine has in common with it.
+pub mod Machine
+pub mod Same
