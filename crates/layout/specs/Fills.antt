@@ -12,8 +12,8 @@ use Rattle.definition.specs.Constraints.{Tie, Subtype}
 use Rattle.definition.specs.Machine.{Value, Object, Frame}
 use Rattle.definition.specs.Tables.{Tables, tables, Rows, putClassRow, putEntry, putTie, putSubtype, usedFields, objectAt, putObject, putField, frameIn, putFrameIn, classRowsOf, keptOf, cacheOf, tiesOf, subtypesOf, viewBase, objectsOf, framesOf, viewOver, view, countsOf, put}
 use Rattle.layout.specs.Places.{rows-length, writeRows-same, stack-length, writeStack-same, written-set}
-use Rattle.layout.specs.Rows.{RowLaws, rows-kept, rows-more, row-more, class-rows, entry-rows, tie-rows, subtype-rows, cell-rows}
-use Rattle.layout.specs.ObjectRows.{withField, object-same, objects-field, objects-made}
+use Rattle.layout.specs.Rows.{RowLaws, Anything, rows-kept, rows-more, row-more, class-rows, entry-rows, tie-rows, subtype-rows, cell-rows}
+use Rattle.layout.specs.ObjectRows.{withField, object-rows, objects-field, objects-made}
 use Rattle.layout.specs.FrameRows.{frameIn-same}
 
 -- the count in cell i
@@ -56,10 +56,11 @@ put-fills r t a b c d e f g n =
 
 -- Rows as they were read, and with others behind them
 
-module _ {A : Type 0} {at : List ℕ → ℕ → A} {p : List ℕ → ℕ → A → List ℕ} {w : ℕ} (laws : RowLaws at p w) (t : List ℕ) (n : ℕ) where
+module _ {A : Type 0} {at : List ℕ → ℕ → A} {p : List ℕ → ℕ → A → List ℕ} {w : ℕ} {F : A → Type 0} (laws : RowLaws at p w F) (t : List ℕ) (n : ℕ) where
   pub fill-kept : Fills p (rows (at t) n 0) t n t
   fill-kept = record { count = rows-length (at t) n 0; cells = rows-kept laws t n }
 
+module _ {A : Type 0} {at : List ℕ → ℕ → A} {p : List ℕ → ℕ → A → List ℕ} {w : ℕ} (laws : RowLaws at p w Anything) (t : List ℕ) (n : ℕ) where
   pub fill-more : (xs : List A) → Fills p (rows (at t) n 0 ++ xs) t (n + length xs) (writeRows p xs n t)
   fill-more xs = record { count = length-append (rows (at t) n 0) xs ∙ rw (rows-length (at t) n 0); cells = rows-more laws t n xs }
 
@@ -109,10 +110,7 @@ module _ (t : Tables) where
   module _ (b : Base) where
     pub objects-fill : Fills putObject (objectsOf b t) (t .objects) (countAt t 5) (t .objects)
     unfolding objectsOf
-    objects-fill = record {
-      count = rows-length (objectAt b (t .objects)) (countAt t 5) 0;
-      cells = writeRows-same putObject (objectAt b (t .objects)) (t .objects) (object-same b (t .objects)) (countAt t 5) 0;
-    }
+    objects-fill = fill-kept (object-rows b) (t .objects) (countAt t 5)
 
     pub object-made : (x : Object) → Fills putObject (objectsOf b t ++ (x ∷ [])) (t .objects) (countAt t 5 + 1) (putObject (t .objects) (countAt t 5) x)
     unfolding objectsOf

@@ -134,6 +134,9 @@ all-rows P g zero i a m l = absurd (omega arith)
 all-rows P g (suc k) i a zero l = let e : i + 0 ≡ i = omega arith in rw e (a .0)
 all-rows P g (suc k) i a (suc m) l = let e : i + suc m ≡ suc i + m = omega arith in rw e (all-rows P g k (suc i) (a .1) m (omega arith))
 
+pub all-from : {A : Type 0} (P : A → Type 0) (g : ℕ → A) (k i : ℕ) → All P (rows g k i) → (m : ℕ) → i ≤ m → m < i + k → P (g m)
+all-from P g k i a m h l = let e : i + (m - i) ≡ m = omega arith in rw e at (all-rows P g k i a (m - i) (omega arith))
+
 pub rows-all : {A : Type 0} (P : A → Type 0) (g : ℕ → A) (k i : ℕ) → ((m : ℕ) → i ≤ m → m < i + k → P (g m)) → All P (rows g k i)
 unfolding rows
 rows-all P g zero i h = tt
@@ -340,14 +343,33 @@ module _ {A : Type 0} (p : List ℕ → ℕ → A → List ℕ) where
     -- and so are written rows
     pub rows-written : (g : List ℕ → ℕ → A) (P : A → Type 0) (w n : ℕ)
         → ((t : List ℕ) (i : ℕ) (x : A) → length t ≡ w → i < n → P x → g (p t i x) i ≡ x)
-        → ((t : List ℕ) (i j : ℕ) (x : A) → j < i → P x → g (p t j x) i ≡ g t i)
+        → ((t : List ℕ) (i j : ℕ) (x : A) → j < i → P x → P (g t i) → g (p t j x) i ≡ g t i)
         → (xs : List A) (i : ℕ) → i + length xs ≤ n → All P xs → (t : List ℕ) → length t ≡ w → rows (g (writeRows p xs i t)) (length xs) i ≡ xs
     unfolding rows writeRows
     rows-written g P w n hit above [] i l a t e = refl
     rows-written g P w n hit above (x ∷ xs) i l a t e =
         let u : List ℕ = writeRows p xs (suc i) t in
+        let ih : rows (g u) (length xs) (suc i) ≡ xs = rows-written g P w n hit above xs (suc i) (omega arith) (a .1) t e in
+        let each : All P (rows (g u) (length xs) (suc i)) = rw ih (a .1) in
         rw (
           hit u i x (writeRows-length xs (suc i) t ∙ e) (omega arith) (a .0),
-          rows-cong (g (p u i x)) (g u) (length xs) (suc i) (λ m h k. above u m i x (omega arith) (a .0)),
-          rows-written g P w n hit above xs (suc i) (omega arith) (a .1) t e,
+          rows-cong (g (p u i x)) (g u) (length xs) (suc i) (λ m h k. above u m i x (omega arith) (a .0) (all-from P (g u) (length xs) (suc i) each m h k)),
+          ih,
         )
+
+-- Writes into one range of cells: g sets cells from lo up to hi alone, so it can be taken before or after what such a set can be taken before or after
+
+abbrev pub Within : (List ℕ → List ℕ) → ℕ → ℕ → Type 0
+Within g lo hi = (f : List ℕ → List ℕ) → ((t : List ℕ) (m v : ℕ) → lo ≤ m → m < hi → f (set t m v) ≡ set (f t) m v) → (t : List ℕ) → f (g t) ≡ g (f t)
+
+pub within-set : (c x lo hi : ℕ) → lo ≤ c → c < hi → Within (λ t. set t c x) lo hi
+within-set c x lo hi a b = λ f h t. h t c x a b
+
+pub within-both : (g k : List ℕ → List ℕ) (lo hi : ℕ) → Within g lo hi → Within k lo hi → Within (λ t. g (k t)) lo hi
+within-both g k lo hi a b = λ f h t. a f h (k t) ∙ ap g (b f h t)
+
+-- writes into ranges that have no cell in common commute
+pub within-apart : (g k : List ℕ → List ℕ) (lo hi from to : ℕ) → Within g lo hi → Within k from to
+    → ((m n : ℕ) → lo ≤ m → m < hi → from ≤ n → n < to → m ≢ n) → (t : List ℕ) → g (k t) ≡ k (g t)
+within-apart g k lo hi from to a b apart t =
+    b g (λ s m v x y. sym (a (λ u. set u m v) (λ u n w p q. set-comm u n m w v (apart n m p q x y)) s)) t

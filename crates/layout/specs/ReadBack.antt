@@ -3,13 +3,13 @@ use mathlib.Core.Path.{_≡_, refl, sym, _∙_}
 use mathlib.Core.Bool.{Bool, true, false}
 use mathlib.Core.Option.{Option, none}
 use mathlib.Core.List.{List, [], _∷_}
-use Prim.Native.Nat.{ℕ, zero, suc, _+_, _≤_, _<_}
+use Prim.Native.Nat.{ℕ, zero, suc, _+_, _*_, _≤_, _<_}
 use native.Mathlib.Omega.{arith}
 use lib.ListN.{length, getD, set, length-set}
 use lib.Seq.{take-all}
 use lib.Dec.{leb}
 use borrow.Author.Tests.{eqb-true, eq-eqb}
-use Rattle.definition.specs.Numbers.{countClasses, countKept, countCache, countTies, countSubtypes, countObjects, countFrames}
+use Rattle.definition.specs.Numbers.{taskLimit, keptLimit, objectLimit, fieldLimit, frameLimit, countsLength, classesLength, cacheLength, tiesLength, subtypesLength, objectsLength, framesLength, countClasses, countKept, countCache, countTies, countSubtypes, countObjects, countFrames}
 use Rattle.definition.specs.Lists.{rows, writeRows, stack, writeStack}
 use Rattle.definition.specs.Maybe.{_>>=_, need}
 use Rattle.definition.specs.Classes.{Base, Entry, slots, slotsIn, ownSlots}
@@ -18,23 +18,23 @@ use Rattle.definition.specs.File.{File, byte, readFile, objectClass}
 use Rattle.definition.specs.Tables.{Tables, shaped, ClassRow, Rows, rowsOf, fileAt, classAt, baseOf, worldOf, sizeOf, classRowAt, putClassRow, entryAt, putEntry, tieAt, putTie, subtypeAt, putSubtype, objectAt, putObject, operandAt, frameOf, frameAt, putFrame, frameBase, frameIn, putFrameIn, viewBase, objectsOf, framesOf, viewOver, view, countsOf, put}
 use Rattle.layout.specs.Tests.{All, From, every-true, true-every, all-more}
 use Rattle.layout.specs.Places.{rows-take, stack-length, stack-cong, all-stack, writeRows-length, writeStack-length, writeStack-keeps, rows-written, stack-written}
-use Rattle.layout.specs.Rows.{rows-back, class-rows, entry-rows, tie-rows, subtype-rows, cell-rows}
+use Rattle.layout.specs.Rows.{fitting-back, stack-back, stack-apart, rows-back, class-rows, entry-rows, tie-rows, subtype-rows, cell-rows}
 use Rattle.layout.specs.Values.{Proper, proper-empty, proper-int, proper-null, proper-object, unread-cell}
-use Rattle.layout.specs.ObjectRows.{used-all, putObject-length, object-other, object-back}
-use Rattle.layout.specs.FrameRows.{frame-cells, putFrame-length, FrameProper, unread-row, frame-back}
+use Rattle.layout.specs.ObjectRows.{used-all, putObject-length, ObjectProper, object-rows}
+use Rattle.layout.specs.FrameRows.{putFrame-length, FrameProper, frame-rows}
 use Rattle.layout.specs.Whole.{Local, ValueSound, ObjectSound, Framed, First, ClassSound, Classes, Whole}
 
 -- The published lengths
 
 pub record Lengths (t : Tables) : Type 0 where
-  pub counts : length (t .counts) ≡ 8
-  pub classes : length (t .classes) ≡ 192
-  pub kept : length (t .kept) ≡ 16384
-  pub cache : length (t .cache) ≡ 768
-  pub ties : length (t .ties) ≡ 768
-  pub subtypes : length (t .subtypes) ≡ 768
-  pub objects : length (t .objects) ≡ 8448
-  pub frames : length (t .frames) ≡ 3328
+  pub counts : length (t .counts) ≡ countsLength
+  pub classes : length (t .classes) ≡ classesLength
+  pub kept : length (t .kept) ≡ keptLimit
+  pub cache : length (t .cache) ≡ cacheLength
+  pub ties : length (t .ties) ≡ tiesLength
+  pub subtypes : length (t .subtypes) ≡ subtypesLength
+  pub objects : length (t .objects) ≡ objectsLength
+  pub frames : length (t .frames) ≡ framesLength
 
 pub shaped-true : (t : Tables) → shaped t ≡ true → Lengths t
 unfolding shaped
@@ -151,46 +151,27 @@ counts-put r c e =
     let n : length u ≡ 8 = writeRows-length set length-set (countsOf r) 0 c ∙ e in
     sym (take-all 8 u (omega arith)) ∙ (sym (rows-take u 8 (omega arith)) ∙ rows-back cell-rows (countsOf r) c (omega arith))
 
-objects-put : (b : Base) (n m : ℕ) (os : List Object) (t : List ℕ) → length t ≡ 8448 → length os ≤ 256 → ((c : ℕ) → c < n → sizeOf b c ≤ 16)
+objects-put : (b : Base) (n m : ℕ) (os : List Object) (t : List ℕ) → length t ≡ objectsLength → length os ≤ objectLimit → ((c : ℕ) → c < n → sizeOf b c ≤ fieldLimit)
     → All (ObjectSound b n m) os
     → rows (objectAt b (writeRows putObject os 0 t)) (length os) 0 ≡ os
-objects-put b n m os t e l small h =
-    rows-written putObject putObject-length (objectAt b) (ObjectSound b n m) 8448 256
-    (λ s i x q k p. object-back b s i x (omega arith) (p .size ∙ sym (used-all b (x .class) (small (x .class) (p .class)))) (all-more (value-proper m) (x .values) (p .values)))
-    (λ s i j x k p. object-other b s i j x (λ z. omega arith) (omega (arith, p .size, small (x .class) (p .class))))
-    os 0 (omega arith) h t e
+objects-put b n m os t e l small h = fitting-back (object-rows b) os t (omega arith) (all-more proper os h)
+  where
+    proper : (x : Object) → ObjectSound b n m x → ObjectProper b x
+    proper x p = record { size = p .size ∙ sym (used-all b (x .class) (small (x .class) (p .class))); values = all-more (value-proper m) (x .values) (p .values) }
 
 -- a task's frames
 
-frame-under : (k : ℕ) (t : List ℕ) (i j : ℕ) (f : Frame) → i < j → FrameProper f → FrameProper (frameIn t k i) → frameIn (putFrameIn k t j f) k i
-    ≡ frameIn t k i
-unfolding frameIn putFrameIn frameAt frameOf
-frame-under k t i j f l p q =
-    let d : getD t (frameBase k i + 3) 0 ≤ 16 = rw (stack-length (operandAt t (frameBase k i)) (getD t (frameBase k i + 3) 0)) at (q .few) in
-    frame-cells t (putFrame t (frameBase k j) f) (frameBase k i) (λ c h.
-    unread-row (λ s. getD s (frameBase k i + c) 0) (frameBase k j) (unread-cell (frameBase k i + c) (frameBase k j) (frameBase k j + 52) (λ m a b e. omega arith)) f p t)
-
-frames-put : (k : ℕ) (fs : List Frame) (t : List ℕ) → k < 2 → length t ≡ 3328 → length fs ≤ 32 → All FrameProper fs
+frames-put : (k : ℕ) (fs : List Frame) (t : List ℕ) → k < taskLimit → length t ≡ framesLength → length fs ≤ frameLimit → All FrameProper fs
     → stack (frameIn (writeStack (putFrameIn k) fs t) k) (length fs) ≡ fs
 unfolding frameIn putFrameIn
-frames-put k fs t two e l h =
-    stack-written (putFrameIn k) (λ s i f. putFrame-length s (frameBase k i) f) (λ s i. frameIn s k i) FrameProper 3328 32
-    (λ s i f q m p. frame-back s (frameBase k i) f (omega arith) p) (frame-under k) fs l h t e
+frames-put k fs t two e l h = stack-back frame-rows (k * frameLimit) fs t (omega arith) h
 
 -- the report's rows lie behind the quote's
-frames-behind : (n : ℕ) (gs : List Frame) (t : List ℕ) → n ≤ 32 → length gs ≤ 32 → All FrameProper gs → All FrameProper (stack (frameIn t 0) n)
+frames-behind : (n : ℕ) (gs : List Frame) (t : List ℕ) → n ≤ frameLimit → length gs ≤ frameLimit → All FrameProper gs → All FrameProper (stack (frameIn t 0) n)
     → stack (frameIn (writeStack (putFrameIn 1) gs t) 0) n ≡ stack (frameIn t 0) n
-unfolding frameIn putFrameIn frameAt frameOf
-frames-behind n gs t l m h q =
-    let u : List ℕ = writeStack (putFrameIn 1) gs t in
-    stack-cong (frameIn u 0) (frameIn t 0) n (λ i k.
-    let p : FrameProper (frameIn t 0 i) = all-stack FrameProper (frameIn t 0) n q i k in
-    let d : getD t (frameBase 0 i + 3) 0 ≤ 16 = rw (stack-length (operandAt t (frameBase 0 i)) (getD t (frameBase 0 i + 3) 0)) at (p .few) in
-    frame-cells t u (frameBase 0 i) (λ c z.
-    writeStack-keeps (putFrameIn 1) (λ s. getD s (frameBase 0 i + c) 0) FrameProper 32
-    (λ s j f b r. unread-row (λ s. getD s (frameBase 0 i + c) 0) (frameBase 1 j)
-    (unread-cell (frameBase 0 i + c) (frameBase 1 j) (frameBase 1 j + 52) (λ x a y e. omega arith)) f r s)
-    gs m h t))
+unfolding frameIn putFrameIn
+frames-behind n gs t l m h q = stack-cong (frameIn (writeStack (putFrameIn 1) gs t) 0) (frameIn t 0) n (λ i k.
+    stack-apart frame-rows (1 * frameLimit) gs (0 * frameLimit + i) t (λ j b e. omega arith) h (all-stack FrameProper (frameIn t 0) n q i k))
 
 module _ (r : Rows) (t : Tables) (l : Lengths t) (w : Whole r) where
   abbrev counted : writeRows set (countsOf r) 0 (t .counts) ≡ countsOf r
@@ -219,7 +200,7 @@ module _ (r : Rows) (t : Tables) (l : Lengths t) (w : Whole r) where
   abbrev quoted : List ℕ
   quoted = writeStack (putFrameIn 0) (r .quote) (t .frames)
 
-  quoted-length : length quoted ≡ 3328
+  quoted-length : length quoted ≡ framesLength
   unfolding putFrameIn
   quoted-length = writeStack-length (putFrameIn 0) (λ s i f. putFrame-length s (frameBase 0 i) f) (r .quote) (t .frames) ∙ l .frames
 

@@ -14,7 +14,7 @@ use Rattle.definition.specs.Instructions.{pick}
 use Rattle.definition.specs.Machine.{Value, emptyValue, intValue, nullValue, objectValue, unlistedValue}
 use Rattle.definition.specs.Tables.{valueOf, kindOf, bitsOf, valueAt, putCells, putValue}
 use Rattle.layout.specs.Tests.{All}
-use Rattle.layout.specs.Places.{writeRows-replace, rows-written, stack-written}
+use Rattle.layout.specs.Places.{writeRows-replace, rows-written, stack-written, Within, within-set, within-both}
 
 -- Values
 
@@ -139,6 +139,12 @@ pub unread-value : {B : Type 0} (r : List ℕ → B) (lo hi : ℕ) → Unread r 
 unfolding putValue
 unread-value r lo hi un t i v a b = un (set t i (kindOf v)) (i + 1) (bitsOf v) (omega arith) (omega arith) ∙ un t i (kindOf v) (omega arith) (omega arith)
 
+pub within-value : (i : ℕ) (v : Value) (lo hi : ℕ) → lo ≤ i → i + 1 < hi → Within (λ t. putValue t i v) lo hi
+unfolding putValue
+within-value i v lo hi a b =
+    within-both (λ t. set t (i + 1) (bitsOf v)) (λ t. set t i (kindOf v)) lo hi
+    (within-set (i + 1) (bitsOf v) lo hi (omega arith) (omega arith)) (within-set i (kindOf v) lo hi (omega arith) (omega arith))
+
 -- Values side by side: place i has the two cells c + 2 * i of the row that begins at cell b. Fields, locals and operands are such places.
 
 module _ (b c : ℕ) where
@@ -164,7 +170,7 @@ module _ (b c : ℕ) where
       → rows (placeAt (writeRows putPlace vs 0 t)) (length vs) 0 ≡ vs
   places-back vs t l h =
       rows-written putPlace place-length placeAt Proper (length t) (length vs)
-      (λ s i v e k p. place-back s i v (omega arith) p) (λ s i j v k p. place-other s i j v (λ e. omega arith)) vs 0 (omega arith) h t refl
+      (λ s i v e k p. place-back s i v (omega arith) p) (λ s i j v k p q. place-other s i j v (λ e. omega arith)) vs 0 (omega arith) h t refl
 
   pub stacked-back : (vs : List Value) (t : List ℕ) → b + (c + 2 * length vs) ≤ length t → All Proper vs
       → stack (placeAt (writeStack putPlace vs t)) (length vs) ≡ vs
@@ -186,6 +192,20 @@ module _ (b c : ℕ) where
   unread-stacked r lo hi un [] t a h = refl
   unread-stacked r lo hi un (v ∷ vs) t a h =
       unread-value r lo hi un (writeStack putPlace vs t) (b + (c + 2 * length vs)) v (omega arith) (omega arith) ∙ unread-stacked r lo hi un vs t a (omega arith)
+
+  pub within-places : (vs : List Value) (i lo hi : ℕ) → lo ≤ b + c → b + (c + 2 * (i + length vs)) ≤ hi → Within (λ t. writeRows putPlace vs i t) lo hi
+  unfolding writeRows
+  within-places [] i lo hi a h = λ f s t. refl
+  within-places (v ∷ vs) i lo hi a h =
+      within-both (λ t. putPlace t i v) (λ t. writeRows putPlace vs (suc i) t) lo hi
+      (within-value (b + (c + 2 * i)) v lo hi (omega arith) (omega arith)) (within-places vs (suc i) lo hi a (omega arith))
+
+  pub within-stacked : (vs : List Value) (lo hi : ℕ) → lo ≤ b + c → b + (c + 2 * length vs) ≤ hi → Within (λ t. writeStack putPlace vs t) lo hi
+  unfolding writeStack
+  within-stacked [] lo hi a h = λ f s t. refl
+  within-stacked (v ∷ vs) lo hi a h =
+      within-both (λ t. putPlace t (length vs) v) (λ t. writeStack putPlace vs t) lo hi
+      (within-value (b + (c + 2 * length vs)) v lo hi (omega arith) (omega arith)) (within-stacked vs lo hi a (omega arith))
 
   -- one of n places set
   pub place-set : (t : List ℕ) (n j : ℕ) (v : Value) → j < n → writeRows putPlace (set (rows (placeAt t) n 0) j v) 0 t ≡ putPlace t j v

@@ -7,6 +7,7 @@ use Prim.Native.Nat.{ℕ, suc, _+_, _-_, _*_, _<_, _≤_}
 use native.Mathlib.Omega.{arith}
 use lib.ListN.{length, getElem?, getD, set, length-set}
 use lib.Seq.{getD-set-other}
+use Rattle.definition.specs.Numbers.{fieldLimit, frameLimit, operandLimit, localCount, rowCells, valueCells, objectCells, fieldsCell, frameCells, methodCell, pointCell, depthCell, localsCell, operandsCell}
 use Rattle.definition.specs.Lists.{writeRows, writeStack}
 use Rattle.definition.specs.Machine.{Object, Frame}
 use Rattle.definition.specs.Tables.{Tables, Rows, putThree, putClassRow, putEntry, putTie, putSubtype, putField, putObject, putLocal, putOperand, putFrame, frameBase, putFrameIn, countsOf, put}
@@ -30,11 +31,11 @@ pub record Among (b n j : ℕ) : Type 0 where
 
 -- object x in row o: its class, then two cells a value
 abbrev pub HeldByObject : ℕ → Object → ℕ → Type 0
-HeldByObject o x j = Among (o * 33) (1 + 2 * length (x .values)) j
+HeldByObject o x j = Among (o * objectCells) (fieldsCell + valueCells * length (x .values)) j
 
--- frame f in the row that begins at cell b: class, method, point, operand count and two cells a local; from cell 20 of the row on, two cells an operand
+-- frame f in the row that begins at cell b: class, method, point, operand count and two cells a local; from its operands' first cell on, two cells an operand
 abbrev pub HeldByFrame : ℕ → Frame → ℕ → Type 0
-HeldByFrame b f j = Among b (4 + 2 * length (f .locals)) j ⊎ Among (b + 20) (2 * length (f .operands)) j
+HeldByFrame b f j = Among b (localsCell + valueCells * length (f .locals)) j ⊎ Among (b + operandsCell) (valueCells * length (f .operands)) j
 
 -- frames of task k, the top frame first; the first frame, which is the last of the list, lies in the task's row 0
 abbrev pub HeldByTask : ℕ → List Frame → ℕ → Type 0
@@ -60,11 +61,11 @@ pub record SameLengths (t u : Tables) : Type 0 where
 pub record Leaves (r : Rows) (t : Tables) : Type 0 where
   pub lengths : SameLengths t (put r t)
   pub counts : (j : ℕ) → 8 ≤ j → getD (put r t .counts) j 0 ≡ getD (t .counts) j 0
-  pub classes : (j : ℕ) → length (r .classes) * 3 ≤ j → getD (put r t .classes) j 0 ≡ getD (t .classes) j 0
+  pub classes : (j : ℕ) → length (r .classes) * rowCells ≤ j → getD (put r t .classes) j 0 ≡ getD (t .classes) j 0
   pub kept : (j : ℕ) → length (r .kept) ≤ j → getD (put r t .kept) j 0 ≡ getD (t .kept) j 0
-  pub cache : (j : ℕ) → length (r .cache) * 3 ≤ j → getD (put r t .cache) j 0 ≡ getD (t .cache) j 0
-  pub ties : (j : ℕ) → length (r .ties) * 3 ≤ j → getD (put r t .ties) j 0 ≡ getD (t .ties) j 0
-  pub subtypes : (j : ℕ) → length (r .subtypes) * 3 ≤ j → getD (put r t .subtypes) j 0 ≡ getD (t .subtypes) j 0
+  pub cache : (j : ℕ) → length (r .cache) * rowCells ≤ j → getD (put r t .cache) j 0 ≡ getD (t .cache) j 0
+  pub ties : (j : ℕ) → length (r .ties) * rowCells ≤ j → getD (put r t .ties) j 0 ≡ getD (t .ties) j 0
+  pub subtypes : (j : ℕ) → length (r .subtypes) * rowCells ≤ j → getD (put r t .subtypes) j 0 ≡ getD (t .subtypes) j 0
   pub objects : (j : ℕ) → (HeldByObjects (r .objects) j → ⊥) → getD (put r t .objects) j 0 ≡ getD (t .objects) j 0
   pub frames : (j : ℕ) → (HeldByTask 0 (r .quote) j → ⊥) → (HeldByTask 1 (r .report) j → ⊥) → getD (put r t .frames) j 0 ≡ getD (t .frames) j 0
 
@@ -94,15 +95,15 @@ module _ {A : Type 0} (p : List ℕ → ℕ → A → List ℕ) (j : ℕ) where
 cells-spare : (xs : List ℕ) (j : ℕ) (t : List ℕ) → length xs ≤ j → getD (writeRows set xs 0 t) j 0 ≡ getD t j 0
 cells-spare xs j t l = rows-spare set j xs 0 (λ n x q s. getD-set-other s (0 + n) j x 0 (λ e. omega (arith, nth-lt xs n x q))) t
 
-threes-spare : {A : Type 0} (a b c : A → ℕ) (xs : List A) (j : ℕ) (t : List ℕ) → length xs * 3 ≤ j
+threes-spare : {A : Type 0} (a b c : A → ℕ) (xs : List A) (j : ℕ) (t : List ℕ) → length xs * rowCells ≤ j
     → getD (writeRows (λ s i x. putThree s i (a x) (b x) (c x)) xs 0 t) j 0 ≡ getD t j 0
 threes-spare {A} a b c xs j t l = rows-spare (λ s i x. putThree s i (a x) (b x) (c x)) j xs 0 (λ n x q s. row (0 + n) (omega (arith, nth-lt xs n x q)) x s) t
   where
-    row : (i : ℕ) → i * 3 + 3 ≤ j → (x : A) (s : List ℕ) → getD (putThree s i (a x) (b x) (c x)) j 0 ≡ getD s j 0
+    row : (i : ℕ) → i * rowCells + rowCells ≤ j → (x : A) (s : List ℕ) → getD (putThree s i (a x) (b x) (c x)) j 0 ≡ getD s j 0
     row i l x s =
-        let s1 : List ℕ = set s (i * 3) (a x) in
-        let s2 : List ℕ = set s1 (i * 3 + 1) (b x) in
-        getD-set-other s2 (i * 3 + 2) j (c x) 0 (λ e. omega arith) ∙ (getD-set-other s1 (i * 3 + 1) j (b x) 0 (λ e. omega arith) ∙ getD-set-other s (i * 3) j (a x) 0 (λ e. omega arith))
+        let s1 : List ℕ = set s (i * rowCells) (a x) in
+        let s2 : List ℕ = set s1 (i * rowCells + 1) (b x) in
+        getD-set-other s2 (i * rowCells + 2) j (c x) 0 (λ e. omega arith) ∙ (getD-set-other s1 (i * rowCells + 1) j (b x) 0 (λ e. omega arith) ∙ getD-set-other s (i * rowCells) j (a x) 0 (λ e. omega arith))
 
 -- objects
 
@@ -111,9 +112,9 @@ unfolding putObject putField
 object-spare s o x j h =
     rows-spare (putField o) j (x .values) 0 (λ n v q u.
     let l = nth-lt (x .values) n v q in
-    putValue-cell u (o * 33 + (1 + 2 * (0 + n))) v j (λ e. h (record { from = omega arith; to = omega arith })) (λ e. h (record { from = omega arith; to = omega arith })))
-    (set s (o * 33) (x .class))
-    ∙ getD-set-other s (o * 33) j (x .class) 0 (λ e. h (record { from = omega arith; to = omega arith }))
+    putValue-cell u (o * objectCells + (fieldsCell + valueCells * (0 + n))) v j (λ e. h (record { from = omega arith; to = omega arith })) (λ e. h (record { from = omega arith; to = omega arith })))
+    (set s (o * objectCells) (x .class))
+    ∙ getD-set-other s (o * objectCells) j (x .class) 0 (λ e. h (record { from = omega arith; to = omega arith }))
 
 -- frames
 
@@ -122,20 +123,20 @@ unfolding putFrame putOperand putLocal
 frame-spare s b f j h =
     let d : ℕ = length (f .operands) in
     let t0 : List ℕ = set s b (f .class) in
-    let t1 : List ℕ = set t0 (b + 1) (f .method) in
-    let t2 : List ℕ = set t1 (b + 2) (f .point) in
-    let t3 : List ℕ = set t2 (b + 3) d in
+    let t1 : List ℕ = set t0 (b + methodCell) (f .method) in
+    let t2 : List ℕ = set t1 (b + pointCell) (f .point) in
+    let t3 : List ℕ = set t2 (b + depthCell) d in
     stack-spare (putOperand b) j (f .operands) (λ n v q u.
     let l = nth-lt (f .operands) n v q in
-    putValue-cell u (b + (20 + 2 * (d - suc n))) v j (λ e. h (inr (record { from = omega arith; to = omega arith }))) (λ e. h (inr (record { from = omega arith; to = omega arith }))))
+    putValue-cell u (b + (operandsCell + valueCells * (d - suc n))) v j (λ e. h (inr (record { from = omega arith; to = omega arith }))) (λ e. h (inr (record { from = omega arith; to = omega arith }))))
     (writeRows (putLocal b) (f .locals) 0 t3)
     ∙ (rows-spare (putLocal b) j (f .locals) 0 (λ n v q u.
     let l = nth-lt (f .locals) n v q in
-    putValue-cell u (b + (4 + 2 * (0 + n))) v j (λ e. h (inl (record { from = omega arith; to = omega arith }))) (λ e. h (inl (record { from = omega arith; to = omega arith }))))
+    putValue-cell u (b + (localsCell + valueCells * (0 + n))) v j (λ e. h (inl (record { from = omega arith; to = omega arith }))) (λ e. h (inl (record { from = omega arith; to = omega arith }))))
     t3
-    ∙ (getD-set-other t2 (b + 3) j d 0 (λ e. h (inl (record { from = omega arith; to = omega arith })))
-    ∙ (getD-set-other t1 (b + 2) j (f .point) 0 (λ e. h (inl (record { from = omega arith; to = omega arith })))
-    ∙ (getD-set-other t0 (b + 1) j (f .method) 0 (λ e. h (inl (record { from = omega arith; to = omega arith })))
+    ∙ (getD-set-other t2 (b + depthCell) j d 0 (λ e. h (inl (record { from = omega arith; to = omega arith })))
+    ∙ (getD-set-other t1 (b + pointCell) j (f .point) 0 (λ e. h (inl (record { from = omega arith; to = omega arith })))
+    ∙ (getD-set-other t0 (b + methodCell) j (f .method) 0 (λ e. h (inl (record { from = omega arith; to = omega arith })))
     ∙ getD-set-other s b j (f .class) 0 (λ e. h (inl (record { from = omega arith; to = omega arith })))))))
 
 task-spare : (k : ℕ) (fs : List Frame) (j : ℕ) → (HeldByTask k fs j → ⊥) → (t : List ℕ) → getD (writeStack (putFrameIn k) fs t) j 0 ≡ getD t j 0
@@ -174,12 +175,12 @@ untouched r t = record {
 -- and past a frame's operands
 
 pub record FrameRoom (f : Frame) : Type 0 where
-  pub locals : length (f .locals) ≤ 8
-  pub operands : length (f .operands) ≤ 16
+  pub locals : length (f .locals) ≤ localCount
+  pub operands : length (f .operands) ≤ operandLimit
 
 pub record Room (r : Rows) : Type 0 where
-  pub values : All (λ x. length (x .values) ≤ 16) (r .objects)
-  pub many : length (r .quote) ≤ 32
+  pub values : All (λ x. length (x .values) ≤ fieldLimit) (r .objects)
+  pub many : length (r .quote) ≤ frameLimit
   pub quote : All FrameRoom (r .quote)
   pub report : All FrameRoom (r .report)
 
@@ -195,18 +196,18 @@ whole-room r w = record {
     framed f h = record { locals = omega (arith, h .eight); operands = h .depth }
 
 pub record LeavesRows (r : Rows) (t : Tables) : Type 0 where
-  pub objects : (j : ℕ) → length (r .objects) * 33 ≤ j → getD (put r t .objects) j 0 ≡ getD (t .objects) j 0
-  pub values : (o c : ℕ) (x : Object) → getElem? (r .objects) o ≡ some x → 1 + 2 * length (x .values) ≤ c → c < 33
-      → getD (put r t .objects) (o * 33 + c) 0 ≡ getD (t .objects) (o * 33 + c) 0
-  pub quote : (j : ℕ) → length (r .quote) * 52 ≤ j → j < 1664 → getD (put r t .frames) j 0 ≡ getD (t .frames) j 0
-  pub report : (j : ℕ) → 1664 + length (r .report) * 52 ≤ j → getD (put r t .frames) j 0 ≡ getD (t .frames) j 0
-  pub quoteOperands : (n c : ℕ) (f : Frame) → getElem? (r .quote) n ≡ some f → 20 + 2 * length (f .operands) ≤ c → c < 52
+  pub objects : (j : ℕ) → length (r .objects) * objectCells ≤ j → getD (put r t .objects) j 0 ≡ getD (t .objects) j 0
+  pub values : (o c : ℕ) (x : Object) → getElem? (r .objects) o ≡ some x → fieldsCell + valueCells * length (x .values) ≤ c → c < objectCells
+      → getD (put r t .objects) (o * objectCells + c) 0 ≡ getD (t .objects) (o * objectCells + c) 0
+  pub quote : (j : ℕ) → length (r .quote) * frameCells ≤ j → j < frameLimit * frameCells → getD (put r t .frames) j 0 ≡ getD (t .frames) j 0
+  pub report : (j : ℕ) → frameLimit * frameCells + length (r .report) * frameCells ≤ j → getD (put r t .frames) j 0 ≡ getD (t .frames) j 0
+  pub quoteOperands : (n c : ℕ) (f : Frame) → getElem? (r .quote) n ≡ some f → operandsCell + valueCells * length (f .operands) ≤ c → c < frameCells
       → getD (put r t .frames) (frameBase 0 (length (r .quote) - suc n) + c) 0 ≡ getD (t .frames) (frameBase 0 (length (r .quote) - suc n) + c) 0
-  pub reportOperands : (n c : ℕ) (f : Frame) → getElem? (r .report) n ≡ some f → 20 + 2 * length (f .operands) ≤ c → c < 52
+  pub reportOperands : (n c : ℕ) (f : Frame) → getElem? (r .report) n ≡ some f → operandsCell + valueCells * length (f .operands) ≤ c → c < frameCells
       → getD (put r t .frames) (frameBase 1 (length (r .report) - suc n) + c) 0 ≡ getD (t .frames) (frameBase 1 (length (r .report) - suc n) + c) 0
 
 -- a frame holds a part of its row
-frame-held : (b : ℕ) (f : Frame) (j : ℕ) → FrameRoom f → HeldByFrame b f j → Among b (20 + 2 * length (f .operands)) j
+frame-held : (b : ℕ) (f : Frame) (j : ℕ) → FrameRoom f → HeldByFrame b f j → Among b (operandsCell + valueCells * length (f .operands)) j
 frame-held b f j h (inl a) = record { from = a .from; to = omega (arith, a .to, h .locals) }
 frame-held b f j h (inr a) = record { from = omega (arith, a .from); to = omega (arith, a .to) }
 
@@ -216,8 +217,8 @@ record InRow (k : ℕ) (fs : List Frame) (j : ℕ) : Type 0 where
   frame : Frame
   there : getElem? fs place ≡ some frame
   less : place < length fs
-  cells : Among (frameBase k (length fs - suc place)) (20 + 2 * length (frame .operands)) j
-  few : length (frame .operands) ≤ 16
+  cells : Among (frameBase k (length fs - suc place)) (operandsCell + valueCells * length (frame .operands)) j
+  few : length (frame .operands) ≤ operandLimit
 
 task-held : (k : ℕ) (fs : List Frame) (j : ℕ) → All FrameRoom fs → HeldByTask k fs j → InRow k fs j
 task-held k fs j h x =
@@ -232,7 +233,7 @@ task-held k fs j h x =
     }
 
 -- past the operands of the frame in its own row nothing of the task lies
-past-operands : (k : ℕ) (fs : List Frame) (n c : ℕ) (f : Frame) → All FrameRoom fs → getElem? fs n ≡ some f → 20 + 2 * length (f .operands) ≤ c → c < 52
+past-operands : (k : ℕ) (fs : List Frame) (n c : ℕ) (f : Frame) → All FrameRoom fs → getElem? fs n ≡ some f → operandsCell + valueCells * length (f .operands) ≤ c → c < frameCells
     → HeldByTask k fs (frameBase k (length fs - suc n) + c) → ⊥
 past-operands k fs n c f h q l m x =
     let y : InRow k fs (frameBase k (length fs - suc n) + c) = task-held k fs _ h x in
@@ -245,8 +246,8 @@ pub untouched-rows : (r : Rows) (t : Tables) → Room r → LeavesRows r t
 untouched-rows r t h = record {
   objects = λ j l. all .objects j (λ x.
       omega (arith, x .3 .to, nth-lt (r .objects) (x .0) (x .1) (x .2), all-nth Few (r .objects) (h .values) (x .0) (x .1) (x .2)));
-  values = λ o c x q l m. all .objects (o * 33 + c) (λ y.
-      let few : length (y .1 .values) ≤ 16 = all-nth Few (r .objects) (h .values) (y .0) (y .1) (y .2) in
+  values = λ o c x q l m. all .objects (o * objectCells + c) (λ y.
+      let few : length (y .1 .values) ≤ fieldLimit = all-nth Few (r .objects) (h .values) (y .0) (y .1) (y .2) in
       let same : y .0 ≡ o = omega (arith, y .3 .from, y .3 .to) in
       let z : y .1 ≡ x = Option·some-injective (y .1) x (sym (y .2) ∙ rw same q) in
       omega (arith, y .3 .to, ap (λ (g : Object). length (g .values)) z, same));
@@ -264,7 +265,7 @@ untouched-rows r t h = record {
 }
   where
     Few : Object → Type 0
-    Few x = length (x .values) ≤ 16
+    Few x = length (x .values) ≤ fieldLimit
 
     all : Leaves r t
     all = untouched r t
