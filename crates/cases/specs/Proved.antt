@@ -5,14 +5,13 @@ use mathlib.Core.Option.{Option, none, some}
 use mathlib.Core.List.{List, [], _∷_, _++_, map}
 use mathlib.Core.Logic.{_⊎_, inl, inr}
 use Prim.Native.Nat.{ℕ}
-use lib.ListN.{replicate}
 use borrow.Author.Tests.{eqb-false}
 use Rattle.definition.specs.declared.Reply.{Reply}
 use Rattle.definition.specs.declared.Reply.the-variants.{Accepted}
 use Rattle.definition.specs.Lists.{every, isSome}
 use Rattle.definition.specs.Maybe.{_>>=_}
 use Rattle.definition.specs.Answers.{details}
-use Rattle.definition.specs.Tables.{Tables, tables, shaped, Rows, view}
+use Rattle.definition.specs.Tables.{Tables, shaped, zeros, Rows, view}
 use Rattle.definition.specs.Calls.{turn, bootRows, boot, perform}
 use Rattle.definition.specs.Computing.OnRows.{performRows, performAllRows}
 use Rattle.definition.specs.Script.{Line, readLine, printedLine, turned, carryOut, script, linesOf, boxscript}
@@ -75,9 +74,6 @@ cases t a = record {
     h = accepted-shaped t a
 
 -- In a program each table starts as zeros
-
-unfoldable pub zeros : Tables
-zeros = tables (replicate 8 0) (replicate 192 0) (replicate 16384 0) (replicate 768 0) (replicate 768 0) (replicate 768 0) (replicate 8448 0) (replicate 3328 0)
 
 zeros-accepted : boot zeros .answer ≡ Accepted
 unfolding boot shaped every zeros

@@ -12,7 +12,7 @@ use Rattle.definition.specs.Answers.{Refusal, Word, Answer, Idle, Ran, F
 use Rattle.definition.specs.Machine.{Frame, Progress, step}
 use Rattle.definition.specs.Loading.{define, recorded, started}
 use Rattle.definition.specs.File.{readFile, classOf}
-use Rattle.definition.specs.Tables.{Tables, shaped, Rows, rowsOf, withClasses, withKept, withCache, withTies, withSubtypes, withObjects, withFrames, framesIn, classRow, entry, worldOf, view, put}
+use Rattle.definition.specs.Tables.{Tables, shaped, Rows, noRows, withClasses, withKept, withCache, withTies, withSubtypes, withObjects, withFrames, framesIn, classRow, entry, worldOf, view, put}
 use Rattle.definition.specs.Broken.{broken}
 
 -- On rows: an answer with the rows that the call leaves
@@ -26,7 +26,7 @@ given a r = ok (record { answer = a; rows = r })
 
 -- boot: class 0 is Object of loader 0, the cache holds only (0, 2), all other rows are emptied
 abbrev pub bootRows : Rows
-bootRows = rowsOf (classRow 0 0 0 ∷ []) [] (entry 0 nameObject 0 ∷ []) [] [] [] [] []
+bootRows = withClasses (classRow 0 0 0 ∷ []) (withCache (entry 0 nameObject 0 ∷ []) noRows)
 
 -- the next class, with its file behind the kept ones; cache and constraints as w has them
 abbrev pub addFile : ℕ → List ℕ → Rows → World → Rows

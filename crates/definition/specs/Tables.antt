@@ -7,7 +7,7 @@ use mathlib.Core.Bool.{Bool}
 use mathlib.Core.Option.{Option, none, some}
 use mathlib.Core.List.{List, [], _∷_, map}
 use Prim.Native.Nat.{ℕ, zero, suc, _+_, _*_}
-use lib.ListN.{length, take, drop, getD, set}
+use lib.ListN.{length, replicate, take, drop, getD, set}
 use lib.Dec.{eqb, leb}
 use Rattle.definition.specs.Numbers.{fieldLimit, frameLimit, localCount, countClasses, countKept, countCache, countTies, countSubtypes, countObjects, countFrames, rowCells, valueCells, objectCells, fieldsCell, frameCells, methodCell, pointCell, depthCell, localsCell, operandsCell, countsLength, classesLength, keptLength, cacheLength, tiesLength, subtypesLength, objectsLength, framesLength, kindEmpty, kindInt, kindNull, kindObject}
 use Rattle.definition.specs.Lists.{every, rows, writeRows, stack, writeStack}
@@ -45,6 +45,12 @@ shaped t = every
     ∷ eqb (length (t .frames)) framesLength
     ∷ [])
 
+-- in a program each table starts as zeros, every row free
+unfoldable pub zeros : Tables
+zeros = tables
+    (replicate countsLength 0) (replicate classesLength 0) (replicate keptLength 0) (replicate cacheLength 0)
+    (replicate tiesLength 0) (replicate subtypesLength 0) (replicate objectsLength 0) (replicate framesLength 0)
+
 -- The store as rows. A class is its loader and where its file is kept, so that classes are always read off the kept files.
 
 pub record ClassRow : Type 0 where
@@ -64,6 +70,9 @@ pub record Rows : Type 0 where
 
 abbrev pub rowsOf : List ClassRow → List ℕ → List Entry → List Tie → List Subtype → List Object → List Frame → List Frame → Rows
 rowsOf c k e t s o q p = record { classes = c; kept = k; cache = e; ties = t; subtypes = s; objects = o; quote = q; report = p }
+
+abbrev pub noRows : Rows
+noRows = rowsOf [] [] [] [] [] [] [] []
 
 -- One part of the rows replaced, the rest as it was: a call names what it changes
 

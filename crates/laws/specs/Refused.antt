@@ -23,7 +23,7 @@ use Rattle.definition.specs.Tables.{Tables, shaped, Rows, worldOf, view, put}
 use Rattle.definition.specs.Broken.{broken}
 use Rattle.definition.specs.Calls.{Given, bootRows, defineRows, recordRows, startRows, dropRows, answerOf, stepTask, stepOn, stepRows, Done, done, wrap, boot, stepTables, runFrom, run, Call, callBoot, callStep, callRun, stepRefusals, refusalsOf, perform, RowCall, rowDefine, rowRecord, rowStart, rowDrop, onRowCall, callRows}
 use Rattle.laws.specs.Wrapped.{wrapped, Ok, then, ok-at}
-use Rattle.laws.specs.Runs.{run-is}
+use Rattle.laws.specs.Runs.{after, run-is, run-ends-refused}
 use Rattle.laws.specs.Refusals.{Refuses, Needs, Due, due-listed, step-due, rows-due}
 
 -- the refusal of a call, if it is one. A run that ends in a refused step is itself accepted.
@@ -156,6 +156,14 @@ refused-listed c t w q = due-listed c (view t) w (refused-same c t w q .due)
 pub wanted-missing : (c : Call) (t : Tables) (l n : ℕ) → refusal (perform c t .answer) ≡ some (Wanted l n) → Needs c (view t) l n × (find (view t .cache) (at l n) ≡ none)
 wanted-missing c t l n q = let d = refused-same c t (Wanted l n) q .due in (d .1, d .2)
 
--- the same for each step, and so for the last step of a run
+-- the same for each step
 pub step-refused : (t : Tables) (w : Refusal) → stepTables t .answer ≡ Refused w → Refusing callStep t (stepTables t .tables) w
 step-refused t w e = step-refusing t w (ap (λ (a : Answer). refusal (Stepped a)) e)
+
+-- and for the step that a run ends in: the run leaves the tables as they were after the k steps that ran, and the refusal is due of a step on those
+pub run-refusal : (n : ℕ) (t : Tables) (k : ℕ) (w : Refusal) → perform (callRun n) t .answer ≡ RanFor k (Refused w)
+    → Refusing callStep (after stepTables k t) (perform (callRun n) t .tables) w
+run-refusal n t k w e =
+    let r = run-ends-refused n t k w e in
+    let s = step-refused (after stepTables k t) w (r .answers) in
+    record { same = r .leaves ∙ s .same; due = s .due }

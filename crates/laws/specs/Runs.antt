@@ -1,6 +1,6 @@
 -- A run is its steps: each of the first k ran, and then the budget was spent or the next step answered something else; the store is the one
 -- after exactly those steps.
-use mathlib.Core.Path.{_≡_, refl, sym, ap, _∙_}
+use mathlib.Core.Path.{_≡_, refl, sym, ap, _∙_, subst}
 use mathlib.Core.Logic.{_⊎_, inl, inr}
 use Prim.Native.Nat.{ℕ, zero, suc, _+_, _<_}
 use native.Mathlib.Omega.{arith}
@@ -135,6 +135,53 @@ pub run-steps : (n : ℕ) (t : Tables) → broken t ≡ false → leb 1 n && leb
     → (k : ℕ) × (a : Answer) × (s : Tables) × (perform (callRun n) t ≡ done (RanFor k a) s) × Run stepTables n Idle t k a s
 unfolding perform run
 run-steps n t h l = let r = run-is stepTables n 0 Idle t in (r .count, r .last, r .left, rw (h, run) (rw l (r .gives ∙ (let z : 0 + r .count ≡ r .count = omega arith in ap (λ (k : ℕ). done (RanFor k (r .last)) (r .left)) z))), r .steps)
+
+-- A run that ends in a refused step: each step before that one ran, and it is refused of the tables after them, which the run leaves as that step does
+
+pub record EndsRefused (t : Tables) (k : ℕ) (w : Refusal) (s : Tables) : Type 0 where
+  pub ran : (i : ℕ) → i < k → IsRan stepTables (stepTables (after stepTables i t) .answer)
+  pub answers : stepTables (after stepTables k t) .answer ≡ Refused w
+  pub leaves : s ≡ stepTables (after stepTables k t) .tables
+
+-- the last of some steps that ran is no refusal
+last-ran : (k : ℕ) (a : Answer) (t : Tables) (w : Refusal) → ((i : ℕ) → i < k → IsRan stepTables (stepTables (after stepTables i t) .answer))
+    → lastOf stepTables k a t ≡ Refused w → a ≡ Refused w
+unfolding lastOf after
+last-ran zero a t w h e = e
+last-ran (suc k) a t w h e =
+    let q : stepTables t .answer ≡ Refused w = last-ran k (stepTables t .answer) (stepTables t .tables) w (λ i l. h (suc i) (omega arith)) e in
+    absurd (rw q at (h 0 (omega arith)))
+
+pub run-ends-refused : (n : ℕ) (t : Tables) (k : ℕ) (w : Refusal) → perform (callRun n) t .answer ≡ RanFor k (Refused w) → EndsRefused t k w (perform (callRun n) t .tables)
+unfolding perform run
+run-ends-refused n t k w = go (broken t) (leb 1 n && leb n 65535)
+  where
+    D : Bool → Bool → Done Reply
+    D b c = elim b as (λ _. Done Reply) [ true ↦ done (Denied (Word 1)) t | false ↦ elim c as (λ _. Done Reply) [ true ↦ runFrom stepTables n 0 Idle t | false ↦ done (Denied (Word 3)) t ] ]
+
+    denied : (v : Refusal) → Path Reply (Denied v) (RanFor k (Refused w)) → EndsRefused t k w t
+    denied v e = let z : _≡_ {A = ℕ} 0 1 = cc in absurd (omega arith)
+
+    ended : IsRun stepTables n 0 Idle t → runFrom stepTables n 0 Idle t .answer ≡ RanFor k (Refused w) → EndsRefused t k w (runFrom stepTables n 0 Idle t .tables)
+    ended r e =
+        let z : RanFor (0 + r .count) (r .last) ≡ RanFor k (Refused w) = sym (ap (λ (d : Done Reply). d .answer) (r .gives)) ∙ e in
+        let a : 0 + r .count ≡ k = cc in
+        let c : r .count ≡ k = omega arith in
+        let l : r .last ≡ Refused w = cc in
+        subst (λ (j : ℕ). EndsRefused t j w (runFrom stepTables n 0 Idle t .tables)) c (at l (r .steps .ends))
+      where
+        at : r .last ≡ Refused w
+            → ((r .count ≡ n) × (r .last ≡ lastOf stepTables (r .count) Idle t) × (r .left ≡ after stepTables (r .count) t))
+            ⊎ ((r .count < n) × (IsRan stepTables (r .last) → ⊥) × (r .last ≡ stepTables (after stepTables (r .count) t) .answer)
+            × (r .left ≡ stepTables (after stepTables (r .count) t) .tables))
+            → EndsRefused t (r .count) w (runFrom stepTables n 0 Idle t .tables)
+        at l (inl (p, q, s)) = let z : Path Answer Idle (Refused w) = last-ran (r .count) Idle t w (r .steps .ran) (sym q ∙ l) in let y : _≡_ {A = ℕ} 0 1 = cc in absurd (omega arith)
+        at l (inr (p, q, s, x)) = record { ran = r .steps .ran; answers = sym s ∙ l; leaves = ap (λ (d : Done Reply). d .tables) (r .gives) ∙ x }
+
+    go : (b c : Bool) → D b c .answer ≡ RanFor k (Refused w) → EndsRefused t k w (D b c .tables)
+    go true c e = denied (Word 1) e
+    go false true e = ended (run-is stepTables n 0 Idle t) e
+    go false false e = denied (Word 3) e
 
 -- and if its first step is refused, that is its answer
 pub run-refused : (n : ℕ) (t : Tables) (w : Refusal) → broken t ≡ false → leb 1 n && leb n 65535 ≡ true → stepTables t ≡ done (Refused w) t → perform (callRun n) t ≡ done (RanFor 0 (Refused w)) t

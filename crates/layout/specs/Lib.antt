@@ -9,5 +9,6 @@ pub mod Cells
 pub mod Whole
 pub mod ReadBack
 pub mod Unbroken
+pub mod Zeros
 pub mod Fills
 pub mod View

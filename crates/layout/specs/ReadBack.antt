@@ -9,7 +9,7 @@ use lib.ListN.{length, getD, set, length-set}
 use lib.Seq.{take-all}
 use lib.Dec.{leb}
 use borrow.Author.Tests.{eqb-true, eq-eqb}
-use Rattle.definition.specs.Numbers.{taskLimit, keptLimit, objectLimit, fieldLimit, frameLimit, countsLength, classesLength, cacheLength, tiesLength, subtypesLength, objectsLength, framesLength, countClasses, countKept, countCache, countTies, countSubtypes, countObjects, countFrames}
+use Rattle.definition.specs.Numbers.{taskLimit, objectLimit, fieldLimit, frameLimit, countsLength, classesLength, keptLength, cacheLength, tiesLength, subtypesLength, objectsLength, framesLength, countClasses, countKept, countCache, countTies, countSubtypes, countObjects, countFrames}
 use Rattle.definition.specs.Lists.{rows, writeRows, stack, writeStack}
 use Rattle.definition.specs.Maybe.{_>>=_, need}
 use Rattle.definition.specs.Classes.{Base, Entry, slots, slotsIn, ownSlots}
@@ -29,7 +29,7 @@ use Rattle.layout.specs.Whole.{Local, ValueSound, ObjectSound, Framed, F
 pub record Lengths (t : Tables) : Type 0 where
   pub counts : length (t .counts) ≡ countsLength
   pub classes : length (t .classes) ≡ classesLength
-  pub kept : length (t .kept) ≡ keptLimit
+  pub kept : length (t .kept) ≡ keptLength
   pub cache : length (t .cache) ≡ cacheLength
   pub ties : length (t .ties) ≡ tiesLength
   pub subtypes : length (t .subtypes) ≡ subtypesLength

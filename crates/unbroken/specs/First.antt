@@ -11,6 +11,7 @@ use borrow.Author.Tests.{eq-eqb}
 use Rattle.definition.specs.Lists.{any}
 use Rattle.definition.specs.declared.Refusal.{Refusal}
 use Rattle.definition.specs.declared.Refusal.the-variants.{Word}
+use Rattle.definition.specs.declared.Answer.{Answer}
 use Rattle.definition.specs.declared.Answer.the-variants.{Idle, Ran, Finished, Refused}
 use Rattle.definition.specs.declared.Reply.{Reply}
 use Rattle.definition.specs.declared.Reply.the-variants.{Accepted, Defined, Stepped, RanFor, Denied}
@@ -22,6 +23,7 @@ use Rattle.definition.specs.Calls.{Given, bootRows, stepTask, stepOn, stepRows,
 use Rattle.laws.specs.Causes.{Cause, cause, first, frameCauses, rowCauses, causes}
 use Rattle.laws.specs.Refusals.{running}
 use Rattle.laws.specs.Refused.{refusal, rows-taken, step-went, runs-taken}
+use Rattle.laws.specs.Runs.{after, run-ends-refused}
 use Rattle.laws.specs.Wrapped.{wrap-broken, wrap-carried, Ok}
 use Rattle.layout.specs.Tests.{All}
 use Rattle.layout.specs.Whole.{Whole}
@@ -140,3 +142,10 @@ first-applies callBoot t = boot-first t
 first-applies (callRows c) t = wrap-first Denied (λ a. a) (λ w. refl) (onRowCall c) t (rowCauses c (view t)) (rows-taken c (view t)) (λ _. rows-first (view t) c)
 first-applies callStep t = wrap-first Refused Stepped (λ w. refl) stepRows t _ (step-went (view t)) (λ w. step-rows-first (view t) w)
 first-applies (callRun n) t = run-first n t
+
+-- and so of the step that a run ends in: its word is the first that applies to a step on the tables after the k steps that ran
+pub run-applies : (n : ℕ) (t : Tables) (k : ℕ) (w : Refusal) → perform (callRun n) t .answer ≡ RanFor k (Refused w) → number w ≡ first (causes callStep (after stepTables k t))
+unfolding perform numberOf numberOfStep
+run-applies n t k w e =
+    let r = run-ends-refused n t k w e in
+    ap (λ (a : Answer). numberOf (Stepped a)) (sym (r .answers)) ∙ first-applies callStep (after stepTables k t)

@@ -1,8 +1,8 @@
--- What an accepted load leaves: the class that a define answers is the next unused, of its file and its loader, and cached under its own request; a record
--- leaves the request cached as the class recorded.
-use mathlib.Core.Path.{_≡_, sym, _∙_, subst}
-use mathlib.Core.Option.{some}
-use mathlib.Core.List.{List}
+-- What an accepted load leaves: the class that a define answers is the next unused, of its file and its loader, and cached under its own request, and one
+-- class and one cache entry are added; a record leaves the request cached as the class recorded, and adds one entry, or nothing where it was there.
+use mathlib.Core.Path.{_≡_, refl, sym, ap, _∙_, subst}
+use mathlib.Core.Option.{none, some}
+use mathlib.Core.List.{List, [], _∷_, _++_}
 use mathlib.Core.Logic.{_⊎_, inl, inr}
 use Prim.Native.Nat.{ℕ}
 use native.Mathlib.Omega.{arith}
@@ -14,8 +14,8 @@ use Rattle.definition.specs.Requests.{at}
 use Rattle.definition.specs.Classes.{find}
 use Rattle.definition.specs.Constraints.{World}
 use Rattle.definition.specs.File.{File, readFile, classOf}
-use Rattle.definition.specs.Tables.{Tables, Rows, worldOf, view, classAt}
-use Rattle.definition.specs.Calls.{Given, addFile, defineRows, recordRows, callDefine, callRecord, perform, rowDefine, rowRecord}
+use Rattle.definition.specs.Tables.{Tables, Rows, withCache, classRow, entry, worldOf, view, classAt}
+use Rattle.definition.specs.Calls.{Given, addFile, addEntry, defineRows, recordRows, callDefine, callRecord, perform, rowDefine, rowRecord}
 use Rattle.laws.specs.Options.{nth-last}
 use Rattle.laws.specs.Results.{need-ok, take-ok}
 use Rattle.laws.specs.Stable.{find-last}
@@ -25,13 +25,16 @@ use Rattle.unbroken.specs.Accepted.{Entered, Stood, recorded-is, defined
 use Rattle.unbroken.specs.Calls.{world-defined, rows-whole}
 use Rattle.unbroken.specs.Unbroken.{shown}
 
--- class c was defined by loader l from the bytes; before it there were the classes of r, after it those of s
+-- class c was defined by loader l from the bytes; before it there were the rows r, after it s: exactly one class, its bytes and one cache entry more
 pub record DefinedAs (l : ℕ) (bs : List ℕ) (c : ℕ) (r s : Rows) : Type 0 where
   pub file : File
   pub reads : readFile bs ≡ some file
   pub next : c ≡ length (r .classes)
   pub isClass : getElem? (worldOf s .base .classes) c ≡ some (classOf l file)
   pub cached : find (s .cache) (at l (file .name)) ≡ some c
+  pub classes : s .classes ≡ r .classes ++ (classRow l (length (r .kept)) (length bs) ∷ [])
+  pub kept : s .kept ≡ r .kept ++ bs
+  pub cache : s .cache ≡ r .cache ++ (entry l (file .name) c ∷ [])
 
 define-as : (l : ℕ) (bs : List ℕ) (r : Rows) → Whole r → Ok (defineRows l bs r) (λ g. (c : ℕ) → g .answer ≡ Defined c → DefinedAs l bs c r (g .rows))
 unfolding defineRows
@@ -47,6 +50,9 @@ define-as l bs r w = then Q _ _ (λ _ a. then Q _ _ (λ f rf. then Q _ _ (λ v e
       isClass = subst (λ (z : World). getElem? (z .base .classes) c ≡ some (classOf l f)) (d .is ∙ is) (rw (sym m) (nth-last (worldOf r .base .classes) (classOf l f)));
       cached = subst (λ (z : World). find (z .base .cache) (at l (f .name)) ≡ some c) (d .is)
           (rw (sym m) (find-last (r .cache) (record { request = at l (f .name); class = length (worldOf r .base .classes) }) (d .fresh)));
+      classes = refl;
+      kept = refl;
+      cache = sym (ap (λ (z : World). z .base .cache) (d .is)) ∙ ap (λ (i : ℕ). r .cache ++ (entry l (f .name) i ∷ [])) m;
     })))
   where
     Q : Given Reply → Type 0
@@ -58,16 +64,22 @@ define-answers l bs t c = shown Denied (defineRows l bs) (λ a s. a ≡ Defined 
     (λ w e. let z : _≡_ {A = ℕ} 0 1 = cc in absurd (omega arith))
     (λ w g e. ok-at (λ (g : Given Reply). (c : ℕ) → g .answer ≡ Defined c → DefinedAs l bs c (view t) (g .rows)) _ (define-as l bs (view t) w) g e c)
 
-record-as : (l n c : ℕ) (r : Rows) → Ok (recordRows l n c r) (λ g. find (g .rows .cache) (at l n) ≡ some c)
-unfolding recordRows
-record-as l n c r = then (λ (g : Given Reply). find (g .rows .cache) (at l n) ≡ some c) _ _ (λ v e. go v (recorded-is l n c (worldOf r) v e))
-  where
-    go : (v : World) → Stood l n c (worldOf r) v ⊎ Entered l n c (worldOf r) v → find (v .base .cache) (at l n) ≡ some c
-    go v (inl x) = subst (λ (z : World). find (z .base .cache) (at l n) ≡ some c) (x .is) (x .cached)
-    go v (inr x) = subst (λ (z : World). find (z .base .cache) (at l n) ≡ some c) (x .is) (find-last (r .cache) (record { request = at l n; class = c }) (x .fresh))
+-- the request is recorded as class c: it was there, and nothing changed; or it wasn't, and exactly one entry was added to the cache
+pub record RecordedAs (l n c : ℕ) (r s : Rows) : Type 0 where
+  pub cached : find (s .cache) (at l n) ≡ some c
+  pub adds : ((find (r .cache) (at l n) ≡ some c) × (s ≡ r)) ⊎ ((find (r .cache) (at l n) ≡ none) × (s ≡ withCache (r .cache ++ (entry l n c ∷ [])) r))
 
-pub record-answers : (l n c : ℕ) (t : Tables) → perform (callRecord l n c) t .answer ≡ Accepted → find (view (perform (callRecord l n c) t .tables) .cache) (at l n) ≡ some c
+record-as : (l n c : ℕ) (r : Rows) → Ok (recordRows l n c r) (λ g. RecordedAs l n c r (g .rows))
+unfolding recordRows
+record-as l n c r = then (λ (g : Given Reply). RecordedAs l n c r (g .rows)) _ _ (λ v e. go v (recorded-is l n c (worldOf r) v e))
+  where
+    go : (v : World) → Stood l n c (worldOf r) v ⊎ Entered l n c (worldOf r) v → RecordedAs l n c r (addEntry r v)
+    go v (inl x) = subst (λ (z : World). RecordedAs l n c r (addEntry r z)) (x .is) (record { cached = x .cached; adds = inl (x .cached, refl) })
+    go v (inr x) = subst (λ (z : World). RecordedAs l n c r (addEntry r z)) (x .is)
+        (record { cached = find-last (r .cache) (entry l n c) (x .fresh); adds = inr (x .fresh, refl) })
+
+pub record-answers : (l n c : ℕ) (t : Tables) → perform (callRecord l n c) t .answer ≡ Accepted → RecordedAs l n c (view t) (view (perform (callRecord l n c) t .tables))
 unfolding perform
-record-answers l n c t = shown Denied (recordRows l n c) (λ a s. a ≡ Accepted → find (s .cache) (at l n) ≡ some c) t (λ r w. rows-whole r w (rowRecord l n c))
+record-answers l n c t = shown Denied (recordRows l n c) (λ a s. a ≡ Accepted → RecordedAs l n c (view t) s) t (λ r w. rows-whole r w (rowRecord l n c))
     (λ w e. let z : _≡_ {A = ℕ} 0 1 = cc in absurd (omega arith))
-    (λ w g e _. ok-at (λ (g : Given Reply). find (g .rows .cache) (at l n) ≡ some c) _ (record-as l n c (view t)) g e)
+    (λ w g e _. ok-at (λ (g : Given Reply). RecordedAs l n c (view t) (g .rows)) _ (record-as l n c (view t)) g e)
