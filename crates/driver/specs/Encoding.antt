@@ -9,7 +9,7 @@ use lib.ListN.{length, getD, length-append}
 use lib.Seq.{take-append-seam, drop-append-seam, getD-append-add}
 use borrow.Author.Tests.{le-leb}
 use Rattle.definition.specs.Instructions.{pick}
-use Rattle.definition.specs.Calls.{Call, callBoot, callDefine, callRecord, callStart, callStep, callRun, callDrop}
+use Rattle.definition.specs.Calls.{rowDefine, rowRecord, rowStart, rowDrop, Call, callBoot, callRows, callDefine, callStep, callRun}
 use Rattle.layout.specs.Tests.{All}
 use Rattle.classfile.specs.Searches.{part-there}
 use Rattle.driver.specs.Encoded.{kindIn, cellIn, fileIn, callIn, callsFrom, callsIn}
@@ -17,21 +17,21 @@ use Rattle.driver.specs.Encoded.{kindIn, cellIn, fileIn, callIn, callsFr
 -- a call's file, and its row if that file begins at byte s
 unfoldable pub fileOf : Call → List ℕ
 fileOf callBoot = []
-fileOf (callDefine l bs) = bs
-fileOf (callRecord l n c) = []
-fileOf (callStart k l n m v) = []
+fileOf (callRows (rowDefine l bs)) = bs
+fileOf (callRows (rowRecord l n c)) = []
+fileOf (callRows (rowStart k l n m v)) = []
 fileOf callStep = []
 fileOf (callRun n) = []
-fileOf (callDrop k) = []
+fileOf (callRows (rowDrop k)) = []
 
 unfoldable pub rowOf : Call → ℕ → List ℕ
 rowOf callBoot s = 0 ∷ 0 ∷ 0 ∷ 0 ∷ 0 ∷ 0 ∷ []
-rowOf (callDefine l bs) s = 1 ∷ l ∷ s ∷ length bs ∷ 0 ∷ 0 ∷ []
-rowOf (callRecord l n c) s = 2 ∷ l ∷ n ∷ c ∷ 0 ∷ 0 ∷ []
-rowOf (callStart k l n m v) s = 3 ∷ k ∷ l ∷ n ∷ m ∷ v ∷ []
+rowOf (callRows (rowDefine l bs)) s = 1 ∷ l ∷ s ∷ length bs ∷ 0 ∷ 0 ∷ []
+rowOf (callRows (rowRecord l n c)) s = 2 ∷ l ∷ n ∷ c ∷ 0 ∷ 0 ∷ []
+rowOf (callRows (rowStart k l n m v)) s = 3 ∷ k ∷ l ∷ n ∷ m ∷ v ∷ []
 rowOf callStep s = 4 ∷ 0 ∷ 0 ∷ 0 ∷ 0 ∷ 0 ∷ []
 rowOf (callRun n) s = 5 ∷ n ∷ 0 ∷ 0 ∷ 0 ∷ 0 ∷ []
-rowOf (callDrop k) s = 6 ∷ k ∷ 0 ∷ 0 ∷ 0 ∷ 0 ∷ []
+rowOf (callRows (rowDrop k)) s = 6 ∷ k ∷ 0 ∷ 0 ∷ 0 ∷ 0 ∷ []
 
 -- files one behind another, and the rows, the first file beginning at byte s
 unfoldable pub filesOf : List Call → List ℕ
@@ -44,12 +44,12 @@ cellsOf (c ∷ cs) s = rowOf c s ++ cellsOf cs (s + length (fileOf c))
 
 abbrev pub Named : Call → Type 0
 Named callBoot = Unit {0}
-Named (callDefine l bs) = Unit {0}
-Named (callRecord l n c) = Unit {0}
-Named (callStart k l n m v) = (n ≤ 65535) × (m ≤ 65535)
+Named (callRows (rowDefine l bs)) = Unit {0}
+Named (callRows (rowRecord l n c)) = Unit {0}
+Named (callRows (rowStart k l n m v)) = (n ≤ 65535) × (m ≤ 65535)
 Named callStep = Unit {0}
 Named (callRun n) = Unit {0}
-Named (callDrop k) = Unit {0}
+Named (callRows (rowDrop k)) = Unit {0}
 
 -- a row behind i others
 module _ (xs : List ℕ) (i : ℕ) (behind : length xs ≡ i * 6) where
@@ -81,30 +81,30 @@ module _ (xs : List ℕ) (i : ℕ) (behind : length xs ≡ i * 6) where
   row-read : (c : Call) → Named c → (fs rest more : List ℕ) → callIn (xs ++ (rowOf c (length fs) ++ rest)) (fs ++ (fileOf c ++ more)) i ≡ some c
   unfolding callIn pick rowOf fileOf
   row-read callBoot h fs rest more = rw (kind-at (0 ∷ 0 ∷ 0 ∷ 0 ∷ 0 ∷ 0 ∷ rest))
-  row-read (callDefine l bs) h fs rest more = define-read l bs fs rest more
-  row-read (callRecord l n c) h fs rest more =
+  row-read (callRows (rowDefine l bs)) h fs rest more = define-read l bs fs rest more
+  row-read (callRows (rowRecord l n c)) h fs rest more =
       let ys : List ℕ = 2 ∷ l ∷ n ∷ c ∷ 0 ∷ 0 ∷ rest in
       rw (kind-at ys, cell-at ys 1, cell-at ys 2, cell-at ys 3)
-  row-read (callStart k l n m v) h fs rest more =
+  row-read (callRows (rowStart k l n m v)) h fs rest more =
       let ys : List ℕ = 3 ∷ k ∷ l ∷ n ∷ m ∷ v ∷ rest in
       rw (kind-at ys, cell-at ys 1, cell-at ys 2, cell-at ys 3, cell-at ys 4, cell-at ys 5, le-leb n 65535 (h .0), le-leb m 65535 (h .1))
   row-read callStep h fs rest more = rw (kind-at (4 ∷ 0 ∷ 0 ∷ 0 ∷ 0 ∷ 0 ∷ rest))
   row-read (callRun n) h fs rest more =
       let ys : List ℕ = 5 ∷ n ∷ 0 ∷ 0 ∷ 0 ∷ 0 ∷ rest in
       rw (kind-at ys, cell-at ys 1)
-  row-read (callDrop k) h fs rest more =
+  row-read (callRows (rowDrop k)) h fs rest more =
       let ys : List ℕ = 6 ∷ k ∷ 0 ∷ 0 ∷ 0 ∷ 0 ∷ rest in
       rw (kind-at ys, cell-at ys 1)
 
 row-length : (c : Call) (s : ℕ) → length (rowOf c s) ≡ 6
 unfolding rowOf
 row-length callBoot s = refl
-row-length (callDefine l bs) s = refl
-row-length (callRecord l n c) s = refl
-row-length (callStart k l n m v) s = refl
+row-length (callRows (rowDefine l bs)) s = refl
+row-length (callRows (rowRecord l n c)) s = refl
+row-length (callRows (rowStart k l n m v)) s = refl
 row-length callStep s = refl
 row-length (callRun n) s = refl
-row-length (callDrop k) s = refl
+row-length (callRows (rowDrop k)) s = refl
 
 cells-length : (cs : List Call) (s : ℕ) → length (cellsOf cs s) ≡ length cs * 6
 unfolding cellsOf

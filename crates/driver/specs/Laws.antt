@@ -53,7 +53,7 @@ module _ (o : Option Call) (w : Row) (bs : List ℕ) (reads : callMade w bs ≡ 
 
 reply-commute : (t : List ℕ) (i j : ℕ) (x y : Reply) → i < j → putReply (putReply t j y) i x ≡ putReply (putReply t i x) j y
 unfolding putReply putClassRow
-reply-commute t i j x y l = class-rows .commute t i j (classRow (numberOf x) (endsIn x) (countOf x)) (classRow (numberOf y) (endsIn y) (countOf y)) l
+reply-commute t i j x y l = class-rows .commute t i j (classRow (numberOf x) (endsIn x) (countOf x)) (classRow (numberOf y) (endsIn y) (countOf y)) l tt tt
 
 performed-none : (i : ℕ) (t : Tables) (answers : List ℕ) → driven (Performed i) t answers ≡ performed [] i t answers
 unfolding performed performAll writeRows

@@ -8,7 +8,7 @@ use lib.ListN.{length, take, drop, set}
 use lib.Seq.{take-append-seam}
 use Rattle.definition.specs.Lists.{writeRows}
 use Rattle.definition.specs.Calls as defs
-use Rattle.definition.specs.Calls.{callBoot, callDefine, callRecord, callStart, callStep, callRun, callDrop}
+use Rattle.definition.specs.Calls.{rowDefine, rowRecord, rowStart, rowDrop, callBoot, callRows, callDefine, callStep, callRun}
 use Rattle.definition.specs.Script.{Line, readLine}
 use Rattle.layout.specs.Cells.{cells-block}
 use Rattle.script.specs.declared.Command.{Command}
@@ -55,12 +55,12 @@ call-heard l before after a h e k = step (l .call) a e
   where
     step : (c : defs.Call) → facts.Asked 32768 c → after ≡ fileOnto c before → Heard (some (record { letter = l .letter; call = c })) (askedBy (commandOf c)) after
     step callBoot a e = absurd a
-    step (callDefine i bs) a e = (omega arith, ap (callDefine i) (rw e (front bs before (omega arith))))
-    step (callRecord i n c) a e = (omega arith, refl)
-    step (callStart j i n m v) a e = (omega arith, refl)
+    step (callRows (rowDefine i bs)) a e = (omega arith, ap (callDefine i) (rw e (front bs before (omega arith))))
+    step (callRows (rowRecord i n c)) a e = (omega arith, refl)
+    step (callRows (rowStart j i n m v)) a e = (omega arith, refl)
     step callStep a e = (omega arith, refl)
     step (callRun n) a e = absurd a
-    step (callDrop j) a e = (omega arith, refl)
+    step (callRows (rowDrop j)) a e = (omega arith, refl)
 
 pub heard : (s : List ℕ) (r : Command) (before after : List ℕ) → Read (readLine s) r before after → 32768 ≤ length before → length after ≡ length before
     → Heard (readLine s) (askedBy r) after

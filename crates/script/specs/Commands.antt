@@ -5,7 +5,7 @@ use mathlib.Core.List.{List}
 use Prim.Native.Nat.{ℕ}
 use lib.ListN.{length, set}
 use Rattle.definition.specs.Lists.{writeRows}
-use Rattle.definition.specs.Calls.{Call, callBoot, callDefine, callRecord, callStart, callStep, callRun, callDrop}
+use Rattle.definition.specs.Calls.{rowDefine, rowRecord, rowStart, rowDrop, Call, callBoot, callRows, callStep, callRun}
 use Rattle.definition.specs.Script.{Line}
 pub use Rattle.script.specs.declared.Command.{Command}
 pub use Rattle.script.specs.declared.Command.the-variants.{Record, Define, Start, Step, Drop, Unreadable}
@@ -13,12 +13,12 @@ pub use Rattle.script.specs.declared.Command.the-variants.{Record, Defin
 -- a define says its file's length; no line asks for a boot or a run
 unfoldable pub commandOf : Call → Command
 commandOf callBoot = Unreadable
-commandOf (callDefine l bs) = Define l (length bs)
-commandOf (callRecord l n c) = Record l n c
-commandOf (callStart k l n m i) = Start k l n m i
+commandOf (callRows (rowDefine l bs)) = Define l (length bs)
+commandOf (callRows (rowRecord l n c)) = Record l n c
+commandOf (callRows (rowStart k l n m i)) = Start k l n m i
 commandOf callStep = Step
 commandOf (callRun n) = Unreadable
-commandOf (callDrop k) = Drop k
+commandOf (callRows (rowDrop k)) = Drop k
 
 unfoldable pub said : Option Line → Command
 said none = Unreadable
@@ -27,12 +27,12 @@ said (some l) = commandOf (l .call)
 -- a file's bytes are written from the table's front; other calls leave it
 unfoldable pub fileOnto : Call → List ℕ → List ℕ
 fileOnto callBoot t = t
-fileOnto (callDefine l bs) t = writeRows set bs 0 t
-fileOnto (callRecord l n c) t = t
-fileOnto (callStart k l n m i) t = t
+fileOnto (callRows (rowDefine l bs)) t = writeRows set bs 0 t
+fileOnto (callRows (rowRecord l n c)) t = t
+fileOnto (callRows (rowStart k l n m i)) t = t
 fileOnto callStep t = t
 fileOnto (callRun n) t = t
-fileOnto (callDrop k) t = t
+fileOnto (callRows (rowDrop k)) t = t
 
 unfoldable pub decoded : Option Line → List ℕ → List ℕ
 decoded none t = t

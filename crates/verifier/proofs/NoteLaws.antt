@@ -7,7 +7,7 @@ use native.Mathlib.Omega.{arith}
 use lib.ListN.{length, set, length-set, length-append}
 use lib.Seq.{set-comm, set-out, set-getD, getD-set-same, getD-set-other}
 use Rattle.definition.specs.Verifier.{Note}
-use Rattle.layout.specs.Cells.{RowLaws, rows-parts}
+use Rattle.layout.specs.Cells.{RowLaws, Anything, rows-parts}
 use Rattle.verifier.specs.declared.effects.Meeting.{Meeting}
 use Rattle.verifier.specs.declared.effects.Meeting.the-variants.{Unmet, Met, Noted}
 use Rattle.verifier.specs.Trace.{made, putNote, noteAt, Wrote}
@@ -32,17 +32,17 @@ note-either t i j x y d =
     ∙ (set-comm (set (set t a xl) c yl) e b yh xh (λ q. d (omega arith)) ∙ ap (λ u. set u e yh) (set-comm (set t a xl) c b yl xh (λ q. d (omega arith))))
 
 -- a note is a row of two cells
-pub note-rows : RowLaws noteAt putNote 2
+pub note-rows : RowLaws noteAt putNote 2 Anything
 unfolding putNote noteAt
 note-rows = record {
   same = λ t i. rw (set-getD t (i * 2) 0) (set-getD t (i * 2 + 1) 0);
-  back = λ t i x h.
+  back = λ t i x h _.
       rw (
         getD-set-other (set t (i * 2) (x .low)) (i * 2 + 1) (i * 2) (x .high) 0 (λ q. omega arith),
         getD-set-same t (i * 2) (x .low) 0 (omega arith),
         getD-set-same (set t (i * 2) (x .low)) (i * 2 + 1) (x .high) 0 (omega (arith, length-set t (i * 2) (x .low))),
       );
-  other = λ t j i x d.
+  other = λ t j i x d _ _.
       let u : List ℕ = set t (i * 2) (x .low) in
       rw (
         getD-set-other u (i * 2 + 1) (j * 2) (x .high) 0 (λ q. d (omega arith)),
@@ -51,7 +51,7 @@ note-rows = record {
         getD-set-other t (i * 2) (j * 2 + 1) (x .low) 0 (λ q. d (omega arith)),
       );
   long = note-length;
-  commute = λ t i j x y l. note-either t i j x y (λ q. omega arith);
+  commute = λ t i j x y l _ _. note-either t i j x y (λ q. omega arith);
 }
 
 -- What a meeting writes
