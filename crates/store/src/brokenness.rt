@@ -38,7 +38,7 @@ fn linked_size(
     };
     let own = classfile::field_count(resolution::file_of(counts, classes, kept, number));
     let size = cells::wide8(cells::at8(sizes, cells::wide32(p))) + cells::wide8(own);
-    if (FIELD_LIMIT as u32) < size {
+    if FIELD_LIMIT < size {
         return Fields::Unfit;
     }
     Fields::Count(size as u8)
