@@ -46,7 +46,7 @@ fn read_field(
             let Found::At(j) = resolution::slot_of(counts, classes, kept, cache, s, name, of) else {
                 return instructions::refuse(WORD_STUCK);
             };
-            if FIELD_LIMIT as u32 <= j {
+            if FIELD_LIMIT <= j {
                 return instructions::refuse(WORD_STUCK);
             }
             let v = frames::field(objects, o, j as u8);
@@ -92,7 +92,7 @@ fn set_field(
             let Found::At(j) = resolution::slot_of(counts, classes, kept, cache, s, name, of) else {
                 return instructions::refuse(WORD_STUCK);
             };
-            if FIELD_LIMIT as u32 <= j {
+            if FIELD_LIMIT <= j {
                 return Plan::Keep(top - 1);
             }
             Plan::Field(top - 1, o, j as u8, v.kind, v.bits)

@@ -34,6 +34,7 @@ ghost use Rattle.classfile.specs.Reading.{superName, methodCount, quickFile};
 ghost use Rattle.resolution.specs.Quick.{quickBase};
 ghost use Rattle.constraints.specs.Posting.{noteAt};
 ghost use Rattle.entries.specs.World.{worldIn, world, baseWith, Searchable, Loadable};
+ghost use Rattle.defining.specs.Posting.{triedTiesLength};
 ghost use Rattle.defining.specs.Stages.{roomFor, postedFor, Decided};
 
 // What is decided of a class: it is refused, or it is to be added with this loader and so many ties and subtype constraints in all.
@@ -68,7 +69,7 @@ fn has_room(
         return false;
     }
     let own = cells::from16(cells::from8(classfile::field_count(file)));
-    resolution::size_of(counts, classes, kept, cache, p) + own <= FIELD_LIMIT as u32
+    resolution::size_of(counts, classes, kept, cache, p) + own <= FIELD_LIMIT
 }
 
 // The store with the file's class, below p, and with the rows of these tables agrees.
@@ -130,7 +131,7 @@ pub(crate) fn decide_constraints(
     new_ties: &mut [u16],
     new_subtypes: &mut [u16],
 ) -> Defining
-    requires { ⌜ Loadable (now counts) (now classes) (now kept) (now cache) (now ties) (now subtypes) × (length (now file) ≤ fileLimit) × (methodCount (now file) ≤ memberLimit) × (length (now «new_ties») ≡ 816) × (length (now «new_subtypes») ≡ subtypesLength) × (find (quickBase (now counts) (now classes) (now kept) (now cache) .cache) (at loader (superName (now file))) ≡ some p) ⌝ }
+    requires { ⌜ Loadable (now counts) (now classes) (now kept) (now cache) (now ties) (now subtypes) × (length (now file) ≤ fileLimit) × (methodCount (now file) ≤ memberLimit) × (length (now «new_ties») ≡ triedTiesLength) × (length (now «new_subtypes») ≡ subtypesLength) × (find (quickBase (now counts) (now classes) (now kept) (now cache) .cache) (at loader (superName (now file))) ≡ some p) ⌝ }
     ensures { λ r. ⌜ Decided r (postedFor (leb (getD (now (counts .entry)) countKept 0 + length (now (file .entry))) keptLimit) (classOf loader (quickFile (now (file .entry)))) (worldIn (now (counts .entry)) (now (classes .entry)) (now (kept .entry)) (now (cache .entry)) (now (ties .entry)) (now (subtypes .entry))) (rows (noteAt (now (notes .entry))) «note_count» 0) p) (now (counts .entry)) (now (ties .entry)) (now (subtypes .entry)) (now («new_ties» .exit)) (now («new_subtypes» .exit)) (worldIn (now (counts .entry)) (now (classes .entry)) (now (kept .entry)) (now (cache .entry)) (now (ties .entry)) (now (subtypes .entry))) (classOf loader (quickFile (now (file .entry)))) ⌝ }
 {
     entries::write_cells(new_ties, 0, ties);

@@ -10,8 +10,13 @@ use definition::Reply;
 use definition::numbers::COUNT_CACHE;
 use definition::numbers::COUNT_CLASSES;
 use definition::numbers::COUNT_KEPT;
+use definition::numbers::FILE_LIMIT;
 use definition::numbers::LOADER_LIMIT;
+use definition::numbers::MEMBER_LIMIT;
+use definition::numbers::NOTE_CELLS;
+use definition::numbers::ROW_CELLS;
 use definition::numbers::SUBTYPES_LENGTH;
+use definition::numbers::TIE_LIMIT;
 use definition::numbers::TIES_LENGTH;
 use definition::numbers::WORD_BROKEN;
 use definition::numbers::WORD_FILE;
@@ -32,8 +37,15 @@ ghost use Rattle.definition.specs.File.{classOf};
 ghost use Rattle.classfile.specs.Reading.{methodCount, quickFile};
 ghost use Rattle.constraints.specs.Posting.{noteAt};
 ghost use Rattle.entries.specs.World.{worldIn, Loadable};
+ghost use Rattle.defining.specs.Posting.{triedTiesLength};
 ghost use Rattle.defining.specs.Stages.{placedFor, Decided};
 ghost use Rattle.defining.specs.Writing.{Planned};
+
+// The verifier makes at most one note for each byte of a file.
+const NOTES_LENGTH: usize = FILE_LIMIT * NOTE_CELLS;
+
+// Cells for all ties that may be there and two more for each method of a file.
+const TRIED_TIES_LENGTH: usize = (TIE_LIMIT as usize + 2 * MEMBER_LIMIT as usize) * ROW_CELLS;
 
 // The superclass, then the constraints, of a file that was read and verified.
 fn decide_class(
@@ -50,7 +62,7 @@ fn decide_class(
     new_ties: &mut [u16],
     new_subtypes: &mut [u16],
 ) -> Defining
-    requires { ⌜ Loadable (now counts) (now classes) (now kept) (now cache) (now ties) (now subtypes) × (length (now file) ≤ fileLimit) × (methodCount (now file) ≤ memberLimit) × (length (now «new_ties») ≡ 816) × (length (now «new_subtypes») ≡ subtypesLength) ⌝ }
+    requires { ⌜ Loadable (now counts) (now classes) (now kept) (now cache) (now ties) (now subtypes) × (length (now file) ≤ fileLimit) × (methodCount (now file) ≤ memberLimit) × (length (now «new_ties») ≡ triedTiesLength) × (length (now «new_subtypes») ≡ subtypesLength) ⌝ }
     ensures { λ r. ⌜ Decided r (placedFor (leb (getD (now (counts .entry)) countKept 0 + length (now (file .entry))) keptLimit) (classOf loader (quickFile (now (file .entry)))) (worldIn (now (counts .entry)) (now (classes .entry)) (now (kept .entry)) (now (cache .entry)) (now (ties .entry)) (now (subtypes .entry))) (rows (noteAt (now (notes .entry))) «note_count» 0)) (now (counts .entry)) (now (ties .entry)) (now (subtypes .entry)) (now («new_ties» .exit)) (now («new_subtypes» .exit)) (worldIn (now (counts .entry)) (now (classes .entry)) (now (kept .entry)) (now (cache .entry)) (now (ties .entry)) (now (subtypes .entry))) (classOf loader (quickFile (now (file .entry)))) ⌝ }
 {
     let above = find_super(counts, classes, kept, cache, loader, file);
@@ -89,7 +101,7 @@ fn decide_define(
     new_ties: &mut [u16],
     new_subtypes: &mut [u16],
 ) -> Defining
-    requires { ⌜ (length (now «new_ties») ≡ 816) × (length (now «new_subtypes») ≡ subtypesLength) ⌝ }
+    requires { ⌜ (length (now «new_ties») ≡ triedTiesLength) × (length (now «new_subtypes») ≡ subtypesLength) ⌝ }
     ensures { λ r. ⌜ Planned r (tables (now (counts .entry)) (now (classes .entry)) (now (kept .entry)) (now (cache .entry)) (now (ties .entry)) (now (subtypes .entry)) (now (objects .entry)) (now (frames .entry))) loader (now (file .entry)) (now («new_ties» .exit)) (now («new_subtypes» .exit)) ⌝ }
 {
     if store::is_broken(
@@ -104,13 +116,13 @@ fn decide_define(
     ) {
         return Defining::Refuse(Refusal::Word(WORD_BROKEN));
     }
-    if LOADER_LIMIT as u32 <= loader {
+    if LOADER_LIMIT <= loader {
         return Defining::Refuse(Refusal::Word(WORD_UNKNOWN));
     }
     if !classfile::reads(file) {
         return Defining::Refuse(Refusal::Word(WORD_FILE));
     }
-    let mut notes = [0u16; 8192];
+    let mut notes = [0u16; NOTES_LENGTH];
     let Verified::Notes(n) = verifier::verify_class(file, &mut notes) else {
         return Defining::Refuse(Refusal::Word(WORD_UNVERIFIED));
     };
@@ -146,7 +158,7 @@ pub fn define(
 ) -> Reply
     ensures { λ r. ⌜ done r (tables (now (counts .exit)) (now (classes .exit)) (now (kept .exit)) (now (cache .exit)) (now (ties .exit)) (now (subtypes .exit)) (now (objects .entry)) (now (frames .entry))) ≡ perform (callDefine loader (now (file .entry))) (tables (now (counts .entry)) (now (classes .entry)) (now (kept .entry)) (now (cache .entry)) (now (ties .entry)) (now (subtypes .entry)) (now (objects .entry)) (now (frames .entry))) ⌝ }
 {
-    let mut new_ties = [0u16; 816];
+    let mut new_ties = [0u16; TRIED_TIES_LENGTH];
     let mut new_subtypes = [0u16; SUBTYPES_LENGTH];
     let plan = decide_define(
         counts,

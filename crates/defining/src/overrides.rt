@@ -11,7 +11,7 @@ ghost use Rattle.definition.specs.Loading.{overrideTie, overrideTies};
 ghost use Rattle.definition.specs.Classes.{loaderOf};
 ghost use Rattle.classfile.specs.Reading.{methodCount, methodIn, quickMethods};
 ghost use Rattle.resolution.specs.Quick.{quickBase};
-ghost use Rattle.defining.specs.Posting.{TiesPosted, methodLike};
+ghost use Rattle.defining.specs.Posting.{TiesPosted, methodLike, triedTiesLength};
 
 // Ties on argument and result between a loader and that of the nearest class, p or one upward, with a method alike, behind the first rows of a table.
 // Answers the new count.
@@ -97,7 +97,7 @@ pub(crate) fn post_methods(
     p: u32,
     file: &[u8],
 ) -> u16
-    requires { ⌜ (methodCount (now file) ≤ memberLimit) × (count ≤ tieLimit) × (length (now ties) ≡ 816) × ((c : ℕ) → loaderOf (quickBase (now counts) (now classes) (now kept) (now cache)) c < loaderLimit) ⌝ }
+    requires { ⌜ (methodCount (now file) ≤ memberLimit) × (count ≤ tieLimit) × (length (now ties) ≡ triedTiesLength) × ((c : ℕ) → loaderOf (quickBase (now counts) (now classes) (now kept) (now cache)) c < loaderLimit) ⌝ }
     ensures { λ r. ⌜ TiesPosted (overrideTies (quickBase (now (counts .entry)) (now (classes .entry)) (now (kept .entry)) (now (cache .entry))) loader p (rows (tieAt (now (ties .entry))) count 0) (quickMethods (now (file .entry)))) (now (ties .entry)) count (now (ties .exit)) r ⌝ }
 {
     let n = classfile::method_count(file);

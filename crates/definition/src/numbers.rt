@@ -38,7 +38,7 @@ pub const NAME_INT: u16 = 1;
 pub const NAME_OBJECT: u16 = 2;
 
 // Limits: loaders are 0 to 15, tasks 0 (the quote) and 1 (the report).
-pub const LOADER_LIMIT: u16 = 16;
+pub const LOADER_LIMIT: u32 = 16;
 
 pub const TASK_LIMIT: u32 = 2;
 
@@ -54,7 +54,7 @@ pub const SUBTYPE_LIMIT: u16 = 256;
 
 pub const OBJECT_LIMIT: u16 = 256;
 // Fields of an object, inherited ones included.
-pub const FIELD_LIMIT: u8 = 16;
+pub const FIELD_LIMIT: u32 = 16;
 // Frames of a task.
 pub const FRAME_LIMIT: u16 = 32;
 
@@ -92,6 +92,8 @@ pub const COUNT_FRAMES: usize = 6;
 pub const ROW_CELLS: usize = 3;
 
 pub const VALUE_CELLS: usize = 2;
+// A note of the verifier: the lower name, the higher name.
+pub const NOTE_CELLS: usize = 2;
 
 // An object: its class, then its fields.
 pub const FIELDS_CELL: usize = 1;
@@ -142,12 +144,12 @@ pub const BYTE_RANGE: u16 = 256;
 
 pub const SHORT_RANGE: u32 = 65536;
 
-pub const INT_RANGE: u64 = 4294967296;
+pub const INT_RANGE: usize = 4294967296;
 
 pub const SIGN_BIT: u32 = 2147483648;
 
 // Every number above, in the order of their names in specs/Numbers.antt.
-pub fn all_numbers() -> [u64; 66]
+pub fn all_numbers() -> [u64; 67]
     ensures { λ r. ⌜ r ≡ allNumbers ⌝ }
 {
     [
@@ -193,6 +195,7 @@ pub fn all_numbers() -> [u64; 66]
         COUNT_FRAMES as u64,
         ROW_CELLS as u64,
         VALUE_CELLS as u64,
+        NOTE_CELLS as u64,
         FIELDS_CELL as u64,
         OBJECT_CELLS as u64,
         METHOD_CELL as u64,

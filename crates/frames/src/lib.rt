@@ -23,6 +23,11 @@ ghost use Rattle.definition.specs.Tables.{valueOf, valueAt, putCells, operandAt
 ghost use Rattle.layout.specs.Cells.{moved};
 ghost use Rattle.frames.specs.Initial.{initialOf, initialObject, putEmpty};
 
+// The rows of a task, and the cells of a row of frames.
+const TASK_ROWS: u32 = FRAME_LIMIT as u32;
+
+const ROW_SIZE: u32 = FRAME_CELLS as u32;
+
 // A value's two cells.
 pub struct Cell {
     pub kind: u32,
@@ -106,7 +111,7 @@ pub fn depth(frames: &[u32], b: u32) -> u32
 pub fn row(task: u8, m: u16) -> u32
     ensures { λ r. ⌜ r ≡ frameBase task m ⌝ }
 {
-    (cells::from16(cells::from8(task)) * FRAME_LIMIT as u32 + cells::from16(m)) * FRAME_CELLS as u32
+    (cells::from16(cells::from8(task)) * TASK_ROWS + cells::from16(m)) * ROW_SIZE
 }
 
 // Writing

@@ -27,7 +27,7 @@ pub enum Opening {
 fn are_known(loader: u32, name: u16, method: u16) -> bool
     ensures { λ r. ⌜ r ≡ (ltb loader loaderLimit && leb nameObject name && leb 1 method) ⌝ }
 {
-    if LOADER_LIMIT as u32 <= loader {
+    if LOADER_LIMIT <= loader {
         return false;
     }
     if name < NAME_OBJECT {

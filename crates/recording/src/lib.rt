@@ -29,6 +29,9 @@ ghost use Rattle.definition.specs.Calls.{done, callRecord, perform};
 ghost use Rattle.entries.specs.World.{worldIn, Loadable};
 ghost use Rattle.recording.specs.Deciding.{entered, recordedBy, Planned};
 
+// The least name of a class, as a number that the host gives.
+const LEAST_CLASS_NAME: u32 = NAME_OBJECT as u32;
+
 // What is decided of an entry: it is refused, it is there already, or it is to be added with this loader, name and class.
 pub(crate) enum Recording {
     Refuse(Refusal),
@@ -136,10 +139,10 @@ fn decide_record(
     ) {
         return Recording::Refuse(Refusal::Word(WORD_BROKEN));
     }
-    if LOADER_LIMIT as u32 <= loader {
+    if LOADER_LIMIT <= loader {
         return Recording::Refuse(Refusal::Word(WORD_UNKNOWN));
     }
-    if name < NAME_OBJECT as u32 {
+    if name < LEAST_CLASS_NAME {
         return Recording::Refuse(Refusal::Word(WORD_UNKNOWN));
     }
     if !resolution::is_class(counts, class) {

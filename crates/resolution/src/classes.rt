@@ -16,6 +16,9 @@ ghost use Rattle.definition.specs.Classes.{superOf};
 ghost use Rattle.resolution.specs.Quick.{found, quickBase, fileIn, loaderIn};
 ghost use Rattle.resolution.specs.Lookups.{nameIn, superCell};
 
+// How many classes there are at most.
+const CLASSES: u8 = CLASS_LIMIT as u8;
+
 // Cells of a class's row.
 fn row_cell(classes: &[u16], c: u32, cell: u8) -> u16
     ensures { λ r. ⌜ r ≡ getD (now (classes .entry)) (c * rowCells + cell) 0 ⌝ }
@@ -109,7 +112,7 @@ fn super_cell(counts: &[u16], classes: &[u16], kept: &[u8], cache: &[u16], c: u8
 pub fn fill_supers(supers: &mut [u8], counts: &[u16], classes: &[u16], kept: &[u8], cache: &[u16])
     ensures { λ _. ⌜ now (supers .exit) ≡ writeRows set (rows (superCell (quickBase (now (counts .entry)) (now (classes .entry)) (now (kept .entry)) (now (cache .entry)))) classLimit 0) 0 (now (supers .entry)) ⌝ }
 {
-    let mut i: u8 = CLASS_LIMIT as u8;
+    let mut i: u8 = CLASSES;
     while 0 < i {
         i -= 1;
         cells::put8(

@@ -14,6 +14,9 @@ ghost use Rattle.definition.specs.Tables.{classRowAt, entryAt, tieAt, subtypeAt
 ghost use Rattle.definition.specs.Broken.{isObject, entryFits, tieFits, subtypeFits};
 ghost use Rattle.store.specs.Checks.{fileFits, sourcesFit, rowsFit};
 
+// Loaders are numbers below this, in cells of 16 bits.
+const LOADERS: u16 = LOADER_LIMIT as u16;
+
 fn is_object(classes: &[u16]) -> bool
     ensures { λ r. ⌜ r ≡ isObject (classRowAt (now (classes .entry)) 0) ⌝ }
 {
@@ -30,7 +33,7 @@ fn file_fits(counts: &[u16], classes: &[u16], kept: &[u8], c: u16) -> bool
     ensures { λ r. ⌜ r ≡ fileFits (getD (now (counts .entry)) countKept 0) (now (kept .entry)) (classRowAt (now (classes .entry)) c) ⌝ }
 {
     let place = cells::wide16(c) * ROW_CELLS;
-    if LOADER_LIMIT <= cells::at16(classes, place) {
+    if LOADERS <= cells::at16(classes, place) {
         return false;
     }
     let start = cells::at16(classes, place + 1);
@@ -66,7 +69,7 @@ fn entry_fits(cache: &[u16], classes: u16, i: u16) -> bool
     ensures { λ r. ⌜ r ≡ entryFits classes (entryAt (now (cache .entry)) i) ⌝ }
 {
     let place = cells::wide16(i) * ROW_CELLS;
-    if LOADER_LIMIT <= cells::at16(cache, place) {
+    if LOADERS <= cells::at16(cache, place) {
         return false;
     }
     cells::at16(cache, place + 2) < classes
@@ -91,10 +94,10 @@ fn tie_fits(ties: &[u16], i: u16) -> bool
     ensures { λ r. ⌜ r ≡ tieFits (tieAt (now (ties .entry)) i) ⌝ }
 {
     let place = cells::wide16(i) * ROW_CELLS;
-    if LOADER_LIMIT <= cells::at16(ties, place) {
+    if LOADERS <= cells::at16(ties, place) {
         return false;
     }
-    cells::at16(ties, place + 1) < LOADER_LIMIT
+    cells::at16(ties, place + 1) < LOADERS
 }
 
 fn ties_fit(counts: &[u16], ties: &[u16]) -> bool
@@ -114,7 +117,7 @@ fn ties_fit(counts: &[u16], ties: &[u16]) -> bool
 fn subtype_fits(subtypes: &[u16], i: u16) -> bool
     ensures { λ r. ⌜ r ≡ subtypeFits (subtypeAt (now (subtypes .entry)) i) ⌝ }
 {
-    cells::at16(subtypes, cells::wide16(i) * ROW_CELLS) < LOADER_LIMIT
+    cells::at16(subtypes, cells::wide16(i) * ROW_CELLS) < LOADERS
 }
 
 fn subtypes_fit(counts: &[u16], subtypes: &[u16]) -> bool

@@ -22,6 +22,11 @@ ghost use Rattle.definition.specs.Lists.{all, rows, stack};
 ghost use Rattle.definition.specs.Tables.{valueOf, fieldAt, localAt, operandAt, frameAt};
 ghost use Rattle.store.specs.Checks.{objectSized, valueIn, localIn, objectIn, frameFit, framesFit};
 
+// The rows of a task, and the cells of a row of frames.
+const TASK_ROWS: u32 = FRAME_LIMIT as u32;
+
+const ROW_SIZE: u32 = FRAME_CELLS as u32;
+
 fn value_fits(kind: u32, bits: u32, made: u32) -> bool
     ensures { λ r. ⌜ r ≡ valueIn made (valueOf kind bits) ⌝ }
 {
@@ -153,12 +158,12 @@ pub(crate) fn frames_fit(counts: &[u16], frames: &[u32], task: u8) -> bool
 {
     let classes = cells::from16(cells::at16(counts, COUNT_CLASSES));
     let made = cells::from16(cells::at16(counts, COUNT_OBJECTS));
-    let first = cells::from16(cells::from8(task)) * FRAME_LIMIT as u32;
+    let first = cells::from16(cells::from8(task)) * TASK_ROWS;
     let mut i = cells::at16(counts, COUNT_FRAMES + cells::wide8(task));
     while 0 < i {
         if !frame_fits(
             frames,
-            (first + cells::from16(i - 1)) * FRAME_CELLS as u32,
+            (first + cells::from16(i - 1)) * ROW_SIZE,
             classes,
             made,
         ) {

@@ -1,5 +1,6 @@
 // What each instruction does to the types.
 use crate::types::INT;
+use crate::types::LOCALS;
 use crate::types::NULL;
 use crate::types::Popped;
 use crate::types::Types;
@@ -8,7 +9,6 @@ use crate::types::local;
 use crate::types::pop;
 use crate::types::type_of_name;
 use definition::Instruction;
-use definition::numbers::LOCAL_COUNT;
 use definition::numbers::NAME_OBJECT;
 use definition::numbers::SHORT_RANGE;
 ghost use mathlib.Core.Bool.{_&&_};
@@ -139,7 +139,7 @@ fn istore(types: Types, i: u8) -> Effect
         return Effect::Rejected;
     }
     let place = cells::wide8(i);
-    if LOCAL_COUNT as usize <= place {
+    if LOCALS <= place {
         return Effect::Rejected;
     }
     Effect::Stored(d, place, INT)
@@ -155,7 +155,7 @@ fn astore(types: Types, i: u8) -> Effect
         return Effect::Rejected;
     }
     let place = cells::wide8(i);
-    if LOCAL_COUNT as usize <= place {
+    if LOCALS <= place {
         return Effect::Rejected;
     }
     Effect::Stored(d, place, stored(t))
