@@ -3,7 +3,7 @@
 --
 -- A paper adds to three definitions alone: what today's tables hold beyond the first document's is forgotten by `Carries`, an old call is asked of today's
 -- machine as `today` says, and what the paper names is a case of `Involved`.
-use mathlib.Core.Path.{_≡_, refl, ap}
+use mathlib.Core.Path.{_≡_, ap}
 use mathlib.Core.List.{List, [], _∷_, map}
 use mathlib.Core.Logic.{_⊎_, inl, inr}
 use Rattle.definition.specs.Lists.{Each}

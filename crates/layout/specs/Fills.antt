@@ -11,7 +11,7 @@ use Rattle.definition.specs.Classes.{Base}
 use Rattle.definition.specs.Constraints.{Tie, Subtype}
 use Rattle.definition.specs.Machine.{Value, Object, Frame}
 use Rattle.definition.specs.Tables.{Tables, tables, Rows, putClassRow, putEntry, putTie, putSubtype, usedFields, objectAt, putObject, putField, frameIn, putFrameIn, classRowsOf, keptOf, cacheOf, tiesOf, subtypesOf, viewBase, objectsOf, framesOf, viewOver, view, countsOf, put}
-use Rattle.layout.specs.Places.{rows-length, writeRows-same, stack-length, writeStack-same, written-set}
+use Rattle.layout.specs.Places.{rows-length, stack-length, writeStack-same, written-set}
 use Rattle.layout.specs.Rows.{RowLaws, Anything, rows-kept, rows-more, row-more, class-rows, entry-rows, tie-rows, subtype-rows, cell-rows}
 use Rattle.layout.specs.ObjectRows.{withField, object-rows, objects-field, objects-made}
 use Rattle.layout.specs.FrameRows.{frameIn-same}

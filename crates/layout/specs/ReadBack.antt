@@ -15,11 +15,11 @@ use Rattle.definition.specs.Maybe.{_>>=_, need}
 use Rattle.definition.specs.Classes.{Base, Entry, slots, slotsIn, ownSlots}
 use Rattle.definition.specs.Machine.{Value, emptyValue, intValue, nullValue, objectValue, unlistedValue, Object, Frame}
 use Rattle.definition.specs.File.{File, byte, readFile, objectClass}
-use Rattle.definition.specs.Tables.{Tables, shaped, ClassRow, Rows, rowsOf, fileAt, classAt, baseOf, worldOf, sizeOf, classRowAt, putClassRow, entryAt, putEntry, tieAt, putTie, subtypeAt, putSubtype, objectAt, putObject, operandAt, frameOf, frameAt, putFrame, frameBase, frameIn, putFrameIn, viewBase, objectsOf, framesOf, viewOver, view, countsOf, put}
+use Rattle.definition.specs.Tables.{Tables, shaped, ClassRow, Rows, rowsOf, fileAt, classAt, baseOf, worldOf, sizeOf, classRowAt, putClassRow, entryAt, putEntry, tieAt, putTie, subtypeAt, putSubtype, objectAt, putObject, frameBase, frameIn, putFrameIn, viewBase, objectsOf, framesOf, viewOver, view, countsOf, put}
 use Rattle.layout.specs.Tests.{All, From, every-true, true-every, all-more}
-use Rattle.layout.specs.Places.{rows-take, stack-length, stack-cong, all-stack, writeRows-length, writeStack-length, writeStack-keeps, rows-written, stack-written}
+use Rattle.layout.specs.Places.{rows-take, stack-cong, all-stack, writeRows-length, writeStack-length}
 use Rattle.layout.specs.Rows.{fitting-back, stack-back, stack-apart, rows-back, class-rows, entry-rows, tie-rows, subtype-rows, cell-rows}
-use Rattle.layout.specs.Values.{Proper, proper-empty, proper-int, proper-null, proper-object, unread-cell}
+use Rattle.layout.specs.Values.{Proper, proper-empty, proper-int, proper-null, proper-object}
 use Rattle.layout.specs.ObjectRows.{used-all, putObject-length, ObjectProper, object-rows}
 use Rattle.layout.specs.FrameRows.{putFrame-length, FrameProper, frame-rows}
 use Rattle.layout.specs.Whole.{Local, ValueSound, ObjectSound, Framed, First, ClassSound, Classes, Whole}

@@ -1,6 +1,6 @@
 -- One law of rows, for every table, whatever the width of a row; and that rows of three cells and single cells keep it. Objects' rows do in ObjectRows, frames'
 -- in FrameRows.
-use mathlib.Core.Path.{_≡_, refl, sym, ap, _∙_}
+use mathlib.Core.Path.{_≡_, refl, sym, _∙_}
 use mathlib.Core.List.{List, [], _∷_, _++_}
 use mathlib.Core.Logic.{_≢_}
 use Prim.Native.Nat.{ℕ, suc, _+_, _*_, _<_, _≤_}

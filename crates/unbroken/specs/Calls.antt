@@ -3,7 +3,7 @@ use mathlib.Core.Path.{_≡_, refl, sym, ap, _∙_, subst}
 use mathlib.Core.Option.{some}
 use mathlib.Core.List.{List, [], _∷_, _++_, map}
 use mathlib.Core.Logic.{inl, inr}
-use Prim.Native.Nat.{ℕ, zero, suc, _+_, _≤_, _<_}
+use Prim.Native.Nat.{ℕ, _+_, _≤_, _<_}
 use native.Mathlib.Omega.{arith}
 use lib.ListN.{length, getElem?, length-append, length-map}
 use lib.Dec.{leb}
@@ -16,7 +16,7 @@ use Rattle.definition.specs.File.{File, classOf, readFile}
 use Rattle.definition.specs.Loading.{define, recorded, withClass, withEntry}
 use Rattle.definition.specs.Machine.{Frame}
 use Rattle.definition.specs.Requests.{at}
-use Rattle.definition.specs.Tables.{ClassRow, Rows, baseOf, classAt, fileAt, sizeOf, worldOf, withFrames, framesIn}
+use Rattle.definition.specs.Tables.{ClassRow, Rows, baseOf, classAt, fileAt, sizeOf, worldOf, framesIn}
 use Rattle.laws.specs.Agreement.{find-more, is-super}
 use Rattle.laws.specs.Growth.{Grows, grows-class, grows-entry}
 use Rattle.laws.specs.Options.{nth-last}

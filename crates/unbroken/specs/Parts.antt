@@ -10,12 +10,11 @@ use Rattle.definition.specs.declared.Answer.the-variants.{Idle, Refused}
 use Rattle.definition.specs.declared.Reply.{Reply}
 use Rattle.definition.specs.declared.Reply.the-variants.{Denied}
 use Rattle.definition.specs.Answers.{ok}
-use Rattle.definition.specs.Classes.{Entry}
-use Rattle.definition.specs.Constraints.{Tie, Subtype, World}
+use Rattle.definition.specs.Constraints.{World}
 use Rattle.definition.specs.Loading.{started}
 use Rattle.definition.specs.Machine.{Object, Frame, Progress, newObject}
-use Rattle.definition.specs.Tables.{Tables, ClassRow, Rows, ofTask, framesIn, withFrames, worldOf, view, put}
-use Rattle.definition.specs.Calls.{Given, progressed, addFile, addEntry, defineRows, recordRows, startRows, dropRows, stepTask, stepOn, stepRows, turnOf, turn, RowCall, rowDefine, rowRecord, rowStart, rowDrop, onRowCall, callRows, stepTables, perform}
+use Rattle.definition.specs.Tables.{Tables, Rows, ofTask, framesIn, withFrames, worldOf, view, put}
+use Rattle.definition.specs.Calls.{Given, progressed, defineRows, recordRows, startRows, dropRows, stepTask, stepOn, stepRows, turnOf, turn, RowCall, rowDefine, rowRecord, rowStart, rowDrop, onRowCall, callRows, stepTables, perform}
 use Rattle.laws.specs.Objects.{Numbered, numbered-same, numbered-more}
 use Rattle.laws.specs.Results.{ok-inj}
 use Rattle.laws.specs.Turns.{idle-empty}

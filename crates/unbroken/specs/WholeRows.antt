@@ -17,7 +17,7 @@ use Rattle.definition.specs.Constraints.{Subtype, Tie, World, newTie}
 use Rattle.definition.specs.File.{File, classOf, readFile}
 use Rattle.definition.specs.Lists.{any}
 use Rattle.definition.specs.Loading.{newSubtypes, overrideTie, overrideTies, started, subtypeIs, subtypeOf}
-use Rattle.definition.specs.Machine.{Object, Frame, Progress, intValue, newObject}
+use Rattle.definition.specs.Machine.{Frame, Progress, intValue, newObject}
 use Rattle.definition.specs.Requests.{Request, at}
 use Rattle.definition.specs.Superclasses.{nearest}
 use Rattle.definition.specs.Tables.{ClassRow, Rows, classAt, fileAt, sizeOf, worldOf, withTies, withObjects, withFrames}
