@@ -148,6 +148,8 @@ pub data Call : Type 0 where
   callStep : Call
   callRun : ℕ → Call
 
+-- those on rows, by their names
+
 abbrev pub callDefine : ℕ → List ℕ → Call
 callDefine l bs = callRows (rowDefine l bs)
 
