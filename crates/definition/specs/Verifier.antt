@@ -92,43 +92,33 @@ effect (Invokevirtual c m t r) s =
 effect (New c) s = need (leb nameObject c) >>= λ _. flow (typeClass c ∷ s .operands) (s .locals) []
 effect (Return kind) s = none
 
--- a return: its notes, where its kind and the value fit the result type
-unfoldable pub returns : Instruction → ℕ → TypeState → Option (List Note)
-returns AconstNull r s = none
-returns (Sipush n) r s = none
-returns (Load kind i) r s = none
-returns (Store kind i) r s = none
-returns Pop r s = none
-returns Dup r s = none
-returns (Arithmetic o) r s = none
-returns (Getfield c f t) r s = none
-returns (Putfield c f t) r s = none
-returns (Invokevirtual c m t q) r s = none
-returns (New c) r s = none
-returns (Return kind) r s = meetKind kind (typeOfName r) >>= λ _. pop (s .operands) >>= λ p. meets (p .top) r
+-- the kind that a return gives back; no other instruction has one
+unfoldable pub returnKind : Instruction → Option Kind
+returnKind AconstNull = none
+returnKind (Sipush n) = none
+returnKind (Load kind i) = none
+returnKind (Store kind i) = none
+returnKind Pop = none
+returnKind Dup = none
+returnKind (Arithmetic o) = none
+returnKind (Getfield c f t) = none
+returnKind (Putfield c f t) = none
+returnKind (Invokevirtual c m t r) = none
+returnKind (New c) = none
+returnKind (Return kind) = some kind
 
-unfoldable pub isReturn : Instruction → Bool
-isReturn AconstNull = false
-isReturn (Sipush n) = false
-isReturn (Load kind i) = false
-isReturn (Store kind i) = false
-isReturn Pop = false
-isReturn Dup = false
-isReturn (Arithmetic o) = false
-isReturn (Getfield c f t) = false
-isReturn (Putfield c f t) = false
-isReturn (Invokevirtual c m t q) = false
-isReturn (New c) = false
-isReturn (Return kind) = true
+-- the notes of a return, where it fits the result type r: in its kind, and in the value that it gives back
+unfoldable pub returns : Kind → ℕ → TypeState → Option (List Note)
+returns kind r s = meetKind kind (typeOfName r) >>= λ _. pop (s .operands) >>= λ p. meets (p .top) r
 
 module _ (code : List ℕ) (result : ℕ) where
   -- the notes of the code from point p on, where the types are s; a return is the last instruction and nowhere else.
   -- Each instruction has a byte or more, so that as many steps as bytes are enough.
   unfoldable pub verify : ℕ → ℕ → TypeState → Option (List Note)
   verify zero p s = none
-  verify (suc k) p s = decode code p >>= λ i. elim (isReturn (i .instruction)) [
-    | true ↦ need (eqb (p + i .size) (length code)) >>= λ _. returns (i .instruction) result s
-    | false ↦ effect (i .instruction) s >>= λ f. verify k (p + i .size) (f .types) >>= λ ns. some (f .notes ++ ns)
+  verify (suc k) p s = decode code p >>= λ i. elim (returnKind (i .instruction)) [
+    | some kind ↦ need (eqb (p + i .size) (length code)) >>= λ _. returns kind result s
+    | none ↦ effect (i .instruction) s >>= λ f. verify k (p + i .size) (f .types) >>= λ ns. some (f .notes ++ ns)
   ]
 
   -- the types at the point q
@@ -139,10 +129,12 @@ module _ (code : List ℕ) (result : ℕ) where
     | false ↦ decode code p >>= λ i. effect (i .instruction) s >>= λ f. typesAt k (p + i .size) (f .types) q
   ]
 
-abbrev pub notesOfMethod : Class → Method → Option (List Note)
+-- What is said of a method: its notes, and the types at a point
+
+unfoldable pub notesOfMethod : Class → Method → Option (List Note)
 notesOfMethod k m = verify (m .code) (m .result) (length (m .code)) 0 (entryTypes k m)
 
-abbrev pub typesIn : Class → Method → ℕ → Option TypeState
+unfoldable pub typesIn : Class → Method → ℕ → Option TypeState
 typesIn k m q = typesAt (m .code) (m .result) (length (m .code)) 0 (entryTypes k m) q
 
 -- notes in order of method, then point
