@@ -83,7 +83,7 @@ ofKind! ReferenceKind v = reference! v >>= λ _. ok tt
 unfoldable pub kind! : ℕ → Value → Result (Unit {0})
 kind! t v = elim (eqb t nameInt) [ true ↦ ofKind! IntKind v | false ↦ ofKind! ReferenceKind v ]
 
--- The 32 bits that an operator makes of the lower operand a and the upper b; it may refuse, and none does
+-- The 32 bits that an operator makes of the lower operand a and the upper operand b, or its refusal; these two wrap and never refuse
 unfoldable pub compute : Operator → ℕ → ℕ → Result ℕ
 compute Add a b = ok ((a + b) % intRange)
 compute Subtract a b = ok ((a + intRange - b) % intRange)
