@@ -24,6 +24,14 @@ pub enum Reply {
     Denied(Refusal),
 }
 
+// A call's answer as numbers: the refusal's number, 0 if there is none, then three details. An int is its 32 bits.
+pub struct Details {
+    pub refusal: u8,
+    pub one: u32,
+    pub two: u32,
+    pub three: u32,
+}
+
 // Whether a value is an int, or a reference: null or an object.
 pub enum Kind {
     IntKind,
