@@ -6,10 +6,14 @@ use Prim.Native.Nat.{ℕ, suc, _+_, _*_}
 use lib.ListN.{length, getD}
 use lib.Dec.{eqb, leb, ltb}
 use Rattle.definition.specs.Numbers.{byteRange}
+pub use Rattle.definition.specs.declared.Kind.{Kind}
+pub use Rattle.definition.specs.declared.Kind.the-variants.{IntKind, ReferenceKind}
+pub use Rattle.definition.specs.declared.Operator.{Operator}
+pub use Rattle.definition.specs.declared.Operator.the-variants.{Add, Subtract}
 pub use Rattle.definition.specs.declared.Opcode.{Opcode}
-pub use Rattle.definition.specs.declared.Opcode.the-variants.{OpAconstNull, OpSipush, OpIload, OpAload, OpIstore, OpAstore, OpPop, OpDup, OpIadd, OpIsub, OpGetfield, OpPutfield, OpInvokevirtual, OpNew, OpIreturn, OpAreturn, OpUnknown}
+pub use Rattle.definition.specs.declared.Opcode.the-variants.{OpAconstNull, OpSipush, OpLoad, OpStore, OpPop, OpDup, OpArithmetic, OpGetfield, OpPutfield, OpInvokevirtual, OpNew, OpReturn, OpUnknown}
 pub use Rattle.definition.specs.declared.Instruction.{Instruction}
-pub use Rattle.definition.specs.declared.Instruction.the-variants.{AconstNull, Sipush, Iload, Aload, Istore, Astore, Pop, Dup, Iadd, Isub, Getfield, Putfield, Invokevirtual, New, Ireturn, Areturn}
+pub use Rattle.definition.specs.declared.Instruction.the-variants.{AconstNull, Sipush, Load, Store, Pop, Dup, Arithmetic, Getfield, Putfield, Invokevirtual, New, Return}
 
 -- The decision over opcode bytes
 
@@ -20,29 +24,25 @@ pick false a b = b
 unfoldable pub opcodeOf : ℕ → Opcode
 opcodeOf b =
     pick (eqb b 0x01) OpAconstNull (pick (eqb b 0x11) OpSipush
-    (pick (eqb b 0x15) OpIload (pick (eqb b 0x19) OpAload (pick (eqb b 0x36) OpIstore (pick (eqb b 0x3A) OpAstore
-    (pick (eqb b 0x57) OpPop (pick (eqb b 0x59) OpDup (pick (eqb b 0x60) OpIadd (pick (eqb b 0x64) OpIsub
+    (pick (eqb b 0x15) (OpLoad IntKind) (pick (eqb b 0x19) (OpLoad ReferenceKind) (pick (eqb b 0x36) (OpStore IntKind) (pick (eqb b 0x3A) (OpStore ReferenceKind)
+    (pick (eqb b 0x57) OpPop (pick (eqb b 0x59) OpDup (pick (eqb b 0x60) (OpArithmetic Add) (pick (eqb b 0x64) (OpArithmetic Subtract)
     (pick (eqb b 0xB4) OpGetfield (pick (eqb b 0xB5) OpPutfield (pick (eqb b 0xB6) OpInvokevirtual (pick (eqb b 0xBB) OpNew
-    (pick (eqb b 0xAC) OpIreturn (pick (eqb b 0xB0) OpAreturn OpUnknown)))))))))))))))
+    (pick (eqb b 0xAC) (OpReturn IntKind) (pick (eqb b 0xB0) (OpReturn ReferenceKind) OpUnknown)))))))))))))))
 
 -- how many bytes follow inline
 unfoldable pub inlineLength : Opcode → ℕ
 inlineLength OpAconstNull = 0
 inlineLength OpSipush = 2
-inlineLength OpIload = 1
-inlineLength OpAload = 1
-inlineLength OpIstore = 1
-inlineLength OpAstore = 1
+inlineLength (OpLoad k) = 1
+inlineLength (OpStore k) = 1
 inlineLength OpPop = 0
 inlineLength OpDup = 0
-inlineLength OpIadd = 0
-inlineLength OpIsub = 0
+inlineLength (OpArithmetic o) = 0
 inlineLength OpGetfield = 6
 inlineLength OpPutfield = 6
 inlineLength OpInvokevirtual = 8
 inlineLength OpNew = 2
-inlineLength OpIreturn = 0
-inlineLength OpAreturn = 0
+inlineLength (OpReturn k) = 0
 inlineLength OpUnknown = 0
 
 -- 16 bits inline at place i
@@ -57,20 +57,16 @@ extend n = elim (ltb n 32768) [ true ↦ n | false ↦ n + 4294901760 ]
 unfoldable pub instructionOf : List ℕ → ℕ → Opcode → Option Instruction
 instructionOf s i OpAconstNull = some AconstNull
 instructionOf s i OpSipush = some (Sipush (extend (shortAt s i)))
-instructionOf s i OpIload = some (Iload (getD s i 0))
-instructionOf s i OpAload = some (Aload (getD s i 0))
-instructionOf s i OpIstore = some (Istore (getD s i 0))
-instructionOf s i OpAstore = some (Astore (getD s i 0))
+instructionOf s i (OpLoad k) = some (Load k (getD s i 0))
+instructionOf s i (OpStore k) = some (Store k (getD s i 0))
 instructionOf s i OpPop = some Pop
 instructionOf s i OpDup = some Dup
-instructionOf s i OpIadd = some Iadd
-instructionOf s i OpIsub = some Isub
+instructionOf s i (OpArithmetic o) = some (Arithmetic o)
 instructionOf s i OpGetfield = some (Getfield (shortAt s i) (shortAt s (i + 2)) (shortAt s (i + 4)))
 instructionOf s i OpPutfield = some (Putfield (shortAt s i) (shortAt s (i + 2)) (shortAt s (i + 4)))
 instructionOf s i OpInvokevirtual = some (Invokevirtual (shortAt s i) (shortAt s (i + 2)) (shortAt s (i + 4)) (shortAt s (i + 6)))
 instructionOf s i OpNew = some (New (shortAt s i))
-instructionOf s i OpIreturn = some Ireturn
-instructionOf s i OpAreturn = some Areturn
+instructionOf s i (OpReturn k) = some (Return k)
 instructionOf s i OpUnknown = none
 
 -- an instruction, and its size in bytes

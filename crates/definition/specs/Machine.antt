@@ -11,7 +11,7 @@ use Rattle.definition.specs.Requests.{at}
 use Rattle.definition.specs.Superclasses.{nearest, below}
 use Rattle.definition.specs.Classes.{Base, Class, Method, find, superOf, loaderOf, Slot, slots, slotIs, hasField, alike, methodsOf, hasMethod}
 use Rattle.definition.specs.Constraints.{World, newTie, post}
-use Rattle.definition.specs.Instructions.{Instruction, AconstNull, Sipush, Iload, Aload, Istore, Astore, Pop, Dup, Iadd, Isub, Getfield, Putfield, Invokevirtual, New, Ireturn, Areturn, Decoded, decode}
+use Rattle.definition.specs.Instructions.{Kind, IntKind, ReferenceKind, Operator, Add, Subtract, Instruction, AconstNull, Sipush, Load, Store, Pop, Dup, Arithmetic, Getfield, Putfield, Invokevirtual, New, Return, Decoded, decode}
 use Rattle.definition.specs.Verifier.{pop}
 use Rattle.definition.specs.Answers.{Word, wanted, Result, refused, ok, _>>=_, need, take?}
 
@@ -75,9 +75,18 @@ reference! nullValue = ok nullValue
 reference! (objectValue o) = ok (objectValue o)
 reference! (unlistedValue k b) = refused (Word wordStuck)
 
+unfoldable pub ofKind! : Kind → Value → Result (Unit {0})
+ofKind! IntKind v = int! v >>= λ _. ok tt
+ofKind! ReferenceKind v = reference! v >>= λ _. ok tt
+
 -- an int for int, a reference for a class name
 unfoldable pub kind! : ℕ → Value → Result (Unit {0})
-kind! t v = elim (eqb t nameInt) [ true ↦ int! v >>= λ _. ok tt | false ↦ reference! v >>= λ _. ok tt ]
+kind! t v = elim (eqb t nameInt) [ true ↦ ofKind! IntKind v | false ↦ ofKind! ReferenceKind v ]
+
+-- The 32 bits that an operator makes of the lower operand a and the upper operand b, or its refusal; these two wrap and never refuse
+unfoldable pub compute : Operator → ℕ → ℕ → Result ℕ
+compute Add a b = ok ((a + b) % intRange)
+compute Subtract a b = ok ((a + intRange - b) % intRange)
 
 -- room for one operand more
 unfoldable pub room! : List Value → Result (Unit {0})
@@ -139,20 +148,15 @@ module _ (w : World) (os : List Object) (f : Frame) (fs : List Frame) (k : Class
   unfoldable pub execute : Instruction → Result Progress
   execute AconstNull = room! (f .operands) >>= λ _. on (nullValue ∷ f .operands) (f .locals)
   execute (Sipush n) = room! (f .operands) >>= λ _. on (intValue n ∷ f .operands) (f .locals)
-  execute (Iload j) = room! (f .operands) >>= λ _. take? (getElem? (f .locals) j) (Word wordStuck) >>= λ v. int! v >>= λ n. on (v ∷ f .operands) (f .locals)
-  execute (Aload j) = room! (f .operands) >>= λ _. take? (getElem? (f .locals) j) (Word wordStuck) >>= λ v. reference! v >>= λ _. on (v ∷ f .operands) (f .locals)
-  execute (Istore j) =
-      pop! (f .operands) >>= λ p. int! (p .top) >>= λ n. take? (getElem? (f .locals) j) (Word wordStuck) >>= λ _. on (p .more) (set (f .locals) j (p .top))
-  execute (Astore j) =
-      pop! (f .operands) >>= λ p. reference! (p .top) >>= λ _. take? (getElem? (f .locals) j) (Word wordStuck) >>= λ _. on (p .more) (set (f .locals) j (p .top))
+  execute (Load kind j) =
+      room! (f .operands) >>= λ _. take? (getElem? (f .locals) j) (Word wordStuck) >>= λ v. ofKind! kind v >>= λ _. on (v ∷ f .operands) (f .locals)
+  execute (Store kind j) =
+      pop! (f .operands) >>= λ p. ofKind! kind (p .top) >>= λ _. take? (getElem? (f .locals) j) (Word wordStuck) >>= λ _. on (p .more) (set (f .locals) j (p .top))
   execute Pop = pop! (f .operands) >>= λ p. on (p .more) (f .locals)
   execute Dup = room! (f .operands) >>= λ _. pop! (f .operands) >>= λ p. on (p .top ∷ p .top ∷ p .more) (f .locals)
-  execute Iadd =
-      pop! (f .operands) >>= λ p. pop! (p .more) >>= λ q. int! (p .top) >>= λ b. int! (q .top) >>= λ a.
-      on (intValue ((a + b) % intRange) ∷ q .more) (f .locals)
-  execute Isub =
-      pop! (f .operands) >>= λ p. pop! (p .more) >>= λ q. int! (p .top) >>= λ b. int! (q .top) >>= λ a.
-      on (intValue ((a + intRange - b) % intRange) ∷ q .more) (f .locals)
+  execute (Arithmetic o) =
+      pop! (f .operands) >>= λ p. pop! (p .more) >>= λ q. int! (p .top) >>= λ b. int! (q .top) >>= λ a. compute o a b >>= λ n.
+      on (intValue n ∷ q .more) (f .locals)
   execute (Getfield c n t) =
       take? (find (w .base .cache) (at (k .loader) c)) (wanted (at (k .loader) c)) >>= λ e.
       take? (nearest (superOf (w .base)) (hasField (w .base) n t) e) (Word wordAbsent) >>= λ d.
@@ -187,8 +191,7 @@ module _ (w : World) (os : List Object) (f : Frame) (fs : List Frame) (k : Class
       take? (find (w .base .cache) (at (k .loader) c)) (wanted (at (k .loader) c)) >>= λ e.
       need (ltb (length os) objectLimit && ltb (length (f .operands)) operandLimit) (Word wordFull) >>= λ _.
       ok (record { world = w; objects = os ++ (newObject (w .base) e ∷ []); frames = past f i (objectValue (length os) ∷ f .operands) (f .locals) ∷ fs; result = none })
-  execute Ireturn = under! fs >>= λ _. pop! (f .operands) >>= λ p. int! (p .top) >>= λ _. give fs w os (p .top)
-  execute Areturn = under! fs >>= λ _. pop! (f .operands) >>= λ p. reference! (p .top) >>= λ _. give fs w os (p .top)
+  execute (Return kind) = under! fs >>= λ _. pop! (f .operands) >>= λ p. ofKind! kind (p .top) >>= λ _. give fs w os (p .top)
 
 -- one instruction of the frame f, above the frames fs of its task
 unfoldable pub step : World → List Object → Frame → List Frame → Result Progress

@@ -8,7 +8,7 @@ use lib.Dec.{eqb, leb}
 use Rattle.definition.specs.Numbers.{nameInt, nameObject, operandLimit}
 use Rattle.definition.specs.Maybe.{_>>=_, need}
 use Rattle.definition.specs.Classes.{Class, Method}
-use Rattle.definition.specs.Instructions.{Instruction, AconstNull, Sipush, Iload, Aload, Istore, Astore, Pop, Dup, Iadd, Isub, Getfield, Putfield, Invokevirtual, New, Ireturn, Areturn, decode}
+use Rattle.definition.specs.Instructions.{Kind, IntKind, ReferenceKind, Instruction, AconstNull, Sipush, Load, Store, Pop, Dup, Arithmetic, Getfield, Putfield, Invokevirtual, New, Return, decode}
 
 -- int, null, or a class name
 pub data VerifierType : Type 0 where
@@ -53,10 +53,14 @@ meetInt (typeClass a) = none
 unfoldable pub meets : VerifierType → ℕ → Option (List Note)
 meets t b = elim (eqb b nameInt) [ true ↦ meetInt t | false ↦ meetClass b t ]
 
-unfoldable pub asReference : VerifierType → Option VerifierType
-asReference typeInt = none
-asReference typeNull = some typeNull
-asReference (typeClass a) = some (typeClass a)
+-- int where an int is demanded; null or a class name where a reference is
+unfoldable pub meetKind : Kind → VerifierType → Option (Unit {0})
+meetKind IntKind typeInt = some tt
+meetKind IntKind typeNull = none
+meetKind IntKind (typeClass a) = none
+meetKind ReferenceKind typeInt = none
+meetKind ReferenceKind typeNull = some tt
+meetKind ReferenceKind (typeClass a) = some tt
 
 unfoldable pub pop : {A : Type 0} → List A → Option (record { top : A; more : List A })
 pop [] = none
@@ -70,16 +74,13 @@ flow o l n = need (leb (length o) operandLimit) >>= λ _. some (record { types =
 unfoldable pub effect : Instruction → TypeState → Option Flow
 effect AconstNull s = flow (typeNull ∷ s .operands) (s .locals) []
 effect (Sipush n) s = flow (typeInt ∷ s .operands) (s .locals) []
-effect (Iload i) s = getElem? (s .locals) i >>= λ x. x >>= λ t. meetInt t >>= λ _. flow (t ∷ s .operands) (s .locals) []
-effect (Aload i) s = getElem? (s .locals) i >>= λ x. x >>= λ t. asReference t >>= λ _. flow (t ∷ s .operands) (s .locals) []
-effect (Istore i) s =
-    pop (s .operands) >>= λ p. meetInt (p .top) >>= λ _. getElem? (s .locals) i >>= λ _. flow (p .more) (set (s .locals) i (some (p .top))) []
-effect (Astore i) s =
-    pop (s .operands) >>= λ p. asReference (p .top) >>= λ _. getElem? (s .locals) i >>= λ _. flow (p .more) (set (s .locals) i (some (p .top))) []
+effect (Load kind i) s = getElem? (s .locals) i >>= λ x. x >>= λ t. meetKind kind t >>= λ _. flow (t ∷ s .operands) (s .locals) []
+effect (Store kind i) s =
+    pop (s .operands) >>= λ p. meetKind kind (p .top) >>= λ _. getElem? (s .locals) i >>= λ _. flow (p .more) (set (s .locals) i (some (p .top))) []
 effect Pop s = pop (s .operands) >>= λ p. flow (p .more) (s .locals) []
 effect Dup s = pop (s .operands) >>= λ p. flow (p .top ∷ p .top ∷ p .more) (s .locals) []
-effect Iadd s = pop (s .operands) >>= λ p. pop (p .more) >>= λ q. meetInt (p .top) >>= λ _. meetInt (q .top) >>= λ _. flow (typeInt ∷ q .more) (s .locals) []
-effect Isub s = pop (s .operands) >>= λ p. pop (p .more) >>= λ q. meetInt (p .top) >>= λ _. meetInt (q .top) >>= λ _. flow (typeInt ∷ q .more) (s .locals) []
+effect (Arithmetic o) s =
+    pop (s .operands) >>= λ p. pop (p .more) >>= λ q. meetInt (p .top) >>= λ _. meetInt (q .top) >>= λ _. flow (typeInt ∷ q .more) (s .locals) []
 effect (Getfield c f t) s =
     need (leb nameObject c && leb 1 f && leb 1 t) >>= λ _. pop (s .operands) >>= λ p. meetClass c (p .top) >>= λ a. flow (typeOfName t ∷ p .more) (s .locals) a
 effect (Putfield c f t) s =
@@ -89,54 +90,35 @@ effect (Invokevirtual c m t r) s =
     need (leb nameObject c && leb 1 m && leb 1 t && leb 1 r) >>= λ _. pop (s .operands) >>= λ p. pop (p .more) >>= λ q.
     meetClass c (q .top) >>= λ a. meets (p .top) t >>= λ b. flow (typeOfName r ∷ q .more) (s .locals) (a ++ b)
 effect (New c) s = need (leb nameObject c) >>= λ _. flow (typeClass c ∷ s .operands) (s .locals) []
-effect Ireturn s = none
-effect Areturn s = none
+effect (Return kind) s = none
 
--- a return: its notes, where it fits the result type
-unfoldable pub returns : Instruction → ℕ → TypeState → Option (List Note)
-returns AconstNull r s = none
-returns (Sipush n) r s = none
-returns (Iload i) r s = none
-returns (Aload i) r s = none
-returns (Istore i) r s = none
-returns (Astore i) r s = none
-returns Pop r s = none
-returns Dup r s = none
-returns Iadd r s = none
-returns Isub r s = none
-returns (Getfield c f t) r s = none
-returns (Putfield c f t) r s = none
-returns (Invokevirtual c m t q) r s = none
-returns (New c) r s = none
-returns Ireturn r s = need (eqb r nameInt) >>= λ _. pop (s .operands) >>= λ p. meetInt (p .top)
-returns Areturn r s = elim (eqb r nameInt) [ true ↦ none | false ↦ pop (s .operands) >>= λ p. meetClass r (p .top) ]
+-- the kind that a return gives back; no other instruction has one
+unfoldable pub returnKind : Instruction → Option Kind
+returnKind AconstNull = none
+returnKind (Sipush n) = none
+returnKind (Load kind i) = none
+returnKind (Store kind i) = none
+returnKind Pop = none
+returnKind Dup = none
+returnKind (Arithmetic o) = none
+returnKind (Getfield c f t) = none
+returnKind (Putfield c f t) = none
+returnKind (Invokevirtual c m t r) = none
+returnKind (New c) = none
+returnKind (Return kind) = some kind
 
-unfoldable pub isReturn : Instruction → Bool
-isReturn AconstNull = false
-isReturn (Sipush n) = false
-isReturn (Iload i) = false
-isReturn (Aload i) = false
-isReturn (Istore i) = false
-isReturn (Astore i) = false
-isReturn Pop = false
-isReturn Dup = false
-isReturn Iadd = false
-isReturn Isub = false
-isReturn (Getfield c f t) = false
-isReturn (Putfield c f t) = false
-isReturn (Invokevirtual c m t q) = false
-isReturn (New c) = false
-isReturn Ireturn = true
-isReturn Areturn = true
+-- the notes of a return, where it fits the result type r: in its kind, and in the value that it gives back
+unfoldable pub returns : Kind → ℕ → TypeState → Option (List Note)
+returns kind r s = meetKind kind (typeOfName r) >>= λ _. pop (s .operands) >>= λ p. meets (p .top) r
 
 module _ (code : List ℕ) (result : ℕ) where
   -- the notes of the code from point p on, where the types are s; a return is the last instruction and nowhere else.
   -- Each instruction has a byte or more, so that as many steps as bytes are enough.
   unfoldable pub verify : ℕ → ℕ → TypeState → Option (List Note)
   verify zero p s = none
-  verify (suc k) p s = decode code p >>= λ i. elim (isReturn (i .instruction)) [
-    | true ↦ need (eqb (p + i .size) (length code)) >>= λ _. returns (i .instruction) result s
-    | false ↦ effect (i .instruction) s >>= λ f. verify k (p + i .size) (f .types) >>= λ ns. some (f .notes ++ ns)
+  verify (suc k) p s = decode code p >>= λ i. elim (returnKind (i .instruction)) [
+    | some kind ↦ need (eqb (p + i .size) (length code)) >>= λ _. returns kind result s
+    | none ↦ effect (i .instruction) s >>= λ f. verify k (p + i .size) (f .types) >>= λ ns. some (f .notes ++ ns)
   ]
 
   -- the types at the point q
@@ -147,10 +129,12 @@ module _ (code : List ℕ) (result : ℕ) where
     | false ↦ decode code p >>= λ i. effect (i .instruction) s >>= λ f. typesAt k (p + i .size) (f .types) q
   ]
 
-abbrev pub notesOfMethod : Class → Method → Option (List Note)
+-- What is said of a method: its notes, and the types at a point
+
+unfoldable pub notesOfMethod : Class → Method → Option (List Note)
 notesOfMethod k m = verify (m .code) (m .result) (length (m .code)) 0 (entryTypes k m)
 
-abbrev pub typesIn : Class → Method → ℕ → Option TypeState
+unfoldable pub typesIn : Class → Method → ℕ → Option TypeState
 typesIn k m q = typesAt (m .code) (m .result) (length (m .code)) 0 (entryTypes k m) q
 
 -- notes in order of method, then point

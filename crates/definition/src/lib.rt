@@ -32,24 +32,32 @@ pub struct Details {
     pub three: u32,
 }
 
-// What an opcode byte is.
+// Whether a value is an int, or a reference: null or an object.
+pub enum Kind {
+    IntKind,
+    ReferenceKind,
+}
+
+// What arithmetic does with two ints.
+pub enum Operator {
+    Add,
+    Subtract,
+}
+
+// What an opcode byte is: load, store and return go by a kind, arithmetic by an operator.
 pub enum Opcode {
     OpAconstNull,
     OpSipush,
-    OpIload,
-    OpAload,
-    OpIstore,
-    OpAstore,
+    OpLoad(Kind),
+    OpStore(Kind),
     OpPop,
     OpDup,
-    OpIadd,
-    OpIsub,
+    OpArithmetic(Operator),
     OpGetfield,
     OpPutfield,
     OpInvokevirtual,
     OpNew,
-    OpIreturn,
-    OpAreturn,
+    OpReturn(Kind),
     OpUnknown,
 }
 
@@ -57,18 +65,14 @@ pub enum Opcode {
 pub enum Instruction {
     AconstNull,
     Sipush(u32),
-    Iload(u8),
-    Aload(u8),
-    Istore(u8),
-    Astore(u8),
+    Load(Kind, u8),
+    Store(Kind, u8),
     Pop,
     Dup,
-    Iadd,
-    Isub,
+    Arithmetic(Operator),
     Getfield(u16, u16, u16),
     Putfield(u16, u16, u16),
     Invokevirtual(u16, u16, u16, u16),
     New(u16),
-    Ireturn,
-    Areturn,
+    Return(Kind),
 }

@@ -41,14 +41,11 @@ fn act(
     match i {
         Instruction::AconstNull => plain(instructions::aconst_null(d)),
         Instruction::Sipush(n) => plain(instructions::sipush(d, n)),
-        Instruction::Iload(j) => plain(instructions::iload(frames, b, d, j)),
-        Instruction::Aload(j) => plain(instructions::aload(frames, b, d, j)),
-        Instruction::Istore(j) => plain(instructions::istore(frames, b, d, j)),
-        Instruction::Astore(j) => plain(instructions::astore(frames, b, d, j)),
+        Instruction::Load(k, j) => plain(instructions::load(frames, b, d, k, j)),
+        Instruction::Store(k, j) => plain(instructions::store(frames, b, d, k, j)),
         Instruction::Pop => plain(instructions::pop(d)),
         Instruction::Dup => plain(instructions::dup(frames, b, d)),
-        Instruction::Iadd => plain(instructions::iadd(frames, b, d)),
-        Instruction::Isub => plain(instructions::isub(frames, b, d)),
+        Instruction::Arithmetic(o) => plain(instructions::arithmetic(frames, b, d, o)),
         Instruction::Getfield(class, name, of) => settle_access(
             counts,
             classes,
@@ -140,8 +137,7 @@ fn act(
             loader,
             class,
         )),
-        Instruction::Ireturn => plain(instructions::ireturn(frames, task, m, b, d)),
-        Instruction::Areturn => plain(instructions::areturn(frames, task, m, b, d)),
+        Instruction::Return(k) => plain(instructions::give_back(frames, task, m, b, d, k)),
     }
 }
 

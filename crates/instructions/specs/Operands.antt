@@ -11,10 +11,12 @@ use borrow.Author.Tests.{eqb-true, eqb-false, ne-eqb, lt-ltb, le-ltb, ltb-true}
 use Rattle.definition.specs.Lists.{rows, stack}
 use Rattle.definition.specs.Instructions.{pick}
 use Rattle.definition.specs.Verifier.{pop}
+use Rattle.definition.specs.declared.Kind.{Kind}
+use Rattle.definition.specs.declared.Kind.the-variants.{IntKind, ReferenceKind}
 use Rattle.definition.specs.declared.Refusal.{Refusal}
 use Rattle.definition.specs.declared.Refusal.the-variants.{Word}
 use Rattle.definition.specs.Answers.{Result, refused, ok, _>>=_, need, take?}
-use Rattle.definition.specs.Machine.{Value, emptyValue, intValue, nullValue, objectValue, unlistedValue, pop!, int!, reference!, kind!, room!, under! }
+use Rattle.definition.specs.Machine.{Value, emptyValue, intValue, nullValue, objectValue, unlistedValue, pop!, int!, reference!, ofKind!, kind!, room!, under! }
 use Rattle.definition.specs.Tables.{valueOf, operandAt, frameAt, frameOf, frameBase, frameIn}
 use Rattle.layout.specs.Places.{rows-at, rows-past, stack-length, stack-top}
 
@@ -79,6 +81,10 @@ int-not k b h = rw (ne-eqb k 1 h) (object (eqb k 3))
 unfoldable pub isReference : ℕ → ℕ → Bool
 isReference k b = pick (eqb k 3) true (pick (eqb k 2) (eqb b 0) false)
 
+unfoldable pub isOfKind : Kind → ℕ → ℕ → Bool
+isOfKind IntKind k b = eqb k 1
+isOfKind ReferenceKind k b = isReference k b
+
 -- an int's cells for int, a reference's for a class name
 unfoldable pub isKind : ℕ → ℕ → ℕ → Bool
 isKind t k b = pick (eqb t 1) (eqb k 1) (isReference k b)
@@ -122,31 +128,35 @@ module _ (k b : ℕ) where
   unfolding need _>>=_
   reference-not h = reference-test ∙ rw h
 
-  -- a reference is no int
-  pub reference-no-int : isReference k b ≡ true → int! (valueOf k b) ≡ refused (Word 14)
-  reference-no-int h = int-not k b (λ e. differ (rw e at h))
-    where
-      differ : isReference 1 b ≡ true → ⊥
-      differ q = unfold isReference pick in false≢true q
+  -- a value of the kind, or 14
+  pub of-is : (kind : Kind) → isOfKind kind k b ≡ true → ofKind! kind (valueOf k b) ≡ ok tt
+  unfolding ofKind! isOfKind _>>=_
+  of-is IntKind h = rw (int-is k b (eqb-true k 1 h))
+  of-is ReferenceKind h = rw (reference-is h)
+
+  pub of-not : (kind : Kind) → isOfKind kind k b ≡ false → ofKind! kind (valueOf k b) ≡ refused (Word 14)
+  unfolding ofKind! isOfKind _>>=_
+  of-not IntKind h = rw (int-not k b (eqb-false k 1 h))
+  of-not ReferenceKind h = rw (reference-not h)
 
   -- an int for int, a reference for a class name, or 14
   pub kind-is : (t : ℕ) → isKind t k b ≡ true → kind! t (valueOf k b) ≡ ok tt
-  unfolding kind! isKind pick _>>=_
+  unfolding kind! isKind isOfKind pick
   kind-is t h = go (eqb t 1) h
     where
       go : (u : Bool) → pick u (eqb k 1) (isReference k b) ≡ true
-          → _≡_ {A = Result (Unit {0})} (elim u as (λ _. Result (Unit {0})) [ true ↦ int! (valueOf k b) >>= λ _. ok tt | false ↦ reference! (valueOf k b) >>= λ _. ok tt ]) (ok tt)
-      go true e = rw (int-is k b (eqb-true k 1 e))
-      go false e = rw (reference-is e)
+          → _≡_ {A = Result (Unit {0})} (elim u as (λ _. Result (Unit {0})) [ true ↦ ofKind! IntKind (valueOf k b) | false ↦ ofKind! ReferenceKind (valueOf k b) ]) (ok tt)
+      go true e = of-is IntKind e
+      go false e = of-is ReferenceKind e
 
   pub kind-not : (t : ℕ) → isKind t k b ≡ false → kind! t (valueOf k b) ≡ refused (Word 14)
-  unfolding kind! isKind pick _>>=_
+  unfolding kind! isKind isOfKind pick
   kind-not t h = go (eqb t 1) h
     where
       go : (u : Bool) → pick u (eqb k 1) (isReference k b) ≡ false
-          → _≡_ {A = Result (Unit {0})} (elim u as (λ _. Result (Unit {0})) [ true ↦ int! (valueOf k b) >>= λ _. ok tt | false ↦ reference! (valueOf k b) >>= λ _. ok tt ]) (refused (Word 14))
-      go true e = rw (int-not k b (eqb-false k 1 e))
-      go false e = rw (reference-not e)
+          → _≡_ {A = Result (Unit {0})} (elim u as (λ _. Result (Unit {0})) [ true ↦ ofKind! IntKind (valueOf k b) | false ↦ ofKind! ReferenceKind (valueOf k b) ]) (refused (Word 14))
+      go true e = of-not IntKind e
+      go false e = of-not ReferenceKind e
 
 -- Room in the frame below the top frame of task k, which has m frames below it
 

@@ -1,6 +1,6 @@
 -- What a step is going to do, as a plan of numbers, and what a plan means in rows. A plan speaks of the frame whose row begins at cell b and goes
 -- on at point q; fs are the frames below it. An instruction's function answers a plan whose meaning is what the machine does.
-use mathlib.Core.Path.{_≡_}
+use mathlib.Core.Path.{_≡_, refl}
 use mathlib.Core.Option.{none, some}
 use mathlib.Core.List.{List, [], _∷_, _++_}
 use Prim.Native.Nat.{ℕ, suc, _+_, _-_, _<_, _≤_}
@@ -9,10 +9,10 @@ use Rattle.definition.specs.Lists.{rows, stack}
 use Rattle.definition.specs.Classes.{Base, Class}
 use Rattle.definition.specs.Constraints.{World}
 use Rattle.definition.specs.declared.Instruction.{Instruction}
-use Rattle.definition.specs.Instructions.{Decoded}
+use Rattle.definition.specs.Instructions.{pick, Decoded}
 use Rattle.definition.specs.declared.Refusal.the-variants.{Word}
 use Rattle.definition.specs.Answers.{Result, refused, ok, _>>=_, take?}
-use Rattle.definition.specs.Machine.{Value, objectValue, Object, Frame, existing, newObject, entryFrame, Progress, give, execute}
+use Rattle.definition.specs.Machine.{Value, intValue, objectValue, Object, Frame, existing, newObject, entryFrame, Progress, give, execute}
 use Rattle.definition.specs.Tables.{Tables, valueOf, operandAt, localAt, frame, frameOf, frameBase, frameIn, sizeOf, usedFields, objectAt}
 use Rattle.layout.specs.Cells.{frameWith, withField}
 pub use Rattle.instructions.specs.declared.Plan.{Plan}
@@ -44,6 +44,17 @@ module _ (w : World) (os : List Object) (fs : List Frame) (F : List ℕ) (b q : 
   meaning (Enter d c j o k v) = leaves os (entryFrame c j o (valueOf k v) ∷ frameOf F b q d ∷ fs)
   meaning (Make d c) = leaves (os ++ (newObject (w .base) c ∷ [])) (withAbove F b q d (objectValue (length os)) ∷ fs)
 
+-- What becomes of a computed int: it stands above d operands, unless the operator refuses
+unfoldable pub computed : ℕ → Result ℕ → Plan
+computed d (refused w) = Refuse w
+computed d (ok n) = Above d 1 n
+
+pub computed-means : (w : World) (os : List Object) (fs : List Frame) (F : List ℕ) (b q d : ℕ) (r : Result ℕ)
+    → meaning w os fs F b q (computed d r) ≡ (r >>= λ n. ok (record { world = w; objects = os; frames = withAbove F b q d (intValue n) ∷ fs; result = none }))
+unfolding meaning computed valueOf pick _>>=_
+computed-means w os fs F b q d (refused x) = refl
+computed-means w os fs F b q d (ok n) = refl
+
 -- What carrying a plan out asks, where task k of the tables has m frames below its top frame and B gives the classes' fields: operands, locals,
 -- fields, frames and objects that it writes have room
 abbrev pub Fit : Base → Tables → ℕ → ℕ → Plan → Type 0
@@ -56,6 +67,11 @@ Fit B t k m (Finish v) = m ≡ 0
 Fit B t k m (Field d o j kind v) = (o < getD (t .counts) 5 0) × (j < usedFields B (objectAt B (t .objects) o .class))
 Fit B t k m (Enter d c j o kind v) = suc m < 32
 Fit B t k m (Make d c) = (d < 16) × (getD (t .counts) 5 0 < 256) × (sizeOf B c ≤ 16)
+
+pub computed-fits : (B : Base) (t : Tables) (k m d : ℕ) (r : Result ℕ) → d < 16 → Fit B t k m (computed d r)
+unfolding computed
+computed-fits B t k m d (refused w) h = tt
+computed-fits B t k m d (ok n) h = h
 
 -- The plan r is right for the instruction i of a frame with d operands, whatever world, objects, frames below, class, point and size there are
 

@@ -2,9 +2,12 @@
 ghost use mathlib.Core.Path.{_≡_};
 ghost use mathlib.Core.List.{List};
 ghost use Prim.Native.Nat.{ℕ};
-ghost use Rattle.instructions.specs.Plans.{FrameOnly, Returning};
-ghost use Rattle.instructions.specs.Operands.{isReference, isKind, roomBelow};
+ghost use Rattle.definition.specs.Machine.{compute};
+ghost use Rattle.instructions.specs.Plans.{computed, FrameOnly, Returning};
+ghost use Rattle.instructions.specs.Operands.{isReference, isOfKind, isKind, roomBelow};
 use definition::Instruction;
+use definition::Kind;
+use definition::Operator;
 use definition::Refusal;
 use definition::numbers::KIND_INT;
 use definition::numbers::KIND_NULL;
@@ -54,6 +57,16 @@ pub fn is_reference(kind: u32, bits: u32) -> bool
     if kind == KIND_NULL { bits == 0 } else { false }
 }
 
+// Whether cells hold a value of the kind.
+pub fn is_of_kind(kind: Kind, cell: u32, bits: u32) -> bool
+    ensures { λ r. ⌜ r ≡ isOfKind kind cell bits ⌝ }
+{
+    match kind {
+        Kind::IntKind => cell == KIND_INT,
+        Kind::ReferenceKind => is_reference(cell, bits),
+    }
+}
+
 // Whether cells hold an int, for int, or a reference, for a class name.
 pub fn is_kind(name: u16, kind: u32, bits: u32) -> bool
     ensures { λ r. ⌜ r ≡ isKind name kind bits ⌝ }
@@ -87,8 +100,8 @@ pub fn sipush(d: u32, n: u32) -> Plan
 
 // Locals
 
-pub fn iload(frames: &[u32], b: u32, d: u32, j: u8) -> Plan
-    ensures { λ r. ⌜ FrameOnly (now (frames .entry)) b d (Instruction.Iload j) r ⌝ }
+pub fn load(frames: &[u32], b: u32, d: u32, kind: Kind, j: u8) -> Plan
+    ensures { λ r. ⌜ FrameOnly (now (frames .entry)) b d (Instruction.Load kind j) r ⌝ }
 {
     if OPERAND_LIMIT <= d {
         return refuse(WORD_FULL);
@@ -97,52 +110,20 @@ pub fn iload(frames: &[u32], b: u32, d: u32, j: u8) -> Plan
         return refuse(WORD_STUCK);
     }
     let v = frames::local(frames, b, j);
-    if v.kind != KIND_INT {
+    if !is_of_kind(kind, v.kind, v.bits) {
         return refuse(WORD_STUCK);
     }
     Plan::Above(d, v.kind, v.bits)
 }
 
-pub fn aload(frames: &[u32], b: u32, d: u32, j: u8) -> Plan
-    ensures { λ r. ⌜ FrameOnly (now (frames .entry)) b d (Instruction.Aload j) r ⌝ }
-{
-    if OPERAND_LIMIT <= d {
-        return refuse(WORD_FULL);
-    }
-    if LOCAL_COUNT <= j {
-        return refuse(WORD_STUCK);
-    }
-    let v = frames::local(frames, b, j);
-    if !is_reference(v.kind, v.bits) {
-        return refuse(WORD_STUCK);
-    }
-    Plan::Above(d, v.kind, v.bits)
-}
-
-pub fn istore(frames: &[u32], b: u32, d: u32, j: u8) -> Plan
-    ensures { λ r. ⌜ FrameOnly (now (frames .entry)) b d (Instruction.Istore j) r ⌝ }
+pub fn store(frames: &[u32], b: u32, d: u32, kind: Kind, j: u8) -> Plan
+    ensures { λ r. ⌜ FrameOnly (now (frames .entry)) b d (Instruction.Store kind j) r ⌝ }
 {
     if d == 0 {
         return refuse(WORD_STUCK);
     }
     let v = frames::operand(frames, b, d - 1);
-    if v.kind != KIND_INT {
-        return refuse(WORD_STUCK);
-    }
-    if LOCAL_COUNT <= j {
-        return refuse(WORD_STUCK);
-    }
-    Plan::Local(d - 1, j, v.kind, v.bits)
-}
-
-pub fn astore(frames: &[u32], b: u32, d: u32, j: u8) -> Plan
-    ensures { λ r. ⌜ FrameOnly (now (frames .entry)) b d (Instruction.Astore j) r ⌝ }
-{
-    if d == 0 {
-        return refuse(WORD_STUCK);
-    }
-    let v = frames::operand(frames, b, d - 1);
-    if !is_reference(v.kind, v.bits) {
+    if !is_of_kind(kind, v.kind, v.bits) {
         return refuse(WORD_STUCK);
     }
     if LOCAL_COUNT <= j {
@@ -175,29 +156,18 @@ pub fn dup(frames: &[u32], b: u32, d: u32) -> Plan
     Plan::Above(d, v.kind, v.bits)
 }
 
-pub fn iadd(frames: &[u32], b: u32, d: u32) -> Plan
-    ensures { λ r. ⌜ FrameOnly (now (frames .entry)) b d Instruction.Iadd r ⌝ }
+// What an operator makes of the ints x and y, above d operands.
+fn compute(o: Operator, d: u32, x: u32, y: u32) -> Plan
+    ensures { λ r. ⌜ r ≡ computed d (compute o x y) ⌝ }
 {
-    if d == 0 {
-        return refuse(WORD_STUCK);
+    match o {
+        Operator::Add => Plan::Above(d, KIND_INT, std::num::wrapping_add_u32(x, y)),
+        Operator::Subtract => Plan::Above(d, KIND_INT, std::num::wrapping_sub_u32(x, y)),
     }
-    let e = d - 1;
-    if e == 0 {
-        return refuse(WORD_STUCK);
-    }
-    let y = frames::operand(frames, b, e);
-    if y.kind != KIND_INT {
-        return refuse(WORD_STUCK);
-    }
-    let x = frames::operand(frames, b, e - 1);
-    if x.kind != KIND_INT {
-        return refuse(WORD_STUCK);
-    }
-    Plan::Above(e - 1, KIND_INT, std::num::wrapping_add_u32(x.bits, y.bits))
 }
 
-pub fn isub(frames: &[u32], b: u32, d: u32) -> Plan
-    ensures { λ r. ⌜ FrameOnly (now (frames .entry)) b d Instruction.Isub r ⌝ }
+pub fn arithmetic(frames: &[u32], b: u32, d: u32, o: Operator) -> Plan
+    ensures { λ r. ⌜ FrameOnly (now (frames .entry)) b d (Instruction.Arithmetic o) r ⌝ }
 {
     if d == 0 {
         return refuse(WORD_STUCK);
@@ -214,7 +184,7 @@ pub fn isub(frames: &[u32], b: u32, d: u32) -> Plan
     if x.kind != KIND_INT {
         return refuse(WORD_STUCK);
     }
-    Plan::Above(e - 1, KIND_INT, std::num::wrapping_sub_u32(x.bits, y.bits))
+    compute(o, e - 1, x.bits, y.bits)
 }
 
 // Returns
@@ -229,8 +199,9 @@ fn has_room_below(frames: &[u32], task: u8, m: u16) -> bool
     frames::depth(frames, frames::row(task, m - 1)) < OPERAND_LIMIT
 }
 
-pub fn ireturn(frames: &[u32], task: u8, m: u16, b: u32, d: u32) -> Plan
-    ensures { λ r. ⌜ Returning (now (frames .entry)) task m b d Instruction.Ireturn r ⌝ }
+// A value of the kind given back; a first frame's must be an int.
+pub fn give_back(frames: &[u32], task: u8, m: u16, b: u32, d: u32, kind: Kind) -> Plan
+    ensures { λ r. ⌜ Returning (now (frames .entry)) task m b d (Instruction.Return kind) r ⌝ }
 {
     if !has_room_below(frames, task, m) {
         return refuse(WORD_FULL);
@@ -239,30 +210,14 @@ pub fn ireturn(frames: &[u32], task: u8, m: u16, b: u32, d: u32) -> Plan
         return refuse(WORD_STUCK);
     }
     let v = frames::operand(frames, b, d - 1);
+    if !is_of_kind(kind, v.kind, v.bits) {
+        return refuse(WORD_STUCK);
+    }
+    if m != 0 {
+        return Plan::Give(v.kind, v.bits);
+    }
     if v.kind != KIND_INT {
         return refuse(WORD_STUCK);
     }
-    if m == 0 {
-        return Plan::Finish(v.bits);
-    }
-    Plan::Give(v.kind, v.bits)
-}
-
-pub fn areturn(frames: &[u32], task: u8, m: u16, b: u32, d: u32) -> Plan
-    ensures { λ r. ⌜ Returning (now (frames .entry)) task m b d Instruction.Areturn r ⌝ }
-{
-    if !has_room_below(frames, task, m) {
-        return refuse(WORD_FULL);
-    }
-    if d == 0 {
-        return refuse(WORD_STUCK);
-    }
-    let v = frames::operand(frames, b, d - 1);
-    if !is_reference(v.kind, v.bits) {
-        return refuse(WORD_STUCK);
-    }
-    if m == 0 {
-        return refuse(WORD_STUCK);
-    }
-    Plan::Give(v.kind, v.bits)
+    Plan::Finish(v.bits)
 }

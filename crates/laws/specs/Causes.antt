@@ -6,8 +6,10 @@ use mathlib.Core.List.{List, [], _∷_, _++_, map}
 use Prim.Native.Nat.{ℕ, suc, _+_}
 use lib.ListN.{length, getElem?}
 use lib.Dec.{eqb, leb, ltb}
+use Rattle.definition.specs.declared.Kind.{Kind}
+use Rattle.definition.specs.declared.Kind.the-variants.{IntKind, ReferenceKind}
 use Rattle.definition.specs.declared.Instruction.{Instruction}
-use Rattle.definition.specs.declared.Instruction.the-variants.{AconstNull, Sipush, Iload, Aload, Istore, Astore, Pop, Dup, Iadd, Isub, Getfield, Putfield, Invokevirtual, New, Ireturn, Areturn}
+use Rattle.definition.specs.declared.Instruction.the-variants.{AconstNull, Sipush, Load, Store, Pop, Dup, Arithmetic, Getfield, Putfield, Invokevirtual, New, Return}
 use Rattle.definition.specs.Lists.{every, any, isSome, isNone}
 use Rattle.definition.specs.Maybe.{_>>=_}
 use Rattle.definition.specs.Requests.{at}
@@ -121,6 +123,10 @@ aReference nullValue = true
 aReference (objectValue o) = true
 aReference (unlistedValue k b) = false
 
+abbrev pub aValueOf : Kind → Value → Bool
+aValueOf IntKind v = anInt v
+aValueOf ReferenceKind v = aReference v
+
 -- an int for int, a reference for a class name
 unfoldable pub ofKind : ℕ → Value → Bool
 ofKind t v = elim (eqb t 1) [ true ↦ anInt v | false ↦ aReference v ]
@@ -203,14 +209,11 @@ module _ (w : World) (os : List Object) (f : Frame) (fs : List Frame) (k : Class
   unfoldable pub instructionCauses : Instruction → List Cause
   instructionCauses AconstNull = plainly (noRoom (f .operands)) false
   instructionCauses (Sipush n) = plainly (noRoom (f .operands)) false
-  instructionCauses (Iload j) = plainly (noRoom (f .operands)) (not (isSomeAnd (local j) anInt))
-  instructionCauses (Aload j) = plainly (noRoom (f .operands)) (not (isSomeAnd (local j) aReference))
-  instructionCauses (Istore j) = plainly false (not (isSomeAnd (operand 0) anInt && isSome (local j)))
-  instructionCauses (Astore j) = plainly false (not (isSomeAnd (operand 0) aReference && isSome (local j)))
+  instructionCauses (Load kind j) = plainly (noRoom (f .operands)) (not (isSomeAnd (local j) (aValueOf kind)))
+  instructionCauses (Store kind j) = plainly false (not (isSomeAnd (operand 0) (aValueOf kind) && isSome (local j)))
   instructionCauses Pop = plainly false (isNone (operand 0))
   instructionCauses Dup = plainly (noRoom (f .operands)) (isNone (operand 0))
-  instructionCauses Iadd = plainly false (not (isSomeAnd (operand 0) anInt && isSomeAnd (operand 1) anInt))
-  instructionCauses Isub = plainly false (not (isSomeAnd (operand 0) anInt && isSomeAnd (operand 1) anInt))
+  instructionCauses (Arithmetic o) = plainly false (not (isSomeAnd (operand 0) anInt && isSomeAnd (operand 1) anInt))
   instructionCauses (Getfield c n t) =
       accessing w k (named w k c) (upward w k (hasField (w .base) n t)) (fieldTies w k t) true
       (λ e. isSomeAnd (operand 0) (receives w os e)) (isSomeAnd (operand 0) aNull)
@@ -222,8 +225,8 @@ module _ (w : World) (os : List Object) (f : Frame) (fs : List Frame) (k : Class
       (λ e. isSomeAnd (operand 0) (ofKind t) && isSomeAnd (operand 1) (λ v. receives w os e v && selects w os n t r v)) (isSomeAnd (operand 1) aNull)
   instructionCauses (New c) =
       cause 5 (isNone (named w k c)) ∷ cause 7 false ∷ cause 10 (not (ltb (length os) 256 && ltb (length (f .operands)) 16)) ∷ cause 9 false ∷ cause 14 false ∷ cause 11 false ∷ []
-  instructionCauses Ireturn = plainly (noRoomBelow fs) (not (isSomeAnd (operand 0) anInt))
-  instructionCauses Areturn = plainly (noRoomBelow fs) (not (isSomeAnd (operand 0) aReference && not (isEmpty fs)))
+  instructionCauses (Return kind) =
+      plainly (noRoomBelow fs) (not (isSomeAnd (operand 0) (aValueOf kind) && (not (isEmpty fs) || isSomeAnd (operand 0) anInt)))
 
 -- of an idle step, and of what can't be read, nothing more applies
 abbrev pub nothing : List Cause
@@ -267,20 +270,16 @@ instruction-order : (w : World) (os : List Object) (f : Frame) (fs : List Frame)
 unfolding instructionCauses accessing
 instruction-order w os f fs k AconstNull = refl
 instruction-order w os f fs k (Sipush n) = refl
-instruction-order w os f fs k (Iload j) = refl
-instruction-order w os f fs k (Aload j) = refl
-instruction-order w os f fs k (Istore j) = refl
-instruction-order w os f fs k (Astore j) = refl
+instruction-order w os f fs k (Load kind j) = refl
+instruction-order w os f fs k (Store kind j) = refl
 instruction-order w os f fs k Pop = refl
 instruction-order w os f fs k Dup = refl
-instruction-order w os f fs k Iadd = refl
-instruction-order w os f fs k Isub = refl
+instruction-order w os f fs k (Arithmetic o) = refl
 instruction-order w os f fs k (Getfield c n t) = refl
 instruction-order w os f fs k (Putfield c n t) = refl
 instruction-order w os f fs k (Invokevirtual c n t r) = refl
 instruction-order w os f fs k (New c) = refl
-instruction-order w os f fs k Ireturn = refl
-instruction-order w os f fs k Areturn = refl
+instruction-order w os f fs k (Return kind) = refl
 
 frame-order : (w : World) (os : List Object) (fs : List Frame) → words (frameCauses w os fs) ≡ 14 ∷ 5 ∷ 7 ∷ 10 ∷ 9 ∷ 14 ∷ 11 ∷ []
 frame-order w os [] = refl

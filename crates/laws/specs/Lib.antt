@@ -9,6 +9,7 @@ pub mod Growth
 pub mod Slots
 pub mod Members
 pub mod Sized
+pub mod Walk
 pub mod Objects
 pub mod Stable
 pub mod Refusals

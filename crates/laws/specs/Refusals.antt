@@ -9,8 +9,12 @@ use lib.ListN.{length}
 use lib.Dec.{eqb, ltb}
 use Rattle.definition.specs.declared.Refusal.{Refusal}
 use Rattle.definition.specs.declared.Refusal.the-variants.{Wanted, Word}
+use Rattle.definition.specs.declared.Kind.{Kind}
+use Rattle.definition.specs.declared.Kind.the-variants.{IntKind, ReferenceKind}
+use Rattle.definition.specs.declared.Operator.{Operator}
+use Rattle.definition.specs.declared.Operator.the-variants.{Add, Subtract}
 use Rattle.definition.specs.declared.Instruction.{Instruction}
-use Rattle.definition.specs.declared.Instruction.the-variants.{AconstNull, Sipush, Iload, Aload, Istore, Astore, Pop, Dup, Iadd, Isub, Getfield, Putfield, Invokevirtual, New, Ireturn, Areturn}
+use Rattle.definition.specs.declared.Instruction.the-variants.{AconstNull, Sipush, Load, Store, Pop, Dup, Arithmetic, Getfield, Putfield, Invokevirtual, New, Return}
 use Rattle.definition.specs.Lists.{any}
 use Rattle.definition.specs.Requests.{at}
 use Rattle.definition.specs.Answers.{number, wanted, Result, refused, ok, _>>=_, need, take?}
@@ -18,7 +22,7 @@ use Rattle.definition.specs.Classes.{Base, Class, find}
 use Rattle.definition.specs.Constraints.{Tie, World, agrees, post}
 use Rattle.definition.specs.File.{File, readFile}
 use Rattle.definition.specs.Instructions.{Decoded}
-use Rattle.definition.specs.Machine.{Value, emptyValue, intValue, nullValue, objectValue, unlistedValue, Object, Frame, Now, pop!, int!, reference!, kind!, room!, object!, now, under!, give, execute, step}
+use Rattle.definition.specs.Machine.{Value, emptyValue, intValue, nullValue, objectValue, unlistedValue, Object, Frame, Now, pop!, int!, reference!, ofKind!, kind!, compute, room!, object!, now, under!, give, execute, step}
 use Rattle.definition.specs.Loading.{define, recorded, started, withEntry}
 use Rattle.definition.specs.Tables.{Rows, worldOf}
 use Rattle.definition.specs.Calls.{stepRefusals, refusalsOf, Call, callBoot, callDefine, callRecord, callStart, callStep, callRun, callDrop, defineRows, recordRows, startRows, dropRows, stepTask, stepOn, stepRows, RowCall, rowDefine, rowRecord, rowStart, rowDrop, onRowCall, callRows, rowRefusals}
@@ -32,20 +36,16 @@ Refuses P (ok a) = Unit {0}
 abbrev pub classIn : Instruction → Option ℕ
 classIn AconstNull = none
 classIn (Sipush n) = none
-classIn (Iload j) = none
-classIn (Aload j) = none
-classIn (Istore j) = none
-classIn (Astore j) = none
+classIn (Load kind j) = none
+classIn (Store kind j) = none
 classIn Pop = none
 classIn Dup = none
-classIn Iadd = none
-classIn Isub = none
+classIn (Arithmetic o) = none
 classIn (Getfield c n t) = some c
 classIn (Putfield c n t) = some c
 classIn (Invokevirtual c n t r) = some c
 classIn (New c) = some c
-classIn Ireturn = none
-classIn Areturn = none
+classIn (Return kind) = none
 
 module _ (P : Refusal → Type 0) where
   on-bind : {A B : Type 0} (o : Result A) (f : A → Result B) → Refuses P o → ((a : A) → o ≡ ok a → Refuses P (f a)) → Refuses P (o >>= f)
@@ -82,13 +82,23 @@ module _ (P : Refusal → Type 0) (stuck : P (Word 14)) (full : P (Word 10)) (cl
   reference-refuses (objectValue o) = tt
   reference-refuses (unlistedValue k b) = stuck
 
+  of-kind-refuses : (kind : Kind) (v : Value) → Refuses P (ofKind! kind v)
+  unfolding ofKind!
+  of-kind-refuses IntKind v = on-bind P (int! v) _ (int-refuses v) (λ _ _. tt)
+  of-kind-refuses ReferenceKind v = on-bind P (reference! v) _ (reference-refuses v) (λ _ _. tt)
+
   kind-refuses : (t : ℕ) (v : Value) → Refuses P (kind! t v)
   unfolding kind!
   kind-refuses t v = go (eqb t 1)
     where
-      go : (b : Bool) → Refuses {A = Unit {0}} P (elim b as (λ _. Result (Unit {0})) [ true ↦ int! v >>= λ _. ok tt | false ↦ reference! v >>= λ _. ok tt ])
-      go true = on-bind P (int! v) _ (int-refuses v) (λ _ _. tt)
-      go false = on-bind P (reference! v) _ (reference-refuses v) (λ _ _. tt)
+      go : (b : Bool) → Refuses {A = Unit {0}} P (elim b as (λ _. Result (Unit {0})) [ true ↦ ofKind! IntKind v | false ↦ ofKind! ReferenceKind v ])
+      go true = of-kind-refuses IntKind v
+      go false = of-kind-refuses ReferenceKind v
+
+  compute-refuses : (o : Operator) (a b : ℕ) → Refuses P (compute o a b)
+  unfolding compute
+  compute-refuses Add a b = tt
+  compute-refuses Subtract a b = tt
 
   object-refuses : (w : Base) (os : List Object) (e : ℕ) (v : Value) → Refuses P (object! w os e v)
   unfolding object!
@@ -123,8 +133,8 @@ module _ (P : Refusal → Type 0) (stuck : P (Word 14)) (full : P (Word 10)) (cl
   int : {B : Type 0} (v : Value) (f : ℕ → Result B) → ((n : ℕ) → Refuses P (f n)) → Refuses P (int! v >>= f)
   int v f k = on-bind P (int! v) f (int-refuses v) (λ n _. k n)
 
-  reference : {B : Type 0} (v : Value) (f : Value → Result B) → ((x : Value) → Refuses P (f x)) → Refuses P (reference! v >>= f)
-  reference v f k = on-bind P (reference! v) f (reference-refuses v) (λ x _. k x)
+  of-kind : {B : Type 0} (kind : Kind) (v : Value) (f : Unit {0} → Result B) → ((u : Unit {0}) → Refuses P (f u)) → Refuses P (ofKind! kind v >>= f)
+  of-kind kind v f k = on-bind P (ofKind! kind v) f (of-kind-refuses kind v) (λ u _. k u)
 
   posting : {B : Type 0} (w : World) (t : Bool) (us : List Tie) (f : World → Result B) → ((v : World) → Refuses P (f v)) → Refuses P (post w t us >>= f)
   unfolding post
@@ -138,14 +148,12 @@ module _ (P : Refusal → Type 0) (stuck : P (Word 14)) (full : P (Word 10)) (cl
     unfolding execute
     execute-refuses AconstNull h = room _ _ (λ _. tt)
     execute-refuses (Sipush n) h = room _ _ (λ _. tt)
-    execute-refuses (Iload j) h = room _ _ (λ _. local _ _ (λ v. int v _ (λ _. tt)))
-    execute-refuses (Aload j) h = room _ _ (λ _. local _ _ (λ v. reference v _ (λ _. tt)))
-    execute-refuses (Istore j) h = popped _ _ (λ p. int (p .top) _ (λ _. local _ _ (λ _. tt)))
-    execute-refuses (Astore j) h = popped _ _ (λ p. reference (p .top) _ (λ _. local _ _ (λ _. tt)))
+    execute-refuses (Load kind j) h = room _ _ (λ _. local _ _ (λ v. of-kind kind v _ (λ _. tt)))
+    execute-refuses (Store kind j) h = popped _ _ (λ p. of-kind kind (p .top) _ (λ _. local _ _ (λ _. tt)))
     execute-refuses Pop h = popped _ _ (λ _. tt)
     execute-refuses Dup h = room _ _ (λ _. popped _ _ (λ _. tt))
-    execute-refuses Iadd h = popped _ _ (λ p. popped _ _ (λ q. int (p .top) _ (λ _. int (q .top) _ (λ _. tt))))
-    execute-refuses Isub h = popped _ _ (λ p. popped _ _ (λ q. int (p .top) _ (λ _. int (q .top) _ (λ _. tt))))
+    execute-refuses (Arithmetic o) h = popped _ _ (λ p. popped _ _ (λ q. int (p .top) _ (λ b. int (q .top) _ (λ a.
+        on-bind P (compute o a b) _ (compute-refuses o a b) (λ _ _. tt)))))
     execute-refuses (Getfield c n t) h =
         on-take P _ _ _ (h c refl) (λ e _. on-take P _ _ _ (λ _. absent) (λ d _. posting w true _ _ (λ _. popped _ _ (λ p. receiver (w .base) os e (p .top) _ (λ _.
         local _ _ (λ _. local _ _ (λ _. tt)))))))
@@ -156,8 +164,7 @@ module _ (P : Refusal → Type 0) (stuck : P (Word 14)) (full : P (Word 10)) (cl
         on-take P _ _ _ (h c refl) (λ e _. on-take P _ _ _ (λ _. absent) (λ d _. posting w (ltb (suc (length fs)) 32) _ _ (λ _. popped _ _ (λ p. popped _ _ (λ q.
         on-bind P (kind! t (p .top)) _ (kind-refuses t (p .top)) (λ _ _. receiver (w .base) os e (q .top) _ (λ _. local _ _ (λ _. local _ _ (λ _. tt)))))))))
     execute-refuses (New c) h = on-take P _ _ _ (h c refl) (λ e _. on-need P _ _ _ full (λ _. tt))
-    execute-refuses Ireturn h = under fs _ (λ _. popped _ _ (λ p. int (p .top) _ (λ _. give-refuses fs w os (p .top))))
-    execute-refuses Areturn h = under fs _ (λ _. popped _ _ (λ p. reference (p .top) _ (λ _. give-refuses fs w os (p .top))))
+    execute-refuses (Return kind) h = under fs _ (λ _. popped _ _ (λ p. of-kind kind (p .top) _ (λ _. give-refuses fs w os (p .top))))
 
   -- what the frame whose turn it is needs: at its point an instruction that names class c
   pub step-refuses : (w : World) (os : List Object) (f : Frame) (fs : List Frame)

@@ -22,7 +22,7 @@ use Rattle.laws.specs.Objects.{changed, numbered-same, numbered-join, numbered-
 use Rattle.laws.specs.Stable.{Rooted, loader-stable, slots-stable, slot-real}
 use Rattle.definition.specs.Superclasses.{Below}
 use Rattle.safety.specs.Conform.{fits-own}
-use Rattle.safety.specs.Typing.{verified-here}
+use Rattle.laws.specs.Walk.{entry}
 use Rattle.laws.specs.Members.{MethodAt}
 
 pub ties-more : (w : World) (us : List Tie) (e : Edge) → List·Memᴰ e (tieEdges (w .ties)) → List·Memᴰ e (tieEdges (w .ties ++ us))
@@ -121,7 +121,7 @@ entered-top w os lk s n t r ma o b th bl v cv =
       typed = record {
         isClass = ma .isClass;
         isMethod = ma .isMethod;
-        types = verified-here (ma .method .code) (ma .method .result) (length (ma .method .code)) 0 (entryTypes (ma .theClass) (ma .method)) (ve .notes) (ve .passes);
+        types = entry (ma .theClass) (ma .method) (ve .notes) (ve .passes);
       };
       operands = tt;
       locals = (record { object = b; there = th; fits = fits-own (lk .own s (ma .theClass) (ma .isClass)) bl }, (rw (ma .argument, sym (ma .loader)) cv, (tt, (tt, (tt, (tt, (tt, (tt, tt))))))));

@@ -1,6 +1,5 @@
 -- Demand 3.
 pub mod Store
-pub mod Typing
 pub mod Conform
 pub mod Valid
 pub mod Places

@@ -14,7 +14,7 @@ use Rattle.definition.specs.Lists.{any}
 use Rattle.definition.specs.Loading.{newSubtypes, overrideTie, overrideTies, subtypeIs, subtypeOf, withClass, withEntry}
 use Rattle.definition.specs.Requests.{Chain, Request, at}
 use Rattle.definition.specs.Superclasses.{nearest}
-use Rattle.definition.specs.Verifier.{Note, entryTypes, notesOf, verify}
+use Rattle.definition.specs.Verifier.{Note, notesOf, notesOfMethod}
 use Rattle.definition.specs.declared.Instruction.the-variants.{New}
 use Rattle.laws.specs.Agreement.{find-more, is-super, super-falls}
 use Rattle.laws.specs.Chains.{chain-more}
@@ -85,7 +85,7 @@ over-there b l p ts (x ∷ ms) m (List·Memᴰ·tail k) = rw append-assoc at (ov
 
 -- each method's notes are among a class's
 notes-at : (k : Class) (ms : List Method) (ns : List Note) → notesOf k ms ≡ some ns → (j : ℕ) (m : Method) → getElem? ms j ≡ some m
-    → (xs : List Note) × (verify (m .code) (m .result) (length (m .code)) 0 (entryTypes k m) ≡ some xs) × ((n : Note) → List·Memᴰ n xs → List·Memᴰ n ns)
+    → (xs : List Note) × (notesOfMethod k m ≡ some xs) × ((n : Note) → List·Memᴰ n xs → List·Memᴰ n ns)
 unfolding notesOf
 notes-at k [] ns h j m e = absurd (Option·none-ne-some m e)
 notes-at k (x ∷ ms) ns h zero m e =
@@ -93,7 +93,7 @@ notes-at k (x ∷ ms) ns h zero m e =
     let b = bind-some _ _ (a .2) in
     let q = Option·some-injective x m e in
     let z : (a .0 ++ b .0) ≡ ns = Option·some-injective _ _ (b .2) in
-    (a .0, ap (λ (z : Method). verify (z .code) (z .result) (length (z .code)) 0 (entryTypes k z)) (sym q) ∙ a .1, λ n i. rw z at (Memᴰ·append-left (b .0) i))
+    (a .0, ap (notesOfMethod k) (sym q) ∙ a .1, λ n i. rw z at (Memᴰ·append-left (b .0) i))
 notes-at k (x ∷ ms) ns h (suc j) m e =
     let a = bind-some _ _ h in
     let b = bind-some _ _ (a .2) in

@@ -23,7 +23,7 @@ use Rattle.safety.specs.Store.{storeOf}
 use Rattle.definition.specs.Lists.{Each}
 use Rattle.definition.specs.Maybe.{need}
 use Rattle.laws.specs.Sized.{within}
-use Rattle.safety.specs.Typing.{known}
+use Rattle.laws.specs.Walk.{known}
 use borrow.Author.Tests.{lt-ltb}
 use lib.Dec.{ltb}
 
@@ -72,7 +72,7 @@ module _ (w : World) (os : List Object) (lk : Linked w) where
   point-in : (f : Frame) (k : Class) (m : Method) (τ : TypeState) → Typed w f k m τ → f .point < length (m .code)
   point-in f k m τ t =
       let v = lk .verified (f .class) (f .method) k m (t .isClass) (t .isMethod) in
-      let kn = known (m .code) (m .result) (length (m .code)) 0 (entryTypes k m) (v .notes) (f .point) τ (v .passes) (t .types) in
+      let kn = known k m (v .notes) (v .passes) (f .point) τ (t .types) in
       within (m .code) (f .point) (kn .at) (kn .reads)
 
   frame-placed : (waits : Bool) (f : Frame) (k : Class) (m : Method) (τ : TypeState) (ts : List VerifierType) → Typed w f k m τ → waitingTypes waits (τ .operands) ≡ some ts

@@ -11,10 +11,14 @@ use lib.Dec.{eqb}
 use Rattle.definition.specs.Answers.{Result, _>>=_, ok, take?}
 use Rattle.definition.specs.Classes.{find, hasField, loaderOf, slots, superOf}
 use Rattle.definition.specs.Constraints.{Agrees, Tie, World, newTie, post, posted, tieEdges}
-use Rattle.definition.specs.Machine.{Object, Value, int!, intValue, kind!, nullValue, object!, objectValue, pop!, reference!, room!, emptyValue, unlistedValue, existing}
+use Rattle.definition.specs.Machine.{Object, Value, compute, int!, intValue, kind!, nullValue, object!, objectValue, ofKind!, pop!, reference!, room!, emptyValue, unlistedValue, existing}
 use Rattle.definition.specs.Requests.{Chain, at}
 use Rattle.definition.specs.Superclasses.{Below}
-use Rattle.definition.specs.Verifier.{Flow, Note, VerifierType, asReference, flow, meetInt, pop, typeClass, typeInt, typeNull, typeOfName}
+use Rattle.definition.specs.declared.Kind.{Kind}
+use Rattle.definition.specs.declared.Kind.the-variants.{IntKind, ReferenceKind}
+use Rattle.definition.specs.declared.Operator.{Operator}
+use Rattle.definition.specs.declared.Operator.the-variants.{Add, Subtract}
+use Rattle.definition.specs.Verifier.{Flow, Note, VerifierType, flow, meetInt, meetKind, pop, typeClass, typeInt, typeNull, typeOfName}
 use Rattle.laws.specs.Agreement.{super-falls}
 use Rattle.laws.specs.Chains.{chain-more}
 use Rattle.laws.specs.Options.{bind-some, each-at}
@@ -52,19 +56,26 @@ int-of w os l typeInt (objectValue o) e h = absurd h
 int-of w os l typeNull v {ns} e h = absurd (Option·none-ne-some ns e)
 int-of w os l (typeClass a) v {ns} e h = absurd (Option·none-ne-some ns e)
 
-pub ref-of : (w : World) (os : List Object) (l : ℕ) (t : VerifierType) (v : Value) {u : VerifierType} → asReference t ≡ some u → Conforms w os l t v → reference! v ≡ ok v
-unfolding asReference reference!
-ref-of w os l typeInt v {u} e h = absurd (Option·none-ne-some u e)
-ref-of w os l typeNull emptyValue e h = absurd h
-ref-of w os l typeNull (unlistedValue α β) e h = absurd h
-ref-of w os l typeNull (intValue n) e h = absurd h
-ref-of w os l typeNull nullValue e h = refl
-ref-of w os l typeNull (objectValue o) e h = refl
-ref-of w os l (typeClass a) emptyValue e h = absurd h
-ref-of w os l (typeClass a) (unlistedValue α β) e h = absurd h
-ref-of w os l (typeClass a) (intValue n) e h = absurd h
-ref-of w os l (typeClass a) nullValue e h = refl
-ref-of w os l (typeClass a) (objectValue o) e h = refl
+pub of-kind : (w : World) (os : List Object) (l : ℕ) (kind : Kind) (t : VerifierType) (v : Value) {u : Unit {0}} → meetKind kind t ≡ some u → Conforms w os l t v → ofKind! kind v ≡ ok tt
+unfolding meetKind ofKind! int! reference! _>>=_
+of-kind w os l IntKind typeInt emptyValue e h = absurd h
+of-kind w os l IntKind typeInt (unlistedValue α β) e h = absurd h
+of-kind w os l IntKind typeInt (intValue n) e h = refl
+of-kind w os l IntKind typeInt nullValue e h = absurd h
+of-kind w os l IntKind typeInt (objectValue o) e h = absurd h
+of-kind w os l IntKind typeNull v {u} e h = absurd (Option·none-ne-some u e)
+of-kind w os l IntKind (typeClass a) v {u} e h = absurd (Option·none-ne-some u e)
+of-kind w os l ReferenceKind typeInt v {u} e h = absurd (Option·none-ne-some u e)
+of-kind w os l ReferenceKind typeNull emptyValue e h = absurd h
+of-kind w os l ReferenceKind typeNull (unlistedValue α β) e h = absurd h
+of-kind w os l ReferenceKind typeNull (intValue n) e h = absurd h
+of-kind w os l ReferenceKind typeNull nullValue e h = refl
+of-kind w os l ReferenceKind typeNull (objectValue o) e h = absurd h
+of-kind w os l ReferenceKind (typeClass a) emptyValue e h = absurd h
+of-kind w os l ReferenceKind (typeClass a) (unlistedValue α β) e h = absurd h
+of-kind w os l ReferenceKind (typeClass a) (intValue n) e h = absurd h
+of-kind w os l ReferenceKind (typeClass a) nullValue e h = refl
+of-kind w os l ReferenceKind (typeClass a) (objectValue o) e h = refl
 
 pub flow-is : (o : List VerifierType) (l : List (Option VerifierType)) (n : List Note) (fl : Flow) → flow o l n ≡ some fl → _≡_ {A = Flow} (record { types = record { operands = o; locals = l }; notes = n }) fl
 flow-is o l n fl h = Option·some-injective _ _ (bind-some _ _ h .2)
@@ -73,20 +84,19 @@ pub as-int : (w : World) (os : List Object) (l r : ℕ) (v : Value) → r ≡ 1 
 as-int w os l r v e h = rw (e, of-int) h
 
 pub kind-of : (w : World) (os : List Object) (l t : ℕ) (v : Value) → Conforms w os l (typeOfName t) v → kind! t v ≡ ok tt
-unfolding kind! typeOfName int! reference! _>>=_
-kind-of w os l t v h = go (eqb t 1) v h
+unfolding kind! typeOfName meetKind
+kind-of w os l t v h = go (eqb t 1) h
   where
-    go : (z : Bool) (v : Value) → Conforms w os l (elim z as (λ _. VerifierType) [ true ↦ typeInt | false ↦ typeClass t ]) v → (elim z as (λ _. Result (Unit {0})) [ true ↦ int! v >>= λ _. ok tt | false ↦ reference! v >>= λ _. ok tt ]) ≡ ok tt
-    go true emptyValue h = absurd h
-    go true (unlistedValue α β) h = absurd h
-    go true (intValue n) h = refl
-    go true nullValue h = absurd h
-    go true (objectValue o) h = absurd h
-    go false emptyValue h = absurd h
-    go false (unlistedValue α β) h = absurd h
-    go false (intValue n) h = absurd h
-    go false nullValue h = refl
-    go false (objectValue o) h = refl
+    go : (z : Bool) → Conforms w os l (elim z as (λ _. VerifierType) [ true ↦ typeInt | false ↦ typeClass t ]) v
+        → (elim z as (λ _. Result (Unit {0})) [ true ↦ ofKind! IntKind v | false ↦ ofKind! ReferenceKind v ]) ≡ ok tt
+    go true h = of-kind w os l IntKind typeInt v {u = tt} refl h
+    go false h = of-kind w os l ReferenceKind (typeClass t) v {u = tt} refl h
+
+-- an operator isn't stuck
+pub wp-compute : {B : Type 0} (Q : B → Type 0) (o : Operator) (a b : ℕ) (f : ℕ → Result B) → ((n : ℕ) → Wp (f n) Q) → Wp (compute o a b >>= f) Q
+unfolding compute _>>=_
+wp-compute Q Add a b f h = h _
+wp-compute Q Subtract a b f h = h _
 
 pub wp-room : {B : Type 0} (Q : B → Type 0) (vs : List Value) (f : Unit {0} → Result B) → Wp (f tt) Q → Wp (room! vs >>= f) Q
 unfolding room!

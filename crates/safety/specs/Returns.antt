@@ -10,17 +10,17 @@ use Rattle.definition.specs.Answers.{Result, _>>=_}
 use Rattle.definition.specs.Classes.{Class, Method}
 use Rattle.definition.specs.Constraints.{World}
 use Rattle.definition.specs.Instructions.{Decoded}
-use Rattle.definition.specs.Machine.{Frame, Object, Value, execute, give, pop!, reference!, under! }
+use Rattle.definition.specs.Machine.{Frame, Object, Value, execute, give, under! }
 use Rattle.definition.specs.Requests.{at}
-use Rattle.definition.specs.Verifier.{Note, asReference, meetClass, meetInt, pop, returns, typeClass, typeInt, typeOfName}
+use Rattle.definition.specs.Verifier.{Note, meetInt, returns, typeInt, typeOfName}
+use Rattle.definition.specs.declared.Kind.{Kind}
 use Rattle.definition.specs.declared.Instruction.{Instruction}
-use Rattle.definition.specs.declared.Instruction.the-variants.{AconstNull, Aload, Areturn, Astore, Dup, Getfield, Iadd, Iload, Invokevirtual, Ireturn, Istore, Isub, New, Pop, Putfield, Sipush}
-use Rattle.laws.specs.Options.{bind-some, need-true}
+use Rattle.definition.specs.declared.Instruction.the-variants.{Return}
+use Rattle.laws.specs.Options.{bind-some}
 use Rattle.laws.specs.Results.{Wp, wp-known}
-use Rattle.safety.specs.Places.{Noted, carry, meet-class, of-class, of-int}
+use Rattle.safety.specs.Places.{Noted, carry, meet-name, of-int}
 use Rattle.safety.specs.Valid.{Conforms, Heap, Linked, Top, Under}
-use Rattle.definition.specs.Maybe as Maybe
-use Rattle.safety.specs.Operands.{each-pop, int-of, ref-of, as-int, wp-room}
+use Rattle.safety.specs.Operands.{each-pop, int-of, of-kind, wp-room}
 use Rattle.safety.specs.Later.{Kept, later-same}
 
 -- a result is handed to the frame below, or ends the task
@@ -54,44 +54,15 @@ wp-under Q (g ∷ gs) f h = wp-room Q (g .operands) f h
 module _ (w : World) (os : List Object) (f : Frame) (fs : List Frame) (k : Class) (m : Method)
     (lk : Linked w) (hp : Heap w os) (tp : Top w os f k m) (un : Under w os (k .loader) (m .result) fs) where
   module _ (i : Decoded) (made : List Note) (nt : Noted w (k .loader) made) where
-    ret-iret : returns Ireturn (m .result) (tp .τ) ≡ some made → Wp (execute w os f fs k i Ireturn) (Kept w os)
+    ret : (kind : Kind) → returns kind (m .result) (tp .τ) ≡ some made → Wp (execute w os f fs k i (Return kind)) (Kept w os)
     unfolding execute returns
-    ret-iret e =
+    ret kind e =
         let a = bind-some _ _ e in
         let b = bind-some _ _ (a .2) in
         let q = each-pop (Conforms w os (k .loader)) (tp .τ .operands) (f .operands) (b .0 .top) (b .0 .more) (b .1) (tp .operands) in
-        let n = int-of w os (k .loader) (b .0 .top) (q .0 .top) (b .2) (q .2) in
-        let z : m .result ≡ 1 = eqb-true (m .result) 1 (need-true (eqb (m .result) 1) (a .1)) in
-        wp-under (Kept w os) fs _ (wp-known (Kept w os) _ _ (q .1) (wp-known (Kept w os) _ _ (n .1) (give-kept w os fs (k .loader) (m .result) (q .0 .top) lk hp un (as-int w os (k .loader) (m .result) (q .0 .top) z (n .2)))))
+        let cv : Conforms w os (k .loader) (typeOfName (m .result)) (q .0 .top) = meet-name w os (k .loader) (m .result) (b .0 .top) (q .0 .top) made (b .2) nt (q .2) in
+        wp-under (Kept w os) fs _ (wp-known (Kept w os) _ _ (q .1) (wp-known (Kept w os) _ _ (of-kind w os (k .loader) kind (typeOfName (m .result)) (q .0 .top) (a .1) cv)
+        (give-kept w os fs (k .loader) (m .result) (q .0 .top) lk hp un cv)))
 
-    ret-aret : returns Areturn (m .result) (tp .τ) ≡ some made → Wp (execute w os f fs k i Areturn) (Kept w os)
-    unfolding execute returns
-    ret-aret e = go (eqb (m .result) 1) refl e
-      where
-        go : (t : Bool) → eqb (m .result) 1 ≡ t → (elim t as (λ _. Option (List Note)) [ true ↦ none | false ↦ Maybe._>>=_ (pop (tp .τ .operands)) (λ p. meetClass (m .result) (p .top)) ]) ≡ some made → Wp (under! fs >>= λ _. pop! (f .operands) >>= λ p. reference! (p .top) >>= λ _. give fs w os (p .top)) (Kept w os)
-        go true q r = absurd (Option·none-ne-some made r)
-        go false q r =
-            let b = bind-some _ _ r in
-            let x = each-pop (Conforms w os (k .loader)) (tp .τ .operands) (f .operands) (b .0 .top) (b .0 .more) (b .1) (tp .operands) in
-            let cv = meet-class w os (k .loader) (m .result) (b .0 .top) (x .0 .top) made (b .2) nt (x .2) in
-            wp-under (Kept w os) fs _ (wp-known (Kept w os) _ _ (x .1) (wp-known (Kept w os) _ _ (ref-of w os (k .loader) (typeClass (m .result)) (x .0 .top) {u = typeClass (m .result)} (unfold asReference in refl) cv)
-            (give-kept w os fs (k .loader) (m .result) (x .0 .top) lk hp un (rw (of-class (m .result) (eqb-false (m .result) 1 q)) cv))))
-
-    pub each-ret : (j : Instruction) → returns j (m .result) (tp .τ) ≡ some made → Wp (execute w os f fs k i j) (Kept w os)
-    unfolding returns
-    each-ret AconstNull e = absurd (Option·none-ne-some made e)
-    each-ret (Sipush n) e = absurd (Option·none-ne-some made e)
-    each-ret (Iload n) e = absurd (Option·none-ne-some made e)
-    each-ret (Aload n) e = absurd (Option·none-ne-some made e)
-    each-ret (Istore n) e = absurd (Option·none-ne-some made e)
-    each-ret (Astore n) e = absurd (Option·none-ne-some made e)
-    each-ret Pop e = absurd (Option·none-ne-some made e)
-    each-ret Dup e = absurd (Option·none-ne-some made e)
-    each-ret Iadd e = absurd (Option·none-ne-some made e)
-    each-ret Isub e = absurd (Option·none-ne-some made e)
-    each-ret (Getfield c n t) e = absurd (Option·none-ne-some made e)
-    each-ret (Putfield c n t) e = absurd (Option·none-ne-some made e)
-    each-ret (Invokevirtual c n t r) e = absurd (Option·none-ne-some made e)
-    each-ret (New c) e = absurd (Option·none-ne-some made e)
-    each-ret Ireturn e = ret-iret e
-    each-ret Areturn e = ret-aret e
+    pub each-ret : (j : Instruction) (kind : Kind) → j ≡ Return kind → returns kind (m .result) (tp .τ) ≡ some made → Wp (execute w os f fs k i j) (Kept w os)
+    each-ret j kind is e = rw is (ret kind e)

@@ -2,7 +2,7 @@
 use mathlib.Core.Path.{_≡_, refl, sym, ap}
 use mathlib.Core.Bool.{true}
 use mathlib.Core.Option.{Option, none, some, Option·none-ne-some}
-use mathlib.Core.List.{List, [], _∷_, _++_, map, Memᴰ·append-left, Memᴰ·append-right}
+use mathlib.Core.List.{List, [], _∷_, _++_, map, List·Memᴰ, List·Memᴰ·head, Memᴰ·append-left, Memᴰ·append-right}
 use mathlib.Core.Logic.{inl, inr, _≢_}
 use Prim.Native.Nat.{ℕ, suc, _+_, _-_, _%_}
 use native.Mathlib.Omega.{arith}
@@ -16,9 +16,11 @@ use Rattle.definition.specs.Instructions.{Decoded}
 use Rattle.definition.specs.Machine.{Frame, Object, Progress, Value, entryFrame, execute, initialValue, int!, intValue, newObject, now, room!, nullValue, objectValue, past, pop!, reference!, step}
 use Rattle.definition.specs.Requests.{at}
 use Rattle.definition.specs.Superclasses.{Below, nearest, same}
-use Rattle.definition.specs.Verifier.{Flow, Note, VerifierType, effect, entryTypes, flow, meetClass, meetInt, meets, pop, typeClass, typeInt, typeNull, typeOfName, typesAt}
+use Rattle.definition.specs.Verifier.{Flow, Note, VerifierType, effect, flow, meetClass, meetInt, meets, pop, typeClass, typeInt, typeNull, typeOfName, typesIn}
+use Rattle.definition.specs.declared.Kind.{Kind}
+use Rattle.definition.specs.declared.Operator.{Operator}
 use Rattle.definition.specs.declared.Instruction.{Instruction}
-use Rattle.definition.specs.declared.Instruction.the-variants.{AconstNull, Aload, Areturn, Astore, Dup, Getfield, Iadd, Iload, Invokevirtual, Ireturn, Istore, Isub, New, Pop, Putfield, Sipush}
+use Rattle.definition.specs.declared.Instruction.the-variants.{AconstNull, Arithmetic, Dup, Getfield, Invokevirtual, Load, New, Pop, Putfield, Return, Sipush, Store}
 use Rattle.laws.specs.Agreement.{super-falls}
 use Rattle.laws.specs.Chains.{chain-join, chain-more}
 use Rattle.laws.specs.Options.{bind-some, each-at, each-both, each-more, each-set, nth-last}
@@ -26,19 +28,19 @@ use Rattle.laws.specs.Results.{Wp, not-wanted, not-word, wp-bind, wp-known, wp-
 use Rattle.laws.specs.Upward.{below-trans, nearest-below, nearest-finds}
 use Rattle.safety.specs.Conform.{Tied, fits-own, override, tied-turn}
 use Rattle.safety.specs.Places.{Noted, carry, meet-class, meet-name, tie-there}
-use Rattle.safety.specs.Typing.{Known, known}
+use Rattle.laws.specs.Walk.{Known, known, successors}
 use Rattle.safety.specs.Valid.{Conforms, Heap, Later, Linked, Local, Stack, Top, Under, Verified, later-conforms, later-local, later-ops, later-under}
 use Rattle.definition.specs.Lists.{Each}
 use Rattle.laws.specs.Members.{MethodAt, method-at}
 use Rattle.laws.specs.Objects.{changed}
-use Rattle.safety.specs.Operands.{Popped, each-pop, int-of, ref-of, flow-is, kind-of, wp-room, wp-post, wp-object, FieldAt, field-at, ties2, call-arg, call-res}
+use Rattle.safety.specs.Operands.{Popped, each-pop, int-of, of-kind, wp-compute, flow-is, kind-of, wp-room, wp-post, wp-object, FieldAt, field-at, ties2, call-arg, call-res}
 use Rattle.safety.specs.Later.{ties-more, Kept, later-same, later-posted, heap-posted, linked-posted, later-changed, later-join, heap-changed, later-more, heap-more, zeros-conform, entered-top}
 use Rattle.safety.specs.Returns.{each-ret}
 
 module _ (w : World) (os : List Object) (f : Frame) (fs : List Frame) (k : Class) (m : Method)
     (lk : Linked w) (hp : Heap w os) (tp : Top w os f k m) (un : Under w os (k .loader) (m .result) fs) where
   module _ (i : Decoded) (fl : Flow)
-      (nx : typesAt (m .code) (m .result) (length (m .code)) 0 (entryTypes k m) (f .point + i .size) ≡ some (fl .types))
+      (nx : (p : ℕ) → List·Memᴰ p (successors i (f .point)) → typesIn k m p ≡ some (fl .types))
       (nt : Noted w (k .loader) (fl .notes)) where
     -- the frame moves on, in a later store
     moved : (v : World) (qs : List Object) → Later w os v qs → Linked v → Heap v qs → (ts : List VerifierType) (ls : List (Option VerifierType)) (ns : List Note) → flow ts ls ns ≡ some fl
@@ -55,7 +57,7 @@ module _ (w : World) (os : List Object) (f : Frame) (fs : List Frame) (k : Class
             m,
             record {
               τ = fl .types;
-              typed = record { isClass = z .grows .classes (f .class) k (tp .typed .isClass); isMethod = tp .typed .isMethod; types = nx };
+              typed = record { isClass = z .grows .classes (f .class) k (tp .typed .isClass); isMethod = tp .typed .isMethod; types = nx _ (List·Memᴰ·head refl) };
               operands = rw (sym q) a;
               locals = rw (sym q) b;
             },
@@ -80,59 +82,32 @@ module _ (w : World) (os : List Object) (f : Frame) (fs : List Frame) (k : Class
     unfolding execute effect Q
     ex-ipush n e = wp-room (Kept w os) _ _ (stays (typeInt ∷ tp .τ .operands) (tp .τ .locals) [] e (intValue n ∷ f .operands) (f .locals) (tt, tp .operands) (tp .locals))
 
-    -- a local that passes is pushed
-    load : {A : Type 0} (test : Value → Result A) (j : ℕ) (t : VerifierType) → ((v : Value) → Conforms w os (k .loader) t v → (a : A) × (test v ≡ ok a)) → getElem? (tp .τ .locals) j ≡ some (some t)
-        → flow (t ∷ tp .τ .operands) (tp .τ .locals) [] ≡ some fl
-        → Wp (room! (f .operands) >>= λ _. take? (getElem? (f .locals) j) (Word 14) >>= λ v. test v >>= λ _. ok (record { world = w; objects = os; frames = past f i (v ∷ f .operands) (f .locals) ∷ fs; result = none })) (Kept w os)
-    load test j t passes l e =
-        let y = each-at (Local w os (k .loader)) (tp .τ .locals) (f .locals) (tp .locals) j (some t) l in
-        wp-room (Kept w os) _ _ (wp-there (Kept w os) _ _ _ (y .1) (wp-known (Kept w os) _ _ (passes (y .0) (y .2) .1) (stays (t ∷ tp .τ .operands) (tp .τ .locals) [] e (y .0 ∷ f .operands) (f .locals) (y .2, tp .operands) (tp .locals))))
-
-    ex-iload : (j : ℕ) → effect (Iload j) (tp .τ) ≡ some fl → Wp (execute w os f fs k i (Iload j)) Q
+    -- a local of the kind is pushed
+    ex-load : (kind : Kind) (j : ℕ) → effect (Load kind j) (tp .τ) ≡ some fl → Wp (execute w os f fs k i (Load kind j)) Q
     unfolding execute effect Q
-    ex-iload j e =
+    ex-load kind j e =
         let a = bind-some _ _ e in
         let b = bind-some _ _ (a .2) in
         let c = bind-some _ _ (b .2) in
-        load int! j (b .0) (λ v h. let n = int-of w os (k .loader) (b .0) v (c .1) h in (n .0, n .1)) (rw (b .1) at (a .1)) (c .2)
-
-    ex-aload : (j : ℕ) → effect (Aload j) (tp .τ) ≡ some fl → Wp (execute w os f fs k i (Aload j)) Q
-    unfolding execute effect Q
-    ex-aload j e =
-        let a = bind-some _ _ e in
-        let b = bind-some _ _ (a .2) in
-        let c = bind-some _ _ (b .2) in
-        load reference! j (b .0) (λ v h. (v, ref-of w os (k .loader) (b .0) v (c .1) h)) (rw (b .1) at (a .1)) (c .2)
+        let y = each-at (Local w os (k .loader)) (tp .τ .locals) (f .locals) (tp .locals) j (some (b .0)) (rw (b .1) at (a .1)) in
+        wp-room (Kept w os) _ _ (wp-there (Kept w os) _ _ _ (y .1) (wp-known (Kept w os) _ _ (of-kind w os (k .loader) kind (b .0) (y .0) (c .1) (y .2))
+        (stays (b .0 ∷ tp .τ .operands) (tp .τ .locals) [] (c .2) (y .0 ∷ f .operands) (f .locals) (y .2, tp .operands) (tp .locals))))
 
     popped : {p : record { top : VerifierType; more : List VerifierType }} → pop (tp .τ .operands) ≡ some p → (q : Popped) × (pop! (f .operands) ≡ ok q) × Conforms w os (k .loader) (p .top) (q .top) × Each (Conforms w os (k .loader)) (p .more) (q .more)
     popped {p} e = each-pop (Conforms w os (k .loader)) (tp .τ .operands) (f .operands) (p .top) (p .more) e (tp .operands)
 
-    -- an operand that passes is stored
-    store : {A : Type 0} (test : Value → Result A) (j : ℕ) {p : record { top : VerifierType; more : List VerifierType }} {x : Option VerifierType} → ((v : Value) → Conforms w os (k .loader) (p .top) v → (a : A) × (test v ≡ ok a))
-        → pop (tp .τ .operands) ≡ some p → getElem? (tp .τ .locals) j ≡ some x → flow (p .more) (set (tp .τ .locals) j (some (p .top))) [] ≡ some fl
-        → Wp (pop! (f .operands) >>= λ q. test (q .top) >>= λ _. take? (getElem? (f .locals) j) (Word 14) >>= λ _. ok (record { world = w; objects = os; frames = past f i (q .more) (set (f .locals) j (q .top)) ∷ fs; result = none })) (Kept w os)
-    store test j {p} {x} passes o l e =
-        let q = popped o in
-        let y = each-at (Local w os (k .loader)) (tp .τ .locals) (f .locals) (tp .locals) j x l in
-        wp-known (Kept w os) _ _ (q .1) (wp-known (Kept w os) _ _ (passes (q .0 .top) (q .2) .1) (wp-there (Kept w os) _ _ _ (y .1)
-        (stays (p .more) (set (tp .τ .locals) j (some (p .top))) [] e (q .0 .more) (set (f .locals) j (q .0 .top)) (q .3)
-        (each-both (Local w os (k .loader)) (tp .τ .locals) (f .locals) (tp .locals) j (some (p .top)) (q .0 .top) (q .2)))))
-
-    ex-istore : (j : ℕ) → effect (Istore j) (tp .τ) ≡ some fl → Wp (execute w os f fs k i (Istore j)) Q
+    -- an operand of the kind is stored
+    ex-store : (kind : Kind) (j : ℕ) → effect (Store kind j) (tp .τ) ≡ some fl → Wp (execute w os f fs k i (Store kind j)) Q
     unfolding execute effect Q
-    ex-istore j e =
+    ex-store kind j e =
         let a = bind-some _ _ e in
         let b = bind-some _ _ (a .2) in
         let c = bind-some _ _ (b .2) in
-        store int! j (λ v h. let n = int-of w os (k .loader) (a .0 .top) v (b .1) h in (n .0, n .1)) (a .1) (c .1) (c .2)
-
-    ex-astore : (j : ℕ) → effect (Astore j) (tp .τ) ≡ some fl → Wp (execute w os f fs k i (Astore j)) Q
-    unfolding execute effect Q
-    ex-astore j e =
-        let a = bind-some _ _ e in
-        let b = bind-some _ _ (a .2) in
-        let c = bind-some _ _ (b .2) in
-        store reference! j (λ v h. (v, ref-of w os (k .loader) (a .0 .top) v (b .1) h)) (a .1) (c .1) (c .2)
+        let q = popped (a .1) in
+        let y = each-at (Local w os (k .loader)) (tp .τ .locals) (f .locals) (tp .locals) j (c .0) (c .1) in
+        wp-known (Kept w os) _ _ (q .1) (wp-known (Kept w os) _ _ (of-kind w os (k .loader) kind (a .0 .top) (q .0 .top) (b .1) (q .2)) (wp-there (Kept w os) _ _ _ (y .1)
+        (stays (a .0 .more) (set (tp .τ .locals) j (some (a .0 .top))) [] (c .2) (q .0 .more) (set (f .locals) j (q .0 .top)) (q .3)
+        (each-both (Local w os (k .loader)) (tp .τ .locals) (f .locals) (tp .locals) j (some (a .0 .top)) (q .0 .top) (q .2)))))
 
     ex-pop : effect Pop (tp .τ) ≡ some fl → Wp (execute w os f fs k i Pop) Q
     unfolding execute effect Q
@@ -148,35 +123,20 @@ module _ (w : World) (os : List Object) (f : Frame) (fs : List Frame) (k : Class
         let q = popped (a .1) in
         wp-room (Kept w os) _ _ (wp-known (Kept w os) _ _ (q .1) (stays (a .0 .top ∷ a .0 .top ∷ a .0 .more) (tp .τ .locals) [] (a .2) (q .0 .top ∷ q .0 .top ∷ q .0 .more) (f .locals) (q .2, (q .2, q .3)) (tp .locals)))
 
-    -- the two operands of a sum
-    ints : {p q : record { top : VerifierType; more : List VerifierType }} {a b : List Note} → pop (tp .τ .operands) ≡ some p → pop (p .more) ≡ some q → meetInt (p .top) ≡ some a → meetInt (q .top) ≡ some b
-        → (g : (b a : ℕ) → ℕ) → flow (typeInt ∷ q .more) (tp .τ .locals) [] ≡ some fl
-        → Wp (pop! (f .operands) >>= λ p. pop! (p .more) >>= λ q. int! (p .top) >>= λ b. int! (q .top) >>= λ a. ok (record { world = w; objects = os; frames = past f i (intValue (g b a) ∷ q .more) (f .locals) ∷ fs; result = none })) (Kept w os)
-    ints {p} {q} e₁ e₂ m₁ m₂ g e =
-        let x = popped e₁ in
-        let y = each-pop (Conforms w os (k .loader)) (p .more) (x .0 .more) (q .top) (q .more) e₂ (x .3) in
-        let b = int-of w os (k .loader) (p .top) (x .0 .top) m₁ (x .2) in
-        let a = int-of w os (k .loader) (q .top) (y .0 .top) m₂ (y .2) in
-        wp-known (Kept w os) _ _ (x .1) (wp-known (Kept w os) _ _ (y .1) (wp-known (Kept w os) _ _ (b .1) (wp-known (Kept w os) _ _ (a .1)
-        (stays (typeInt ∷ q .more) (tp .τ .locals) [] e (intValue (g (b .0) (a .0)) ∷ y .0 .more) (f .locals) (tt, y .3) (tp .locals)))))
-
-    ex-iadd : effect Iadd (tp .τ) ≡ some fl → Wp (execute w os f fs k i Iadd) Q
+    -- two ints make one
+    ex-arithmetic : (o : Operator) → effect (Arithmetic o) (tp .τ) ≡ some fl → Wp (execute w os f fs k i (Arithmetic o)) Q
     unfolding execute effect Q
-    ex-iadd e =
-        let a = bind-some _ _ e in
-        let b = bind-some _ _ (a .2) in
-        let c = bind-some _ _ (b .2) in
+    ex-arithmetic o e =
+        let p = bind-some _ _ e in
+        let q = bind-some _ _ (p .2) in
+        let c = bind-some _ _ (q .2) in
         let d = bind-some _ _ (c .2) in
-        ints (a .1) (b .1) (c .1) (d .1) (λ y x. (x + y) % 4294967296) (d .2)
-
-    ex-isub : effect Isub (tp .τ) ≡ some fl → Wp (execute w os f fs k i Isub) Q
-    unfolding execute effect Q
-    ex-isub e =
-        let a = bind-some _ _ e in
-        let b = bind-some _ _ (a .2) in
-        let c = bind-some _ _ (b .2) in
-        let d = bind-some _ _ (c .2) in
-        ints (a .1) (b .1) (c .1) (d .1) (λ y x. (x + 4294967296 - y) % 4294967296) (d .2)
+        let x = popped (p .1) in
+        let y = each-pop (Conforms w os (k .loader)) (p .0 .more) (x .0 .more) (q .0 .top) (q .0 .more) (q .1) (x .3) in
+        let b = int-of w os (k .loader) (p .0 .top) (x .0 .top) (c .1) (x .2) in
+        let a = int-of w os (k .loader) (q .0 .top) (y .0 .top) (d .1) (y .2) in
+        wp-known (Kept w os) _ _ (x .1) (wp-known (Kept w os) _ _ (y .1) (wp-known (Kept w os) _ _ (b .1) (wp-known (Kept w os) _ _ (a .1) (wp-compute (Kept w os) o (a .0) (b .0) _ (λ n.
+        stays (typeInt ∷ q .0 .more) (tp .τ .locals) [] (d .2) (intValue n ∷ y .0 .more) (f .locals) (tt, y .3) (tp .locals))))))
 
     -- the notes of the instruction are posted
     noted : (ts : List VerifierType) (ls : List (Option VerifierType)) (ns : List Note) → flow ts ls ns ≡ some fl → Noted w (k .loader) ns
@@ -277,7 +237,7 @@ module _ (w : World) (os : List Object) (f : Frame) (fs : List Frame) (k : Class
               record {
                 τ = fl .types;
                 others = ts;
-                typed = record { isClass = y .grows .classes (f .class) k (tp .typed .isClass); isMethod = tp .typed .isMethod; types = nx };
+                typed = record { isClass = y .grows .classes (f .class) k (tp .typed .isClass); isMethod = tp .typed .isMethod; types = nx _ (List·Memᴰ·head refl) };
                 split = rw (ma .result, sym q) refl;
                 operands = later-ops y (k .loader) ts vs ev;
                 locals = rw (sym q) (each-more (later-local y (k .loader)) (tp .τ .locals) (f .locals) (tp .locals));
@@ -335,33 +295,29 @@ module _ (w : World) (os : List Object) (f : Frame) (fs : List Frame) (k : Class
     each-ins : (j : Instruction) → effect j (tp .τ) ≡ some fl → Wp (execute w os f fs k i j) Q
     each-ins AconstNull e = ex-anull e
     each-ins (Sipush n) e = ex-ipush n e
-    each-ins (Iload n) e = ex-iload n e
-    each-ins (Aload n) e = ex-aload n e
-    each-ins (Istore n) e = ex-istore n e
-    each-ins (Astore n) e = ex-astore n e
+    each-ins (Load kind n) e = ex-load kind n e
+    each-ins (Store kind n) e = ex-store kind n e
     each-ins Pop e = ex-pop e
     each-ins Dup e = ex-dup e
-    each-ins Iadd e = ex-iadd e
-    each-ins Isub e = ex-isub e
+    each-ins (Arithmetic o) e = ex-arithmetic o e
     each-ins (Getfield c n t) e = ex-getf c n t e
     each-ins (Putfield c n t) e = ex-putf c n t e
     each-ins (Invokevirtual c n t r) e = ex-call c n t r e
     each-ins (New c) e = ex-new c e
-    each-ins Ireturn e = absurd (Option·none-ne-some fl (unfold effect in e))
-    each-ins Areturn e = absurd (Option·none-ne-some fl (unfold effect in e))
+    each-ins (Return kind) e = absurd (Option·none-ne-some fl (unfold effect in e))
 
   one : Wp (step w os f fs) (Kept w os)
   unfolding step now Q
   one =
       let t = tp .typed in
       let ve = lk .verified (f .class) (f .method) k m (t .isClass) (t .isMethod) in
-      let kn = known (m .code) (m .result) (length (m .code)) 0 (entryTypes k m) (ve .notes) (f .point) (tp .τ) (ve .passes) (t .types) in
+      let kn = known k m (ve .notes) (ve .passes) (f .point) (tp .τ) (t .types) in
       wp-bind (Kept w os) _ _ (wp-there _ _ _ _ (t .isClass) (wp-there _ _ _ _ (t .isMethod) (wp-there _ _ _ _ (kn .reads) (go ve kn))))
     where
-      go : (ve : Verified w k m) (kn : Known (m .code) (m .result) (length (m .code)) 0 (entryTypes k m) (ve .notes) (f .point) (tp .τ)) → Wp (execute w os f fs k (kn .at) (kn .at .instruction)) (Kept w os)
+      go : (ve : Verified w k m) (kn : Known (m .code) (m .result) (typesIn k m) (ve .notes) (f .point) (tp .τ)) → Wp (execute w os f fs k (kn .at) (kn .at .instruction)) (Kept w os)
       go ve kn = elim (kn .way) [
-        | inl a ↦ each-ret w os f fs k m lk hp tp un (kn .at) (a .1 .made) (λ n x. ve .posted n (a .1 .posted n x)) (kn .at .instruction) (a .1 .does)
-        | inr a ↦ each-ins (kn .at) (a .1 .flows) (a .1 .next) (λ n x. ve .posted n (a .1 .posted n x)) (kn .at .instruction) (a .1 .does)
+        | inl a ↦ each-ret w os f fs k m lk hp tp un (kn .at) (a .made) (λ n x. ve .posted n (a .posted n x)) (kn .at .instruction) (a .kind) (a .is) (a .does)
+        | inr a ↦ each-ins (kn .at) (a .flows) (a .next) (λ n x. ve .posted n (a .posted n x)) (kn .at .instruction) (a .does)
       ]
 
 -- Theorem 1 and 3 of the loading paper, for a step

@@ -11,7 +11,7 @@ use Rattle.definition.specs.Constraints.{Agrees, World, posted, subtypeEdges}
 use Rattle.definition.specs.Machine.{Frame, Object, Value, intValue, nullValue, objectValue, emptyValue, unlistedValue}
 use Rattle.definition.specs.Requests.{Request, at}
 use Rattle.definition.specs.Superclasses.{nearest}
-use Rattle.definition.specs.Verifier.{Note, TypeState, VerifierType, entryTypes, typeClass, typeInt, typeNull, typeOfName, typesAt, verify}
+use Rattle.definition.specs.Verifier.{Note, TypeState, VerifierType, typeClass, typeInt, typeNull, typeOfName, typesIn, notesOfMethod}
 use Rattle.laws.specs.Chains.{chain-more}
 use Rattle.laws.specs.Options.{each-more}
 use Rattle.safety.specs.Conform.{Fits, Tied, grows-fits}
@@ -63,7 +63,7 @@ pub record ObjectSound (w : World) (os : List Object) (b : Object) : Type 0 wher
 
 pub record Verified (w : World) (k : Class) (m : Method) : Type 0 where
   pub notes : List Note
-  pub passes : verify (m .code) (m .result) (length (m .code)) 0 (entryTypes k m) ≡ some notes
+  pub passes : notesOfMethod k m ≡ some notes
   pub posted : (n : Note) → List·Memᴰ n notes → List·Memᴰ (record { from = at (k .loader) (n .low); to = at (k .loader) (n .high) }) (subtypeEdges (w .subtypes))
 
 -- what holds of classes, cache and constraints
@@ -88,7 +88,7 @@ Heap w os = (o : ℕ) (b : Object) → getElem? os o ≡ some b → ObjectSound 
 pub record Typed (w : World) (f : Frame) (k : Class) (m : Method) (τ : TypeState) : Type 0 where
   pub isClass : getElem? (w .base .classes) (f .class) ≡ some k
   pub isMethod : getElem? (k .methods) (f .method) ≡ some m
-  pub types : typesAt (m .code) (m .result) (length (m .code)) 0 (entryTypes k m) (f .point) ≡ some τ
+  pub types : typesIn k m (f .point) ≡ some τ
 
 -- the frame on top, and a frame that waits for a result of type r
 pub record Top (w : World) (os : List Object) (f : Frame) (k : Class) (m : Method) : Type 0 where

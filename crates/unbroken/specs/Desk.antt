@@ -18,6 +18,7 @@ use Rattle.definition.specs.Tables.{Tables}
 use Rattle.definition.specs.Broken.{broken}
 use Rattle.definition.specs.Calls.{callDefine, perform}
 use Rattle.definition.specs.Desk.{verifierNumber, deskNumber}
+use Rattle.laws.specs.Walk.{notes-by-name}
 use Rattle.laws.specs.Causes.{cause, first, defineCauses, rowCauses, causes}
 use Rattle.unbroken.specs.First.{found, applied, first-applies}
 
@@ -25,7 +26,7 @@ use Rattle.unbroken.specs.First.{found, applied, first-applies}
 notes-same : (l : ℕ) (f : File) (ms : List Method) → notesOf (classOf l f) ms ≡ notesOf (classOf 0 f) ms
 unfolding notesOf
 notes-same l f [] = refl
-notes-same l f (m ∷ ms) = ap (λ (o : Option (List Note)). notesOfMethod (classOf 0 f) m >>= λ ns. o >>= λ rs. some (ns ++ rs)) (notes-same l f ms)
+notes-same l f (m ∷ ms) = rw (notes-by-name (classOf l f) (classOf 0 f) m refl, notes-same l f ms) refl
 
 module _ (l : ℕ) (bs : List ℕ) (t : Tables) where
   module _ (h : broken t ≡ false) (small : l < 16) where

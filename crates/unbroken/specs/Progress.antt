@@ -6,7 +6,7 @@ use Prim.Native.Nat.{ℕ, _+_, _<_}
 use native.Mathlib.Omega.{arith}
 use lib.ListN.{length}
 use Rattle.definition.specs.declared.Instruction.{Instruction}
-use Rattle.definition.specs.declared.Instruction.the-variants.{AconstNull, Sipush, Iload, Aload, Istore, Astore, Pop, Dup, Iadd, Isub, Getfield, Putfield, Invokevirtual, New, Ireturn, Areturn}
+use Rattle.definition.specs.declared.Instruction.the-variants.{AconstNull, Sipush, Load, Store, Pop, Dup, Arithmetic, Getfield, Putfield, Invokevirtual, New, Return}
 use Rattle.definition.specs.Answers.{ok}
 use Rattle.definition.specs.Classes.{Class}
 use Rattle.definition.specs.Constraints.{World}
@@ -59,14 +59,11 @@ module _ (os : List Object) (f : Frame) (fs : List Frame) (i : Decoded) (size : 
     unfolding execute
     advances AconstNull = then Q _ _ (λ _ _. on _ _)
     advances (Sipush n) = then Q _ _ (λ _ _. on _ _)
-    advances (Iload j) = then Q _ _ (λ _ _. then Q _ _ (λ _ _. then Q _ _ (λ _ _. on _ _)))
-    advances (Aload j) = then Q _ _ (λ _ _. then Q _ _ (λ _ _. then Q _ _ (λ _ _. on _ _)))
-    advances (Istore j) = then Q _ _ (λ _ _. then Q _ _ (λ _ _. then Q _ _ (λ _ _. on _ _)))
-    advances (Astore j) = then Q _ _ (λ _ _. then Q _ _ (λ _ _. then Q _ _ (λ _ _. on _ _)))
+    advances (Load kind j) = then Q _ _ (λ _ _. then Q _ _ (λ _ _. then Q _ _ (λ _ _. on _ _)))
+    advances (Store kind j) = then Q _ _ (λ _ _. then Q _ _ (λ _ _. then Q _ _ (λ _ _. on _ _)))
     advances Pop = then Q _ _ (λ _ _. on _ _)
     advances Dup = then Q _ _ (λ _ _. then Q _ _ (λ _ _. on _ _))
-    advances Iadd = then Q _ _ (λ _ _. then Q _ _ (λ _ _. then Q _ _ (λ _ _. then Q _ _ (λ _ _. on _ _))))
-    advances Isub = then Q _ _ (λ _ _. then Q _ _ (λ _ _. then Q _ _ (λ _ _. then Q _ _ (λ _ _. on _ _))))
+    advances (Arithmetic o) = then Q _ _ (λ _ _. then Q _ _ (λ _ _. then Q _ _ (λ _ _. then Q _ _ (λ _ _. then Q _ _ (λ _ _. on _ _)))))
     advances (Getfield c n t) = then Q _ _ (λ _ _. then Q _ _ (λ _ _. then Q _ _ (λ v _. then Q _ _ (λ _ _. then Q _ _ (λ _ _. then Q _ _ (λ _ _. then Q _ _ (λ _ _.
         goes v os (numbered-same os) _ _)))))))
     advances (Putfield c n t) = then Q _ _ (λ e _. then Q _ _ (λ _ _. then Q _ _ (λ v _. then Q _ _ (λ _ _. then Q _ _ (λ q _. then Q _ _ (λ _ _. then Q _ _ (λ o h. then Q _ _ (λ _ _.
@@ -74,8 +71,7 @@ module _ (os : List Object) (f : Frame) (fs : List Frame) (i : Decoded) (size : 
     advances (Invokevirtual c n t r) = then Q _ _ (λ _ _. then Q _ _ (λ _ _. then Q _ _ (λ _ _. then Q _ _ (λ _ _. then Q _ _ (λ _ _. then Q _ _ (λ _ _. then Q _ _ (λ _ _. then Q _ _ (λ _ _. then Q _ _ (λ _ _.
         record { objects = numbered-same os; left = λ _. longer _ _ (λ e. omega arith); moved = λ _. longer _ _ (λ e. omega arith) })))))))))
     advances (New c) = then Q _ _ (λ _ _. then Q _ _ (λ _ _. goes w _ (numbered-more os _) _ _))
-    advances Ireturn = then Q _ _ (λ _ _. then Q _ _ (λ p _. then Q _ _ (λ _ _. gives fs w (p .top))))
-    advances Areturn = then Q _ _ (λ _ _. then Q _ _ (λ p _. then Q _ _ (λ _ _. gives fs w (p .top))))
+    advances (Return kind) = then Q _ _ (λ _ _. then Q _ _ (λ p _. then Q _ _ (λ _ _. gives fs w (p .top))))
 
 now-sized : (w : World) (f : Frame) (n : Now) → now w f ≡ ok n → 0 < n .at .size
 unfolding now

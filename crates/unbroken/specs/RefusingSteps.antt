@@ -1,6 +1,6 @@
 -- A step refuses with the first cause that applies.
 use mathlib.Core.Path.{_≡_, refl, sym, ap, _∙_}
-use mathlib.Core.Bool.{Bool, true, false, false≢true, not, _&&_}
+use mathlib.Core.Bool.{Bool, true, false, false≢true, not, _&&_, _||_}
 use mathlib.Core.Option.{Option, none, some}
 use mathlib.Core.List.{List, [], _∷_, _++_}
 use Prim.Native.Nat.{ℕ}
@@ -8,8 +8,12 @@ use native.Mathlib.Omega.{arith}
 use lib.ListN.{length, getElem?, set}
 use lib.Dec.{eqb, leb, ltb}
 use Rattle.definition.specs.declared.Refusal.the-variants.{Word}
+use Rattle.definition.specs.declared.Kind.{Kind}
+use Rattle.definition.specs.declared.Kind.the-variants.{IntKind, ReferenceKind}
+use Rattle.definition.specs.declared.Operator.{Operator}
+use Rattle.definition.specs.declared.Operator.the-variants.{Add, Subtract}
 use Rattle.definition.specs.declared.Instruction.{Instruction}
-use Rattle.definition.specs.declared.Instruction.the-variants.{AconstNull, Sipush, Iload, Aload, Istore, Astore, Pop, Dup, Iadd, Isub, Getfield, Putfield, Invokevirtual, New, Ireturn, Areturn}
+use Rattle.definition.specs.declared.Instruction.the-variants.{AconstNull, Sipush, Load, Store, Pop, Dup, Arithmetic, Getfield, Putfield, Invokevirtual, New, Return}
 use Rattle.definition.specs.Requests.{Request, at}
 use Rattle.definition.specs.Superclasses.{Below, below, nearest}
 use Rattle.definition.specs.Answers.{number, wanted, Result, ok, _>>=_, need, take?}
@@ -17,14 +21,14 @@ use Rattle.definition.specs.Classes.{Class, find, superOf, slots, slotIs, hasFi
 use Rattle.definition.specs.Constraints.{Tie, World, posted, agreesAfter, post}
 use Rattle.definition.specs.Instructions.{Decoded}
 use Rattle.definition.specs.Lists.{indexOf, isSome, isNone}
-use Rattle.definition.specs.Machine.{Value, emptyValue, intValue, nullValue, objectValue, unlistedValue, Object, Frame, Progress, Now, existing, pop!, int!, reference!, kind!, room!, object!, past, entryFrame, now, under!, give, execute, step}
+use Rattle.definition.specs.Machine.{Value, emptyValue, intValue, nullValue, objectValue, unlistedValue, Object, Frame, Progress, Now, existing, pop!, int!, reference!, ofKind!, kind!, compute, room!, object!, past, entryFrame, now, under!, give, execute, step}
 use Rattle.definition.specs.Verifier.{pop}
 use Rattle.definition.specs.Maybe as Maybe
 use Rattle.laws.specs.Agreement.{super-falls}
 use Rattle.laws.specs.Growth.{nth-lt}
 use Rattle.laws.specs.Members.{FieldPlace, field-place, method-at}
 use Rattle.laws.specs.Upward.{nearest-below, below-true, below-trans}
-use Rattle.laws.specs.Causes.{Cause, cause, first, isSomeAnd, anInt, aNull, aReference, ofKind, isEmpty, noRoom, noRoomBelow, receives, selects, fieldTies, methodTies, plainly, accessing, reading, readCauses, frameCauses, instructionCauses}
+use Rattle.laws.specs.Causes.{Cause, cause, first, isSomeAnd, anInt, aNull, aReference, aValueOf, ofKind, isEmpty, noRoom, noRoomBelow, receives, selects, fieldTies, methodTies, plainly, accessing, reading, readCauses, frameCauses, instructionCauses}
 use Rattle.layout.specs.Whole.{ObjectSound}
 use Rattle.unbroken.specs.Steps.{Ready, all-nth}
 use Rattle.unbroken.specs.WholeRows.{nth-there}
@@ -44,14 +48,6 @@ first-past c n cs = refl
 
 -- Values
 
-reference-stuck : {B : Type 0} (v : Value) (g : ℕ → Result B) → aReference v ≡ true → numberIn (int! v >>= g) ≡ 14
-unfolding numberIn int! _>>=_ number
-reference-stuck emptyValue g h = refl
-reference-stuck (intValue n) g h = absurd (false≢true h)
-reference-stuck nullValue g h = refl
-reference-stuck (objectValue o) g h = refl
-reference-stuck (unlistedValue α β) g h = refl
-
 abbrev Popped : Type 0
 Popped = record { top : Value; more : List Value }
 
@@ -64,30 +60,33 @@ module _ {B : Type 0} (cs : List Cause) where
   first-int (objectValue o) g h = refl
   first-int (unlistedValue α β) g h = refl
 
-  first-reference : (v : Value) (g : Value → Result B) → ((x : Value) → aReference v ≡ true → numberIn (g x) ≡ first cs) → numberIn (reference! v >>= g) ≡ first (cause 14 (not (aReference v)) ∷ cs)
-  unfolding numberIn first reference! _>>=_ number
-  first-reference emptyValue g h = refl
-  first-reference (intValue n) g h = refl
-  first-reference nullValue g h = h nullValue refl
-  first-reference (objectValue o) g h = h (objectValue o) refl
-  first-reference (unlistedValue α β) g h = refl
+  first-of-kind : (kind : Kind) (v : Value) (g : Unit {0} → Result B) → numberIn (g tt) ≡ first cs → numberIn (ofKind! kind v >>= g) ≡ first (cause 14 (not (aValueOf kind v)) ∷ cs)
+  unfolding numberIn first ofKind! int! reference! _>>=_ number
+  first-of-kind IntKind emptyValue g h = refl
+  first-of-kind IntKind (intValue n) g h = h
+  first-of-kind IntKind nullValue g h = refl
+  first-of-kind IntKind (objectValue o) g h = refl
+  first-of-kind IntKind (unlistedValue α β) g h = refl
+  first-of-kind ReferenceKind emptyValue g h = refl
+  first-of-kind ReferenceKind (intValue n) g h = refl
+  first-of-kind ReferenceKind nullValue g h = h
+  first-of-kind ReferenceKind (objectValue o) g h = h
+  first-of-kind ReferenceKind (unlistedValue α β) g h = refl
 
   first-kind : (t : ℕ) (v : Value) (g : Unit {0} → Result B) → numberIn (g tt) ≡ first cs → numberIn (kind! t v >>= g) ≡ first (cause 14 (not (ofKind t v)) ∷ cs)
-  unfolding numberIn first kind! ofKind int! reference! _>>=_ number
-  first-kind t v g h = go (eqb t 1) v
+  unfolding kind! ofKind
+  first-kind t v g h = go (eqb t 1)
     where
-      go : (b : Bool) (v : Value) → numberIn ((elim b as (λ _. Result (Unit {0})) [ true ↦ int! v >>= λ _. ok tt | false ↦ reference! v >>= λ _. ok tt ]) >>= g)
+      go : (b : Bool) → numberIn ((elim b as (λ _. Result (Unit {0})) [ true ↦ ofKind! IntKind v | false ↦ ofKind! ReferenceKind v ]) >>= g)
           ≡ first (cause 14 (not (elim b as (λ _. Bool) [ true ↦ anInt v | false ↦ aReference v ])) ∷ cs)
-      go true emptyValue = refl
-      go true (intValue n) = h
-      go true nullValue = refl
-      go true (objectValue o) = refl
-      go true (unlistedValue α β) = refl
-      go false emptyValue = refl
-      go false (intValue n) = refl
-      go false nullValue = h
-      go false (objectValue o) = h
-      go false (unlistedValue α β) = refl
+      go true = first-of-kind IntKind v g h
+      go false = first-of-kind ReferenceKind v g h
+
+  -- an operator that doesn't refuse
+  first-compute : (o : Operator) (a b : ℕ) (g : ℕ → Result B) → ((n : ℕ) → numberIn (g n) ≡ first cs) → numberIn (compute o a b >>= g) ≡ first cs
+  unfolding compute _>>=_
+  first-compute Add a b g h = h _
+  first-compute Subtract a b g h = h _
 
   -- what is there, said by isSome
   first-there : {A : Type 0} (o : Option A) (g : A → Result B) → ((a : A) → o ≡ some a → numberIn (g a) ≡ first cs) → numberIn (take? o (Word 14) >>= g) ≡ first (cause 14 (not (isSome o)) ∷ cs)
@@ -197,15 +196,10 @@ module _ (w : World) (n : ℕ) (os : List Object) (rd : Ready w n os) (f : Frame
   first-under [] cs g h = h ∙ sym (first-skip 10 cs)
   first-under (x ∷ gs) cs g h = first-need cs (ltb (length (x .operands)) 16) (Word 10) g (λ _. h)
 
-  give-int : (gs : List Frame) (m : ℕ) → numberIn (give gs w os (intValue m)) ≡ first []
-  unfolding give int! _>>=_
-  give-int [] m = number-ok _
-  give-int (x ∷ gs) m = number-ok _
-
-  give-reference : (gs : List Frame) (v : Value) → aReference v ≡ true → numberIn (give gs w os v) ≡ first (cause 14 (not (not (isEmpty gs))) ∷ [])
-  unfolding give first
-  give-reference [] v h = reference-stuck v _ h
-  give-reference (x ∷ gs) v h = number-ok _
+  give-first : (gs : List Frame) (v : Value) → numberIn (give gs w os v) ≡ first (cause 14 (not (not (isEmpty gs) || anInt v)) ∷ [])
+  unfolding give
+  give-first [] v = first-int [] v _ (λ _ _. number-ok _)
+  give-first (x ∷ gs) v = number-ok _ ∙ sym (first-skip 14 [])
 
   -- in an object of class e or below it stands the field that is found upward of e
   module _ (e d x t : ℕ) (b : Object) (o : ℕ) (q : getElem? os o ≡ some b) (l : Below (superOf (w .base)) (b .class) e) (p : nearest (superOf (w .base)) (hasField (w .base) x t) e ≡ some d) where
@@ -250,25 +244,23 @@ module _ (w : World) (n : ℕ) (os : List Object) (rd : Ready w n os) (f : Frame
   unfolding execute instructionCauses room! noRoom number
   execute-first AconstNull = first-need _ (ltb (length (f .operands)) 16) (Word 10) _ (λ _. number-ok _ ∙ sym (first-skip 14 [])) ∙ sym (plain _ _)
   execute-first (Sipush x) = first-need _ (ltb (length (f .operands)) 16) (Word 10) _ (λ _. number-ok _ ∙ sym (first-skip 14 [])) ∙ sym (plain _ _)
-  execute-first (Iload j) = first-need _ (ltb (length (f .operands)) 16) (Word 10) _ (λ _. first-passes [] (getElem? (f .locals) j) anInt _ (λ v. first-int [] v _ (λ _ _. number-ok _))) ∙ sym (plain _ _)
-  execute-first (Aload j) = first-need _ (ltb (length (f .operands)) 16) (Word 10) _ (λ _. first-passes [] (getElem? (f .locals) j) aReference _ (λ v. first-reference [] v _ (λ _ _. number-ok _))) ∙ sym (plain _ _)
-  execute-first (Istore j) =
-      first-top _ (f .operands) anInt _ (λ v us _. first-int _ v _ (λ _ _. first-there [] (getElem? (f .locals) j) _ (λ _ _. number-ok _))) ∙ sym (first-and 14 (upper anInt) (isSome (getElem? (f .locals) j)) []) ∙ sym (plain-stuck _)
-  execute-first (Astore j) =
-      first-top _ (f .operands) aReference _ (λ v us _. first-reference _ v _ (λ _ _. first-there [] (getElem? (f .locals) j) _ (λ _ _. number-ok _))) ∙ sym (first-and 14 (upper aReference) (isSome (getElem? (f .locals) j)) []) ∙ sym (plain-stuck _)
+  execute-first (Load kind j) =
+      first-need _ (ltb (length (f .operands)) 16) (Word 10) _ (λ _. first-passes [] (getElem? (f .locals) j) (aValueOf kind) _ (λ v. first-of-kind [] kind v _ (number-ok _))) ∙ sym (plain _ _)
+  execute-first (Store kind j) =
+      first-top _ (f .operands) (aValueOf kind) _ (λ v us _. first-of-kind _ kind v _ (first-there [] (getElem? (f .locals) j) _ (λ _ _. number-ok _)))
+      ∙ sym (first-and 14 (upper (aValueOf kind)) (isSome (getElem? (f .locals) j)) []) ∙ sym (plain-stuck _)
   execute-first Pop = first-pop [] (f .operands) _ (λ _. number-ok _) ∙ sym (plain-stuck _)
   execute-first Dup = first-need _ (ltb (length (f .operands)) 16) (Word 10) _ (λ _. first-pop [] (f .operands) _ (λ _. number-ok _)) ∙ sym (plain _ _)
-  execute-first Iadd =
-      first-two [] (f .operands) anInt anInt _ (λ v u us _. first-int _ v _ (λ _ _. first-int [] u _ (λ _ _. number-ok _))) ∙ sym (first-and 14 (upper anInt) (lower anInt) []) ∙ sym (plain-stuck _)
-  execute-first Isub =
-      first-two [] (f .operands) anInt anInt _ (λ v u us _. first-int _ v _ (λ _ _. first-int [] u _ (λ _ _. number-ok _))) ∙ sym (first-and 14 (upper anInt) (lower anInt) []) ∙ sym (plain-stuck _)
+  execute-first (Arithmetic o) =
+      first-two [] (f .operands) anInt anInt _ (λ v u us _. first-int _ v _ (λ b _. first-int [] u _ (λ a _. first-compute [] o a b _ (λ _. number-ok _))))
+      ∙ sym (first-and 14 (upper anInt) (lower anInt) []) ∙ sym (plain-stuck _)
   execute-first (Getfield c x t) = first-access _ _ _ true _ _ _ _ (λ e d p. getfield-first x t e d p (posted w (fieldTies w k t d)))
   execute-first (Putfield c x t) = first-access _ _ _ true _ _ _ _ (λ e d p. putfield-first x t e d p (posted w (fieldTies w k t d)))
   execute-first (Invokevirtual c x t r) = first-access _ _ _ _ _ _ _ _ (λ e d p. invoke-first x t r e (posted w (methodTies w k t r d)))
   execute-first (New c) = first-take _ (find (w .base .cache) (at (k .loader) c)) (wanted (at (k .loader) c)) _ (λ e _. first-need [] _ (Word 10) _ (λ _. number-ok _) ∙ sym (only-full _))
-  execute-first Ireturn = first-under fs _ _ (first-top [] (f .operands) anInt _ (λ v us _. first-int [] v _ (λ m e. rw e (give-int fs m)))) ∙ sym (plain _ _)
-  execute-first Areturn =
-      first-under fs _ _ (first-top _ (f .operands) aReference _ (λ v us _. first-reference _ v _ (λ _ e. give-reference fs v e)) ∙ sym (first-and 14 (upper aReference) (not (isEmpty fs)) [])) ∙ sym (plain _ _)
+  execute-first (Return kind) =
+      first-under fs _ _ (first-top (cause 14 (not (not (isEmpty fs) || upper anInt)) ∷ []) (f .operands) (aValueOf kind) _ (λ v us q. rw q (first-of-kind _ kind v _ (give-first fs v)))
+      ∙ sym (first-and 14 (upper (aValueOf kind)) (not (isEmpty fs) || upper anInt) [])) ∙ sym (plain _ _)
 
 -- A step: what can't be read, then the instruction
 

@@ -13,12 +13,14 @@ use Rattle.definition.specs.Classes.{Base, Class, Slot, find, hasMethod, loader
 use Rattle.definition.specs.Constraints.{Tie, World, newTie, post, posted, tieIs}
 use Rattle.definition.specs.Instructions.{Decoded}
 use Rattle.definition.specs.Lists.{any}
-use Rattle.definition.specs.Machine.{Frame, Now, Object, Progress, Value, entryFrame, execute, give, initialValue, int!, intValue, newObject, now, nullValue, object!, objectValue, past, pop!, reference!, room!, step, under!, emptyValue, unlistedValue, existing}
+use Rattle.definition.specs.Machine.{Frame, Now, Object, Progress, Value, entryFrame, execute, give, initialValue, int!, intValue, newObject, now, nullValue, object!, objectValue, ofKind!, past, pop!, reference!, room!, step, under!, emptyValue, unlistedValue, existing}
 use Rattle.definition.specs.Requests.{Request, at}
 use Rattle.definition.specs.Superclasses.{nearest}
 use Rattle.definition.specs.Verifier.{pop}
+use Rattle.definition.specs.declared.Kind.{Kind}
+use Rattle.definition.specs.declared.Kind.the-variants.{IntKind, ReferenceKind}
 use Rattle.definition.specs.declared.Instruction.{Instruction}
-use Rattle.definition.specs.declared.Instruction.the-variants.{AconstNull, Aload, Areturn, Astore, Dup, Getfield, Iadd, Iload, Invokevirtual, Ireturn, Istore, Isub, New, Pop, Putfield, Sipush}
+use Rattle.definition.specs.declared.Instruction.the-variants.{AconstNull, Arithmetic, Dup, Getfield, Invokevirtual, Load, New, Pop, Putfield, Return, Sipush, Store}
 use Rattle.definition.specs.declared.Refusal.{Refusal}
 use Rattle.laws.specs.Agreement.{super-falls}
 use Rattle.laws.specs.Growth.{nth-lt}
@@ -72,6 +74,11 @@ ref-value m (unlistedValue α β) x e h = never _ _ e
 ref-value m (intValue n) x e h = tt
 ref-value m nullValue x e h = tt
 ref-value m (objectValue o) x e h = h
+
+kind-value : (kind : Kind) (m : ℕ) (v : Value) (u : Unit {0}) → ofKind! kind v ≡ ok u → Local m v → ValueSound m v
+unfolding ofKind!
+kind-value IntKind m v u e h = let a = bind-ok _ _ e in int-value m v (a .0) (a .1)
+kind-value ReferenceKind m v u e h = let a = bind-ok _ _ e in ref-value m v (a .0) (a .1) h
 
 pub all-nth : {A : Type 0} (P : A → Type 0) (xs : List A) → All P xs → (i : ℕ) (x : A) → getElem? xs i ≡ some x → P x
 all-nth P [] h i x e = absurd (Option·none-ne-some x e)
@@ -237,16 +244,13 @@ module _ (w : World) (n : ℕ) (os : List Object) (rd : Ready w n os) where
     unfolding execute
     each-kept AconstNull = then Q _ _ (λ u e. keeps (nullValue ∷ f .operands) (room-lt (f .operands) u e) (tt, fr .operands))
     each-kept (Sipush x) = then Q _ _ (λ u e. keeps (intValue x ∷ f .operands) (room-lt (f .operands) u e) (tt, fr .operands))
-    each-kept (Iload j) = then Q _ _ (λ u e. then Q _ _ (λ v ev. then Q _ _ (λ x ex. keeps (v ∷ f .operands) (room-lt (f .operands) u e) (int-value M v x ex, fr .operands))))
-    each-kept (Aload j) = then Q _ _ (λ u e. then Q _ _ (λ v ev. then Q _ _ (λ x ex. keeps (v ∷ f .operands) (room-lt (f .operands) u e) (ref-value M v x ex (all-nth (Local M) (f .locals) (fr .locals) j v (take-ok _ _ ev)), fr .operands))))
-    each-kept (Istore j) = then Q _ _ (λ p ep. then Q _ _ (λ x ex. then Q _ _ (λ _ _. let q = pop-all M (f .operands) p (fr .operands) ep in stores (p .more) j (p .top) (omega (arith, q .less, fr .depth)) (q .more) (q .top))))
-    each-kept (Astore j) = then Q _ _ (λ p ep. then Q _ _ (λ x ex. then Q _ _ (λ _ _. let q = pop-all M (f .operands) p (fr .operands) ep in stores (p .more) j (p .top) (omega (arith, q .less, fr .depth)) (q .more) (q .top))))
+    each-kept (Load kind j) = then Q _ _ (λ u e. then Q _ _ (λ v ev. then Q _ _ (λ x ex.
+        keeps (v ∷ f .operands) (room-lt (f .operands) u e) (kind-value kind M v x ex (all-nth (Local M) (f .locals) (fr .locals) j v (take-ok _ _ ev)), fr .operands))))
+    each-kept (Store kind j) = then Q _ _ (λ p ep. then Q _ _ (λ _ _. then Q _ _ (λ _ _. let q = pop-all M (f .operands) p (fr .operands) ep in stores (p .more) j (p .top) (omega (arith, q .less, fr .depth)) (q .more) (q .top))))
     each-kept Pop = then Q _ _ (λ p ep. let q = pop-all M (f .operands) p (fr .operands) ep in keeps (p .more) (omega (arith, q .less, fr .depth)) (q .more))
     each-kept Dup = then Q _ _ (λ u e. then Q _ _ (λ p ep. let q = pop-all M (f .operands) p (fr .operands) ep in keeps (p .top ∷ p .top ∷ p .more) (omega (arith, q .less, room-lt (f .operands) u e)) (q .top, (q .top, q .more))))
-    each-kept Iadd = then Q _ _ (λ p ep. then Q _ _ (λ q eq. then Q _ _ (λ _ _. then Q _ _ (λ _ _.
-        let x = pop-all M (f .operands) p (fr .operands) ep in let y = pop-all M (p .more) q (x .more) eq in keeps (intValue _ ∷ q .more) (omega (arith, x .less, y .less, fr .depth)) (tt, y .more)))))
-    each-kept Isub = then Q _ _ (λ p ep. then Q _ _ (λ q eq. then Q _ _ (λ _ _. then Q _ _ (λ _ _.
-        let x = pop-all M (f .operands) p (fr .operands) ep in let y = pop-all M (p .more) q (x .more) eq in keeps (intValue _ ∷ q .more) (omega (arith, x .less, y .less, fr .depth)) (tt, y .more)))))
+    each-kept (Arithmetic o) = then Q _ _ (λ p ep. then Q _ _ (λ q eq. then Q _ _ (λ _ _. then Q _ _ (λ _ _. then Q _ _ (λ m _.
+        let x = pop-all M (f .operands) p (fr .operands) ep in let y = pop-all M (p .more) q (x .more) eq in keeps (intValue m ∷ q .more) (omega (arith, x .less, y .less, fr .depth)) (tt, y .more))))))
     each-kept (Getfield c x t) = then Q _ _ (λ e _. then Q _ _ (λ d _. then Q _ _ (λ v pv. then Q _ _ (λ p ep. then Q _ _ (λ o eo. then Q _ _ (λ j _. then Q _ _ (λ z ez.
         let q = pop-all M (f .operands) p (fr .operands) ep in
         let b = all-nth (ObjectSound (w .base) n M) os (rd .each) (o .number) (o .object) (object-is (w .base) os e (p .top) o eo) in
@@ -289,8 +293,7 @@ module _ (w : World) (n : ℕ) (os : List Object) (rd : Ready w n os) where
             all-more (grow-frame n M (length qs) g) fs frs,
           );
         }))
-    each-kept Ireturn = then Q _ _ (λ u eu. then Q _ _ (λ p ep. then Q _ _ (λ _ _. let q = pop-all M (f .operands) p (fr .operands) ep in given (p .more) (p .top) fs frs fl u eu (q .top))))
-    each-kept Areturn = then Q _ _ (λ u eu. then Q _ _ (λ p ep. then Q _ _ (λ _ _. let q = pop-all M (f .operands) p (fr .operands) ep in given (p .more) (p .top) fs frs fl u eu (q .top))))
+    each-kept (Return kind) = then Q _ _ (λ u eu. then Q _ _ (λ p ep. then Q _ _ (λ _ _. let q = pop-all M (f .operands) p (fr .operands) ep in given (p .more) (p .top) fs frs fl u eu (q .top))))
 
   pub step-moves : (f : Frame) (fs : List Frame) → All (Framed n (length os)) (f ∷ fs) → length (f ∷ fs) ≤ 32 → Ok (step w os f fs) (Moved w n os)
   unfolding step now

@@ -11,7 +11,7 @@ use borrow.Author.Tests.{leb-true, ltb-true}
 use Rattle.definition.specs.declared.Refusal.{Refusal}
 use Rattle.definition.specs.declared.Refusal.the-variants.{Wanted, Word}
 use Rattle.definition.specs.declared.Instruction.{Instruction}
-use Rattle.definition.specs.declared.Instruction.the-variants.{AconstNull, Sipush, Iload, Aload, Istore, Astore, Pop, Dup, Iadd, Isub, Getfield, Putfield, Invokevirtual, New, Ireturn, Areturn}
+use Rattle.definition.specs.declared.Instruction.the-variants.{AconstNull, Sipush, Load, Store, Pop, Dup, Arithmetic, Getfield, Putfield, Invokevirtual, New, Return}
 use Rattle.definition.specs.declared.Answer.{Answer}
 use Rattle.definition.specs.declared.Answer.the-variants.{Refused}
 use Rattle.definition.specs.declared.Reply.{Reply}
@@ -89,20 +89,16 @@ module _ (w : World) (os : List Object) (f : Frame) (fs : List Frame) (k : Class
   unfolding execute _>>=_ take?
   wants AconstNull e = absurd (Option·none-ne-some c e)
   wants (Sipush n) e = absurd (Option·none-ne-some c e)
-  wants (Iload j) e = absurd (Option·none-ne-some c e)
-  wants (Aload j) e = absurd (Option·none-ne-some c e)
-  wants (Istore j) e = absurd (Option·none-ne-some c e)
-  wants (Astore j) e = absurd (Option·none-ne-some c e)
+  wants (Load kind j) e = absurd (Option·none-ne-some c e)
+  wants (Store kind j) e = absurd (Option·none-ne-some c e)
   wants Pop e = absurd (Option·none-ne-some c e)
   wants Dup e = absurd (Option·none-ne-some c e)
-  wants Iadd e = absurd (Option·none-ne-some c e)
-  wants Isub e = absurd (Option·none-ne-some c e)
+  wants (Arithmetic o) e = absurd (Option·none-ne-some c e)
   wants (Getfield x n t) e = let z : x ≡ c = cc in rw (z, m) refl
   wants (Putfield x n t) e = let z : x ≡ c = cc in rw (z, m) refl
   wants (Invokevirtual x n t r) e = let z : x ≡ c = cc in rw (z, m) refl
   wants (New x) e = let z : x ≡ c = cc in rw (z, m) refl
-  wants Ireturn e = absurd (Option·none-ne-some c e)
-  wants Areturn e = absurd (Option·none-ne-some c e)
+  wants (Return kind) e = absurd (Option·none-ne-some c e)
 
 module _ (f : Frame) (fs : List Frame) (l c : ℕ) where
   -- Such a quote's step is refused, and only such a quote's is refused so

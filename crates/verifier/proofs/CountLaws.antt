@@ -8,17 +8,17 @@ use native.Mathlib.Omega.{arith}
 use lib.ListN.{length, getD, length-append}
 use lib.Dec.{eqb}
 use Rattle.definition.specs.declared.Opcode.{Opcode}
-use Rattle.definition.specs.declared.Opcode.the-variants.{OpAconstNull, OpSipush, OpIload, OpAload, OpIstore, OpAstore, OpPop, OpDup, OpIadd, OpIsub, OpGetfield, OpPutfield, OpInvokevirtual, OpNew, OpIreturn, OpAreturn, OpUnknown}
+use Rattle.definition.specs.declared.Opcode.the-variants.{OpAconstNull, OpSipush, OpLoad, OpStore, OpPop, OpDup, OpArithmetic, OpGetfield, OpPutfield, OpInvokevirtual, OpNew, OpReturn, OpUnknown}
+use Rattle.definition.specs.declared.Kind.{Kind}
 use Rattle.definition.specs.declared.Instruction.{Instruction}
-use Rattle.definition.specs.declared.Instruction.the-variants.{Areturn}
 use Rattle.definition.specs.Instructions.{Decoded, opcodeOf, inlineLength, instructionOf, decode, pick}
 use Rattle.definition.specs.Maybe.{_>>=_}
-use Rattle.definition.specs.Verifier.{VerifierType, typeInt, typeNull, typeClass, Note, TypeState, Flow, meetClass, meetInt, meets, effect, returns, isReturn}
+use Rattle.definition.specs.Verifier.{VerifierType, typeInt, typeNull, typeClass, Note, TypeState, Flow, meetClass, meetInt, meets, effect, returns, returnKind}
 use Rattle.verifier.specs.Effects.{ends, going, ending, outcome}
 use Rattle.verifier.specs.Types.{entryOf}
 use Rattle.verifier.specs.Trace.{Turned, settle, turnedBy, turned, Trace, after, onward, trace, methodTrace}
 use Rattle.verifier.proofs.DecodingLaws.{decode-size, decode-instruction, decode-within}
-use Rattle.verifier.proofs.EffectLaws.{by-name, by-kind, by-result}
+use Rattle.verifier.proofs.EffectLaws.{by-name, by-kind}
 
 -- Answers with at most n notes
 
@@ -37,6 +37,10 @@ module _ {A B : Type 0} (notes : B → List Note) (n : ℕ) where
   unfolding _>>=_
   few-bind none k h = few-none
   few-bind (some a) k h = h a
+
+few-more : {j n : ℕ} {m : Option (List Note)} → j ≤ n → FewNotes j m → FewNotes n m
+few-more l few-none = few-none
+few-more l (few-some {a = a} h) = few-some {a = a} (omega arith)
 
 few-meet : {j n : ℕ} (m : Option (List Note)) (k : List Note → Option Flow) → FewNotes j m → ((ns : List Note) → length ns ≤ j → FewFlow n (k ns)) → FewFlow n (m >>= k)
 unfolding _>>=_
@@ -71,51 +75,44 @@ name-few t b = go (eqb b 1) refl
 
 -- Instructions
 
--- an instruction's effect, and its return, make at most n notes
-record Sparing (result n : ℕ) (s : TypeState) (i : Instruction) : Type 0 where
+-- a return makes at most one note
+return-few : (kind : Kind) (result : ℕ) (s : TypeState) → FewNotes 1 (returns kind result s)
+unfolding returns
+return-few kind result s = few-bind _ _ _ _ (λ _. few-bind _ _ _ _ (λ p. name-few (p .top) result))
+
+-- an instruction's effect makes at most n notes, and it has a byte for a return's
+record Sparing (n : ℕ) (s : TypeState) (i : Instruction) : Type 0 where
   flows : FewFlow n (effect i s)
-  ends : FewNotes n (returns i result s)
+  byte : 1 ≤ n
 
-abbrev Spare : ℕ → ℕ → TypeState → Option Instruction → Type 0
-Spare result n s none = Unit {0}
-Spare result n s (some i) = Sparing result n s i
+abbrev Spare : ℕ → TypeState → Option Instruction → Type 0
+Spare n s none = Unit {0}
+Spare n s (some i) = Sparing n s i
 
-module _ (code : List ℕ) (j result : ℕ) (s : TypeState) where
-  areturn-few : FewNotes 1 (returns Areturn result s)
-  unfolding pick
-  areturn-few = go (eqb result 1) refl
-    where
-      go : (u : Bool) → eqb result 1 ≡ u → FewNotes 1 (returns Areturn result s)
-      go true e = subst (λ m. FewNotes 1 m) (sym (by-result result s true e)) few-none
-      go false e = subst (λ m. FewNotes 1 m) (sym (by-result result s false e)) (few-bind _ _ _ _ (λ p. class-few result (p .top)))
-
-  sparing : (o : Opcode) → Spare result (suc (inlineLength o)) s (instructionOf code j o)
-  unfolding instructionOf inlineLength effect returns
-  sparing OpAconstNull = record { flows = few-bind _ _ _ _ (λ _. few-some (omega arith)); ends = few-none }
-  sparing OpSipush = record { flows = few-bind _ _ _ _ (λ _. few-some (omega arith)); ends = few-none }
-  sparing OpIload = record { flows = few-bind _ _ _ _ (λ _. few-bind _ _ _ _ (λ _. few-bind _ _ _ _ (λ _. few-bind _ _ _ _ (λ _. few-some (omega arith))))); ends = few-none }
-  sparing OpAload = record { flows = few-bind _ _ _ _ (λ _. few-bind _ _ _ _ (λ _. few-bind _ _ _ _ (λ _. few-bind _ _ _ _ (λ _. few-some (omega arith))))); ends = few-none }
-  sparing OpIstore = record { flows = few-bind _ _ _ _ (λ _. few-bind _ _ _ _ (λ _. few-bind _ _ _ _ (λ _. few-bind _ _ _ _ (λ _. few-some (omega arith))))); ends = few-none }
-  sparing OpAstore = record { flows = few-bind _ _ _ _ (λ _. few-bind _ _ _ _ (λ _. few-bind _ _ _ _ (λ _. few-bind _ _ _ _ (λ _. few-some (omega arith))))); ends = few-none }
-  sparing OpPop = record { flows = few-bind _ _ _ _ (λ _. few-bind _ _ _ _ (λ _. few-some (omega arith))); ends = few-none }
-  sparing OpDup = record { flows = few-bind _ _ _ _ (λ _. few-bind _ _ _ _ (λ _. few-some (omega arith))); ends = few-none }
-  sparing OpIadd = record { flows = few-bind _ _ _ _ (λ _. few-bind _ _ _ _ (λ _. few-bind _ _ _ _ (λ _. few-bind _ _ _ _ (λ _. few-bind _ _ _ _ (λ _. few-some (omega arith)))))); ends = few-none }
-  sparing OpIsub = record { flows = few-bind _ _ _ _ (λ _. few-bind _ _ _ _ (λ _. few-bind _ _ _ _ (λ _. few-bind _ _ _ _ (λ _. few-bind _ _ _ _ (λ _. few-some (omega arith)))))); ends = few-none }
+module _ (code : List ℕ) (j : ℕ) (s : TypeState) where
+  sparing : (o : Opcode) → Spare (suc (inlineLength o)) s (instructionOf code j o)
+  unfolding instructionOf inlineLength effect
+  sparing OpAconstNull = record { flows = few-bind _ _ _ _ (λ _. few-some (omega arith)); byte = omega arith }
+  sparing OpSipush = record { flows = few-bind _ _ _ _ (λ _. few-some (omega arith)); byte = omega arith }
+  sparing (OpLoad k) = record { flows = few-bind _ _ _ _ (λ _. few-bind _ _ _ _ (λ _. few-bind _ _ _ _ (λ _. few-bind _ _ _ _ (λ _. few-some (omega arith))))); byte = omega arith }
+  sparing (OpStore k) = record { flows = few-bind _ _ _ _ (λ _. few-bind _ _ _ _ (λ _. few-bind _ _ _ _ (λ _. few-bind _ _ _ _ (λ _. few-some (omega arith))))); byte = omega arith }
+  sparing OpPop = record { flows = few-bind _ _ _ _ (λ _. few-bind _ _ _ _ (λ _. few-some (omega arith))); byte = omega arith }
+  sparing OpDup = record { flows = few-bind _ _ _ _ (λ _. few-bind _ _ _ _ (λ _. few-some (omega arith))); byte = omega arith }
+  sparing (OpArithmetic a) = record { flows = few-bind _ _ _ _ (λ _. few-bind _ _ _ _ (λ _. few-bind _ _ _ _ (λ _. few-bind _ _ _ _ (λ _. few-bind _ _ _ _ (λ _. few-some (omega arith)))))); byte = omega arith }
   sparing OpGetfield = record {
     flows = few-bind _ _ _ _ (λ _. few-bind _ _ _ _ (λ _. few-meet _ _ (class-few _ _) (λ a l. few-bind _ _ _ _ (λ _. few-some (omega arith)))));
-    ends = few-none;
+    byte = omega arith;
   }
   sparing OpPutfield = record {
     flows = few-bind _ _ _ _ (λ _. few-bind _ _ _ _ (λ _. few-bind _ _ _ _ (λ _. few-meet _ _ (class-few _ _) (λ a l. few-meet _ _ (name-few _ _) (λ b k. few-bind _ _ _ _ (λ _. few-some (omega (arith, length-append a b))))))));
-    ends = few-none;
+    byte = omega arith;
   }
   sparing OpInvokevirtual = record {
     flows = few-bind _ _ _ _ (λ _. few-bind _ _ _ _ (λ _. few-bind _ _ _ _ (λ _. few-meet _ _ (class-few _ _) (λ a l. few-meet _ _ (name-few _ _) (λ b k. few-bind _ _ _ _ (λ _. few-some (omega (arith, length-append a b))))))));
-    ends = few-none;
+    byte = omega arith;
   }
-  sparing OpNew = record { flows = few-bind _ _ _ _ (λ _. few-bind _ _ _ _ (λ _. few-some (omega arith))); ends = few-none }
-  sparing OpIreturn = record { flows = few-none; ends = few-bind _ _ _ _ (λ _. few-bind _ _ _ _ (λ p. int-few (p .top))) }
-  sparing OpAreturn = record { flows = few-none; ends = areturn-few }
+  sparing OpNew = record { flows = few-bind _ _ _ _ (λ _. few-bind _ _ _ _ (λ _. few-some (omega arith))); byte = omega arith }
+  sparing (OpReturn k) = record { flows = few-none; byte = omega arith }
   sparing OpUnknown = tt
 
 -- The walk
@@ -141,21 +138,21 @@ module _ (end : ℕ) (walk : ℕ → TypeState → Trace) (bound : (q : ℕ) (u 
 
 -- an instruction that was decoded
 decoded-sparing :
-    (code : List ℕ) (p result : ℕ) (s : TypeState) (d : Decoded) → decode code p ≡ some d → Sparing result (d .size) s (d .instruction)
-decoded-sparing code p result s d e =
-    subst (λ n. Sparing result n s (d .instruction)) (sym (decode-size code p d e))
-    (subst (λ m. Spare result (suc (inlineLength (opcodeOf (getD code p 0)))) s m) (decode-instruction code p d e)
-    (sparing code (p + 1) result s (opcodeOf (getD code p 0))))
+    (code : List ℕ) (p : ℕ) (s : TypeState) (d : Decoded) → decode code p ≡ some d → Sparing (d .size) s (d .instruction)
+decoded-sparing code p s d e =
+    subst (λ n. Sparing n s (d .instruction)) (sym (decode-size code p d e))
+    (subst (λ m. Spare (suc (inlineLength (opcodeOf (getD code p 0)))) s m) (decode-instruction code p d e)
+    (sparing code (p + 1) s (opcodeOf (getD code p 0))))
 
 -- and whether it is a return
 module _ (code : List ℕ) (p result : ℕ) (s : TypeState) (walk : ℕ → TypeState → Trace)
     (bound : (q : ℕ) (u : TypeState) → q ≤ length code → q + length (walk q u .notes) ≤ length code)
   where
     by-return :
-        (n : ℕ) (i : Instruction) (b u : Bool) → p + n ≤ length code → Sparing result n s i →
-        p + length (onto (length code) walk bound (settle (p + n) b (elim u [ true ↦ ending (returns i result s) | false ↦ going (effect i s) ]))) ≤ length code
-    by-return n i b true h k = few-ends (length code) walk bound p n b h (returns i result s) (k .ends)
-    by-return n i b false h k = few-goes (length code) walk bound p n b h (effect i s) (k .flows)
+        (n : ℕ) (i : Instruction) (b : Bool) (u : Option Kind) → p + n ≤ length code → Sparing n s i →
+        p + length (onto (length code) walk bound (settle (p + n) b (elim u [ some kind ↦ ending (returns kind result s) | none ↦ going (effect i s) ]))) ≤ length code
+    by-return n i b (some kind) h k = few-ends (length code) walk bound p n b h (returns kind result s) (few-more (k .byte) (return-few kind result s))
+    by-return n i b none h k = few-goes (length code) walk bound p n b h (effect i s) (k .flows)
 
     decoded-few :
         (d : Option Decoded) → decode code p ≡ d → p ≤ length code →
@@ -163,7 +160,7 @@ module _ (code : List ℕ) (p result : ℕ) (s : TypeState) (walk : ℕ → Type
     unfolding turnedBy outcome onto after onward
     decoded-few none e h = omega arith
     decoded-few (some d) e h =
-        by-return (d .size) (d .instruction) (eqb (p + d .size) (length code)) (isReturn (d .instruction)) (decode-within code p d e .0) (decoded-sparing code p result s d e)
+        by-return (d .size) (d .instruction) (eqb (p + d .size) (length code)) (returnKind (d .instruction)) (decode-within code p d e .0) (decoded-sparing code p s d e)
 
 module _ (code : List ℕ) (result : ℕ) where
   pub trace-few : (k p : ℕ) (s : TypeState) → p ≤ length code → p + length (trace code result k p s .notes) ≤ length code

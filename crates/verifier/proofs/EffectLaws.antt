@@ -1,6 +1,6 @@
 -- How types meet demands, by their numbers, and what instructions that read a local come to.
 use mathlib.Core.Path.{_≡_, refl, sym, ap, _∙_}
-use mathlib.Core.Bool.{Bool, true, false, _&&_}
+use mathlib.Core.Bool.{Bool, true, false, not, _&&_}
 use mathlib.Core.Option.{Option, none, some}
 use mathlib.Core.List.{List, [], _∷_, _++_}
 use mathlib.Core.Logic.{_≢_}
@@ -8,12 +8,14 @@ use Prim.Native.Nat.{ℕ, _%_, _<_}
 use native.Mathlib.Omega.{arith}
 use lib.ListN.{getElem?}
 use lib.Dec.{eqb, leb}
-use borrow.Author.Tests.{eq-eqb, ne-eqb, eqb-true, eqb-false, lt-leb, le-leb}
+use borrow.Author.Tests.{eq-eqb, ne-eqb, eqb-true, eqb-false, lt-leb, le-leb, not-true, not-false}
 use Rattle.definition.specs.Instructions.{pick}
 use Rattle.definition.specs.Lists.{stack}
-use Rattle.definition.specs.Maybe.{_>>=_}
-use Rattle.definition.specs.declared.Instruction.the-variants.{AconstNull, Sipush, Iload, Aload, Areturn}
-use Rattle.definition.specs.Verifier.{VerifierType, typeInt, typeNull, typeClass, Note, TypeState, Flow, flow, meetClass, meetInt, meets, asReference, pop, effect, returns}
+use Rattle.definition.specs.Maybe.{_>>=_, need}
+use Rattle.definition.specs.declared.Kind.{Kind}
+use Rattle.definition.specs.declared.Kind.the-variants.{IntKind, ReferenceKind}
+use Rattle.definition.specs.declared.Instruction.the-variants.{AconstNull, Sipush, Load}
+use Rattle.definition.specs.Verifier.{VerifierType, typeInt, typeNull, typeClass, Note, TypeState, Flow, flow, meetClass, meetInt, meets, meetKind, effect}
 use Rattle.verifier.specs.declared.types.Types.{Types}
 use Rattle.verifier.specs.declared.effects.Meeting.{Meeting}
 use Rattle.verifier.specs.declared.effects.Meeting.the-variants.{Unmet, Met, Noted}
@@ -73,59 +75,55 @@ module _ (t : ℕ) where
   unfolding meetInt
   int-not h = other (λ u. meetInt u ≡ none) refl refl h
 
-  pub reference-not : t ≡ 65536 → asReference (typeOf t) ≡ none
-  unfolding asReference
-  reference-not h = rw (type-int t h)
+  -- a kind is demanded
+  pub int-kind : meetKind IntKind (typeOf t) ≡ need (eqb t 65536)
+  unfolding meetKind need
+  int-kind = go (eqb t 65536) refl
+    where
+      go : (u : Bool) → eqb t 65536 ≡ u → meetKind IntKind (typeOf t) ≡ need u
+      go true e = rw (type-int t (eqb-true t 65536 e))
+      go false e = other (λ x. meetKind IntKind x ≡ none) refl refl (eqb-false t 65536 e)
 
-  pub reference-is : t ≢ 65536 → asReference (typeOf t) ≡ some (typeOf t)
-  unfolding asReference
-  reference-is h = other (λ u. asReference u ≡ some u) refl refl h
+  pub reference-kind : meetKind ReferenceKind (typeOf t) ≡ need (not (eqb t 65536))
+  unfolding meetKind need
+  reference-kind = go (eqb t 65536) refl
+    where
+      go : (u : Bool) → eqb t 65536 ≡ u → meetKind ReferenceKind (typeOf t) ≡ need (not u)
+      go true e = rw (type-int t (eqb-true t 65536 e))
+      go false e = other (λ x. meetKind ReferenceKind x ≡ some tt) refl refl (eqb-false t 65536 e)
 
--- Instructions that read a local, by the number of its type
+-- a test of the kind, passed or not
+module _ (kind : Kind) (t : ℕ) (r : Bool) (e : meetKind kind (typeOf t) ≡ need r) where
+  pub of-kind : not r ≡ false → meetKind kind (typeOf t) ≡ some tt
+  unfolding need
+  of-kind h = e ∙ ap need (not-false r h)
+
+  pub off-kind : not r ≡ true → meetKind kind (typeOf t) ≡ none
+  unfolding need
+  off-kind h = e ∙ ap need (not-true r h)
+
+-- An instruction that reads a local, by the number of its type
 
 join : {A B : Type 0} (m : Option (Option A)) (k : A → Option B) → (m >>= λ x. x >>= k) ≡ ((m >>= λ x. x) >>= k)
 unfolding _>>=_
 join none k = refl
 join (some x) k = refl
 
-module _ (types : Types) (i t : ℕ) (e : localOf t ≡ knownLocal (localsOf (types .locals)) i) where
+module _ (types : Types) (kind : Kind) (i t : ℕ) (e : localOf t ≡ knownLocal (localsOf (types .locals)) i) where
   abbrev s : TypeState
   s = typesOf types
 
-  iload-known : effect (Iload i) s ≡ (localOf t >>= λ u. meetInt u >>= λ _. flow (u ∷ s .operands) (s .locals) [])
+  load-known : effect (Load kind i) s ≡ (localOf t >>= λ u. meetKind kind u >>= λ _. flow (u ∷ s .operands) (s .locals) [])
   unfolding effect knownLocal typesOf
-  iload-known = join (getElem? (s .locals) i) _ ∙ ap (λ m. m >>= λ u. meetInt u >>= λ _. flow (u ∷ s .operands) (s .locals) []) (sym e)
+  load-known = join (getElem? (s .locals) i) _ ∙ ap (λ m. m >>= λ u. meetKind kind u >>= λ _. flow (u ∷ s .operands) (s .locals) []) (sym e)
 
-  aload-known : effect (Aload i) s ≡ (localOf t >>= λ u. asReference u >>= λ _. flow (u ∷ s .operands) (s .locals) [])
-  unfolding effect knownLocal typesOf
-  aload-known = join (getElem? (s .locals) i) _ ∙ ap (λ m. m >>= λ u. asReference u >>= λ _. flow (u ∷ s .operands) (s .locals) []) (sym e)
-
-  unset-none : {B : Type 0} (k : VerifierType → Option B) → t ≡ 65538 → (localOf t >>= k) ≡ none
+  pub load-unset : t ≡ 65538 → effect (Load kind i) s ≡ none
   unfolding localOf pick _>>=_
-  unset-none k h = rw h
+  load-unset h = load-known ∙ rw h
 
-  pub iload-int : t ≡ 65536 → effect (Iload i) s ≡ flow (typeInt ∷ s .operands) (s .locals) []
+  pub load-set : t ≢ 65538 → effect (Load kind i) s ≡ (meetKind kind (typeOf t) >>= λ _. flow (typeOf t ∷ s .operands) (s .locals) [])
   unfolding _>>=_
-  iload-int h = iload-known ∙ rw (local-set t (λ q. omega arith), int-is t h, type-int t h)
-
-  pub iload-not : t ≢ 65536 → effect (Iload i) s ≡ none
-  unfolding _>>=_
-  iload-not h = iload-known ∙ go (eqb t 65538) refl
-    where
-      go : (u : Bool) → eqb t 65538 ≡ u → (localOf t >>= λ u. meetInt u >>= λ _. flow (u ∷ s .operands) (s .locals) []) ≡ none
-      go true q = unset-none _ (eqb-true t 65538 q)
-      go false q = rw (local-set t (eqb-false t 65538 q), int-not t h)
-
-  pub aload-unset : t ≡ 65538 → effect (Aload i) s ≡ none
-  aload-unset h = aload-known ∙ unset-none _ h
-
-  pub aload-int : t ≡ 65536 → effect (Aload i) s ≡ none
-  unfolding _>>=_
-  aload-int h = aload-known ∙ rw (local-set t (λ q. omega arith), reference-not t h)
-
-  pub aload-reference : t ≢ 65538 → t ≢ 65536 → effect (Aload i) s ≡ flow (typeOf t ∷ s .operands) (s .locals) []
-  unfolding _>>=_
-  aload-reference h k = aload-known ∙ rw (local-set t h, reference-is t k)
+  load-set h = load-known ∙ rw (local-set t h)
 
 -- Inline names
 
@@ -156,22 +154,6 @@ pub pushed-alone :
     outcomeOf types (Pushed d t a Met) ≡ going (notesIn a >>= λ x. flow (typeOf t ∷ stack (operandAt (types .operands)) d) (localsOf (types .locals)) x)
 unfolding outcomeOf
 pushed-alone types d t a = ap going (alone a _)
-
--- A reference that is returned
-
-module _ (r : ℕ) (s : TypeState) where
-  pub by-result : (u : Bool) → eqb r 1 ≡ u → returns Areturn r s ≡ pick u none (pop (s .operands) >>= λ p. meetClass r (p .top))
-  unfolding returns pick
-  by-result true e = rw (returns, e)
-  by-result false e = rw (returns, e)
-
-  pub areturn-int : r ≡ 1 → returns Areturn r s ≡ none
-  unfolding pick
-  areturn-int h = by-result true (eq-eqb _ _ h)
-
-  pub areturn-class : r ≢ 1 → returns Areturn r s ≡ (pop (s .operands) >>= λ p. meetClass r (p .top))
-  unfolding pick
-  areturn-class h = by-result false (ne-eqb _ _ h)
 
 -- Constants
 

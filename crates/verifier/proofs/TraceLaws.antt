@@ -7,11 +7,12 @@ use Prim.Native.Nat.{ℕ, zero, suc, _+_, _-_, _<_, _≤_}
 use native.Mathlib.Omega.{arith}
 use lib.ListN.{length, length-append}
 use lib.Dec.{eqb}
+use Rattle.definition.specs.declared.Kind.{Kind}
 use Rattle.definition.specs.Instructions.{Decoded, decode, pick}
 use Rattle.definition.specs.Lists.{writeRows}
 use Rattle.definition.specs.Maybe.{_>>=_, need}
 use Rattle.definition.specs.Classes.{Class, Method}
-use Rattle.definition.specs.Verifier.{Note, TypeState, Flow, effect, returns, isReturn, verify, entryTypes, notesOfMethod}
+use Rattle.definition.specs.Verifier.{Note, TypeState, Flow, effect, returns, returnKind, verify, entryTypes, notesOfMethod}
 use Rattle.layout.specs.Cells.{rows-parts}
 use Rattle.verifier.specs.declared.turns.Turn.{Turn}
 use Rattle.verifier.specs.declared.turns.Step.the-variants.{Stop, End, Next}
@@ -51,11 +52,11 @@ module _ (rest : ℕ → TypeState → Option (List Note)) (walk : ℕ → TypeS
   says-flow q b (some f) = rw (same q (f .types)) (sym (granted-after (f .notes) (walk q (f .types))))
 
   says-kind :
-      (q : ℕ) (b u : Bool) (m : Option (List Note)) (n : Option Flow) →
-      (elim u [ true ↦ need b >>= λ _. m | false ↦ n >>= λ f. rest q (f .types) >>= λ ns. some (f .notes ++ ns) ])
-      ≡ through (settle q b (elim u [ true ↦ ending m | false ↦ going n ]))
-  says-kind q b true m n = says-last q b m
-  says-kind q b false m n = says-flow q b n
+      (q : ℕ) (b : Bool) (u : Option Kind) (m : Kind → Option (List Note)) (n : Option Flow) →
+      (elim u [ some kind ↦ need b >>= λ _. m kind | none ↦ n >>= λ f. rest q (f .types) >>= λ ns. some (f .notes ++ ns) ])
+      ≡ through (settle q b (elim u [ some kind ↦ ending (m kind) | none ↦ going n ]))
+  says-kind q b (some kind) m n = says-last q b (m kind)
+  says-kind q b none m n = says-flow q b n
 
   says-none : none ≡ through halted
   unfolding through after onward acceptedNotes granted
@@ -63,14 +64,14 @@ module _ (rest : ℕ → TypeState → Option (List Note)) (walk : ℕ → TypeS
 
   says-read :
       (code : List ℕ) (result p : ℕ) (s : TypeState) (d : Option Decoded) →
-      (d >>= λ i. elim (isReturn (i .instruction)) [
-        | true ↦ need (eqb (p + i .size) (length code)) >>= λ _. returns (i .instruction) result s
-        | false ↦ effect (i .instruction) s >>= λ f. rest (p + i .size) (f .types) >>= λ ns. some (f .notes ++ ns)
+      (d >>= λ i. elim (returnKind (i .instruction)) [
+        | some kind ↦ need (eqb (p + i .size) (length code)) >>= λ _. returns kind result s
+        | none ↦ effect (i .instruction) s >>= λ f. rest (p + i .size) (f .types) >>= λ ns. some (f .notes ++ ns)
       ]) ≡ through (turnedBy code result p s d)
   unfolding turnedBy outcome _>>=_
   says-read code result p s none = says-none
   says-read code result p s (some i) =
-      says-kind (p + i .size) (eqb (p + i .size) (length code)) (isReturn (i .instruction)) (returns (i .instruction) result s) (effect (i .instruction) s)
+      says-kind (p + i .size) (eqb (p + i .size) (length code)) (returnKind (i .instruction)) (λ kind. returns kind result s) (effect (i .instruction) s)
 
 module _ (code : List ℕ) (result : ℕ) where
   pub says : (k p : ℕ) (s : TypeState) → verify code result k p s ≡ acceptedNotes (trace code result k p s)
@@ -132,7 +133,7 @@ module _
 -- For callers: what the verifier says of a method, by the answer and the table
 
 pub method-says : (k : Class) (m : Method) → notesOfMethod k m ≡ acceptedNotes (methodTrace (k .name) (m .argument) (m .result) (m .code))
-unfolding methodTrace entryOf
+unfolding methodTrace entryOf notesOfMethod
 method-says k m = says (m .code) (m .result) (length (m .code)) 0 (entryTypes k m)
 
 module _ (from : ℕ) (w : Trace) (t u : List ℕ) where

@@ -7,7 +7,7 @@ use lib.ListN.{set}
 use Rattle.definition.specs.Lists.{stack}
 use Rattle.definition.specs.Maybe.{_>>=_}
 use Rattle.definition.specs.declared.Instruction.{Instruction}
-use Rattle.definition.specs.Verifier.{Note, TypeState, Flow, flow, effect, returns, isReturn}
+use Rattle.definition.specs.Verifier.{Note, TypeState, Flow, flow, effect, returns, returnKind}
 use Rattle.verifier.specs.declared.types.Types.{Types}
 use Rattle.verifier.specs.declared.effects.Meeting.{Meeting}
 use Rattle.verifier.specs.declared.effects.Meeting.the-variants.{Unmet, Met, Noted}
@@ -37,7 +37,7 @@ ending (some ns) = ends ns
 
 -- an instruction, where the result type is r and the types are s
 unfoldable pub outcome : Instruction → ℕ → TypeState → Outcome
-outcome i r s = elim (isReturn i) [ true ↦ ending (returns i r s) | false ↦ going (effect i s) ]
+outcome i r s = elim (returnKind i) [ some kind ↦ ending (returns kind r s) | none ↦ going (effect i s) ]
 
 -- the state after the lowest d operands are kept
 abbrev kept : Types → ℕ → List Note → Option Flow

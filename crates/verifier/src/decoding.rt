@@ -7,7 +7,9 @@ ghost use Rattle.definition.specs.Instructions.{opcodeOf, inlineLength, extend,
 ghost use Rattle.verifier.specs.Decoding.{readingOf};
 use cells::short_at;
 use definition::Instruction;
+use definition::Kind;
 use definition::Opcode;
+use definition::Operator;
 
 // What stands at a point of the code: an instruction with its size in bytes, or nothing that can be read.
 pub enum Reading {
@@ -22,20 +24,20 @@ pub fn opcode_of(b: u8) -> Opcode
     match b {
         0x01 => Opcode::OpAconstNull,
         0x11 => Opcode::OpSipush,
-        0x15 => Opcode::OpIload,
-        0x19 => Opcode::OpAload,
-        0x36 => Opcode::OpIstore,
-        0x3A => Opcode::OpAstore,
+        0x15 => Opcode::OpLoad(Kind::IntKind),
+        0x19 => Opcode::OpLoad(Kind::ReferenceKind),
+        0x36 => Opcode::OpStore(Kind::IntKind),
+        0x3A => Opcode::OpStore(Kind::ReferenceKind),
         0x57 => Opcode::OpPop,
         0x59 => Opcode::OpDup,
-        0x60 => Opcode::OpIadd,
-        0x64 => Opcode::OpIsub,
+        0x60 => Opcode::OpArithmetic(Operator::Add),
+        0x64 => Opcode::OpArithmetic(Operator::Subtract),
         0xB4 => Opcode::OpGetfield,
         0xB5 => Opcode::OpPutfield,
         0xB6 => Opcode::OpInvokevirtual,
         0xBB => Opcode::OpNew,
-        0xAC => Opcode::OpIreturn,
-        0xB0 => Opcode::OpAreturn,
+        0xAC => Opcode::OpReturn(Kind::IntKind),
+        0xB0 => Opcode::OpReturn(Kind::ReferenceKind),
         _ => Opcode::OpUnknown,
     }
 }
@@ -47,20 +49,16 @@ pub fn inline_length(o: Opcode) -> usize
     match o {
         Opcode::OpAconstNull => 0,
         Opcode::OpSipush => 2,
-        Opcode::OpIload => 1,
-        Opcode::OpAload => 1,
-        Opcode::OpIstore => 1,
-        Opcode::OpAstore => 1,
+        Opcode::OpLoad(_) => 1,
+        Opcode::OpStore(_) => 1,
         Opcode::OpPop => 0,
         Opcode::OpDup => 0,
-        Opcode::OpIadd => 0,
-        Opcode::OpIsub => 0,
+        Opcode::OpArithmetic(_) => 0,
         Opcode::OpGetfield => 6,
         Opcode::OpPutfield => 6,
         Opcode::OpInvokevirtual => 8,
         Opcode::OpNew => 2,
-        Opcode::OpIreturn => 0,
-        Opcode::OpAreturn => 0,
+        Opcode::OpReturn(_) => 0,
         Opcode::OpUnknown => 0,
     }
 }
@@ -120,20 +118,16 @@ fn instruction_of(code: &[u8], i: usize, o: Opcode, n: usize) -> Reading
     match o {
         Opcode::OpAconstNull => Reading::At(Instruction::AconstNull, n),
         Opcode::OpSipush => Reading::At(Instruction::Sipush(extended(short_at(code, i))), n),
-        Opcode::OpIload => Reading::At(Instruction::Iload(cells::at8(code, i)), n),
-        Opcode::OpAload => Reading::At(Instruction::Aload(cells::at8(code, i)), n),
-        Opcode::OpIstore => Reading::At(Instruction::Istore(cells::at8(code, i)), n),
-        Opcode::OpAstore => Reading::At(Instruction::Astore(cells::at8(code, i)), n),
+        Opcode::OpLoad(k) => Reading::At(Instruction::Load(k, cells::at8(code, i)), n),
+        Opcode::OpStore(k) => Reading::At(Instruction::Store(k, cells::at8(code, i)), n),
         Opcode::OpPop => Reading::At(Instruction::Pop, n),
         Opcode::OpDup => Reading::At(Instruction::Dup, n),
-        Opcode::OpIadd => Reading::At(Instruction::Iadd, n),
-        Opcode::OpIsub => Reading::At(Instruction::Isub, n),
+        Opcode::OpArithmetic(a) => Reading::At(Instruction::Arithmetic(a), n),
         Opcode::OpGetfield => Reading::At(getfield_at(code, i), n),
         Opcode::OpPutfield => Reading::At(putfield_at(code, i), n),
         Opcode::OpInvokevirtual => Reading::At(invokevirtual_at(code, i), n),
         Opcode::OpNew => Reading::At(Instruction::New(short_at(code, i)), n),
-        Opcode::OpIreturn => Reading::At(Instruction::Ireturn, n),
-        Opcode::OpAreturn => Reading::At(Instruction::Areturn, n),
+        Opcode::OpReturn(k) => Reading::At(Instruction::Return(k), n),
         Opcode::OpUnknown => Reading::Unreadable,
     }
 }

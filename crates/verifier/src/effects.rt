@@ -9,6 +9,8 @@ use crate::types::local;
 use crate::types::pop;
 use crate::types::type_of_name;
 use definition::Instruction;
+use definition::Kind;
+use definition::Operator;
 use definition::numbers::NAME_OBJECT;
 use definition::numbers::SHORT_RANGE;
 ghost use mathlib.Core.Bool.{_&&_};
@@ -16,7 +18,8 @@ ghost use mathlib.Core.Option.{some};
 ghost use mathlib.Core.Path.{_≡_};
 ghost use lib.Dec.{leb};
 ghost use Rattle.definition.specs.Numbers.{nameObject};
-ghost use Rattle.definition.specs.Verifier.{meetClass, meetInt, meets, effect, returns};
+ghost use Rattle.definition.specs.Maybe.{need};
+ghost use Rattle.definition.specs.Verifier.{meetClass, meetInt, meets, meetKind, effect, returns};
 ghost use Rattle.verifier.specs.Types.{typeOf, localOf, typesOf};
 ghost use Rattle.verifier.specs.Effects.{notesIn, going, ending, outcome, outcomeOf};
 
@@ -77,7 +80,17 @@ fn meet_name(t: u32, b: u16) -> Meeting
     }
 }
 
-// A reference's type as a local holds it.
+// Whether a type is of the kind: int, or null or a class name.
+fn of_kind(kind: Kind, t: u32) -> bool
+    ensures { λ r. ⌜ meetKind kind (typeOf t) ≡ need r ⌝ }
+{
+    match kind {
+        Kind::IntKind => t == INT,
+        Kind::ReferenceKind => t != INT,
+    }
+}
+
+// A type as a local holds it.
 fn stored(t: u32) -> u32
     ensures { λ r. ⌜ localOf r ≡ some (typeOf t) ⌝ }
 {
@@ -106,52 +119,26 @@ fn push(types: Types, t: u32) -> Effect
     Effect::Pushed(types.depth, t, Meeting::Met, Meeting::Met)
 }
 
-fn iload(types: Types, i: u8) -> Effect
-    ensures { λ r. ⌜ outcomeOf types r ≡ going (effect (Instruction.Iload i) (typesOf types)) ⌝ }
-{
-    let t = local(types, i);
-    if t != INT {
-        return Effect::Rejected;
-    }
-    push(types, INT)
-}
-
-fn aload(types: Types, i: u8) -> Effect
-    ensures { λ r. ⌜ outcomeOf types r ≡ going (effect (Instruction.Aload i) (typesOf types)) ⌝ }
+fn load(types: Types, kind: Kind, i: u8) -> Effect
+    ensures { λ r. ⌜ outcomeOf types r ≡ going (effect (Instruction.Load kind i) (typesOf types)) ⌝ }
 {
     let t = local(types, i);
     if t == UNSET {
         return Effect::Rejected;
     }
-    if t == INT {
+    if !of_kind(kind, t) {
         return Effect::Rejected;
     }
     push(types, t)
 }
 
-fn istore(types: Types, i: u8) -> Effect
-    ensures { λ r. ⌜ outcomeOf types r ≡ going (effect (Instruction.Istore i) (typesOf types)) ⌝ }
+fn store(types: Types, kind: Kind, i: u8) -> Effect
+    ensures { λ r. ⌜ outcomeOf types r ≡ going (effect (Instruction.Store kind i) (typesOf types)) ⌝ }
 {
     let Popped::Top(t, d) = pop(types, types.depth) else {
         return Effect::Rejected;
     };
-    if t != INT {
-        return Effect::Rejected;
-    }
-    let place = cells::wide8(i);
-    if LOCALS <= place {
-        return Effect::Rejected;
-    }
-    Effect::Stored(d, place, INT)
-}
-
-fn astore(types: Types, i: u8) -> Effect
-    ensures { λ r. ⌜ outcomeOf types r ≡ going (effect (Instruction.Astore i) (typesOf types)) ⌝ }
-{
-    let Popped::Top(t, d) = pop(types, types.depth) else {
-        return Effect::Rejected;
-    };
-    if t == INT {
+    if !of_kind(kind, t) {
         return Effect::Rejected;
     }
     let place = cells::wide8(i);
@@ -179,9 +166,9 @@ fn dup(types: Types) -> Effect
     push(types, t)
 }
 
-// A sum or a difference of two ints.
+// Two ints go and one comes, whatever the operator.
 fn arithmetic(types: Types) -> Effect
-    ensures { λ r. ⌜ outcomeOf types r ≡ going (effect Instruction.Iadd (typesOf types)) ⌝ }
+    ensures { λ r. ⌜ ((o : Operator) → outcomeOf types r ≡ going (effect (Instruction.Arithmetic o) (typesOf types))) ⌝ }
 {
     let Popped::Top(x, d) = pop(types, types.depth) else {
         return Effect::Rejected;
@@ -252,28 +239,17 @@ fn new(types: Types, c: u16) -> Effect
     push(types, cells::from16(c))
 }
 
-fn ireturn(types: Types, result: u16) -> Effect
-    ensures { λ r. ⌜ outcomeOf types r ≡ ending (returns Instruction.Ireturn result (typesOf types)) ⌝ }
+// A value of the kind given back, where the result type is of the kind too.
+fn give_back(types: Types, kind: Kind, result: u16) -> Effect
+    ensures { λ r. ⌜ outcomeOf types r ≡ ending (returns kind result (typesOf types)) ⌝ }
 {
-    if result != 1 {
+    if !of_kind(kind, type_of_name(result)) {
         return Effect::Rejected;
     }
     let Popped::Top(t, _) = pop(types, types.depth) else {
         return Effect::Rejected;
     };
-    Effect::Ended(meet_int(t))
-}
-
-fn areturn(types: Types, result: u16) -> Effect
-    ensures { λ r. ⌜ outcomeOf types r ≡ ending (returns Instruction.Areturn result (typesOf types)) ⌝ }
-{
-    if result == 1 {
-        return Effect::Rejected;
-    }
-    let Popped::Top(t, _) = pop(types, types.depth) else {
-        return Effect::Rejected;
-    };
-    Effect::Ended(meet_class(result, t))
+    Effect::Ended(meet_name(t, result))
 }
 
 // What an instruction does in a method with that result type.
@@ -283,19 +259,15 @@ pub(crate) fn effect_of(types: Types, i: Instruction, result: u16) -> Effect
     match i {
         Instruction::AconstNull => push(types, NULL),
         Instruction::Sipush(_) => push(types, INT),
-        Instruction::Iload(l) => iload(types, l),
-        Instruction::Aload(l) => aload(types, l),
-        Instruction::Istore(l) => istore(types, l),
-        Instruction::Astore(l) => astore(types, l),
+        Instruction::Load(k, l) => load(types, k, l),
+        Instruction::Store(k, l) => store(types, k, l),
         Instruction::Pop => drop(types),
         Instruction::Dup => dup(types),
-        Instruction::Iadd => arithmetic(types),
-        Instruction::Isub => arithmetic(types),
+        Instruction::Arithmetic(_) => arithmetic(types),
         Instruction::Getfield(c, f, t) => getfield(types, c, f, t),
         Instruction::Putfield(c, f, t) => putfield(types, c, f, t),
         Instruction::Invokevirtual(c, m, t, r) => invokevirtual(types, c, m, t, r),
         Instruction::New(c) => new(types, c),
-        Instruction::Ireturn => ireturn(types, result),
-        Instruction::Areturn => areturn(types, result),
+        Instruction::Return(k) => give_back(types, k, result),
     }
 }

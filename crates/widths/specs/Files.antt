@@ -9,9 +9,9 @@ use lib.ListN.{length, take, drop, getD, getElem?, length-take}
 use lib.Dec.{leb, ltb}
 use borrow.Author.Tests.{leb-true}
 use Rattle.definition.specs.declared.Opcode.{Opcode}
-use Rattle.definition.specs.declared.Opcode.the-variants.{OpAconstNull, OpSipush, OpIload, OpAload, OpIstore, OpAstore, OpPop, OpDup, OpIadd, OpIsub, OpGetfield, OpPutfield, OpInvokevirtual, OpNew, OpIreturn, OpAreturn, OpUnknown}
+use Rattle.definition.specs.declared.Opcode.the-variants.{OpAconstNull, OpSipush, OpLoad, OpStore, OpPop, OpDup, OpArithmetic, OpGetfield, OpPutfield, OpInvokevirtual, OpNew, OpReturn, OpUnknown}
 use Rattle.definition.specs.declared.Instruction.{Instruction}
-use Rattle.definition.specs.declared.Instruction.the-variants.{AconstNull, Sipush, Iload, Aload, Istore, Astore, Pop, Dup, Iadd, Isub, Getfield, Putfield, Invokevirtual, New, Ireturn, Areturn}
+use Rattle.definition.specs.declared.Instruction.the-variants.{AconstNull, Sipush, Load, Store, Pop, Dup, Arithmetic, Getfield, Putfield, Invokevirtual, New, Return}
 use Rattle.definition.specs.Maybe.{_>>=_, need}
 use Rattle.definition.specs.Classes.{Base, Class, Method, methodsOf}
 use Rattle.definition.specs.File.{File, Got, byte, short, name, count, fieldsIn, methodsIn, readFile, classOf, objectClass}
@@ -194,20 +194,16 @@ methods-of-fit b h c = go (getElem? (b .classes) c) refl
 abbrev pub InstructionFits : Instruction → Type 0
 InstructionFits AconstNull = Unit {0}
 InstructionFits (Sipush n) = n < 4294967296
-InstructionFits (Iload i) = Unit {0}
-InstructionFits (Aload i) = Unit {0}
-InstructionFits (Istore i) = Unit {0}
-InstructionFits (Astore i) = Unit {0}
+InstructionFits (Load kind i) = Unit {0}
+InstructionFits (Store kind i) = Unit {0}
 InstructionFits Pop = Unit {0}
 InstructionFits Dup = Unit {0}
-InstructionFits Iadd = Unit {0}
-InstructionFits Isub = Unit {0}
+InstructionFits (Arithmetic o) = Unit {0}
 InstructionFits (Getfield c f t) = (c < 65536) × (t < 65536)
 InstructionFits (Putfield c f t) = (c < 65536) × (t < 65536)
 InstructionFits (Invokevirtual c m t r) = (c < 65536) × (t < 65536) × (r < 65536)
 InstructionFits (New c) = c < 65536
-InstructionFits Ireturn = Unit {0}
-InstructionFits Areturn = Unit {0}
+InstructionFits (Return kind) = Unit {0}
 
 module _ (code : List ℕ) (h : EachBelow 256 code) where
   short-at : (i : ℕ) → shortAt code i < 65536
@@ -226,20 +222,16 @@ module _ (code : List ℕ) (h : EachBelow 256 code) where
   unfolding instructionOf
   instruction-fits i OpAconstNull = tt
   instruction-fits i OpSipush = extended (shortAt code i) (short-at i)
-  instruction-fits i OpIload = tt
-  instruction-fits i OpAload = tt
-  instruction-fits i OpIstore = tt
-  instruction-fits i OpAstore = tt
+  instruction-fits i (OpLoad kind) = tt
+  instruction-fits i (OpStore kind) = tt
   instruction-fits i OpPop = tt
   instruction-fits i OpDup = tt
-  instruction-fits i OpIadd = tt
-  instruction-fits i OpIsub = tt
+  instruction-fits i (OpArithmetic o) = tt
   instruction-fits i OpGetfield = (short-at i, short-at (i + 4))
   instruction-fits i OpPutfield = (short-at i, short-at (i + 4))
   instruction-fits i OpInvokevirtual = (short-at i, short-at (i + 4), short-at (i + 6))
   instruction-fits i OpNew = short-at i
-  instruction-fits i OpIreturn = tt
-  instruction-fits i OpAreturn = tt
+  instruction-fits i (OpReturn kind) = tt
   instruction-fits i OpUnknown = tt
 
   -- what is decoded at point p ends within the code

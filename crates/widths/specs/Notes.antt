@@ -1,17 +1,19 @@
 -- The verifier's notes are between names of 16 bits: every type that it gives comes from the class's name, a method's types or an inline name.
+use mathlib.Core.Path.{_≡_, refl}
 use mathlib.Core.Bool.{Bool, true, false}
-use mathlib.Core.Option.{Option, none, some}
+use mathlib.Core.Option.{Option, none, some, Option·none-ne-some, Option·some-injective}
 use mathlib.Core.List.{List, [], _∷_, _++_}
 use Prim.Native.Nat.{ℕ, zero, suc, _+_, _<_}
 use lib.ListN.{length, set}
 use lib.Dec.{eqb}
+use Rattle.definition.specs.declared.Kind.{Kind}
 use Rattle.definition.specs.declared.Instruction.{Instruction}
-use Rattle.definition.specs.declared.Instruction.the-variants.{AconstNull, Sipush, Iload, Aload, Istore, Astore, Pop, Dup, Iadd, Isub, Getfield, Putfield, Invokevirtual, New, Ireturn, Areturn}
+use Rattle.definition.specs.declared.Instruction.the-variants.{AconstNull, Sipush, Load, Store, Pop, Dup, Arithmetic, Getfield, Putfield, Invokevirtual, New, Return}
 use Rattle.definition.specs.Maybe.{_>>=_, need}
 use Rattle.definition.specs.Classes.{Class, Method}
-use Rattle.definition.specs.Instructions.{Decoded}
-use Rattle.definition.specs.Verifier.{VerifierType, typeInt, typeNull, typeClass, Note, TypeState, Flow, typeOfName, entryTypes, meetClass, meetInt, meets, pop, flow, effect, returns, isReturn, verify, notesOf}
-use Rattle.definition.specs.Widths.{EachBelow}
+use Rattle.definition.specs.Instructions.{decode}
+use Rattle.definition.specs.Verifier.{VerifierType, typeInt, typeNull, typeClass, Note, TypeState, Flow, typeOfName, entryTypes, meetClass, meetInt, meets, pop, flow, effect, returns, notesOfMethod, notesOf}
+use Rattle.laws.specs.Walk.{notes-have}
 use Rattle.layout.specs.Tests.{All, all-both}
 use Rattle.unbroken.specs.Steps.{all-set}
 use Rattle.widths.specs.Files.{Read, read-on, read-past, read-need, read-nth, InstructionFits, DecodedFits, decode-fits, MethodFits}
@@ -85,21 +87,14 @@ module _ (s : TypeState) (h : StateFits s) where
   unfolding effect
   effect-fits AconstNull f = flows (typeNull ∷ s .operands) (s .locals) [] (tt, h .operands) (h .locals) tt
   effect-fits (Sipush n) f = flows (typeInt ∷ s .operands) (s .locals) [] (tt, h .operands) (h .locals) tt
-  effect-fits (Iload i) f =
+  effect-fits (Load kind i) f =
       read-on LocalFits FlowFits _ _ (read-nth LocalFits (s .locals) i (h .locals)) (λ x hx. read-on TypeFits FlowFits x _ hx (λ t ht. read-past FlowFits _ _ (λ _.
       flows (t ∷ s .operands) (s .locals) [] (ht, h .operands) (h .locals) tt)))
-  effect-fits (Aload i) f =
-      read-on LocalFits FlowFits _ _ (read-nth LocalFits (s .locals) i (h .locals)) (λ x hx. read-on TypeFits FlowFits x _ hx (λ t ht. read-past FlowFits _ _ (λ _.
-      flows (t ∷ s .operands) (s .locals) [] (ht, h .operands) (h .locals) tt)))
-  effect-fits (Istore i) f = read-on Popped FlowFits _ _ (popped (s .operands) (h .operands)) (λ p hp. read-past FlowFits _ _ (λ _. read-past FlowFits _ _ (λ _.
-      flows (p .more) (set (s .locals) i (some (p .top))) [] (hp .1) (all-set LocalFits (s .locals) (h .locals) i (some (p .top)) (hp .0)) tt)))
-  effect-fits (Astore i) f = read-on Popped FlowFits _ _ (popped (s .operands) (h .operands)) (λ p hp. read-past FlowFits _ _ (λ _. read-past FlowFits _ _ (λ _.
+  effect-fits (Store kind i) f = read-on Popped FlowFits _ _ (popped (s .operands) (h .operands)) (λ p hp. read-past FlowFits _ _ (λ _. read-past FlowFits _ _ (λ _.
       flows (p .more) (set (s .locals) i (some (p .top))) [] (hp .1) (all-set LocalFits (s .locals) (h .locals) i (some (p .top)) (hp .0)) tt)))
   effect-fits Pop f = read-on Popped FlowFits _ _ (popped (s .operands) (h .operands)) (λ p hp. flows (p .more) (s .locals) [] (hp .1) (h .locals) tt)
   effect-fits Dup f = read-on Popped FlowFits _ _ (popped (s .operands) (h .operands)) (λ p hp. flows (p .top ∷ p .top ∷ p .more) (s .locals) [] (hp .0, hp) (h .locals) tt)
-  effect-fits Iadd f = read-on Popped FlowFits _ _ (popped (s .operands) (h .operands)) (λ p hp. read-on Popped FlowFits _ _ (popped (p .more) (hp .1)) (λ q hq.
-      read-past FlowFits _ _ (λ _. read-past FlowFits _ _ (λ _. flows (typeInt ∷ q .more) (s .locals) [] (tt, hq .1) (h .locals) tt))))
-  effect-fits Isub f = read-on Popped FlowFits _ _ (popped (s .operands) (h .operands)) (λ p hp. read-on Popped FlowFits _ _ (popped (p .more) (hp .1)) (λ q hq.
+  effect-fits (Arithmetic o) f = read-on Popped FlowFits _ _ (popped (s .operands) (h .operands)) (λ p hp. read-on Popped FlowFits _ _ (popped (p .more) (hp .1)) (λ q hq.
       read-past FlowFits _ _ (λ _. read-past FlowFits _ _ (λ _. flows (typeInt ∷ q .more) (s .locals) [] (tt, hq .1) (h .locals) tt))))
   effect-fits (Getfield c n t) f = read-need FlowFits _ _ (λ _. read-on Popped FlowFits _ _ (popped (s .operands) (h .operands)) (λ p hp.
       read-on (All NoteFits) FlowFits _ _ (class-met c (p .top) (f .0) (hp .0)) (λ a ha. flows (typeOfName t ∷ p .more) (s .locals) a (name-type t (f .1), hp .1) (h .locals) ha)))
@@ -112,53 +107,36 @@ module _ (s : TypeState) (h : StateFits s) where
       read-on (All NoteFits) FlowFits _ _ (class-met c (q .top) (f .0) (hq .0)) (λ a ha. read-on (All NoteFits) FlowFits _ _ (met (p .top) t (f .1) (hp .0)) (λ b hb.
       flows (typeOfName r ∷ q .more) (s .locals) (a ++ b) (name-type r (f .2), hq .1) (h .locals) (all-both NoteFits a b ha hb))))))
   effect-fits (New c) f = read-need FlowFits _ _ (λ _. flows (typeClass c ∷ s .operands) (s .locals) [] (f, h .operands) (h .locals) tt)
-  effect-fits Ireturn f = tt
-  effect-fits Areturn f = tt
+  effect-fits (Return kind) f = tt
 
-  returns-fit : (i : Instruction) (r : ℕ) → r < 65536 → Read (returns i r s) (All NoteFits)
+  returns-fit : (kind : Kind) (r : ℕ) → r < 65536 → Read (returns kind r s) (All NoteFits)
   unfolding returns
-  returns-fit AconstNull r l = tt
-  returns-fit (Sipush n) r l = tt
-  returns-fit (Iload i) r l = tt
-  returns-fit (Aload i) r l = tt
-  returns-fit (Istore i) r l = tt
-  returns-fit (Astore i) r l = tt
-  returns-fit Pop r l = tt
-  returns-fit Dup r l = tt
-  returns-fit Iadd r l = tt
-  returns-fit Isub r l = tt
-  returns-fit (Getfield c f t) r l = tt
-  returns-fit (Putfield c f t) r l = tt
-  returns-fit (Invokevirtual c m t q) r l = tt
-  returns-fit (New c) r l = tt
-  returns-fit Ireturn r l = read-need (All NoteFits) _ _ (λ _. read-on Popped (All NoteFits) _ _ (popped (s .operands) (h .operands)) (λ p hp. int-met (p .top)))
-  returns-fit Areturn r l = go (eqb r 1)
-    where
-      go : (b : Bool) → Read (elim b as (λ _. Option (List Note)) [ true ↦ none | false ↦ pop (s .operands) >>= λ p. meetClass r (p .top) ]) (All NoteFits)
-      go true = tt
-      go false = read-on Popped (All NoteFits) _ _ (popped (s .operands) (h .operands)) (λ p hp. class-met r (p .top) l (hp .0))
-
-module _ (code : List ℕ) (bytes : EachBelow 256 code) (result : ℕ) (small : result < 65536) where
-  verify-fits : (k p : ℕ) (s : TypeState) → StateFits s → Read (verify code result k p s) (All NoteFits)
-  unfolding verify
-  verify-fits zero p s h = tt
-  verify-fits (suc k) p s h = read-on (DecodedFits code bytes p) (All NoteFits) _ _ (decode-fits code bytes p) (λ i x. go i x (isReturn (i .instruction)) (λ q s. verify-fits k q s))
-    where
-      go : (i : Decoded) → DecodedFits code bytes p i → (b : Bool) → ((q : ℕ) (s : TypeState) → StateFits s → Read (verify code result k q s) (All NoteFits))
-          → Read (elim b as (λ _. Option (List Note)) [
-            | true ↦ need (eqb (p + i .size) (length code)) >>= λ _. returns (i .instruction) result s
-            | false ↦ effect (i .instruction) s >>= λ f. verify code result k (p + i .size) (f .types) >>= λ ns. some (f .notes ++ ns)
-          ]) (All NoteFits)
-      go i x true ih = read-need (All NoteFits) _ _ (λ _. returns-fit s h (i .instruction) result small)
-      go i x false ih = read-on FlowFits (All NoteFits) _ _ (effect-fits s h (i .instruction) (x .instruction)) (λ f hf.
-          read-on (All NoteFits) (All NoteFits) _ _ (ih (p + i .size) (f .types) (hf .types)) (λ ns hn. all-both NoteFits (f .notes) ns (hf .notes) hn))
+  returns-fit kind r l =
+      read-past (All NoteFits) _ _ (λ _. read-on Popped (All NoteFits) _ _ (popped (s .operands) (h .operands)) (λ p hp. met (p .top) r l (hp .0)))
 
 entry-fits : (k : Class) (m : Method) → k .name < 65536 → MethodFits m → StateFits (entryTypes k m)
 entry-fits k m l h = record { operands = tt; locals = (l, (name-type (m .argument) (h .argument), (tt, (tt, (tt, (tt, (tt, (tt, tt)))))))) }
+
+-- a reading that has a value
+read-some : {A : Type 0} (P : A → Type 0) (o : Option A) (a : A) → Read o P → o ≡ some a → P a
+read-some P none a h e = absurd (Option·none-ne-some a e)
+read-some P (some b) a h e = rw (Option·some-injective b a e) at h
+
+some-read : {A : Type 0} (P : A → Type 0) (o : Option A) → ((a : A) → o ≡ some a → P a) → Read o P
+some-read P none h = tt
+some-read P (some a) h = h a refl
+
+method-notes-fit : (k : Class) (m : Method) → k .name < 65536 → MethodFits m → Read (notesOfMethod k m) (All NoteFits)
+method-notes-fit k m l h = some-read (All NoteFits) (notesOfMethod k m) (λ ns v. notes-have k m ns v StateFits (All NoteFits) (λ a b x y. all-both NoteFits a b x y)
+    (λ p i s f r hs e.
+    let x = read-some (DecodedFits (m .code) (h .code) p) (decode (m .code) p) i (decode-fits (m .code) (h .code) p) r in
+    let y = read-some FlowFits (effect (i .instruction) s) f (effect-fits s hs (i .instruction) (x .instruction)) e in
+    (y .types, y .notes))
+    (λ kind s a hs e. read-some (All NoteFits) (returns kind (m .result) s) a (returns-fit s hs kind (m .result) (h .result)) e) (entry-fits k m l h))
 
 pub notes-fit : (k : Class) → k .name < 65536 → (ms : List Method) → All MethodFits ms → Read (notesOf k ms) (All NoteFits)
 unfolding notesOf
 notes-fit k l [] h = tt
 notes-fit k l (m ∷ ms) h =
-    read-on (All NoteFits) (All NoteFits) _ _ (verify-fits (m .code) (h .0 .code) (m .result) (h .0 .result) (length (m .code)) 0 (entryTypes k m) (entry-fits k m l (h .0))) (λ ns hn.
+    read-on (All NoteFits) (All NoteFits) _ _ (method-notes-fit k m l (h .0)) (λ ns hn.
     read-on (All NoteFits) (All NoteFits) _ _ (notes-fit k l ms (h .1)) (λ rs hr. all-both NoteFits ns rs hn hr))

@@ -7,8 +7,10 @@ use native.Mathlib.Nat.{mod-lt}
 use native.Mathlib.Omega.{arith}
 use lib.ListN.{length, getElem?, set}
 use lib.Dec.{eqb}
+use Rattle.definition.specs.declared.Operator.{Operator}
+use Rattle.definition.specs.declared.Operator.the-variants.{Add, Subtract}
 use Rattle.definition.specs.declared.Instruction.{Instruction}
-use Rattle.definition.specs.declared.Instruction.the-variants.{AconstNull, Sipush, Iload, Aload, Istore, Astore, Pop, Dup, Iadd, Isub, Getfield, Putfield, Invokevirtual, New, Ireturn, Areturn}
+use Rattle.definition.specs.declared.Instruction.the-variants.{AconstNull, Sipush, Load, Store, Pop, Dup, Arithmetic, Getfield, Putfield, Invokevirtual, New, Return}
 use Rattle.definition.specs.declared.Refusal.{Refusal}
 use Rattle.definition.specs.declared.Refusal.the-variants.{Word}
 use Rattle.definition.specs.Answers.{Result, refused, ok, _>>=_, take?}
@@ -17,7 +19,7 @@ use Rattle.definition.specs.Classes.{Base, Class, slots, loaderOf, methodsOf, a
 use Rattle.definition.specs.Constraints.{Tie, World, tieIs, newTie, post}
 use Rattle.definition.specs.Instructions.{Decoded}
 use Rattle.definition.specs.Verifier.{pop}
-use Rattle.definition.specs.Machine.{Value, emptyValue, intValue, nullValue, objectValue, unlistedValue, Object, Frame, existing, initialValue, newObject, entryFrame, pop!, object!, Progress, Now, now, past, give, execute, step}
+use Rattle.definition.specs.Machine.{Value, emptyValue, intValue, nullValue, objectValue, unlistedValue, Object, Frame, existing, initialValue, newObject, entryFrame, pop!, compute, object!, Progress, Now, now, past, give, execute, step}
 use Rattle.laws.specs.Wrapped.{Ok, then}
 use Rattle.layout.specs.Tests.{All, all-both}
 use Rattle.unbroken.specs.Steps.{all-set}
@@ -46,6 +48,13 @@ pop-fits : (vs : List Value) → All IntFits vs → Ok (pop! vs) Popped
 unfolding pop! pop take?
 pop-fits [] h = tt
 pop-fits (v ∷ vs) h = (h .0, h .1)
+
+-- Operators
+
+compute-fits : (o : Operator) (a b : ℕ) → Ok (compute o a b) (λ n. n < 4294967296)
+unfolding compute
+compute-fits Add a b = mod-lt (a + b) (omega arith)
+compute-fits Subtract a b = mod-lt (a + 4294967296 - b) (omega arith)
 
 -- Objects
 
@@ -169,17 +178,13 @@ module _ (w : World) (os : List Object) (classes : All ClassFits (w .base .class
     unfolding execute
     execute-fits AconstNull x = then Q _ _ (λ _ _. pushed nullValue tt)
     execute-fits (Sipush n) x = then Q _ _ (λ _ _. pushed (intValue n) x)
-    execute-fits (Iload j) x = then Q _ _ (λ _ _. then-on IntFits Q _ _ (local j) (λ v h. then Q _ _ (λ _ _. pushed v h)))
-    execute-fits (Aload j) x = then Q _ _ (λ _ _. then-on IntFits Q _ _ (local j) (λ v h. then Q _ _ (λ _ _. pushed v h)))
-    execute-fits (Istore j) x = then-on Popped Q _ _ (pop-fits (f .operands) (top .operands)) (λ p h. then Q _ _ (λ _ _. then Q _ _ (λ _ _. stored j p h)))
-    execute-fits (Astore j) x = then-on Popped Q _ _ (pop-fits (f .operands) (top .operands)) (λ p h. then Q _ _ (λ _ _. then Q _ _ (λ _ _. stored j p h)))
+    execute-fits (Load kind j) x = then Q _ _ (λ _ _. then-on IntFits Q _ _ (local j) (λ v h. then Q _ _ (λ _ _. pushed v h)))
+    execute-fits (Store kind j) x = then-on Popped Q _ _ (pop-fits (f .operands) (top .operands)) (λ p h. then Q _ _ (λ _ _. then Q _ _ (λ _ _. stored j p h)))
     execute-fits Pop x = then-on Popped Q _ _ (pop-fits (f .operands) (top .operands)) (λ p h. frame-only (p .more) (f .locals) (h .1) (top .locals))
     execute-fits Dup x = then Q _ _ (λ _ _. then-on Popped Q _ _ (pop-fits (f .operands) (top .operands)) (λ p h.
         frame-only (p .top ∷ p .top ∷ p .more) (f .locals) (h .0, h) (top .locals)))
-    execute-fits Iadd x = two-popped _ (λ p q hp hq. then Q _ _ (λ b _. then Q _ _ (λ a _.
-        frame-only (intValue ((a + b) % 4294967296) ∷ q .more) (f .locals) (mod-lt (a + b) (omega arith), hq .1) (top .locals))))
-    execute-fits Isub x = two-popped _ (λ p q hp hq. then Q _ _ (λ b _. then Q _ _ (λ a _.
-        frame-only (intValue ((a + 4294967296 - b) % 4294967296) ∷ q .more) (f .locals) (mod-lt (a + 4294967296 - b) (omega arith), hq .1) (top .locals))))
+    execute-fits (Arithmetic o) x = two-popped _ (λ p q hp hq. then Q _ _ (λ b _. then Q _ _ (λ a _. then-on (λ n. n < 4294967296) Q _ _ (compute-fits o a b) (λ n l.
+        frame-only (intValue n ∷ q .more) (f .locals) (l, hq .1) (top .locals)))))
     execute-fits (Getfield c n t) x = then Q _ _ (λ e _. then Q _ _ (λ d _.
         then-on Tied Q _ _ (post-fits w _ _ ties (new-tie-fits (w .ties) (loaderOf (w .base) d) (k .loader) t (x .1))) (λ v tied.
         then-on Popped Q _ _ (pop-fits (f .operands) (top .operands)) (λ p hp.
@@ -210,9 +215,7 @@ module _ (w : World) (os : List Object) (classes : All ClassFits (w .base .class
           objects = all-both ObjectFits os (newObject (w .base) e ∷ []) objects (new-fits (w .base) e, tt);
           frames = (moved (objectValue (length os) ∷ f .operands) (f .locals) (tt, top .operands) (top .locals), rest);
         }))
-    execute-fits Ireturn x = then Q _ _ (λ _ _. then-on Popped Q _ _ (pop-fits (f .operands) (top .operands)) (λ p h.
-        then Q _ _ (λ _ _. give-fits fs (p .top) rest (h .0))))
-    execute-fits Areturn x = then Q _ _ (λ _ _. then-on Popped Q _ _ (pop-fits (f .operands) (top .operands)) (λ p h.
+    execute-fits (Return kind) x = then Q _ _ (λ _ _. then-on Popped Q _ _ (pop-fits (f .operands) (top .operands)) (λ p h.
         then Q _ _ (λ _ _. give-fits fs (p .top) rest (h .0))))
 
   record NowFits (f : Frame) (n : Now) : Type 0 where

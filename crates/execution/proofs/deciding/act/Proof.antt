@@ -36,66 +36,45 @@ returns-2 c =
     rw (c .plain2 .ensures .0, c .plain2 .ensures .1, c .before .before .before .i .given .1) (acted-frame _ _ _ _ _ _ _ _ _ _ _ _ _ _ _ (at13 .pre .0 .counts .ties) (c .before .sipush .ensures (now (at13 .args .frames)) (at13 .args .b)))
 
 returns-3 : tie.Need-returns-3
-returns-3 c = rw (c .plain3 .ensures .0, c .plain3 .ensures .1, c .before .before .before .i2 .given .1) (acted-frame _ _ _ _ _ _ _ _ _ _ _ _ _ _ _ (c .before .before .before .before .before .before .before .before .before .before .before .before .before .pre .0 .counts .ties) (c .before .iload .ensures))
+returns-3 c = rw (c .plain3 .ensures .0, c .plain3 .ensures .1, c .before .before .before .i2 .given .1) (acted-frame _ _ _ _ _ _ _ _ _ _ _ _ _ _ _ (c .before .before .before .before .before .before .before .before .before .before .before .before .before .pre .0 .counts .ties) (c .before .load .ensures))
 
 returns-4 : tie.Need-returns-4
-returns-4 c = rw (c .plain4 .ensures .0, c .plain4 .ensures .1, c .before .before .before .i3 .given .1) (acted-frame _ _ _ _ _ _ _ _ _ _ _ _ _ _ _ (c .before .before .before .before .before .before .before .before .before .before .before .before .before .pre .0 .counts .ties) (c .before .aload .ensures))
+returns-4 c = rw (c .plain4 .ensures .0, c .plain4 .ensures .1, c .before .before .before .i3 .given .1) (acted-frame _ _ _ _ _ _ _ _ _ _ _ _ _ _ _ (c .before .before .before .before .before .before .before .before .before .before .before .before .before .pre .0 .counts .ties) (c .before .store .ensures))
 
 returns-5 : tie.Need-returns-5
-returns-5 c = rw (c .plain5 .ensures .0, c .plain5 .ensures .1, c .before .before .before .i4 .given .1) (acted-frame _ _ _ _ _ _ _ _ _ _ _ _ _ _ _ (c .before .before .before .before .before .before .before .before .before .before .before .before .before .pre .0 .counts .ties) (c .before .istore .ensures))
+returns-5 c =
+    let at12 = c .before .before .before .before .before .before .before .before .before .before .before .before in
+    rw (c .plain5 .ensures .0, c .plain5 .ensures .1, c .before .before .enum-told2 .given .1) (acted-frame _ _ _ _ _ _ _ _ _ _ _ _ _ _ _ (at12 .pre .0 .counts .ties) (c .before .pop .ensures (now (at12 .args .frames)) (at12 .args .b)))
 
 returns-6 : tie.Need-returns-6
-returns-6 c = rw (c .plain6 .ensures .0, c .plain6 .ensures .1, c .before .before .before .i5 .given .1) (acted-frame _ _ _ _ _ _ _ _ _ _ _ _ _ _ _ (c .before .before .before .before .before .before .before .before .before .before .before .before .before .pre .0 .counts .ties) (c .before .astore .ensures))
+returns-6 c = rw (c .plain6 .ensures .0, c .plain6 .ensures .1, c .before .before .enum-told3 .given .1) (acted-frame _ _ _ _ _ _ _ _ _ _ _ _ _ _ _ (c .before .before .before .before .before .before .before .before .before .before .before .before .pre .0 .counts .ties) (c .before .dup .ensures))
 
 returns-7 : tie.Need-returns-7
-returns-7 c =
-    let at12 = c .before .before .before .before .before .before .before .before .before .before .before .before in
-    rw (c .plain7 .ensures .0, c .plain7 .ensures .1, c .before .before .enum-told2 .given .1) (acted-frame _ _ _ _ _ _ _ _ _ _ _ _ _ _ _ (at12 .pre .0 .counts .ties) (c .before .pop .ensures (now (at12 .args .frames)) (at12 .args .b)))
+returns-7 c = rw (c .plain7 .ensures .0, c .plain7 .ensures .1, c .before .before .before .i4 .given .1) (acted-frame _ _ _ _ _ _ _ _ _ _ _ _ _ _ _ (c .before .before .before .before .before .before .before .before .before .before .before .before .before .pre .0 .counts .ties) (c .before .arithmetic .ensures))
 
 returns-8 : tie.Need-returns-8
-returns-8 c = rw (c .plain8 .ensures .0, c .plain8 .ensures .1, c .before .before .enum-told3 .given .1) (acted-frame _ _ _ _ _ _ _ _ _ _ _ _ _ _ _ (c .before .before .before .before .before .before .before .before .before .before .before .before .pre .0 .counts .ties) (c .before .dup .ensures))
+returns-8 c = rw (c .before .before .before .i5 .given .1) (acted-access _ _ _ _ _ _ _ _ _ _ _ _ _ _ _ _ _ _ _ _ _ (c .before .before .before .before .before .before .before .before .before .before .before .before .before .pre .0 .counts .ties) (c .before .getfield .ensures) refl (c .settle-access .ensures))
 
 returns-9 : tie.Need-returns-9
-returns-9 c = rw (c .plain9 .ensures .0, c .plain9 .ensures .1, c .before .before .enum-told4 .given .1) (acted-frame _ _ _ _ _ _ _ _ _ _ _ _ _ _ _ (c .before .before .before .before .before .before .before .before .before .before .before .before .pre .0 .counts .ties) (c .before .iadd .ensures))
+returns-9 c = rw (c .before .before .before .i6 .given .1) (acted-access _ _ _ _ _ _ _ _ _ _ _ _ _ _ _ _ _ _ _ _ _ (c .before .before .before .before .before .before .before .before .before .before .before .before .before .pre .0 .counts .ties) (c .before .putfield .ensures) refl (c .settle-access2 .ensures))
 
 returns-10 : tie.Need-returns-10
-returns-10 c = rw (c .plain10 .ensures .0, c .plain10 .ensures .1, c .before .before .enum-told5 .given .1) (acted-frame _ _ _ _ _ _ _ _ _ _ _ _ _ _ _ (c .before .before .before .before .before .before .before .before .before .before .before .before .pre .0 .counts .ties) (c .before .isub .ensures))
+returns-10 c =
+    let at13 = c .before .before .before .before .before .before .before .before .before .before .before .before .before in
+    rw (c .before .before .before .i7 .given .1) (acted-access _ _ _ _ _ _ _ _ _ _ _ _ _ _ _ _ _ _ _ _ _ (at13 .pre .0 .counts .ties) (c .before .invokevirtual .ensures) (frames-room (now (at13 .args .frames)) (at13 .args .task) (at13 .args .m)) (c .settle-access3 .ensures))
 
 returns-11 : tie.Need-returns-11
-returns-11 c = rw (c .before .before .before .i6 .given .1) (acted-access _ _ _ _ _ _ _ _ _ _ _ _ _ _ _ _ _ _ _ _ _ (c .before .before .before .before .before .before .before .before .before .before .before .before .before .pre .0 .counts .ties) (c .before .getfield .ensures) refl (c .settle-access .ensures))
+returns-11 c =
+    let at13 = c .before .before .before .before .before .before .before .before .before .before .before .before .before in
+    rw (c .plain8 .ensures .0, c .plain8 .ensures .1, c .before .before .before .i8 .given .1) (acted-make _ _ _ _ _ _ _ _ _ _ _ _ _ _ _ (at13 .pre .0 .counts .ties) _ refl (c .before .new-object .ensures) (λ e. at13 .pre .0 .sizes _ e))
 
 returns-12 : tie.Need-returns-12
-returns-12 c = rw (c .before .before .before .i7 .given .1) (acted-access _ _ _ _ _ _ _ _ _ _ _ _ _ _ _ _ _ _ _ _ _ (c .before .before .before .before .before .before .before .before .before .before .before .before .before .pre .0 .counts .ties) (c .before .putfield .ensures) refl (c .settle-access2 .ensures))
-
-returns-13 : tie.Need-returns-13
-returns-13 c =
-    let at13 = c .before .before .before .before .before .before .before .before .before .before .before .before .before in
-    rw (c .before .before .before .i8 .given .1) (acted-access _ _ _ _ _ _ _ _ _ _ _ _ _ _ _ _ _ _ _ _ _ (at13 .pre .0 .counts .ties) (c .before .invokevirtual .ensures) (frames-room (now (at13 .args .frames)) (at13 .args .task) (at13 .args .m)) (c .settle-access3 .ensures))
-
-returns-14 : tie.Need-returns-14
-returns-14 c =
-    let at13 = c .before .before .before .before .before .before .before .before .before .before .before .before .before in
-    rw (c .plain11 .ensures .0, c .plain11 .ensures .1, c .before .before .before .i9 .given .1) (acted-make _ _ _ _ _ _ _ _ _ _ _ _ _ _ _ (at13 .pre .0 .counts .ties) _ refl (c .before .new-object .ensures) (λ e. at13 .pre .0 .sizes _ e))
-
-returns-15 : tie.Need-returns-15
-returns-15 c = rw (c .plain12 .ensures .0, c .plain12 .ensures .1, c .before .before .enum-told6 .given .1) (acted-return _ _ _ _ _ _ _ _ _ _ _ _ _ _ _ (c .before .before .before .before .before .before .before .before .before .before .before .before .pre .0 .counts .ties) (c .before .ireturn .ensures))
-
-returns-16 : tie.Need-returns-16
-returns-16 c = rw (c .plain13 .ensures .0, c .plain13 .ensures .1, c .before .before .enum-told7 .given .1) (acted-return _ _ _ _ _ _ _ _ _ _ _ _ _ _ _ (c .before .before .before .before .before .before .before .before .before .before .before .before .pre .0 .counts .ties) (c .before .areturn .ensures))
+returns-12 c = rw (c .plain9 .ensures .0, c .plain9 .ensures .1, c .before .before .before .i9 .given .1) (acted-return _ _ _ _ _ _ _ _ _ _ _ _ _ _ _ (c .before .before .before .before .before .before .before .before .before .before .before .before .before .pre .0 .counts .ties) (c .before .give-back .ensures))
 
 pub act-spec : {M : Type 1} → statement M
 act-spec =
     tie.close
     (tie.spec
-    (λ c. search needs)
-    (λ c κs. search needs)
-    (λ c κs. search needs)
-    (λ c. search needs)
-    (λ c κs. search needs)
-    (λ c κs. search needs)
-    (λ c. search needs)
-    (λ c κs. search needs)
-    (λ c κs. search needs)
     (λ c. search needs)
     (λ c κs. search needs)
     (λ c κs. search needs)
@@ -133,9 +112,6 @@ act-spec =
     (λ c. search needs)
     (λ c κs. search needs)
     (λ c κs. search needs)
-    (λ c. search needs)
-    (λ c κs. search needs)
-    (λ c κs. search needs)
     returns
     returns-2
     returns-3
@@ -147,8 +123,4 @@ act-spec =
     returns-9
     returns-10
     returns-11
-    returns-12
-    returns-13
-    returns-14
-    returns-15
-    returns-16)
+    returns-12)

@@ -12,11 +12,11 @@ use Rattle.verifier.proofs.effects.arithmetic.Tie as tie
 
 returns : tie.Need-returns
 unfolding outcomeOf going effect typesOf _>>=_
-returns c = rw (popped-empty _ _ _ (c .before .before .pop .ensures) (c .enum-told .given .1))
+returns c o = rw (popped-empty _ _ _ (c .before .before .pop .ensures) (c .enum-told .given .1))
 
 returns-2 : tie.Need-returns-2
 unfolding outcomeOf going effect typesOf _>>=_
-returns-2 c =
+returns-2 c o =
     rw (
       popped-top _ _ _ (c .before .before .before .before .before .before .pop .ensures) (c .before .before .before .before .x .given .1),
       popped-empty _ _ _ (c .before .before .pop2 .ensures) (c .enum-told2 .given .1),
@@ -24,7 +24,7 @@ returns-2 c =
 
 returns-3 : tie.Need-returns-3
 unfolding outcomeOf going effect typesOf _>>=_
-returns-3 c =
+returns-3 c o =
     rw (
       popped-top _ _ _ (c .before .before .before .before .before .before .before .before .pop .ensures)
           (c .before .before .before .before .before .before .x .given .1),
@@ -34,7 +34,7 @@ returns-3 c =
 
 returns-4 : tie.Need-returns-4
 unfolding outcomeOf going effect typesOf _>>=_
-returns-4 c =
+returns-4 c o =
     let at9 = c .before .before .before .before .before .before .before .before .before in
     rw (
       popped-top _ _ _ (at9 .pop .ensures)
@@ -46,7 +46,7 @@ returns-4 c =
 
 returns-5 : tie.Need-returns-5
 unfolding outcomeOf going effect typesOf _>>=_ notesIn
-returns-5 c =
+returns-5 c o =
     let at9 = c .before .before .before .before .before .before .before .before .before in
     rw (
       popped-top _ _ _ (at9 .pop .ensures)

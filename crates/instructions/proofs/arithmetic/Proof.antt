@@ -1,14 +1,13 @@
--- isub puts the difference of the two top operands in their place, modulo 2^32; it is refused if they are not two ints.
+-- An operator puts what it makes of the two top operands in their place; it is refused if they are not two ints.
 use native.Mathlib.Omega.{arith}
 use borrow.Author.Needs.{needs}
-use Rattle.instructions.specs.Operands.{pop-none, pop-some, int-is, int-not, subtracted}
-use Rattle.instructions.specs.Plans.{meaning}
+use Rattle.instructions.specs.Operands.{pop-none, pop-some, int-is, int-not}
+use Rattle.instructions.specs.Plans.{meaning, computed-means, computed-fits}
 use Rattle.definition.specs.Answers.{_>>=_}
-use Rattle.definition.specs.Instructions.{pick}
 use Rattle.definition.specs.Machine.{execute}
-use Rattle.definition.specs.Tables.{valueOf, frameOf}
-use Rattle.instructions.proofs.isub.Statement.{statement}
-use Rattle.instructions.proofs.isub.Tie as tie
+use Rattle.definition.specs.Tables.{frameOf}
+use Rattle.instructions.proofs.arithmetic.Statement.{statement}
+use Rattle.instructions.proofs.arithmetic.Tie as tie
 
 returns : tie.Need-returns
 unfolding meaning execute _>>=_ frameOf
@@ -29,15 +28,27 @@ returns-4 c =
     record { says = λ w os fs k p n. rw (c .refuse4 .ensures, pop-some _ _ (at8 .if1 .left), pop-some _ _ (c .before .before .before .before .before .before .before .if2 .left), ← c .before .before .before .before .before .before .operand .ensures, int-is _ _ (c .before .before .before .before .if3 .left), ← c .before .before .before .operand2 .ensures, int-not _ _ (c .before .if4 .taken)); fits = λ few B t k m. rw (c .refuse4 .ensures) tt }
 
 returns-5 : tie.Need-returns-5
-unfolding meaning execute _>>=_ frameOf valueOf pick
+unfolding execute _>>=_ frameOf
 returns-5 c =
     let at3 = c .before .before .before in
     let at6 = at3 .before .before .before in
     let at8 = at6 .before .before in
-    record { says = λ w os fs k p n. rw (pop-some _ _ (at8 .if1 .left), pop-some _ _ (c .before .before .before .before .before .before .before .if2 .left), ← at6 .operand .ensures, int-is _ _ (c .before .before .before .before .if3 .left), ← at3 .operand2 .ensures, int-is _ _ (c .before .if4 .left), subtracted (c .wrapping-sub-u32 .result) (at3 .operand2 .result .bits) (at6 .operand .result .bits) (omega arith) (omega arith) (omega arith) (c .wrapping-sub-u32 .ensures)); fits = λ few B t k m. omega arith }
+    record {
+      says = λ w os fs k p n. rw (
+        c .compute .ensures,
+        computed-means w os fs _ _ _ _ _,
+        pop-some _ _ (at8 .if1 .left),
+        pop-some _ _ (at6 .before .if2 .left),
+        ← at6 .operand .ensures,
+        int-is _ _ (at3 .before .if3 .left),
+        ← at3 .operand2 .ensures,
+        int-is _ _ (c .before .if4 .left),
+      );
+      fits = λ few B t k m. rw (c .compute .ensures) (computed-fits B t k m _ _ (omega arith));
+    }
 
-pub isub-spec : {M : Type 1} → statement M
-isub-spec =
+pub arithmetic-spec : {M : Type 1} → statement M
+arithmetic-spec =
     tie.close
     (tie.spec
     (λ c κs. search needs)

@@ -1,15 +1,15 @@
--- aload puts a local above the operands; it is refused if there is no room, no such local, or no reference in it.
+-- A load puts a local above the operands; it is refused if there is no room, no such local, or no value of its kind in it.
 use mathlib.Core.Path.{sym, _∙_}
 use native.Mathlib.Omega.{arith}
 use borrow.Author.Needs.{needs}
 use borrow.Author.Tests.{not-true, not-false}
-use Rattle.instructions.specs.Operands.{room-full, room-free, take-past, take-at, reference-is, reference-not}
+use Rattle.instructions.specs.Operands.{room-full, room-free, take-past, take-at, of-is, of-not}
 use Rattle.instructions.specs.Plans.{meaning}
 use Rattle.definition.specs.Answers.{_>>=_}
 use Rattle.definition.specs.Machine.{execute}
 use Rattle.definition.specs.Tables.{frameOf}
-use Rattle.instructions.proofs.aload.Statement.{statement}
-use Rattle.instructions.proofs.aload.Tie as tie
+use Rattle.instructions.proofs.load.Statement.{statement}
+use Rattle.instructions.proofs.load.Tie as tie
 
 returns : tie.Need-returns
 unfolding meaning execute _>>=_ frameOf
@@ -21,14 +21,14 @@ returns-2 c = record { says = λ w os fs k p n. rw (c .refuse2 .ensures, room-fr
 
 returns-3 : tie.Need-returns-3
 unfolding meaning execute _>>=_ frameOf
-returns-3 c = record { says = λ w os fs k p n. rw (c .refuse3 .ensures, room-free _ _ (c .before .before .before .before .before .if1 .left), take-at _ _ _ _ (c .before .before .before .before .if2 .left), ← c .before .before .before .local .ensures, reference-not _ _ (sym (c .before .before .is-reference .ensures) ∙ not-true _ (c .before .if3 .taken))); fits = λ few B t k m. rw (c .refuse3 .ensures) tt }
+returns-3 c = record { says = λ w os fs k p n. rw (c .refuse3 .ensures, room-free _ _ (c .before .before .before .before .before .if1 .left), take-at _ _ _ _ (c .before .before .before .before .if2 .left), ← c .before .before .before .local .ensures, of-not _ _ _ (sym (c .before .before .is-of-kind .ensures) ∙ not-true _ (c .before .if3 .taken))); fits = λ few B t k m. rw (c .refuse3 .ensures) tt }
 
 returns-4 : tie.Need-returns-4
 unfolding meaning execute _>>=_ frameOf
-returns-4 c = record { says = λ w os fs k p n. rw (room-free _ _ (c .before .before .before .before .if1 .left), take-at _ _ _ _ (c .before .before .before .if2 .left), ← c .before .before .local .ensures, reference-is _ _ (sym (c .before .is-reference .ensures) ∙ not-false _ (c .if3 .left))); fits = λ few B t k m. omega arith }
+returns-4 c = record { says = λ w os fs k p n. rw (room-free _ _ (c .before .before .before .before .if1 .left), take-at _ _ _ _ (c .before .before .before .if2 .left), ← c .before .before .local .ensures, of-is _ _ _ (sym (c .before .is-of-kind .ensures) ∙ not-false _ (c .if3 .left))); fits = λ few B t k m. omega arith }
 
-pub aload-spec : {M : Type 1} → statement M
-aload-spec =
+pub load-spec : {M : Type 1} → statement M
+load-spec =
     tie.close
     (tie.spec
     (λ c κs. search needs)
