@@ -10,7 +10,7 @@ use Rattle.definition.specs.Numbers.{wordClash, wordFull, nameInt, tieLi
 use Rattle.definition.specs.Lists.{all, any}
 use Rattle.definition.specs.Requests.{Request, at, Edge, Chain, has, reach}
 use Rattle.definition.specs.Superclasses.{Below, below}
-use Rattle.definition.specs.Classes.{Base, Entry, find, superOf}
+use Rattle.definition.specs.Classes.{Base, Signature, Entry, find, superOf}
 use Rattle.definition.specs.Answers.{Word, Result, ok, _>>=_, need}
 
 -- a name means one class under two loaders
@@ -83,6 +83,10 @@ tieIs l m n t = eqb (t .name) n && ((eqb (t .one) l && eqb (t .two) m) || (eqb (
 
 unfoldable pub newTie : List Tie → ℕ → ℕ → ℕ → List Tie
 newTie ts l m n = elim (eqb l m || eqb n nameInt || any (tieIs l m n) ts) [ true ↦ [] | false ↦ record { one = l; two = m; name = n } ∷ [] ]
+
+-- the ties of a signature between two loaders: on its argument, then on its result
+unfoldable pub signatureTies : List Tie → ℕ → ℕ → Signature → List Tie
+signatureTies ts l m s = let us = newTie ts l m (s .argument) in us ++ newTie (ts ++ us) l m (s .result)
 
 abbrev pub posted : World → List Tie → World
 posted w us = record { base = w .base; ties = w .ties ++ us; subtypes = w .subtypes }

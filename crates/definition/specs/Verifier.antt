@@ -7,7 +7,7 @@ use lib.ListN.{length, getElem?, set}
 use lib.Dec.{eqb, leb}
 use Rattle.definition.specs.Numbers.{nameInt, nameObject, operandLimit}
 use Rattle.definition.specs.Maybe.{_>>=_, need}
-use Rattle.definition.specs.Classes.{Class, Method}
+use Rattle.definition.specs.Classes.{Signature, Class, Method}
 use Rattle.definition.specs.Instructions.{Instruction, AconstNull, Sipush, Iload, Aload, Istore, Astore, Pop, Dup, Iadd, Isub, Getfield, Putfield, Invokevirtual, New, Ireturn, Areturn, decode}
 
 -- int, null, or a class name
@@ -36,7 +36,7 @@ typeOfName n = elim (eqb n nameInt) [ true ↦ typeInt | false ↦ typeClass n ]
 
 -- point 0: local 0 the class's own name, local 1 the argument type, the rest unset
 abbrev pub entryTypes : Class → Method → TypeState
-entryTypes k m = record { operands = []; locals = some (typeClass (k .name)) ∷ some (typeOfName (m .argument)) ∷ none ∷ none ∷ none ∷ none ∷ none ∷ none ∷ [] }
+entryTypes k m = record { operands = []; locals = some (typeClass (k .name)) ∷ some (typeOfName (m .signature .argument)) ∷ none ∷ none ∷ none ∷ none ∷ none ∷ none ∷ [] }
 
 -- The notes under which a type stands where class b, int, or name b is demanded
 
@@ -62,6 +62,10 @@ unfoldable pub pop : {A : Type 0} → List A → Option (record { top : A; more 
 pop [] = none
 pop (x ∷ xs) = some (record { top = x; more = xs })
 
+-- none of a signature's names is 0
+unfoldable pub isNamed : Signature → Bool
+isNamed s = leb 1 (s .name) && leb 1 (s .argument) && leb 1 (s .result)
+
 -- at most 16 operands
 abbrev pub flow : List VerifierType → List (Option VerifierType) → List Note → Option Flow
 flow o l n = need (leb (length o) operandLimit) >>= λ _. some (record { types = record { operands = o; locals = l }; notes = n })
@@ -85,9 +89,9 @@ effect (Getfield c f t) s =
 effect (Putfield c f t) s =
     need (leb nameObject c && leb 1 f && leb 1 t) >>= λ _. pop (s .operands) >>= λ p. pop (p .more) >>= λ q.
     meetClass c (q .top) >>= λ a. meets (p .top) t >>= λ b. flow (q .more) (s .locals) (a ++ b)
-effect (Invokevirtual c m t r) s =
-    need (leb nameObject c && leb 1 m && leb 1 t && leb 1 r) >>= λ _. pop (s .operands) >>= λ p. pop (p .more) >>= λ q.
-    meetClass c (q .top) >>= λ a. meets (p .top) t >>= λ b. flow (typeOfName r ∷ q .more) (s .locals) (a ++ b)
+effect (Invokevirtual c m) s =
+    need (leb nameObject c && isNamed m) >>= λ _. pop (s .operands) >>= λ p. pop (p .more) >>= λ q.
+    meetClass c (q .top) >>= λ a. meets (p .top) (m .argument) >>= λ b. flow (typeOfName (m .result) ∷ q .more) (s .locals) (a ++ b)
 effect (New c) s = need (leb nameObject c) >>= λ _. flow (typeClass c ∷ s .operands) (s .locals) []
 effect Ireturn s = none
 effect Areturn s = none
@@ -106,7 +110,7 @@ returns Iadd r s = none
 returns Isub r s = none
 returns (Getfield c f t) r s = none
 returns (Putfield c f t) r s = none
-returns (Invokevirtual c m t q) r s = none
+returns (Invokevirtual c m) r s = none
 returns (New c) r s = none
 returns Ireturn r s = need (eqb r nameInt) >>= λ _. pop (s .operands) >>= λ p. meetInt (p .top)
 returns Areturn r s = elim (eqb r nameInt) [ true ↦ none | false ↦ pop (s .operands) >>= λ p. meetClass r (p .top) ]
@@ -124,7 +128,7 @@ isReturn Iadd = false
 isReturn Isub = false
 isReturn (Getfield c f t) = false
 isReturn (Putfield c f t) = false
-isReturn (Invokevirtual c m t q) = false
+isReturn (Invokevirtual c m) = false
 isReturn (New c) = false
 isReturn Ireturn = true
 isReturn Areturn = true
@@ -148,10 +152,10 @@ module _ (code : List ℕ) (result : ℕ) where
   ]
 
 abbrev pub notesOfMethod : Class → Method → Option (List Note)
-notesOfMethod k m = verify (m .code) (m .result) (length (m .code)) 0 (entryTypes k m)
+notesOfMethod k m = verify (m .code) (m .signature .result) (length (m .code)) 0 (entryTypes k m)
 
 abbrev pub typesIn : Class → Method → ℕ → Option TypeState
-typesIn k m q = typesAt (m .code) (m .result) (length (m .code)) 0 (entryTypes k m) q
+typesIn k m q = typesAt (m .code) (m .signature .result) (length (m .code)) 0 (entryTypes k m) q
 
 -- notes in order of method, then point
 unfoldable pub notesOf : Class → List Method → Option (List Note)

@@ -23,6 +23,13 @@ pub enum Reply {
     Denied(Refusal),
 }
 
+// A method's signature: its name, its argument's type and its result's.
+pub struct Signature {
+    pub name: u16,
+    pub argument: u16,
+    pub result: u16,
+}
+
 // What an opcode byte is.
 pub enum Opcode {
     OpAconstNull,
@@ -44,7 +51,7 @@ pub enum Opcode {
     OpUnknown,
 }
 
-// An instruction: its opcode and what stands inline. A local is its number, the int of sipush its 32 bits, the others names.
+// An instruction: its opcode and what stands inline. A local is its number, the int of sipush its 32 bits, the others names and a signature.
 pub enum Instruction {
     AconstNull,
     Sipush(u32),
@@ -58,7 +65,7 @@ pub enum Instruction {
     Isub,
     Getfield(u16, u16, u16),
     Putfield(u16, u16, u16),
-    Invokevirtual(u16, u16, u16, u16),
+    Invokevirtual(u16, Signature),
     New(u16),
     Ireturn,
     Areturn,
