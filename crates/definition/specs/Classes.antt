@@ -20,6 +20,10 @@ pub record Field : Type 0 where
 abbrev pub signature : ℕ → ℕ → ℕ → Signature
 signature n a r = record { name = n; argument = a; result = r }
 
+-- its types, in the order in which ties go on them: the argument, then the result
+abbrev pub signatureTypes : Signature → List ℕ
+signatureTypes s = s .argument ∷ s .result ∷ []
+
 pub record Method : Type 0 where
   pub signature : Signature
   pub code : List ℕ
