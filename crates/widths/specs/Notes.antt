@@ -107,10 +107,10 @@ module _ (s : TypeState) (h : StateFits s) where
       read-on Popped FlowFits _ _ (popped (s .operands) (h .operands)) (λ p hp. read-on Popped FlowFits _ _ (popped (p .more) (hp .1)) (λ q hq.
       read-on (All NoteFits) FlowFits _ _ (class-met c (q .top) (f .0) (hq .0)) (λ a ha. read-on (All NoteFits) FlowFits _ _ (met (p .top) t (f .1) (hp .0)) (λ b hb.
       flows (q .more) (s .locals) (a ++ b) (hq .1) (h .locals) (all-both NoteFits a b ha hb))))))
-  effect-fits (Invokevirtual c m t r) f = read-need FlowFits _ _ (λ _.
+  effect-fits (Invokevirtual c m) f = read-need FlowFits _ _ (λ _.
       read-on Popped FlowFits _ _ (popped (s .operands) (h .operands)) (λ p hp. read-on Popped FlowFits _ _ (popped (p .more) (hp .1)) (λ q hq.
-      read-on (All NoteFits) FlowFits _ _ (class-met c (q .top) (f .0) (hq .0)) (λ a ha. read-on (All NoteFits) FlowFits _ _ (met (p .top) t (f .1) (hp .0)) (λ b hb.
-      flows (typeOfName r ∷ q .more) (s .locals) (a ++ b) (name-type r (f .2), hq .1) (h .locals) (all-both NoteFits a b ha hb))))))
+      read-on (All NoteFits) FlowFits _ _ (class-met c (q .top) (f .0) (hq .0)) (λ a ha. read-on (All NoteFits) FlowFits _ _ (met (p .top) (m .argument) (f .1 .0) (hp .0)) (λ b hb.
+      flows (typeOfName (m .result) ∷ q .more) (s .locals) (a ++ b) (name-type (m .result) (f .1 .1 .0), hq .1) (h .locals) (all-both NoteFits a b ha hb))))))
   effect-fits (New c) f = read-need FlowFits _ _ (λ _. flows (typeClass c ∷ s .operands) (s .locals) [] (f, h .operands) (h .locals) tt)
   effect-fits Ireturn f = tt
   effect-fits Areturn f = tt
@@ -129,7 +129,7 @@ module _ (s : TypeState) (h : StateFits s) where
   returns-fit Isub r l = tt
   returns-fit (Getfield c f t) r l = tt
   returns-fit (Putfield c f t) r l = tt
-  returns-fit (Invokevirtual c m t q) r l = tt
+  returns-fit (Invokevirtual c m) r l = tt
   returns-fit (New c) r l = tt
   returns-fit Ireturn r l = read-need (All NoteFits) _ _ (λ _. read-on Popped (All NoteFits) _ _ (popped (s .operands) (h .operands)) (λ p hp. int-met (p .top)))
   returns-fit Areturn r l = go (eqb r 1)
@@ -154,11 +154,11 @@ module _ (code : List ℕ) (bytes : EachBelow 256 code) (result : ℕ) (small : 
           read-on (All NoteFits) (All NoteFits) _ _ (ih (p + i .size) (f .types) (hf .types)) (λ ns hn. all-both NoteFits (f .notes) ns (hf .notes) hn))
 
 entry-fits : (k : Class) (m : Method) → k .name < 65536 → MethodFits m → StateFits (entryTypes k m)
-entry-fits k m l h = record { operands = tt; locals = (l, (name-type (m .argument) (h .argument), (tt, (tt, (tt, (tt, (tt, (tt, tt)))))))) }
+entry-fits k m l h = record { operands = tt; locals = (l, (name-type (m .signature .argument) (h .types .0), (tt, (tt, (tt, (tt, (tt, (tt, tt)))))))) }
 
 pub notes-fit : (k : Class) → k .name < 65536 → (ms : List Method) → All MethodFits ms → Read (notesOf k ms) (All NoteFits)
 unfolding notesOf
 notes-fit k l [] h = tt
 notes-fit k l (m ∷ ms) h =
-    read-on (All NoteFits) (All NoteFits) _ _ (verify-fits (m .code) (h .0 .code) (m .result) (h .0 .result) (length (m .code)) 0 (entryTypes k m) (entry-fits k m l (h .0))) (λ ns hn.
+    read-on (All NoteFits) (All NoteFits) _ _ (verify-fits (m .code) (h .0 .code) (m .signature .result) (h .0 .types .1 .0) (length (m .code)) 0 (entryTypes k m) (entry-fits k m l (h .0))) (λ ns hn.
     read-on (All NoteFits) (All NoteFits) _ _ (notes-fit k l ms (h .1)) (λ rs hr. all-both NoteFits ns rs hn hr))
