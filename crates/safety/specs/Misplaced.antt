@@ -72,7 +72,7 @@ module _ (w : World) (os : List Object) (lk : Linked w) where
   point-in : (f : Frame) (k : Class) (m : Method) (τ : TypeState) → Typed w f k m τ → f .point < length (m .code)
   point-in f k m τ t =
       let v = lk .verified (f .class) (f .method) k m (t .isClass) (t .isMethod) in
-      let kn = known (m .code) (m .result) (length (m .code)) 0 (entryTypes k m) (v .notes) (f .point) τ (v .passes) (t .types) in
+      let kn = known (m .code) (m .signature .result) (length (m .code)) 0 (entryTypes k m) (v .notes) (f .point) τ (v .passes) (t .types) in
       within (m .code) (f .point) (kn .at) (kn .reads)
 
   frame-placed : (waits : Bool) (f : Frame) (k : Class) (m : Method) (τ : TypeState) (ts : List VerifierType) → Typed w f k m τ → waitingTypes waits (τ .operands) ≡ some ts
@@ -94,13 +94,13 @@ module _ (w : World) (os : List Object) (lk : Linked w) where
   unfolding misplacedInFrames waitingTypes
   under-placed l r [] h = refl
   under-placed l r (f ∷ fs) (k, m, x, t, u) =
-      rw (frame-placed true f k m (x .τ) (x .others) (x .typed) (rw (x .split, waitingTypes) refl) (x .operands) (x .locals), under-placed (k .loader) (m .result) fs u) refl
+      rw (frame-placed true f k m (x .τ) (x .others) (x .typed) (rw (x .split, waitingTypes) refl) (x .operands) (x .locals), under-placed (k .loader) (m .signature .result) fs u) refl
 
   stack-placed : (fs : List Frame) → Stack w os fs → misplacedInFrames w os false fs ≡ 0
   unfolding misplacedInFrames waitingTypes
   stack-placed [] h = refl
   stack-placed (f ∷ fs) (k, m, x, u) =
-      rw (frame-placed false f k m (x .τ) (x .τ .operands) (x .typed) refl (x .operands) (x .locals), under-placed (k .loader) (m .result) fs u) refl
+      rw (frame-placed false f k m (x .τ) (x .τ .operands) (x .typed) refl (x .operands) (x .locals), under-placed (k .loader) (m .signature .result) fs u) refl
 
 pub valid-placed : (r : Rows) → Valid (storeOf r) → misplacedIn r ≡ 0
 unfolding misplacedIn

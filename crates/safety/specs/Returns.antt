@@ -52,32 +52,32 @@ wp-under Q [] f h = h
 wp-under Q (g ∷ gs) f h = wp-room Q (g .operands) f h
 
 module _ (w : World) (os : List Object) (f : Frame) (fs : List Frame) (k : Class) (m : Method)
-    (lk : Linked w) (hp : Heap w os) (tp : Top w os f k m) (un : Under w os (k .loader) (m .result) fs) where
+    (lk : Linked w) (hp : Heap w os) (tp : Top w os f k m) (un : Under w os (k .loader) (m .signature .result) fs) where
   module _ (i : Decoded) (made : List Note) (nt : Noted w (k .loader) made) where
-    ret-iret : returns Ireturn (m .result) (tp .τ) ≡ some made → Wp (execute w os f fs k i Ireturn) (Kept w os)
+    ret-iret : returns Ireturn (m .signature .result) (tp .τ) ≡ some made → Wp (execute w os f fs k i Ireturn) (Kept w os)
     unfolding execute returns
     ret-iret e =
         let a = bind-some _ _ e in
         let b = bind-some _ _ (a .2) in
         let q = each-pop (Conforms w os (k .loader)) (tp .τ .operands) (f .operands) (b .0 .top) (b .0 .more) (b .1) (tp .operands) in
         let n = int-of w os (k .loader) (b .0 .top) (q .0 .top) (b .2) (q .2) in
-        let z : m .result ≡ 1 = eqb-true (m .result) 1 (need-true (eqb (m .result) 1) (a .1)) in
-        wp-under (Kept w os) fs _ (wp-known (Kept w os) _ _ (q .1) (wp-known (Kept w os) _ _ (n .1) (give-kept w os fs (k .loader) (m .result) (q .0 .top) lk hp un (as-int w os (k .loader) (m .result) (q .0 .top) z (n .2)))))
+        let z : m .signature .result ≡ 1 = eqb-true (m .signature .result) 1 (need-true (eqb (m .signature .result) 1) (a .1)) in
+        wp-under (Kept w os) fs _ (wp-known (Kept w os) _ _ (q .1) (wp-known (Kept w os) _ _ (n .1) (give-kept w os fs (k .loader) (m .signature .result) (q .0 .top) lk hp un (as-int w os (k .loader) (m .signature .result) (q .0 .top) z (n .2)))))
 
-    ret-aret : returns Areturn (m .result) (tp .τ) ≡ some made → Wp (execute w os f fs k i Areturn) (Kept w os)
+    ret-aret : returns Areturn (m .signature .result) (tp .τ) ≡ some made → Wp (execute w os f fs k i Areturn) (Kept w os)
     unfolding execute returns
-    ret-aret e = go (eqb (m .result) 1) refl e
+    ret-aret e = go (eqb (m .signature .result) 1) refl e
       where
-        go : (t : Bool) → eqb (m .result) 1 ≡ t → (elim t as (λ _. Option (List Note)) [ true ↦ none | false ↦ Maybe._>>=_ (pop (tp .τ .operands)) (λ p. meetClass (m .result) (p .top)) ]) ≡ some made → Wp (under! fs >>= λ _. pop! (f .operands) >>= λ p. reference! (p .top) >>= λ _. give fs w os (p .top)) (Kept w os)
+        go : (t : Bool) → eqb (m .signature .result) 1 ≡ t → (elim t as (λ _. Option (List Note)) [ true ↦ none | false ↦ Maybe._>>=_ (pop (tp .τ .operands)) (λ p. meetClass (m .signature .result) (p .top)) ]) ≡ some made → Wp (under! fs >>= λ _. pop! (f .operands) >>= λ p. reference! (p .top) >>= λ _. give fs w os (p .top)) (Kept w os)
         go true q r = absurd (Option·none-ne-some made r)
         go false q r =
             let b = bind-some _ _ r in
             let x = each-pop (Conforms w os (k .loader)) (tp .τ .operands) (f .operands) (b .0 .top) (b .0 .more) (b .1) (tp .operands) in
-            let cv = meet-class w os (k .loader) (m .result) (b .0 .top) (x .0 .top) made (b .2) nt (x .2) in
-            wp-under (Kept w os) fs _ (wp-known (Kept w os) _ _ (x .1) (wp-known (Kept w os) _ _ (ref-of w os (k .loader) (typeClass (m .result)) (x .0 .top) {u = typeClass (m .result)} (unfold asReference in refl) cv)
-            (give-kept w os fs (k .loader) (m .result) (x .0 .top) lk hp un (rw (of-class (m .result) (eqb-false (m .result) 1 q)) cv))))
+            let cv = meet-class w os (k .loader) (m .signature .result) (b .0 .top) (x .0 .top) made (b .2) nt (x .2) in
+            wp-under (Kept w os) fs _ (wp-known (Kept w os) _ _ (x .1) (wp-known (Kept w os) _ _ (ref-of w os (k .loader) (typeClass (m .signature .result)) (x .0 .top) {u = typeClass (m .signature .result)} (unfold asReference in refl) cv)
+            (give-kept w os fs (k .loader) (m .signature .result) (x .0 .top) lk hp un (rw (of-class (m .signature .result) (eqb-false (m .signature .result) 1 q)) cv))))
 
-    pub each-ret : (j : Instruction) → returns j (m .result) (tp .τ) ≡ some made → Wp (execute w os f fs k i j) (Kept w os)
+    pub each-ret : (j : Instruction) → returns j (m .signature .result) (tp .τ) ≡ some made → Wp (execute w os f fs k i j) (Kept w os)
     unfolding returns
     each-ret AconstNull e = absurd (Option·none-ne-some made e)
     each-ret (Sipush n) e = absurd (Option·none-ne-some made e)
@@ -91,7 +91,7 @@ module _ (w : World) (os : List Object) (f : Frame) (fs : List Frame) (k : Class
     each-ret Isub e = absurd (Option·none-ne-some made e)
     each-ret (Getfield c n t) e = absurd (Option·none-ne-some made e)
     each-ret (Putfield c n t) e = absurd (Option·none-ne-some made e)
-    each-ret (Invokevirtual c n t r) e = absurd (Option·none-ne-some made e)
+    each-ret (Invokevirtual c s) e = absurd (Option·none-ne-some made e)
     each-ret (New c) e = absurd (Option·none-ne-some made e)
     each-ret Ireturn e = ret-iret e
     each-ret Areturn e = ret-aret e

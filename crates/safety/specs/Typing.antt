@@ -103,7 +103,7 @@ module _ (code : List ℕ) (result : ℕ) where
   return-none Isub s h = absurd (false≢true h)
   return-none (Getfield c f t) s h = absurd (false≢true h)
   return-none (Putfield c f t) s h = absurd (false≢true h)
-  return-none (Invokevirtual c m t r) s h = absurd (false≢true h)
+  return-none (Invokevirtual c m) s h = absurd (false≢true h)
   return-none (New c) s h = absurd (false≢true h)
   return-none Ireturn s h = refl
   return-none Areturn s h = refl
