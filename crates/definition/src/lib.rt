@@ -1,4 +1,5 @@
 // The answers and instructions of the tariff class machine, as values that code and definitions share.
+pub mod numbers;
 
 // What a call refuses with: the class it wants, as a loader and a name (word 5), or another word by its number.
 pub enum Refusal {

@@ -1,5 +1,6 @@
 // The details of an answer.
 use crate::Details;
+use definition::numbers::WORD_WANTED;
 ghost use mathlib.Core.Path.{_≡_};
 ghost use Rattle.script.specs.Details.{refusalNumbers, stepNumbers, Detailed};
 use definition::Answer;
@@ -11,7 +12,7 @@ fn refusal_details(task: u8, refusal: Refusal) -> Details
 {
     match refusal {
         Refusal::Wanted(loader, name) => Details {
-            refusal: 5,
+            refusal: WORD_WANTED,
             one: cells::from16(cells::from8(loader)),
             two: cells::from16(name),
             three: cells::from16(cells::from8(task)),
