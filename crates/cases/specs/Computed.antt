@@ -12,11 +12,11 @@ use Rattle.definition.specs.Maybe as Maybe
 use Rattle.definition.specs.Requests.{sameRequest, has, fires, rest, grow, reach, leads}
 use Rattle.definition.specs.Answers.{endsIn, Details, details, stepDetails, refusalDetails, signed, number, numberOfStep, numberOf, _>>=_, need, take?}
 use Rattle.definition.specs.Superclasses.{seek, nearest, below}
-use Rattle.definition.specs.Classes.{find, lower, superOf, loaderOf, ownSlots, slotsIn, slots, slotIs, hasField, sameSignature, alike, methodsOf, hasMethod, selected}
+use Rattle.definition.specs.Classes.{find, lower, superOf, loaderOf, ownSlots, slotsIn, slots, slotIs, hasField, sameSignature, alike, methodsOf, hasMethod, selected, isNamed}
 use Rattle.definition.specs.Constraints.{tieEdges, subtypeEdges, edges, pairAgrees, rowAgrees, agreesOver, agrees, tieIs, newTie, newTies, signatureTies, agreesAfter, post}
 use Rattle.definition.specs.File.{byte, short, name, count, fieldsIn, signatureIn, methodsIn, ends, sameField, sameMethod, readFile}
 use Rattle.definition.specs.Instructions.{pick, opcodeOf, inlineLength, shortAt, extend, instructionOf, sizedAs, decode}
-use Rattle.definition.specs.Verifier.{typeOfName, meetClass, meetInt, meets, asReference, pop, isNamed, effect, returns, isReturn, verify, typesAt, notesOf}
+use Rattle.definition.specs.Verifier.{typeOfName, meetClass, meetInt, meets, asReference, pop, effect, returns, isReturn, verify, typesAt, notesOf}
 use Rattle.definition.specs.Machine.{existing, initialValue, newObject, pop!, int!, reference!, kind!, room!, object!, now, under!, give, execute, step}
 use Rattle.definition.specs.Loading.{subtypeIs, newSubtypes, overrideTie, overrideTies, hides, define, recorded, started}
 use Rattle.definition.specs.Tables.{Rows, fileAt, classAt}

@@ -4,7 +4,7 @@ use mathlib.Core.Option.{Option, none, some}
 use mathlib.Core.List.{List, [], _∷_, _++_, map}
 use Prim.Native.Nat.{ℕ, zero, suc}
 use lib.ListN.{getElem?}
-use lib.Dec.{eqb, ltb}
+use lib.Dec.{eqb, leb, ltb}
 use Rattle.definition.specs.Numbers.{nameInt}
 use Rattle.definition.specs.Lists.{any, indexOf}
 use Rattle.definition.specs.Maybe.{_>>=_}
@@ -23,6 +23,10 @@ signature n a r = record { name = n; argument = a; result = r }
 -- its types, in the order in which ties go on them: the argument, then the result
 abbrev pub signatureTypes : Signature → List ℕ
 signatureTypes s = s .argument ∷ s .result ∷ []
+
+-- neither the name nor a type is 0
+unfoldable pub isNamed : Signature → Bool
+isNamed s = leb 1 (s .name) && leb 1 (s .argument) && leb 1 (s .result)
 
 pub record Method : Type 0 where
   pub signature : Signature

@@ -7,7 +7,7 @@ use lib.ListN.{length, getElem?, set}
 use lib.Dec.{eqb, leb}
 use Rattle.definition.specs.Numbers.{nameInt, nameObject, operandLimit}
 use Rattle.definition.specs.Maybe.{_>>=_, need}
-use Rattle.definition.specs.Classes.{Signature, Class, Method}
+use Rattle.definition.specs.Classes.{Class, Method, isNamed}
 use Rattle.definition.specs.Instructions.{Instruction, AconstNull, Sipush, Iload, Aload, Istore, Astore, Pop, Dup, Iadd, Isub, Getfield, Putfield, Invokevirtual, New, Ireturn, Areturn, decode}
 
 -- int, null, or a class name
@@ -61,10 +61,6 @@ asReference (typeClass a) = some (typeClass a)
 unfoldable pub pop : {A : Type 0} → List A → Option (record { top : A; more : List A })
 pop [] = none
 pop (x ∷ xs) = some (record { top = x; more = xs })
-
--- none of a signature's names is 0
-unfoldable pub isNamed : Signature → Bool
-isNamed s = leb 1 (s .name) && leb 1 (s .argument) && leb 1 (s .result)
 
 -- at most 16 operands
 abbrev pub flow : List VerifierType → List (Option VerifierType) → List Note → Option Flow
