@@ -13,7 +13,7 @@ use Rattle.definition.specs.Lists.{any, indexOf, rows}
 use Rattle.definition.specs.Requests.{at}
 use Rattle.definition.specs.Superclasses.{Below, nearest, below}
 use Rattle.definition.specs.Classes.{Base, Class, find, superOf, loaderOf, slots, slotIs, hasField, Selected, selected}
-use Rattle.definition.specs.Constraints.{Tie, World, tieIs, newTie, post, newTies, signatureTies}
+use Rattle.definition.specs.Constraints.{Tie, World, tieIs, newTie, post, signatureTies}
 use Rattle.definition.specs.declared.Instruction.the-variants.{Getfield, Putfield, Invokevirtual, New}
 use Rattle.definition.specs.declared.Instruction.{Instruction}
 use Rattle.definition.specs.Instructions.{Decoded, pick}
@@ -25,6 +25,7 @@ use Rattle.definition.specs.Tables.{Tables, tables, entryAt, valueOf, objectAt,
 use Rattle.laws.specs.Agreement.{super-falls}
 use Rattle.laws.specs.Upward.{nearest-below, below-true, below-trans}
 use Rattle.laws.specs.Slots.{slots-below}
+use Rattle.laws.specs.Members.{signature-ties}
 use Rattle.laws.specs.Growth.{nth-lt}
 use Rattle.layout.specs.Places.{stack-length}
 use Rattle.layout.specs.View.{countAt, objects-fill, object-there, object-past}
@@ -59,11 +60,6 @@ int-untied ts l m = go (eqb l m)
 
 pub ties-int : (ts : List Tie) (l m n : ℕ) → tiesOn ts l m n 1 ≡ newTie ts l m n
 ties-int ts l m n = rw (int-untied (ts ++ newTie ts l m n) l m) (append-nil (newTie ts l m n))
-
--- a signature's ties are those on its two types
-pub ties-signature : (ts : List Tie) (l m : ℕ) (s : Signature) → signatureTies ts l m s ≡ tiesOn ts l m (s .argument) (s .result)
-unfolding signatureTies newTies
-ties-signature ts l m s = let us = newTie ts l m (s .argument) in rw (append-nil (newTie (ts ++ us) l m (s .result)))
 
 -- what was found means its ties posted and the rest of the instruction
 resolved : (w : World) (os : List Object) (fs : List Frame) (F : List ℕ) (b q : ℕ) (room : Bool) (one two first second : ℕ) (p : Plan) (us : List Tie) (rest : World → Result Progress)
@@ -296,7 +292,7 @@ module _ (N L K E O F : List ℕ) (b d loader c : ℕ) where
       says = λ I S fs k x y z.
           let T : Tables = tables N L K E I S O F in
           resolved (worldIn B T) (objectsOf B T) fs F b (x + y) (frameRoom fs) one loader (g .argument) (g .result) p (signatureTies (tiesOf T) one loader g)
-          (callMethod B (objectsOf B T) (frameOf F b x d) fs (decoded (Invokevirtual c g) y) e g) (sym (ties-signature (tiesOf T) one loader g))
+          (callMethod B (objectsOf B T) (frameOf F b x d) fs (decoded (Invokevirtual c g) y) e g) (sym (signature-ties (tiesOf T) one loader g))
           (λ w. q .says I S fs w x (decoded (Invokevirtual c g) y))
           ∙ rw (declares, ← z)
           (sym (invoke-found (worldIn B T) (objectsOf B T) (frameOf F b x d) fs k (decoded (Invokevirtual c g) y) c g e (rw z there) _ found));

@@ -8,7 +8,7 @@ use lib.Dec.{eqb, leb, ltb}
 use Rattle.definition.specs.Numbers.{wordUnknown, wordTaken, wordUnverified, wordAbsent, wordHidden, wordClash, wordFull, wordBusy, wordMisnamed, nameObject, loaderLimit, classLimit, cacheLimit, tieLimit, subtypeLimit, objectLimit, fieldLimit}
 use Rattle.definition.specs.Lists.{every, any, isNone}
 use Rattle.definition.specs.Requests.{Request, at}
-use Rattle.definition.specs.Classes.{Base, Class, Field, Method, find, loaderOf, slots, selected, startSignature}
+use Rattle.definition.specs.Classes.{Base, Signature, Class, Field, Method, find, loaderOf, slots, selected, startSignature}
 use Rattle.definition.specs.Constraints.{Tie, Subtype, World, agrees, signatureTies}
 use Rattle.definition.specs.Verifier.{Note, notesOf}
 use Rattle.definition.specs.Machine.{intValue, Object, Frame, newObject, entryFrame, Progress}
@@ -31,12 +31,12 @@ newSubtypes ss l (n ∷ ns) = elim (any (subtypeIs l n) ss) [
 
 -- For each method, ties on argument and result between its loader l and that of the nearest superclass with a method alike, from p upward
 
-unfoldable pub overrideTie : Base → ℕ → ℕ → List Tie → Method → List Tie
-overrideTie b l p ts m = elim (selected b (m .signature) p) [ none ↦ [] | some y ↦ signatureTies ts l (loaderOf b (y .class)) (m .signature) ]
+unfoldable pub overrideTie : Base → ℕ → ℕ → List Tie → Signature → List Tie
+overrideTie b l p ts s = elim (selected b s p) [ none ↦ [] | some y ↦ signatureTies ts l (loaderOf b (y .class)) s ]
 
 unfoldable pub overrideTies : Base → ℕ → ℕ → List Tie → List Method → List Tie
 overrideTies b l p ts [] = []
-overrideTies b l p ts (m ∷ ms) = let us = overrideTie b l p ts m in us ++ overrideTies b l p (ts ++ us) ms
+overrideTies b l p ts (m ∷ ms) = let us = overrideTie b l p ts (m .signature) in us ++ overrideTies b l p (ts ++ us) ms
 
 -- a superclass has a field of that name
 unfoldable pub hides : Base → ℕ → Field → Bool

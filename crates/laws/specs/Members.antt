@@ -2,13 +2,14 @@
 use mathlib.Core.Path.{_≡_, refl, sym, _∙_}
 use mathlib.Core.Bool.{true, _&&_}
 use mathlib.Core.Option.{Option, none, some, Option·none-ne-some, Option·some-injective}
-use mathlib.Core.List.{List, [], List·Memᴰ·not-nil}
+use mathlib.Core.List.{List, [], _++_, append-nil, List·Memᴰ·not-nil}
 use Prim.Native.Nat.{ℕ}
 use lib.ListN.{getElem?}
 use lib.Dec.{eqb}
 use borrow.Author.Tests.{eqb-true, eq-eqb}
 use Rattle.definition.specs.Classes.{Base, Class, Method, Selected, Slot, alike, hasField, hasMethod, loaderOf, methodsOf, ownSlots, sameSignature, selected, slotIs, slots, superOf}
 use Rattle.definition.specs.declared.Signature.{Signature}
+use Rattle.definition.specs.Constraints.{Tie, newTie, newTies, signatureTies}
 use Rattle.definition.specs.Lists.{any, indexOf}
 use Rattle.definition.specs.Maybe.{_>>=_}
 use Rattle.definition.specs.Superclasses.{Below, nearest}
@@ -58,6 +59,11 @@ same-signature s t = (to, λ e. rw e (rw (eq-eqb (t .name) (t .name) refl, eq-eq
 pub alike-is : (s : Signature) (m : Method) → alike s m ≡ true → m .signature ≡ s
 unfolding alike
 alike-is s m h = same-signature (m .signature) s .0 h
+
+-- the ties of a signature are two, one after the other: on its argument and on its result
+pub signature-ties : (ts : List Tie) (l m : ℕ) (s : Signature) → signatureTies ts l m s ≡ newTie ts l m (s .argument) ++ newTie (ts ++ newTie ts l m (s .argument)) l m (s .result)
+unfolding signatureTies newTies
+signature-ties ts l m s = rw (append-nil (newTie (ts ++ newTie ts l m (s .argument)) l m (s .result))) refl
 
 -- the method of that class and place, of signature s
 pub record MethodAt (b : Base) (s : Signature) (m : Selected) : Type 0 where

@@ -67,7 +67,7 @@ subs-there ss l (x ∷ ns) n m = go (any (subtypeIs l x) ss) refl m (λ rs k. su
 abbrev OverThere : Base → ℕ → ℕ → List Tie → Method → Type 0
 OverThere b l p ts m = (y t : ℕ) → nearest (superOf b) (hasMethod b (m .signature)) p ≡ some y → List·Memᴰ t (signatureTypes (m .signature)) → t ≢ 1 → Chain (tieEdges ts) (at l t) (at (loaderOf b y) t)
 
-over-one : (b : Base) (l p : ℕ) (ts : List Tie) (m : Method) → OverThere b l p (ts ++ overrideTie b l p ts m) m
+over-one : (b : Base) (l p : ℕ) (ts : List Tie) (m : Method) → OverThere b l p (ts ++ overrideTie b l p ts (m .signature)) m
 unfolding overrideTie signatureTies
 over-one b l p ts m y t h i z = rw (nearest-selected b (m .signature) p y h .1, overrideTie) (ties-there ts l (loaderOf b y) (signatureTypes (m .signature)) t i z)
 
@@ -76,8 +76,8 @@ over-wider b l p ts us m o y t h i z = rw (tie-edges-more ts us) (chain-more (λ
 
 over-there : (b : Base) (l p : ℕ) (ts : List Tie) (ms : List Method) (m : Method) → List·Memᴰ m ms → OverThere b l p (ts ++ overrideTies b l p ts ms) m
 unfolding overrideTies
-over-there b l p ts (x ∷ ms) m (List·Memᴰ·head q) = rw q (rw append-assoc at (over-wider b l p (ts ++ overrideTie b l p ts x) (overrideTies b l p (ts ++ overrideTie b l p ts x) ms) x (over-one b l p ts x)))
-over-there b l p ts (x ∷ ms) m (List·Memᴰ·tail k) = rw append-assoc at (over-there b l p (ts ++ overrideTie b l p ts x) ms m k)
+over-there b l p ts (x ∷ ms) m (List·Memᴰ·head q) = rw q (rw append-assoc at (over-wider b l p (ts ++ overrideTie b l p ts (x .signature)) (overrideTies b l p (ts ++ overrideTie b l p ts (x .signature)) ms) x (over-one b l p ts x)))
+over-there b l p ts (x ∷ ms) m (List·Memᴰ·tail k) = rw append-assoc at (over-there b l p (ts ++ overrideTie b l p ts (x .signature)) ms m k)
 
 -- each method's notes are among a class's
 notes-at : (k : Class) (ms : List Method) (ns : List Note) → notesOf k ms ≡ some ns → (j : ℕ) (m : Method) → getElem? ms j ≡ some m

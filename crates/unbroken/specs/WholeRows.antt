@@ -10,6 +10,7 @@ use lib.ListN.{length, getElem?, drop, length-append, length-map, length-drop}
 use lib.Seq.{take-append-le, drop-append-le, drop-at, take-length}
 use lib.Dec.{leb}
 use borrow.Author.Tests.{leb-true, ltb-true, le-leb}
+use Rattle.definition.specs.declared.Signature.{Signature}
 use Rattle.definition.specs.Answers.{need}
 use Rattle.definition.specs.Calls.{progressed}
 use Rattle.definition.specs.Classes.{Base, Class, Method, find, loaderOf, superOf, Selected, selected, startSignature, signatureTypes}
@@ -222,18 +223,18 @@ map-last {A} {B} f (y ∷ xs) x = ap {B = List B} (λ r. f y ∷ r) (map-last f 
 -- Constraints that a definition adds lie between loaders
 
 module _ (b : Base) (h : (c : ℕ) (k : Class) → getElem? (b .classes) c ≡ some k → k .loader < 16) (l : ℕ) (a : l < 16) where
-  over-between : (p : ℕ) (ts : List Tie) (m : Method) → All Between (overrideTie b l p ts m)
+  over-between : (p : ℕ) (ts : List Tie) (s : Signature) → All Between (overrideTie b l p ts s)
   unfolding overrideTie signatureTies
-  over-between p ts m = go (selected b (m .signature) p)
+  over-between p ts s = go (selected b s p)
     where
-      go : (o : Option Selected) → All Between (elim o as (λ _. List Tie) [ none ↦ [] | some y ↦ signatureTies ts l (loaderOf b (y .class)) (m .signature) ])
+      go : (o : Option Selected) → All Between (elim o as (λ _. List Tie) [ none ↦ [] | some y ↦ signatureTies ts l (loaderOf b (y .class)) s ])
       go none = tt
-      go (some y) = news-between ts l (loaderOf b (y .class)) (signatureTypes (m .signature)) a (loader-small b h (y .class))
+      go (some y) = news-between ts l (loaderOf b (y .class)) (signatureTypes s) a (loader-small b h (y .class))
 
   pub overs-between : (p : ℕ) (ts : List Tie) (ms : List Method) → All Between (overrideTies b l p ts ms)
   unfolding overrideTies
   overs-between p ts [] = tt
-  overs-between p ts (m ∷ ms) = all-both Between (overrideTie b l p ts m) _ (over-between p ts m) (overs-between p (ts ++ overrideTie b l p ts m) ms)
+  overs-between p ts (m ∷ ms) = all-both Between (overrideTie b l p ts (m .signature)) _ (over-between p ts (m .signature)) (overs-between p (ts ++ overrideTie b l p ts (m .signature)) ms)
 
 pub subs-loader : (l : ℕ) → l < 16 → (ss : List Subtype) (ns : List Note) → All (λ (s : Subtype). s .loader < 16) (newSubtypes ss l ns)
 unfolding newSubtypes

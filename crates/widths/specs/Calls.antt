@@ -6,6 +6,7 @@ use mathlib.Core.List.{List, [], _∷_, _++_}
 use mathlib.Core.Logic.{inl, inr}
 use Prim.Native.Nat.{ℕ, zero, suc, _<_}
 use native.Mathlib.Omega.{arith}
+use Rattle.definition.specs.declared.Signature.{Signature}
 use Rattle.definition.specs.Answers.{ok}
 use Rattle.definition.specs.Lists.{any}
 use Rattle.definition.specs.Classes.{Base, Class, Method, loaderOf, Selected, selected, startSignature}
@@ -22,7 +23,7 @@ use Rattle.layout.specs.Tests.{All, all-both}
 use Rattle.unbroken.specs.Accepted.{recorded-is}
 use Rattle.widths.specs.Below.{below-both}
 use Rattle.widths.specs.Fits.{EntryFits, TieFits, SubtypeFits, ObjectFits, FrameFits, RowsFit}
-use Rattle.widths.specs.Files.{MethodFits, ClassFits, file-fits, classes-fit}
+use Rattle.widths.specs.Files.{MethodFits, ClassFits, file-fits, classes-fit, SignatureFits}
 use Rattle.widths.specs.Notes.{NoteFits, notes-fit}
 use Rattle.widths.specs.Steps.{then-on, take-read, new-fits, entered-fits, ProgressFits, step-fits, signature-ties-fit, selected-fits, PlaceFits}
 
@@ -43,20 +44,20 @@ subtypes-fit ss l (n ∷ ns) h = go (any (subtypeIs l n) ss) (subtypes-fit ss l 
     go true x y = x
     go false x y = (record { low = h .0 .low; high = h .0 .high }, y)
 
-override-fits : (b : Base) (l p : ℕ) (ts : List Tie) (m : Method) → MethodFits m → All TieFits (overrideTie b l p ts m)
+override-fits : (b : Base) (l p : ℕ) (ts : List Tie) (s : Signature) → SignatureFits s → All TieFits (overrideTie b l p ts s)
 unfolding overrideTie
-override-fits b l p ts m h = go (selected b (m .signature) p)
+override-fits b l p ts s h = go (selected b s p)
   where
-    go : (o : Option Selected) → All TieFits (elim o as (λ _. List Tie) [ none ↦ [] | some y ↦ signatureTies ts l (loaderOf b (y .class)) (m .signature) ])
+    go : (o : Option Selected) → All TieFits (elim o as (λ _. List Tie) [ none ↦ [] | some y ↦ signatureTies ts l (loaderOf b (y .class)) s ])
     go none = tt
-    go (some y) = signature-ties-fit ts l (loaderOf b (y .class)) (m .signature) (h .types)
+    go (some y) = signature-ties-fit ts l (loaderOf b (y .class)) s h
 
 overrides-fit : (b : Base) (l p : ℕ) (ts : List Tie) (ms : List Method) → All MethodFits ms → All TieFits (overrideTies b l p ts ms)
 unfolding overrideTies
 overrides-fit b l p ts [] h = tt
 overrides-fit b l p ts (m ∷ ms) h =
-    let us : List Tie = overrideTie b l p ts m in
-    all-both TieFits us _ (override-fits b l p ts m (h .0)) (overrides-fit b l p (ts ++ us) ms (h .1))
+    let us : List Tie = overrideTie b l p ts (m .signature) in
+    all-both TieFits us _ (override-fits b l p ts (m .signature) (h .0 .types)) (overrides-fit b l p (ts ++ us) ms (h .1))
 
 define-world : (room : Bool) (k : Class) (w : World) → ClassFits k → WorldFits w → Ok (define room k w) WorldFits
 unfolding define
