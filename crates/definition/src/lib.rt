@@ -24,6 +24,14 @@ pub enum Reply {
     Denied(Refusal),
 }
 
+// A call's answer as numbers: the refusal's number, 0 if there is none, then three details. An int is its 32 bits.
+pub struct Details {
+    pub refusal: u8,
+    pub one: u32,
+    pub two: u32,
+    pub three: u32,
+}
+
 // A method's signature: its name, its argument's type and its result's.
 pub struct Signature {
     pub name: u16,

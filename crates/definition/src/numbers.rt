@@ -144,7 +144,7 @@ pub const BYTE_RANGE: u16 = 256;
 
 pub const SHORT_RANGE: u32 = 65536;
 
-pub const INT_RANGE: u64 = 4294967296;
+pub const INT_RANGE: usize = 4294967296;
 
 pub const SIGN_BIT: u32 = 2147483648;
 

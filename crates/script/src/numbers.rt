@@ -10,6 +10,11 @@ ghost use Rattle.definition.specs.Script.{upTo, short, int};
 ghost use Rattle.script.specs.Parts.{shortIs};
 ghost use Rattle.script.specs.Numbers.{numberIs, extended, negated};
 
+// The largest number of 16 bits, and the largest int.
+const MOST_SHORT: u32 = SHORT_RANGE - 1;
+
+const MOST_INT: u32 = SIGN_BIT - 1;
+
 // The number n with one digit more, if that is a digit and the number at most `most`.
 fn extend(n: u32, digit: u8, most: u32) -> Number
     ensures { λ r. ⌜ r ≡ numberIs (extended most n digit) ⌝ }
@@ -48,7 +53,7 @@ fn up_to(s: &[u8], most: u32) -> Number
 pub(crate) fn short_number(s: &[u8]) -> Short
     ensures { λ r. ⌜ r ≡ shortIs (short (now (s .entry))) ⌝ }
 {
-    let Number::Value(n) = up_to(s, SHORT_RANGE - 1) else {
+    let Number::Value(n) = up_to(s, MOST_SHORT) else {
         return Short::NoShort;
     };
     Short::Name(n as u16)
@@ -70,5 +75,5 @@ pub(crate) fn int_number(s: &[u8]) -> Number
     if cells::at8(s, 0) == 45 {
         return negative(up_to(after(s, 1), SIGN_BIT));
     }
-    up_to(s, SIGN_BIT - 1)
+    up_to(s, MOST_INT)
 }

@@ -18,6 +18,10 @@ ghost use Rattle.definition.specs.Tables.{tables, sizeOf};
 ghost use Rattle.definition.specs.Broken.{broken};
 ghost use Rattle.resolution.specs.Quick.{quickBase};
 ghost use Rattle.store.specs.Checks.{linkedSize, linksFit, Sized, valuesFit};
+
+// How many fields an object has at most.
+const FIELDS: usize = FIELD_LIMIT as usize;
+
 use resolution::Found;
 
 // The size of class c, where `sizes` has those of the classes below it.
@@ -38,7 +42,7 @@ fn linked_size(
     };
     let own = classfile::field_count(resolution::file_of(counts, classes, kept, number));
     let size = cells::wide8(cells::at8(sizes, cells::wide32(p))) + cells::wide8(own);
-    if FIELD_LIMIT < size {
+    if FIELDS < size {
         return Fields::Unfit;
     }
     Fields::Count(size as u8)

@@ -27,6 +27,9 @@ ghost use lib.Dec.{leb};
 ghost use Rattle.definition.specs.Tables.{tables, shaped};
 ghost use Rattle.definition.specs.Broken.{within};
 
+// The cell of the report's frames.
+const COUNT_REPORT: usize = COUNT_FRAMES + 1;
+
 // The tables have the published lengths.
 pub fn is_shaped(
     counts: &[u16],
@@ -65,10 +68,10 @@ pub fn is_shaped(
 }
 
 // A count that is not over its limit.
-fn is_within(counts: &[u16], i: u8, limit: u16) -> bool
+fn is_within(counts: &[u16], i: usize, limit: u16) -> bool
     ensures { λ r. ⌜ r ≡ leb (getD (now (counts .entry)) i 0) limit ⌝ }
 {
-    cells::at16(counts, cells::wide8(i)) <= limit
+    cells::at16(counts, i) <= limit
 }
 
 pub(crate) fn are_within(counts: &[u16]) -> bool
@@ -95,5 +98,5 @@ pub(crate) fn are_within(counts: &[u16]) -> bool
     if !is_within(counts, COUNT_FRAMES, FRAME_LIMIT) {
         return false;
     }
-    is_within(counts, COUNT_FRAMES + 1, FRAME_LIMIT)
+    is_within(counts, COUNT_REPORT, FRAME_LIMIT)
 }
