@@ -14,7 +14,10 @@ use Rattle.definition.specs.File.{File}
 use Rattle.classfile.specs.declared.FieldFound.{FieldFound}
 use Rattle.classfile.specs.declared.MethodFound.{MethodFound}
 
--- Names and counts: after the version byte and the length
+-- The version byte, and after the length names and counts
+
+unfoldable pub fileVersion : List ℕ → ℕ
+fileVersion bs = getD bs 0 0
 
 unfoldable pub className : List ℕ → ℕ
 className bs = shortAt bs 3
@@ -82,7 +85,7 @@ methodsFrom bs j = rows (methodIn bs) (methodCount bs - j) j
 -- The file
 
 unfoldable pub quickFile : List ℕ → File
-quickFile bs = record { name = className bs; super = superName bs; fields = quickFields bs; methods = quickMethods bs }
+quickFile bs = record { version = fileVersion bs; name = className bs; super = superName bs; fields = quickFields bs; methods = quickMethods bs }
 
 -- Searches, as answers of functions
 

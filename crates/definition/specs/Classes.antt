@@ -32,9 +32,10 @@ pub record Method : Type 0 where
   pub signature : Signature
   pub code : List ℕ
 
--- `loader` is its defining loader, `super` its superclass's name
+-- `loader` is its defining loader, `version` its file's, `super` its superclass's name
 pub record Class : Type 0 where
   pub loader : ℕ
+  pub version : ℕ
   pub name : ℕ
   pub super : ℕ
   pub fields : List Field

@@ -11,6 +11,7 @@ use Rattle.definition.specs.Maybe.{_>>=_, need}
 use Rattle.definition.specs.Classes.{Signature, signature, Class, Field, Method, alike}
 
 pub record File : Type 0 where
+  pub version : ℕ
   pub name : ℕ
   pub super : ℕ
   pub fields : List Field
@@ -77,12 +78,12 @@ readFile bs =
     count (s .more) >>= λ k. fieldsIn (k .value) (k .more) >>= λ fs.
     count (fs .more) >>= λ j. methodsIn (j .value) (j .more) >>= λ ms. need (ends (ms .more)) >>= λ _.
     need (not (doubled sameField (fs .value))) >>= λ _. need (not (doubled sameMethod (ms .value))) >>= λ _.
-    some (record { name = c .value; super = s .value; fields = fs .value; methods = ms .value })
+    some (record { version = v .value; name = c .value; super = s .value; fields = fs .value; methods = ms .value })
 
 -- the class that a loader defines from a file
 abbrev pub classOf : ℕ → File → Class
-classOf l f = record { loader = l; name = f .name; super = f .super; fields = f .fields; methods = f .methods }
+classOf l f = record { loader = l; version = f .version; name = f .name; super = f .super; fields = f .fields; methods = f .methods }
 
--- Object of loader 0, with no superclass, fields or methods; it has no file
+-- Object of loader 0, with no superclass, fields or methods; it has no file, so its version is none
 abbrev pub objectClass : Class
-objectClass = record { loader = 0; name = nameObject; super = 0; fields = []; methods = [] }
+objectClass = record { loader = 0; version = 0; name = nameObject; super = 0; fields = []; methods = [] }

@@ -17,7 +17,7 @@ use Rattle.definition.specs.Tables.{Tables, ClassRow, classRowAt, entryAt}
 use Rattle.laws.specs.Stable.{loader-is}
 use Rattle.layout.specs.Places.{rows-at, rows-past}
 use Rattle.classfile.specs.Lists.{any-index}
-use Rattle.classfile.specs.Reading.{className, superName, quickFields, quickMethods, fieldIs, fieldCount, methodCount, partOf}
+use Rattle.classfile.specs.Reading.{fileVersion, className, superName, quickFields, quickMethods, fieldIs, fieldCount, methodCount, partOf}
 use Rattle.classfile.specs.Searches.{slotOf, own-index, own-slots, own-methods}
 use Rattle.resolution.specs.declared.Found.{Found}
 use Rattle.resolution.specs.declared.Found.the-variants.{At, Absent}
@@ -43,6 +43,7 @@ quickClass kept k =
     let bs = partOf kept (k .start) (k .size) in
     record {
       loader = k .loader;
+      version = fileVersion bs;
       name = pick (eqb (k .size) 0) 2 (className bs);
       super = superName bs;
       fields = quickFields bs;

@@ -37,7 +37,7 @@ boot-own : find (booted .world .base .cache) (at 0 2) ≡ some 0
 unfolding find sameRequest
 boot-own = refl
 
-boot-class : (c : ℕ) (k : Class) → getElem? (booted .world .base .classes) c ≡ some k → (c ≡ 0) × (k ≡ record { loader = 0; name = 2; super = 0; fields = []; methods = [] })
+boot-class : (c : ℕ) (k : Class) → getElem? (booted .world .base .classes) c ≡ some k → (c ≡ 0) × (k ≡ record { loader = 0; version = 0; name = 2; super = 0; fields = []; methods = [] })
 boot-class zero k h = (refl, sym (Option·some-injective _ _ h))
 boot-class (suc c) k h = absurd (Option·none-ne-some k h)
 
