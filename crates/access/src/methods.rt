@@ -74,17 +74,8 @@ fn call_method(
         Receiver::Wrong(word) => instructions::refuse(word),
         Receiver::Right(o) => {
             let c = frames::object_class(objects, o);
-            let Selection::Selected(a, k) = select_from(
-                counts,
-                classes,
-                kept,
-                cache,
-                c,
-                e,
-                m,
-                j,
-                s,
-            ) else {
+            let Selection::Selected(a, k) = select_from(counts, classes, kept, cache, c, e, m, j, s)
+            else {
                 return instructions::refuse(WORD_STUCK);
             };
             Plan::Enter(top - 1, a, k, o, v.kind, v.bits)
@@ -110,7 +101,8 @@ pub fn invokevirtual(
     let Found::At(e) = resolution::find(counts, cache, cells::from8(loader), class) else {
         return Access::Unresolved(Refusal::Wanted(loader, class));
     };
-    let Selection::Selected(m, j) = resolution::select_method(counts, classes, kept, cache, e, s) else {
+    let Selection::Selected(m, j) = resolution::select_method(counts, classes, kept, cache, e, s)
+    else {
         return Access::Unresolved(Refusal::Word(WORD_ABSENT));
     };
     let one = resolution::loader_of(counts, classes, m);

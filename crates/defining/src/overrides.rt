@@ -30,7 +30,8 @@ fn post_override(
     requires { ⌜ (count < 65534) × ((count + 2) * rowCells ≤ length (now ties)) × ((c : ℕ) → loaderOf (quickBase (now counts) (now classes) (now kept) (now cache)) c < loaderLimit) ⌝ }
     ensures { λ r. ⌜ TiesPosted (overrideTie (quickBase (now (counts .entry)) (now (classes .entry)) (now (kept .entry)) (now (cache .entry))) loader p (rows (tieAt (now (ties .entry))) count 0) s) (now (ties .entry)) count (now (ties .exit)) r ⌝ }
 {
-    let Selection::Selected(y, _) = resolution::select_method(counts, classes, kept, cache, p, s) else {
+    let Selection::Selected(y, _) = resolution::select_method(counts, classes, kept, cache, p, s)
+    else {
         return count;
     };
     let other = resolution::loader_of(counts, classes, y) as u8;

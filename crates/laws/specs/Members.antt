@@ -85,15 +85,18 @@ method-at b s c h = go (getElem? (b .classes) c) refl h
     go : (o : Option Class) → getElem? (b .classes) c ≡ o → any (alike s) (Ms o) ≡ true → (j : ℕ) × (indexOf (alike s) (methodsOf b c) ≡ some j) × MethodAt b s (record { class = c; place = j })
     go none e q = absurd (List·Memᴰ·not-nil (any-true (alike s) [] q .1))
     go (some k) e q =
-        let fo = any-found (alike s) (k .methods) q in
-        (fo .place, rw (e, methodsOf) (fo .index), record {
-          theClass = k;
-          method = fo .item;
-          isClass = e;
-          isMethod = fo .there;
-          isSignature = alike-is s (fo .item) (fo .passes);
-          loader = rw (e, loaderOf) refl;
-        })
+        let fo = any-found (alike s) (k .methods) q in (
+          fo .place,
+          rw (e, methodsOf) (fo .index),
+          record {
+            theClass = k;
+            method = fo .item;
+            isClass = e;
+            isMethod = fo .there;
+            isSignature = alike-is s (fo .item) (fo .passes);
+            loader = rw (e, loaderOf) refl;
+          },
+        )
 
 -- what is selected from class c: its class is the nearest upward that declares a method alike, and the method stands at its place there
 pub record SelectedAt (b : Base) (s : Signature) (c : ℕ) (m : Selected) : Type 0 where

@@ -316,8 +316,8 @@ module _ (w : World) (os : List Object) (f : Frame) (fs : List Frame) (k : Class
             let u = posted w us in
             let yy = later-posted w os us in
             let tied : (t : ℕ) → List·Memᴰ t (signatureTypes s) → t ≢ 1 → Tied u (at (loaderOf (w .base) (a .class)) t) (at (k .loader) t)
-                = λ t j h. chain-join (chain-more (ties-more w us) (override w (λ x. at (loaderOf (w .base) x) t) (hasMethod (w .base) s) (λ x p y hx sx qx. lk .over s x p y t hx sx qx j h) bl (sa .near) (sd .near)))
-                (ties-there (w .ties) (loaderOf (w .base) (d .class)) (k .loader) (signatureTypes s) t j h) in
+            = λ t j h. chain-join (chain-more (ties-more w us) (override w (λ x. at (loaderOf (w .base) x) t) (hasMethod (w .base) s) (λ x p y hx sx qx. lk .over s x p y t hx sx qx j h) bl (sa .near) (sd .near)))
+            (ties-there (w .ties) (loaderOf (w .base) (d .class)) (k .loader) (signatureTypes s) t j h) in
             enter u yy (linked-posted w us lk g) (heap-posted w os us hp) s a (sa .there) o z th (sa .above) v
             (carry u os (k .loader) (loaderOf (w .base) (a .class)) (s .argument) v (λ h. tied-turn u (tied (s .argument) (List·Memᴰ·head refl) h)) (later-conforms yy (k .loader) (typeOfName (s .argument)) v cv))
             (tied (s .result) (List·Memᴰ·tail (List·Memᴰ·head refl))) ts rs fe vs ev

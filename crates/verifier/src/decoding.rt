@@ -117,10 +117,7 @@ fn invokevirtual_at(code: &[u8], i: usize) -> Instruction
     requires { ⌜ i ≤ length (now code) ⌝ }
     ensures { λ r. ⌜ some r ≡ instructionOf (now (code .entry)) i Opcode.OpInvokevirtual ⌝ }
 {
-    Instruction::Invokevirtual(
-        short_at(code, i),
-        signature_at(code, i + 2),
-    )
+    Instruction::Invokevirtual(short_at(code, i), signature_at(code, i + 2))
 }
 
 // The instruction of n bytes whose inline bytes begin at place i.
