@@ -7,9 +7,10 @@ use mathlib.Core.Option.{none}
 use Prim.Native.Nat.{ℕ, suc, _+_, _<_, _≤_}
 use lib.ListN.{length, getElem?, set}
 use lib.Dec.{ltb}
+use Rattle.definition.specs.declared.Signature.{Signature}
 use Rattle.definition.specs.Lists.{indexOf}
-use Rattle.definition.specs.Superclasses.{nearest, below}
-use Rattle.definition.specs.Classes.{Base, Class, loaderOf, superOf, slots, slotIs, alike, methodsOf, hasMethod}
+use Rattle.definition.specs.Superclasses.{below}
+use Rattle.definition.specs.Classes.{Base, Class, loaderOf, superOf, slots, slotIs, selected}
 use Rattle.definition.specs.Constraints.{Tie, World, newTie, post}
 use Rattle.definition.specs.declared.Instruction.{Instruction}
 use Rattle.definition.specs.Instructions.{Decoded}
@@ -88,13 +89,12 @@ module _ (B : Base) (os : List Object) (f : Frame) (fs : List Frame) (i : Decode
         result = none;
       })
 
-  -- invokevirtual of method n from t to r
-  unfoldable pub callMethod : ℕ → ℕ → ℕ → World → Result Progress
-  callMethod n t r w =
-      pop! (f .operands) >>= λ p. pop! (p .more) >>= λ q. kind! t (p .top) >>= λ _. object! B os e (q .top) >>= λ o.
-      take? (nearest (superOf B) (hasMethod B n t r) (o .object .class)) (Word 14) >>= λ s.
-      take? (indexOf (alike n t r) (methodsOf B s)) (Word 14) >>= λ j.
-      ok (record { world = w; objects = os; frames = entryFrame s j (o .number) (p .top) ∷ past f i (q .more) (f .locals) ∷ fs; result = none })
+  -- invokevirtual of signature s
+  unfoldable pub callMethod : Signature → World → Result Progress
+  callMethod s w =
+      pop! (f .operands) >>= λ p. pop! (p .more) >>= λ q. kind! (s .argument) (p .top) >>= λ _. object! B os e (q .top) >>= λ o.
+      take? (selected B s (o .object .class)) (Word 14) >>= λ m.
+      ok (record { world = w; objects = os; frames = entryFrame (m .class) (m .place) (o .number) (p .top) ∷ past f i (q .more) (f .locals) ∷ fs; result = none })
 
 -- The receiver: cells of a kind and bits are an object, of class e or below it, or a word says what they are not
 

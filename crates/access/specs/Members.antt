@@ -8,11 +8,12 @@ use Prim.Native.Nat.{ℕ, suc, _+_, _<_, _≤_}
 use lib.ListN.{length, getElem?, getD}
 use lib.Dec.{eqb, ltb, leb}
 use borrow.Author.Tests.{eqb-true, ne-eqb, lt-ltb, ltb-true}
+use Rattle.definition.specs.declared.Signature.{Signature}
 use Rattle.definition.specs.Lists.{any, indexOf, rows}
 use Rattle.definition.specs.Requests.{at}
 use Rattle.definition.specs.Superclasses.{Below, nearest, below}
-use Rattle.definition.specs.Classes.{Base, Class, find, superOf, loaderOf, slots, slotIs, hasField, hasMethod}
-use Rattle.definition.specs.Constraints.{Tie, World, tieIs, newTie, post}
+use Rattle.definition.specs.Classes.{Base, Class, find, superOf, loaderOf, slots, slotIs, hasField, Selected, selected}
+use Rattle.definition.specs.Constraints.{Tie, World, tieIs, newTie, post, signatureTies}
 use Rattle.definition.specs.declared.Instruction.the-variants.{Getfield, Putfield, Invokevirtual, New}
 use Rattle.definition.specs.declared.Instruction.{Instruction}
 use Rattle.definition.specs.Instructions.{Decoded, pick}
@@ -24,6 +25,7 @@ use Rattle.definition.specs.Tables.{Tables, tables, entryAt, valueOf, objectAt,
 use Rattle.laws.specs.Agreement.{super-falls}
 use Rattle.laws.specs.Upward.{nearest-below, below-true, below-trans}
 use Rattle.laws.specs.Slots.{slots-below}
+use Rattle.laws.specs.Members.{signature-ties}
 use Rattle.laws.specs.Growth.{nth-lt}
 use Rattle.layout.specs.Places.{stack-length}
 use Rattle.layout.specs.View.{countAt, objects-fill, object-there, object-past}
@@ -178,21 +180,21 @@ module _ (w : World) (os : List Object) (f : Frame) (fs : List Frame) (k : Class
       unfolding execute take? _>>=_ writeField
       putfield-found = rw (there, found)
 
-module _ (w : World) (os : List Object) (f : Frame) (fs : List Frame) (k : Class) (i : Decoded) (c n t r : ℕ) where
-  pub invoke-wanted : find (w .base .cache) (at (k .loader) c) ≡ none → execute w os f fs k i (Invokevirtual c n t r) ≡ refused (Wanted (k .loader) c)
+module _ (w : World) (os : List Object) (f : Frame) (fs : List Frame) (k : Class) (i : Decoded) (c : ℕ) (s : Signature) where
+  pub invoke-wanted : find (w .base .cache) (at (k .loader) c) ≡ none → execute w os f fs k i (Invokevirtual c s) ≡ refused (Wanted (k .loader) c)
   unfolding execute take? _>>=_
   invoke-wanted h = rw h
 
   module _ (e : ℕ) (there : find (w .base .cache) (at (k .loader) c) ≡ some e) where
-    pub invoke-absent : nearest (superOf (w .base)) (hasMethod (w .base) n t r) e ≡ none → execute w os f fs k i (Invokevirtual c n t r) ≡ refused (Word 7)
+    pub invoke-absent : selected (w .base) s e ≡ none → execute w os f fs k i (Invokevirtual c s) ≡ refused (Word 7)
     unfolding execute take? _>>=_
     invoke-absent h = rw (there, h)
 
-    pub invoke-found : (s : ℕ) → nearest (superOf (w .base)) (hasMethod (w .base) n t r) e ≡ some s
-        → execute w os f fs k i (Invokevirtual c n t r)
-        ≡ (post w (frameRoom fs) (tiesOn (w .ties) (loaderOf (w .base) s) (k .loader) t r) >>= callMethod (w .base) os f fs i e n t r)
+    pub invoke-found : (m : Selected) → selected (w .base) s e ≡ some m
+        → execute w os f fs k i (Invokevirtual c s)
+        ≡ (post w (frameRoom fs) (signatureTies (w .ties) (loaderOf (w .base) (m .class)) (k .loader) s) >>= callMethod (w .base) os f fs i e s)
     unfolding execute take? _>>=_ callMethod
-    invoke-found s found = rw (there, found)
+    invoke-found m found = rw (there, found)
 
 module _ (w : World) (os : List Object) (f : Frame) (fs : List Frame) (k : Class) (i : Decoded) (c : ℕ) where
   pub new-wanted : find (w .base .cache) (at (k .loader) c) ≡ none → execute w os f fs k i (New c) ≡ refused (Wanted (k .loader) c)
@@ -239,9 +241,9 @@ module _ (N L K E O F : List ℕ) (b d loader c : ℕ) where
     putfield-uncached n t = unresolved always t 1 (Putfield c n t) (Wanted loader c) (λ I S fs k p m z.
         rw (← z) (putfield-wanted (worldIn B (tables N L K E I S O F)) (objectsOf B (tables N L K E I S O F)) (frameOf F b p d) fs k (decoded (Putfield c n t) m) c n t (rw z missing)))
 
-    pub invoke-uncached : (n t r : ℕ) → Accessing N L K E O F b d loader frameRoom t r (Invokevirtual c n t r) (Unresolved (Wanted loader c))
-    invoke-uncached n t r = unresolved frameRoom t r (Invokevirtual c n t r) (Wanted loader c) (λ I S fs k p m z.
-        rw (← z) (invoke-wanted (worldIn B (tables N L K E I S O F)) (objectsOf B (tables N L K E I S O F)) (frameOf F b p d) fs k (decoded (Invokevirtual c n t r) m) c n t r (rw z missing)))
+    pub invoke-uncached : (s : Signature) → Accessing N L K E O F b d loader frameRoom (s .argument) (s .result) (Invokevirtual c s) (Unresolved (Wanted loader c))
+    invoke-uncached s = unresolved frameRoom (s .argument) (s .result) (Invokevirtual c s) (Wanted loader c) (λ I S fs k p m z.
+        rw (← z) (invoke-wanted (worldIn B (tables N L K E I S O F)) (objectsOf B (tables N L K E I S O F)) (frameOf F b p d) fs k (decoded (Invokevirtual c s) m) c s (rw z missing)))
 
   module _ (e : ℕ) (there : find (B .cache) (at loader c) ≡ some e) where
     pub getfield-undeclared : (n t : ℕ) → nearest (superOf B) (hasField B n t) e ≡ none → Accessing N L K E O F b d loader always t 1 (Getfield c n t) (Unresolved (Word 7))
@@ -252,10 +254,10 @@ module _ (N L K E O F : List ℕ) (b d loader c : ℕ) where
     putfield-undeclared n t h = unresolved always t 1 (Putfield c n t) (Word 7) (λ I S fs k p m z.
         putfield-absent (worldIn B (tables N L K E I S O F)) (objectsOf B (tables N L K E I S O F)) (frameOf F b p d) fs k (decoded (Putfield c n t) m) c n t e (rw z there) h)
 
-    pub invoke-undeclared : (n t r : ℕ) → nearest (superOf B) (hasMethod B n t r) e ≡ none
-        → Accessing N L K E O F b d loader frameRoom t r (Invokevirtual c n t r) (Unresolved (Word 7))
-    invoke-undeclared n t r h = unresolved frameRoom t r (Invokevirtual c n t r) (Word 7) (λ I S fs k p m z.
-        invoke-absent (worldIn B (tables N L K E I S O F)) (objectsOf B (tables N L K E I S O F)) (frameOf F b p d) fs k (decoded (Invokevirtual c n t r) m) c n t r e (rw z there) h)
+    pub invoke-undeclared : (s : Signature) → selected B s e ≡ none
+        → Accessing N L K E O F b d loader frameRoom (s .argument) (s .result) (Invokevirtual c s) (Unresolved (Word 7))
+    invoke-undeclared s h = unresolved frameRoom (s .argument) (s .result) (Invokevirtual c s) (Word 7) (λ I S fs k p m z.
+        invoke-absent (worldIn B (tables N L K E I S O F)) (objectsOf B (tables N L K E I S O F)) (frameOf F b p d) fs k (decoded (Invokevirtual c s) m) c s e (rw z there) h)
 
   module _ (e : ℕ) (there : find (B .cache) (at loader c) ≡ some e) (s one : ℕ) (declares : one ≡ loaderOf B s) (p : Plan) where
     pub getfield-right : (n t : ℕ) → nearest (superOf B) (hasField B n t) e ≡ some s → Rest N L K E O F b d unlimited (λ B os f fs i. readField B os f fs i e s n t) p
@@ -284,16 +286,16 @@ module _ (N L K E O F : List ℕ) (b d loader c : ℕ) where
       declared = (s, declares);
     }
 
-    pub invoke-right : (n t r : ℕ) → nearest (superOf B) (hasMethod B n t r) e ≡ some s → Rest N L K E O F b d framesLeft (λ B os f fs i. callMethod B os f fs i e n t r) p
-        → Accessing N L K E O F b d loader frameRoom t r (Invokevirtual c n t r) (Resolved one p)
-    invoke-right n t r found q = record {
+    pub invoke-right : (g : Signature) (j : ℕ) → selected B g e ≡ some (record { class = s; place = j }) → Rest N L K E O F b d framesLeft (λ B os f fs i. callMethod B os f fs i e g) p
+        → Accessing N L K E O F b d loader frameRoom (g .argument) (g .result) (Invokevirtual c g) (Resolved one p)
+    invoke-right g j found q = record {
       says = λ I S fs k x y z.
           let T : Tables = tables N L K E I S O F in
-          resolved (worldIn B T) (objectsOf B T) fs F b (x + y) (frameRoom fs) one loader t r p (tiesOn (tiesOf T) one loader t r)
-          (callMethod B (objectsOf B T) (frameOf F b x d) fs (decoded (Invokevirtual c n t r) y) e n t r) refl
-          (λ w. q .says I S fs w x (decoded (Invokevirtual c n t r) y))
+          resolved (worldIn B T) (objectsOf B T) fs F b (x + y) (frameRoom fs) one loader (g .argument) (g .result) p (signatureTies (tiesOf T) one loader g)
+          (callMethod B (objectsOf B T) (frameOf F b x d) fs (decoded (Invokevirtual c g) y) e g) (sym (signature-ties (tiesOf T) one loader g))
+          (λ w. q .says I S fs w x (decoded (Invokevirtual c g) y))
           ∙ rw (declares, ← z)
-          (sym (invoke-found (worldIn B T) (objectsOf B T) (frameOf F b x d) fs k (decoded (Invokevirtual c n t r) y) c n t r e (rw z there) s found));
+          (sym (invoke-found (worldIn B T) (objectsOf B T) (frameOf F b x d) fs k (decoded (Invokevirtual c g) y) c g e (rw z there) _ found));
       fits = λ few I S k gs l. q .fits few I S k (length gs) (ltb-true (suc (length gs)) 32 l);
       declared = (s, declares);
     }

@@ -7,9 +7,10 @@ use mathlib.Core.Logic.{_≢_}
 use Prim.Native.Nat.{ℕ, _-_, _<_, _≤_}
 use native.Mathlib.Omega.{arith}
 use lib.ListN.{getD}
+use Rattle.definition.specs.declared.Signature.{Signature}
 use Rattle.definition.specs.Lists.{indexOf}
 use Rattle.definition.specs.Superclasses.{nearest, below}
-use Rattle.definition.specs.Classes.{Base, superOf, slots, slotIs, hasField, alike, methodsOf, hasMethod}
+use Rattle.definition.specs.Classes.{Base, superOf, slots, slotIs, hasField, Selected, selected}
 use Rattle.definition.specs.declared.Refusal.the-variants.{Word}
 use Rattle.definition.specs.Answers.{refused, ok, _>>=_, take?}
 use Rattle.definition.specs.Machine.{object! }
@@ -183,85 +184,67 @@ module _ (N L K E O F : List ℕ) (b d e : ℕ) where
                 (there x y (d - 1 - 1) reads r receives o is, field-used B (objectAt B O o .class) e s n t j (under x y (d - 1 - 1) reads r receives o is) g h l);
           }
 
-    -- invokevirtual of method n from t to u
-    module _ (n u : ℕ) where
-      abbrev Called : Plan → Type 0
-      Called = Rest N L K E O F b d framesLeft (λ B os f fs i. callMethod B os f fs i e n t u)
+  -- invokevirtual of signature g
+  module _ (g : Signature) (kind bits : ℕ) (deep : d ≢ 0) (value : valueOf kind bits ≡ operandAt F b (d - 1)) where
+    abbrev Called : Plan → Type 0
+    Called = Rest N L K E O F b d framesLeft (λ B os f fs i. callMethod B os f fs i e g)
 
-      pub call-unkind : d - 1 ≢ 0 → isKind t kind bits ≡ false → Called (Refuse (Word 14))
+    pub call-unkind : d - 1 ≢ 0 → isKind (g .argument) kind bits ≡ false → Called (Refuse (Word 14))
+    unfolding callMethod meaning frameOf _>>=_
+    call-unkind two h = record {
+      says = λ I S fs w p i. rw (pop-some (operandAt F b) d deep, pop-some (operandAt F b) (d - 1) two, ← value, kind-not kind bits (g .argument) h);
+      fits = λ few I S k m l. tt;
+    }
+
+    module _ (two : d - 1 ≢ 0) (fit : isKind (g .argument) kind bits ≡ true) (x y : ℕ) (reads : valueOf x y ≡ operandAt F b (d - 1 - 1)) (r : Receiver)
+        (receives : (I S G : List ℕ) → Received B (tables N L K E I S O G) e x y r) where
+      pub call-wrong : (w : ℕ) → r ≡ Wrong w → Called (Refuse (Word w))
       unfolding callMethod meaning frameOf _>>=_
-      call-unkind two h = record {
-        says = λ I S fs w p i. rw (pop-some (operandAt F b) d deep, pop-some (operandAt F b) (d - 1) two, ← value, kind-not kind bits t h);
+      call-wrong w q = record {
+        says = λ I S fs z p i.
+            rw (
+              pop-some (operandAt F b) d deep,
+              pop-some (operandAt F b) (d - 1) two,
+              ← value,
+              kind-is kind bits (g .argument) fit,
+              wrong x y (d - 1 - 1) reads r receives w q I S,
+            );
         fits = λ few I S k m l. tt;
       }
 
-      module _ (two : d - 1 ≢ 0) (fit : isKind t kind bits ≡ true) (x y : ℕ) (reads : valueOf x y ≡ operandAt F b (d - 1 - 1)) (r : Receiver)
-          (receives : (I S G : List ℕ) → Received B (tables N L K E I S O G) e x y r) where
-        pub call-wrong : (w : ℕ) → r ≡ Wrong w → Called (Refuse (Word w))
-        unfolding callMethod meaning frameOf _>>=_
-        call-wrong w q = record {
+      module _ (o : ℕ) (is : r ≡ Right o) where
+        pub call-unselected : selected B g (objectAt B O o .class) ≡ none → Called (Refuse (Word 14))
+        unfolding callMethod meaning frameOf _>>=_ take?
+        call-unselected h = record {
           says = λ I S fs z p i.
               rw (
                 pop-some (operandAt F b) d deep,
                 pop-some (operandAt F b) (d - 1) two,
                 ← value,
-                kind-is kind bits t fit,
-                wrong x y (d - 1 - 1) reads r receives w q I S,
+                kind-is kind bits (g .argument) fit,
+                right x y (d - 1 - 1) reads r receives o is I S,
+                h,
               );
           fits = λ few I S k m l. tt;
         }
 
-        module _ (o : ℕ) (is : r ≡ Right o) where
-          pub call-unselected : nearest (superOf B) (hasMethod B n t u) (objectAt B O o .class) ≡ none → Called (Refuse (Word 14))
-          unfolding callMethod meaning frameOf _>>=_ take?
-          call-unselected h = record {
-            says = λ I S fs z p i.
-                rw (
-                  pop-some (operandAt F b) d deep,
-                  pop-some (operandAt F b) (d - 1) two,
-                  ← value,
-                  kind-is kind bits t fit,
-                  right x y (d - 1 - 1) reads r receives o is I S,
-                  h,
-                );
-            fits = λ few I S k m l. tt;
-          }
-
-          module _ (s : ℕ) (selects : nearest (superOf B) (hasMethod B n t u) (objectAt B O o .class) ≡ some s) where
-            pub call-absent : indexOf (alike n t u) (methodsOf B s) ≡ none → Called (Refuse (Word 14))
-            unfolding callMethod meaning frameOf _>>=_ take?
-            call-absent h = record {
-              says = λ I S fs z p i.
-                  rw (
-                    pop-some (operandAt F b) d deep,
-                    pop-some (operandAt F b) (d - 1) two,
-                    ← value,
-                    kind-is kind bits t fit,
-                    right x y (d - 1 - 1) reads r receives o is I S,
-                    selects,
-                    h,
-                  );
-              fits = λ few I S k m l. tt;
-            }
-
-            pub call-at : (j : ℕ) → indexOf (alike n t u) (methodsOf B s) ≡ some j → Called (Enter (d - 1 - 1) s j o kind bits)
-            unfolding callMethod meaning frameOf _>>=_ take?
-            call-at j h = record {
-              says = λ I S fs z p i.
-                  rw (
-                    pop-some (operandAt F b) d deep,
-                    pop-some (operandAt F b) (d - 1) two,
-                    ← value,
-                    kind-is kind bits t fit,
-                    right x y (d - 1 - 1) reads r receives o is I S,
-                    selects,
-                    h,
-                  );
-              fits = λ few I S k m l. l;
-            }
+        pub call-at : (a : Selected) → selected B g (objectAt B O o .class) ≡ some a → Called (Enter (d - 1 - 1) (a .class) (a .place) o kind bits)
+        unfolding callMethod meaning frameOf _>>=_ take?
+        call-at a h = record {
+          says = λ I S fs z p i.
+              rw (
+                pop-some (operandAt F b) d deep,
+                pop-some (operandAt F b) (d - 1) two,
+                ← value,
+                kind-is kind bits (g .argument) fit,
+                right x y (d - 1 - 1) reads r receives o is I S,
+                h,
+              );
+          fits = λ few I S k m l. l;
+        }
 
   -- fewer than two operands
-  module _ (s n t u : ℕ) where
+  module _ (s n t : ℕ) where
     pub write-none : d ≡ 0 → Rest N L K E O F b d unlimited (λ B os f fs i. writeField B os f fs i e s n t) (Refuse (Word 14))
     unfolding writeField meaning frameOf _>>=_
     write-none h = record { says = λ I S fs w p i. rw (pop-none (operandAt F b) d h); fits = λ few I S k m l. tt }
@@ -270,10 +253,11 @@ module _ (N L K E O F : List ℕ) (b d e : ℕ) where
     unfolding writeField meaning frameOf _>>=_
     write-one deep h = record { says = λ I S fs w p i. rw (pop-some (operandAt F b) d deep, pop-none (operandAt F b) (d - 1) h); fits = λ few I S k m l. tt }
 
-    pub call-none : d ≡ 0 → Rest N L K E O F b d framesLeft (λ B os f fs i. callMethod B os f fs i e n t u) (Refuse (Word 14))
+  module _ (g : Signature) where
+    pub call-none : d ≡ 0 → Rest N L K E O F b d framesLeft (λ B os f fs i. callMethod B os f fs i e g) (Refuse (Word 14))
     unfolding callMethod meaning frameOf _>>=_
     call-none h = record { says = λ I S fs w p i. rw (pop-none (operandAt F b) d h); fits = λ few I S k m l. tt }
 
-    pub call-one : d ≢ 0 → d - 1 ≡ 0 → Rest N L K E O F b d framesLeft (λ B os f fs i. callMethod B os f fs i e n t u) (Refuse (Word 14))
+    pub call-one : d ≢ 0 → d - 1 ≡ 0 → Rest N L K E O F b d framesLeft (λ B os f fs i. callMethod B os f fs i e g) (Refuse (Word 14))
     unfolding callMethod meaning frameOf _>>=_
     call-one deep h = record { says = λ I S fs w p i. rw (pop-some (operandAt F b) d deep, pop-none (operandAt F b) (d - 1) h); fits = λ few I S k m l. tt }

@@ -6,40 +6,40 @@ use definition::numbers::WORD_ABSENT;
 use definition::numbers::WORD_STUCK;
 ghost use mathlib.Core.Path.{_≡_};
 ghost use mathlib.Core.Option.{some};
-ghost use Rattle.definition.specs.Superclasses.{nearest};
-ghost use Rattle.definition.specs.Classes.{superOf, hasMethod};
-ghost use Rattle.resolution.specs.Quick.{quickBase, found};
+ghost use Rattle.definition.specs.Classes.{selected};
+ghost use Rattle.resolution.specs.Quick.{quickBase};
+ghost use Rattle.resolution.specs.Lookups.{selection};
 ghost use Rattle.access.specs.Accesses.{Accessing, frameRoom, callMethod};
 ghost use Rattle.access.specs.Members.{framesLeft, Rest};
 use definition::Instruction;
 use definition::Refusal;
+use definition::Signature;
 use instructions::Plan;
 use resolution::Found;
-use resolution::method_index;
+use resolution::Selection;
 
-// The class whose method is selected from class c; from class e it is class s.
-fn selected(
+// The method selected from class c; from class e it is the one of class d at place j.
+fn select_from(
     counts: &[u16],
     classes: &[u16],
     kept: &[u8],
     cache: &[u16],
     c: u32,
     e: u32,
-    s: u32,
-    name: u16,
-    argument: u16,
-    result: u16,
-) -> Found
-    requires { ⌜ (let B = quickBase (now counts) (now classes) (now kept) (now cache) in nearest (superOf B) (hasMethod B name argument result) e ≡ some s) ⌝ }
-    ensures { λ r. ⌜ (let B = quickBase (now (counts .entry)) (now (classes .entry)) (now (kept .entry)) (now (cache .entry)) in r ≡ found (nearest (superOf B) (hasMethod B name argument result) c)) ⌝ }
+    d: u32,
+    j: u32,
+    s: Signature,
+) -> Selection
+    requires { ⌜ selected (quickBase (now counts) (now classes) (now kept) (now cache)) s e ≡ some (record { class = d; place = j }) ⌝ }
+    ensures { λ r. ⌜ r ≡ selection (selected (quickBase (now (counts .entry)) (now (classes .entry)) (now (kept .entry)) (now (cache .entry))) s c) ⌝ }
 {
     if c == e {
-        return Found::At(s);
+        return Selection::Selected(d, j);
     }
-    resolution::nearest_method(counts, classes, kept, cache, c, name, argument, result)
+    resolution::select_method(counts, classes, kept, cache, c, s)
 }
 
-// invokevirtual, once class s is found to declare the method: a frame is entered in the method selected from the object's own class.
+// invokevirtual, once the method of class m at place j is found: a frame is entered in the method selected from the object's own class.
 fn call_method(
     counts: &[u16],
     classes: &[u16],
@@ -50,13 +50,12 @@ fn call_method(
     b: u32,
     d: u32,
     e: u32,
-    s: u32,
-    name: u16,
-    argument: u16,
-    result: u16,
+    m: u32,
+    j: u32,
+    s: Signature,
 ) -> Plan
-    requires { ⌜ (let B = quickBase (now counts) (now classes) (now kept) (now cache) in nearest (superOf B) (hasMethod B name argument result) e ≡ some s) ⌝ }
-    ensures { λ r. ⌜ Rest (now (counts .entry)) (now (classes .entry)) (now (kept .entry)) (now (cache .entry)) (now (objects .entry)) (now (frames .entry)) b d framesLeft (λ B os f fs i. callMethod B os f fs i e name argument result) r ⌝ }
+    requires { ⌜ selected (quickBase (now counts) (now classes) (now kept) (now cache)) s e ≡ some (record { class = m; place = j }) ⌝ }
+    ensures { λ r. ⌜ Rest (now (counts .entry)) (now (classes .entry)) (now (kept .entry)) (now (cache .entry)) (now (objects .entry)) (now (frames .entry)) b d framesLeft (λ B os f fs i. callMethod B os f fs i e s) r ⌝ }
 {
     if d == 0 {
         return instructions::refuse(WORD_STUCK);
@@ -66,7 +65,7 @@ fn call_method(
         return instructions::refuse(WORD_STUCK);
     }
     let v = frames::operand(frames, b, top);
-    if !instructions::is_kind(argument, v.kind, v.bits) {
+    if !instructions::is_kind(s.argument, v.kind, v.bits) {
         return instructions::refuse(WORD_STUCK);
     }
     let x = frames::operand(frames, b, top - 1);
@@ -75,24 +74,11 @@ fn call_method(
         Receiver::Wrong(word) => instructions::refuse(word),
         Receiver::Right(o) => {
             let c = frames::object_class(objects, o);
-            let Found::At(a) = selected(
-                counts,
-                classes,
-                kept,
-                cache,
-                c,
-                e,
-                s,
-                name,
-                argument,
-                result,
-            ) else {
+            let Selection::Selected(a, k) = select_from(counts, classes, kept, cache, c, e, m, j, s)
+            else {
                 return instructions::refuse(WORD_STUCK);
             };
-            let Found::At(j) = method_index(counts, classes, kept, a, name, argument, result) else {
-                return instructions::refuse(WORD_STUCK);
-            };
-            Plan::Enter(top - 1, a, j, o, v.kind, v.bits)
+            Plan::Enter(top - 1, a, k, o, v.kind, v.bits)
         }
     }
 }
@@ -108,28 +94,18 @@ pub fn invokevirtual(
     d: u32,
     loader: u8,
     class: u16,
-    name: u16,
-    argument: u16,
-    result: u16,
+    s: Signature,
 ) -> Access
-    ensures { λ r. ⌜ Accessing (now (counts .entry)) (now (classes .entry)) (now (kept .entry)) (now (cache .entry)) (now (objects .entry)) (now (frames .entry)) b d loader frameRoom argument result (Instruction.Invokevirtual class name argument result) r ⌝ }
+    ensures { λ r. ⌜ Accessing (now (counts .entry)) (now (classes .entry)) (now (kept .entry)) (now (cache .entry)) (now (objects .entry)) (now (frames .entry)) b d loader frameRoom (s .argument) (s .result) (Instruction.Invokevirtual class s) r ⌝ }
 {
     let Found::At(e) = resolution::find(counts, cache, cells::from8(loader), class) else {
         return Access::Unresolved(Refusal::Wanted(loader, class));
     };
-    let Found::At(s) = resolution::nearest_method(
-        counts,
-        classes,
-        kept,
-        cache,
-        e,
-        name,
-        argument,
-        result,
-    ) else {
+    let Selection::Selected(m, j) = resolution::select_method(counts, classes, kept, cache, e, s)
+    else {
         return Access::Unresolved(Refusal::Word(WORD_ABSENT));
     };
-    let one = resolution::loader_of(counts, classes, s);
+    let one = resolution::loader_of(counts, classes, m);
     Access::Resolved(
         one,
         call_method(
@@ -142,10 +118,9 @@ pub fn invokevirtual(
             b,
             d,
             e,
+            m,
+            j,
             s,
-            name,
-            argument,
-            result,
         ),
     )
 }

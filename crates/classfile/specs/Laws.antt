@@ -13,7 +13,7 @@ use Rattle.definition.specs.Instructions.{shortAt}
 use Rattle.definition.specs.File.{File, readFile, sameField, sameMethod}
 use Rattle.layout.specs.Tests.{same-test}
 use Rattle.classfile.specs.Lists.{_and_, Each}
-use Rattle.classfile.specs.Reading.{className, superName, fieldCount, fieldPlace, quickFields, methodCount, methodPlace, quickMethods, quickFile}
+use Rattle.classfile.specs.Reading.{fileVersion, className, superName, fieldCount, fieldPlace, quickFields, methodCount, methodPlace, quickMethods, quickFile}
 use Rattle.classfile.specs.Rules.{Readable, readable, said, tested}
 use Rattle.classfile.specs.Stages.{Outcome, FieldRule, MethodRule, passes, fails, meant, then, made, moved, needs, needs-le, needs-eq, byte-at, short-at, name-at, count-at, fields-at, methods-at, ends-at}
 
@@ -85,7 +85,7 @@ module _ (bs : List ℕ) where
       and ap not (r .noMethodTwice)
 
   file-read : Outcome (readFile bs) (Readable bs) (quickFile bs)
-  unfolding readFile quickFile quickFields quickMethods className superName fieldCount fieldPlace methodCount methodPlace
+  unfolding readFile quickFile fileVersion quickFields quickMethods className superName fieldCount fieldPlace methodCount methodPlace
   file-read =
       meant readable-asked asked-readable
       (then _ (needs-le (length bs) 4096) (λ _. then _ (byte-at bs 0) (λ _. then _ (needs-eq (getD bs 0 0) 1) (λ _.

@@ -9,12 +9,15 @@ use lib.ListN.{length, getD, take, drop}
 use lib.Dec.{eqb, leb, ltb}
 use Rattle.definition.specs.Lists.{rows}
 use Rattle.definition.specs.Classes.{Field, Method}
-use Rattle.definition.specs.Instructions.{shortAt}
+use Rattle.definition.specs.Instructions.{shortAt, signatureAt}
 use Rattle.definition.specs.File.{File}
 use Rattle.classfile.specs.declared.FieldFound.{FieldFound}
 use Rattle.classfile.specs.declared.MethodFound.{MethodFound}
 
--- Names and counts: after the version byte and the length
+-- The version byte, and after the length names and counts
+
+unfoldable pub fileVersion : List ℕ → ℕ
+fileVersion bs = getD bs 0 0
 
 unfoldable pub className : List ℕ → ℕ
 className bs = shortAt bs 3
@@ -40,7 +43,7 @@ quickFields bs = rows (fieldIn bs) (fieldCount bs) 0
 abbrev pub fieldsFrom : List ℕ → ℕ → List Field
 fieldsFrom bs i = rows (fieldIn bs) (fieldCount bs - i) i
 
--- Methods: one record after another, each with name, argument, result, code length and code
+-- Methods: one record after another, each with its signature, code length and code
 
 unfoldable pub methodCount : List ℕ → ℕ
 methodCount bs = getD bs (fieldPlace (fieldCount bs)) 0
@@ -54,7 +57,7 @@ unfoldable pub codeAt : List ℕ → ℕ → List ℕ
 codeAt bs p = take (codeLength bs p) (drop (p + 8) bs)
 
 unfoldable pub methodAt : List ℕ → ℕ → Method
-methodAt bs p = record { name = shortAt bs p; argument = shortAt bs (p + 2); result = shortAt bs (p + 4); code = codeAt bs p }
+methodAt bs p = record { signature = signatureAt bs p; code = codeAt bs p }
 
 unfoldable pub nextPlace : List ℕ → ℕ → ℕ
 nextPlace bs p = p + 8 + codeLength bs p
@@ -82,7 +85,7 @@ methodsFrom bs j = rows (methodIn bs) (methodCount bs - j) j
 -- The file
 
 unfoldable pub quickFile : List ℕ → File
-quickFile bs = record { name = className bs; super = superName bs; fields = quickFields bs; methods = quickMethods bs }
+quickFile bs = record { version = fileVersion bs; name = className bs; super = superName bs; fields = quickFields bs; methods = quickMethods bs }
 
 -- Searches, as answers of functions
 

@@ -8,7 +8,8 @@ use lib.ListN.{length, getD}
 use lib.Dec.{eqb, leb}
 use borrow.Author.Tests.{leb-true, eqb-true, le-leb, eq-eqb, not-true}
 use Rattle.definition.specs.Lists.{every, rows, doubled}
-use Rattle.definition.specs.Instructions.{shortAt}
+use Rattle.definition.specs.Instructions.{shortAt, signatureAt}
+use Rattle.definition.specs.Classes.{isNamed}
 use Rattle.definition.specs.File.{sameField, sameMethod}
 use Rattle.layout.specs.Tests.{every-true, true-every}
 use Rattle.classfile.specs.Lists.{_and_, each-true, true-each}
@@ -30,7 +31,7 @@ namedField bs i = every (leb 1 (fieldIn bs i .name) ∷ leb 1 (fieldIn bs i .typ
 
 -- of the record at place p: neither name nor a type is 0
 unfoldable pub namedMethod : List ℕ → ℕ → Bool
-namedMethod bs p = every (leb 1 (shortAt bs p) ∷ leb 1 (shortAt bs (p + 2)) ∷ leb 1 (shortAt bs (p + 4)) ∷ [])
+namedMethod bs p = isNamed (signatureAt bs p)
 
 -- of the record at place p: the code has 1 to 512 bytes, and they are there
 unfoldable pub codedMethod : List ℕ → ℕ → Bool
@@ -66,9 +67,7 @@ pub record NamedField (bs : List ℕ) (i : ℕ) : Type 0 where
   pub type : 1 ≤ fieldIn bs i .type
 
 pub record WholeMethod (bs : List ℕ) (p : ℕ) : Type 0 where
-  pub name : 1 ≤ shortAt bs p
-  pub argument : 1 ≤ shortAt bs (p + 2)
-  pub result : 1 ≤ shortAt bs (p + 4)
+  pub named : namedMethod bs p ≡ true
   pub some : 1 ≤ codeLength bs p
   pub few : codeLength bs p ≤ 512
   pub within : nextPlace bs p ≤ length bs
@@ -96,15 +95,12 @@ unfolding namedField
 said-field bs i h = let p = every-true _ h in record { name = leb-true _ _ (p .0); type = leb-true _ _ (p .1 .0) }
 
 said-method : (bs : List ℕ) (p : ℕ) → wholeMethod bs p ≡ true → WholeMethod bs p
-unfolding wholeMethod namedMethod codedMethod
+unfolding wholeMethod codedMethod
 said-method bs p h =
     let q = every-true _ h in
-    let n = every-true _ (q .0) in
     let l = every-true _ (q .1 .0) in
     record {
-      name = leb-true _ _ (n .0);
-      argument = leb-true _ _ (n .1 .0);
-      result = leb-true _ _ (n .1 .1 .0);
+      named = q .0;
       some = leb-true _ _ (l .0);
       few = leb-true _ _ (l .1 .0);
       within = leb-true _ _ (l .1 .1 .0);
@@ -138,10 +134,10 @@ unfolding namedField
 test-field bs i h = true-every _ (le-leb _ _ (h .name) and le-leb _ _ (h .type) and tt)
 
 test-method : (bs : List ℕ) (p : ℕ) → WholeMethod bs p → wholeMethod bs p ≡ true
-unfolding wholeMethod namedMethod codedMethod
+unfolding wholeMethod codedMethod
 test-method bs p h =
     true-every _
-    (true-every _ (le-leb _ _ (h .name) and le-leb _ _ (h .argument) and le-leb _ _ (h .result) and tt)
+    (h .named
     and true-every _ (le-leb _ _ (h .some) and le-leb _ _ (h .few) and le-leb _ _ (h .within) and tt)
     and tt)
 

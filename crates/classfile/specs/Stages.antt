@@ -12,12 +12,12 @@ use lib.Dec.{eqb, leb}
 use borrow.Author.Tests.{leb-true, eqb-true, le-leb, eq-eqb}
 use Rattle.definition.specs.Lists.{rows}
 use Rattle.definition.specs.Maybe.{_>>=_, need}
-use Rattle.definition.specs.Classes.{Method}
-use Rattle.definition.specs.Instructions.{shortAt}
-use Rattle.definition.specs.File.{Got, byte, short, name, count, fieldsIn, methodsIn, ends}
+use Rattle.definition.specs.Classes.{Method, isNamed}
+use Rattle.definition.specs.Instructions.{shortAt, signatureAt}
+use Rattle.definition.specs.File.{Got, byte, short, name, count, fieldsIn, signatureIn, methodsIn, ends}
 use Rattle.classfile.specs.Lists.{le-or-lt, _and_, Each, each-more, each-rest}
 use Rattle.classfile.specs.Reading.{fieldPlace, fieldIn, codeLength, codeAt, methodAt, nextPlace, methodPlace, methodIn}
-use Rattle.classfile.specs.Rules.{NamedField, WholeMethod}
+use Rattle.classfile.specs.Rules.{NamedField, namedMethod, WholeMethod}
 
 -- a reading that gives x where T holds, and else fails
 pub data Outcome {A : Type 0} (m : Option A) (T : Type 0) (x : A) : Type 0 where
@@ -161,26 +161,22 @@ module _ (bs : List ℕ) where
   -- as one method after another is tested
   abbrev MethodsFrom : ℕ → ℕ → ℕ → Type 0
   MethodsFrom k j p =
-      NameRule p
-      × (NameRule (p + 2)
-      × (NameRule (p + 4)
+      ((p + 6 ≤ length bs) × (namedMethod bs p ≡ true))
       × ((p + 6 + 2 ≤ length bs)
-      × (CodeRule (p + 8) (codeLength bs p) × Each MethodRule k (suc j)))))
+      × (CodeRule (p + 8) (codeLength bs p) × Each MethodRule k (suc j)))
 
   method-rule : (k j : ℕ) → MethodsFrom k j (methodPlace bs j) → Each MethodRule (suc k) j
   unfolding nextPlace
   method-rule k j h =
-      let code = h .1 .1 .1 .1 .0 in
+      let code = h .1 .1 .0 in
       each-more MethodRule k j
       (record {
-        name = h .0 .1;
-        argument = h .1 .0 .1;
-        result = h .1 .1 .0 .1;
+        named = h .0 .1;
         some = code .0;
         few = code .1;
         within = code .2;
       })
-      (h .1 .1 .1 .1 .1)
+      (h .1 .1 .1)
 
   method-tests : (k j : ℕ) → Each MethodRule (suc k) j → MethodsFrom k j (methodPlace bs j)
   unfolding nextPlace
@@ -188,12 +184,23 @@ module _ (bs : List ℕ) where
       let p = each-rest MethodRule k j h in
       let m = p .0 in
       let all : methodPlace bs j + 8 + codeLength bs (methodPlace bs j) ≤ length bs = m .within in
-      ((omega arith) and m .name)
-      and ((omega arith) and m .argument)
-      and ((omega arith) and m .result)
+      ((omega arith) and m .named)
       and (omega arith)
       and (m .some, m .few, all)
       and p .1
+
+  -- a signature, at a place: its names are there and none is 0
+  signature-at : (p : ℕ) → Outcome (signatureIn (drop p bs)) ((p + 6 ≤ length bs) × (namedMethod bs p ≡ true)) (got bs (signatureAt bs p) (p + 6))
+  unfolding signatureIn namedMethod isNamed
+  signature-at p =
+      let four : p + 2 + 2 ≡ p + 4 = omega arith in
+      let six : p + 4 + 2 ≡ p + 6 = omega arith in
+      meant
+      (λ h. (omega (arith, h .1 .1 .0), rw (le-leb _ _ (h .0 .1), le-leb _ _ (h .1 .0 .1), le-leb _ _ (h .1 .1 .1))))
+      (λ h.
+      let t = and-rule _ _ _ (h .1) in
+      (omega (arith, h .0), leb-true _ _ (t .0)) and (omega (arith, h .0), leb-true _ _ (t .1)) and (omega (arith, h .0), leb-true _ _ (t .2)))
+      (then _ (name-at 1 p) (λ _. then _ (moved bs four (name-at 1 (p + 2))) (λ _. made _ (moved bs six (name-at 1 (p + 4))))))
 
   -- after the code of the method at place p
   rest-at : (k p : ℕ) {T : Type 0} {x : Got (List Method)}
@@ -207,12 +214,9 @@ module _ (bs : List ℕ) where
   methods-at zero j = let none : j + 0 ≡ j = omega arith in passes (λ i l m. absurd (omega arith)) (rw none)
   methods-at (suc k) j =
       let p = methodPlace bs j in
-      let four : p + 2 + 2 ≡ p + 4 = omega arith in
-      let six : p + 4 + 2 ≡ p + 6 = omega arith in
       let eight : p + 6 + 2 ≡ p + 8 = omega arith in
       let end : suc j + k ≡ j + suc k = omega arith in
       let rest = moved bs (ap (methodPlace bs) end) (methods-at k (suc j)) in
       meant (method-rule k j) (method-tests k j)
-      (then _ (name-at 1 p) (λ _. then _ (moved bs four (name-at 1 (p + 2))) (λ _. then _ (moved bs six (name-at 1 (p + 4))) (λ _.
-      then _ (moved bs eight (short-at (p + 6))) (λ h. then _ (code-rule (p + 8) (shortAt bs (p + 6)) (omega (arith, h))) (λ _.
-      made _ (rest-at k p rest)))))))
+      (then _ (signature-at p) (λ _. then _ (moved bs eight (short-at (p + 6))) (λ h.
+      then _ (code-rule (p + 8) (shortAt bs (p + 6)) (omega (arith, h))) (λ _. made _ (rest-at k p rest)))))

@@ -13,11 +13,10 @@ pub use fields::has_field;
 pub use fields::super_name;
 pub use methods::code;
 pub use methods::find_method;
-pub use methods::method_argument;
+pub use methods::is_named;
 pub use methods::method_count;
-pub use methods::method_name;
 pub use methods::method_place;
-pub use methods::method_result;
+pub use methods::method_signature;
 pub use methods::part;
 pub use rules::reads;
 

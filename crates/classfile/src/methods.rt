@@ -2,10 +2,11 @@
 use crate::MethodFound;
 use crate::fields::field_count;
 use crate::fields::field_place;
+use definition::Signature;
 ghost use mathlib.Core.Path.{_≡_};
 ghost use Prim.Native.Nat.{_+_, _≤_, min};
 ghost use Rattle.definition.specs.Lists.{indexOf};
-ghost use Rattle.definition.specs.Classes.{alike};
+ghost use Rattle.definition.specs.Classes.{alike, isNamed};
 ghost use Rattle.classfile.specs.Lists.{shift};
 ghost use Rattle.classfile.specs.Reading.{methodCount, codeLength, codeAt, methodAt, nextPlace, methodPlace, Placed, quickMethods, methodsFrom};
 ghost use Rattle.classfile.specs.Reading.{methodFound, numbered, partOf};
@@ -16,22 +17,45 @@ pub fn method_count(bytes: &[u8]) -> u8
     cells::at8(bytes, field_place(field_count(bytes)))
 }
 
-pub fn method_name(bytes: &[u8], place: u32) -> u16
-    ensures { λ r. ⌜ r ≡ methodAt (now (bytes .entry)) place .name ⌝ }
+fn method_name(bytes: &[u8], place: u32) -> u16
+    ensures { λ r. ⌜ r ≡ methodAt (now (bytes .entry)) place .signature .name ⌝ }
 {
     cells::short_at(bytes, cells::wide32(place))
 }
 
-pub fn method_argument(bytes: &[u8], place: u32) -> u16
-    ensures { λ r. ⌜ r ≡ methodAt (now (bytes .entry)) place .argument ⌝ }
+fn method_argument(bytes: &[u8], place: u32) -> u16
+    ensures { λ r. ⌜ r ≡ methodAt (now (bytes .entry)) place .signature .argument ⌝ }
 {
     cells::short_at(bytes, cells::wide32(place) + 2)
 }
 
-pub fn method_result(bytes: &[u8], place: u32) -> u16
-    ensures { λ r. ⌜ r ≡ methodAt (now (bytes .entry)) place .result ⌝ }
+fn method_result(bytes: &[u8], place: u32) -> u16
+    ensures { λ r. ⌜ r ≡ methodAt (now (bytes .entry)) place .signature .result ⌝ }
 {
     cells::short_at(bytes, cells::wide32(place) + 4)
+}
+
+pub fn method_signature(bytes: &[u8], place: u32) -> Signature
+    ensures { λ r. ⌜ r ≡ methodAt (now (bytes .entry)) place .signature ⌝ }
+{
+    Signature {
+        name: method_name(bytes, place),
+        argument: method_argument(bytes, place),
+        result: method_result(bytes, place),
+    }
+}
+
+// Neither the name nor a type is 0.
+pub fn is_named(s: Signature) -> bool
+    ensures { λ r. ⌜ r ≡ isNamed s ⌝ }
+{
+    if s.name < 1 {
+        return false;
+    }
+    if s.argument < 1 {
+        return false;
+    }
+    1 <= s.result
 }
 
 pub(crate) fn code_length(bytes: &[u8], place: u32) -> u16
@@ -108,35 +132,29 @@ pub fn method_place(bytes: &[u8], j: u8) -> MethodFound
     }
 }
 
-fn is_alike(bytes: &[u8], place: u32, name: u16, argument: u16, result: u16) -> bool
-    ensures { λ r. ⌜ r ≡ alike name argument result (methodAt (now (bytes .entry)) place) ⌝ }
+// The one comparison of signatures: the name first, the types only where the names are equal.
+fn is_alike(bytes: &[u8], place: u32, s: Signature) -> bool
+    ensures { λ r. ⌜ r ≡ alike s (methodAt (now (bytes .entry)) place) ⌝ }
 {
-    if method_name(bytes, place) != name {
+    if method_name(bytes, place) != s.name {
         return false;
     }
-    if method_argument(bytes, place) != argument {
+    if method_argument(bytes, place) != s.argument {
         return false;
     }
-    method_result(bytes, place) == result
+    method_result(bytes, place) == s.result
 }
 
 // The first method alike in name and both types, from method `first` on, whose record begins at `start`.
-pub(crate) fn alike_from(
-    bytes: &[u8],
-    first: u8,
-    start: u32,
-    name: u16,
-    argument: u16,
-    result: u16,
-) -> MethodFound
+pub(crate) fn alike_from(bytes: &[u8], first: u8, start: u32, s: Signature) -> MethodFound
     requires { ⌜ Placed (now bytes) first start ⌝ }
-    ensures { λ r. ⌜ r ≡ methodFound (now (bytes .entry)) (shift first (indexOf (alike name argument result) (methodsFrom (now (bytes .entry)) first))) ⌝ }
+    ensures { λ r. ⌜ r ≡ methodFound (now (bytes .entry)) (shift first (indexOf (alike s) (methodsFrom (now (bytes .entry)) first))) ⌝ }
 {
     let n = method_count(bytes);
     let mut place = start;
     let mut j = first;
     while j < n {
-        if is_alike(bytes, place, name, argument, result) {
+        if is_alike(bytes, place, s) {
             return MethodFound::At(j, place);
         }
         place = next_place(bytes, place);
@@ -146,8 +164,8 @@ pub(crate) fn alike_from(
 }
 
 // The first method alike in name and both types.
-pub fn find_method(bytes: &[u8], name: u16, argument: u16, result: u16) -> MethodFound
-    ensures { λ r. ⌜ r ≡ methodFound (now (bytes .entry)) (indexOf (alike name argument result) (quickMethods (now (bytes .entry)))) ⌝ }
+pub fn find_method(bytes: &[u8], s: Signature) -> MethodFound
+    ensures { λ r. ⌜ r ≡ methodFound (now (bytes .entry)) (indexOf (alike s) (quickMethods (now (bytes .entry)))) ⌝ }
 {
-    alike_from(bytes, 0, first_place(bytes), name, argument, result)
+    alike_from(bytes, 0, first_place(bytes), s)
 }

@@ -9,10 +9,9 @@ use crate::fields::super_name;
 use crate::methods::alike_from;
 use crate::methods::code_length;
 use crate::methods::first_place;
-use crate::methods::method_argument;
+use crate::methods::is_named;
 use crate::methods::method_count;
-use crate::methods::method_name;
-use crate::methods::method_result;
+use crate::methods::method_signature;
 use crate::methods::next_place;
 use definition::numbers::CODE_LIMIT;
 use definition::numbers::FILE_LIMIT;
@@ -83,13 +82,7 @@ fn are_fields_named(bytes: &[u8]) -> bool
 fn is_named_method(bytes: &[u8], place: u32) -> bool
     ensures { λ r. ⌜ r ≡ namedMethod (now (bytes .entry)) place ⌝ }
 {
-    if method_name(bytes, place) < 1 {
-        return false;
-    }
-    if method_argument(bytes, place) < 1 {
-        return false;
-    }
-    1 <= method_result(bytes, place)
+    is_named(method_signature(bytes, place))
 }
 
 fn is_coded_method(bytes: &[u8], place: u32) -> bool
@@ -151,17 +144,8 @@ fn is_repeated(bytes: &[u8], j: u8, place: u32) -> bool
     requires { ⌜ Placed (now bytes) j place × (j < 255) ⌝ }
     ensures { λ r. ⌜ r ≡ any (sameMethod (methodIn (now (bytes .entry)) j)) (methodsFrom (now (bytes .entry)) (j + 1)) ⌝ }
 {
-    let name = method_name(bytes, place);
-    let argument = method_argument(bytes, place);
-    let result = method_result(bytes, place);
-    let later = alike_from(
-        bytes,
-        j + 1,
-        next_place(bytes, place),
-        name,
-        argument,
-        result,
-    );
+    let s = method_signature(bytes, place);
+    let later = alike_from(bytes, j + 1, next_place(bytes, place), s);
     match later {
         MethodFound::At(_, _) => true,
         MethodFound::Absent => false,

@@ -28,7 +28,7 @@ use Rattle.constraints.specs.declared.Added.the-variants.{Count, Full}
 use Rattle.constraints.specs.Posting.{newSubtypesIn, subtypesAfter, roomy, counted, notesPosted}
 use Rattle.entries.specs.World.{worldIn, Loadable}
 use Rattle.defining.specs.Posting.{TiesPosted}
-use Rattle.defining.specs.Stages.{postedFor, roomFor, newTies, newNotes}
+use Rattle.defining.specs.Stages.{postedFor, roomFor, classTies, newNotes}
 use Rattle.entries.proofs.Laws.{copied}
 
 -- Copies
@@ -116,7 +116,7 @@ module _ (counts classes kept cache ties subtypes : List ℕ) (ld : Loadable cou
   k = classOf l (quickFile bs)
 
   abbrev us : List Tie
-  us = newTies k w p
+  us = classTies k w p
 
   abbrev ss : List Subtype
   ss = newNotes k w ns

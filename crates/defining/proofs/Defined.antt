@@ -6,18 +6,19 @@ use mathlib.Core.List.{List}
 use Prim.Native.Nat.{ℕ, _≤_, _<_}
 use native.Mathlib.Omega.{arith}
 use lib.ListN.{length}
+use Rattle.definition.specs.declared.Signature.{Signature}
 use Rattle.definition.specs.declared.Refusal.{Refusal}
 use Rattle.definition.specs.declared.Refusal.the-variants.{Wanted, Word}
 use borrow.Author.Tests.{lt-ltb, le-ltb}
 use Rattle.definition.specs.Lists.{any, isNone, isSome, rows, writeRows}
 use Rattle.definition.specs.Requests.{at}
 use Rattle.definition.specs.Classes.{Base, Class, find}
-use Rattle.definition.specs.Constraints.{Tie, World}
+use Rattle.definition.specs.Constraints.{World}
 use Rattle.definition.specs.Instructions.{pick}
 use Rattle.definition.specs.Verifier.{Note}
 use Rattle.definition.specs.File.{File, readFile, classOf}
 use Rattle.definition.specs.Answers.{wanted, Result, refused, ok, _>>=_, need, take?}
-use Rattle.definition.specs.Loading.{hides, overrideTie}
+use Rattle.definition.specs.Loading.{hides}
 use Rattle.laws.specs.Results.{bind-ok, ok-inj, take-ok}
 use Rattle.layout.specs.Cells.{rows-back}
 use Rattle.classfile.specs.declared.MethodFound.{MethodFound}
@@ -32,7 +33,6 @@ use Rattle.verifier.proofs.ClassLaws.{class-few, class-says}
 use Rattle.constraints.specs.Posting.{noteAt}
 use Rattle.defining.specs.declared.constraining.Defining.{Defining}
 use Rattle.defining.specs.Stages.{superFor, postedFor, placedFor, definedFrom, define-stages, Decided}
-use Rattle.defining.specs.Posting.{methodLike}
 
 -- The superclass
 
@@ -69,16 +69,15 @@ module _ (bs : List ℕ) (j : ℕ) (h : j < methodCount bs) (r : MethodFound) (e
       let z : _≡_ {A = ℕ} 0 1 = cc (method-absent bs (numbered (methodCount bs) j) (sym e ∙ q), numbered-in (methodCount bs) j h) in
       omega arith
 
-  -- what its place gives is what posting goes by
-  pub method-like : (i p n a x : ℕ) → r ≡ MethodFound.At i p → n ≡ methodAt bs p .name → a ≡ methodAt bs p .argument → x ≡ methodAt bs p .result
-      → (b : Base) (l q : ℕ) (ts : List Tie) → overrideTie b l q ts (methodLike n a x) ≡ overrideTie b l q ts (methodIn bs j)
-  unfolding overrideTie methodIn
-  method-like i p n a x q en ea ex b l c ts =
+  -- the signature at its place is its own
+  pub method-signed : (i p : ℕ) (g : Signature) → r ≡ MethodFound.At i p → g ≡ methodAt bs p .signature → g ≡ methodIn bs j .signature
+  unfolding methodIn
+  method-signed i p g q eg =
       let o = method-at bs (numbered (methodCount bs) j) i p (sym e ∙ q) in
       let s : some j ≡ some i = sym (numbered-in (methodCount bs) j h) ∙ o .0 in
       let z : i ≡ j = cc in
       let w : p ≡ methodPlace bs j = o .1 ∙ ap (methodPlace bs) z in
-      (λ t. overrideTie b l c ts (methodLike (en t) (ea t) (ex t))) ∙ (ap (λ (y : ℕ). overrideTie b l c ts (methodAt bs y)) w)
+      eg ∙ ap (λ (y : ℕ). methodAt bs y .signature) w
 
 -- The stages joined
 

@@ -5,52 +5,56 @@ use mathlib.Core.List.{List, [], _++_}
 use Prim.Native.Nat.{ℕ, _+_, _*_, _-_, _≤_, _<_}
 use native.Mathlib.Omega.{arith}
 use lib.ListN.{length, length-append}
+use Rattle.definition.specs.declared.Signature.{Signature}
 use Rattle.definition.specs.Lists.{rows, writeRows}
-use Rattle.definition.specs.Superclasses.{nearest}
-use Rattle.definition.specs.Classes.{Base, Method, superOf, loaderOf, hasMethod}
-use Rattle.definition.specs.Constraints.{Tie, newTie}
+use Rattle.definition.specs.Classes.{Base, Method, loaderOf, Selected, selected}
+use Rattle.definition.specs.Constraints.{Tie, newTie, signatureTies}
 use Rattle.definition.specs.Loading.{overrideTie, overrideTies}
 use Rattle.definition.specs.Tables.{tieAt, putTie}
 use Rattle.layout.specs.Places.{rows-step, rows-none, rows-start, writeRows-length}
 use Rattle.layout.specs.Cells.{rows-parts, rows-after-more, tie-rows}
 use Rattle.constraints.specs.Posting.{newTieIn, tiesAfter}
 use Rattle.constraints.specs.Laws.{tie-few}
-use Rattle.defining.specs.Posting.{TiesPosted, methodLike}
+use Rattle.defining.specs.Posting.{TiesPosted}
+use Rattle.laws.specs.Members.{signature-ties}
 
 -- At most one tie is new, and at most two for a method
 
-pub override-few : (b : Base) (l p : ℕ) (ts : List Tie) (m : Method) → length (overrideTie b l p ts m) ≤ 2
+pub override-few : (b : Base) (l p : ℕ) (ts : List Tie) (s : Signature) → length (overrideTie b l p ts s) ≤ 2
 unfolding overrideTie
-override-few b l p ts m = go (nearest (superOf b) (hasMethod b (m .name) (m .argument) (m .result)) p)
+override-few b l p ts s = go (selected b s p)
   where
-    go : (o : Option ℕ)
-        → length {A = Tie} (elim o as (λ _. List Tie) [
-          | none ↦ []
-          | some y ↦ (let us = newTie ts l (loaderOf b y) (m .argument) in us ++ newTie (ts ++ us) l (loaderOf b y) (m .result))
-        ]) ≤ 2
+    go : (o : Option Selected) → length {A = Tie} (elim o as (λ _. List Tie) [ none ↦ [] | some y ↦ signatureTies ts l (loaderOf b (y .class)) s ]) ≤ 2
     go none = omega arith
     go (some y) =
-        let us : List Tie = newTie ts l (loaderOf b y) (m .argument) in
-        let vs : List Tie = newTie (ts ++ us) l (loaderOf b y) (m .result) in
-        omega (arith, length-append us vs, tie-few ts l (loaderOf b y) (m .argument), tie-few (ts ++ us) l (loaderOf b y) (m .result))
+        let m : ℕ = loaderOf b (y .class) in
+        let us : List Tie = newTie ts l m (s .argument) in
+        let vs : List Tie = newTie (ts ++ us) l m (s .result) in
+        omega (arith, ap length (signature-ties ts l m s), length-append us vs, tie-few ts l m (s .argument), tie-few (ts ++ us) l m (s .result))
 
 -- One method
 
-module _ (b : Base) (l p n a r : ℕ) (t : List ℕ) (k : ℕ) where
+module _ (b : Base) (l p : ℕ) (s : Signature) (t : List ℕ) (k : ℕ) where
+  abbrev a : ℕ
+  a = s .argument
+
+  abbrev r : ℕ
+  r = s .result
+
   abbrev ts : List Tie
   ts = rows (tieAt t) k 0
 
   -- no superclass has a method alike
-  pub posts-none : nearest (superOf b) (hasMethod b n a r) p ≡ none → TiesPosted (overrideTie b l p ts (methodLike n a r)) t k t k
+  pub posts-none : selected b s p ≡ none → TiesPosted (overrideTie b l p ts s) t k t k
   unfolding overrideTie writeRows
   posts-none e = rw (e, overrideTie) (record { count = sym (omega arith); cells = refl })
 
   -- one has: two ties, one after the other
-  pub posts-two : (y m : ℕ) (u v : List ℕ) (i j : ℕ) → nearest (superOf b) (hasMethod b n a r) p ≡ some y → loaderOf b y ≡ m → (k + 1) * 3 ≤ length t
+  pub posts-two : (y : Selected) (m : ℕ) (u v : List ℕ) (i j : ℕ) → selected b s p ≡ some y → loaderOf b (y .class) ≡ m → (k + 1) * 3 ≤ length t
       → i ≡ k + length (newTieIn t k l m a) → u ≡ tiesAfter t k (newTieIn t k l m a) → j ≡ i + length (newTieIn u i l m r)
-      → v ≡ tiesAfter u i (newTieIn u i l m r) → TiesPosted (overrideTie b l p ts (methodLike n a r)) t k v j
+      → v ≡ tiesAfter u i (newTieIn u i l m r) → TiesPosted (overrideTie b l p ts s) t k v j
   unfolding overrideTie newTieIn tiesAfter
-  posts-two y m u v i j e q h ei eu ej ev = rw (e, overrideTie) (rw q (record { count = count; cells = cells }))
+  posts-two y m u v i j e q h ei eu ej ev = rw (e, overrideTie) (rw (q, signature-ties ts l m s) (record { count = count; cells = cells }))
     where
       us : List Tie
       us = newTie ts l m a
@@ -84,7 +88,7 @@ module _ (b : Base) (l p : ℕ) (g : ℕ → Method) (n : ℕ) where
   posts-start t k = rw (rows-start g n) (record { count = refl; cells = refl })
 
   pub posts-on : (t u X : List ℕ) (k i j N : ℕ) → j < n → (k + 2) * 3 ≤ length t → TiesPosted (left t k j) t k X N
-      → TiesPosted (overrideTie b l p (rows (tieAt t) k 0) (g j)) t k u i → TiesPosted (left u i (j + 1)) u i X N
+      → TiesPosted (overrideTie b l p (rows (tieAt t) k 0) (g j .signature)) t k u i → TiesPosted (left u i (j + 1)) u i X N
   unfolding overrideTies
   posts-on t u X k i j N h room inv one = record { count = count; cells = cells }
     where
@@ -92,13 +96,13 @@ module _ (b : Base) (l p : ℕ) (g : ℕ → Method) (n : ℕ) where
       ts = rows (tieAt t) k 0
 
       us : List Tie
-      us = overrideTie b l p ts (g j)
+      us = overrideTie b l p ts (g j .signature)
 
       vs : List Tie
       vs = overrideTies b l p (ts ++ us) (rows g (n - (j + 1)) (j + 1))
 
       few : length us ≤ 2
-      few = override-few b l p ts (g j)
+      few = override-few b l p ts (g j .signature)
 
       all : left t k j ≡ us ++ vs
       all = ap (overrideTies b l p ts) (rows-step g n j h)
@@ -135,8 +139,8 @@ pub two-few : (t u : List ℕ) (k l m a r i j : ℕ) → i ≡ k + length (newTi
 two-few t u k l m a r i j e q = omega (arith, new-few t k l m a, new-few u i l m r)
 
 -- what a method posts: at most two rows, and the table keeps its length
-pub posted-few : (b : Base) (l p : ℕ) (ts : List Tie) (m : Method) (t : List ℕ) (k : ℕ) (u : List ℕ) (j : ℕ) → TiesPosted (overrideTie b l p ts m) t k u j → j ≤ k + 2
-posted-few b l p ts m t k u j h = omega (arith, h .count, override-few b l p ts m)
+pub posted-few : (b : Base) (l p : ℕ) (ts : List Tie) (s : Signature) (t : List ℕ) (k : ℕ) (u : List ℕ) (j : ℕ) → TiesPosted (overrideTie b l p ts s) t k u j → j ≤ k + 2
+posted-few b l p ts s t k u j h = omega (arith, h .count, override-few b l p ts s)
 
 pub posted-long : (us : List Tie) (t : List ℕ) (k : ℕ) (u : List ℕ) (j : ℕ) → TiesPosted us t k u j → length u ≡ length t
 posted-long us t k u j h = ap length (h .cells) ∙ writeRows-length putTie (tie-rows .long) us k t

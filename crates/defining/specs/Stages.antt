@@ -57,8 +57,8 @@ roomFor b n bs p tied = every
     ∷ [])
 
 -- the constraints of a class below p that are new
-abbrev pub newTies : Class → World → ℕ → List Tie
-newTies k w p = overrideTies (w .base) (k .loader) p (w .ties) (k .methods)
+abbrev pub classTies : Class → World → ℕ → List Tie
+classTies k w p = overrideTies (w .base) (k .loader) p (w .ties) (k .methods)
 
 abbrev pub newNotes : Class → World → List Note → List Subtype
 newNotes k w ns = newSubtypes (w .subtypes) (k .loader) ns

@@ -1,6 +1,7 @@
 // The ties of a file's methods that override others.
 use classfile::MethodFound;
-use resolution::Found;
+use definition::Signature;
+use resolution::Selection;
 ghost use mathlib.Core.Path.{_≡_};
 ghost use Prim.Native.Nat.{ℕ, _+_, _*_, _<_, _≤_};
 ghost use lib.ListN.{length};
@@ -11,7 +12,7 @@ ghost use Rattle.definition.specs.Loading.{overrideTie, overrideTies};
 ghost use Rattle.definition.specs.Classes.{loaderOf};
 ghost use Rattle.classfile.specs.Reading.{methodCount, methodIn, quickMethods};
 ghost use Rattle.resolution.specs.Quick.{quickBase};
-ghost use Rattle.defining.specs.Posting.{TiesPosted, methodLike, triedTiesLength};
+ghost use Rattle.defining.specs.Posting.{TiesPosted, triedTiesLength};
 
 // Ties on argument and result between a loader and that of the nearest class, p or one upward, with a method alike, behind the first rows of a table.
 // Answers the new count.
@@ -24,28 +25,18 @@ fn post_override(
     count: u16,
     loader: u8,
     p: u32,
-    name: u16,
-    argument: u16,
-    result: u16,
+    s: Signature,
 ) -> u16
     requires { ⌜ (count < 65534) × ((count + 2) * rowCells ≤ length (now ties)) × ((c : ℕ) → loaderOf (quickBase (now counts) (now classes) (now kept) (now cache)) c < loaderLimit) ⌝ }
-    ensures { λ r. ⌜ TiesPosted (overrideTie (quickBase (now (counts .entry)) (now (classes .entry)) (now (kept .entry)) (now (cache .entry))) loader p (rows (tieAt (now (ties .entry))) count 0) (methodLike name argument result)) (now (ties .entry)) count (now (ties .exit)) r ⌝ }
+    ensures { λ r. ⌜ TiesPosted (overrideTie (quickBase (now (counts .entry)) (now (classes .entry)) (now (kept .entry)) (now (cache .entry))) loader p (rows (tieAt (now (ties .entry))) count 0) s) (now (ties .entry)) count (now (ties .exit)) r ⌝ }
 {
-    let Found::At(y) = resolution::nearest_method(
-        counts,
-        classes,
-        kept,
-        cache,
-        p,
-        name,
-        argument,
-        result,
-    ) else {
+    let Selection::Selected(y, _) = resolution::select_method(counts, classes, kept, cache, p, s)
+    else {
         return count;
     };
     let other = resolution::loader_of(counts, classes, y) as u8;
-    let first = constraints::add_tie(ties, count, loader, other, argument) as u16;
-    constraints::add_tie(ties, first, loader, other, result) as u16
+    let first = constraints::add_tie(ties, count, loader, other, s.argument) as u16;
+    constraints::add_tie(ties, first, loader, other, s.result) as u16
 }
 
 // The ties of the file's method number j.
@@ -62,27 +53,13 @@ fn post_method(
     j: u8,
 ) -> u16
     requires { ⌜ (j < methodCount (now file)) × (count < 65534) × ((count + 2) * rowCells ≤ length (now ties)) × ((c : ℕ) → loaderOf (quickBase (now counts) (now classes) (now kept) (now cache)) c < loaderLimit) ⌝ }
-    ensures { λ r. ⌜ TiesPosted (overrideTie (quickBase (now (counts .entry)) (now (classes .entry)) (now (kept .entry)) (now (cache .entry))) loader p (rows (tieAt (now (ties .entry))) count 0) (methodIn (now (file .entry)) j)) (now (ties .entry)) count (now (ties .exit)) r ⌝ }
+    ensures { λ r. ⌜ TiesPosted (overrideTie (quickBase (now (counts .entry)) (now (classes .entry)) (now (kept .entry)) (now (cache .entry))) loader p (rows (tieAt (now (ties .entry))) count 0) (methodIn (now (file .entry)) j .signature)) (now (ties .entry)) count (now (ties .exit)) r ⌝ }
 {
     let MethodFound::At(_, place) = classfile::method_place(file, j) else {
         return count;
     };
-    let name = classfile::method_name(file, place);
-    let argument = classfile::method_argument(file, place);
-    let result = classfile::method_result(file, place);
-    post_override(
-        counts,
-        classes,
-        kept,
-        cache,
-        ties,
-        count,
-        loader,
-        p,
-        name,
-        argument,
-        result,
-    )
+    let s = classfile::method_signature(file, place);
+    post_override(counts, classes, kept, cache, ties, count, loader, p, s)
 }
 
 // The ties of all the file's methods.

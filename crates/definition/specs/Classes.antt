@@ -4,23 +4,38 @@ use mathlib.Core.Option.{Option, none, some}
 use mathlib.Core.List.{List, [], _∷_, _++_, map}
 use Prim.Native.Nat.{ℕ, zero, suc}
 use lib.ListN.{getElem?}
-use lib.Dec.{eqb, ltb}
-use Rattle.definition.specs.Lists.{any}
+use lib.Dec.{eqb, leb, ltb}
+use Rattle.definition.specs.Numbers.{nameInt}
+use Rattle.definition.specs.Lists.{any, indexOf}
+use Rattle.definition.specs.Maybe.{_>>=_}
 use Rattle.definition.specs.Requests.{Request, at, sameRequest}
+use Rattle.definition.specs.Superclasses.{nearest}
+pub use Rattle.definition.specs.declared.Signature.{Signature}
 
 pub record Field : Type 0 where
   pub name : ℕ
   pub type : ℕ
 
+-- a signature, the name and both types, is one value: from the file to the search, the call, the override and selection
+abbrev pub signature : ℕ → ℕ → ℕ → Signature
+signature n a r = record { name = n; argument = a; result = r }
+
+-- its types, in the order in which ties go on them: the argument, then the result
+abbrev pub signatureTypes : Signature → List ℕ
+signatureTypes s = s .argument ∷ s .result ∷ []
+
+-- neither the name nor a type is 0
+unfoldable pub isNamed : Signature → Bool
+isNamed s = leb 1 (s .name) && leb 1 (s .argument) && leb 1 (s .result)
+
 pub record Method : Type 0 where
-  pub name : ℕ
-  pub argument : ℕ
-  pub result : ℕ
+  pub signature : Signature
   pub code : List ℕ
 
--- `loader` is its defining loader, `super` its superclass's name
+-- `loader` is its defining loader, `version` its file's, `super` its superclass's name
 pub record Class : Type 0 where
   pub loader : ℕ
+  pub version : ℕ
   pub name : ℕ
   pub super : ℕ
   pub fields : List Field
@@ -82,12 +97,28 @@ hasField w f t c = any (slotIs c f t) (ownSlots w c)
 
 -- Methods are alike in name and both types
 
-unfoldable pub alike : ℕ → ℕ → ℕ → Method → Bool
-alike n a r m = eqb (m .name) n && eqb (m .argument) a && eqb (m .result) r
+unfoldable pub sameSignature : Signature → Signature → Bool
+sameSignature s t = eqb (s .name) (t .name) && eqb (s .argument) (t .argument) && eqb (s .result) (t .result)
+
+unfoldable pub alike : Signature → Method → Bool
+alike s m = sameSignature (m .signature) s
 
 unfoldable pub methodsOf : Base → ℕ → List Method
 methodsOf w c = elim (getElem? (w .classes) c) [ none ↦ [] | some k ↦ k .methods ]
 
 -- class c declares a method alike
-unfoldable pub hasMethod : Base → ℕ → ℕ → ℕ → ℕ → Bool
-hasMethod w n a r c = any (alike n a r) (methodsOf w c)
+unfoldable pub hasMethod : Base → Signature → ℕ → Bool
+hasMethod w s c = any (alike s) (methodsOf w c)
+
+-- a method, by the class that declares it and its place there
+pub record Selected : Type 0 where
+  pub class : ℕ
+  pub place : ℕ
+
+-- the method found from class c: in the nearest class upward, c included, that declares a method alike, the first such
+unfoldable pub selected : Base → Signature → ℕ → Option Selected
+selected w s c = nearest (superOf w) (hasMethod w s) c >>= λ d. indexOf (alike s) (methodsOf w d) >>= λ j. some (record { class = d; place = j })
+
+-- start's method is of (m, int, int)
+abbrev pub startSignature : ℕ → Signature
+startSignature m = signature m nameInt nameInt

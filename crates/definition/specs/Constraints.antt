@@ -10,7 +10,7 @@ use Rattle.definition.specs.Numbers.{wordClash, wordFull, nameInt, tieLi
 use Rattle.definition.specs.Lists.{all, any}
 use Rattle.definition.specs.Requests.{Request, at, Edge, Chain, has, reach}
 use Rattle.definition.specs.Superclasses.{Below, below}
-use Rattle.definition.specs.Classes.{Base, Entry, find, superOf}
+use Rattle.definition.specs.Classes.{Base, Signature, signatureTypes, Entry, find, superOf}
 use Rattle.definition.specs.Answers.{Word, Result, ok, _>>=_, need}
 
 -- a name means one class under two loaders
@@ -83,6 +83,15 @@ tieIs l m n t = eqb (t .name) n && ((eqb (t .one) l && eqb (t .two) m) || (eqb (
 
 unfoldable pub newTie : List Tie → ℕ → ℕ → ℕ → List Tie
 newTie ts l m n = elim (eqb l m || eqb n nameInt || any (tieIs l m n) ts) [ true ↦ [] | false ↦ record { one = l; two = m; name = n } ∷ [] ]
+
+-- on each of these names in turn
+unfoldable pub newTies : List Tie → ℕ → ℕ → List ℕ → List Tie
+newTies ts l m [] = []
+newTies ts l m (n ∷ ns) = let us = newTie ts l m n in us ++ newTies (ts ++ us) l m ns
+
+-- the ties of a signature between two loaders: on its argument, then on its result
+unfoldable pub signatureTies : List Tie → ℕ → ℕ → Signature → List Tie
+signatureTies ts l m s = newTies ts l m (signatureTypes s)
 
 abbrev pub posted : World → List Tie → World
 posted w us = record { base = w .base; ties = w .ties ++ us; subtypes = w .subtypes }

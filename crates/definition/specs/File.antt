@@ -8,9 +8,10 @@ use lib.Dec.{eqb, leb}
 use Rattle.definition.specs.Numbers.{nameObject, versionOne, fileLimit, memberLimit, codeLimit, byteRange}
 use Rattle.definition.specs.Lists.{doubled}
 use Rattle.definition.specs.Maybe.{_>>=_, need}
-use Rattle.definition.specs.Classes.{Class, Field, Method, alike}
+use Rattle.definition.specs.Classes.{Signature, signature, Class, Field, Method, alike}
 
 pub record File : Type 0 where
+  pub version : ℕ
   pub name : ℕ
   pub super : ℕ
   pub fields : List Field
@@ -44,14 +45,18 @@ fieldsIn (suc k) bs =
     name 1 bs >>= λ n. name 1 (n .more) >>= λ t. fieldsIn k (t .more) >>= λ fs.
     some (record { value = record { name = n .value; type = t .value } ∷ fs .value; more = fs .more })
 
--- for each method name, argument type, result type, code length (1 to 512), code
+-- name, argument type, result type
+unfoldable pub signatureIn : List ℕ → Option (Got Signature)
+signatureIn bs = name 1 bs >>= λ n. name 1 (n .more) >>= λ a. name 1 (a .more) >>= λ r. some (record { value = signature (n .value) (a .value) (r .value); more = r .more })
+
+-- for each method its signature, code length (1 to 512), code
 unfoldable pub methodsIn : ℕ → List ℕ → Option (Got (List Method))
 methodsIn zero bs = some (record { value = []; more = bs })
 methodsIn (suc k) bs =
-    name 1 bs >>= λ n. name 1 (n .more) >>= λ a. name 1 (a .more) >>= λ r. short (r .more) >>= λ l.
+    signatureIn bs >>= λ s. short (s .more) >>= λ l.
     need (leb 1 (l .value) && leb (l .value) codeLimit && leb (l .value) (length (l .more))) >>= λ _.
     methodsIn k (drop (l .value) (l .more)) >>= λ ms.
-    some (record { value = record { name = n .value; argument = a .value; result = r .value; code = take (l .value) (l .more) } ∷ ms .value; more = ms .more })
+    some (record { value = record { signature = s .value; code = take (l .value) (l .more) } ∷ ms .value; more = ms .more })
 
 unfoldable pub ends : List ℕ → Bool
 ends [] = true
@@ -62,7 +67,7 @@ unfoldable pub sameField : Field → Field → Bool
 sameField f g = eqb (g .name) (f .name)
 
 unfoldable pub sameMethod : Method → Method → Bool
-sameMethod m n = alike (m .name) (m .argument) (m .result) n
+sameMethod m n = alike (m .signature) n
 
 -- version 1, the length of all that follows it, both class names, fields, methods, nothing after, at most 4,096 bytes, none doubled
 unfoldable pub readFile : List ℕ → Option File
@@ -73,12 +78,12 @@ readFile bs =
     count (s .more) >>= λ k. fieldsIn (k .value) (k .more) >>= λ fs.
     count (fs .more) >>= λ j. methodsIn (j .value) (j .more) >>= λ ms. need (ends (ms .more)) >>= λ _.
     need (not (doubled sameField (fs .value))) >>= λ _. need (not (doubled sameMethod (ms .value))) >>= λ _.
-    some (record { name = c .value; super = s .value; fields = fs .value; methods = ms .value })
+    some (record { version = v .value; name = c .value; super = s .value; fields = fs .value; methods = ms .value })
 
 -- the class that a loader defines from a file
 abbrev pub classOf : ℕ → File → Class
-classOf l f = record { loader = l; name = f .name; super = f .super; fields = f .fields; methods = f .methods }
+classOf l f = record { loader = l; version = f .version; name = f .name; super = f .super; fields = f .fields; methods = f .methods }
 
--- Object of loader 0, with no superclass, fields or methods; it has no file
+-- Object of loader 0, with no superclass, fields or methods; it has no file, so its version is none
 abbrev pub objectClass : Class
-objectClass = record { loader = 0; name = nameObject; super = 0; fields = []; methods = [] }
+objectClass = record { loader = 0; version = 0; name = nameObject; super = 0; fields = []; methods = [] }

@@ -10,6 +10,7 @@ pub use Rattle.definition.specs.declared.Kind.{Kind}
 pub use Rattle.definition.specs.declared.Kind.the-variants.{IntKind, ReferenceKind}
 pub use Rattle.definition.specs.declared.Operator.{Operator}
 pub use Rattle.definition.specs.declared.Operator.the-variants.{Add, Subtract}
+use Rattle.definition.specs.Classes.{Signature, signature}
 pub use Rattle.definition.specs.declared.Opcode.{Opcode}
 pub use Rattle.definition.specs.declared.Opcode.the-variants.{OpAconstNull, OpSipush, OpLoad, OpStore, OpPop, OpDup, OpArithmetic, OpGetfield, OpPutfield, OpInvokevirtual, OpNew, OpReturn, OpUnknown}
 pub use Rattle.definition.specs.declared.Instruction.{Instruction}
@@ -49,6 +50,10 @@ inlineLength OpUnknown = 0
 unfoldable pub shortAt : List ℕ → ℕ → ℕ
 shortAt s i = getD s i 0 * byteRange + getD s (i + 1) 0
 
+-- a signature inline at place i: name, argument, result
+abbrev pub signatureAt : List ℕ → ℕ → Signature
+signatureAt s i = signature (shortAt s i) (shortAt s (i + 2)) (shortAt s (i + 4))
+
 -- signed 16 bits as 32
 unfoldable pub extend : ℕ → ℕ
 extend n = elim (ltb n 32768) [ true ↦ n | false ↦ n + 4294901760 ]
@@ -64,7 +69,7 @@ instructionOf s i OpDup = some Dup
 instructionOf s i (OpArithmetic o) = some (Arithmetic o)
 instructionOf s i OpGetfield = some (Getfield (shortAt s i) (shortAt s (i + 2)) (shortAt s (i + 4)))
 instructionOf s i OpPutfield = some (Putfield (shortAt s i) (shortAt s (i + 2)) (shortAt s (i + 4)))
-instructionOf s i OpInvokevirtual = some (Invokevirtual (shortAt s i) (shortAt s (i + 2)) (shortAt s (i + 4)) (shortAt s (i + 6)))
+instructionOf s i OpInvokevirtual = some (Invokevirtual (shortAt s i) (signatureAt s (i + 2)))
 instructionOf s i OpNew = some (New (shortAt s i))
 instructionOf s i (OpReturn k) = some (Return k)
 instructionOf s i OpUnknown = none

@@ -5,12 +5,11 @@ use mathlib.Core.List.{List, [], _∷_, _++_}
 use Prim.Native.Nat.{ℕ, _+_}
 use lib.ListN.{length, getElem?}
 use lib.Dec.{eqb, leb, ltb}
-use Rattle.definition.specs.Numbers.{wordUnknown, wordTaken, wordUnverified, wordAbsent, wordHidden, wordClash, wordFull, wordBusy, wordMisnamed, nameInt, nameObject, loaderLimit, classLimit, cacheLimit, tieLimit, subtypeLimit, objectLimit, fieldLimit}
-use Rattle.definition.specs.Lists.{every, any, indexOf, isNone}
+use Rattle.definition.specs.Numbers.{wordUnknown, wordTaken, wordUnverified, wordAbsent, wordHidden, wordClash, wordFull, wordBusy, wordMisnamed, nameObject, loaderLimit, classLimit, cacheLimit, tieLimit, subtypeLimit, objectLimit, fieldLimit}
+use Rattle.definition.specs.Lists.{every, any, isNone}
 use Rattle.definition.specs.Requests.{Request, at}
-use Rattle.definition.specs.Superclasses.{nearest}
-use Rattle.definition.specs.Classes.{Base, Class, Field, Method, find, superOf, loaderOf, slots, alike, methodsOf, hasMethod}
-use Rattle.definition.specs.Constraints.{Tie, Subtype, World, agrees, newTie}
+use Rattle.definition.specs.Classes.{Base, Signature, Class, Field, Method, find, loaderOf, slots, selected, startSignature}
+use Rattle.definition.specs.Constraints.{Tie, Subtype, World, agrees, signatureTies}
 use Rattle.definition.specs.Verifier.{Note, notesOf}
 use Rattle.definition.specs.Machine.{intValue, Object, Frame, newObject, entryFrame, Progress}
 use Rattle.definition.specs.Answers.{Word, wanted, Result, ok, _>>=_, need, take?}
@@ -32,15 +31,12 @@ newSubtypes ss l (n ∷ ns) = elim (any (subtypeIs l n) ss) [
 
 -- For each method, ties on argument and result between its loader l and that of the nearest superclass with a method alike, from p upward
 
-unfoldable pub overrideTie : Base → ℕ → ℕ → List Tie → Method → List Tie
-overrideTie b l p ts m = elim (nearest (superOf b) (hasMethod b (m .name) (m .argument) (m .result)) p) [
-  | none ↦ []
-  | some y ↦ let us = newTie ts l (loaderOf b y) (m .argument) in us ++ newTie (ts ++ us) l (loaderOf b y) (m .result)
-]
+unfoldable pub overrideTie : Base → ℕ → ℕ → List Tie → Signature → List Tie
+overrideTie b l p ts s = elim (selected b s p) [ none ↦ [] | some y ↦ signatureTies ts l (loaderOf b (y .class)) s ]
 
 unfoldable pub overrideTies : Base → ℕ → ℕ → List Tie → List Method → List Tie
 overrideTies b l p ts [] = []
-overrideTies b l p ts (m ∷ ms) = let us = overrideTie b l p ts m in us ++ overrideTies b l p (ts ++ us) ms
+overrideTies b l p ts (m ∷ ms) = let us = overrideTie b l p ts (m .signature) in us ++ overrideTies b l p (ts ++ us) ms
 
 -- a superclass has a field of that name
 unfoldable pub hides : Base → ℕ → Field → Bool
@@ -101,7 +97,6 @@ started l n m v w os fs =
     need (ltb l loaderLimit && leb nameObject n && leb 1 m) (Word wordUnknown) >>= λ _.
     need (leb (length fs) 0) (Word wordBusy) >>= λ _.
     take? (find (w .base .cache) (at l n)) (wanted (at l n)) >>= λ c.
-    take? (nearest (superOf (w .base)) (hasMethod (w .base) m nameInt nameInt) c) (Word wordAbsent) >>= λ s.
-    take? (indexOf (alike m nameInt nameInt) (methodsOf (w .base) s)) (Word wordAbsent) >>= λ j.
+    take? (selected (w .base) (startSignature m) c) (Word wordAbsent) >>= λ s.
     need (ltb (length os) objectLimit) (Word wordFull) >>= λ _.
-    ok (record { world = w; objects = os ++ (newObject (w .base) c ∷ []); frames = entryFrame s j (length os) (intValue v) ∷ []; result = none })
+    ok (record { world = w; objects = os ++ (newObject (w .base) c ∷ []); frames = entryFrame (s .class) (s .place) (length os) (intValue v) ∷ []; result = none })

@@ -9,8 +9,8 @@ use Rattle.definition.specs.Numbers.{wordAbsent, wordFull, wordNull, wor
 use Rattle.definition.specs.Lists.{indexOf}
 use Rattle.definition.specs.Requests.{at}
 use Rattle.definition.specs.Superclasses.{nearest, below}
-use Rattle.definition.specs.Classes.{Base, Class, Method, find, superOf, loaderOf, Slot, slots, slotIs, hasField, alike, methodsOf, hasMethod}
-use Rattle.definition.specs.Constraints.{World, newTie, post}
+use Rattle.definition.specs.Classes.{Base, Class, Method, find, superOf, loaderOf, Slot, slots, slotIs, hasField, selected}
+use Rattle.definition.specs.Constraints.{World, newTie, signatureTies, post}
 use Rattle.definition.specs.Instructions.{Kind, IntKind, ReferenceKind, Operator, Add, Subtract, Instruction, AconstNull, Sipush, Load, Store, Pop, Dup, Arithmetic, Getfield, Putfield, Invokevirtual, New, Return, Decoded, decode}
 use Rattle.definition.specs.Verifier.{pop}
 use Rattle.definition.specs.Answers.{Word, wanted, Result, refused, ok, _>>=_, need, take?}
@@ -177,16 +177,13 @@ module _ (w : World) (os : List Object) (f : Frame) (fs : List Frame) (k : Class
         frames = past f i (q .more) (f .locals) ∷ fs;
         result = none;
       })
-  execute (Invokevirtual c n t r) =
+  execute (Invokevirtual c s) =
       take? (find (w .base .cache) (at (k .loader) c)) (wanted (at (k .loader) c)) >>= λ e.
-      take? (nearest (superOf (w .base)) (hasMethod (w .base) n t r) e) (Word wordAbsent) >>= λ d.
-      (let us = newTie (w .ties) (loaderOf (w .base) d) (k .loader) t in
-      let vs = newTie (w .ties ++ us) (loaderOf (w .base) d) (k .loader) r in
-      post w (ltb (suc (length fs)) frameLimit) (us ++ vs)) >>= λ w′.
-      pop! (f .operands) >>= λ p. pop! (p .more) >>= λ q. kind! t (p .top) >>= λ _. object! (w .base) os e (q .top) >>= λ o.
-      take? (nearest (superOf (w .base)) (hasMethod (w .base) n t r) (o .object .class)) (Word wordStuck) >>= λ s.
-      take? (indexOf (alike n t r) (methodsOf (w .base) s)) (Word wordStuck) >>= λ j.
-      ok (record { world = w′; objects = os; frames = entryFrame s j (o .number) (p .top) ∷ past f i (q .more) (f .locals) ∷ fs; result = none })
+      take? (selected (w .base) s e) (Word wordAbsent) >>= λ d.
+      post w (ltb (suc (length fs)) frameLimit) (signatureTies (w .ties) (loaderOf (w .base) (d .class)) (k .loader) s) >>= λ w′.
+      pop! (f .operands) >>= λ p. pop! (p .more) >>= λ q. kind! (s .argument) (p .top) >>= λ _. object! (w .base) os e (q .top) >>= λ o.
+      take? (selected (w .base) s (o .object .class)) (Word wordStuck) >>= λ m.
+      ok (record { world = w′; objects = os; frames = entryFrame (m .class) (m .place) (o .number) (p .top) ∷ past f i (q .more) (f .locals) ∷ fs; result = none })
   execute (New c) =
       take? (find (w .base .cache) (at (k .loader) c)) (wanted (at (k .loader) c)) >>= λ e.
       need (ltb (length os) objectLimit && ltb (length (f .operands)) operandLimit) (Word wordFull) >>= λ _.

@@ -7,7 +7,7 @@ use lib.ListN.{length, getElem?, set}
 use lib.Dec.{eqb, leb}
 use Rattle.definition.specs.Numbers.{nameInt, nameObject, operandLimit}
 use Rattle.definition.specs.Maybe.{_>>=_, need}
-use Rattle.definition.specs.Classes.{Class, Method}
+use Rattle.definition.specs.Classes.{Class, Method, isNamed}
 use Rattle.definition.specs.Instructions.{Kind, IntKind, ReferenceKind, Instruction, AconstNull, Sipush, Load, Store, Pop, Dup, Arithmetic, Getfield, Putfield, Invokevirtual, New, Return, decode}
 
 -- int, null, or a class name
@@ -36,7 +36,7 @@ typeOfName n = elim (eqb n nameInt) [ true ↦ typeInt | false ↦ typeClass n ]
 
 -- point 0: local 0 the class's own name, local 1 the argument type, the rest unset
 abbrev pub entryTypes : Class → Method → TypeState
-entryTypes k m = record { operands = []; locals = some (typeClass (k .name)) ∷ some (typeOfName (m .argument)) ∷ none ∷ none ∷ none ∷ none ∷ none ∷ none ∷ [] }
+entryTypes k m = record { operands = []; locals = some (typeClass (k .name)) ∷ some (typeOfName (m .signature .argument)) ∷ none ∷ none ∷ none ∷ none ∷ none ∷ none ∷ [] }
 
 -- The notes under which a type stands where class b, int, or name b is demanded
 
@@ -86,9 +86,9 @@ effect (Getfield c f t) s =
 effect (Putfield c f t) s =
     need (leb nameObject c && leb 1 f && leb 1 t) >>= λ _. pop (s .operands) >>= λ p. pop (p .more) >>= λ q.
     meetClass c (q .top) >>= λ a. meets (p .top) t >>= λ b. flow (q .more) (s .locals) (a ++ b)
-effect (Invokevirtual c m t r) s =
-    need (leb nameObject c && leb 1 m && leb 1 t && leb 1 r) >>= λ _. pop (s .operands) >>= λ p. pop (p .more) >>= λ q.
-    meetClass c (q .top) >>= λ a. meets (p .top) t >>= λ b. flow (typeOfName r ∷ q .more) (s .locals) (a ++ b)
+effect (Invokevirtual c m) s =
+    need (leb nameObject c && isNamed m) >>= λ _. pop (s .operands) >>= λ p. pop (p .more) >>= λ q.
+    meetClass c (q .top) >>= λ a. meets (p .top) (m .argument) >>= λ b. flow (typeOfName (m .result) ∷ q .more) (s .locals) (a ++ b)
 effect (New c) s = need (leb nameObject c) >>= λ _. flow (typeClass c ∷ s .operands) (s .locals) []
 effect (Return kind) s = none
 
@@ -103,7 +103,7 @@ returnKind Dup = none
 returnKind (Arithmetic o) = none
 returnKind (Getfield c f t) = none
 returnKind (Putfield c f t) = none
-returnKind (Invokevirtual c m t r) = none
+returnKind (Invokevirtual c m) = none
 returnKind (New c) = none
 returnKind (Return kind) = some kind
 
@@ -132,10 +132,10 @@ module _ (code : List ℕ) (result : ℕ) where
 -- What is said of a method: its notes, and the types at a point
 
 unfoldable pub notesOfMethod : Class → Method → Option (List Note)
-notesOfMethod k m = verify (m .code) (m .result) (length (m .code)) 0 (entryTypes k m)
+notesOfMethod k m = verify (m .code) (m .signature .result) (length (m .code)) 0 (entryTypes k m)
 
 unfoldable pub typesIn : Class → Method → ℕ → Option TypeState
-typesIn k m q = typesAt (m .code) (m .result) (length (m .code)) 0 (entryTypes k m) q
+typesIn k m q = typesAt (m .code) (m .signature .result) (length (m .code)) 0 (entryTypes k m) q
 
 -- notes in order of method, then point
 unfoldable pub notesOf : Class → List Method → Option (List Note)

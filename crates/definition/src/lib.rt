@@ -32,6 +32,13 @@ pub struct Details {
     pub three: u32,
 }
 
+// A method's signature: its name, its argument's type and its result's.
+pub struct Signature {
+    pub name: u16,
+    pub argument: u16,
+    pub result: u16,
+}
+
 // Whether a value is an int, or a reference: null or an object.
 pub enum Kind {
     IntKind,
@@ -61,7 +68,7 @@ pub enum Opcode {
     OpUnknown,
 }
 
-// An instruction: its opcode and what stands inline. A local is its number, the int of sipush its 32 bits, the others names.
+// An instruction: its opcode and what stands inline. A local is its number, the int of sipush its 32 bits, the others names and a signature.
 pub enum Instruction {
     AconstNull,
     Sipush(u32),
@@ -72,7 +79,7 @@ pub enum Instruction {
     Arithmetic(Operator),
     Getfield(u16, u16, u16),
     Putfield(u16, u16, u16),
-    Invokevirtual(u16, u16, u16, u16),
+    Invokevirtual(u16, Signature),
     New(u16),
     Return(Kind),
 }

@@ -98,7 +98,7 @@ fn act(
                 of,
             ),
         ),
-        Instruction::Invokevirtual(class, name, argument, result) => settle_access(
+        Instruction::Invokevirtual(class, s) => settle_access(
             counts,
             classes,
             kept,
@@ -107,8 +107,8 @@ fn act(
             subtypes,
             m + 1 < FRAME_LIMIT,
             loader,
-            argument,
-            result,
+            s.argument,
+            s.result,
             access::invokevirtual(
                 counts,
                 classes,
@@ -120,9 +120,7 @@ fn act(
                 d,
                 loader,
                 class,
-                name,
-                argument,
-                result,
+                s,
             ),
         ),
         Instruction::New(class) => plain(access::new_object(

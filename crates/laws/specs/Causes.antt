@@ -8,14 +8,15 @@ use lib.ListN.{length, getElem?}
 use lib.Dec.{eqb, leb, ltb}
 use Rattle.definition.specs.declared.Kind.{Kind}
 use Rattle.definition.specs.declared.Kind.the-variants.{IntKind, ReferenceKind}
+use Rattle.definition.specs.declared.Signature.{Signature}
 use Rattle.definition.specs.declared.Instruction.{Instruction}
 use Rattle.definition.specs.declared.Instruction.the-variants.{AconstNull, Sipush, Load, Store, Pop, Dup, Arithmetic, Getfield, Putfield, Invokevirtual, New, Return}
 use Rattle.definition.specs.Lists.{every, any, isSome, isNone}
 use Rattle.definition.specs.Maybe.{_>>=_}
 use Rattle.definition.specs.Requests.{at}
 use Rattle.definition.specs.Superclasses.{nearest, below}
-use Rattle.definition.specs.Classes.{Class, find, superOf, loaderOf, slots, hasField, hasMethod}
-use Rattle.definition.specs.Constraints.{Tie, World, agrees, newTie, agreesAfter}
+use Rattle.definition.specs.Classes.{Class, find, superOf, loaderOf, slots, hasField, Selected, selected, startSignature}
+use Rattle.definition.specs.Constraints.{Tie, World, agrees, newTie, signatureTies, agreesAfter}
 use Rattle.definition.specs.Instructions.{decode}
 use Rattle.definition.specs.Verifier.{Note, notesOf}
 use Rattle.definition.specs.Machine.{Value, emptyValue, intValue, nullValue, objectValue, unlistedValue, Object, Frame, Now, existing}
@@ -96,7 +97,7 @@ startCauses k l n m r =
     cause 3 (not (ltb k 2) || not (ltb l 16 && leb 2 n && leb 1 m))
     ∷ cause 12 (not (leb (length (framesIn k r)) 0))
     ∷ cause 5 (isNone cached)
-    ∷ cause 7 (isSomeAnd cached (λ c. isNone (nearest (superOf (worldOf r .base)) (hasMethod (worldOf r .base) m 1 1) c)))
+    ∷ cause 7 (isSomeAnd cached (λ c. isNone (selected (worldOf r .base) (startSignature m) c)))
     ∷ cause 10 (not (ltb (length (r .objects)) 256))
     ∷ []
 
@@ -159,12 +160,12 @@ module _ (w : World) (os : List Object) where
   receives e (unlistedValue α β) = false
 
   -- null, or an object from whose class a method is selected
-  abbrev pub selects : ℕ → ℕ → ℕ → Value → Bool
-  selects n t r emptyValue = false
-  selects n t r (intValue m) = false
-  selects n t r nullValue = true
-  selects n t r (objectValue o) = isSomeAnd (existing os o) (λ b. isSome (nearest (superOf (w .base)) (hasMethod (w .base) n t r) (b .class)))
-  selects n t r (unlistedValue α β) = false
+  abbrev pub selects : Signature → Value → Bool
+  selects s emptyValue = false
+  selects s (intValue m) = false
+  selects s nullValue = true
+  selects s (objectValue o) = isSomeAnd (existing os o) (λ b. isSome (selected (w .base) s (b .class)))
+  selects s (unlistedValue α β) = false
 
 -- of an instruction that names no class
 abbrev pub plainly : Bool → Bool → List Cause
@@ -179,15 +180,15 @@ module _ (w : World) (k : Class) where
   abbrev pub upward : (ℕ → Bool) → ℕ → Option ℕ
   upward test e = nearest (superOf (w .base)) test e
 
-  -- the ties that a field of type t posts, and that a method of types t and r posts, where class d declares it
+  -- the ties that a field of type t posts, where class d declares it, and that a method of signature s does
   abbrev pub fieldTies : ℕ → ℕ → List Tie
   fieldTies t d = newTie (w .ties) (loaderOf (w .base) d) (k .loader) t
 
-  abbrev pub methodTies : ℕ → ℕ → ℕ → List Tie
-  methodTies t r d = fieldTies t d ++ newTie (w .ties ++ fieldTies t d) (loaderOf (w .base) d) (k .loader) r
+  abbrev pub methodTies : Signature → Selected → List Tie
+  methodTies s m = signatureTies (w .ties) (loaderOf (w .base) (m .class)) (k .loader) s
 
-  -- of an instruction that names class c, which means e, and looks upward for the class d that declares a member
-  unfoldable pub accessing : Option ℕ → (ℕ → Option ℕ) → (ℕ → List Tie) → Bool → (ℕ → Bool) → Bool → List Cause
+  -- of an instruction that names class c, which means e, and looks upward for a member d
+  unfoldable pub accessing : {A : Type 0} → Option ℕ → (ℕ → Option A) → (A → List Tie) → Bool → (ℕ → Bool) → Bool → List Cause
   accessing means looks ties room fits null =
       let declares = means >>= looks in
       cause 5 (isNone means)
@@ -220,9 +221,9 @@ module _ (w : World) (os : List Object) (f : Frame) (fs : List Frame) (k : Class
   instructionCauses (Putfield c n t) =
       accessing w k (named w k c) (upward w k (hasField (w .base) n t)) (fieldTies w k t) true
       (λ e. isSomeAnd (operand 0) (ofKind t) && isSomeAnd (operand 1) (receives w os e)) (isSomeAnd (operand 1) aNull)
-  instructionCauses (Invokevirtual c n t r) =
-      accessing w k (named w k c) (upward w k (hasMethod (w .base) n t r)) (methodTies w k t r) (ltb (suc (length fs)) 32)
-      (λ e. isSomeAnd (operand 0) (ofKind t) && isSomeAnd (operand 1) (λ v. receives w os e v && selects w os n t r v)) (isSomeAnd (operand 1) aNull)
+  instructionCauses (Invokevirtual c s) =
+      accessing w k (named w k c) (selected (w .base) s) (methodTies w k s) (ltb (suc (length fs)) 32)
+      (λ e. isSomeAnd (operand 0) (ofKind (s .argument)) && isSomeAnd (operand 1) (λ v. receives w os e v && selects w os s v)) (isSomeAnd (operand 1) aNull)
   instructionCauses (New c) =
       cause 5 (isNone (named w k c)) ∷ cause 7 false ∷ cause 10 (not (ltb (length os) 256 && ltb (length (f .operands)) 16)) ∷ cause 9 false ∷ cause 14 false ∷ cause 11 false ∷ []
   instructionCauses (Return kind) =
@@ -277,7 +278,7 @@ instruction-order w os f fs k Dup = refl
 instruction-order w os f fs k (Arithmetic o) = refl
 instruction-order w os f fs k (Getfield c n t) = refl
 instruction-order w os f fs k (Putfield c n t) = refl
-instruction-order w os f fs k (Invokevirtual c n t r) = refl
+instruction-order w os f fs k (Invokevirtual c s) = refl
 instruction-order w os f fs k (New c) = refl
 instruction-order w os f fs k (Return kind) = refl
 

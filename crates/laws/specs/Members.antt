@@ -1,17 +1,22 @@
 -- Where a class keeps what a lookup found: a field's place in the objects of each class below, a method's place in its class.
-use mathlib.Core.Path.{_≡_, refl}
+use mathlib.Core.Path.{_≡_, refl, sym, _∙_}
 use mathlib.Core.Bool.{true, _&&_}
-use mathlib.Core.Option.{Option, none, some}
-use mathlib.Core.List.{List, [], List·Memᴰ·not-nil}
+use mathlib.Core.Option.{Option, none, some, Option·none-ne-some, Option·some-injective}
+use mathlib.Core.List.{List, [], _++_, append-nil, List·Memᴰ·not-nil}
 use Prim.Native.Nat.{ℕ}
 use lib.ListN.{getElem?}
 use lib.Dec.{eqb}
-use borrow.Author.Tests.{eqb-true}
-use Rattle.definition.specs.Classes.{Base, Class, Method, Slot, alike, hasField, hasMethod, loaderOf, methodsOf, ownSlots, slotIs, slots, superOf}
+use borrow.Author.Tests.{eqb-true, eq-eqb}
+use Rattle.definition.specs.Classes.{Base, Class, Method, Selected, Slot, alike, hasField, hasMethod, loaderOf, methodsOf, ownSlots, sameSignature, selected, slotIs, slots, superOf}
+use Rattle.definition.specs.declared.Signature.{Signature}
+use Rattle.definition.specs.Constraints.{Tie, newTie, newTies, signatureTies}
 use Rattle.definition.specs.Lists.{any, indexOf}
-use Rattle.definition.specs.Superclasses.{Below}
+use Rattle.definition.specs.Maybe.{_>>=_}
+use Rattle.definition.specs.Superclasses.{Below, nearest}
+use Rattle.laws.specs.Agreement.{super-falls}
 use Rattle.laws.specs.Slots.{slots-below, slots-own}
 use Rattle.laws.specs.Tests.{and-true, any-found, any-right, any-true}
+use Rattle.laws.specs.Upward.{nearest-below}
 
 -- the field that class d declares, among the fields of a class c below it
 pub record FieldPlace (b : Base) (c d n t : ℕ) : Type 0 where
@@ -40,39 +45,80 @@ field-place b c d n t h bl =
       type = eqb-true (s .type) t (pa .1);
     }
 
--- the method that class s declares
-pub record MethodAt (b : Base) (s n t r : ℕ) : Type 0 where
-  pub place : ℕ
+-- the test on signatures is true exactly where they are equal
+pub same-signature : (s t : Signature) → (sameSignature s t ≡ true → s ≡ t) × (s ≡ t → sameSignature s t ≡ true)
+unfolding sameSignature
+same-signature s t = (to, λ e. rw e (rw (eq-eqb (t .name) (t .name) refl, eq-eqb (t .argument) (t .argument) refl, eq-eqb (t .result) (t .result) refl) refl))
+  where
+    to : (eqb (s .name) (t .name) && eqb (s .argument) (t .argument) && eqb (s .result) (t .result)) ≡ true → s ≡ t
+    to h =
+        let a = and-true (eqb (s .name) (t .name) && eqb (s .argument) (t .argument)) (eqb (s .result) (t .result)) h in
+        let b = and-true (eqb (s .name) (t .name)) (eqb (s .argument) (t .argument)) (a .0) in
+        λ i. record { name = eqb-true (s .name) (t .name) (b .0) i; argument = eqb-true (s .argument) (t .argument) (b .1) i; result = eqb-true (s .result) (t .result) (a .1) i }
+
+pub alike-is : (s : Signature) (m : Method) → alike s m ≡ true → m .signature ≡ s
+unfolding alike
+alike-is s m h = same-signature (m .signature) s .0 h
+
+-- the ties of a signature are two, one after the other: on its argument and on its result
+pub signature-ties : (ts : List Tie) (l m : ℕ) (s : Signature) → signatureTies ts l m s ≡ newTie ts l m (s .argument) ++ newTie (ts ++ newTie ts l m (s .argument)) l m (s .result)
+unfolding signatureTies newTies
+signature-ties ts l m s = rw (append-nil (newTie (ts ++ newTie ts l m (s .argument)) l m (s .result))) refl
+
+-- the method of that class and place, of signature s
+pub record MethodAt (b : Base) (s : Signature) (m : Selected) : Type 0 where
   pub theClass : Class
   pub method : Method
-  pub index : indexOf (alike n t r) (methodsOf b s) ≡ some place
-  pub isClass : getElem? (b .classes) s ≡ some theClass
-  pub isMethod : getElem? (theClass .methods) place ≡ some method
-  pub argument : method .argument ≡ t
-  pub result : method .result ≡ r
-  pub loader : loaderOf b s ≡ theClass .loader
+  pub isClass : getElem? (b .classes) (m .class) ≡ some theClass
+  pub isMethod : getElem? (theClass .methods) (m .place) ≡ some method
+  pub isSignature : method .signature ≡ s
+  pub loader : loaderOf b (m .class) ≡ theClass .loader
 
-pub method-at : (b : Base) (s n t r : ℕ) → hasMethod b n t r s ≡ true → MethodAt b s n t r
-unfolding hasMethod methodsOf alike loaderOf
-method-at b s n t r h = go (getElem? (b .classes) s) refl h
+-- a class that declares a method alike has it at a place
+pub method-at : (b : Base) (s : Signature) (c : ℕ) → hasMethod b s c ≡ true → (j : ℕ) × (indexOf (alike s) (methodsOf b c) ≡ some j) × MethodAt b s (record { class = c; place = j })
+unfolding hasMethod methodsOf loaderOf
+method-at b s c h = go (getElem? (b .classes) c) refl h
   where
     Ms : Option Class → List Method
     Ms o = elim o as (λ _. List Method) [ none ↦ [] | some k ↦ k .methods ]
 
-    go : (o : Option Class) → getElem? (b .classes) s ≡ o → any (alike n t r) (Ms o) ≡ true → MethodAt b s n t r
-    go none e q = absurd (List·Memᴰ·not-nil (any-true (alike n t r) [] q .1))
+    go : (o : Option Class) → getElem? (b .classes) c ≡ o → any (alike s) (Ms o) ≡ true → (j : ℕ) × (indexOf (alike s) (methodsOf b c) ≡ some j) × MethodAt b s (record { class = c; place = j })
+    go none e q = absurd (List·Memᴰ·not-nil (any-true (alike s) [] q .1))
     go (some k) e q =
-        let fo = any-found (alike n t r) (k .methods) q in
-        let x = fo .item in
-        let pa = and-true (eqb (x .name) n && eqb (x .argument) t) (eqb (x .result) r) (fo .passes) in
-        record {
-          place = fo .place;
-          theClass = k;
-          method = x;
-          index = rw (e, methodsOf) (fo .index);
-          isClass = e;
-          isMethod = fo .there;
-          argument = eqb-true (x .argument) t (and-true (eqb (x .name) n) (eqb (x .argument) t) (pa .0) .1);
-          result = eqb-true (x .result) r (pa .1);
-          loader = rw (e, loaderOf) refl;
-        }
+        let fo = any-found (alike s) (k .methods) q in (
+          fo .place,
+          rw (e, methodsOf) (fo .index),
+          record {
+            theClass = k;
+            method = fo .item;
+            isClass = e;
+            isMethod = fo .there;
+            isSignature = alike-is s (fo .item) (fo .passes);
+            loader = rw (e, loaderOf) refl;
+          },
+        )
+
+-- what is selected from class c: its class is the nearest upward that declares a method alike, and the method stands at its place there
+pub record SelectedAt (b : Base) (s : Signature) (c : ℕ) (m : Selected) : Type 0 where
+  pub near : nearest (superOf b) (hasMethod b s) c ≡ some (m .class)
+  pub above : Below (superOf b) c (m .class)
+  pub has : hasMethod b s (m .class) ≡ true
+  pub there : MethodAt b s m
+
+-- where a class upward declares a method alike, one is selected in the nearest
+pub nearest-selected : (b : Base) (s : Signature) (c d : ℕ) → nearest (superOf b) (hasMethod b s) c ≡ some d → (j : ℕ) × (selected b s c ≡ some (record { class = d; place = j })) × SelectedAt b s c (record { class = d; place = j })
+unfolding selected _>>=_
+nearest-selected b s c d h =
+    let n = nearest-below (superOf b) (super-falls b) (hasMethod b s) c d h in
+    let a = method-at b s d (n .1) in
+    (a .0, rw h (rw (a .1) refl), record { near = h; above = n .0; has = n .1; there = a .2 })
+
+pub selected-at : (b : Base) (s : Signature) (c : ℕ) (m : Selected) → selected b s c ≡ some m → SelectedAt b s c m
+unfolding selected _>>=_
+selected-at b s c m h = go (nearest (superOf b) (hasMethod b s) c) refl
+  where
+    go : (o : Option ℕ) → nearest (superOf b) (hasMethod b s) c ≡ o → SelectedAt b s c m
+    go none e = absurd (Option·none-ne-some m (sym (rw e refl) ∙ h))
+    go (some d) e =
+        let a = nearest-selected b s c d e in
+        rw (Option·some-injective _ _ (sym (a .1) ∙ h)) at (a .2)

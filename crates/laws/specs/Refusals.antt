@@ -43,7 +43,7 @@ classIn Dup = none
 classIn (Arithmetic o) = none
 classIn (Getfield c n t) = some c
 classIn (Putfield c n t) = some c
-classIn (Invokevirtual c n t r) = some c
+classIn (Invokevirtual c s) = some c
 classIn (New c) = some c
 classIn (Return kind) = none
 
@@ -160,9 +160,9 @@ module _ (P : Refusal → Type 0) (stuck : P (Word 14)) (full : P (Word 10)) (cl
     execute-refuses (Putfield c n t) h =
         on-take P _ _ _ (h c refl) (λ e _. on-take P _ _ _ (λ _. absent) (λ d _. posting w true _ _ (λ _. popped _ _ (λ p. popped _ _ (λ q.
         on-bind P (kind! t (p .top)) _ (kind-refuses t (p .top)) (λ _ _. receiver (w .base) os e (q .top) _ (λ _. local _ _ (λ _. tt))))))))
-    execute-refuses (Invokevirtual c n t r) h =
+    execute-refuses (Invokevirtual c s) h =
         on-take P _ _ _ (h c refl) (λ e _. on-take P _ _ _ (λ _. absent) (λ d _. posting w (ltb (suc (length fs)) 32) _ _ (λ _. popped _ _ (λ p. popped _ _ (λ q.
-        on-bind P (kind! t (p .top)) _ (kind-refuses t (p .top)) (λ _ _. receiver (w .base) os e (q .top) _ (λ _. local _ _ (λ _. local _ _ (λ _. tt)))))))))
+        on-bind P (kind! (s .argument) (p .top)) _ (kind-refuses (s .argument) (p .top)) (λ _ _. receiver (w .base) os e (q .top) _ (λ _. local _ _ (λ _. tt))))))))
     execute-refuses (New c) h = on-take P _ _ _ (h c refl) (λ e _. on-need P _ _ _ full (λ _. tt))
     execute-refuses (Return kind) h = under fs _ (λ _. popped _ _ (λ p. of-kind kind (p .top) _ (λ _. give-refuses fs w os (p .top))))
 
@@ -259,7 +259,7 @@ start-due k l n m v r =
     let P : Refusal → Type 0 = Due (callStart k l n m v) r in
     on-need P _ _ _ refl (λ _. on-bind P _ _
     (on-need P _ _ _ refl (λ _. on-need P _ _ _ refl (λ _. on-take P _ _ _ (λ e. (refl, (refl, refl), e)) (λ _ _.
-    on-take P _ _ _ (λ _. refl) (λ _ _. on-take P _ _ _ (λ _. refl) (λ _ _. on-need P _ _ _ refl (λ _. tt))))))) (λ _ _. tt))
+    on-take P _ _ _ (λ _. refl) (λ _ _. on-need P _ _ _ refl (λ _. tt)))))) (λ _ _. tt))
 
 drop-due : (k : ℕ) (r : Rows) → Refuses (Due (callDrop k) r) (dropRows k r)
 unfolding dropRows refusalsOf rowRefusals any

@@ -8,14 +8,17 @@ use Prim.Native.Nat.{ℕ, zero, suc, _<_}
 use native.Mathlib.Omega.{arith}
 use lib.ListN.{getElem?}
 use lib.Dec.{eqb}
-use Rattle.definition.specs.Classes.{Base, Class, Entry, Field, Method, Slot, alike, find, hasField, hasMethod, loaderOf, methodsOf, ownSlots, slotIs, slots, slotsIn, superOf}
+use Rattle.definition.specs.Classes.{Base, Class, Entry, Field, Method, Selected, Slot, alike, find, hasField, hasMethod, loaderOf, methodsOf, ownSlots, selected, slotIs, slots, slotsIn, superOf}
 use Rattle.definition.specs.Constraints.{World}
-use Rattle.definition.specs.Lists.{any}
+use Rattle.definition.specs.declared.Signature.{Signature}
+use Rattle.definition.specs.Lists.{any, indexOf}
+use Rattle.definition.specs.Maybe.{_>>=_}
 use Rattle.definition.specs.Requests.{Request, at, sameRequest}
 use Rattle.definition.specs.Superclasses.{below, nearest, seek}
 use Rattle.laws.specs.Agreement.{super-falls, super-is}
 use Rattle.laws.specs.Chains.{same-refl}
 use Rattle.laws.specs.Growth.{Grows, grows-super}
+use Rattle.laws.specs.Upward.{nearest-below}
 
 -- each class that is cached is there, and each but the first has its superclass
 pub record Rooted (b : Base) : Type 0 where
@@ -55,20 +58,20 @@ pub loader-is : (b : Base) (c : ℕ) (k : Class) → getElem? (b .classes) c ≡
 unfolding loaderOf
 loader-is b c k h = rw (h, loaderOf) refl
 
-pub has-is : (b : Base) (n a r c : ℕ) (k : Class) → getElem? (b .classes) c ≡ some k → hasMethod b n a r c ≡ any (alike n a r) (k .methods)
+pub has-is : (b : Base) (s : Signature) (c : ℕ) (k : Class) → getElem? (b .classes) c ≡ some k → hasMethod b s c ≡ any (alike s) (k .methods)
 unfolding hasMethod
-has-is b n a r c k h = rw (methods-is b c k h) refl
+has-is b s c k h = rw (methods-is b c k h) refl
 
 pub own-is : (b : Base) (c : ℕ) (k : Class) → getElem? (b .classes) c ≡ some k → ownSlots b c ≡ map (λ f. record { owner = c; name = f .name; type = f .type }) (k .fields)
 unfolding ownSlots
 own-is b c k h = rw (h, ownSlots) refl
 
 -- a class that has a method is there
-pub has-class : (b : Base) (n a r c : ℕ) → hasMethod b n a r c ≡ true → (k : Class) × (getElem? (b .classes) c ≡ some k)
+pub has-class : (b : Base) (s : Signature) (c : ℕ) → hasMethod b s c ≡ true → (k : Class) × (getElem? (b .classes) c ≡ some k)
 unfolding hasMethod methodsOf any
-has-class b n a r c h = go (getElem? (b .classes) c) refl h
+has-class b s c h = go (getElem? (b .classes) c) refl h
   where
-    go : (o : Option Class) → getElem? (b .classes) c ≡ o → any (alike n a r) (elim o as (λ _. List Method) [ none ↦ [] | some k ↦ k .methods ]) ≡ true → (k : Class) × (getElem? (b .classes) c ≡ some k)
+    go : (o : Option Class) → getElem? (b .classes) c ≡ o → any (alike s) (elim o as (λ _. List Method) [ none ↦ [] | some k ↦ k .methods ]) ≡ true → (k : Class) × (getElem? (b .classes) c ≡ some k)
     go none e q = absurd (false≢true q)
     go (some k) e q = (k, e)
 
@@ -112,12 +115,27 @@ module _ (v w : World) (lk : Rooted (v .base)) (gr : Grows v w) where
       go false none e f = refl
       go false (some p) e f = f p (real-super c p e)
 
-  pub has-stable : (n a r c : ℕ) → Real c → hasMethod (w .base) n a r c ≡ hasMethod (v .base) n a r c
-  has-stable n a r c q = has-is (w .base) n a r c (q .0) (gr .classes c (q .0) (q .1)) ∙ sym (has-is (v .base) n a r c (q .0) (q .1))
+  pub has-stable : (s : Signature) (c : ℕ) → Real c → hasMethod (w .base) s c ≡ hasMethod (v .base) s c
+  has-stable s c q = has-is (w .base) s c (q .0) (gr .classes c (q .0) (q .1)) ∙ sym (has-is (v .base) s c (q .0) (q .1))
 
-  pub nearest-stable : (n a r c : ℕ) → Real c → nearest (superOf (w .base)) (hasMethod (w .base) n a r) c ≡ nearest (superOf (v .base)) (hasMethod (v .base) n a r) c
+  pub nearest-stable : (s : Signature) (c : ℕ) → Real c → nearest (superOf (w .base)) (hasMethod (w .base) s) c ≡ nearest (superOf (v .base)) (hasMethod (v .base) s) c
   unfolding nearest
-  nearest-stable n a r c q = seek-stable (hasMethod (v .base) n a r) (hasMethod (w .base) n a r) (has-stable n a r) (suc c) c q
+  nearest-stable s c q = seek-stable (hasMethod (v .base) s) (hasMethod (w .base) s) (has-stable s) (suc c) c q
+
+  methods-stable : (c : ℕ) → Real c → methodsOf (w .base) c ≡ methodsOf (v .base) c
+  methods-stable c q = methods-is (w .base) c (q .0) (gr .classes c (q .0) (q .1)) ∙ sym (methods-is (v .base) c (q .0) (q .1))
+
+  -- class and place
+  pub selected-stable : (s : Signature) (c : ℕ) → Real c → selected (w .base) s c ≡ selected (v .base) s c
+  unfolding selected _>>=_
+  selected-stable s c q = ap (λ (o : Option ℕ). o >>= placed (w .base)) (nearest-stable s c q) ∙ go (nearest (superOf (v .base)) (hasMethod (v .base) s) c) refl
+    where
+      placed : Base → ℕ → Option Selected
+      placed b d = indexOf (alike s) (methodsOf b d) >>= λ j. some (record { class = d; place = j })
+
+      go : (o : Option ℕ) → nearest (superOf (v .base)) (hasMethod (v .base) s) c ≡ o → (o >>= placed (w .base)) ≡ (o >>= placed (v .base))
+      go none e = refl
+      go (some d) e = rw (methods-stable d (has-class (v .base) s d (nearest-below (superOf (v .base)) (super-falls (v .base)) (hasMethod (v .base) s) c d e .1))) refl
 
   pub loader-stable : (c : ℕ) → Real c → loaderOf (w .base) c ≡ loaderOf (v .base) c
   loader-stable c q = loader-is (w .base) c (q .0) (gr .classes c (q .0) (q .1)) ∙ sym (loader-is (v .base) c (q .0) (q .1))

@@ -33,7 +33,7 @@ return-is Dup kind h = absurd (Option·none-ne-some kind h)
 return-is (Arithmetic o) kind h = absurd (Option·none-ne-some kind h)
 return-is (Getfield c f t) kind h = absurd (Option·none-ne-some kind h)
 return-is (Putfield c f t) kind h = absurd (Option·none-ne-some kind h)
-return-is (Invokevirtual c m t r) kind h = absurd (Option·none-ne-some kind h)
+return-is (Invokevirtual c s) kind h = absurd (Option·none-ne-some kind h)
 return-is (New c) kind h = absurd (Option·none-ne-some kind h)
 return-is (Return a) kind h = ap Return (Option·some-injective a kind h)
 
@@ -194,18 +194,18 @@ module _ (code : List ℕ) (result : ℕ) where
 module _ (k : Class) (m : Method) (ns : List Note) (v : notesOfMethod k m ≡ some ns) where
   pub entry : typesIn k m 0 ≡ some (entryTypes k m)
   unfolding notesOfMethod typesIn
-  entry = verified-here (m .code) (m .result) (length (m .code)) 0 (entryTypes k m) ns v
+  entry = verified-here (m .code) (m .signature .result) (length (m .code)) 0 (entryTypes k m) ns v
 
-  pub known : (q : ℕ) (τ : TypeState) → typesIn k m q ≡ some τ → Known (m .code) (m .result) (typesIn k m) ns q τ
+  pub known : (q : ℕ) (τ : TypeState) → typesIn k m q ≡ some τ → Known (m .code) (m .signature .result) (typesIn k m) ns q τ
   unfolding notesOfMethod typesIn
-  known q τ h = knows (m .code) (m .result) (length (m .code)) 0 (entryTypes k m) ns q τ v h
+  known q τ h = knows (m .code) (m .signature .result) (length (m .code)) 0 (entryTypes k m) ns q τ v h
 
   pub notes-have : (P : TypeState → Type 0) (N : List Note → Type 0) → ((a b : List Note) → N a → N b → N (a ++ b))
       → ((p : ℕ) (i : Decoded) (s : TypeState) (f : Flow) → decode (m .code) p ≡ some i → P s → effect (i .instruction) s ≡ some f → P (f .types) × N (f .notes))
-      → ((kind : Kind) (s : TypeState) (a : List Note) → P s → returns kind (m .result) s ≡ some a → N a)
+      → ((kind : Kind) (s : TypeState) (a : List Note) → P s → returns kind (m .signature .result) s ≡ some a → N a)
       → P (entryTypes k m) → N ns
   unfolding notesOfMethod
-  notes-have P N join on last h = collects (m .code) (m .result) P N join on last (length (m .code)) 0 (entryTypes k m) ns h v
+  notes-have P N join on last h = collects (m .code) (m .signature .result) P N join on last (length (m .code)) 0 (entryTypes k m) ns h v
 
 -- of its class a method's notes depend on the name alone
 pub notes-by-name : (j k : Class) (m : Method) → j .name ≡ k .name → notesOfMethod j m ≡ notesOfMethod k m

@@ -9,10 +9,8 @@ use native.Mathlib.Omega.{arith}
 use lib.ListN.{length, getD}
 use lib.Dec.{leb, ltb}
 use borrow.Author.Tests.{lt-ltb, le-ltb, lt-leb, ltb-true}
-use Rattle.definition.specs.Lists.{indexOf}
 use Rattle.definition.specs.Requests.{at}
-use Rattle.definition.specs.Superclasses.{nearest}
-use Rattle.definition.specs.Classes.{Base, find, superOf, alike, methodsOf, hasMethod}
+use Rattle.definition.specs.Classes.{Base, find, selected, startSignature}
 use Rattle.definition.specs.Constraints.{World}
 use Rattle.definition.specs.declared.Refusal.the-variants.{Wanted, Word}
 use Rattle.definition.specs.Answers.{Result, refused, ok, _>>=_, need, take?}
@@ -82,47 +80,44 @@ module _ (N L K E : List ℕ) (k l n m : ℕ) where
         open-wanted h = record { says = λ I S O F v. rw (lt-ltb k 2 two, known, frames-count B (tables N L K E I S O F) k two, free, h); fits = tt }
 
         module _ (c : ℕ) (there : find (B .cache) (at l n) ≡ some c) where
-          pub open-absent : nearest (superOf B) (hasMethod B m 1 1) c ≡ none → Opened N L K E k l n m (Deny (Word 7))
+          pub open-absent : selected B (startSignature m) c ≡ none → Opened N L K E k l n m (Deny (Word 7))
           unfolding openedAs need _>>=_ take? started
           open-absent h = record { says = λ I S O F v. rw (lt-ltb k 2 two, known, frames-count B (tables N L K E I S O F) k two, free, there, h); fits = tt }
 
-          module _ (s : ℕ) (declares : nearest (superOf B) (hasMethod B m 1 1) c ≡ some s) where
-            module _ (j : ℕ) (place : indexOf (alike m 1 1) (methodsOf B s) ≡ some j) where
-              pub open-full : 256 ≤ getD N 5 0 → Opened N L K E k l n m (Deny (Word 10))
-              unfolding openedAs need _>>=_ take? started
-              open-full h = record {
-                says = λ I S O F v.
-                    rw (
-                      lt-ltb k 2 two,
-                      known,
-                      frames-count B (tables N L K E I S O F) k two,
-                      free,
-                      there,
-                      declares,
-                      place,
-                      objects-fill (tables N L K E I S O F) B .count,
-                      le-ltb (getD N 5 0) 256 h,
-                    );
-                fits = tt;
-              }
+          module _ (s j : ℕ) (selects : selected B (startSignature m) c ≡ some (record { class = s; place = j })) where
+            pub open-full : 256 ≤ getD N 5 0 → Opened N L K E k l n m (Deny (Word 10))
+            unfolding openedAs need _>>=_ take? started
+            open-full h = record {
+              says = λ I S O F v.
+                  rw (
+                    lt-ltb k 2 two,
+                    known,
+                    frames-count B (tables N L K E I S O F) k two,
+                    free,
+                    there,
+                    selects,
+                    objects-fill (tables N L K E I S O F) B .count,
+                    le-ltb (getD N 5 0) 256 h,
+                  );
+              fits = tt;
+            }
 
-              pub open-first : getD N 5 0 < 256 → Opened N L K E k l n m (First c s j)
-              unfolding openedAs need _>>=_ take? started
-              open-first h = record {
-                says = λ I S O F v.
-                    rw (
-                      lt-ltb k 2 two,
-                      known,
-                      frames-count B (tables N L K E I S O F) k two,
-                      free,
-                      there,
-                      declares,
-                      place,
-                      objects-fill (tables N L K E I S O F) B .count,
-                      lt-ltb (getD N 5 0) 256 h,
-                    );
-                fits = (two, h, there);
-              }
+            pub open-first : getD N 5 0 < 256 → Opened N L K E k l n m (First c s j)
+            unfolding openedAs need _>>=_ take? started
+            open-first h = record {
+              says = λ I S O F v.
+                  rw (
+                    lt-ltb k 2 two,
+                    known,
+                    frames-count B (tables N L K E I S O F) k two,
+                    free,
+                    there,
+                    selects,
+                    objects-fill (tables N L K E I S O F) B .count,
+                    lt-ltb (getD N 5 0) 256 h,
+                  );
+              fits = (two, h, there);
+            }
 
 -- a loader that is there
 pub known-loader : (l n m : ℕ) → (ltb l 16 && leb 2 n && leb 1 m) ≡ true → l < 16

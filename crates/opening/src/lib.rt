@@ -4,9 +4,12 @@ ghost use mathlib.Core.Bool.{_&&_};
 ghost use lib.Dec.{leb, ltb};
 ghost use Rattle.opening.specs.Openings.{Opened};
 ghost use Rattle.definition.specs.Numbers.{nameObject, loaderLimit};
+ghost use Rattle.definition.specs.Classes.{startSignature};
 use definition::Refusal;
+use definition::Signature;
 use definition::numbers::COUNT_OBJECTS;
 use definition::numbers::LOADER_LIMIT;
+use definition::numbers::NAME_INT;
 use definition::numbers::NAME_OBJECT;
 use definition::numbers::OBJECT_LIMIT;
 use definition::numbers::TASK_LIMIT;
@@ -34,6 +37,17 @@ fn are_known(loader: u32, name: u16, method: u16) -> bool
         return false;
     }
     1 <= method
+}
+
+// The signature of start's method: the name, int and int.
+fn start_signature(method: u16) -> Signature
+    ensures { λ r. ⌜ r ≡ startSignature method ⌝ }
+{
+    Signature {
+        name: method,
+        argument: NAME_INT,
+        result: NAME_INT,
+    }
 }
 
 // What is missing is refused where it was looked for, in the order 3 12 5 7 10.
@@ -67,9 +81,7 @@ pub fn decide(
         kept,
         cache,
         c,
-        method,
-        1,
-        1,
+        start_signature(method),
     ) else {
         return Opening::Deny(Refusal::Word(WORD_ABSENT));
     };

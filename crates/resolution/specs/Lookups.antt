@@ -1,6 +1,6 @@
 -- What else the lookups answer: a class's name, a method's code, and tables of superclasses and slots.
 use mathlib.Core.Path.{_≡_, refl, sym, ap, _∙_}
-use mathlib.Core.Bool.{true, false, false≢true}
+use mathlib.Core.Bool.{true, false}
 use mathlib.Core.Logic.{_⊎_, inl, inr}
 use mathlib.Core.Option.{Option, none, some}
 use mathlib.Core.List.{List, []}
@@ -12,20 +12,20 @@ use lib.ListN.{length, getD, set, getElem?, length-set, List·getD-eq-default}
 use lib.Seq.{take-all}
 use lib.Dec.{ltb}
 use borrow.Author.Tests.{lt-ltb, le-ltb, ne-eqb}
-use Rattle.definition.specs.Lists.{any, indexOf, rows, writeRows}
+use Rattle.definition.specs.declared.Signature.{Signature}
+use Rattle.definition.specs.Lists.{indexOf, rows, writeRows}
 use Rattle.definition.specs.Instructions.{pick}
-use Rattle.definition.specs.Classes.{Base, Class, Method, lower, superOf, alike, methodsOf, hasMethod}
-use Rattle.definition.specs.Superclasses.{nearest}
+use Rattle.definition.specs.Maybe.{_>>=_}
+use Rattle.definition.specs.Classes.{Base, Class, Method, lower, superOf, alike, methodsOf, hasMethod, Selected, selected}
 use Rattle.definition.specs.Tables.{classRowAt}
 use Rattle.laws.specs.Agreement.{super-falls}
-use Rattle.laws.specs.Upward.{nearest-here, nearest-up, nearest-none, nearest-below}
+use Rattle.laws.specs.Upward.{nearest-here, nearest-up, nearest-none}
 use Rattle.layout.specs.Places.{rows-length, rows-getD, rows-take, writeRows-length}
 use Rattle.layout.specs.Cells.{rows-back, cell-rows}
 use Rattle.classfile.specs.Reading.{className, superName, quickFields, quickMethods}
 use Rattle.classfile.specs.Searches.{any-some, any-none}
 use Rattle.resolution.specs.Quick.{quickClass, quickBase, fileIn, file-there, loaderIn, super-past, either}
 use Rattle.resolution.specs.declared.Selection.{Selection}
-use Rattle.resolution.specs.declared.Selection.the-variants.{Selected, Unselected}
 
 -- the name of class number c, 0 if there is no such class
 unfoldable pub nameIn : List ℕ → List ℕ → List ℕ → ℕ → ℕ
@@ -35,12 +35,20 @@ nameIn counts classes kept c = elim (ltb c (getD counts 0 0)) [ true ↦ quickCl
 unfoldable pub codeIn : List Method → ℕ → List ℕ
 codeIn ms j = elim (getElem? ms j) [ none ↦ [] | some m ↦ m .code ]
 
--- the method selected upward of class c: the nearest class that declares one alike, and the method's place there
-unfoldable pub selection : Base → ℕ → ℕ → ℕ → ℕ → Selection
-selection b n a r c = elim (nearest (superOf b) (hasMethod b n a r) c) [
-  | none ↦ Unselected
-  | some s ↦ elim (indexOf (alike n a r) (methodsOf b s)) [ none ↦ Unselected | some j ↦ Selected s j ]
-]
+-- a method that was selected, as a value of the code
+unfoldable pub selection : Option Selected → Selection
+selection none = Selection.Unselected
+selection (some m) = Selection.Selected (m .class) (m .place)
+
+pub selection-at : (o : Option Selected) (c j : ℕ) → selection o ≡ Selection.Selected c j → o ≡ some (record { class = c; place = j })
+unfolding selection
+selection-at none c j h = cc
+selection-at (some m) c j h = let p : m .class ≡ c = cc in let q : m .place ≡ j = cc in λ i. some (record { class = p i; place = q i })
+
+pub selection-absent : (o : Option Selected) → selection o ≡ Selection.Unselected → o ≡ none
+unfolding selection
+selection-absent none h = refl
+selection-absent (some m) h = cc
 
 -- a class's direct superclass as a cell: 0 for none, else its number and 1
 unfoldable pub superCell : Base → ℕ → ℕ
@@ -108,69 +116,31 @@ code-cases ms j = go (getElem? ms j) refl
     go none e = inl (e, code-none ms j e)
     go (some m) e = inr (m, e, code-some ms j m e)
 
-declared : (b : Base) (n a r d : ℕ) → hasMethod b n a r d ≡ true → any (alike n a r) (methodsOf b d) ≡ true
-unfolding hasMethod
-declared b n a r d h = h
-
 -- A method's selection: here, further up, or nowhere
 
-module _ (b : Base) (n a r c : ℕ) where
-  abbrev place : ℕ → Option ℕ
-  place s = indexOf (alike n a r) (methodsOf b s)
+module _ (b : Base) (s : Signature) (c : ℕ) where
+  abbrev place : Option ℕ
+  place = indexOf (alike s) (methodsOf b c)
 
-  abbrev nearestOne : Option ℕ
-  nearestOne = nearest (superOf b) (hasMethod b n a r) c
-
-  has-place : (j : ℕ) → place c ≡ some j → hasMethod b n a r c ≡ true
+  has-place : (j : ℕ) → place ≡ some j → hasMethod b s c ≡ true
   unfolding hasMethod
-  has-place j e = any-some (alike n a r) (methodsOf b c) j e
+  has-place j e = any-some (alike s) (methodsOf b c) j e
 
-  no-place : place c ≡ none → hasMethod b n a r c ≡ false
+  no-place : place ≡ none → hasMethod b s c ≡ false
   unfolding hasMethod
-  no-place e = any-none (alike n a r) (methodsOf b c) e
+  no-place e = any-none (alike s) (methodsOf b c) e
 
-  pub selection-here : (j : ℕ) → place c ≡ some j → selection b n a r c ≡ Selected c j
-  unfolding selection
-  selection-here j e = rw (nearest-here (superOf b) (super-falls b) (hasMethod b n a r) c (has-place j e), selection) (rw e)
+  pub selected-here : (j : ℕ) → place ≡ some j → selected b s c ≡ some (record { class = c; place = j })
+  unfolding selected _>>=_
+  selected-here j e = rw (nearest-here (superOf b) (super-falls b) (hasMethod b s) c (has-place j e)) (rw e)
 
-  pub selection-up : (p : ℕ) → place c ≡ none → superOf b c ≡ some p → selection b n a r c ≡ selection b n a r p
-  unfolding selection
-  selection-up p e s = rw (nearest-up (superOf b) (super-falls b) (hasMethod b n a r) c p (no-place e) s, selection)
+  pub selected-up : (p : ℕ) → place ≡ none → superOf b c ≡ some p → selected b s c ≡ selected b s p
+  unfolding selected
+  selected-up p e h = rw (nearest-up (superOf b) (super-falls b) (hasMethod b s) c p (no-place e) h)
 
-  pub selection-none : place c ≡ none → superOf b c ≡ none → selection b n a r c ≡ Unselected
-  unfolding selection
-  selection-none e s = rw (nearest-none (superOf b) (super-falls b) (hasMethod b n a r) c (no-place e) s, selection)
-
-  -- what the answer says
-
-  abbrev picked : ℕ → Option ℕ → Selection
-  picked s o = elim o as (λ _. Selection) [ none ↦ Unselected | some j ↦ Selected s j ]
-
-  selection-cases : selection b n a r c ≡ (elim nearestOne as (λ _. Selection) [ none ↦ Unselected | some s ↦ picked s (place s) ])
-  unfolding selection
-  selection-cases = refl
-
-  pub selection-at : (s j : ℕ) → selection b n a r c ≡ Selected s j → (nearestOne ≡ some s) × (place s ≡ some j)
-  selection-at s j h = go nearestOne refl (sym selection-cases ∙ h)
-    where
-      last : (d : ℕ) → nearestOne ≡ some d → (o : Option ℕ) → place d ≡ o → picked d o ≡ Selected s j → (nearestOne ≡ some s) × (place s ≡ some j)
-      last d e none f q = let z : _≡_ {A = ℕ} 0 1 = cc in absurd (omega arith)
-      last d e (some i) f q = let same : d ≡ s = cc in (rw same at e, ap place (sym same) ∙ (f ∙ cc))
-
-      go : (o : Option ℕ) → nearestOne ≡ o → (elim o as (λ _. Selection) [ none ↦ Unselected | some d ↦ picked d (place d) ]) ≡ Selected s j → (nearestOne ≡ some s) × (place s ≡ some j)
-      go none e q = let z : _≡_ {A = ℕ} 0 1 = cc in absurd (omega arith)
-      go (some d) e q = last d e (place d) refl q
-
-  pub selection-absent : selection b n a r c ≡ Unselected → nearestOne ≡ none
-  selection-absent h = go nearestOne refl (sym selection-cases ∙ h)
-    where
-      last : (d : ℕ) → nearestOne ≡ some d → (o : Option ℕ) → place d ≡ o → picked d o ≡ Unselected → nearestOne ≡ none
-      last d e none f q = absurd (false≢true (sym (any-none (alike n a r) (methodsOf b d) f) ∙ declared b n a r d (nearest-below (superOf b) (super-falls b) (hasMethod b n a r) c d e .1)))
-      last d e (some i) f q = let z : _≡_ {A = ℕ} 0 1 = cc in absurd (omega arith)
-
-      go : (o : Option ℕ) → nearestOne ≡ o → (elim o as (λ _. Selection) [ none ↦ Unselected | some d ↦ picked d (place d) ]) ≡ Unselected → nearestOne ≡ none
-      go none e q = e
-      go (some d) e q = last d e (place d) refl q
+  pub selected-none : place ≡ none → superOf b c ≡ none → selected b s c ≡ none
+  unfolding selected _>>=_
+  selected-none e h = rw (nearest-none (superOf b) (super-falls b) (hasMethod b s) c (no-place e) h)
 
 -- A superclass's cell
 

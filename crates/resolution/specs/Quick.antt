@@ -12,12 +12,12 @@ use borrow.Author.Tests.{lt-ltb, le-ltb, ltb-true, ltb-false}
 use Rattle.definition.specs.Lists.{any, isSome, rows}
 use Rattle.definition.specs.Requests.{at}
 use Rattle.definition.specs.Instructions.{pick}
-use Rattle.definition.specs.Classes.{Base, Class, slotIs, find, lower, superOf, loaderOf, ownSlots, hasField, alike, methodsOf, hasMethod}
+use Rattle.definition.specs.Classes.{Base, Class, slotIs, find, lower, superOf, loaderOf, ownSlots, hasField, methodsOf}
 use Rattle.definition.specs.Tables.{Tables, ClassRow, classRowAt, entryAt}
 use Rattle.laws.specs.Stable.{loader-is}
 use Rattle.layout.specs.Places.{rows-at, rows-past}
 use Rattle.classfile.specs.Lists.{any-index}
-use Rattle.classfile.specs.Reading.{className, superName, quickFields, quickMethods, fieldIs, fieldCount, methodCount, partOf}
+use Rattle.classfile.specs.Reading.{fileVersion, className, superName, quickFields, quickMethods, fieldIs, fieldCount, methodCount, partOf}
 use Rattle.classfile.specs.Searches.{slotOf, own-index, own-slots, own-methods}
 use Rattle.resolution.specs.declared.Found.{Found}
 use Rattle.resolution.specs.declared.Found.the-variants.{At, Absent}
@@ -43,6 +43,7 @@ quickClass kept k =
     let bs = partOf kept (k .start) (k .size) in
     record {
       loader = k .loader;
+      version = fileVersion bs;
       name = pick (eqb (k .size) 0) 2 (className bs);
       super = superName bs;
       fields = quickFields bs;
@@ -174,7 +175,3 @@ module _ (counts classes kept cache : List ℕ) where
   has-field-quick n t c =
       let fs = quickFields (file c) in
       ap (any (slotIs c n t)) (own-quick c) ∙ any-index (slotIs c n t) (map (slotOf c) fs) ∙ ap isSome (own-index c n t fs) ∙ sym (any-index (fieldIs n t) fs)
-
-  pub has-method-quick : (n a r c : ℕ) → hasMethod b n a r c ≡ any (alike n a r) (quickMethods (file c))
-  unfolding hasMethod
-  has-method-quick n a r c = ap (any (alike n a r)) (methods-quick c)

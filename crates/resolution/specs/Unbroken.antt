@@ -22,7 +22,7 @@ use Rattle.layout.specs.Places.{rows-length, rows-part, rows-take, rows-map, ro
 use Rattle.layout.specs.Whole.{First, ClassSound, Classes}
 use Rattle.layout.specs.Unbroken.{broken-false}
 use Rattle.layout.specs.ReadBack.{object-class, empty-file}
-use Rattle.classfile.specs.Reading.{className, superName, fieldCount, methodCount, quickFields, quickMethods, quickFile, partOf}
+use Rattle.classfile.specs.Reading.{fileVersion, className, superName, fieldCount, methodCount, quickFields, quickMethods, quickFile, partOf}
 use Rattle.classfile.specs.Laws.{quick-file}
 use Rattle.classfile.specs.Searches.{part-there, part-past, file-part}
 use Rattle.resolution.specs.Quick.{quickClass, quickBase, quickOf}
@@ -82,7 +82,7 @@ module _ (kept : List ℕ) (n : ℕ) (l : n ≤ length kept) where
 -- Object
 
 pub quick-object : (kept : List ℕ) (k : ClassRow) → First k → quickClass kept k ≡ objectClass
-unfolding quickClass pick className superName fieldCount methodCount quickFields quickMethods shortAt rows
+unfolding quickClass pick fileVersion className superName fieldCount methodCount quickFields quickMethods shortAt rows
 quick-object kept k h = rw (h .loader, h .start, h .size, part-none kept 0 0 refl)
 
 -- The files of all classes but the first read, within the bytes that are counted

@@ -20,8 +20,6 @@ pub use fields::size_of;
 pub use fields::slot_of;
 pub use fields::slot_types;
 pub use methods::method_code;
-pub use methods::method_index;
-pub use methods::nearest_method;
 pub use methods::select_method;
 
 // A number that was looked for: a class's, or the place of a field or a method.

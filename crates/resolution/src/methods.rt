@@ -4,100 +4,38 @@ use crate::Selection;
 use crate::classes::file_of;
 use crate::classes::super_of;
 ghost use mathlib.Core.Path.{_≡_};
-ghost use Rattle.definition.specs.Lists.{any, indexOf};
-ghost use Rattle.definition.specs.Superclasses.{nearest};
-ghost use Rattle.definition.specs.Classes.{superOf, alike, hasMethod};
+ghost use Rattle.definition.specs.Lists.{indexOf};
+ghost use Rattle.definition.specs.Classes.{alike, selected};
 ghost use Rattle.classfile.specs.Reading.{quickMethods};
 ghost use Rattle.resolution.specs.Quick.{found, quickBase, fileIn};
 ghost use Rattle.resolution.specs.Lookups.{codeIn, selection};
 use classfile::MethodFound;
+use definition::Signature;
 
-fn declares_method(
-    counts: &[u16],
-    classes: &[u16],
-    kept: &[u8],
-    c: u32,
-    name: u16,
-    argument: u16,
-    result: u16,
-) -> bool
-    ensures { λ r. ⌜ r ≡ any (alike name argument result) (quickMethods (fileIn (now (counts .entry)) (now (classes .entry)) (now (kept .entry)) c)) ⌝ }
+// The place of the first method alike among those that a class declares.
+fn method_index(counts: &[u16], classes: &[u16], kept: &[u8], c: u32, s: Signature) -> Found
+    ensures { λ r. ⌜ r ≡ found (indexOf (alike s) (quickMethods (fileIn (now (counts .entry)) (now (classes .entry)) (now (kept .entry)) c))) ⌝ }
 {
-    let MethodFound::At(_, _) = classfile::find_method(
-        file_of(counts, classes, kept, c),
-        name,
-        argument,
-        result,
-    ) else {
-        return false;
-    };
-    true
-}
-
-// The nearest class upward of c, c included, that declares a method alike in name and both types.
-pub fn nearest_method(
-    counts: &[u16],
-    classes: &[u16],
-    kept: &[u8],
-    cache: &[u16],
-    c: u32,
-    name: u16,
-    argument: u16,
-    result: u16,
-) -> Found
-    ensures { λ r. ⌜ r ≡ found (nearest (superOf (quickBase (now (counts .entry)) (now (classes .entry)) (now (kept .entry)) (now (cache .entry)))) (hasMethod (quickBase (now (counts .entry)) (now (classes .entry)) (now (kept .entry)) (now (cache .entry))) name argument result) c) ⌝ }
-{
-    let mut at = c;
-    loop {
-        if declares_method(counts, classes, kept, at, name, argument, result) {
-            return Found::At(at);
-        }
-        let Found::At(p) = super_of(counts, classes, kept, cache, at) else {
-            return Found::Absent;
-        };
-        at = p;
-    }
-}
-
-// The place of the first method alike in name and both types among those that a class declares.
-pub fn method_index(
-    counts: &[u16],
-    classes: &[u16],
-    kept: &[u8],
-    c: u32,
-    name: u16,
-    argument: u16,
-    result: u16,
-) -> Found
-    ensures { λ r. ⌜ r ≡ found (indexOf (alike name argument result) (quickMethods (fileIn (now (counts .entry)) (now (classes .entry)) (now (kept .entry)) c))) ⌝ }
-{
-    let MethodFound::At(j, _) = classfile::find_method(
-        file_of(counts, classes, kept, c),
-        name,
-        argument,
-        result,
-    ) else {
+    let MethodFound::At(j, _) = classfile::find_method(file_of(counts, classes, kept, c), s) else {
         return Found::Absent;
     };
     Found::At(cells::from16(cells::from8(j)))
 }
 
-// The method selected upward of class c.
+// The one search for a method: the nearest class upward of c, c included, that declares a method alike, and the method's place there.
 pub fn select_method(
     counts: &[u16],
     classes: &[u16],
     kept: &[u8],
     cache: &[u16],
     c: u32,
-    name: u16,
-    argument: u16,
-    result: u16,
+    s: Signature,
 ) -> Selection
-    ensures { λ r. ⌜ r ≡ selection (quickBase (now (counts .entry)) (now (classes .entry)) (now (kept .entry)) (now (cache .entry))) name argument result c ⌝ }
+    ensures { λ r. ⌜ r ≡ selection (selected (quickBase (now (counts .entry)) (now (classes .entry)) (now (kept .entry)) (now (cache .entry))) s c) ⌝ }
 {
     let mut at = c;
     loop {
-        if let Found::At(j) = method_index(counts, classes, kept, at, name, argument, result) {
+        if let Found::At(j) = method_index(counts, classes, kept, at, s) {
             return Selection::Selected(at, j);
         }
         let Found::At(p) = super_of(counts, classes, kept, cache, at) else {

@@ -7,7 +7,8 @@ use mathlib.Core.Logic.{_⊎_, inl, inr}
 use Prim.Native.Nat.{ℕ}
 use lib.ListN.{length, getElem?}
 use lib.Dec.{eqb}
-use Rattle.definition.specs.Classes.{Class, Slot, loaderOf, slots, superOf}
+use Rattle.definition.specs.declared.Signature.{Signature}
+use Rattle.definition.specs.Classes.{Class, Slot, loaderOf, slots, superOf, Selected}
 use Rattle.definition.specs.Constraints.{Agrees, Tie, World, posted, tieEdges}
 use Rattle.definition.specs.Machine.{Object, Progress, Value, entryFrame, initialValue, intValue, nullValue}
 use Rattle.definition.specs.Requests.{Edge}
@@ -53,8 +54,7 @@ linked-posted w us k g = record {
   real = k .real;
   supers = k .supers;
   verified = λ c j x m a b. let v = k .verified c j x m a b in record { notes = v .notes; passes = v .passes; posted = v .posted };
-  overArg = λ n a r x p y h s q z. chain-more (ties-more w us) (k .overArg n a r x p y h s q z);
-  overRes = λ n a r x p y h s q z. chain-more (ties-more w us) (k .overRes n a r x p y h s q z);
+  over = λ g x p y t h s q i z. chain-more (ties-more w us) (k .over g x p y t h s q i z);
 }
 
 pub later-changed : (w : World) (os : List Object) (o : ℕ) (b : Object) (vs : List Value) → getElem? os o ≡ some b → Later w os w (changed os o b vs)
@@ -112,10 +112,10 @@ heap-grows v w lk gr os hp z o b e =
     }
 
 -- a frame that enters a method: its object, of the method's class or below, and its argument
-pub entered-top : (w : World) (os : List Object) → Linked w → (s n t r : ℕ) (ma : MethodAt (w .base) s n t r) (o : ℕ) (b : Object) → getElem? os o ≡ some b → Below (superOf (w .base)) (b .class) s
-    → (v : Value) → Conforms w os (loaderOf (w .base) s) (typeOfName t) v → Top w os (entryFrame s (ma .place) o v) (ma .theClass) (ma .method)
-entered-top w os lk s n t r ma o b th bl v cv =
-    let ve = lk .verified s (ma .place) (ma .theClass) (ma .method) (ma .isClass) (ma .isMethod) in
+pub entered-top : (w : World) (os : List Object) → Linked w → (s : Signature) (m : Selected) (ma : MethodAt (w .base) s m) (o : ℕ) (b : Object) → getElem? os o ≡ some b → Below (superOf (w .base)) (b .class) (m .class)
+    → (v : Value) → Conforms w os (loaderOf (w .base) (m .class)) (typeOfName (s .argument)) v → Top w os (entryFrame (m .class) (m .place) o v) (ma .theClass) (ma .method)
+entered-top w os lk s m ma o b th bl v cv =
+    let ve = lk .verified (m .class) (m .place) (ma .theClass) (ma .method) (ma .isClass) (ma .isMethod) in
     record {
       τ = entryTypes (ma .theClass) (ma .method);
       typed = record {
@@ -124,5 +124,5 @@ entered-top w os lk s n t r ma o b th bl v cv =
         types = entry (ma .theClass) (ma .method) (ve .notes) (ve .passes);
       };
       operands = tt;
-      locals = (record { object = b; there = th; fits = fits-own (lk .own s (ma .theClass) (ma .isClass)) bl }, (rw (ma .argument, sym (ma .loader)) cv, (tt, (tt, (tt, (tt, (tt, (tt, tt))))))));
+      locals = (record { object = b; there = th; fits = fits-own (lk .own (m .class) (ma .theClass) (ma .isClass)) bl }, (rw (ma .isSignature, sym (ma .loader)) cv, (tt, (tt, (tt, (tt, (tt, (tt, tt))))))));
     }

@@ -8,8 +8,9 @@ use Prim.Native.Nat.{ℕ, zero, suc, _<_}
 use lib.ListN.{length, getElem?}
 use lib.Dec.{eqb}
 use borrow.Author.Tests.{eqb-true}
-use Rattle.definition.specs.Classes.{Base, Class, Entry, Method, alike, find, hasMethod, loaderOf, superOf}
-use Rattle.definition.specs.Constraints.{Agrees, Subtype, Tie, World, subtypeEdges, tieEdges}
+use Rattle.definition.specs.declared.Signature.{Signature}
+use Rattle.definition.specs.Classes.{Base, Class, Entry, Method, alike, find, hasMethod, loaderOf, superOf, signatureTypes}
+use Rattle.definition.specs.Constraints.{Agrees, Subtype, Tie, World, subtypeEdges, tieEdges, signatureTies}
 use Rattle.definition.specs.Lists.{any}
 use Rattle.definition.specs.Loading.{newSubtypes, overrideTie, overrideTies, subtypeIs, subtypeOf, withClass, withEntry}
 use Rattle.definition.specs.Requests.{Chain, Request, at}
@@ -22,11 +23,12 @@ use Rattle.laws.specs.Options.{bind-some, nth-last, nth-snoc}
 use Rattle.laws.specs.Tests.{and-true, any-true}
 use Rattle.laws.specs.Upward.{nearest-below}
 use Rattle.safety.specs.Conform.{Tied}
-use Rattle.safety.specs.Operands.{call-arg, call-res}
 use Rattle.safety.specs.Valid.{Linked, Verified, rooted}
+use Rattle.safety.specs.Places.{ties-there}
 use Rattle.definition.specs.Maybe as Maybe
 use Rattle.laws.specs.Growth.{Grows, grows-super, sub-edges-more, tie-edges-more, grows-class, grows-entry, nth-lt}
 use Rattle.laws.specs.Stable.{find-last, find-snoc, has-class, has-is, has-stable, loader-is, loader-stable, nearest-stable, real-super, super-stable}
+use Rattle.laws.specs.Members.{nearest-selected, alike-is}
 
 -- The constraints that a definition adds
 
@@ -61,27 +63,21 @@ subs-there ss l (x ∷ ns) n m = go (any (subtypeIs l x) ss) refl m (λ rs k. su
     go false e (List·Memᴰ·head q) f = rw q (sub-edge _ l x (Memᴰ·append-right ss (List·Memᴰ·head refl)))
     go false e (List·Memᴰ·tail k) f = rw append-assoc at (f (ss ++ (subtypeOf l x ∷ [])) k)
 
-record OverThere (b : Base) (l p : ℕ) (ts : List Tie) (m : Method) : Type 0 where
-  argument : (y : ℕ) → nearest (superOf b) (hasMethod b (m .name) (m .argument) (m .result)) p ≡ some y → m .argument ≢ 1 → Chain (tieEdges ts) (at l (m .argument)) (at (loaderOf b y) (m .argument))
-  result : (y : ℕ) → nearest (superOf b) (hasMethod b (m .name) (m .argument) (m .result)) p ≡ some y → m .result ≢ 1 → Chain (tieEdges ts) (at l (m .result)) (at (loaderOf b y) (m .result))
+-- each type of the method's signature is tied between l and the loader of the nearest class, p or one upward, with a method alike
+abbrev OverThere : Base → ℕ → ℕ → List Tie → Method → Type 0
+OverThere b l p ts m = (y t : ℕ) → nearest (superOf b) (hasMethod b (m .signature)) p ≡ some y → List·Memᴰ t (signatureTypes (m .signature)) → t ≢ 1 → Chain (tieEdges ts) (at l t) (at (loaderOf b y) t)
 
-over-one : (b : Base) (l p : ℕ) (ts : List Tie) (m : Method) → OverThere b l p (ts ++ overrideTie b l p ts m) m
-unfolding overrideTie
-over-one b l p ts m = record {
-  argument = λ y h z. rw (h, overrideTie) (call-arg ts l (loaderOf b y) (m .argument) (m .result) z);
-  result = λ y h z. rw (h, overrideTie) (call-res ts l (loaderOf b y) (m .argument) (m .result) z);
-}
+over-one : (b : Base) (l p : ℕ) (ts : List Tie) (m : Method) → OverThere b l p (ts ++ overrideTie b l p ts (m .signature)) m
+unfolding overrideTie signatureTies
+over-one b l p ts m y t h i z = rw (nearest-selected b (m .signature) p y h .1, overrideTie) (ties-there ts l (loaderOf b y) (signatureTypes (m .signature)) t i z)
 
 over-wider : (b : Base) (l p : ℕ) (ts us : List Tie) (m : Method) → OverThere b l p ts m → OverThere b l p (ts ++ us) m
-over-wider b l p ts us m o = record { argument = λ y h z. wide (o .argument y h z); result = λ y h z. wide (o .result y h z) }
-  where
-    wide : {x y : Request} → Chain (tieEdges ts) x y → Chain (tieEdges (ts ++ us)) x y
-    wide c = rw (tie-edges-more ts us) (chain-more (λ e i. Memᴰ·append-left (tieEdges us) i) c)
+over-wider b l p ts us m o y t h i z = rw (tie-edges-more ts us) (chain-more (λ e i. Memᴰ·append-left (tieEdges us) i) (o y t h i z))
 
 over-there : (b : Base) (l p : ℕ) (ts : List Tie) (ms : List Method) (m : Method) → List·Memᴰ m ms → OverThere b l p (ts ++ overrideTies b l p ts ms) m
 unfolding overrideTies
-over-there b l p ts (x ∷ ms) m (List·Memᴰ·head q) = rw q (rw append-assoc at (over-wider b l p (ts ++ overrideTie b l p ts x) (overrideTies b l p (ts ++ overrideTie b l p ts x) ms) x (over-one b l p ts x)))
-over-there b l p ts (x ∷ ms) m (List·Memᴰ·tail k) = rw append-assoc at (over-there b l p (ts ++ overrideTie b l p ts x) ms m k)
+over-there b l p ts (x ∷ ms) m (List·Memᴰ·head q) = rw q (rw append-assoc at (over-wider b l p (ts ++ overrideTie b l p ts (x .signature)) (overrideTies b l p (ts ++ overrideTie b l p ts (x .signature)) ms) x (over-one b l p ts x)))
+over-there b l p ts (x ∷ ms) m (List·Memᴰ·tail k) = rw append-assoc at (over-there b l p (ts ++ overrideTie b l p ts (x .signature)) ms m k)
 
 -- each method's notes are among a class's
 notes-at : (k : Class) (ms : List Method) (ns : List Note) → notesOf k ms ≡ some ns → (j : ℕ) (m : Method) → getElem? ms j ≡ some m
@@ -104,15 +100,15 @@ notes-at k (x ∷ ms) ns h (suc j) m e =
 -- A later world, and what was tied in the earlier one
 
 module _ (v w : World) (lk : Linked v) (gr : Grows v w) where
-  over-old : (t n a r x p y : ℕ) → (k : Class) × (getElem? (v .base .classes) x ≡ some k)
-      → (hasMethod (v .base) n a r x ≡ true → superOf (v .base) x ≡ some p → nearest (superOf (v .base)) (hasMethod (v .base) n a r) p ≡ some y → Tied v (at (loaderOf (v .base) x) t) (at (loaderOf (v .base) y) t))
-      → hasMethod (w .base) n a r x ≡ true → superOf (w .base) x ≡ some p → nearest (superOf (w .base)) (hasMethod (w .base) n a r) p ≡ some y → Tied w (at (loaderOf (w .base) x) t) (at (loaderOf (w .base) y) t)
-  over-old t n a r x p y rx f h s q =
-      let h′ = sym (has-stable v w (rooted lk) gr n a r x rx) ∙ h in
+  over-old : (g : Signature) (x p y t : ℕ) → (k : Class) × (getElem? (v .base .classes) x ≡ some k)
+      → hasMethod (w .base) g x ≡ true → superOf (w .base) x ≡ some p → nearest (superOf (w .base)) (hasMethod (w .base) g) p ≡ some y
+      → List·Memᴰ t (signatureTypes g) → t ≢ 1 → Tied w (at (loaderOf (w .base) x) t) (at (loaderOf (w .base) y) t)
+  over-old g x p y t rx h s q i z =
+      let h′ = sym (has-stable v w (rooted lk) gr g x rx) ∙ h in
       let s′ = sym (super-stable v w (rooted lk) gr x rx) ∙ s in
-      let q′ = sym (nearest-stable v w (rooted lk) gr n a r p (real-super v w (rooted lk) gr x p s′)) ∙ q in
-      let ry = has-class (v .base) n a r y (nearest-below (superOf (v .base)) (super-falls (v .base)) (hasMethod (v .base) n a r) p y q′ .1) in
-      rw (loader-stable v w (rooted lk) gr x rx, loader-stable v w (rooted lk) gr y ry) (chain-more (gr .ties) (f h′ s′ q′))
+      let q′ = sym (nearest-stable v w (rooted lk) gr g p (real-super v w (rooted lk) gr x p s′)) ∙ q in
+      let ry = has-class (v .base) g y (nearest-below (superOf (v .base)) (super-falls (v .base)) (hasMethod (v .base) g) p y q′ .1) in
+      rw (loader-stable v w (rooted lk) gr x rx, loader-stable v w (rooted lk) gr y ry) (chain-more (gr .ties) (lk .over g x p y t h′ s′ q′ i z))
 
   verified-old : (k : Class) (m : Method) → Verified v k m → Verified w k m
   verified-old k m x = record { notes = x .notes; passes = x .passes; posted = λ n i. gr .subtypes _ (x .posted n i) }
@@ -126,8 +122,7 @@ linked-entry v r c k lk ck g = record {
   real = λ q d h. elim (find-snoc (v .base .cache) (record { request = r; class = c }) q d h) [ inl x ↦ lk .real q d x | inr x ↦ (k, ap (getElem? (v .base .classes)) x ∙ ck) ];
   supers = λ x y h l. let s = lk .supers x y h l in (s .0, grows-super gr x (s .0) (s .1));
   verified = λ x j y m a b. verified-old v w lk gr y m (lk .verified x j y m a b);
-  overArg = λ n a r′ x p y h s q z. over-old v w lk gr a n a r′ x p y (has-class (w .base) n a r′ x h) (λ h s q. lk .overArg n a r′ x p y h s q z) h s q;
-  overRes = λ n a r′ x p y h s q z. over-old v w lk gr r′ n a r′ x p y (has-class (w .base) n a r′ x h) (λ h s q. lk .overRes n a r′ x p y h s q z) h s q;
+  over = λ g x p y t h. over-old v w lk gr g x p y t (has-class (w .base) g x h) h;
 }
   where
     w : World
@@ -147,15 +142,14 @@ module _ (v : World) (k : Class) (ns : List Note) (p : ℕ) (lk : Linked v) (vn 
   ss = newSubtypes (v .subtypes) (k .loader) ns
 
   pub linked-class : Agrees (withClass v k us ss) → Linked (withClass v k us ss)
-  unfolding us ss alike
+  unfolding us ss
   linked-class g = record {
     agreed = g;
     own = λ c x h. own′ c x (nth-snoc (v .base .classes) k c x h);
     real = λ q d h. elim (find-snoc (v .base .cache) new q d h) [ inl x ↦ let r = lk .real q d x in (r .0, gr .classes d (r .0) (r .1)) | inr x ↦ (k, ap (getElem? (v .base .classes ++ (k ∷ []))) x ∙ here) ];
     supers = λ c x h l. supers′ c x (nth-snoc (v .base .classes) k c x h) l;
     verified = λ c j x m h e. verified′ c j x m (nth-snoc (v .base .classes) k c x h) e;
-    overArg = λ n a r x q y h e f z. over′ a n a r x q y (let c = has-class (W .base) n a r x h in nth-snoc (v .base .classes) k x (c .0) (c .1)) (λ i j o. lk .overArg n a r x q y i j o z) (λ o. o .0 z) h e f;
-    overRes = λ n a r x q y h e f z. over′ r n a r x q y (let c = has-class (W .base) n a r x h in nth-snoc (v .base .classes) k x (c .0) (c .1)) (λ i j o. lk .overRes n a r x q y i j o z) (λ o. o .1 z) h e f;
+    over = λ g x q y t h. over′ g x q y t (let c = has-class (W .base) g x h in nth-snoc (v .base .classes) k x (c .0) (c .1)) h;
   }
     where
       W : World
@@ -190,34 +184,19 @@ module _ (v : World) (k : Class) (ns : List Note) (p : ℕ) (lk : Linked v) (vn 
           let r = notes-at k (k .methods) ns vn j m (rw (h .1) at e) in
           rw (h .1) (record { notes = r .0; passes = r .1; posted = λ n i. subs-there (v .subtypes) (k .loader) ns n (r .2 n i) })
 
-      Ties : ℕ → ℕ → ℕ → Type 0
-      Ties a r y = (a ≢ 1 → Tied W (at (k .loader) a) (at (loaderOf (v .base) y) a)) × (r ≢ 1 → Tied W (at (k .loader) r) (at (loaderOf (v .base) y) r))
+      fresh′ : (g : Signature) (y t : ℕ) → hasMethod (W .base) g N ≡ true → nearest (superOf (W .base)) (hasMethod (W .base) g) p ≡ some y
+          → List·Memᴰ t (signatureTypes g) → t ≢ 1 → Tied W (at (loaderOf (W .base) N) t) (at (loaderOf (W .base) y) t)
+      fresh′ g y t h f i z =
+          let f′ = sym (nearest-stable v W (rooted lk) gr g p (lk .real _ p fp)) ∙ f in
+          let ry = has-class (v .base) g y (nearest-below (superOf (v .base)) (super-falls (v .base)) (hasMethod (v .base) g) p y f′ .1) in
+          let am = any-true (alike g) (k .methods) (sym (has-is (W .base) g N k here) ∙ h) in
+          let e = alike-is g (am .0) (am .2) in
+          rw (loader-is (W .base) N k here, loader-stable v W (rooted lk) gr y ry) (over-there (v .base) (k .loader) p (v .ties) (k .methods) (am .0) (am .1) y t (rw e f′) (rw e i) z)
 
-      tied : (n a r y : ℕ) → nearest (superOf (v .base)) (hasMethod (v .base) n a r) p ≡ some y → (m : Method) → List·Memᴰ m (k .methods) → (m .name ≡ n) × (m .argument ≡ a) × (m .result ≡ r) → Ties a r y
-      tied n a r y h m i (en, ea, er) =
-          let o = over-there (v .base) (k .loader) p (v .ties) (k .methods) m i in
-          let h′ : nearest (superOf (v .base)) (hasMethod (v .base) (m .name) (m .argument) (m .result)) p ≡ some y = rw (en, ea, er) h in
-          (rw (sym ea) (o .argument y h′), rw (sym er) (o .result y h′))
-
-      alike-is : (n a r : ℕ) (m : Method) → alike n a r m ≡ true → (m .name ≡ n) × (m .argument ≡ a) × (m .result ≡ r)
-      alike-is n a r m h =
-          let x = and-true (eqb (m .name) n && eqb (m .argument) a) (eqb (m .result) r) h in
-          let y = and-true (eqb (m .name) n) (eqb (m .argument) a) (x .0) in
-          (eqb-true (m .name) n (y .0), eqb-true (m .argument) a (y .1), eqb-true (m .result) r (x .1))
-
-      fresh′ : (t n a r y : ℕ) → (Ties a r y → Tied W (at (k .loader) t) (at (loaderOf (v .base) y) t)) → hasMethod (W .base) n a r N ≡ true → nearest (superOf (W .base)) (hasMethod (W .base) n a r) p ≡ some y
-          → Tied W (at (loaderOf (W .base) N) t) (at (loaderOf (W .base) y) t)
-      fresh′ t n a r y pick h f =
-          let f′ = sym (nearest-stable v W (rooted lk) gr n a r p (lk .real _ p fp)) ∙ f in
-          let ry = has-class (v .base) n a r y (nearest-below (superOf (v .base)) (super-falls (v .base)) (hasMethod (v .base) n a r) p y f′ .1) in
-          let am = any-true (alike n a r) (k .methods) (sym (has-is (W .base) n a r N k here) ∙ h) in
-          rw (loader-is (W .base) N k here, loader-stable v W (rooted lk) gr y ry) (pick (tied n a r y f′ (am .0) (am .1) (alike-is n a r (am .0) (am .2))))
-
-      over′ : (t n a r x q y : ℕ) {c : Class} → (getElem? (v .base .classes) x ≡ some c) ⊎ ((x ≡ N) × (c ≡ k))
-          → (hasMethod (v .base) n a r x ≡ true → superOf (v .base) x ≡ some q → nearest (superOf (v .base)) (hasMethod (v .base) n a r) q ≡ some y → Tied v (at (loaderOf (v .base) x) t) (at (loaderOf (v .base) y) t))
-          → (Ties a r y → Tied W (at (k .loader) t) (at (loaderOf (v .base) y) t))
-          → hasMethod (W .base) n a r x ≡ true → superOf (W .base) x ≡ some q → nearest (superOf (W .base)) (hasMethod (W .base) n a r) q ≡ some y → Tied W (at (loaderOf (W .base) x) t) (at (loaderOf (W .base) y) t)
-      over′ t n a r x q y {c} (inl e) old pick h s f = over-old v W lk gr t n a r x q y (c, e) old h s f
-      over′ t n a r x q y {c} (inr e) old pick h s f =
+      over′ : (g : Signature) (x q y t : ℕ) {c : Class} → (getElem? (v .base .classes) x ≡ some c) ⊎ ((x ≡ N) × (c ≡ k))
+          → hasMethod (W .base) g x ≡ true → superOf (W .base) x ≡ some q → nearest (superOf (W .base)) (hasMethod (W .base) g) q ≡ some y
+          → List·Memᴰ t (signatureTypes g) → t ≢ 1 → Tied W (at (loaderOf (W .base) x) t) (at (loaderOf (W .base) y) t)
+      over′ g x q y t {c} (inl e) h s f i n = over-old v W lk gr g x q y t (c, e) h s f i n
+      over′ g x q y t {c} (inr e) h s f i n =
           let z : q ≡ p = Option·some-injective q p (sym s ∙ ap (superOf (W .base)) (e .0) ∙ up) in
-          rw (e .0) (fresh′ t n a r y pick (rw (e .0) at h) (rw z at f))
+          rw (e .0) (fresh′ g y t (rw (e .0) at h) (rw z at f) i n)

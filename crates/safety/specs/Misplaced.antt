@@ -94,13 +94,13 @@ module _ (w : World) (os : List Object) (lk : Linked w) where
   unfolding misplacedInFrames waitingTypes
   under-placed l r [] h = refl
   under-placed l r (f ∷ fs) (k, m, x, t, u) =
-      rw (frame-placed true f k m (x .τ) (x .others) (x .typed) (rw (x .split, waitingTypes) refl) (x .operands) (x .locals), under-placed (k .loader) (m .result) fs u) refl
+      rw (frame-placed true f k m (x .τ) (x .others) (x .typed) (rw (x .split, waitingTypes) refl) (x .operands) (x .locals), under-placed (k .loader) (m .signature .result) fs u) refl
 
   stack-placed : (fs : List Frame) → Stack w os fs → misplacedInFrames w os false fs ≡ 0
   unfolding misplacedInFrames waitingTypes
   stack-placed [] h = refl
   stack-placed (f ∷ fs) (k, m, x, u) =
-      rw (frame-placed false f k m (x .τ) (x .τ .operands) (x .typed) refl (x .operands) (x .locals), under-placed (k .loader) (m .result) fs u) refl
+      rw (frame-placed false f k m (x .τ) (x .τ .operands) (x .typed) refl (x .operands) (x .locals), under-placed (k .loader) (m .signature .result) fs u) refl
 
 pub valid-placed : (r : Rows) → Valid (storeOf r) → misplacedIn r ≡ 0
 unfolding misplacedIn

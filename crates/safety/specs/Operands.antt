@@ -1,18 +1,17 @@
 -- What a step finds on the operands and behind a receiver, where values conform to their types.
-use mathlib.Core.Path.{_≡_, refl, sym, ap}
+use mathlib.Core.Path.{_≡_, refl, ap}
 use mathlib.Core.Bool.{Bool, true, false}
 use mathlib.Core.Option.{Option, some, Option·none-ne-some, Option·some-injective}
-use mathlib.Core.List.{List, [], _∷_, _++_, append-assoc, Memᴰ·append-left}
-use mathlib.Core.Logic.{_≢_}
+use mathlib.Core.List.{List, [], _∷_, _++_}
 use Prim.Native.Nat.{ℕ}
 use native.Mathlib.Omega.{arith}
 use lib.ListN.{getElem?}
 use lib.Dec.{eqb}
 use Rattle.definition.specs.Answers.{Result, _>>=_, ok, take?}
 use Rattle.definition.specs.Classes.{find, hasField, loaderOf, slots, superOf}
-use Rattle.definition.specs.Constraints.{Agrees, Tie, World, newTie, post, posted, tieEdges}
+use Rattle.definition.specs.Constraints.{Agrees, Tie, World, post, posted}
 use Rattle.definition.specs.Machine.{Object, Value, compute, int!, intValue, kind!, nullValue, object!, objectValue, ofKind!, pop!, reference!, room!, emptyValue, unlistedValue, existing}
-use Rattle.definition.specs.Requests.{Chain, at}
+use Rattle.definition.specs.Requests.{at}
 use Rattle.definition.specs.Superclasses.{Below}
 use Rattle.definition.specs.declared.Kind.{Kind}
 use Rattle.definition.specs.declared.Kind.the-variants.{IntKind, ReferenceKind}
@@ -20,15 +19,13 @@ use Rattle.definition.specs.declared.Operator.{Operator}
 use Rattle.definition.specs.declared.Operator.the-variants.{Add, Subtract}
 use Rattle.definition.specs.Verifier.{Flow, Note, VerifierType, flow, meetInt, meetKind, pop, typeClass, typeInt, typeNull, typeOfName}
 use Rattle.laws.specs.Agreement.{super-falls}
-use Rattle.laws.specs.Chains.{chain-more}
 use Rattle.laws.specs.Options.{bind-some, each-at}
 use Rattle.laws.specs.Results.{Wp, not-word, wp-need, wp-sure, wp-there}
 use Rattle.laws.specs.Upward.{true-below}
 use Rattle.safety.specs.Conform.{fits-below}
-use Rattle.safety.specs.Places.{agrees-after, of-int, tie-there}
+use Rattle.safety.specs.Places.{agrees-after, of-int}
 use Rattle.safety.specs.Valid.{Conforms, ObjectSound}
 use Rattle.definition.specs.Maybe as Maybe
-use Rattle.laws.specs.Growth.{tie-edges-more}
 use Rattle.definition.specs.Lists.{Each}
 use Rattle.laws.specs.Members.{FieldPlace, field-place}
 
@@ -132,14 +129,3 @@ field-at w os b d n t h bl ob =
     let p = field-place (w .base) (b .class) d n t h bl in
     let x = each-at (λ s v. Conforms w os (loaderOf (w .base) (s .owner)) (typeOfName (s .type)) v) (slots (w .base) (b .class)) (b .values) (ob .filled) (p .place) (p .slot) (p .isSlot) in
     record { field = p; value = x .0; there = x .1; conforms = rw (p .owner, p .type) at (x .2) }
-
--- the two ties of a call
-abbrev pub ties2 : List Tie → ℕ → ℕ → ℕ → ℕ → List Tie
-ties2 ts l m a r = newTie ts l m a ++ newTie (ts ++ newTie ts l m a) l m r
-
-pub call-arg : (ts : List Tie) (l m a r : ℕ) → a ≢ 1 → Chain (tieEdges (ts ++ ties2 ts l m a r)) (at l a) (at m a)
-call-arg ts l m a r h = rw (sym (append-assoc ts (newTie ts l m a) (newTie (ts ++ newTie ts l m a) l m r)), tie-edges-more (ts ++ newTie ts l m a) (newTie (ts ++ newTie ts l m a) l m r))
-    (chain-more (λ e i. Memᴰ·append-left (tieEdges (newTie (ts ++ newTie ts l m a) l m r)) i) (tie-there ts l m a h))
-
-pub call-res : (ts : List Tie) (l m a r : ℕ) → r ≢ 1 → Chain (tieEdges (ts ++ ties2 ts l m a r)) (at l r) (at m r)
-call-res ts l m a r h = rw (sym (append-assoc ts (newTie ts l m a) (newTie (ts ++ newTie ts l m a) l m r))) (tie-there (ts ++ newTie ts l m a) l m r h)

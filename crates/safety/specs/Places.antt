@@ -1,18 +1,20 @@
 -- Lemmas on places: what meets a name conforms to it, what ties carry, where fields are, what posting ties keeps.
-use mathlib.Core.Path.{_≡_, refl, sym, ap}
+use mathlib.Core.Path.{_≡_, refl, sym, ap, _∙_}
 use mathlib.Core.Bool.{Bool, true, false, _&&_, _||_}
 use mathlib.Core.Option.{Option, some, Option·none-ne-some, Option·some-injective}
-use mathlib.Core.List.{List, [], _∷_, _++_, append-nil, List·Memᴰ, List·Memᴰ·head, List·Memᴰ·tail, Memᴰ·append-right}
+use mathlib.Core.List.{List, [], _∷_, _++_, append-nil, List·Memᴰ, List·Memᴰ·head, List·Memᴰ·tail, Memᴰ·append-left, Memᴰ·append-right, append-assoc}
 use mathlib.Core.Logic.{inl, inr, _≢_}
 use Prim.Native.Nat.{ℕ}
 use lib.Dec.{eqb}
 use borrow.Author.Tests.{eqb-true, eqb-false, ne-eqb}
-use Rattle.definition.specs.Constraints.{Agrees, Tie, World, agreesAfter, edges, newTie, posted, subtypeEdges, tieEdges, tieIs}
+use Rattle.definition.specs.Constraints.{Agrees, Tie, World, agreesAfter, edges, newTie, newTies, posted, subtypeEdges, tieEdges, tieIs}
 use Rattle.definition.specs.Lists.{any}
 use Rattle.definition.specs.Machine.{Object, Value, intValue, nullValue, objectValue, emptyValue, unlistedValue}
 use Rattle.definition.specs.Requests.{Chain, Edge, at, hop, stay}
 use Rattle.definition.specs.Verifier.{Note, VerifierType, meetClass, meetInt, meets, typeClass, typeInt, typeNull, typeOfName}
 use Rattle.laws.specs.Agreement.{agrees-true}
+use Rattle.laws.specs.Chains.{chain-more}
+use Rattle.laws.specs.Growth.{tie-edges-more}
 use Rattle.laws.specs.Tests.{and-true, any-true, or-true}
 use Rattle.safety.specs.Conform.{Fits, Tied, fits-on, fits-tied, tie-turned}
 use Rattle.safety.specs.Valid.{Conforms}
@@ -112,6 +114,15 @@ tie-there ts l m n h = go (eqb l m || eqb n 1 || any (tieIs l m n) ts) refl
       | inr x ↦ let y = any-true (tieIs l m n) ts x in old (tie-chain ts l m n (y .0) (y .1) (y .2))
     ]
     go false e = hop (stay refl) (tie-edge _ _ (Memᴰ·append-right ts (List·Memᴰ·head refl)))
+
+-- of names in turn, each is tied
+pub ties-there : (ts : List Tie) (l m : ℕ) (ns : List ℕ) (n : ℕ) → List·Memᴰ n ns → n ≢ 1 → Chain (tieEdges (ts ++ newTies ts l m ns)) (at l n) (at m n)
+unfolding newTies
+ties-there ts l m (x ∷ ns) n (List·Memᴰ·head q) h =
+    let us = newTie ts l m x in
+    let vs = newTies (ts ++ us) l m ns in
+    rw (q, sym (append-assoc ts us vs), tie-edges-more (ts ++ us) vs) (chain-more (λ e i. Memᴰ·append-left (tieEdges vs) i) (tie-there ts l m x (λ e. h (q ∙ e))))
+ties-there ts l m (x ∷ ns) n (List·Memᴰ·tail k) h = rw append-assoc at (ties-there (ts ++ newTie ts l m x) l m ns n k h)
 
 -- agreement after posting
 pub agrees-after : (w : World) (us : List Tie) → Agrees w → agreesAfter w us ≡ true → Agrees (posted w us)

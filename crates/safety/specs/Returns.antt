@@ -52,17 +52,17 @@ wp-under Q [] f h = h
 wp-under Q (g ∷ gs) f h = wp-room Q (g .operands) f h
 
 module _ (w : World) (os : List Object) (f : Frame) (fs : List Frame) (k : Class) (m : Method)
-    (lk : Linked w) (hp : Heap w os) (tp : Top w os f k m) (un : Under w os (k .loader) (m .result) fs) where
+    (lk : Linked w) (hp : Heap w os) (tp : Top w os f k m) (un : Under w os (k .loader) (m .signature .result) fs) where
   module _ (i : Decoded) (made : List Note) (nt : Noted w (k .loader) made) where
-    ret : (kind : Kind) → returns kind (m .result) (tp .τ) ≡ some made → Wp (execute w os f fs k i (Return kind)) (Kept w os)
+    ret : (kind : Kind) → returns kind (m .signature .result) (tp .τ) ≡ some made → Wp (execute w os f fs k i (Return kind)) (Kept w os)
     unfolding execute returns
     ret kind e =
         let a = bind-some _ _ e in
         let b = bind-some _ _ (a .2) in
         let q = each-pop (Conforms w os (k .loader)) (tp .τ .operands) (f .operands) (b .0 .top) (b .0 .more) (b .1) (tp .operands) in
-        let cv : Conforms w os (k .loader) (typeOfName (m .result)) (q .0 .top) = meet-name w os (k .loader) (m .result) (b .0 .top) (q .0 .top) made (b .2) nt (q .2) in
-        wp-under (Kept w os) fs _ (wp-known (Kept w os) _ _ (q .1) (wp-known (Kept w os) _ _ (of-kind w os (k .loader) kind (typeOfName (m .result)) (q .0 .top) (a .1) cv)
-        (give-kept w os fs (k .loader) (m .result) (q .0 .top) lk hp un cv)))
+        let cv : Conforms w os (k .loader) (typeOfName (m .signature .result)) (q .0 .top) = meet-name w os (k .loader) (m .signature .result) (b .0 .top) (q .0 .top) made (b .2) nt (q .2) in
+        wp-under (Kept w os) fs _ (wp-known (Kept w os) _ _ (q .1) (wp-known (Kept w os) _ _ (of-kind w os (k .loader) kind (typeOfName (m .signature .result)) (q .0 .top) (a .1) cv)
+        (give-kept w os fs (k .loader) (m .signature .result) (q .0 .top) lk hp un cv)))
 
-    pub each-ret : (j : Instruction) (kind : Kind) → j ≡ Return kind → returns kind (m .result) (tp .τ) ≡ some made → Wp (execute w os f fs k i j) (Kept w os)
+    pub each-ret : (j : Instruction) (kind : Kind) → j ≡ Return kind → returns kind (m .signature .result) (tp .τ) ≡ some made → Wp (execute w os f fs k i j) (Kept w os)
     each-ret j kind is e = rw is (ret kind e)

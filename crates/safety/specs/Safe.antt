@@ -7,22 +7,20 @@ use Prim.Native.Nat.{ℕ, zero, suc}
 use native.Mathlib.Omega.{arith}
 use lib.ListN.{length, getElem?}
 use lib.Dec.{eqb, ltb}
+use Rattle.definition.specs.declared.Signature.{Signature}
 use Rattle.definition.specs.Answers.{Result, _>>=_, need, ok, refused}
-use Rattle.definition.specs.Classes.{Class, Entry, alike, find, hasMethod, loaderOf, methodsOf, slots, superOf}
+use Rattle.definition.specs.Classes.{Class, Entry, find, loaderOf, slots, superOf, Selected, startSignature}
 use Rattle.definition.specs.Constraints.{World, agrees, edges, pairAgrees, rowAgrees, subtypeEdges, tieEdges, agreesOver}
-use Rattle.definition.specs.Lists.{all, indexOf}
+use Rattle.definition.specs.Lists.{all}
 use Rattle.definition.specs.Loading.{define, recorded, started, withEntry}
 use Rattle.definition.specs.Machine.{Frame, Object, Progress, entryFrame, initialValue, intValue, newObject}
 use Rattle.definition.specs.Requests.{at, fires, grow, has, rest, sameRequest, reach}
-use Rattle.definition.specs.Superclasses.{nearest}
 use Rattle.definition.specs.declared.Refusal.the-variants.{Word}
-use Rattle.laws.specs.Agreement.{agrees-true, find-row, super-falls, super-is}
-use Rattle.laws.specs.Members.{method-at}
+use Rattle.laws.specs.Agreement.{agrees-true, find-row, super-is}
 use Rattle.laws.specs.Options.{nth-last}
 use Rattle.laws.specs.Results.{Wp, not-wanted, not-word, wp-need, wp-take}
 use Rattle.laws.specs.Tasks.{of-task}
 use Rattle.laws.specs.Tests.{none-is}
-use Rattle.laws.specs.Upward.{nearest-below}
 use Rattle.safety.specs.Store.{Store, booted, inTask, inWorld}
 use Rattle.safety.specs.Loads.{linked-class, linked-entry, ss, us}
 use Rattle.safety.specs.Operands.{as-int}
@@ -30,6 +28,7 @@ use Rattle.safety.specs.Later.{Kept, heap-grows, heap-more, later-more, 
 use Rattle.safety.specs.Valid.{Heap, Later, Linked, Stack, later-stack, rooted}
 use Rattle.laws.specs.Growth.{Grows, grows-class, grows-entry}
 use Rattle.laws.specs.Objects.{numbered-same}
+use Rattle.laws.specs.Members.{selected-at, SelectedAt}
 
 boot-agrees : agrees (booted .world) ≡ true
 unfolding agrees agreesOver reach all rowAgrees pairAgrees find edges tieEdges subtypeEdges has grow fires rest sameRequest
@@ -39,7 +38,7 @@ boot-own : find (booted .world .base .cache) (at 0 2) ≡ some 0
 unfolding find sameRequest
 boot-own = refl
 
-boot-class : (c : ℕ) (k : Class) → getElem? (booted .world .base .classes) c ≡ some k → (c ≡ 0) × (k ≡ record { loader = 0; name = 2; super = 0; fields = []; methods = [] })
+boot-class : (c : ℕ) (k : Class) → getElem? (booted .world .base .classes) c ≡ some k → (c ≡ 0) × (k ≡ record { loader = 0; version = 0; name = 2; super = 0; fields = []; methods = [] })
 boot-class zero k h = (refl, sym (Option·some-injective _ _ h))
 boot-class (suc c) k h = absurd (Option·none-ne-some k h)
 
@@ -79,18 +78,16 @@ pub start-kept : (l n m x : ℕ) (v : World) (os : List Object) (fs : List Frame
 unfolding started newObject
 start-kept l n m x v os fs lk hp =
     wp-need (Kept v os) _ _ _ (not-word 3 (omega arith)) (λ _. wp-need (Kept v os) _ _ _ (not-word 12 (omega arith)) (λ _. wp-take (Kept v os) _ _ _ (not-wanted _) (λ c fc.
-    wp-take (Kept v os) _ _ _ (not-word 7 (omega arith)) (λ s fs. wp-take (Kept v os) _ _ _ (not-word 7 (omega arith)) (λ j ij.
-    wp-need (Kept v os) _ _ _ (not-word 10 (omega arith)) (λ _. begun c s j fc fs ij))))))
+    wp-take (Kept v os) _ _ _ (not-word 7 (omega arith)) (λ s fs.
+    wp-need (Kept v os) _ _ _ (not-word 10 (omega arith)) (λ _. begun c s fc (selected-at (v .base) (startSignature m) c s fs))))))
   where
-    begun : (c s j : ℕ) → find (v .base .cache) (at l n) ≡ some c → nearest (superOf (v .base)) (hasMethod (v .base) m 1 1) c ≡ some s → indexOf (alike m 1 1) (methodsOf (v .base) s) ≡ some j
-        → Kept v os (record { world = v; objects = os ++ (record { class = c; values = map initialValue (slots (v .base) c) } ∷ []); frames = entryFrame s j (length os) (intValue x) ∷ []; result = none })
-    begun c s j fc fs ij =
+    begun : (c : ℕ) (s : Selected) → find (v .base .cache) (at l n) ≡ some c → SelectedAt (v .base) (startSignature m) c s
+        → Kept v os (record { world = v; objects = os ++ (record { class = c; values = map initialValue (slots (v .base) c) } ∷ []); frames = entryFrame (s .class) (s .place) (length os) (intValue x) ∷ []; result = none })
+    begun c s fc found =
         let b : Object = record { class = c; values = map initialValue (slots (v .base) c) } in
         let qs = os ++ (b ∷ []) in
-        let nb = nearest-below (superOf (v .base)) (super-falls (v .base)) (hasMethod (v .base) m 1 1) c s fs in
-        let ma = method-at (v .base) s m 1 1 (nb .1) in
+        let ma = found .there in
         let r = lk .real (at l n) c fc in
-        let z : j ≡ ma .place = Option·some-injective _ _ (sym ij ∙ ma .index) in
         record {
           linked = lk;
           later = later-more v os b;
@@ -98,8 +95,8 @@ start-kept l n m x v os fs lk hp =
           stack = (
             ma .theClass,
             ma .method,
-            rw z (entered-top v qs lk s m 1 1 ma (length os) b (nth-last os b) (nb .0) (intValue x) (as-int v qs (loaderOf (v .base) s) 1 (intValue x) refl tt)),
-            ma .result,
+            entered-top v qs lk (startSignature m) s ma (length os) b (nth-last os b) (found .above) (intValue x) (as-int v qs (loaderOf (v .base) (s .class)) 1 (intValue x) refl tt),
+            ap (λ (z : Signature). z .result) (ma .isSignature),
           );
         }
 
@@ -128,8 +125,7 @@ valid-booted = record {
     real = λ r c h. let z = find-row (booted .world .base .cache) r c h in (_, ap (getElem? (booted .world .base .classes)) (sym (z .3) ∙ ap (λ (e : Entry). e .class) (List·Memᴰ·eq-of-singleton (z .1))));
     supers = λ c k h l. absurd (omega (arith, boot-class c k h .0));
     verified = λ c j k m h e. absurd (Option·none-ne-some m (rw (boot-class c k h .1) at e));
-    overArg = λ n a r x p y h s. absurd (boot-top x p s);
-    overRes = λ n a r x p y h s. absurd (boot-top x p s);
+    over = λ g x p y t h s. absurd (boot-top x p s);
   };
   heap = λ o b e. absurd (Option·none-ne-some b e);
   quote = tt;

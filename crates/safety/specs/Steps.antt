@@ -2,20 +2,21 @@
 use mathlib.Core.Path.{_≡_, refl, sym, ap}
 use mathlib.Core.Bool.{true}
 use mathlib.Core.Option.{Option, none, some, Option·none-ne-some}
-use mathlib.Core.List.{List, [], _∷_, _++_, map, List·Memᴰ, List·Memᴰ·head, Memᴰ·append-left, Memᴰ·append-right}
+use mathlib.Core.List.{List, [], _∷_, _++_, map, Memᴰ·append-left, Memᴰ·append-right, List·Memᴰ, List·Memᴰ·head, List·Memᴰ·tail}
 use mathlib.Core.Logic.{inl, inr, _≢_}
 use Prim.Native.Nat.{ℕ, suc, _+_, _-_, _%_}
 use native.Mathlib.Omega.{arith}
 use lib.ListN.{length, getElem?, set}
 use lib.Dec.{ltb}
+use Rattle.definition.specs.declared.Signature.{Signature}
 use Rattle.definition.specs.Answers.{Result, _>>=_, ok, take?}
 use Rattle.definition.specs.declared.Refusal.the-variants.{Word}
-use Rattle.definition.specs.Classes.{Class, Method, hasField, hasMethod, loaderOf, slots, superOf}
-use Rattle.definition.specs.Constraints.{Agrees, Tie, World, newTie, posted}
+use Rattle.definition.specs.Classes.{Class, Method, hasField, hasMethod, loaderOf, slots, superOf, Selected, signatureTypes}
+use Rattle.definition.specs.Constraints.{Agrees, Tie, World, newTie, posted, signatureTies}
 use Rattle.definition.specs.Instructions.{Decoded}
 use Rattle.definition.specs.Machine.{Frame, Object, Progress, Value, entryFrame, execute, initialValue, int!, intValue, newObject, now, room!, nullValue, objectValue, past, pop!, reference!, step}
 use Rattle.definition.specs.Requests.{at}
-use Rattle.definition.specs.Superclasses.{Below, nearest, same}
+use Rattle.definition.specs.Superclasses.{Below, same}
 use Rattle.definition.specs.Verifier.{Flow, Note, VerifierType, effect, flow, meetClass, meetInt, meets, pop, typeClass, typeInt, typeNull, typeOfName, typesIn}
 use Rattle.definition.specs.declared.Kind.{Kind}
 use Rattle.definition.specs.declared.Operator.{Operator}
@@ -27,18 +28,18 @@ use Rattle.laws.specs.Options.{bind-some, each-at, each-both, each-more, each-s
 use Rattle.laws.specs.Results.{Wp, not-wanted, not-word, wp-bind, wp-known, wp-need, wp-take, wp-there}
 use Rattle.laws.specs.Upward.{below-trans, nearest-below, nearest-finds}
 use Rattle.safety.specs.Conform.{Tied, fits-own, override, tied-turn}
-use Rattle.safety.specs.Places.{Noted, carry, meet-class, meet-name, tie-there}
+use Rattle.safety.specs.Places.{Noted, carry, meet-class, meet-name, tie-there, ties-there}
 use Rattle.laws.specs.Walk.{Known, known, successors}
 use Rattle.safety.specs.Valid.{Conforms, Heap, Later, Linked, Local, Stack, Top, Under, Verified, later-conforms, later-local, later-ops, later-under}
 use Rattle.definition.specs.Lists.{Each}
-use Rattle.laws.specs.Members.{MethodAt, method-at}
+use Rattle.laws.specs.Members.{MethodAt, selected-at, SelectedAt, nearest-selected}
 use Rattle.laws.specs.Objects.{changed}
-use Rattle.safety.specs.Operands.{Popped, each-pop, int-of, of-kind, wp-compute, flow-is, kind-of, wp-room, wp-post, wp-object, FieldAt, field-at, ties2, call-arg, call-res}
+use Rattle.safety.specs.Operands.{Popped, each-pop, int-of, of-kind, wp-compute, flow-is, kind-of, wp-room, wp-post, wp-object, FieldAt, field-at}
 use Rattle.safety.specs.Later.{ties-more, Kept, later-same, later-posted, heap-posted, linked-posted, later-changed, later-join, heap-changed, later-more, heap-more, zeros-conform, entered-top}
 use Rattle.safety.specs.Returns.{each-ret}
 
 module _ (w : World) (os : List Object) (f : Frame) (fs : List Frame) (k : Class) (m : Method)
-    (lk : Linked w) (hp : Heap w os) (tp : Top w os f k m) (un : Under w os (k .loader) (m .result) fs) where
+    (lk : Linked w) (hp : Heap w os) (tp : Top w os f k m) (un : Under w os (k .loader) (m .signature .result) fs) where
   module _ (i : Decoded) (fl : Flow)
       (nx : (p : ℕ) → List·Memᴰ p (successors i (f .point)) → typesIn k m p ≡ some (fl .types))
       (nt : Noted w (k .loader) (fl .notes)) where
@@ -61,7 +62,7 @@ module _ (w : World) (os : List Object) (f : Frame) (fs : List Frame) (k : Class
               operands = rw (sym q) a;
               locals = rw (sym q) b;
             },
-            later-under z (k .loader) (m .result) fs un,
+            later-under z (k .loader) (m .signature .result) fs un,
           );
         }
 
@@ -217,12 +218,12 @@ module _ (w : World) (os : List Object) (f : Frame) (fs : List Frame) (k : Class
         (each-more (later-local z (k .loader)) (tp .τ .locals) (f .locals) (tp .locals))))
 
     -- a frame is entered, and this one waits
-    enter : (u : World) → Later w os u os → Linked u → Heap u os → (s n t r : ℕ) (ma : MethodAt (u .base) s n t r) (o : ℕ) (z : Object) → getElem? os o ≡ some z → Below (superOf (u .base)) (z .class) s
-        → (v : Value) → Conforms u os (loaderOf (u .base) s) (typeOfName t) v → (r ≢ 1 → Tied u (at (loaderOf (u .base) s) r) (at (k .loader) r))
-        → (ts : List VerifierType) (ns : List Note) → flow (typeOfName r ∷ ts) (tp .τ .locals) ns ≡ some fl → (vs : List Value) → Each (Conforms w os (k .loader)) ts vs
-        → Kept w os (record { world = u; objects = os; frames = entryFrame s (ma .place) o v ∷ past f i vs (f .locals) ∷ fs; result = none })
-    enter u y lu hu s n t r ma o z th bl v cv tr ts ns e vs ev =
-        let q = flow-is (typeOfName r ∷ ts) (tp .τ .locals) ns fl e in
+    enter : (u : World) → Later w os u os → Linked u → Heap u os → (s : Signature) (a : Selected) (ma : MethodAt (u .base) s a) (o : ℕ) (z : Object) → getElem? os o ≡ some z → Below (superOf (u .base)) (z .class) (a .class)
+        → (v : Value) → Conforms u os (loaderOf (u .base) (a .class)) (typeOfName (s .argument)) v → (s .result ≢ 1 → Tied u (at (loaderOf (u .base) (a .class)) (s .result)) (at (k .loader) (s .result)))
+        → (ts : List VerifierType) (ns : List Note) → flow (typeOfName (s .result) ∷ ts) (tp .τ .locals) ns ≡ some fl → (vs : List Value) → Each (Conforms w os (k .loader)) ts vs
+        → Kept w os (record { world = u; objects = os; frames = entryFrame (a .class) (a .place) o v ∷ past f i vs (f .locals) ∷ fs; result = none })
+    enter u y lu hu s a ma o z th bl v cv tr ts ns e vs ev =
+        let q = flow-is (typeOfName (s .result) ∷ ts) (tp .τ .locals) ns fl e in
         record {
           linked = lu;
           heap = hu;
@@ -230,7 +231,7 @@ module _ (w : World) (os : List Object) (f : Frame) (fs : List Frame) (k : Class
           stack = (
             ma .theClass,
             ma .method,
-            entered-top u os lu s n t r ma o z th bl v cv,
+            entered-top u os lu s a ma o z th bl v cv,
             (
               k,
               m,
@@ -238,58 +239,57 @@ module _ (w : World) (os : List Object) (f : Frame) (fs : List Frame) (k : Class
                 τ = fl .types;
                 others = ts;
                 typed = record { isClass = y .grows .classes (f .class) k (tp .typed .isClass); isMethod = tp .typed .isMethod; types = nx _ (List·Memᴰ·head refl) };
-                split = rw (ma .result, sym q) refl;
+                split = rw (ma .isSignature, sym q) refl;
                 operands = later-ops y (k .loader) ts vs ev;
                 locals = rw (sym q) (each-more (later-local y (k .loader)) (tp .τ .locals) (f .locals) (tp .locals));
               },
-              rw (ma .result, sym (ma .loader)) tr,
-              later-under y (k .loader) (m .result) fs un,
+              rw (ma .isSignature, sym (ma .loader)) tr,
+              later-under y (k .loader) (m .signature .result) fs un,
             ),
           );
         }
 
-    do-call : (c n t r : ℕ) {p q : record { top : VerifierType; more : List VerifierType }} {ns ms : List Note} → pop (tp .τ .operands) ≡ some p → pop (p .more) ≡ some q → meetClass c (q .top) ≡ some ns → meets (p .top) t ≡ some ms
-        → flow (typeOfName r ∷ q .more) (tp .τ .locals) (ns ++ ms) ≡ some fl → Wp (execute w os f fs k i (Invokevirtual c n t r)) Q
-    unfolding execute Q
-    do-call c n t r {p} {q} {ns} {ms} e₁ e₂ e₃ e₄ e =
+    do-call : (c : ℕ) (s : Signature) {p q : record { top : VerifierType; more : List VerifierType }} {ns ms : List Note} → pop (tp .τ .operands) ≡ some p → pop (p .more) ≡ some q → meetClass c (q .top) ≡ some ns → meets (p .top) (s .argument) ≡ some ms
+        → flow (typeOfName (s .result) ∷ q .more) (tp .τ .locals) (ns ++ ms) ≡ some fl → Wp (execute w os f fs k i (Invokevirtual c s)) Q
+    unfolding execute Q signatureTies
+    do-call c s {p} {q} {ns} {ms} e₁ e₂ e₃ e₄ e =
         let x = popped e₁ in
         let y = each-pop (Conforms w os (k .loader)) (p .more) (x .0 .more) (q .top) (q .more) e₂ (x .3) in
-        let nd = noted (typeOfName r ∷ q .more) (tp .τ .locals) (ns ++ ms) e in
+        let nd = noted (typeOfName (s .result) ∷ q .more) (tp .τ .locals) (ns ++ ms) e in
         let cf : Conforms w os (k .loader) (typeClass c) (y .0 .top) = meet-class w os (k .loader) c (q .top) (y .0 .top) ns e₃ (λ a h. nd a (Memᴰ·append-left ms h)) (y .2) in
-        let cv : Conforms w os (k .loader) (typeOfName t) (x .0 .top) = meet-name w os (k .loader) t (p .top) (x .0 .top) ms e₄ (λ a h. nd a (Memᴰ·append-right ns h)) (x .2) in
+        let cv : Conforms w os (k .loader) (typeOfName (s .argument)) (x .0 .top) = meet-name w os (k .loader) (s .argument) (p .top) (x .0 .top) ms e₄ (λ a h. nd a (Memᴰ·append-right ns h)) (x .2) in
         wp-take (Kept w os) _ _ _ (not-wanted _) (λ b fb. wp-take (Kept w os) _ _ _ (not-word 7 (omega arith)) (λ d fd.
-        wp-bind (Kept w os) _ _ (wp-post w (ltb (suc (length fs)) 32) (ties2 (w .ties) (loaderOf (w .base) d) (k .loader) t r) _ (lk .agreed) (λ g.
-        wp-known (Kept w os) _ _ (x .1) (wp-known (Kept w os) _ _ (y .1) (wp-known (Kept w os) _ _ (kind-of w os (k .loader) t (x .0 .top) cv) (wp-bind (Kept w os) _ _ (wp-object w os (k .loader) c b (y .0 .top) _ (lk .agreed) fb cf (λ o z th bl ve.
-        let nb = nearest-below (superOf (w .base)) (super-falls (w .base)) (hasMethod (w .base) n t r) b d fd in
-        let nf = nearest-finds (superOf (w .base)) (super-falls (w .base)) (hasMethod (w .base) n t r) (below-trans bl (nb .0)) (nb .1) in
-        let ns = nearest-below (superOf (w .base)) (super-falls (w .base)) (hasMethod (w .base) n t r) (z .class) (nf .0) (nf .1) in
-        let ma = method-at (w .base) (nf .0) n t r (ns .1) in
-        wp-there (Kept w os) _ _ _ (nf .1) (wp-there (Kept w os) _ _ _ (ma .index)
-        (into d b (nf .0) g o z th bl (nf .1) fd (ns .0) ma (x .0 .top) cv (q .more) _ e (y .0 .more) (y .3))))))))))))
+        wp-bind (Kept w os) _ _ (wp-post w (ltb (suc (length fs)) 32) (signatureTies (w .ties) (loaderOf (w .base) (d .class)) (k .loader) s) _ (lk .agreed) (λ g.
+        wp-known (Kept w os) _ _ (x .1) (wp-known (Kept w os) _ _ (y .1) (wp-known (Kept w os) _ _ (kind-of w os (k .loader) (s .argument) (x .0 .top) cv) (wp-bind (Kept w os) _ _ (wp-object w os (k .loader) c b (y .0 .top) _ (lk .agreed) fb cf (λ o z th bl ve.
+        let sd = selected-at (w .base) s b d fd in
+        let nf = nearest-finds (superOf (w .base)) (super-falls (w .base)) (hasMethod (w .base) s) (below-trans bl (sd .above)) (sd .has) in
+        let sa = nearest-selected (w .base) s (z .class) (nf .0) (nf .1) in
+        wp-there (Kept w os) _ _ _ (sa .1) (into d b _ g o z th bl (sa .2) sd (x .0 .top) cv (q .more) _ e (y .0 .more) (y .3)))))))))))
       where
-        into : (d b s : ℕ) → Agrees (posted w (ties2 (w .ties) (loaderOf (w .base) d) (k .loader) t r)) → (o : ℕ) (z : Object) → getElem? os o ≡ some z → Below (superOf (w .base)) (z .class) b
-            → nearest (superOf (w .base)) (hasMethod (w .base) n t r) (z .class) ≡ some s → nearest (superOf (w .base)) (hasMethod (w .base) n t r) b ≡ some d → Below (superOf (w .base)) (z .class) s
-            → (ma : MethodAt (w .base) s n t r) (v : Value) → Conforms w os (k .loader) (typeOfName t) v
-            → (ts : List VerifierType) (rs : List Note) → flow (typeOfName r ∷ ts) (tp .τ .locals) rs ≡ some fl → (vs : List Value) → Each (Conforms w os (k .loader)) ts vs
-            → Kept w os (record { world = posted w (ties2 (w .ties) (loaderOf (w .base) d) (k .loader) t r); objects = os; frames = entryFrame s (ma .place) o v ∷ past f i vs (f .locals) ∷ fs; result = none })
-        into d b s g o z th bl fs′ fd bs ma v cv ts rs fe vs ev =
-            let us = ties2 (w .ties) (loaderOf (w .base) d) (k .loader) t r in
+        -- d is found from the class named, a selected from the object's own
+        into : (d : Selected) (b : ℕ) (a : Selected) → Agrees (posted w (signatureTies (w .ties) (loaderOf (w .base) (d .class)) (k .loader) s)) → (o : ℕ) (z : Object) → getElem? os o ≡ some z → Below (superOf (w .base)) (z .class) b
+            → SelectedAt (w .base) s (z .class) a → SelectedAt (w .base) s b d → (v : Value) → Conforms w os (k .loader) (typeOfName (s .argument)) v
+            → (ts : List VerifierType) (rs : List Note) → flow (typeOfName (s .result) ∷ ts) (tp .τ .locals) rs ≡ some fl → (vs : List Value) → Each (Conforms w os (k .loader)) ts vs
+            → Kept w os (record { world = posted w (signatureTies (w .ties) (loaderOf (w .base) (d .class)) (k .loader) s); objects = os; frames = entryFrame (a .class) (a .place) o v ∷ past f i vs (f .locals) ∷ fs; result = none })
+        into d b a g o z th bl sa sd v cv ts rs fe vs ev =
+            let us = signatureTies (w .ties) (loaderOf (w .base) (d .class)) (k .loader) s in
             let u = posted w us in
             let yy = later-posted w os us in
-            let oa : t ≢ 1 → Tied u (at (loaderOf (w .base) s) t) (at (loaderOf (w .base) d) t) = λ h. chain-more (ties-more w us) (override w (λ x. at (loaderOf (w .base) x) t) (hasMethod (w .base) n t r) (λ x p y hx sx qx. lk .overArg n t r x p y hx sx qx h) bl fs′ fd) in
-            let or : r ≢ 1 → Tied u (at (loaderOf (w .base) s) r) (at (loaderOf (w .base) d) r) = λ h. chain-more (ties-more w us) (override w (λ x. at (loaderOf (w .base) x) r) (hasMethod (w .base) n t r) (λ x p y hx sx qx. lk .overRes n t r x p y hx sx qx h) bl fs′ fd) in
-            enter u yy (linked-posted w us lk g) (heap-posted w os us hp) s n t r ma o z th bs v
-            (carry u os (k .loader) (loaderOf (w .base) s) t v (λ h. tied-turn u (chain-join (oa h) (call-arg (w .ties) (loaderOf (w .base) d) (k .loader) t r h))) (later-conforms yy (k .loader) (typeOfName t) v cv))
-            (λ h. chain-join (or h) (call-res (w .ties) (loaderOf (w .base) d) (k .loader) t r h)) ts rs fe vs ev
+            let tied : (t : ℕ) → List·Memᴰ t (signatureTypes s) → t ≢ 1 → Tied u (at (loaderOf (w .base) (a .class)) t) (at (k .loader) t)
+            = λ t j h. chain-join (chain-more (ties-more w us) (override w (λ x. at (loaderOf (w .base) x) t) (hasMethod (w .base) s) (λ x p y hx sx qx. lk .over s x p y t hx sx qx j h) bl (sa .near) (sd .near)))
+            (ties-there (w .ties) (loaderOf (w .base) (d .class)) (k .loader) (signatureTypes s) t j h) in
+            enter u yy (linked-posted w us lk g) (heap-posted w os us hp) s a (sa .there) o z th (sa .above) v
+            (carry u os (k .loader) (loaderOf (w .base) (a .class)) (s .argument) v (λ h. tied-turn u (tied (s .argument) (List·Memᴰ·head refl) h)) (later-conforms yy (k .loader) (typeOfName (s .argument)) v cv))
+            (tied (s .result) (List·Memᴰ·tail (List·Memᴰ·head refl))) ts rs fe vs ev
 
-    ex-call : (c n t r : ℕ) → effect (Invokevirtual c n t r) (tp .τ) ≡ some fl → Wp (execute w os f fs k i (Invokevirtual c n t r)) Q
+    ex-call : (c : ℕ) (s : Signature) → effect (Invokevirtual c s) (tp .τ) ≡ some fl → Wp (execute w os f fs k i (Invokevirtual c s)) Q
     unfolding effect
-    ex-call c n t r e =
+    ex-call c s e =
         let a = bind-some _ _ (bind-some _ _ e .2) in
         let b = bind-some _ _ (a .2) in
         let x = bind-some _ _ (b .2) in
         let y = bind-some _ _ (x .2) in
-        do-call c n t r (a .1) (b .1) (x .1) (y .1) (y .2)
+        do-call c s (a .1) (b .1) (x .1) (y .1) (y .2)
 
     -- any instruction that is no return
     each-ins : (j : Instruction) → effect j (tp .τ) ≡ some fl → Wp (execute w os f fs k i j) Q
@@ -302,7 +302,7 @@ module _ (w : World) (os : List Object) (f : Frame) (fs : List Frame) (k : Class
     each-ins (Arithmetic o) e = ex-arithmetic o e
     each-ins (Getfield c n t) e = ex-getf c n t e
     each-ins (Putfield c n t) e = ex-putf c n t e
-    each-ins (Invokevirtual c n t r) e = ex-call c n t r e
+    each-ins (Invokevirtual c s) e = ex-call c s e
     each-ins (New c) e = ex-new c e
     each-ins (Return kind) e = absurd (Option·none-ne-some fl (unfold effect in e))
 
@@ -314,7 +314,7 @@ module _ (w : World) (os : List Object) (f : Frame) (fs : List Frame) (k : Class
       let kn = known k m (ve .notes) (ve .passes) (f .point) (tp .τ) (t .types) in
       wp-bind (Kept w os) _ _ (wp-there _ _ _ _ (t .isClass) (wp-there _ _ _ _ (t .isMethod) (wp-there _ _ _ _ (kn .reads) (go ve kn))))
     where
-      go : (ve : Verified w k m) (kn : Known (m .code) (m .result) (typesIn k m) (ve .notes) (f .point) (tp .τ)) → Wp (execute w os f fs k (kn .at) (kn .at .instruction)) (Kept w os)
+      go : (ve : Verified w k m) (kn : Known (m .code) (m .signature .result) (typesIn k m) (ve .notes) (f .point) (tp .τ)) → Wp (execute w os f fs k (kn .at) (kn .at .instruction)) (Kept w os)
       go ve kn = elim (kn .way) [
         | inl a ↦ each-ret w os f fs k m lk hp tp un (kn .at) (a .made) (λ n x. ve .posted n (a .posted n x)) (kn .at .instruction) (a .kind) (a .is) (a .does)
         | inr a ↦ each-ins (kn .at) (a .flows) (a .next) (λ n x. ve .posted n (a .posted n x)) (kn .at .instruction) (a .does)

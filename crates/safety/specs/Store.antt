@@ -19,7 +19,7 @@ storeOf r = record { world = worldOf r; objects = r .objects; quote = r .quote; 
 abbrev pub booted : Store
 booted = record {
   world = record {
-    base = record { classes = record { loader = 0; name = 2; super = 0; fields = []; methods = [] } ∷ []; cache = record { request = at 0 2; class = 0 } ∷ [] };
+    base = record { classes = record { loader = 0; version = 0; name = 2; super = 0; fields = []; methods = [] } ∷ []; cache = record { request = at 0 2; class = 0 } ∷ [] };
     ties = [];
     subtypes = [];
   };

@@ -6,7 +6,8 @@ use mathlib.Core.List.{List, [], _∷_, List·Memᴰ}
 use mathlib.Core.Logic.{_≢_}
 use Prim.Native.Nat.{ℕ, _<_}
 use lib.ListN.{length, getElem?}
-use Rattle.definition.specs.Classes.{Class, Method, find, hasMethod, loaderOf, slots, superOf}
+use Rattle.definition.specs.declared.Signature.{Signature}
+use Rattle.definition.specs.Classes.{Class, Method, find, hasMethod, loaderOf, slots, superOf, signatureTypes}
 use Rattle.definition.specs.Constraints.{Agrees, World, posted, subtypeEdges}
 use Rattle.definition.specs.Machine.{Frame, Object, Value, intValue, nullValue, objectValue, emptyValue, unlistedValue}
 use Rattle.definition.specs.Requests.{Request, at}
@@ -73,10 +74,8 @@ pub record Linked (w : World) : Type 0 where
   pub real : (r : Request) (c : ℕ) → find (w .base .cache) r ≡ some c → (k : Class) × (getElem? (w .base .classes) c ≡ some k)
   pub supers : (c : ℕ) (k : Class) → getElem? (w .base .classes) c ≡ some k → 0 < c → (p : ℕ) × (superOf (w .base) c ≡ some p)
   pub verified : (c j : ℕ) (k : Class) (m : Method) → getElem? (w .base .classes) c ≡ some k → getElem? (k .methods) j ≡ some m → Verified w k m
-  pub overArg : (n a r x p y : ℕ) → hasMethod (w .base) n a r x ≡ true → superOf (w .base) x ≡ some p → nearest (superOf (w .base)) (hasMethod (w .base) n a r) p ≡ some y
-      → a ≢ 1 → Tied w (at (loaderOf (w .base) x) a) (at (loaderOf (w .base) y) a)
-  pub overRes : (n a r x p y : ℕ) → hasMethod (w .base) n a r x ≡ true → superOf (w .base) x ≡ some p → nearest (superOf (w .base)) (hasMethod (w .base) n a r) p ≡ some y
-      → r ≢ 1 → Tied w (at (loaderOf (w .base) x) r) (at (loaderOf (w .base) y) r)
+  pub over : (s : Signature) (x p y t : ℕ) → hasMethod (w .base) s x ≡ true → superOf (w .base) x ≡ some p → nearest (superOf (w .base)) (hasMethod (w .base) s) p ≡ some y
+      → List·Memᴰ t (signatureTypes s) → t ≢ 1 → Tied w (at (loaderOf (w .base) x) t) (at (loaderOf (w .base) y) t)
 
 pub rooted : {w : World} → Linked w → Rooted (w .base)
 rooted lk = record { real = lk .real; supers = lk .supers }
@@ -108,11 +107,11 @@ pub record Waits (w : World) (os : List Object) (f : Frame) (k : Class) (m : Met
 -- the frames under one of loader l and result r
 abbrev pub Under : World → List Object → ℕ → ℕ → List Frame → Type 0
 Under w os l r [] = r ≡ 1
-Under w os l r (g ∷ gs) = (k : Class) × (m : Method) × Waits w os g k m r × (r ≢ 1 → Tied w (at l r) (at (k .loader) r)) × Under w os (k .loader) (m .result) gs
+Under w os l r (g ∷ gs) = (k : Class) × (m : Method) × Waits w os g k m r × (r ≢ 1 → Tied w (at l r) (at (k .loader) r)) × Under w os (k .loader) (m .signature .result) gs
 
 abbrev pub Stack : World → List Object → List Frame → Type 0
 Stack w os [] = Unit {0}
-Stack w os (f ∷ fs) = (k : Class) × (m : Method) × Top w os f k m × Under w os (k .loader) (m .result) fs
+Stack w os (f ∷ fs) = (k : Class) × (m : Method) × Top w os f k m × Under w os (k .loader) (m .signature .result) fs
 
 -- Later stores
 
@@ -163,8 +162,8 @@ module _ {v w : World} {os qs : List Object} (z : Later v os w qs) where
 
   pub later-under : (l r : ℕ) (gs : List Frame) → Under v os l r gs → Under w qs l r gs
   later-under l r [] h = h
-  later-under l r (g ∷ gs) (k, m, a, t, u) = (k, m, later-waits a, λ n. chain-more (z .grows .ties) (t n), later-under (k .loader) (m .result) gs u)
+  later-under l r (g ∷ gs) (k, m, a, t, u) = (k, m, later-waits a, λ n. chain-more (z .grows .ties) (t n), later-under (k .loader) (m .signature .result) gs u)
 
   pub later-stack : (fs : List Frame) → Stack v os fs → Stack w qs fs
   later-stack [] h = h
-  later-stack (f ∷ fs) (k, m, t, u) = (k, m, later-top t, later-under (k .loader) (m .result) fs u)
+  later-stack (f ∷ fs) (k, m, t, u) = (k, m, later-top t, later-under (k .loader) (m .signature .result) fs u)

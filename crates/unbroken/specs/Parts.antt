@@ -123,7 +123,7 @@ goes-dropped k r = record { classes = refl; kept = refl; cache = refl; subtypes 
 
 started-numbered : (l n m v : ℕ) (w : World) (os : List Object) (fs : List Frame) → Ok (started l n m v w os fs) (λ o. Numbered os (o .objects))
 unfolding started
-started-numbered l n m v w os fs = then N _ _ (λ _ _. then N _ _ (λ _ _. then N _ _ (λ c _. then N _ _ (λ _ _. then N _ _ (λ _ _. then N _ _ (λ _ _. numbered-more os (newObject (w .base) c)))))))
+started-numbered l n m v w os fs = then N _ _ (λ _ _. then N _ _ (λ _ _. then N _ _ (λ c _. then N _ _ (λ _ _. then N _ _ (λ _ _. numbered-more os (newObject (w .base) c))))))
   where
     N : Progress → Type 0
     N o = Numbered os (o .objects)

@@ -68,8 +68,8 @@ module _ (os : List Object) (f : Frame) (fs : List Frame) (i : Decoded) (size : 
         goes v os (numbered-same os) _ _)))))))
     advances (Putfield c n t) = then Q _ _ (λ e _. then Q _ _ (λ _ _. then Q _ _ (λ v _. then Q _ _ (λ _ _. then Q _ _ (λ q _. then Q _ _ (λ _ _. then Q _ _ (λ o h. then Q _ _ (λ _ _.
         goes v _ (numbered-changed os (o .number) (o .object) _ (object-is (w .base) os e (q .top) o h)) _ _))))))))
-    advances (Invokevirtual c n t r) = then Q _ _ (λ _ _. then Q _ _ (λ _ _. then Q _ _ (λ _ _. then Q _ _ (λ _ _. then Q _ _ (λ _ _. then Q _ _ (λ _ _. then Q _ _ (λ _ _. then Q _ _ (λ _ _. then Q _ _ (λ _ _.
-        record { objects = numbered-same os; left = λ _. longer _ _ (λ e. omega arith); moved = λ _. longer _ _ (λ e. omega arith) })))))))))
+    advances (Invokevirtual c s) = then Q _ _ (λ _ _. then Q _ _ (λ _ _. then Q _ _ (λ _ _. then Q _ _ (λ _ _. then Q _ _ (λ _ _. then Q _ _ (λ _ _. then Q _ _ (λ _ _. then Q _ _ (λ _ _.
+        record { objects = numbered-same os; left = λ _. longer _ _ (λ e. omega arith); moved = λ _. longer _ _ (λ e. omega arith) }))))))))
     advances (New c) = then Q _ _ (λ _ _. then Q _ _ (λ _ _. goes w _ (numbered-more os _) _ _))
     advances (Return kind) = then Q _ _ (λ _ _. then Q _ _ (λ p _. then Q _ _ (λ _ _. gives fs w (p .top))))
 

@@ -9,20 +9,16 @@ use lib.Dec.{eqb, leb, ltb}
 use Rattle.definition.specs.declared.Refusal.{Refusal}
 use Rattle.definition.specs.declared.Refusal.the-variants.{Word}
 use Rattle.definition.specs.Requests.{at}
-use Rattle.definition.specs.Superclasses.{nearest}
 use Rattle.definition.specs.Answers.{number, wanted, Result, refused, ok, _>>=_, need, take?}
-use Rattle.definition.specs.Classes.{find, superOf, alike, hasMethod, methodsOf}
+use Rattle.definition.specs.Classes.{find, selected, startSignature}
 use Rattle.definition.specs.Constraints.{World, agrees}
-use Rattle.definition.specs.Lists.{any, indexOf, isNone}
+use Rattle.definition.specs.Lists.{any, isNone}
 use Rattle.definition.specs.Loading.{hides, withEntry, define, recorded, started}
 use Rattle.definition.specs.Verifier.{notesOf}
 use Rattle.definition.specs.File.{File, readFile, classOf}
 use Rattle.definition.specs.Tables.{Rows, worldOf, framesIn}
 use Rattle.definition.specs.Calls.{defineRows, recordRows, startRows, dropRows, RowCall, rowDefine, rowRecord, rowStart, rowDrop, onRowCall}
 use Rattle.definition.specs.Maybe as Maybe
-use Rattle.laws.specs.Agreement.{super-falls}
-use Rattle.laws.specs.Members.{method-at}
-use Rattle.laws.specs.Upward.{nearest-below}
 use Rattle.laws.specs.Causes.{Cause, cause, first, isSomeAnd, definePasses, defineClashes, defineCauses, recordCauses, startCauses, rowCauses}
 
 -- the number of a result
@@ -110,13 +106,11 @@ module _ (r : Rows) where
       (first-need _ (eqb (k .name) n) (Word 13) _ (λ _. entry-first l n c (find (r .cache) (at l n)))))) ∙ sym (first-or 3 _ _ _)
 
   started-first : (k l n m v : ℕ) → numberIn (started l n m v W (r .objects) (framesIn k r)) ≡ first (cause 3 (not (ltb l 16 && leb 2 n && leb 1 m)) ∷ cause 12 (not (leb (length (framesIn k r)) 0))
-      ∷ cause 5 (isNone (find (r .cache) (at l n))) ∷ cause 7 (isSomeAnd (find (r .cache) (at l n)) (λ c. isNone (nearest (superOf (W .base)) (hasMethod (W .base) m 1 1) c)))
+      ∷ cause 5 (isNone (find (r .cache) (at l n))) ∷ cause 7 (isSomeAnd (find (r .cache) (at l n)) (λ c. isNone (selected (W .base) (startSignature m) c)))
       ∷ cause 10 (not (ltb (length (r .objects)) 256)) ∷ [])
   unfolding started number
   started-first k l n m v = first-need _ (ltb l 16 && leb 2 n && leb 1 m) (Word 3) _ (λ _. first-need _ _ (Word 12) _ (λ _. first-take _ (find (r .cache) (at l n)) (wanted (at l n)) _ (λ c q. rw q
-      (first-take _ (nearest (superOf (W .base)) (hasMethod (W .base) m 1 1) c) (Word 7) _ (λ s e.
-      let a = method-at (W .base) s m 1 1 (nearest-below (superOf (W .base)) (super-falls (W .base)) (hasMethod (W .base) m 1 1) c s e .1) in
-      number-there _ (indexOf (alike m 1 1) (methodsOf (W .base) s)) (Word 7) _ (a .index) (first-need [] _ (Word 10) _ (λ _. number-ok _)))))))
+      (first-take _ (selected (W .base) (startSignature m) c) (Word 7) _ (λ _ _. first-need [] _ (Word 10) _ (λ _. number-ok _))))))
 
   start-first : (k l n m v : ℕ) → numberIn (startRows k l n m v r) ≡ first (startCauses k l n m r)
   unfolding startRows startCauses number

@@ -7,6 +7,7 @@ use Prim.Native.Nat.{ℕ}
 use native.Mathlib.Omega.{arith}
 use lib.ListN.{length, getElem?, set}
 use lib.Dec.{eqb, leb, ltb}
+use Rattle.definition.specs.declared.Signature.{Signature}
 use Rattle.definition.specs.declared.Refusal.the-variants.{Word}
 use Rattle.definition.specs.declared.Kind.{Kind}
 use Rattle.definition.specs.declared.Kind.the-variants.{IntKind, ReferenceKind}
@@ -17,7 +18,7 @@ use Rattle.definition.specs.declared.Instruction.the-variants.{AconstNull, Sipu
 use Rattle.definition.specs.Requests.{Request, at}
 use Rattle.definition.specs.Superclasses.{Below, below, nearest}
 use Rattle.definition.specs.Answers.{number, wanted, Result, ok, _>>=_, need, take?}
-use Rattle.definition.specs.Classes.{Class, find, superOf, slots, slotIs, hasField, alike, methodsOf, hasMethod}
+use Rattle.definition.specs.Classes.{Class, find, superOf, slots, slotIs, hasField, selected}
 use Rattle.definition.specs.Constraints.{Tie, World, posted, agreesAfter, post}
 use Rattle.definition.specs.Instructions.{Decoded}
 use Rattle.definition.specs.Lists.{indexOf, isSome, isNone}
@@ -26,7 +27,7 @@ use Rattle.definition.specs.Verifier.{pop}
 use Rattle.definition.specs.Maybe as Maybe
 use Rattle.laws.specs.Agreement.{super-falls}
 use Rattle.laws.specs.Growth.{nth-lt}
-use Rattle.laws.specs.Members.{FieldPlace, field-place, method-at}
+use Rattle.laws.specs.Members.{FieldPlace, field-place}
 use Rattle.laws.specs.Upward.{nearest-below, below-true, below-trans}
 use Rattle.laws.specs.Causes.{Cause, cause, first, isSomeAnd, anInt, aNull, aReference, aValueOf, ofKind, isEmpty, noRoom, noRoomBelow, receives, selects, fieldTies, methodTies, plainly, accessing, reading, readCauses, frameCauses, instructionCauses}
 use Rattle.layout.specs.Whole.{ObjectSound}
@@ -164,8 +165,8 @@ module _ {B : Type 0} (w : World) (os : List Object) where
 
 module _ (w : World) (n : ℕ) (os : List Object) (rd : Ready w n os) (f : Frame) (fs : List Frame) (k : Class) (i : Decoded) where
   -- it names a class and looks upward from it
-  first-access : {B : Type 0} (o : Option ℕ) (looks : ℕ → Option ℕ) (ties : ℕ → List Tie) (room : Bool) (fits : ℕ → Bool) (null : Bool) (r : Request) (g : ℕ → ℕ → World → Result B)
-      → ((e d : ℕ) → looks e ≡ some d → numberIn (g e d (posted w (ties d))) ≡ first (cause 14 (not (fits e)) ∷ cause 11 null ∷ []))
+  first-access : {A B : Type 0} (o : Option ℕ) (looks : ℕ → Option A) (ties : A → List Tie) (room : Bool) (fits : ℕ → Bool) (null : Bool) (r : Request) (g : ℕ → A → World → Result B)
+      → ((e : ℕ) (d : A) → looks e ≡ some d → numberIn (g e d (posted w (ties d))) ≡ first (cause 14 (not (fits e)) ∷ cause 11 null ∷ []))
       → numberIn (take? o (wanted r) >>= λ e. take? (looks e) (Word 7) >>= λ d. post w room (ties d) >>= g e d) ≡ first (accessing w k o looks ties room fits null)
   unfolding accessing Maybe._>>=_ number
   first-access o looks ties room fits null r g h = first-take _ o (wanted r) _ (λ e q. rw q (first-take _ (looks e) (Word 7) _ (λ d p. rw p (first-post w os _ room (ties d) (g e d) (h e d p)))))
@@ -227,18 +228,17 @@ module _ (w : World) (n : ℕ) (os : List Object) (rd : Ready w n os) (f : Frame
       first-two (cause 11 (lower aNull) ∷ []) (f .operands) (ofKind t) (receives w os e) _ (λ y u us q. rw q (first-kind _ t y _ (first-object w os e u (λ _. true) _ refl (λ o b h l.
       number-there [] _ (Word 14) _ (place e d x t b o h l p .index) (number-ok _) ∙ sym (first-skip 14 [])) ∙ first-past _ 14 _))) ∙ sym (first-and 14 (upper (ofKind t)) (lower (receives w os e)) (cause 11 (lower aNull) ∷ []))
 
-  invoke-first : (x t r e : ℕ) (v : World) → numberIn {A = Progress} (pop! (f .operands) >>= λ p. pop! (p .more) >>= λ q. kind! t (p .top) >>= λ _. object! (w .base) os e (q .top) >>= λ o.
-      take? (nearest (superOf (w .base)) (hasMethod (w .base) x t r) (o .object .class)) (Word 14) >>= λ s. take? (indexOf (alike x t r) (methodsOf (w .base) s)) (Word 14) >>= λ j.
-      ok (record { world = v; objects = os; frames = entryFrame s j (o .number) (p .top) ∷ past f i (q .more) (f .locals) ∷ fs; result = none }))
-      ≡ first (cause 14 (not (upper (ofKind t) && lower (λ v. receives w os e v && selects w os x t r v)))
+  invoke-first : (s : Signature) (e : ℕ) (v : World) → numberIn {A = Progress} (pop! (f .operands) >>= λ p. pop! (p .more) >>= λ q. kind! (s .argument) (p .top) >>= λ _. object! (w .base) os e (q .top) >>= λ o.
+      take? (selected (w .base) s (o .object .class)) (Word 14) >>= λ m.
+      ok (record { world = v; objects = os; frames = entryFrame (m .class) (m .place) (o .number) (p .top) ∷ past f i (q .more) (f .locals) ∷ fs; result = none }))
+      ≡ first (cause 14 (not (upper (ofKind (s .argument)) && lower (λ v. receives w os e v && selects w os s v)))
       ∷ cause 11 (lower aNull) ∷ [])
   unfolding existing
-  invoke-first x t r e v =
-      first-two (cause 11 (lower aNull) ∷ []) (f .operands) (ofKind t) (λ v. receives w os e v && selects w os x t r v) _ (λ y u us q. rw q (first-kind _ t y _
-      (first-object w os e u (selects w os x t r) _ refl (λ o b h l. rw h (first-there [] (nearest (superOf (w .base)) (hasMethod (w .base) x t r) (b .class)) _ (λ s m.
-      let a = method-at (w .base) s x t r (nearest-below (superOf (w .base)) (super-falls (w .base)) (hasMethod (w .base) x t r) (b .class) s m .1) in
-      number-there [] _ (Word 14) _ (a .index) (number-ok _)))) ∙ sym (first-and 14 (receives w os e u) (selects w os x t r u) (cause 11 (aNull u) ∷ [])))))
-      ∙ sym (first-and 14 (upper (ofKind t)) (lower (λ v. receives w os e v && selects w os x t r v)) (cause 11 (lower aNull) ∷ []))
+  invoke-first s e v =
+      first-two (cause 11 (lower aNull) ∷ []) (f .operands) (ofKind (s .argument)) (λ v. receives w os e v && selects w os s v) _ (λ y u us q. rw q (first-kind _ (s .argument) y _
+      (first-object w os e u (selects w os s) _ refl (λ o b h l. rw h (first-there [] (selected (w .base) s (b .class)) _ (λ _ _. number-ok _)))
+      ∙ sym (first-and 14 (receives w os e u) (selects w os s u) (cause 11 (aNull u) ∷ [])))))
+      ∙ sym (first-and 14 (upper (ofKind (s .argument))) (lower (λ v. receives w os e v && selects w os s v)) (cause 11 (lower aNull) ∷ []))
 
   execute-first : (j : Instruction) → numberIn (execute w os f fs k i j) ≡ first (instructionCauses w os f fs k j)
   unfolding execute instructionCauses room! noRoom number
@@ -256,7 +256,7 @@ module _ (w : World) (n : ℕ) (os : List Object) (rd : Ready w n os) (f : Frame
       ∙ sym (first-and 14 (upper anInt) (lower anInt) []) ∙ sym (plain-stuck _)
   execute-first (Getfield c x t) = first-access _ _ _ true _ _ _ _ (λ e d p. getfield-first x t e d p (posted w (fieldTies w k t d)))
   execute-first (Putfield c x t) = first-access _ _ _ true _ _ _ _ (λ e d p. putfield-first x t e d p (posted w (fieldTies w k t d)))
-  execute-first (Invokevirtual c x t r) = first-access _ _ _ _ _ _ _ _ (λ e d p. invoke-first x t r e (posted w (methodTies w k t r d)))
+  execute-first (Invokevirtual c s) = first-access _ _ _ _ _ _ _ _ (λ e d p. invoke-first s e (posted w (methodTies w k s d)))
   execute-first (New c) = first-take _ (find (w .base .cache) (at (k .loader) c)) (wanted (at (k .loader) c)) _ (λ e _. first-need [] _ (Word 10) _ (λ _. number-ok _) ∙ sym (only-full _))
   execute-first (Return kind) =
       first-under fs _ _ (first-top (cause 14 (not (not (isEmpty fs) || upper anInt)) ∷ []) (f .operands) (aValueOf kind) _ (λ v us q. rw q (first-of-kind _ kind v _ (give-first fs v)))

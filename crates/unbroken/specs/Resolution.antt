@@ -7,13 +7,14 @@ use mathlib.Core.Logic.{_⊎_, inl, inr}
 use Prim.Native.Nat.{ℕ}
 use lib.ListN.{getElem?}
 use borrow.Author.Tests.{ltb-true}
+use Rattle.definition.specs.declared.Signature.{Signature}
 use Rattle.definition.specs.declared.Refusal.{Refusal}
 use Rattle.definition.specs.declared.Answer.the-variants.{Refused}
 use Rattle.definition.specs.declared.Reply.the-variants.{Denied}
 use Rattle.definition.specs.Requests.{Request}
 use Rattle.definition.specs.Superclasses.{nearest, below}
 use Rattle.definition.specs.Answers.{Result}
-use Rattle.definition.specs.Classes.{Base, Class, find, superOf, loaderOf, slots, hasField, hasMethod}
+use Rattle.definition.specs.Classes.{Base, Class, find, superOf, loaderOf, slots, hasField, selected}
 use Rattle.definition.specs.Constraints.{World}
 use Rattle.definition.specs.Machine.{Frame, Progress}
 use Rattle.definition.specs.Tables.{Tables, Rows, worldOf, view}
@@ -21,7 +22,7 @@ use Rattle.definition.specs.Calls.{Given, progressed, defineRows, recordRows, s
 use Rattle.laws.specs.Growth.{Grows, grows-class, grows-entry}
 use Rattle.laws.specs.Results.{need-ok, take-ok}
 use Rattle.laws.specs.Runs.{run-keeps}
-use Rattle.laws.specs.Stable.{super-stable, below-stable, field-stable, nearest-stable, loader-stable, slots-stable}
+use Rattle.laws.specs.Stable.{super-stable, below-stable, field-stable, selected-stable, loader-stable, slots-stable}
 use Rattle.laws.specs.Wrapped.{Ok, ok-at, then}
 use Rattle.layout.specs.Tests.{All}
 use Rattle.layout.specs.Whole.{Whole}
@@ -41,7 +42,7 @@ pub record Resolves (b d : Base) : Type 0 where
   pub super : (c : ℕ) → There b c → superOf d c ≡ superOf b c
   pub isBelow : (c e : ℕ) → There b c → below (superOf d) c e ≡ below (superOf b) c e
   pub nearestField : (n t c : ℕ) → There b c → nearest (superOf d) (hasField d n t) c ≡ nearest (superOf b) (hasField b n t) c
-  pub nearestMethod : (n a r c : ℕ) → There b c → nearest (superOf d) (hasMethod d n a r) c ≡ nearest (superOf b) (hasMethod b n a r) c
+  pub selectedMethod : (s : Signature) (c : ℕ) → There b c → selected d s c ≡ selected b s c
   pub loader : (c : ℕ) → There b c → loaderOf d c ≡ loaderOf b c
   pub fields : (c : ℕ) → There b c → slots d c ≡ slots b c
 
@@ -52,7 +53,7 @@ resolves-same b = record {
   super = λ c h. refl;
   isBelow = λ c e h. refl;
   nearestField = λ n t c h. refl;
-  nearestMethod = λ n a r c h. refl;
+  selectedMethod = λ s c h. refl;
   loader = λ c h. refl;
   fields = λ c h. refl;
 }
@@ -64,7 +65,7 @@ resolves-join {a} {b} {d} x y = record {
   super = λ c h. y .super c (on c h) ∙ x .super c h;
   isBelow = λ c e h. y .isBelow c e (on c h) ∙ x .isBelow c e h;
   nearestField = λ n t c h. y .nearestField n t c (on c h) ∙ x .nearestField n t c h;
-  nearestMethod = λ n t r c h. y .nearestMethod n t r c (on c h) ∙ x .nearestMethod n t r c h;
+  selectedMethod = λ s c h. y .selectedMethod s c (on c h) ∙ x .selectedMethod s c h;
   loader = λ c h. y .loader c (on c h) ∙ x .loader c h;
   fields = λ c h. y .fields c (on c h) ∙ x .fields c h;
 }
@@ -83,7 +84,7 @@ module _ (r : Rows) (w : Whole r) where
     super = super-stable W v k g;
     isBelow = below-stable W v k g;
     nearestField = field-stable W v k g;
-    nearestMethod = nearest-stable W v k g;
+    selectedMethod = selected-stable W v k g;
     loader = loader-stable W v k g;
     fields = slots-stable W v k g;
   }

@@ -8,29 +8,28 @@ use native.Mathlib.Omega.{arith}
 use lib.ListN.{length, getElem?, set, length-append, length-set, length-map}
 use lib.Dec.{eqb, leb, ltb}
 use borrow.Author.Tests.{leb-true, ltb-true}
+use Rattle.definition.specs.declared.Signature.{Signature}
 use Rattle.definition.specs.Answers.{Result, ok, refused, take?}
-use Rattle.definition.specs.Classes.{Base, Class, Slot, find, hasMethod, loaderOf, slots, superOf}
-use Rattle.definition.specs.Constraints.{Tie, World, newTie, post, posted, tieIs}
+use Rattle.definition.specs.Classes.{Base, Class, Slot, find, loaderOf, slots, Selected, selected, signatureTypes}
+use Rattle.definition.specs.Constraints.{Tie, World, newTie, post, posted, tieIs, newTies, signatureTies}
 use Rattle.definition.specs.Instructions.{Decoded}
 use Rattle.definition.specs.Lists.{any}
 use Rattle.definition.specs.Machine.{Frame, Now, Object, Progress, Value, entryFrame, execute, give, initialValue, int!, intValue, newObject, now, nullValue, object!, objectValue, ofKind!, past, pop!, reference!, room!, step, under!, emptyValue, unlistedValue, existing}
 use Rattle.definition.specs.Requests.{Request, at}
-use Rattle.definition.specs.Superclasses.{nearest}
 use Rattle.definition.specs.Verifier.{pop}
 use Rattle.definition.specs.declared.Kind.{Kind}
 use Rattle.definition.specs.declared.Kind.the-variants.{IntKind, ReferenceKind}
 use Rattle.definition.specs.declared.Instruction.{Instruction}
 use Rattle.definition.specs.declared.Instruction.the-variants.{AconstNull, Arithmetic, Dup, Getfield, Invokevirtual, Load, New, Pop, Putfield, Return, Sipush, Store}
 use Rattle.definition.specs.declared.Refusal.{Refusal}
-use Rattle.laws.specs.Agreement.{super-falls}
 use Rattle.laws.specs.Growth.{nth-lt}
 use Rattle.laws.specs.Results.{bind-ok, need-ok, ok-inj, take-ok}
-use Rattle.laws.specs.Stable.{Rooted, has-class}
+use Rattle.laws.specs.Stable.{Rooted}
 use Rattle.laws.specs.Tests.{and-true}
-use Rattle.laws.specs.Upward.{nearest-below}
 use Rattle.layout.specs.Tests.{All, all-both, all-more}
 use Rattle.layout.specs.Whole.{Between, Framed, Local, ObjectSound, ValueSound}
 use Rattle.laws.specs.Wrapped.{Ok, then}
+use Rattle.laws.specs.Members.{selected-at}
 
 -- what holds of a value, if there is one
 never : {A : Type 0} {B : Type 0} (w : Refusal) (a : A) → Path (Result A) (refused w) (ok a) → B
@@ -129,6 +128,11 @@ new-between ts l m n a b = go (eqb l m || eqb n 1 || any (tieIs l m n) ts)
     go true = tt
     go false = (record { one = a; two = b }, tt)
 
+pub news-between : (ts : List Tie) (l m : ℕ) (ns : List ℕ) → l < 16 → m < 16 → All Between (newTies ts l m ns)
+unfolding newTies
+news-between ts l m [] a b = tt
+news-between ts l m (n ∷ ns) a b = all-both Between (newTie ts l m n) _ (new-between ts l m n a b) (news-between (ts ++ newTie ts l m n) l m ns a b)
+
 post-is : (w : World) (room : Bool) (us : List Tie) (v : World) → post w room us ≡ ok v → (posted w us ≡ v) × (length (w .ties ++ us) ≤ 256) × (room ≡ true)
 unfolding post
 post-is w room us v e =
@@ -195,10 +199,10 @@ module _ (w : World) (n : ℕ) (os : List Object) (rd : Ready w n os) where
   pub class-found : (r : Request) (c : ℕ) → find (w .base .cache) r ≡ some c → c < n
   class-found r c e = let k = rd .rooted .real r c e in omega (arith, nth-lt (w .base .classes) c (k .0) (k .1), rd .number)
 
-  pub class-selected : (m a r c s : ℕ) → nearest (superOf (w .base)) (hasMethod (w .base) m a r) c ≡ some s → s < n
-  class-selected m a r c s e =
-      let k = has-class (w .base) m a r s (nearest-below (superOf (w .base)) (super-falls (w .base)) (hasMethod (w .base) m a r) c s e .1) in
-      omega (arith, nth-lt (w .base .classes) s (k .0) (k .1), rd .number)
+  pub class-selected : (s : Signature) (c : ℕ) (m : Selected) → selected (w .base) s c ≡ some m → m .class < n
+  class-selected s c m e =
+      let a = selected-at (w .base) s c m e .there in
+      omega (arith, nth-lt (w .base .classes) (m .class) (a .theClass) (a .isClass), rd .number)
 
   module _ (f : Frame) (fs : List Frame) (k : Class) (i : Decoded) (kl : k .loader < 16) (fr : Framed n (length os) f) (frs : All (Framed n (length os)) fs) (fl : length fs ≤ 31) where
     abbrev M : ℕ
@@ -230,9 +234,9 @@ module _ (w : World) (n : ℕ) (os : List Object) (rd : Ready w n os) where
     between : (d t : ℕ) → All Between (newTie (w .ties) (loaderOf (w .base) d) (k .loader) t)
     between d t = new-between _ _ _ t (loader-small (w .base) (rd .loaders) d) kl
 
-    between2 : (d t r : ℕ) → All Between (newTie (w .ties) (loaderOf (w .base) d) (k .loader) t ++ newTie (w .ties ++ newTie (w .ties) (loaderOf (w .base) d) (k .loader) t) (loaderOf (w .base) d) (k .loader) r)
-    between2 d t r = all-both Between (newTie (w .ties) (loaderOf (w .base) d) (k .loader) t) (newTie (w .ties ++ newTie (w .ties) (loaderOf (w .base) d) (k .loader) t) (loaderOf (w .base) d) (k .loader) r)
-        (between d t) (new-between _ _ _ r (loader-small (w .base) (rd .loaders) d) kl)
+    betweens : (d : ℕ) (s : Signature) → All Between (signatureTies (w .ties) (loaderOf (w .base) d) (k .loader) s)
+    unfolding signatureTies
+    betweens d s = news-between _ _ _ (signatureTypes s) (loader-small (w .base) (rd .loaders) d) kl
 
     given : (more : List Value) (v : Value) (gs : List Frame) → All (Framed n M) gs → length gs ≤ 31 → (u : Unit {0}) → under! gs ≡ ok u → ValueSound M v → Ok (give gs w os v) Q
     unfolding give under!
@@ -265,14 +269,14 @@ module _ (w : World) (n : ℕ) (os : List Object) (rd : Ready w n os) where
         tied _ _ v _ _ pv (between d t) (omega (arith, l)) (omega (arith, l, rd .objects))
         (rw l (all-set (ObjectSound (w .base) n M) os (rd .each) (o .number) new (record { class = b .class; size = length-set (o .object .values) j (p .top) ∙ b .size; values = all-set (ValueSound M) (o .object .values) (b .values) j (p .top) (y .top) })))
         (λ _. omega arith) (rw l (framed (q .more) (f .locals) (omega (arith, y .less, z .less, fr .depth)) (z .more) (fr .eight) (fr .locals), frs))))))))))
-    each-kept (Invokevirtual c x t r) = then Q _ _ (λ e _. then Q _ _ (λ d _. then Q _ _ (λ v pv. then Q _ _ (λ p ep. then Q _ _ (λ q eq. then Q _ _ (λ _ _. then Q _ _ (λ o eo. then Q _ _ (λ s es. then Q _ _ (λ j _.
+    each-kept (Invokevirtual c s) = then Q _ _ (λ e _. then Q _ _ (λ d _. then Q _ _ (λ v pv. then Q _ _ (λ p ep. then Q _ _ (λ q eq. then Q _ _ (λ _ _. then Q _ _ (λ o eo. then Q _ _ (λ m em.
         let y = pop-all M (f .operands) p (fr .operands) ep in
         let z = pop-all M (p .more) q (y .more) eq in
         let h = nth-lt os (o .number) (o .object) (object-is (w .base) os e (q .top) o eo) in
-        tied _ _ v os _ pv (between2 d t r) (omega arith) (rd .objects) (rd .each) (λ h. omega (arith, ltb-true (suc (length fs)) 32 h)) (
-          entered-frame n M s j (o .number) (p .top) (class-selected x t r _ s (take-ok _ _ es)) h (value-local M (p .top) (y .top)),
+        tied _ _ v os _ pv (betweens (d .class) s) (omega arith) (rd .objects) (rd .each) (λ h. omega (arith, ltb-true (suc (length fs)) 32 h)) (
+          entered-frame n M (m .class) (m .place) (o .number) (p .top) (class-selected s _ m (take-ok _ _ em)) h (value-local M (p .top) (y .top)),
           (framed (q .more) (f .locals) (omega (arith, y .less, z .less, fr .depth)) (z .more) (fr .eight) (fr .locals), frs),
-        ))))))))))
+        )))))))))
     each-kept (New c) = then Q _ _ (λ e fe. then Q _ _ (λ _ h.
         let a = and-true (ltb M 256) (ltb (length (f .operands)) 16) (need-ok _ _ h) in
         let l = length-append os (newObject (w .base) e ∷ []) in

@@ -96,7 +96,7 @@ module _ (w : World) (os : List Object) (f : Frame) (fs : List Frame) (k : Class
   wants (Arithmetic o) e = absurd (Option·none-ne-some c e)
   wants (Getfield x n t) e = let z : x ≡ c = cc in rw (z, m) refl
   wants (Putfield x n t) e = let z : x ≡ c = cc in rw (z, m) refl
-  wants (Invokevirtual x n t r) e = let z : x ≡ c = cc in rw (z, m) refl
+  wants (Invokevirtual x s) e = let z : x ≡ c = cc in rw (z, m) refl
   wants (New x) e = let z : x ≡ c = cc in rw (z, m) refl
   wants (Return kind) e = absurd (Option·none-ne-some c e)
 

@@ -10,16 +10,16 @@ use lib.ListN.{length, getElem?, drop, length-append, length-map, length-drop}
 use lib.Seq.{take-append-le, drop-append-le, drop-at, take-length}
 use lib.Dec.{leb}
 use borrow.Author.Tests.{leb-true, ltb-true, le-leb}
+use Rattle.definition.specs.declared.Signature.{Signature}
 use Rattle.definition.specs.Answers.{need}
 use Rattle.definition.specs.Calls.{progressed}
-use Rattle.definition.specs.Classes.{Base, Class, Method, find, hasMethod, loaderOf, superOf}
-use Rattle.definition.specs.Constraints.{Subtype, Tie, World, newTie}
+use Rattle.definition.specs.Classes.{Base, Class, Method, find, loaderOf, superOf, Selected, selected, startSignature, signatureTypes}
+use Rattle.definition.specs.Constraints.{Subtype, Tie, World, signatureTies}
 use Rattle.definition.specs.File.{File, classOf, readFile}
 use Rattle.definition.specs.Lists.{any}
 use Rattle.definition.specs.Loading.{newSubtypes, overrideTie, overrideTies, started, subtypeIs, subtypeOf}
 use Rattle.definition.specs.Machine.{Frame, Progress, intValue, newObject}
 use Rattle.definition.specs.Requests.{Request, at}
-use Rattle.definition.specs.Superclasses.{nearest}
 use Rattle.definition.specs.Tables.{ClassRow, Rows, classAt, fileAt, sizeOf, worldOf, withTies, withObjects, withFrames}
 use Rattle.definition.specs.Verifier.{Note}
 use Rattle.laws.specs.Agreement.{find-row, super-is}
@@ -30,7 +30,7 @@ use Rattle.laws.specs.Stable.{slots-stable}
 use Rattle.layout.specs.Tests.{All, all-both, all-more, from-more}
 use Rattle.layout.specs.ReadBack.{object-class}
 use Rattle.layout.specs.Whole.{Between, ClassSound, Classes, First, Framed, From, Listed, ObjectSound, Whole}
-use Rattle.unbroken.specs.Steps.{Moved, Ready, class-found, class-selected, entered-frame, grow-frame, loader-small, made-objects, new-between}
+use Rattle.unbroken.specs.Steps.{Moved, Ready, class-found, class-selected, entered-frame, grow-frame, loader-small, made-objects, news-between}
 use Rattle.definition.specs.Maybe as Maybe
 use Rattle.laws.specs.Tasks.{of-task}
 use Rattle.laws.specs.Wrapped.{Ok, then}
@@ -157,7 +157,7 @@ module _ (r : Rows) (w : Whole r) where
 
   pub start-moves : (l n m v : ℕ) (fs : List Frame) → Ok (started l n m v W (r .objects) fs) (Moved W N (r .objects))
   unfolding started
-  start-moves l n m v fs = then Q _ _ (λ _ _. then Q _ _ (λ _ _. then Q _ _ (λ c fc. then Q _ _ (λ s es. then Q _ _ (λ j _. then Q _ _ (λ _ h.
+  start-moves l n m v fs = then Q _ _ (λ _ _. then Q _ _ (λ _ _. then Q _ _ (λ c fc. then Q _ _ (λ s es. then Q _ _ (λ _ h.
       let os = r .objects in
       let e = length-append os (newObject (W .base) c ∷ []) in
       let lc = class-found W N os ready (at l n) c (take-ok _ _ fc) in
@@ -170,8 +170,8 @@ module _ (r : Rows) (w : Whole r) where
         objects = omega (arith, e, ltb-true (length os) 256 (need-ok _ _ h));
         each = made-objects (W .base) N os c lc (w .objects);
         many = omega arith;
-        frames = (entered-frame N _ s j (length os) (intValue v) (class-selected W N os ready m 1 1 c s (take-ok _ _ es)) (omega (arith, e)) tt, tt);
-      }))))))
+        frames = (entered-frame N _ (s .class) (s .place) (length os) (intValue v) (class-selected W N os ready (startSignature m) c s (take-ok _ _ es)) (omega (arith, e)) tt, tt);
+      })))))
     where
       Q : Progress → Type 0
       Q = Moved W N (r .objects)
@@ -246,18 +246,18 @@ map-last {A} {B} f (y ∷ xs) x = ap {B = List B} (λ r. f y ∷ r) (map-last f 
 -- Constraints that a definition adds lie between loaders
 
 module _ (b : Base) (h : (c : ℕ) (k : Class) → getElem? (b .classes) c ≡ some k → k .loader < 16) (l : ℕ) (a : l < 16) where
-  over-between : (p : ℕ) (ts : List Tie) (m : Method) → All Between (overrideTie b l p ts m)
-  unfolding overrideTie
-  over-between p ts m = go (nearest (superOf b) (hasMethod b (m .name) (m .argument) (m .result)) p)
+  over-between : (p : ℕ) (ts : List Tie) (s : Signature) → All Between (overrideTie b l p ts s)
+  unfolding overrideTie signatureTies
+  over-between p ts s = go (selected b s p)
     where
-      go : (o : Option ℕ) → All Between (elim o as (λ _. List Tie) [ none ↦ [] | some y ↦ let us = newTie ts l (loaderOf b y) (m .argument) in us ++ newTie (ts ++ us) l (loaderOf b y) (m .result) ])
+      go : (o : Option Selected) → All Between (elim o as (λ _. List Tie) [ none ↦ [] | some y ↦ signatureTies ts l (loaderOf b (y .class)) s ])
       go none = tt
-      go (some y) = all-both Between (newTie ts l (loaderOf b y) (m .argument)) _ (new-between ts l (loaderOf b y) (m .argument) a (loader-small b h y)) (new-between _ l (loaderOf b y) (m .result) a (loader-small b h y))
+      go (some y) = news-between ts l (loaderOf b (y .class)) (signatureTypes s) a (loader-small b h (y .class))
 
   pub overs-between : (p : ℕ) (ts : List Tie) (ms : List Method) → All Between (overrideTies b l p ts ms)
   unfolding overrideTies
   overs-between p ts [] = tt
-  overs-between p ts (m ∷ ms) = all-both Between (overrideTie b l p ts m) _ (over-between p ts m) (overs-between p (ts ++ overrideTie b l p ts m) ms)
+  overs-between p ts (m ∷ ms) = all-both Between (overrideTie b l p ts (m .signature)) _ (over-between p ts (m .signature)) (overs-between p (ts ++ overrideTie b l p ts (m .signature)) ms)
 
 pub subs-loader : (l : ℕ) → l < 16 → (ss : List Subtype) (ns : List Note) → All (λ (s : Subtype). s .loader < 16) (newSubtypes ss l ns)
 unfolding newSubtypes

@@ -8,7 +8,8 @@ use Prim.Native.Nat.{ℕ, zero, suc, _+_, _*_, _<_, _≤_}
 use native.Mathlib.Nat.{le-trans, min-le-left}
 use native.Mathlib.Omega.{arith}
 use lib.ListN.{length, getD, drop, length-append, length-take}
-use Rattle.definition.specs.Instructions.{shortAt, pick}
+use Rattle.definition.specs.declared.Signature.{Signature}
+use Rattle.definition.specs.Instructions.{shortAt, signatureAt, pick}
 use Rattle.definition.specs.Lists.{rows, writeRows}
 use Rattle.definition.specs.Maybe.{_>>=_}
 use Rattle.definition.specs.Classes.{Class, Method}
@@ -113,7 +114,7 @@ module _ (bs : List ℕ) where
   unfolding traceOf methodIn methodAt
   method-few own j =
       let p : ℕ = methodPlace bs j in
-      le-trans (notes-few own (shortAt bs (p + 2)) (shortAt bs (p + 4)) (codeAt bs p)) (code-few p)
+      le-trans (notes-few own (signatureAt bs p) (codeAt bs p)) (code-few p)
 
   -- which has 16 bits
   pub method-small : ((i : ℕ) → getD bs i 0 < 256) → (own j : ℕ) → length (traceOf own (methodIn bs j) .notes) < 65536
@@ -169,8 +170,7 @@ module _ (bs : List ℕ) (j : ℕ) (h : j < methodCount bs) (r : MethodFound) (e
       ap (methodAt bs) (a .1 ∙ ap (methodPlace bs) (sym b))
 
 pub trace-found :
-    (bs : List ℕ) (j p own argument result : ℕ) (code : List ℕ) → methodAt bs p ≡ methodIn bs j → own ≡ className bs →
-    argument ≡ methodAt bs p .argument → result ≡ methodAt bs p .result → code ≡ codeAt bs p →
-    methodTrace own argument result code ≡ traceOf (className bs) (methodIn bs j)
+    (bs : List ℕ) (j p own : ℕ) (s : Signature) (code : List ℕ) → methodAt bs p ≡ methodIn bs j → own ≡ className bs →
+    s ≡ methodAt bs p .signature → code ≡ codeAt bs p → methodTrace own s code ≡ traceOf (className bs) (methodIn bs j)
 unfolding traceOf methodAt
-trace-found bs j p own argument result code e a b c d = rw (← e, a, b, c, d)
+trace-found bs j p own s code e a b c = rw (← e, a, b, c)

@@ -7,6 +7,7 @@ use Prim.Native.Nat.{ℕ, zero, suc, _+_, _≤_}
 use native.Mathlib.Omega.{arith}
 use lib.ListN.{length, getD, length-append}
 use lib.Dec.{eqb}
+use Rattle.definition.specs.declared.Signature.{Signature}
 use Rattle.definition.specs.declared.Opcode.{Opcode}
 use Rattle.definition.specs.declared.Opcode.the-variants.{OpAconstNull, OpSipush, OpLoad, OpStore, OpPop, OpDup, OpArithmetic, OpGetfield, OpPutfield, OpInvokevirtual, OpNew, OpReturn, OpUnknown}
 use Rattle.definition.specs.declared.Kind.{Kind}
@@ -169,6 +170,6 @@ module _ (code : List ℕ) (result : ℕ) where
   trace-few (suc k) p s h = decoded-few code p result s (trace code result k) (trace-few k) (decode code p) refl h
 
 -- a method makes no more notes than its code has bytes
-pub notes-few : (own argument result : ℕ) (code : List ℕ) → length (methodTrace own argument result code .notes) ≤ length code
+pub notes-few : (own : ℕ) (s : Signature) (code : List ℕ) → length (methodTrace own s code .notes) ≤ length code
 unfolding methodTrace
-notes-few own argument result code = omega (arith, trace-few code result (length code) 0 (entryOf own argument) (omega arith))
+notes-few own s code = omega (arith, trace-few code (s .result) (length code) 0 (entryOf own s) (omega arith))

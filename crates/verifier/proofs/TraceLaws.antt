@@ -132,9 +132,9 @@ module _
 
 -- For callers: what the verifier says of a method, by the answer and the table
 
-pub method-says : (k : Class) (m : Method) → notesOfMethod k m ≡ acceptedNotes (methodTrace (k .name) (m .argument) (m .result) (m .code))
+pub method-says : (k : Class) (m : Method) → notesOfMethod k m ≡ acceptedNotes (methodTrace (k .name) (m .signature) (m .code))
 unfolding methodTrace entryOf notesOfMethod
-method-says k m = says (m .code) (m .result) (length (m .code)) 0 (entryTypes k m)
+method-says k m = says (m .code) (m .signature .result) (length (m .code)) 0 (entryTypes k m)
 
 module _ (from : ℕ) (w : Trace) (t u : List ℕ) where
   -- the notes are in the table, whatever the answer

@@ -9,6 +9,7 @@ use native.Mathlib.Omega.{arith}
 use lib.ListN.{getD, getElem?}
 use lib.Dec.{eqb}
 use borrow.Author.Tests.{eq-eqb, ne-eqb}
+use Rattle.definition.specs.declared.Signature.{Signature}
 use Rattle.definition.specs.Instructions.{pick}
 use Rattle.definition.specs.Lists.{stack, rows}
 use Rattle.definition.specs.Maybe.{_>>=_}
@@ -110,12 +111,12 @@ unset = refl
 
 -- point 0: the own name and the argument type as numbers, and six unset locals
 pub entry-is :
-    (own argument first second : ℕ) (o : List ℕ) → first ≡ own → first < 65536 → typeOf second ≡ typeOfName argument → second < 65537 →
+    (own : ℕ) (s : Signature) (first second : ℕ) (o : List ℕ) → first ≡ own → first < 65536 → typeOf second ≡ typeOfName (s .argument) → second < 65537 →
     typesOf (record {
       operands = o;
       depth = 0;
       locals = first ∷ second ∷ 65538 ∷ 65538 ∷ 65538 ∷ 65538 ∷ 65538 ∷ 65538 ∷ [];
-    }) ≡ entryOf own argument
+    }) ≡ entryOf own s
 unfolding typesOf entryOf stack localsOf rows localAt
-entry-is own argument first second o e l f m =
+entry-is own s first second o e l f m =
     rw (local-set first (λ k. omega arith), local-set second (λ k. omega arith), type-name first l, e, f, unset)

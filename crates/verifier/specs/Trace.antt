@@ -6,6 +6,7 @@ use mathlib.Core.List.{List, [], _∷_, _++_}
 use Prim.Native.Nat.{ℕ, zero, suc, _+_, _*_}
 use lib.ListN.{length, set, getD}
 use lib.Dec.{eqb}
+use Rattle.definition.specs.declared.Signature.{Signature}
 use Rattle.definition.specs.Instructions.{Decoded, decode, pick}
 use Rattle.definition.specs.Lists.{writeRows}
 use Rattle.definition.specs.Maybe.{_>>=_}
@@ -123,8 +124,8 @@ unfoldable pub recorded : ℕ → ℕ → Trace → List ℕ → Verification
 recorded i c w t = verification (pick (w .accepts) (Notes (c + length (w .notes))) Rejected) (writeRows putNote (w .notes) i t)
 
 -- the walk over the code of a method of the class of that name
-unfoldable pub methodTrace : ℕ → ℕ → ℕ → List ℕ → Trace
-methodTrace own argument result code = trace code result (length code) 0 (entryOf own argument)
+unfoldable pub methodTrace : ℕ → Signature → List ℕ → Trace
+methodTrace own s code = trace code (s .result) (length code) 0 (entryOf own s)
 
 -- what verifying a method answers and writes, from row i on
 unfoldable pub verified : ℕ → Trace → List ℕ → Verification
@@ -133,7 +134,7 @@ verified i w t = verification (pick (w .accepts) (Notes (length (w .notes))) Rej
 -- A class's methods in order: the first that is rejected ends the walk
 
 unfoldable pub traceOf : ℕ → Method → Trace
-traceOf own m = methodTrace own (m .argument) (m .result) (m .code)
+traceOf own m = methodTrace own (m .signature) (m .code)
 
 unfoldable pub followed : Trace → Trace → Trace
 followed w v = pick (w .accepts) (after (w .notes) v) w

@@ -4,6 +4,7 @@ use mathlib.Core.List.{List, [], _∷_}
 use Prim.Native.Nat.{ℕ, _%_}
 use lib.ListN.{getD, getElem?}
 use lib.Dec.{eqb}
+use Rattle.definition.specs.declared.Signature.{Signature}
 use Rattle.definition.specs.Instructions.{pick}
 use Rattle.definition.specs.Lists.{rows, stack}
 use Rattle.definition.specs.Maybe.{_>>=_}
@@ -32,11 +33,11 @@ localsOf t = rows (localAt t) 8 0
 unfoldable pub typesOf : Types → TypeState
 typesOf t = record { operands = stack (operandAt (t .operands)) (t .depth); locals = localsOf (t .locals) }
 
--- point 0 of a method of the class of that name, with that argument type
-unfoldable pub entryOf : ℕ → ℕ → TypeState
-entryOf own argument = record {
+-- point 0 of a method of the class of that name, with that signature
+unfoldable pub entryOf : ℕ → Signature → TypeState
+entryOf own s = record {
   operands = [];
-  locals = some (typeClass own) ∷ some (typeOfName argument) ∷ none ∷ none ∷ none ∷ none ∷ none ∷ none ∷ [];
+  locals = some (typeClass own) ∷ some (typeOfName (s .argument)) ∷ none ∷ none ∷ none ∷ none ∷ none ∷ none ∷ [];
 }
 
 -- the last operand, and those below it

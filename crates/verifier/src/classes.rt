@@ -16,16 +16,8 @@ fn verify_numbered(bytes: &[u8], j: u8, notes: &mut [u16], from: usize) -> Verif
         return Verified::Rejected;
     };
     let own = classfile::class_name(bytes);
-    let argument = classfile::method_argument(bytes, place);
-    let result = classfile::method_result(bytes, place);
-    verify_method(
-        classfile::code(bytes, place),
-        own,
-        argument,
-        result,
-        notes,
-        from,
-    )
+    let s = classfile::method_signature(bytes, place);
+    verify_method(classfile::code(bytes, place), own, s, notes, from)
 }
 
 // All methods of a class file. Their notes are the first rows of the table. The file's own rules are for others to check.

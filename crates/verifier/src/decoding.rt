@@ -1,15 +1,16 @@
 // Opcode bytes, and the instruction at a point of the code.
 ghost use mathlib.Core.Path.{_≡_};
 ghost use mathlib.Core.Option.{some};
-ghost use Prim.Native.Nat.{_≤_};
+ghost use Prim.Native.Nat.{_+_, _≤_};
 ghost use lib.ListN.{length};
-ghost use Rattle.definition.specs.Instructions.{opcodeOf, inlineLength, extend, instructionOf, sizedAs, decode};
+ghost use Rattle.definition.specs.Instructions.{opcodeOf, inlineLength, signatureAt, extend, instructionOf, sizedAs, decode};
 ghost use Rattle.verifier.specs.Decoding.{readingOf};
 use cells::short_at;
 use definition::Instruction;
 use definition::Kind;
 use definition::Opcode;
 use definition::Operator;
+use definition::Signature;
 
 // What stands at a point of the code: an instruction with its size in bytes, or nothing that can be read.
 pub enum Reading {
@@ -98,16 +99,23 @@ fn putfield_at(code: &[u8], i: usize) -> Instruction
     )
 }
 
+// A signature inline: name, argument, result.
+fn signature_at(code: &[u8], i: usize) -> Signature
+    requires { ⌜ i ≤ length (now code) + 2 ⌝ }
+    ensures { λ r. ⌜ r ≡ signatureAt (now (code .entry)) i ⌝ }
+{
+    Signature {
+        name: short_at(code, i),
+        argument: short_at(code, i + 2),
+        result: short_at(code, i + 4),
+    }
+}
+
 fn invokevirtual_at(code: &[u8], i: usize) -> Instruction
     requires { ⌜ i ≤ length (now code) ⌝ }
     ensures { λ r. ⌜ some r ≡ instructionOf (now (code .entry)) i Opcode.OpInvokevirtual ⌝ }
 {
-    Instruction::Invokevirtual(
-        short_at(code, i),
-        short_at(code, i + 2),
-        short_at(code, i + 4),
-        short_at(code, i + 6),
-    )
+    Instruction::Invokevirtual(short_at(code, i), signature_at(code, i + 2))
 }
 
 // The instruction of n bytes whose inline bytes begin at place i.

@@ -11,6 +11,7 @@ use crate::types::type_of_name;
 use definition::Instruction;
 use definition::Kind;
 use definition::Operator;
+use definition::Signature;
 use definition::numbers::NAME_OBJECT;
 use definition::numbers::SHORT_RANGE;
 ghost use mathlib.Core.Bool.{_&&_};
@@ -212,13 +213,13 @@ fn putfield(types: Types, c: u16, f: u16, t: u16) -> Effect
     Effect::Kept(e, meet_class(c, y), meet_name(x, t))
 }
 
-fn invokevirtual(types: Types, c: u16, m: u16, t: u16, r: u16) -> Effect
-    ensures { λ q. ⌜ outcomeOf types q ≡ going (effect (Instruction.Invokevirtual c m t r) (typesOf types)) ⌝ }
+fn invokevirtual(types: Types, c: u16, s: Signature) -> Effect
+    ensures { λ q. ⌜ outcomeOf types q ≡ going (effect (Instruction.Invokevirtual c s) (typesOf types)) ⌝ }
 {
-    if !named(c, m, t) {
+    if c < NAME_OBJECT {
         return Effect::Rejected;
     }
-    if r == 0 {
+    if !classfile::is_named(s) {
         return Effect::Rejected;
     }
     let Popped::Top(x, d) = pop(types, types.depth) else {
@@ -227,7 +228,12 @@ fn invokevirtual(types: Types, c: u16, m: u16, t: u16, r: u16) -> Effect
     let Popped::Top(y, e) = pop(types, d) else {
         return Effect::Rejected;
     };
-    Effect::Pushed(e, type_of_name(r), meet_class(c, y), meet_name(x, t))
+    Effect::Pushed(
+        e,
+        type_of_name(s.result),
+        meet_class(c, y),
+        meet_name(x, s.argument),
+    )
 }
 
 fn new(types: Types, c: u16) -> Effect
@@ -266,7 +272,7 @@ pub(crate) fn effect_of(types: Types, i: Instruction, result: u16) -> Effect
         Instruction::Arithmetic(_) => arithmetic(types),
         Instruction::Getfield(c, f, t) => getfield(types, c, f, t),
         Instruction::Putfield(c, f, t) => putfield(types, c, f, t),
-        Instruction::Invokevirtual(c, m, t, r) => invokevirtual(types, c, m, t, r),
+        Instruction::Invokevirtual(c, s) => invokevirtual(types, c, s),
         Instruction::New(c) => new(types, c),
         Instruction::Return(k) => give_back(types, k, result),
     }

@@ -3,6 +3,7 @@ use crate::effects::Meeting;
 use crate::turns::Step;
 use crate::turns::turn_at;
 use crate::types::entry_types;
+use definition::Signature;
 use definition::numbers::NOTE_CELLS;
 ghost use mathlib.Core.Path.{_≡_};
 ghost use mathlib.Core.List.{_++_};
@@ -58,19 +59,18 @@ fn write_notes(notes: &mut [u16], from: usize, i: usize, receiver: Meeting, valu
 pub fn verify_method(
     code: &[u8],
     own: u16,
-    argument: u16,
-    result: u16,
+    s: Signature,
     notes: &mut [u16],
     from: usize,
 ) -> Verified
-    ensures { λ r. ⌜ verification r (now (notes .exit)) ≡ verified from (methodTrace own argument result (now (code .entry))) (now (notes .entry)) ⌝ }
+    ensures { λ r. ⌜ verification r (now (notes .exit)) ≡ verified from (methodTrace own s (now (code .entry))) (now (notes .entry)) ⌝ }
 {
-    let mut types = entry_types(own, argument);
+    let mut types = entry_types(own, s);
     let mut left = code.len();
     let mut p = 0;
     let mut count = 0;
     while 0 < left {
-        let turn = turn_at(code, p, result, types);
+        let turn = turn_at(code, p, s.result, types);
         let receiver = turn.receiver;
         let value = turn.value;
         let step = turn.step;

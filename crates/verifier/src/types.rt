@@ -1,4 +1,5 @@
 // The verifier's types as numbers, and its state at a point.
+use definition::Signature;
 use definition::numbers::LOCAL_COUNT;
 use definition::numbers::OPERAND_LIMIT;
 use definition::numbers::SHORT_RANGE;
@@ -43,11 +44,11 @@ pub(crate) fn type_of_name(n: u16) -> u32
 }
 
 // The types at point 0.
-pub(crate) fn entry_types(own: u16, argument: u16) -> Types
-    ensures { λ r. ⌜ typesOf r ≡ entryOf own argument ⌝ }
+pub(crate) fn entry_types(own: u16, s: Signature) -> Types
+    ensures { λ r. ⌜ typesOf r ≡ entryOf own s ⌝ }
 {
     let first = cells::from16(own);
-    let second = type_of_name(argument);
+    let second = type_of_name(s.argument);
     Types {
         operands: [0; OPERANDS],
         depth: 0,

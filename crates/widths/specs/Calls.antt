@@ -6,12 +6,12 @@ use mathlib.Core.List.{List, [], _∷_, _++_}
 use mathlib.Core.Logic.{inl, inr}
 use Prim.Native.Nat.{ℕ, _<_}
 use native.Mathlib.Omega.{arith}
+use Rattle.definition.specs.declared.Signature.{Signature}
 use Rattle.definition.specs.Answers.{ok}
 use Rattle.definition.specs.Lists.{any}
-use Rattle.definition.specs.Classes.{Base, Class, Method, superOf, loaderOf, hasMethod}
-use Rattle.definition.specs.Constraints.{Tie, Subtype, World, newTie}
+use Rattle.definition.specs.Classes.{Base, Class, Method, loaderOf, Selected, selected, startSignature}
+use Rattle.definition.specs.Constraints.{Tie, Subtype, World, signatureTies}
 use Rattle.definition.specs.File.{readFile, classOf}
-use Rattle.definition.specs.Superclasses.{nearest}
 use Rattle.definition.specs.Verifier.{Note}
 use Rattle.definition.specs.Machine.{Frame, Progress, newObject, intValue}
 use Rattle.definition.specs.Loading.{subtypeIs, subtypeOf, newSubtypes, overrideTie, overrideTies, define, recorded, started}
@@ -24,9 +24,9 @@ use Rattle.layout.specs.Tests.{All, all-both}
 use Rattle.unbroken.specs.Accepted.{recorded-is}
 use Rattle.widths.specs.Below.{below-both}
 use Rattle.widths.specs.Fits.{EntryFits, TieFits, SubtypeFits, ObjectFits, FrameFits, RowsFit}
-use Rattle.widths.specs.Files.{MethodFits, ClassFits, file-fits, classes-fit}
+use Rattle.widths.specs.Files.{MethodFits, ClassFits, file-fits, classes-fit, SignatureFits}
 use Rattle.widths.specs.Notes.{NoteFits, notes-fit}
-use Rattle.widths.specs.Steps.{then-on, take-read, new-fits, new-tie-fits, method-fits, entered-fits, ProgressFits, step-fits}
+use Rattle.widths.specs.Steps.{then-on, take-read, new-fits, entered-fits, ProgressFits, step-fits, signature-ties-fit, selected-fits, PlaceFits}
 
 -- Loads
 
@@ -45,25 +45,20 @@ subtypes-fit ss l (n ∷ ns) h = go (any (subtypeIs l n) ss) (subtypes-fit ss l 
     go true x y = x
     go false x y = (record { low = h .0 .low; high = h .0 .high }, y)
 
-override-fits : (b : Base) (l p : ℕ) (ts : List Tie) (m : Method) → MethodFits m → All TieFits (overrideTie b l p ts m)
+override-fits : (b : Base) (l p : ℕ) (ts : List Tie) (s : Signature) → SignatureFits s → All TieFits (overrideTie b l p ts s)
 unfolding overrideTie
-override-fits b l p ts m h = go (nearest (superOf b) (hasMethod b (m .name) (m .argument) (m .result)) p)
+override-fits b l p ts s h = go (selected b s p)
   where
-    go : (o : Option ℕ) → All TieFits (elim o as (λ _. List Tie) [
-      | none ↦ []
-      | some y ↦ let us = newTie ts l (loaderOf b y) (m .argument) in us ++ newTie (ts ++ us) l (loaderOf b y) (m .result)
-    ])
+    go : (o : Option Selected) → All TieFits (elim o as (λ _. List Tie) [ none ↦ [] | some y ↦ signatureTies ts l (loaderOf b (y .class)) s ])
     go none = tt
-    go (some y) =
-        let us : List Tie = newTie ts l (loaderOf b y) (m .argument) in
-        all-both TieFits us _ (new-tie-fits ts l (loaderOf b y) (m .argument) (h .argument)) (new-tie-fits (ts ++ us) l (loaderOf b y) (m .result) (h .result))
+    go (some y) = signature-ties-fit ts l (loaderOf b (y .class)) s h
 
 overrides-fit : (b : Base) (l p : ℕ) (ts : List Tie) (ms : List Method) → All MethodFits ms → All TieFits (overrideTies b l p ts ms)
 unfolding overrideTies
 overrides-fit b l p ts [] h = tt
 overrides-fit b l p ts (m ∷ ms) h =
-    let us : List Tie = overrideTie b l p ts m in
-    all-both TieFits us _ (override-fits b l p ts m (h .0)) (overrides-fit b l p (ts ++ us) ms (h .1))
+    let us : List Tie = overrideTie b l p ts (m .signature) in
+    all-both TieFits us _ (override-fits b l p ts (m .signature) (h .0 .types)) (overrides-fit b l p (ts ++ us) ms (h .1))
 
 define-world : (room : Bool) (k : Class) (w : World) → ClassFits k → WorldFits w → Ok (define room k w) WorldFits
 unfolding define
@@ -144,14 +139,14 @@ module _ (r : Rows) (f : RowsFit r) where
   started-fits : (l n m v : ℕ) (fs : List Frame) → v < 4294967296 → Ok (started l n m v (worldOf r) (r .objects) fs) ProgressFits
   unfolding started
   started-fits l n m v fs h =
-      then ProgressFits _ _ (λ _ _. then ProgressFits _ _ (λ _ _. then ProgressFits _ _ (λ c _. then ProgressFits _ _ (λ s _.
-      then-on (λ j. j < 4294967296) ProgressFits _ _ (take-read (λ j. j < 4294967296) _ _ (method-fits (worldOf r .base) class-list m 1 1 s)) (λ j hj.
+      then ProgressFits _ _ (λ _ _. then ProgressFits _ _ (λ _ _. then ProgressFits _ _ (λ c _.
+      then-on PlaceFits ProgressFits _ _ (take-read PlaceFits _ _ (selected-fits (worldOf r .base) class-list (startSignature m) c)) (λ s hs.
       then ProgressFits _ _ (λ _ _.
       record {
         ties = f .ties;
         objects = all-both ObjectFits (r .objects) (newObject (worldOf r .base) c ∷ []) (f .objects) (new-fits (worldOf r .base) c, tt);
-        frames = (entered-fits s j _ (intValue v) hj h, tt);
-      }))))))
+        frames = (entered-fits (s .class) (s .place) _ (intValue v) hs h, tt);
+      })))))
 
   start-fits : (k l n m v : ℕ) → v < 4294967296 → Ok (startRows k l n m v r) Fit
   unfolding startRows

@@ -8,13 +8,14 @@ use native.Mathlib.Omega.{arith}
 use lib.ListN.{length, take, drop, getD, getElem?, length-take}
 use lib.Dec.{leb, ltb}
 use borrow.Author.Tests.{leb-true}
+use Rattle.definition.specs.declared.Signature.{Signature}
 use Rattle.definition.specs.declared.Opcode.{Opcode}
 use Rattle.definition.specs.declared.Opcode.the-variants.{OpAconstNull, OpSipush, OpLoad, OpStore, OpPop, OpDup, OpArithmetic, OpGetfield, OpPutfield, OpInvokevirtual, OpNew, OpReturn, OpUnknown}
 use Rattle.definition.specs.declared.Instruction.{Instruction}
 use Rattle.definition.specs.declared.Instruction.the-variants.{AconstNull, Sipush, Load, Store, Pop, Dup, Arithmetic, Getfield, Putfield, Invokevirtual, New, Return}
 use Rattle.definition.specs.Maybe.{_>>=_, need}
-use Rattle.definition.specs.Classes.{Base, Class, Method, methodsOf}
-use Rattle.definition.specs.File.{File, Got, byte, short, name, count, fieldsIn, methodsIn, readFile, classOf, objectClass}
+use Rattle.definition.specs.Classes.{Base, Class, Method, methodsOf, signatureTypes}
+use Rattle.definition.specs.File.{File, Got, byte, short, name, count, fieldsIn, methodsIn, readFile, classOf, objectClass, signatureIn}
 use Rattle.definition.specs.Instructions.{opcodeOf, inlineLength, shortAt, extend, instructionOf, Decoded, sizedAs, decode}
 use Rattle.definition.specs.Tables.{ClassRow, fileAt, classAt}
 use Rattle.definition.specs.Widths.{EachBelow}
@@ -92,10 +93,13 @@ fields-fit (suc k) bs h =
     read-on (GotFits Short) (GotFits Any) _ _ (name-fits 1 (n .more) (x .more)) (λ t y.
     read-on (GotFits Any) (GotFits Any) _ _ (fields-fit k (t .more) (y .more)) (λ fs z. record { value = tt; more = z .more })))
 
+-- a signature: types of 16 bits
+abbrev pub SignatureFits : Signature → Type 0
+SignatureFits s = All Short (signatureTypes s)
+
 -- a method: types of 16 bits, code of at most 512 bytes
 pub record MethodFits (m : Method) : Type 0 where
-  pub argument : m .argument < 65536
-  pub result : m .result < 65536
+  pub types : SignatureFits (m .signature)
   pub code : EachBelow 256 (m .code)
   pub short : length (m .code) ≤ 512
 
@@ -104,14 +108,19 @@ pub record MethodsFit (k : ℕ) (ms : List Method) : Type 0 where
   pub many : length ms ≤ k
   pub each : All MethodFits ms
 
+signature-fits : (bs : List ℕ) → EachBelow 256 bs → Read (signatureIn bs) (GotFits SignatureFits)
+unfolding signatureIn
+signature-fits bs h =
+    read-on (GotFits Short) (GotFits SignatureFits) _ _ (name-fits 1 bs h) (λ n x.
+    read-on (GotFits Short) (GotFits SignatureFits) _ _ (name-fits 1 (n .more) (x .more)) (λ a y.
+    read-on (GotFits Short) (GotFits SignatureFits) _ _ (name-fits 1 (a .more) (y .more)) (λ r z. record { value = (y .value, (z .value, tt)); more = z .more })))
+
 methods-fit : (k : ℕ) (bs : List ℕ) → EachBelow 256 bs → Read (methodsIn k bs) (GotFits (MethodsFit k))
 unfolding methodsIn
 methods-fit zero bs h = record { value = record { many = omega arith; each = tt }; more = h }
 methods-fit (suc k) bs h =
-    read-on (GotFits Short) G _ _ (name-fits 1 bs h) (λ n x.
-    read-on (GotFits Short) G _ _ (name-fits 1 (n .more) (x .more)) (λ a y.
-    read-on (GotFits Short) G _ _ (name-fits 1 (a .more) (y .more)) (λ r z.
-    read-on (GotFits Short) G _ _ (short-fits (r .more) (z .more)) (λ l w.
+    read-on (GotFits SignatureFits) G _ _ (signature-fits bs h) (λ s x.
+    read-on (GotFits Short) G _ _ (short-fits (s .more) (x .more)) (λ l w.
     read-need G _ _ (λ e.
     read-on (GotFits (MethodsFit k)) G _ _ (methods-fit k (drop (l .value) (l .more)) (below-drop 256 (l .value) (l .more) (w .more))) (λ ms v.
     let q : l .value ≤ 512 = at-most (l .value) (length (l .more)) e in
@@ -120,8 +129,7 @@ methods-fit (suc k) bs h =
         many = omega (arith, v .value .many);
         each = (
           record {
-            argument = y .value;
-            result = z .value;
+            types = x .value;
             code = below-take 256 (l .value) (l .more) (w .more);
             short = omega (arith, length-take (l .value) (l .more));
           },
@@ -129,7 +137,7 @@ methods-fit (suc k) bs h =
         );
       };
       more = v .more;
-    }))))))
+    }))))
   where
     G : Got (List Method) → Type 0
     G = GotFits (MethodsFit (suc k))
@@ -201,7 +209,7 @@ InstructionFits Dup = Unit {0}
 InstructionFits (Arithmetic o) = Unit {0}
 InstructionFits (Getfield c f t) = (c < 65536) × (t < 65536)
 InstructionFits (Putfield c f t) = (c < 65536) × (t < 65536)
-InstructionFits (Invokevirtual c m t r) = (c < 65536) × (t < 65536) × (r < 65536)
+InstructionFits (Invokevirtual c s) = (c < 65536) × SignatureFits s
 InstructionFits (New c) = c < 65536
 InstructionFits (Return kind) = Unit {0}
 
@@ -229,7 +237,7 @@ module _ (code : List ℕ) (h : EachBelow 256 code) where
   instruction-fits i (OpArithmetic o) = tt
   instruction-fits i OpGetfield = (short-at i, short-at (i + 4))
   instruction-fits i OpPutfield = (short-at i, short-at (i + 4))
-  instruction-fits i OpInvokevirtual = (short-at i, short-at (i + 4), short-at (i + 6))
+  instruction-fits i OpInvokevirtual = (short-at i, (short-at (i + 2 + 2), (short-at (i + 2 + 4), tt)))
   instruction-fits i OpNew = short-at i
   instruction-fits i (OpReturn kind) = tt
   instruction-fits i OpUnknown = tt

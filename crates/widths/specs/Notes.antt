@@ -102,10 +102,10 @@ module _ (s : TypeState) (h : StateFits s) where
       read-on Popped FlowFits _ _ (popped (s .operands) (h .operands)) (λ p hp. read-on Popped FlowFits _ _ (popped (p .more) (hp .1)) (λ q hq.
       read-on (All NoteFits) FlowFits _ _ (class-met c (q .top) (f .0) (hq .0)) (λ a ha. read-on (All NoteFits) FlowFits _ _ (met (p .top) t (f .1) (hp .0)) (λ b hb.
       flows (q .more) (s .locals) (a ++ b) (hq .1) (h .locals) (all-both NoteFits a b ha hb))))))
-  effect-fits (Invokevirtual c m t r) f = read-need FlowFits _ _ (λ _.
+  effect-fits (Invokevirtual c m) f = read-need FlowFits _ _ (λ _.
       read-on Popped FlowFits _ _ (popped (s .operands) (h .operands)) (λ p hp. read-on Popped FlowFits _ _ (popped (p .more) (hp .1)) (λ q hq.
-      read-on (All NoteFits) FlowFits _ _ (class-met c (q .top) (f .0) (hq .0)) (λ a ha. read-on (All NoteFits) FlowFits _ _ (met (p .top) t (f .1) (hp .0)) (λ b hb.
-      flows (typeOfName r ∷ q .more) (s .locals) (a ++ b) (name-type r (f .2), hq .1) (h .locals) (all-both NoteFits a b ha hb))))))
+      read-on (All NoteFits) FlowFits _ _ (class-met c (q .top) (f .0) (hq .0)) (λ a ha. read-on (All NoteFits) FlowFits _ _ (met (p .top) (m .argument) (f .1 .0) (hp .0)) (λ b hb.
+      flows (typeOfName (m .result) ∷ q .more) (s .locals) (a ++ b) (name-type (m .result) (f .1 .1 .0), hq .1) (h .locals) (all-both NoteFits a b ha hb))))))
   effect-fits (New c) f = read-need FlowFits _ _ (λ _. flows (typeClass c ∷ s .operands) (s .locals) [] (f, h .operands) (h .locals) tt)
   effect-fits (Return kind) f = tt
 
@@ -115,7 +115,7 @@ module _ (s : TypeState) (h : StateFits s) where
       read-past (All NoteFits) _ _ (λ _. read-on Popped (All NoteFits) _ _ (popped (s .operands) (h .operands)) (λ p hp. met (p .top) r l (hp .0)))
 
 entry-fits : (k : Class) (m : Method) → k .name < 65536 → MethodFits m → StateFits (entryTypes k m)
-entry-fits k m l h = record { operands = tt; locals = (l, (name-type (m .argument) (h .argument), (tt, (tt, (tt, (tt, (tt, (tt, tt)))))))) }
+entry-fits k m l h = record { operands = tt; locals = (l, (name-type (m .signature .argument) (h .types .0), (tt, (tt, (tt, (tt, (tt, (tt, tt)))))))) }
 
 -- a reading that has a value
 read-some : {A : Type 0} (P : A → Type 0) (o : Option A) (a : A) → Read o P → o ≡ some a → P a
@@ -132,7 +132,7 @@ method-notes-fit k m l h = some-read (All NoteFits) (notesOfMethod k m) (λ ns v
     let x = read-some (DecodedFits (m .code) (h .code) p) (decode (m .code) p) i (decode-fits (m .code) (h .code) p) r in
     let y = read-some FlowFits (effect (i .instruction) s) f (effect-fits s hs (i .instruction) (x .instruction)) e in
     (y .types, y .notes))
-    (λ kind s a hs e. read-some (All NoteFits) (returns kind (m .result) s) a (returns-fit s hs kind (m .result) (h .result)) e) (entry-fits k m l h))
+    (λ kind s a hs e. read-some (All NoteFits) (returns kind (m .signature .result) s) a (returns-fit s hs kind (m .signature .result) (h .types .1 .0)) e) (entry-fits k m l h))
 
 pub notes-fit : (k : Class) → k .name < 65536 → (ms : List Method) → All MethodFits ms → Read (notesOf k ms) (All NoteFits)
 unfolding notesOf

@@ -9,14 +9,15 @@ use lib.ListN.{length, getElem?, set}
 use lib.Dec.{eqb}
 use Rattle.definition.specs.declared.Operator.{Operator}
 use Rattle.definition.specs.declared.Operator.the-variants.{Add, Subtract}
+use Rattle.definition.specs.declared.Signature.{Signature}
 use Rattle.definition.specs.declared.Instruction.{Instruction}
 use Rattle.definition.specs.declared.Instruction.the-variants.{AconstNull, Sipush, Load, Store, Pop, Dup, Arithmetic, Getfield, Putfield, Invokevirtual, New, Return}
 use Rattle.definition.specs.declared.Refusal.{Refusal}
 use Rattle.definition.specs.declared.Refusal.the-variants.{Word}
 use Rattle.definition.specs.Answers.{Result, refused, ok, _>>=_, take?}
 use Rattle.definition.specs.Lists.{any, indexOf}
-use Rattle.definition.specs.Classes.{Base, Class, slots, loaderOf, methodsOf, alike}
-use Rattle.definition.specs.Constraints.{Tie, World, tieIs, newTie, post}
+use Rattle.definition.specs.Classes.{Base, Class, slots, loaderOf, methodsOf, alike, Selected, selected, signatureTypes}
+use Rattle.definition.specs.Constraints.{Tie, World, tieIs, newTie, post, newTies, signatureTies}
 use Rattle.definition.specs.Instructions.{Decoded}
 use Rattle.definition.specs.Verifier.{pop}
 use Rattle.definition.specs.Machine.{Value, emptyValue, intValue, nullValue, objectValue, unlistedValue, Object, Frame, existing, initialValue, newObject, entryFrame, pop!, compute, object!, Progress, Now, now, past, give, execute, step}
@@ -25,7 +26,7 @@ use Rattle.layout.specs.Tests.{All, all-both}
 use Rattle.unbroken.specs.Steps.{all-set}
 use Rattle.widths.specs.Below.{all-map}
 use Rattle.widths.specs.Fits.{IntFits, TieFits, ObjectFits, FrameFits}
-use Rattle.widths.specs.Files.{Read, read-nth, InstructionFits, DecodedFits, decode-fits, MethodFits, ClassFits, methods-of-fit}
+use Rattle.widths.specs.Files.{Read, read-nth, InstructionFits, DecodedFits, decode-fits, MethodFits, ClassFits, methods-of-fit, SignatureFits, read-past, read-on}
 
 -- Answers in sequence: what holds of an accepted value
 
@@ -89,6 +90,15 @@ new-tie-fits ts l m n h = go (eqb l m || eqb n 1 || any (tieIs l m n) ts)
     go true = tt
     go false = (h, tt)
 
+pub new-ties-fit : (ts : List Tie) (l m : ℕ) (ns : List ℕ) → All (λ n. n < 65536) ns → All TieFits (newTies ts l m ns)
+unfolding newTies
+new-ties-fit ts l m [] h = tt
+new-ties-fit ts l m (n ∷ ns) h = all-both TieFits (newTie ts l m n) _ (new-tie-fits ts l m n (h .0)) (new-ties-fit (ts ++ newTie ts l m n) l m ns (h .1))
+
+pub signature-ties-fit : (ts : List Tie) (l m : ℕ) (s : Signature) → SignatureFits s → All TieFits (signatureTies ts l m s)
+unfolding signatureTies
+signature-ties-fit ts l m s h = new-ties-fit ts l m (signatureTypes s) h
+
 abbrev Tied : World → Type 0
 Tied w = All TieFits (w .ties)
 
@@ -110,12 +120,12 @@ index-lt f (x ∷ xs) = go (f x) (indexOf f xs) (index-lt f xs)
     go false (some i) h = omega arith
 
 -- a selected method's place is one of a class's methods
-pub method-fits : (b : Base) → All ClassFits (b .classes) → (n t r s : ℕ) → Read (indexOf (alike n t r) (methodsOf b s)) (λ j. j < 4294967296)
-method-fits b h n t r s = go (indexOf (alike n t r) (methodsOf b s)) (index-lt (alike n t r) (methodsOf b s))
-  where
-    go : (o : Option ℕ) → Read o (λ j. j < length (methodsOf b s)) → Read o (λ j. j < 4294967296)
-    go none x = tt
-    go (some j) x = omega (arith, methods-of-fit b h s .many)
+abbrev pub PlaceFits : Selected → Type 0
+PlaceFits m = m .place < 4294967296
+
+pub selected-fits : (b : Base) → All ClassFits (b .classes) → (s : Signature) (c : ℕ) → Read (selected b s c) PlaceFits
+unfolding selected
+selected-fits b h s c = read-past PlaceFits _ _ (λ d. read-on (λ j. j < length (methodsOf b d)) PlaceFits _ _ (index-lt (alike s) (methodsOf b d)) (λ j x. omega (arith, methods-of-fit b h d .many)))
 
 -- a method's first frame
 pub entered-fits : (s j o : ℕ) (v : Value) → j < 4294967296 → IntFits v → FrameFits (entryFrame s j o v)
@@ -169,11 +179,6 @@ module _ (w : World) (os : List Object) (classes : All ClassFits (w .base .class
     two-popped g n =
         then-on Popped Q _ _ (pop-fits (f .operands) (top .operands)) (λ p hp. then-on Popped Q _ (g p) (pop-fits (p .more) (hp .1)) (λ q hq. n p q hp hq))
 
-    both-ties : (l m t r : ℕ) → t < 65536 → r < 65536 → All TieFits (newTie (w .ties) l m t ++ newTie (w .ties ++ newTie (w .ties) l m t) l m r)
-    both-ties l m t r a b =
-        let us : List Tie = newTie (w .ties) l m t in
-        all-both TieFits us (newTie (w .ties ++ us) l m r) (new-tie-fits (w .ties) l m t a) (new-tie-fits (w .ties ++ us) l m r b)
-
     execute-fits : (j : Instruction) → InstructionFits j → Ok (execute w os f fs k i j) Q
     unfolding execute
     execute-fits AconstNull x = then Q _ _ (λ _ _. pushed nullValue tt)
@@ -200,15 +205,15 @@ module _ (w : World) (os : List Object) (classes : All ClassFits (w .base .class
           objects = all-set ObjectFits os objects (o .number) _ (all-set IntFits (o .object .values) held j (p .top) (hp .0));
           frames = (moved (q .more) (f .locals) (hq .1) (top .locals), rest);
         })))))))
-    execute-fits (Invokevirtual c n t r) x = then Q _ _ (λ e _. then Q _ _ (λ d _.
-        then-on Tied Q _ _ (post-fits w _ _ ties (both-ties (loaderOf (w .base) d) (k .loader) t r (x .1) (x .2))) (λ v tied.
-        two-popped _ (λ p q hp hq. then Q _ _ (λ _ _. then Q _ _ (λ o _. then Q _ _ (λ s _.
-        then-on (λ j. j < 4294967296) Q _ _ (take-read (λ j. j < 4294967296) _ _ (method-fits (w .base) classes n t r s)) (λ j l.
+    execute-fits (Invokevirtual c s) x = then Q _ _ (λ e _. then Q _ _ (λ d _.
+        then-on Tied Q _ _ (post-fits w _ _ ties (signature-ties-fit (w .ties) (loaderOf (w .base) (d .class)) (k .loader) s (x .1))) (λ v tied.
+        two-popped _ (λ p q hp hq. then Q _ _ (λ _ _. then Q _ _ (λ o _.
+        then-on PlaceFits Q _ _ (take-read PlaceFits _ _ (selected-fits (w .base) classes s (o .object .class))) (λ m l.
         record {
           ties = tied;
           objects = objects;
-          frames = (entered-fits s j (o .number) (p .top) l (hp .0), (moved (q .more) (f .locals) (hq .1) (top .locals), rest));
-        }))))))))
+          frames = (entered-fits (m .class) (m .place) (o .number) (p .top) l (hp .0), (moved (q .more) (f .locals) (hq .1) (top .locals), rest));
+        })))))))
     execute-fits (New c) x = then Q _ _ (λ e _. then Q _ _ (λ _ _.
         record {
           ties = ties;

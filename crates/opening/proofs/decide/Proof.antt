@@ -31,31 +31,41 @@ returns-4 c = open-wanted _ _ _ _ _ _ _ _ (c .before .before .before .before .be
 
 returns-5 : tie.Need-returns-5
 returns-5 c =
-    let at8 = c .before .before .before .before .before .before .before .before in
+    let at5 = c .before .before .before .before .before in
+    let at7 = at5 .before .before in
+    let at8 = at7 .before in
     let at9 = at8 .before in
     let at10 = at9 .before in
     let at11 = at10 .before in
-    open-absent _ _ _ _ _ _ _ _ (at11 .if1 .left) (sym (at10 .are-known .ensures) ∙ not-false _ (at9 .if2 .left)) (rw (c .before .before .before .before .before .before .before .if3 .left) at (sym (at8 .frame-count .ensures))) _ (cached _ _ _ _ _ _ _ _ (c .before .before .before .before .before .before .find .ensures) refl _ (c .before .before .before .before .c .given .1)) (selection-absent _ _ _ _ _ (sym (c .before .before .select-method .ensures) ∙ c .enum-told2 .given .1))
+    let at12 = at11 .before in
+    let answer = rw (c .before .before .before .start-signature .ensures) at (c .before .before .select-method .ensures) in
+    open-absent _ _ _ _ _ _ _ _ (at12 .if1 .left) (sym (at11 .are-known .ensures) ∙ not-false _ (at10 .if2 .left)) (rw (at8 .if3 .left) at (sym (at9 .frame-count .ensures))) _ (cached _ _ _ _ _ _ _ _ (at7 .find .ensures) refl _ (at5 .c .given .1)) (selection-absent _ (sym answer ∙ c .enum-told2 .given .1))
 
 returns-6 : tie.Need-returns-6
 returns-6 c =
-    let at9 = c .before .before .before .before .before .before .before .before .before in
-    let at10 = at9 .before in
+    let at8 = c .before .before .before .before .before .before .before .before in
+    let at10 = at8 .before .before in
     let at11 = at10 .before in
     let at12 = at11 .before in
     let at13 = at12 .before in
     let at14 = at13 .before in
-    let x = (selection-at _ _ _ _ _ _ _ (sym (c .before .before .before .before .before .select-method .ensures) ∙ c .before .before .before .s .given .1)) in open-full _ _ _ _ _ _ _ _ (at14 .if1 .left) (sym (at13 .are-known .ensures) ∙ not-false _ (at12 .if2 .left)) (rw (at10 .if3 .left) at (sym (at11 .frame-count .ensures))) _ (cached _ _ _ _ _ _ _ _ (at9 .find .ensures) refl _ (c .before .before .before .before .before .before .before .c .given .1)) _ (x .0) _ (x .1) (rw (c .before .at16 .ensures) at (c .if4 .taken))
+    let at15 = at14 .before in
+    let answer = rw (c .before .before .before .before .before .before .start-signature .ensures) at (c .before .before .before .before .before .select-method .ensures) in
+    let x = selection-at _ _ _ (sym answer ∙ c .before .before .before .s .given .1) in
+    open-full _ _ _ _ _ _ _ _ (at15 .if1 .left) (sym (at14 .are-known .ensures) ∙ not-false _ (at13 .if2 .left)) (rw (at11 .if3 .left) at (sym (at12 .frame-count .ensures))) _ (cached _ _ _ _ _ _ _ _ (at10 .find .ensures) refl _ (at8 .c .given .1)) _ _ x (rw (c .before .at16 .ensures) at (c .if4 .taken))
 
 returns-7 : tie.Need-returns-7
 returns-7 c =
-    let at9 = c .before .before .before .before .before .before .before .before .before in
-    let at10 = at9 .before in
+    let at8 = c .before .before .before .before .before .before .before .before in
+    let at10 = at8 .before .before in
     let at11 = at10 .before in
     let at12 = at11 .before in
     let at13 = at12 .before in
     let at14 = at13 .before in
-    let x = (selection-at _ _ _ _ _ _ _ (sym (c .before .before .before .before .before .select-method .ensures) ∙ c .before .before .before .s .given .1)) in open-first _ _ _ _ _ _ _ _ (at14 .if1 .left) (sym (at13 .are-known .ensures) ∙ not-false _ (at12 .if2 .left)) (rw (at10 .if3 .left) at (sym (at11 .frame-count .ensures))) _ (cached _ _ _ _ _ _ _ _ (at9 .find .ensures) refl _ (c .before .before .before .before .before .before .before .c .given .1)) _ (x .0) _ (x .1) (rw (c .before .at16 .ensures) at (c .if4 .left))
+    let at15 = at14 .before in
+    let answer = rw (c .before .before .before .before .before .before .start-signature .ensures) at (c .before .before .before .before .before .select-method .ensures) in
+    let x = selection-at _ _ _ (sym answer ∙ c .before .before .before .s .given .1) in
+    open-first _ _ _ _ _ _ _ _ (at15 .if1 .left) (sym (at14 .are-known .ensures) ∙ not-false _ (at13 .if2 .left)) (rw (at11 .if3 .left) at (sym (at12 .frame-count .ensures))) _ (cached _ _ _ _ _ _ _ _ (at10 .find .ensures) refl _ (at8 .c .given .1)) _ _ x (rw (c .before .at16 .ensures) at (c .if4 .left))
 
 pub decide-spec : {M : Type 1} → statement M
 decide-spec =
@@ -73,6 +83,7 @@ decide-spec =
     (λ c. search needs)
     cast-t20
     returns-4
+    (λ c κs. search needs)
     (λ c κs. search needs)
     (λ c. search needs)
     (λ c. search needs)

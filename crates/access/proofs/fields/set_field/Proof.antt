@@ -8,10 +8,10 @@ use Rattle.access.proofs.fields.set_field.Statement.{statement}
 use Rattle.access.proofs.fields.set_field.Tie as tie
 
 returns : tie.Need-returns
-returns c = rw (c .refuse .ensures) (write-none _ _ _ _ _ _ _ _ _ _ _ _ 0 (c .before .if1 .taken))
+returns c = rw (c .refuse .ensures) (write-none _ _ _ _ _ _ _ _ _ _ _ _ (c .before .if1 .taken))
 
 returns-2 : tie.Need-returns-2
-returns-2 c = rw (c .refuse2 .ensures) (write-one _ _ _ _ _ _ _ _ _ _ _ _ 0 (c .before .before .if1 .left) (c .before .if2 .taken))
+returns-2 c = rw (c .refuse2 .ensures) (write-one _ _ _ _ _ _ _ _ _ _ _ _ (c .before .before .if1 .left) (c .before .if2 .taken))
 
 returns-3 : tie.Need-returns-3
 returns-3 c = rw (c .refuse3 .ensures) (write-unkind _ _ _ _ _ _ _ _ _ _ _ _ (c .before .before .before .before .before .if1 .left) (c .before .before .before .operand .ensures) _ _ (c .before .before .before .before .if2 .left) (sym (c .before .before .is-kind .ensures) ∙ not-true _ (c .before .if3 .taken)))

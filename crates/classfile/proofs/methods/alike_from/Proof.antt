@@ -13,13 +13,13 @@ use Rattle.classfile.proofs.methods.alike_from.Statement.{statement}
 use Rattle.classfile.proofs.methods.alike_from.Tie as tie
 
 abbrev Inv-loop : tie.InvT-loop
-Inv-loop bytes first start name argument result n place₀ j₀ place j =
+Inv-loop bytes first start s n place₀ j₀ place j =
     Placed bytes j place
-    × (shift j (indexOf (alike name argument result) (rows (methodIn bytes) (n - j) j))
-    ≡ shift first (indexOf (alike name argument result) (rows (methodIn bytes) (methodCount bytes - first) first)))
+    × (shift j (indexOf (alike s) (rows (methodIn bytes) (n - j) j))
+    ≡ shift first (indexOf (alike s) (rows (methodIn bytes) (methodCount bytes - first) first)))
 
 abbrev μ-loop : tie.MeasureT-loop
-μ-loop bytes first start name argument result n place₀ j₀ place j = n - j
+μ-loop bytes first start s n place₀ j₀ place j = n - j
 
 loop-holds : tie.Need-loop-holds Inv-loop μ-loop
 loop-holds c = (c .before .before .pre, rw (c .method-count .ensures))

@@ -16,13 +16,13 @@ returns : tie.Need-returns
 unfolding found
 returns c =
     let at7 = c .before .before .before .before .before .before .before in
-    ap found (sym (method-absent _ _ (ap (λ (bs : List ℕ). methodFound bs (indexOf (alike (at7 .args .name) (at7 .args .argument) (at7 .args .result)) (quickMethods bs))) (sym (c .before .before .before .file-of .ensures)) ∙ (sym (c .before .before .find-method .ensures) ∙ c .enum-told .given .1))))
+    ap found (sym (method-absent _ _ (ap (λ (bs : List ℕ). methodFound bs (indexOf (alike (at7 .args .s)) (quickMethods bs))) (sym (c .before .before .before .file-of .ensures)) ∙ (sym (c .before .before .find-method .ensures) ∙ c .enum-told .given .1))))
 
 returns-2 : tie.Need-returns-2
 unfolding found
 returns-2 c =
     let at10 = c .before .before .before .before .before .before .before .before .before .before in
-    ap At (c .from16 .ensures .0 ∙ c .before .from8 .ensures .0) ∙ ap found (sym (method-at _ _ _ _ (ap (λ (bs : List ℕ). methodFound bs (indexOf (alike (at10 .args .name) (at10 .args .argument) (at10 .args .result)) (quickMethods bs))) (sym (c .before .before .before .before .before .before .file-of .ensures)) ∙ (sym (c .before .before .before .before .before .find-method .ensures) ∙ c .before .before .before .j .given .1)) .0))
+    ap At (c .from16 .ensures .0 ∙ c .before .from8 .ensures .0) ∙ ap found (sym (method-at _ _ _ _ (ap (λ (bs : List ℕ). methodFound bs (indexOf (alike (at10 .args .s)) (quickMethods bs))) (sym (c .before .before .before .before .before .before .file-of .ensures)) ∙ (sym (c .before .before .before .before .before .find-method .ensures) ∙ c .before .before .before .j .given .1)) .0))
 
 pub method-index-spec : {M : Type 1} → statement M
 method-index-spec = tie.close (tie.spec (λ c κs. search needs) (λ c κs. search needs) (λ c. search needs) (λ c. search needs) returns (λ c κs. search needs) (λ c κs. search needs) returns-2)

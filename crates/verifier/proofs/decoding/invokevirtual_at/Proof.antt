@@ -1,4 +1,4 @@
--- Its names are the inline ones in order.
+-- The class's name, then the signature.
 use Rattle.definition.specs.Instructions.{instructionOf}
 use borrow.Author.Needs.{needs}
 use Rattle.verifier.proofs.decoding.invokevirtual_at.Statement.{statement}
@@ -6,18 +6,7 @@ use Rattle.verifier.proofs.decoding.invokevirtual_at.Tie as tie
 
 returns : tie.Need-returns
 unfolding instructionOf
-returns c =
-    rw (c .before .before .before .short-at .ensures, c .before .before .short-at2 .ensures, c .before .short-at3 .ensures, c .short-at4 .ensures)
+returns c = rw (c .before .short-at .ensures, c .signature-at .ensures)
 
 pub invokevirtual-at-spec : {M : Type 1} → statement M
-invokevirtual-at-spec =
-    tie.close
-    (tie.spec
-    (λ c κs. search needs)
-    (λ c. search needs)
-    (λ c κs. search needs)
-    (λ c. search needs)
-    (λ c κs. search needs)
-    (λ c. search needs)
-    (λ c κs. search needs)
-    returns)
+invokevirtual-at-spec = tie.close (tie.spec (λ c κs. search needs) (λ c. search needs) (λ c κs. search needs) returns)

@@ -1,30 +1,29 @@
 -- An argument and a receiver go and the result type comes.
 use mathlib.Core.Path.{sym, _∙_}
-use borrow.Author.Tests.{not-true, not-false}
+use borrow.Author.Tests.{lt-leb, le-leb, not-true, not-false}
 use Rattle.definition.specs.Verifier.{effect}
 use Rattle.verifier.specs.Types.{typesOf}
 use Rattle.verifier.proofs.TypeLaws.{popped-empty, popped-top}
 use Rattle.definition.specs.Maybe.{_>>=_, need}
 use Rattle.verifier.specs.Effects.{going, outcomeOf}
-use Rattle.verifier.proofs.EffectLaws.{positive}
 use borrow.Author.Needs.{needs}
 use Rattle.verifier.proofs.effects.invokevirtual.Statement.{statement}
 use Rattle.verifier.proofs.effects.invokevirtual.Tie as tie
 
 returns : tie.Need-returns
 unfolding outcomeOf going effect typesOf _>>=_ need
-returns c = rw (sym (c .before .named .ensures) ∙ not-true _ (c .if1 .taken))
+returns c = rw (lt-leb 2 (c .before .args .c) (c .if1 .taken))
 
 returns-2 : tie.Need-returns-2
 unfolding outcomeOf going effect typesOf _>>=_ need
-returns-2 c = rw (sym (c .before .before .named .ensures) ∙ not-false _ (c .before .if1 .left), c .if2 .taken)
+returns-2 c = rw (le-leb 2 (c .before .before .before .args .c) (c .before .before .if1 .left), sym (c .before .is-named .ensures) ∙ not-true _ (c .if2 .taken))
 
 returns-3 : tie.Need-returns-3
 unfolding outcomeOf going effect typesOf _>>=_ need
 returns-3 c =
     rw (
-      sym (c .before .before .before .before .before .named .ensures) ∙ not-false _ (c .before .before .before .before .if1 .left),
-      positive (c .before .before .before .before .before .before .args .r) (c .before .before .before .if2 .left),
+      le-leb 2 (c .before .before .before .before .before .before .args .c) (c .before .before .before .before .before .if1 .left),
+      sym (c .before .before .before .before .is-named .ensures) ∙ not-false _ (c .before .before .before .if2 .left),
       popped-empty _ _ _ (c .before .before .pop .ensures) (c .enum-told .given .1),
     )
 
@@ -35,10 +34,8 @@ returns-4 c =
     let at9 = at8 .before in
     let at10 = at9 .before in
     rw (
-      sym (at9 .named .ensures)
-          ∙ not-false _ (at8 .if1 .left),
-      positive (at10 .args .r)
-          (c .before .before .before .before .before .before .before .if2 .left),
+      le-leb 2 (at10 .args .c) (at9 .if1 .left),
+      sym (at8 .is-named .ensures) ∙ not-false _ (c .before .before .before .before .before .before .before .if2 .left),
       popped-top _ _ _ (c .before .before .before .before .before .before .pop .ensures) (c .before .before .before .before .x .given .1),
       popped-empty _ _ _ (c .before .before .pop2 .ensures) (c .enum-told2 .given .1),
     )
@@ -53,10 +50,8 @@ returns-5 c =
     let at13 = at12 .before in
     let at14 = at13 .before in
     rw (
-      sym (at13 .named .ensures)
-          ∙ not-false _ (at12 .if1 .left),
-      positive (at14 .args .r)
-          (at11 .if2 .left),
+      le-leb 2 (at14 .args .c) (at13 .if1 .left),
+      sym (at12 .is-named .ensures) ∙ not-false _ (at11 .if2 .left),
       popped-top _ _ _ (at10 .pop .ensures)
           (at8 .x .given .1),
       popped-top _ _ _ (c .before .before .before .before .before .before .pop2 .ensures) (c .before .before .before .before .y .given .1),
@@ -69,8 +64,8 @@ pub invokevirtual-spec : {M : Type 1} → statement M
 invokevirtual-spec =
     tie.close
     (tie.spec
-    (λ c κs. search needs)
     returns
+    (λ c κs. search needs)
     returns-2
     (λ c κs. search needs)
     (λ c. search needs)

@@ -12,12 +12,12 @@ use Rattle.verifier.proofs.methods.verify_method.Statement.{statement}
 use Rattle.verifier.proofs.methods.verify_method.Tie as tie
 
 abbrev Inv-loop : tie.InvT-loop
-Inv-loop code own argument result notes₀ from types₀ left₀ p₀ count₀ notes types left p count =
+Inv-loop code own s notes₀ from types₀ left₀ p₀ count₀ notes types left p count =
     (left ≤ length code) × (count + 2 * left ≤ 2 * length code) × (length notes ≡ length notes₀)
-    × (recorded (from + count) count (trace code result left p (typesOf types)) notes ≡ verified from (methodTrace own argument result code) notes₀)
+    × (recorded (from + count) count (trace code (s .result) left p (typesOf types)) notes ≡ verified from (methodTrace own s code) notes₀)
 
 abbrev μ-loop : tie.MeasureT-loop
-μ-loop code own argument result notes₀ from types₀ left₀ p₀ count₀ notes types left p count = left
+μ-loop code own s notes₀ from types₀ left₀ p₀ count₀ notes types left p count = left
 
 few : (c : tie.After-write-notes Inv-loop μ-loop) → c .write-notes .result ≤ 2
 few c = wrote-few _ _ _ _ _ _ (c .write-notes .ensures)
