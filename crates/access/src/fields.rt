@@ -2,6 +2,9 @@
 use crate::Access;
 use crate::Receiver;
 use crate::receivers::received;
+use definition::numbers::FIELD_LIMIT;
+use definition::numbers::WORD_ABSENT;
+use definition::numbers::WORD_STUCK;
 ghost use mathlib.Core.Path.{_≡_};
 ghost use mathlib.Core.Option.{some};
 ghost use Rattle.definition.specs.Superclasses.{nearest};
@@ -33,7 +36,7 @@ fn read_field(
     ensures { λ r. ⌜ Rest (now (counts .entry)) (now (classes .entry)) (now (kept .entry)) (now (cache .entry)) (now (objects .entry)) (now (frames .entry)) b d unlimited (λ B os f fs i. readField B os f fs i e s name of) r ⌝ }
 {
     if d == 0 {
-        return instructions::refuse(14);
+        return instructions::refuse(WORD_STUCK);
     }
     let x = frames::operand(frames, b, d - 1);
     let r = received(counts, classes, kept, cache, objects, e, x.kind, x.bits);
@@ -41,10 +44,10 @@ fn read_field(
         Receiver::Wrong(word) => instructions::refuse(word),
         Receiver::Right(o) => {
             let Found::At(j) = resolution::slot_of(counts, classes, kept, cache, s, name, of) else {
-                return instructions::refuse(14);
+                return instructions::refuse(WORD_STUCK);
             };
-            if 16 <= j {
-                return instructions::refuse(14);
+            if FIELD_LIMIT <= j {
+                return instructions::refuse(WORD_STUCK);
             }
             let v = frames::field(objects, o, j as u8);
             Plan::Above(d - 1, v.kind, v.bits)
@@ -71,15 +74,15 @@ fn set_field(
     ensures { λ r. ⌜ Rest (now (counts .entry)) (now (classes .entry)) (now (kept .entry)) (now (cache .entry)) (now (objects .entry)) (now (frames .entry)) b d unlimited (λ B os f fs i. writeField B os f fs i e s name of) r ⌝ }
 {
     if d == 0 {
-        return instructions::refuse(14);
+        return instructions::refuse(WORD_STUCK);
     }
     let top = d - 1;
     if top == 0 {
-        return instructions::refuse(14);
+        return instructions::refuse(WORD_STUCK);
     }
     let v = frames::operand(frames, b, top);
     if !instructions::is_kind(of, v.kind, v.bits) {
-        return instructions::refuse(14);
+        return instructions::refuse(WORD_STUCK);
     }
     let x = frames::operand(frames, b, top - 1);
     let r = received(counts, classes, kept, cache, objects, e, x.kind, x.bits);
@@ -87,9 +90,9 @@ fn set_field(
         Receiver::Wrong(word) => instructions::refuse(word),
         Receiver::Right(o) => {
             let Found::At(j) = resolution::slot_of(counts, classes, kept, cache, s, name, of) else {
-                return instructions::refuse(14);
+                return instructions::refuse(WORD_STUCK);
             };
-            if 16 <= j {
+            if FIELD_LIMIT <= j {
                 return Plan::Keep(top - 1);
             }
             Plan::Field(top - 1, o, j as u8, v.kind, v.bits)
@@ -117,7 +120,7 @@ pub fn getfield(
         return Access::Unresolved(Refusal::Wanted(loader, class));
     };
     let Found::At(s) = resolution::nearest_field(counts, classes, kept, cache, e, name, of) else {
-        return Access::Unresolved(Refusal::Word(7));
+        return Access::Unresolved(Refusal::Word(WORD_ABSENT));
     };
     let one = resolution::loader_of(counts, classes, s);
     Access::Resolved(
@@ -159,7 +162,7 @@ pub fn putfield(
         return Access::Unresolved(Refusal::Wanted(loader, class));
     };
     let Found::At(s) = resolution::nearest_field(counts, classes, kept, cache, e, name, of) else {
-        return Access::Unresolved(Refusal::Word(7));
+        return Access::Unresolved(Refusal::Word(WORD_ABSENT));
     };
     let one = resolution::loader_of(counts, classes, s);
     Access::Resolved(

@@ -1,6 +1,10 @@
 // new: `loader` is the frame class's, the class's name stands inline.
 ghost use Rattle.access.specs.Members.{Making};
 use definition::Refusal;
+use definition::numbers::COUNT_OBJECTS;
+use definition::numbers::OBJECT_LIMIT;
+use definition::numbers::OPERAND_LIMIT;
+use definition::numbers::WORD_FULL;
 use instructions::Plan;
 use resolution::Found;
 
@@ -21,11 +25,11 @@ pub fn new_object(
     let Found::At(e) = resolution::find(counts, cache, cells::from8(loader), class) else {
         return Plan::Refuse(Refusal::Wanted(loader, class));
     };
-    if 256 <= cells::at16(counts, 5) {
-        return instructions::refuse(10);
+    if OBJECT_LIMIT <= cells::at16(counts, COUNT_OBJECTS) {
+        return instructions::refuse(WORD_FULL);
     }
-    if 16 <= d {
-        return instructions::refuse(10);
+    if OPERAND_LIMIT <= d {
+        return instructions::refuse(WORD_FULL);
     }
     Plan::Make(d, e)
 }

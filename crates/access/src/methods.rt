@@ -2,6 +2,8 @@
 use crate::Access;
 use crate::Receiver;
 use crate::receivers::received;
+use definition::numbers::WORD_ABSENT;
+use definition::numbers::WORD_STUCK;
 ghost use mathlib.Core.Path.{_≡_};
 ghost use mathlib.Core.Option.{some};
 ghost use Rattle.definition.specs.Superclasses.{nearest};
@@ -57,15 +59,15 @@ fn call_method(
     ensures { λ r. ⌜ Rest (now (counts .entry)) (now (classes .entry)) (now (kept .entry)) (now (cache .entry)) (now (objects .entry)) (now (frames .entry)) b d framesLeft (λ B os f fs i. callMethod B os f fs i e name argument result) r ⌝ }
 {
     if d == 0 {
-        return instructions::refuse(14);
+        return instructions::refuse(WORD_STUCK);
     }
     let top = d - 1;
     if top == 0 {
-        return instructions::refuse(14);
+        return instructions::refuse(WORD_STUCK);
     }
     let v = frames::operand(frames, b, top);
     if !instructions::is_kind(argument, v.kind, v.bits) {
-        return instructions::refuse(14);
+        return instructions::refuse(WORD_STUCK);
     }
     let x = frames::operand(frames, b, top - 1);
     let r = received(counts, classes, kept, cache, objects, e, x.kind, x.bits);
@@ -85,10 +87,10 @@ fn call_method(
                 argument,
                 result,
             ) else {
-                return instructions::refuse(14);
+                return instructions::refuse(WORD_STUCK);
             };
             let Found::At(j) = method_index(counts, classes, kept, a, name, argument, result) else {
-                return instructions::refuse(14);
+                return instructions::refuse(WORD_STUCK);
             };
             Plan::Enter(top - 1, a, j, o, v.kind, v.bits)
         }
@@ -125,7 +127,7 @@ pub fn invokevirtual(
         argument,
         result,
     ) else {
-        return Access::Unresolved(Refusal::Word(7));
+        return Access::Unresolved(Refusal::Word(WORD_ABSENT));
     };
     let one = resolution::loader_of(counts, classes, s);
     Access::Resolved(

@@ -1,5 +1,10 @@
 // A receiver: an object that exists, of a class or below it.
 use crate::Receiver;
+use definition::numbers::COUNT_OBJECTS;
+use definition::numbers::KIND_NULL;
+use definition::numbers::KIND_OBJECT;
+use definition::numbers::WORD_NULL;
+use definition::numbers::WORD_STUCK;
 ghost use mathlib.Core.Path.{_≡_};
 ghost use mathlib.Core.List.{List};
 ghost use Prim.Native.Nat.{ℕ};
@@ -12,10 +17,10 @@ ghost use Rattle.access.specs.Members.{noObject};
 fn no_object(kind: u32, bits: u32) -> u8
     ensures { λ r. ⌜ r ≡ noObject kind bits ⌝ }
 {
-    if kind == 2 {
-        if bits == 0 { 11 } else { 14 }
+    if kind == KIND_NULL {
+        if bits == 0 { WORD_NULL } else { WORD_STUCK }
     } else {
-        14
+        WORD_STUCK
     }
 }
 
@@ -32,11 +37,11 @@ pub(crate) fn received(
 ) -> Receiver
     ensures { λ r. ⌜ ((I S F : List ℕ) → Received (quickBase (now (counts .entry)) (now (classes .entry)) (now (kept .entry)) (now (cache .entry))) (tables (now (counts .entry)) (now (classes .entry)) (now (kept .entry)) (now (cache .entry)) I S (now (objects .entry)) F) e kind bits r) ⌝ }
 {
-    if kind != 3 {
+    if kind != KIND_OBJECT {
         return Receiver::Wrong(no_object(kind, bits));
     }
-    if cells::from16(cells::at16(counts, 5)) <= bits {
-        return Receiver::Wrong(14);
+    if cells::from16(cells::at16(counts, COUNT_OBJECTS)) <= bits {
+        return Receiver::Wrong(WORD_STUCK);
     }
     if !resolution::is_below(
         counts,
@@ -46,7 +51,7 @@ pub(crate) fn received(
         frames::object_class(objects, bits),
         e,
     ) {
-        return Receiver::Wrong(14);
+        return Receiver::Wrong(WORD_STUCK);
     }
     Receiver::Right(bits)
 }

@@ -1,5 +1,13 @@
 // boxscript: boots a store, then reads calls from standard input, one a line, and prints the answer of each. A line that it can't read ends
 // it. Input is read into a window, which keeps the bytes of a line that is not whole yet.
+use definition::numbers::CACHE_LENGTH;
+use definition::numbers::CLASSES_LENGTH;
+use definition::numbers::COUNTS_LENGTH;
+use definition::numbers::FRAMES_LENGTH;
+use definition::numbers::KEPT_LENGTH;
+use definition::numbers::OBJECTS_LENGTH;
+use definition::numbers::SUBTYPES_LENGTH;
+use definition::numbers::TIES_LENGTH;
 use libc::STDIN_FILENO;
 use libc::STDOUT_FILENO;
 ghost use Prim.Native.Nat.{_≤_};
@@ -159,14 +167,14 @@ fn talk(
 }
 
 fn main() {
-    let mut counts = [0u16; 8];
-    let mut classes = [0u16; 192];
-    let mut kept = [0u8; 16384];
-    let mut cache = [0u16; 768];
-    let mut ties = [0u16; 768];
-    let mut subtypes = [0u16; 768];
-    let mut objects = [0u32; 8448];
-    let mut frames = [0u32; 3328];
+    let mut counts = [0u16; COUNTS_LENGTH];
+    let mut classes = [0u16; CLASSES_LENGTH];
+    let mut kept = [0u8; KEPT_LENGTH];
+    let mut cache = [0u16; CACHE_LENGTH];
+    let mut ties = [0u16; TIES_LENGTH];
+    let mut subtypes = [0u16; SUBTYPES_LENGTH];
+    let mut objects = [0u32; OBJECTS_LENGTH];
+    let mut frames = [0u32; FRAMES_LENGTH];
     loading::boot(
         &mut counts,
         &mut classes,

@@ -6,10 +6,10 @@ use mathlib.Core.Option.{some}
 use mathlib.Core.List.{List, [], _∷_, _++_, map}
 use Prim.Native.Nat.{ℕ}
 use lib.ListN.{getElem?}
-use lib.IntN.{pos, negsuc}
+use lib.IntN.{ℤ, pos, negsuc}
 use Rattle.definition.specs.declared.Reply.{Reply}
 use Rattle.definition.specs.Lists.{all}
-use Rattle.definition.specs.Answers.{Details, line, details, numberOf, endsIn}
+use Rattle.definition.specs.Answers.{Shown, shown, details, numberOf, endsIn}
 use Rattle.definition.specs.Constraints.{Tie, Subtype}
 use Rattle.definition.specs.Tables.{Tables, tie, subtype, view}
 use Rattle.definition.specs.Calls.{turn, boot, Call, callDefine, callRecord, callStart, callStep, callRun, perform, performAll}
@@ -23,10 +23,10 @@ pub record Case : Type 0 where
   pub ties : List Tie
   pub subtypes : List Subtype
   pub last : Call
-  pub expect : Details
+  pub expect : Shown
   pub unchanged : Bool
 
-abbrev case : ℕ → List Call → List Tie → List Subtype → Call → Details → Bool → Case
+abbrev case : ℕ → List Call → List Tie → List Subtype → Call → Shown → Bool → Case
 case p b ts ss l e u = record { p = p; before = b; ties = ts; subtypes = ss; last = l; expect = e; unchanged = u }
 
 -- the tie of loaders 2 and 1 on 12, that of 3 and 2, and 13 below 12 under loader 1
@@ -39,21 +39,24 @@ tie23 = tie 3 2 12
 abbrev below1 : Subtype
 below1 = subtype 1 13 12
 
-abbrev fine : Details
-fine = line 0 (pos 0) (pos 0) (pos 0)
+abbrev line : ℕ → ℕ → ℕ → ℤ → Shown
+line n a b c = record { refusal = n; one = a; two = b; three = c }
+
+abbrev fine : Shown
+fine = line 0 0 0 (pos 0)
 
 -- refused with word n
-abbrev no : ℕ → Details
-no n = line n (pos 0) (pos 0) (pos 0)
+abbrev no : ℕ → Shown
+no n = line n 0 0 (pos 0)
 
 -- the class that define answers
-abbrev class : ℕ → Details
-class c = line 0 (pos c) (pos 0) (pos 0)
+abbrev class : ℕ → Shown
+class c = line 0 c 0 (pos 0)
 
 unfoldable pub table : List Case
 table =
     case 1 [] [] [] callStep fine true
-    ∷ case 2 [] [] [] (callDefine 1 fileF) (line 5 (pos 1) (pos 2) (pos 0)) true
+    ∷ case 2 [] [] [] (callDefine 1 fileF) (line 5 1 2 (pos 0)) true
     ∷ case 2 ready [] [] (callDefine 1 fileF) (class 1) false
     ∷ case 3 (ready ++ callDefine 1 fileF ∷ []) [] [] (callDefine 1 fileF) (no 4) true
     ∷ case 3 (ready ++ callDefine 1 fileF ∷ []) [] [] (callDefine 2 fileF) (class 2) false
@@ -65,8 +68,8 @@ table =
     ∷ case 6 (tied123 ++ callDefine 1 (plain 12 2) ∷ []) (tie12 ∷ tie23 ∷ []) [] (callRecord 3 12 4) fine false
     ∷ case 7 (tied12 ++ callDefine 1 lifts ∷ callDefine 2 (plain 12 2) ∷ []) (tie12 ∷ []) (below1 ∷ []) (callDefine 1 (plain 13 2)) (no 9) true
     ∷ case 7 (tied12 ++ callDefine 1 lifts ∷ callDefine 2 (plain 12 2) ∷ callRecord 1 12 4 ∷ []) (tie12 ∷ []) (below1 ∷ []) (callDefine 1 (plain 13 12)) (class 5) false
-    ∷ case 8 (ready ++ callDefine 1 (coded (0x15 ∷ 1 ∷ 0x11 ∷ 0 ∷ 1 ∷ 0x60 ∷ 0xAC ∷ [])) ∷ callStart 0 1 10 20 2147483647 ∷ callRun 3 ∷ []) [] [] callStep (line 0 (pos 2) (pos 0) (negsuc 2147483647)) false
-    ∷ case 9 (ready ++ callDefine 1 (coded (0x01 ∷ 0xB4 ∷ 0 ∷ 99 ∷ 0 ∷ 5 ∷ 0 ∷ 1 ∷ 0xAC ∷ [])) ∷ callStart 0 1 10 20 7 ∷ callStep ∷ []) [] [] callStep (line 5 (pos 1) (pos 99) (pos 0)) true
+    ∷ case 8 (ready ++ callDefine 1 (coded (0x15 ∷ 1 ∷ 0x11 ∷ 0 ∷ 1 ∷ 0x60 ∷ 0xAC ∷ [])) ∷ callStart 0 1 10 20 2147483647 ∷ callRun 3 ∷ []) [] [] callStep (line 0 2 0 (negsuc 2147483647)) false
+    ∷ case 9 (ready ++ callDefine 1 (coded (0x01 ∷ 0xB4 ∷ 0 ∷ 99 ∷ 0 ∷ 5 ∷ 0 ∷ 1 ∷ 0xAC ∷ [])) ∷ callStart 0 1 10 20 7 ∷ callStep ∷ []) [] [] callStep (line 5 1 99 (pos 0)) true
     ∷ case 10 ready [] [] (callDefine 1 (coded (pushes 16))) (class 1) false
     ∷ case 10 ready [] [] (callDefine 1 (coded (pushes 17))) (no 6) true
     ∷ []
@@ -75,8 +78,8 @@ table =
 unfoldable pub beforeLast : Tables → Case → Tables
 beforeLast t c = performAll (c .before) (boot t .tables) .tables
 
-unfoldable pub answered : Tables → Case → Details
-answered t c = details (turn (view (beforeLast t c))) (perform (c .last) (beforeLast t c) .answer)
+unfoldable pub answered : Tables → Case → Shown
+answered t c = shown (details (turn (view (beforeLast t c))) (perform (c .last) (beforeLast t c) .answer))
 
 unfoldable pub left : Tables → Case → Tables
 left t c = perform (c .last) (beforeLast t c) .tables

@@ -10,7 +10,7 @@ use lib.Dec.{eqb}
 use Rattle.definition.specs.Lists.{every, all, any, doubled, indexOf, isSome, isNone}
 use Rattle.definition.specs.Maybe as Maybe
 use Rattle.definition.specs.Requests.{sameRequest, has, fires, rest, grow, reach, leads}
-use Rattle.definition.specs.Answers.{endsIn, Details, details, stepDetails, refusalDetails, signed, number, numberOfStep, numberOf, _>>=_, need, take?}
+use Rattle.definition.specs.Answers.{endsIn, Shown, shown, details, stepDetails, refusalDetails, signed, number, numberOfStep, numberOf, _>>=_, need, take?}
 use Rattle.definition.specs.Superclasses.{seek, nearest, below}
 use Rattle.definition.specs.Classes.{find, lower, superOf, loaderOf, ownSlots, slotsIn, slots, slotIs, hasField, alike, methodsOf, hasMethod}
 use Rattle.definition.specs.Constraints.{tieEdges, subtypeEdges, edges, pairAgrees, rowAgrees, agreesOver, agrees, tieIs, newTie, agreesAfter, post}
@@ -36,8 +36,8 @@ rowsBefore c = performAllRows (c .before) bootRows .rows
 unfoldable pub rowsAfter : Case → Rows
 rowsAfter c = performRows (c .last) (rowsBefore c) .rows
 
-unfoldable pub answeredRows : Case → Details
-answeredRows c = details (turn (rowsBefore c)) (performRows (c .last) (rowsBefore c) .answer)
+unfoldable pub answeredRows : Case → Shown
+answeredRows c = shown (details (turn (rowsBefore c)) (performRows (c .last) (rowsBefore c) .answer))
 
 -- Whether rows stay. A call that changes something here changes the number of classes, cache entries or frames.
 
@@ -74,7 +74,7 @@ pub record Computed : Type 0 where
   pub example : scriptRows (Script.linesOf input) bootRows ≡ output
 
 pub computed : Computed
-unfolding rowsBefore rowsAfter answeredRows size accepted input output scriptRows endsIn isSome signed number numberOfStep numberOf refusalDetails stepDetails details _>>=_ need take? defineRows recordRows startRows dropRows answerOf stepTask stepOn stepRows turnOf turn find lower superOf loaderOf ownSlots slotsIn slots slotIs hasField alike methodsOf hasMethod tieEdges subtypeEdges edges pairAgrees rowAgrees agreesOver agrees tieIs newTie agreesAfter post byte short name count fieldsIn methodsIn ends sameField sameMethod readFile pick opcodeOf inlineLength shortAt extend instructionOf sizedAs decode every all any doubled indexOf isNone subtypeIs newSubtypes overrideTie overrideTies hides define recorded started existing initialValue newObject pop! int! reference! kind! room! object! now under! give execute step Maybe._>>=_ Maybe.need sameRequest has fires rest grow reach leads seek nearest below fileAt classAt typeOfName meetClass meetInt meets asReference pop effect returns isReturn verify typesAt notesOf settle onRows runRows performRows performAllRows two method fileOf plain fileF taker coded lifts pushes ready tied12 tied123 table Script.digit Script.digits Script.decimal Script.upTo Script.int Script.hexDigit Script.hexPairs Script.file Script.grow Script.fields Script.command Script.commandOf Script.readLine Script.printed Script.printedInt Script.printedLine Script.linesOf
+unfolding rowsBefore rowsAfter answeredRows size accepted input output scriptRows endsIn isSome signed shown number numberOfStep numberOf refusalDetails stepDetails details _>>=_ need take? defineRows recordRows startRows dropRows answerOf stepTask stepOn stepRows turnOf turn find lower superOf loaderOf ownSlots slotsIn slots slotIs hasField alike methodsOf hasMethod tieEdges subtypeEdges edges pairAgrees rowAgrees agreesOver agrees tieIs newTie agreesAfter post byte short name count fieldsIn methodsIn ends sameField sameMethod readFile pick opcodeOf inlineLength shortAt extend instructionOf sizedAs decode every all any doubled indexOf isNone subtypeIs newSubtypes overrideTie overrideTies hides define recorded started existing initialValue newObject pop! int! reference! kind! room! object! now under! give execute step Maybe._>>=_ Maybe.need sameRequest has fires rest grow reach leads seek nearest below fileAt classAt typeOfName meetClass meetInt meets asReference pop effect returns isReturn verify typesAt notesOf settle onRows runRows performRows performAllRows two method fileOf plain fileF taker coded lifts pushes ready tied12 tied123 table Script.digit Script.digits Script.decimal Script.upTo Script.int Script.hexDigit Script.hexPairs Script.file Script.grow Script.fields Script.command Script.commandOf Script.readLine Script.printed Script.printedInt Script.printedLine Script.linesOf
 computed = record {
   answers = refl;
   prepared = refl;

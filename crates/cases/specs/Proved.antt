@@ -11,7 +11,7 @@ use Rattle.definition.specs.declared.Reply.{Reply}
 use Rattle.definition.specs.declared.Reply.the-variants.{Accepted}
 use Rattle.definition.specs.Lists.{every, isSome}
 use Rattle.definition.specs.Maybe.{_>>=_}
-use Rattle.definition.specs.Answers.{details}
+use Rattle.definition.specs.Answers.{shown, details}
 use Rattle.definition.specs.Tables.{Tables, tables, shaped, Rows, view}
 use Rattle.definition.specs.Calls.{turn, bootRows, boot, perform}
 use Rattle.definition.specs.Computing.OnRows.{performRows, performAllRows}
@@ -48,7 +48,7 @@ module _ (t : Tables) (h : shaped t ≡ true) (c : Case) where
 
   answered-rows : answered t c ≡ answeredRows c
   unfolding answered answeredRows
-  answered-rows = λ i. details (turn (shows .rows i)) (did .0 i)
+  answered-rows = λ i. shown (details (turn (shows .rows i)) (did .0 i))
 
   view-left : view (left t c) ≡ rowsAfter c
   unfolding rowsAfter

@@ -1,36 +1,38 @@
 // Cells of a table, read and written totally: a read past the end answers 0, a write past the end does nothing.
+use definition::numbers::BYTE_RANGE;
 ghost use mathlib.Core.Path.{_≡_};
 ghost use Prim.Native.Nat.{_+_, _*_, _<_};
 ghost use lib.ListN.{getD, set};
+ghost use Rattle.definition.specs.Numbers.{byteRange, shortRange, intRange};
 ghost use Rattle.definition.specs.Instructions.{shortAt};
 
 // Numbers widened: sums and products of these do not wrap.
 pub fn wide8(x: u8) -> usize
-    ensures { λ r. ⌜ (r ≡ x) × (r < 256) ⌝ }
+    ensures { λ r. ⌜ (r ≡ x) × (r < byteRange) ⌝ }
 {
     x as usize
 }
 
 pub fn wide16(x: u16) -> usize
-    ensures { λ r. ⌜ (r ≡ x) × (r < 65536) ⌝ }
+    ensures { λ r. ⌜ (r ≡ x) × (r < shortRange) ⌝ }
 {
     x as usize
 }
 
 pub fn wide32(x: u32) -> usize
-    ensures { λ r. ⌜ (r ≡ x) × (r < 4294967296) ⌝ }
+    ensures { λ r. ⌜ (r ≡ x) × (r < intRange) ⌝ }
 {
     x as usize
 }
 
 pub fn from8(x: u8) -> u16
-    ensures { λ r. ⌜ (r ≡ x) × (r < 256) ⌝ }
+    ensures { λ r. ⌜ (r ≡ x) × (r < byteRange) ⌝ }
 {
     x as u16
 }
 
 pub fn from16(x: u16) -> u32
-    ensures { λ r. ⌜ (r ≡ x) × (r < 65536) ⌝ }
+    ensures { λ r. ⌜ (r ≡ x) × (r < shortRange) ⌝ }
 {
     x as u32
 }
@@ -90,5 +92,5 @@ fn next8(t: &[u8], i: usize) -> u8
 pub fn short_at(t: &[u8], i: usize) -> u16
     ensures { λ r. ⌜ r ≡ shortAt (now (t .entry)) i ⌝ }
 {
-    from8(at8(t, i)) * 256 + from8(next8(t, i))
+    from8(at8(t, i)) * BYTE_RANGE + from8(next8(t, i))
 }

@@ -14,6 +14,10 @@ use crate::methods::method_count;
 use crate::methods::method_name;
 use crate::methods::method_result;
 use crate::methods::next_place;
+use definition::numbers::CODE_LIMIT;
+use definition::numbers::FILE_LIMIT;
+use definition::numbers::MEMBER_LIMIT;
+use definition::numbers::NAME_OBJECT;
 ghost use mathlib.Core.Path.{_≡_};
 ghost use Prim.Native.Nat.{_+_, _<_};
 ghost use Rattle.definition.specs.Lists.{any, doubled, isSome};
@@ -26,7 +30,7 @@ fn is_sized(bytes: &[u8]) -> bool
     ensures { λ r. ⌜ r ≡ sized (now (bytes .entry)) ⌝ }
 {
     let size = bytes.len();
-    if 4096 < size {
+    if FILE_LIMIT < size {
         return false;
     }
     if size < cells::wide32(first_place(bytes)) {
@@ -41,16 +45,16 @@ fn is_sized(bytes: &[u8]) -> bool
 fn is_titled(bytes: &[u8]) -> bool
     ensures { λ r. ⌜ r ≡ titled (now (bytes .entry)) ⌝ }
 {
-    if class_name(bytes) < 2 {
+    if class_name(bytes) < NAME_OBJECT {
         return false;
     }
-    if super_name(bytes) < 2 {
+    if super_name(bytes) < NAME_OBJECT {
         return false;
     }
-    if 8 < field_count(bytes) {
+    if MEMBER_LIMIT < field_count(bytes) {
         return false;
     }
-    method_count(bytes) <= 8
+    method_count(bytes) <= MEMBER_LIMIT
 }
 
 fn is_named_field(bytes: &[u8], i: u8) -> bool
@@ -95,7 +99,7 @@ fn is_coded_method(bytes: &[u8], place: u32) -> bool
     if length < 1 {
         return false;
     }
-    if 512 < length {
+    if CODE_LIMIT < length {
         return false;
     }
     cells::wide32(place) + 8 + cells::wide16(length) <= bytes.len()

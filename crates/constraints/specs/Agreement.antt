@@ -5,6 +5,7 @@ use mathlib.Core.List.{List, _++_}
 use Prim.Native.Nat.{ℕ, zero, suc}
 use lib.ListN.{getD}
 use lib.Dec.{leb}
+use Rattle.definition.specs.Numbers.{cacheLimit, tieLimit, subtypeLimit}
 use Rattle.definition.specs.Lists.{rows}
 use Rattle.definition.specs.Requests.{Edge}
 use Rattle.definition.specs.Classes.{Entry, lower}
@@ -21,15 +22,15 @@ superIn t c = elim (getD t c 0) [ zero ↦ none | suc p ↦ lower c p ]
 
 -- the first rows of the cache
 abbrev pub entriesIn : List ℕ → ℕ → List Entry
-entriesIn t n = rows (entryAt t) (atMost 256 n) 0
+entriesIn t n = rows (entryAt t) (atMost cacheLimit n) 0
 
 -- the edges of the first ties
 abbrev pub tiesIn : List ℕ → ℕ → List Edge
-tiesIn t n = tieEdges (rows (tieAt t) (atMost 256 n) 0)
+tiesIn t n = tieEdges (rows (tieAt t) (atMost tieLimit n) 0)
 
 -- the edges of the first subtype constraints
 abbrev pub subtypesIn : List ℕ → ℕ → List Edge
-subtypesIn t n = subtypeEdges (rows (subtypeAt t) (atMost 256 n) 0)
+subtypesIn t n = subtypeEdges (rows (subtypeAt t) (atMost subtypeLimit n) 0)
 
 -- the store of these tables agrees
 abbrev pub agreeIn : List ℕ → List ℕ → ℕ → List ℕ → ℕ → List ℕ → ℕ → Bool

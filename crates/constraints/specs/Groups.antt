@@ -4,6 +4,7 @@ use mathlib.Core.List.{List}
 use Prim.Native.Nat.{ℕ, _+_, _<_, _≤_}
 use mathlib.Core.Logic.{_⊎_}
 use lib.ListN.{length, getD, set}
+use Rattle.constraints.specs.Nodes.{placeLimit}
 
 -- Two of n places are tied: they have one node, or are the ends of one of the ties, or a chain of such steps, either way, joins them. The
 -- ties under their one loader stand from place `ones` on, and behind them those under their other.
@@ -34,7 +35,7 @@ pub record United (ups : List ℕ) (p q : ℕ) (ups′ : List ℕ) : Type 0 wher
 
 -- the ends of the first k ties are in one group; only tied places are
 pub record Grouped (nodes : List ℕ) (n ones tied k : ℕ) (ups : List ℕ) : Type 0 where
-  pub long : length ups ≡ 1280
+  pub long : length ups ≡ placeLimit
   pub nodeIn : (p : ℕ) → p < n → SameRoot ups p (getD nodes p 0)
   pub tieIn : (i : ℕ) → i < k → SameRoot ups (ones + i) (ones + tied + i)
   pub sound : (p : ℕ) → p < n → Tied nodes n ones tied p (getD ups p 0)

@@ -4,6 +4,7 @@ use mathlib.Core.Path.{_≡_}
 use mathlib.Core.List.{List}
 use Prim.Native.Nat.{ℕ, suc, _<_, _≤_}
 use lib.ListN.{length, getD}
+use Rattle.constraints.specs.Nodes.{placeLimit}
 
 -- f is one more than the last of the first n places with key x, or 0
 pub record Last (key : ℕ → ℕ) (x n f : ℕ) : Type 0 where
@@ -13,7 +14,7 @@ pub record Last (key : ℕ → ℕ) (x n f : ℕ) : Type 0 where
 
 -- the first n places are joined
 pub record Joined (key : ℕ → ℕ) (n : ℕ) (heads nexts : List ℕ) : Type 0 where
-  pub headsLong : length heads ≡ 1280
-  pub nextsLong : length nexts ≡ 1280
-  pub head : (x : ℕ) → x < 1280 → Last key x n (getD heads x 0)
+  pub headsLong : length heads ≡ placeLimit
+  pub nextsLong : length nexts ≡ placeLimit
+  pub head : (x : ℕ) → x < placeLimit → Last key x n (getD heads x 0)
   pub next : (e : ℕ) → e < n → Last key (key e) e (getD nexts e 0)

@@ -4,12 +4,21 @@ use mathlib.Core.Path.{_≡_}
 use mathlib.Core.List.{List}
 use Prim.Native.Nat.{ℕ, _+_, _*_, _<_, _≤_, _/_, _%_}
 use lib.ListN.{getD}
+use Rattle.definition.specs.Numbers.{cacheLimit, tieLimit, subtypeLimit, shortRange}
 use Rattle.definition.specs.Requests.{Request, at}
+
+-- how many places there are at most
+abbrev pub placeLimit : ℕ
+placeLimit = cacheLimit + (subtypeLimit + subtypeLimit) + (tieLimit + tieLimit)
+
+-- lists by a number's remainder, of which most have few members
+abbrev pub bucketLimit : ℕ
+bucketLimit = 1024
 
 -- A request as one number: its loader times 65,536, and its name
 
 unfoldable pub requestOf : ℕ → Request
-requestOf x = at (x / 65536) (x % 65536)
+requestOf x = at (x / shortRange) (x % shortRange)
 
 -- a table's row i as a request: its loader in cell `loader`, its name in cell `name`
 unfoldable pub requestIn : List ℕ → ℕ → ℕ → ℕ → Request
@@ -54,7 +63,7 @@ ClassesOf cache nodes n classes = (p : ℕ) → p < n → getD classes p 0 ≡ g
 -- Numbers are spread over 1,024 lists
 
 unfoldable pub bucketOf : ℕ → ℕ
-bucketOf x = (x / 65536 * 31 + x % 65536) % 1024
+bucketOf x = (x / shortRange * 31 + x % shortRange) % bucketLimit
 
 unfoldable pub bucketIn : List ℕ → ℕ → ℕ
 bucketIn numbers p = bucketOf (getD numbers p 0)

@@ -4,6 +4,7 @@ use mathlib.Core.List.{List}
 use Prim.Native.Nat.{ℕ, _+_, _*_, _-_}
 use lib.ListN.{length, getD, take}
 use lib.Dec.{leb}
+use Rattle.definition.specs.Numbers.{subtypeLimit, subtypesLength, noteCells}
 use Rattle.definition.specs.Lists.{rows, writeRows}
 use Rattle.definition.specs.Constraints.{Tie, Subtype, newTie}
 use Rattle.definition.specs.Loading.{newSubtypes}
@@ -21,7 +22,7 @@ note low high = record { low = low; high = high }
 
 -- a note of the verifier has two cells
 unfoldable pub noteAt : List ℕ → ℕ → Note
-noteAt t i = note (getD t (i * 2) 0) (getD t (i * 2 + 1) 0)
+noteAt t i = note (getD t (i * noteCells) 0) (getD t (i * noteCells + 1) 0)
 
 -- the subtype constraints that notes add to the first rows of a table
 unfoldable pub newSubtypesIn : List ℕ → ℕ → ℕ → List Note → List Subtype
@@ -40,11 +41,11 @@ subtypesAfter t count new = writeRows putSubtype new count t
 
 -- a table has room for 256 rows
 unfoldable pub roomy : List ℕ → Bool
-roomy t = leb 768 (length t)
+roomy t = leb subtypesLength (length t)
 
 -- the count of rows after new ones: at most 256
 unfoldable pub counted : Bool → ℕ → Added
-counted room total = elim (room && leb total 256) [ true ↦ Count total | false ↦ Full ]
+counted room total = elim (room && leb total subtypeLimit) [ true ↦ Count total | false ↦ Full ]
 
 -- notes posted to a table: rows are written until there are more than 256, none where there is no room for so many
 unfoldable pub notesPosted : List ℕ → ℕ → List Subtype → List ℕ

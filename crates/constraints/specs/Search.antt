@@ -9,6 +9,7 @@ use lib.ListN.{length, getD}
 use lib.Dec.{eqb}
 use Rattle.definition.specs.Lists.{rows}
 use Rattle.definition.specs.Requests.{at, Edge, Chain, leads}
+use Rattle.constraints.specs.Nodes.{placeLimit}
 
 -- Links
 
@@ -54,8 +55,8 @@ pub record Stamped (size stamp : ℕ) (marks : List ℕ) : Type 0 where
 
 -- the queue's first `tail` places hold the marked groups without a cached request
 pub record Queued (cached stamp : ℕ) (marks queue : List ℕ) (tail : ℕ) : Type 0 where
-  pub stamped : Stamped 1280 stamp marks
-  pub queueLong : length queue ≡ 1280
+  pub stamped : Stamped placeLimit stamp marks
+  pub queueLong : length queue ≡ placeLimit
   pub few : tail ≤ marked stamp marks
   pub isMarked : (p : ℕ) → p < tail → Marked stamp marks (getD queue p 0)
   pub isQueued : (x : ℕ) → cached ≤ x → Marked stamp marks x → (p : ℕ) × (p < tail) × (getD queue p 0 ≡ x)
@@ -82,7 +83,7 @@ pub record Expanded (groups : List ℕ) (cached noted stamp x : ℕ) (marks queu
 
 -- what is marked from a: only what it leads to; the ends of its links; and of the links from marked groups without a cached request
 pub record Searched (groups : List ℕ) (cached noted stamp a : ℕ) (marks : List ℕ) : Type 0 where
-  pub stamped : Stamped 1280 stamp marks
+  pub stamped : Stamped placeLimit stamp marks
   pub sound : (y : ℕ) → Marked stamp marks y → Led groups cached noted a y
   pub first : (y : ℕ) → Link groups cached noted a y → Marked stamp marks y
   pub closed : (x y : ℕ) → cached ≤ x → Marked stamp marks x → Link groups cached noted x y → Marked stamp marks y

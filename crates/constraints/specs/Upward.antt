@@ -8,6 +8,7 @@ use mathlib.Core.Option.{Option, none, some}
 use Prim.Native.Nat.{ℕ, zero, suc}
 use lib.Dec.{eqb}
 use lib.ListN.{getD}
+use Rattle.definition.specs.Numbers.{byteRange}
 use Rattle.definition.specs.Superclasses.{Below}
 use Rattle.constraints.specs.Search.{Marked, Stamped}
 
@@ -18,7 +19,7 @@ classOf (suc p) = some p
 
 -- the marks are the classes above c
 pub record Raised (sup : ℕ → Option ℕ) (c stamp : ℕ) (aboves : List ℕ) : Type 0 where
-  pub stamped : Stamped 256 stamp aboves
+  pub stamped : Stamped byteRange stamp aboves
   pub sound : (d : ℕ) → Marked stamp aboves d → Below sup c d
   pub all : (d : ℕ) → Below sup c d → (d ≡ c) ⊎ Marked stamp aboves d
 

@@ -2,6 +2,7 @@
 use crate::grouping::group_places;
 use crate::joining::join;
 use crate::joining::place;
+use crate::numbering::PLACE_LIMIT;
 use crate::numbering::at_most;
 use crate::numbering::list_classes;
 use crate::numbering::number_nodes;
@@ -9,6 +10,8 @@ use crate::numbering::number_places;
 use crate::search::search;
 use crate::upward::mark_above;
 use cells::at16;
+use definition::numbers::BYTE_RANGE;
+use definition::numbers::CACHE_LIMIT;
 ghost use mathlib.Core.Path.{_≡_};
 ghost use mathlib.Core.Bool.{true};
 ghost use Prim.Native.Nat.{_+_, _≤_};
@@ -17,6 +20,7 @@ ghost use Rattle.constraints.specs.Groups.{Rooted};
 ghost use Rattle.constraints.specs.Joining.{Joined};
 ghost use Rattle.constraints.specs.Pairs.{agreeOn, tiedOn, pairMarked, NextStart};
 ghost use Rattle.constraints.specs.Search.{startOf};
+ghost use Rattle.definition.specs.Numbers.{cacheLimit, subtypeLimit};
 
 // Tied cached requests mean one class: each that of the first of its group.
 fn groups_agree(groups: &[u16], classes: &[u16], cached: usize) -> bool
@@ -81,12 +85,12 @@ fn pairs_agree(
     heads: &[u16],
     nexts: &[u16],
 ) -> bool
-    requires { ⌜ (cached ≤ 256) × (noted ≤ 256) × Rooted (now groups) (cached + noted + noted) × Joined (startOf (now groups) cached) noted (now heads) (now nexts) × (tiedOn (now groups) (now classes) cached ≡ true) ⌝ }
+    requires { ⌜ (cached ≤ cacheLimit) × (noted ≤ subtypeLimit) × Rooted (now groups) (cached + noted + noted) × Joined (startOf (now groups) cached) noted (now heads) (now nexts) × (tiedOn (now groups) (now classes) cached ≡ true) ⌝ }
     ensures { λ r. ⌜ r ≡ agreeOn (superIn (now (supers .entry))) (now (groups .entry)) (now (classes .entry)) cached noted ⌝ }
 {
-    let mut marks = [0u16; 1280];
-    let mut queue = [0u16; 1280];
-    let mut aboves = [0u16; 256];
+    let mut marks = [0u16; PLACE_LIMIT];
+    let mut queue = [0u16; PLACE_LIMIT];
+    let mut aboves = [0u16; BYTE_RANGE as usize];
     let mut agreed = true;
     let mut a = next_start(groups, heads, cached, 0);
     'pairs: while a < cached {
@@ -124,7 +128,7 @@ fn requests_agree(
     cached: usize,
     noted: usize,
 ) -> bool
-    requires { ⌜ (cached ≤ 256) × (noted ≤ 256) × Rooted (now groups) (cached + noted + noted) ⌝ }
+    requires { ⌜ (cached ≤ cacheLimit) × (noted ≤ subtypeLimit) × Rooted (now groups) (cached + noted + noted) ⌝ }
     ensures { λ r. ⌜ r ≡ agreeOn (superIn (now (supers .entry))) (now (groups .entry)) (now (classes .entry)) cached noted ⌝ }
 {
     if !groups_agree(groups, classes, cached) {
@@ -133,8 +137,8 @@ fn requests_agree(
     if noted == 0 {
         return true;
     }
-    let mut heads = [0u16; 1280];
-    let mut nexts = [0u16; 1280];
+    let mut heads = [0u16; PLACE_LIMIT];
+    let mut nexts = [0u16; PLACE_LIMIT];
     join(groups, cached, noted, &mut heads, &mut nexts);
     pairs_agree(supers, groups, classes, cached, noted, &heads, &nexts)
 }
@@ -155,13 +159,13 @@ pub fn agree(
     let tied = at_most(tie_count);
     let noted = at_most(subtype_count);
     let ones = cached + noted + noted;
-    let mut numbers = [0u32; 1280];
+    let mut numbers = [0u32; PLACE_LIMIT];
     number_places(cache, cached, ties, tied, subtypes, noted, &mut numbers);
-    let mut nodes = [0u16; 1280];
+    let mut nodes = [0u16; PLACE_LIMIT];
     number_nodes(&numbers, ones + tied + tied, &mut nodes);
-    let mut classes = [0u16; 256];
+    let mut classes = [0u16; CACHE_LIMIT as usize];
     list_classes(cache, &nodes, cached, &mut classes);
-    let mut groups = [0u16; 1280];
+    let mut groups = [0u16; PLACE_LIMIT];
     group_places(&mut nodes, ones, tied, &mut groups);
     requests_agree(supers, &groups, &classes, cached, noted)
 }

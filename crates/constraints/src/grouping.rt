@@ -4,7 +4,9 @@ use cells::put16;
 ghost use mathlib.Core.Path.{_≡_};
 ghost use Prim.Native.Nat.{ℕ, _+_, _<_, _≤_};
 ghost use lib.ListN.{length, getD};
+ghost use Rattle.constraints.specs.Nodes.{placeLimit};
 ghost use Rattle.constraints.specs.Groups.{Root, United, Grouped, GroupsOf};
+ghost use Rattle.definition.specs.Numbers.{shortRange};
 
 // Where the way down from a place ends.
 fn root(ups: &[u16], p: usize) -> usize
@@ -21,7 +23,7 @@ fn root(ups: &[u16], p: usize) -> usize
 
 // Makes the groups of two places one.
 fn unite(ups: &mut [u16], p: usize, q: usize)
-    requires { ⌜ (p < 65536) × (q < 65536) ⌝ }
+    requires { ⌜ (p < shortRange) × (q < shortRange) ⌝ }
     ensures { λ _. ⌜ United (now (ups .entry)) p q (now (ups .exit)) ⌝ }
 {
     let one = root(ups, p);
@@ -35,7 +37,7 @@ fn unite(ups: &mut [u16], p: usize, q: usize)
 
 // Makes the groups of each tie's ends one: the ties stand under their one loader from place `ones` on, and behind them under their other.
 fn unite_ties(ups: &mut [u16], ones: usize, tied: usize)
-    requires { ⌜ (ones + tied + tied ≤ 1280) × (length (now ups) ≡ 1280) × ((p : ℕ) → p < ones + tied + tied → getD (now ups) p 0 ≤ p) ⌝ }
+    requires { ⌜ (ones + tied + tied ≤ placeLimit) × (length (now ups) ≡ placeLimit) × ((p : ℕ) → p < ones + tied + tied → getD (now ups) p 0 ≤ p) ⌝ }
     ensures { λ _. ⌜ Grouped (now (ups .entry)) (ones + tied + tied) ones tied tied (now (ups .exit)) ⌝ }
 {
     let mut i = 0;
@@ -47,7 +49,7 @@ fn unite_ties(ups: &mut [u16], ones: usize, tied: usize)
 
 // The group of each of n places: the lowest of the places that are tied to it.
 fn list_groups(ups: &[u16], n: usize, groups: &mut [u16])
-    requires { ⌜ (n ≤ 1280) × (length (now groups) ≡ 1280) ⌝ }
+    requires { ⌜ (n ≤ placeLimit) × (length (now groups) ≡ placeLimit) ⌝ }
     ensures { λ _. ⌜ ((p : ℕ) → p < n → Root (now (ups .entry)) p (getD (now (groups .exit)) p 0)) ⌝ }
 {
     let mut p = 0;
@@ -59,7 +61,7 @@ fn list_groups(ups: &[u16], n: usize, groups: &mut [u16])
 
 // The groups of all places, by their nodes and the ties, which stand last.
 pub(crate) fn group_places(nodes: &mut [u16], ones: usize, tied: usize, groups: &mut [u16])
-    requires { ⌜ (ones + tied + tied ≤ 1280) × (length (now nodes) ≡ 1280) × (length (now groups) ≡ 1280) × ((p : ℕ) → p < ones + tied + tied → getD (now nodes) p 0 ≤ p) ⌝ }
+    requires { ⌜ (ones + tied + tied ≤ placeLimit) × (length (now nodes) ≡ placeLimit) × (length (now groups) ≡ placeLimit) × ((p : ℕ) → p < ones + tied + tied → getD (now nodes) p 0 ≤ p) ⌝ }
     ensures { λ _. ⌜ GroupsOf (now (nodes .entry)) (ones + tied + tied) ones tied (now (groups .exit)) ⌝ }
 {
     unite_ties(nodes, ones, tied);

@@ -5,12 +5,14 @@ use cells::wide16;
 ghost use mathlib.Core.Path.{_≡_};
 ghost use Prim.Native.Nat.{ℕ, _+_, _<_, _≤_};
 ghost use lib.ListN.{getD, set};
+ghost use Rattle.constraints.specs.Nodes.{placeLimit};
 ghost use Rattle.constraints.specs.Joining.{Joined};
 ghost use Rattle.constraints.specs.Search.{startOf};
+ghost use Rattle.definition.specs.Numbers.{shortRange};
 
 // An element, 0 past the end.
 pub(crate) fn place(t: &[u16], i: usize) -> usize
-    ensures { λ r. ⌜ (r ≡ getD (now (t .entry)) i 0) × (r < 65536) ⌝ }
+    ensures { λ r. ⌜ (r ≡ getD (now (t .entry)) i 0) × (r < shortRange) ⌝ }
 {
     wide16(at16(t, i))
 }
@@ -27,7 +29,7 @@ pub(crate) fn enter(key: usize, e: usize, heads: &mut [u16], nexts: &mut [u16])
 
 // Joins n places by the keys that a table has from place `from` on.
 pub(crate) fn join(keys: &[u16], from: usize, n: usize, heads: &mut [u16], nexts: &mut [u16])
-    requires { ⌜ (from ≤ 1280) × (n ≤ 1280) × ((e : ℕ) → e < n → startOf (now keys) from e < 1280) × Joined (startOf (now keys) from) 0 (now heads) (now nexts) ⌝ }
+    requires { ⌜ (from ≤ placeLimit) × (n ≤ placeLimit) × ((e : ℕ) → e < n → startOf (now keys) from e < placeLimit) × Joined (startOf (now keys) from) 0 (now heads) (now nexts) ⌝ }
     ensures { λ _. ⌜ Joined (startOf (now (keys .entry)) from) n (now (heads .exit)) (now (nexts .exit)) ⌝ }
 {
     let mut e = 0;

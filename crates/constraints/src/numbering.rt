@@ -8,34 +8,58 @@ use cells::put16;
 use cells::put32;
 use cells::wide16;
 use cells::wide32;
+use definition::numbers::CACHE_LIMIT;
+use definition::numbers::ROW_CELLS;
+use definition::numbers::SHORT_RANGE;
+use definition::numbers::SUBTYPE_LIMIT;
+use definition::numbers::TIE_LIMIT;
 ghost use mathlib.Core.Path.{_≡_};
 ghost use Prim.Native.Nat.{ℕ, _+_, _*_, _<_, _≤_};
 ghost use lib.ListN.{length, getD};
+ghost use Rattle.definition.specs.Numbers.{cacheLimit, rowCells, shortRange, subtypeLimit, tieLimit};
 ghost use Rattle.definition.specs.Requests.{at};
 ghost use Rattle.constraints.specs.Agreement.{atMost};
-ghost use Rattle.constraints.specs.Nodes.{requestOf, requestIn, Numbered, AllNumbered, First, NodesOf, ClassesOf, bucketOf, bucketIn};
+ghost use Rattle.constraints.specs.Nodes.{requestOf, requestIn, Numbered, AllNumbered, First, NodesOf, ClassesOf, bucketOf, bucketIn, bucketLimit, placeLimit};
 ghost use Rattle.constraints.specs.Joining.{Last};
+
+// The largest count of rows of a table.
+pub(crate) const ROW_LIMIT: usize = CACHE_LIMIT as usize;
+
+// How many places there are at most: cached requests, two names of each subtype constraint, two loaders of each tie.
+pub(crate) const PLACE_LIMIT: usize = CACHE_LIMIT as usize
+    + 2 * SUBTYPE_LIMIT as usize
+    + 2 * TIE_LIMIT as usize;
+
+// Lists by a number's remainder, of which most have few members.
+const BUCKET_LIMIT: u32 = 1024;
 
 // A count of rows, at most 256.
 pub(crate) fn at_most(count: u16) -> usize
-    ensures { λ r. ⌜ (r ≡ atMost 256 count) × (r ≤ 256) ⌝ }
+    ensures { λ r. ⌜ (r ≡ atMost cacheLimit count) × (r ≤ cacheLimit) ⌝ }
 {
-    if count <= 256 { wide16(count) } else { 256 }
+    if count <= CACHE_LIMIT {
+        wide16(count)
+    } else {
+        ROW_LIMIT
+    }
 }
 
 // The number of a request.
 fn request_number(loader: u16, name: u16) -> u32
     ensures { λ r. ⌜ requestOf r ≡ at loader name ⌝ }
 {
-    from16(loader) * 65536 + from16(name)
+    from16(loader) * SHORT_RANGE + from16(name)
 }
 
 // The number of row i of a table, whose loader and name stand in these cells of it.
 fn row_number(t: &[u16], loader: usize, name: usize, i: usize) -> u32
-    requires { ⌜ (loader < 3) × (name < 3) × (i < 256) ⌝ }
+    requires { ⌜ (loader < 3) × (name < 3) × (i < cacheLimit) ⌝ }
     ensures { λ r. ⌜ requestOf r ≡ requestIn (now (t .entry)) loader name i ⌝ }
 {
-    request_number(at16(t, i * 3 + loader), at16(t, i * 3 + name))
+    request_number(
+        at16(t, i * ROW_CELLS + loader),
+        at16(t, i * ROW_CELLS + name),
+    )
 }
 
 // The numbers of the first `count` rows of a table, written from a place on.
@@ -47,7 +71,7 @@ fn number_rows(
     numbers: &mut [u32],
     from: usize,
 )
-    requires { ⌜ (loader < 3) × (name < 3) × (count ≤ 256) × (from + count ≤ length (now numbers)) ⌝ }
+    requires { ⌜ (loader < 3) × (name < 3) × (count ≤ cacheLimit) × (from + count ≤ length (now numbers)) ⌝ }
     ensures { λ _. ⌜ Numbered (now (t .entry)) loader name count (now (numbers .entry)) (now (numbers .exit)) from ⌝ }
 {
     let mut i = 0;
@@ -68,7 +92,7 @@ pub(crate) fn number_places(
     noted: usize,
     numbers: &mut [u32],
 )
-    requires { ⌜ (cached ≤ 256) × (tied ≤ 256) × (noted ≤ 256) × (length (now numbers) ≡ 1280) ⌝ }
+    requires { ⌜ (cached ≤ cacheLimit) × (tied ≤ tieLimit) × (noted ≤ subtypeLimit) × (length (now numbers) ≡ placeLimit) ⌝ }
     ensures { λ _. ⌜ AllNumbered (now (cache .entry)) cached (now (ties .entry)) tied (now (subtypes .entry)) noted (now (numbers .exit)) ⌝ }
 {
     let highs = cached + noted;
@@ -82,15 +106,15 @@ pub(crate) fn number_places(
 
 // The list that a number is in.
 fn bucket(number: u32) -> usize
-    ensures { λ r. ⌜ (r ≡ bucketOf number) × (r < 1024) ⌝ }
+    ensures { λ r. ⌜ (r ≡ bucketOf number) × (r < bucketLimit) ⌝ }
 {
-    wide32((number / 65536 * 31 + number % 65536) % 1024)
+    wide32((number / SHORT_RANGE * 31 + number % SHORT_RANGE) % BUCKET_LIMIT)
 }
 
 // The node of place p: that of the last place before it with the same number, or p itself. `last` is one more than the last place before
 // it in its list.
 fn node_of(numbers: &[u32], nodes: &[u16], nexts: &[u16], last: usize, p: usize) -> u16
-    requires { ⌜ (p < 65536) × NodesOf (now numbers) p (now nodes) × Last (bucketIn (now numbers)) (bucketIn (now numbers) p) p last × ((q : ℕ) → q < p → Last (bucketIn (now numbers)) (bucketIn (now numbers) q) q (getD (now nexts) q 0)) ⌝ }
+    requires { ⌜ (p < shortRange) × NodesOf (now numbers) p (now nodes) × Last (bucketIn (now numbers)) (bucketIn (now numbers) p) p last × ((q : ℕ) → q < p → Last (bucketIn (now numbers)) (bucketIn (now numbers) q) q (getD (now nexts) q 0)) ⌝ }
     ensures { λ r. ⌜ First (now (numbers .entry)) p r ⌝ }
 {
     let number = at32(numbers, p);
@@ -107,11 +131,11 @@ fn node_of(numbers: &[u32], nodes: &[u16], nexts: &[u16], last: usize, p: usize)
 
 // The node of each of n places.
 pub(crate) fn number_nodes(numbers: &[u32], n: usize, nodes: &mut [u16])
-    requires { ⌜ (n ≤ 1280) × (length (now nodes) ≡ 1280) ⌝ }
+    requires { ⌜ (n ≤ placeLimit) × (length (now nodes) ≡ placeLimit) ⌝ }
     ensures { λ _. ⌜ NodesOf (now (numbers .entry)) n (now (nodes .exit)) ⌝ }
 {
-    let mut heads = [0u16; 1280];
-    let mut nexts = [0u16; 1280];
+    let mut heads = [0u16; PLACE_LIMIT];
+    let mut nexts = [0u16; PLACE_LIMIT];
     let mut p = 0;
     while p < n {
         let key = bucket(at32(numbers, p));
@@ -124,15 +148,15 @@ pub(crate) fn number_nodes(numbers: &[u32], n: usize, nodes: &mut [u16])
 
 // The class of a row of the cache.
 fn class_at(cache: &[u16], row: usize) -> u16
-    requires { ⌜ row < 1280 ⌝ }
-    ensures { λ r. ⌜ r ≡ getD (now (cache .entry)) (row * 3 + 2) 0 ⌝ }
+    requires { ⌜ row < placeLimit ⌝ }
+    ensures { λ r. ⌜ r ≡ getD (now (cache .entry)) (row * rowCells + 2) 0 ⌝ }
 {
-    at16(cache, row * 3 + 2)
+    at16(cache, row * ROW_CELLS + 2)
 }
 
 // What each cached request means: the class of the first row with its node.
 pub(crate) fn list_classes(cache: &[u16], nodes: &[u16], cached: usize, classes: &mut [u16])
-    requires { ⌜ (cached ≤ length (now classes)) × ((p : ℕ) → p < cached → getD (now nodes) p 0 < 1280) ⌝ }
+    requires { ⌜ (cached ≤ length (now classes)) × ((p : ℕ) → p < cached → getD (now nodes) p 0 < placeLimit) ⌝ }
     ensures { λ _. ⌜ ClassesOf (now (cache .entry)) (now (nodes .entry)) cached (now (classes .exit)) ⌝ }
 {
     let mut p = 0;

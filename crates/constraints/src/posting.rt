@@ -5,17 +5,25 @@ use cells::from8;
 use cells::from16;
 use cells::put16;
 use cells::wide16;
+use definition::numbers::NOTE_CELLS;
+use definition::numbers::ROW_CELLS;
+use definition::numbers::SUBTYPE_LIMIT;
+use definition::numbers::SUBTYPES_LENGTH;
 ghost use mathlib.Core.Path.{_≡_};
 ghost use Prim.Native.Nat.{_+_, _<_};
 ghost use lib.ListN.{length};
 ghost use lib.Dec.{eqb};
 ghost use mathlib.Core.Bool.{_&&_};
 ghost use mathlib.Core.List.{[], _∷_};
+ghost use Rattle.definition.specs.Numbers.{shortRange};
 ghost use Rattle.definition.specs.Lists.{rows, any};
 ghost use Rattle.definition.specs.Constraints.{tieIs};
 ghost use Rattle.definition.specs.Loading.{subtypeIs};
 ghost use Rattle.definition.specs.Tables.{tieAt, subtypeAt, putThree};
 ghost use Rattle.constraints.specs.Posting.{newTieIn, newSubtypesIn, newNotesIn, note, tiesAfter, subtypesAfter, roomy, counted, notesPosted};
+
+// How many subtype constraints there may be, as a count that may have grown past 16 bits.
+const SUBTYPE_ROWS: u32 = SUBTYPE_LIMIT as u32;
 
 // Two cells are equal to these two.
 fn are_equal(a: u16, b: u16, x: u16, y: u16) -> bool
@@ -26,24 +34,24 @@ fn are_equal(a: u16, b: u16, x: u16, y: u16) -> bool
 
 // A row of three cells written, as far as the table has them.
 fn put_row(t: &mut [u16], i: usize, a: u16, b: u16, c: u16)
-    requires { ⌜ i < 65536 ⌝ }
+    requires { ⌜ i < shortRange ⌝ }
     ensures { λ _. ⌜ now (t .exit) ≡ putThree (now (t .entry)) i a b c ⌝ }
 {
-    put16(t, i * 3, a);
-    put16(t, i * 3 + 1, b);
-    put16(t, i * 3 + 2, c);
+    put16(t, i * ROW_CELLS, a);
+    put16(t, i * ROW_CELLS + 1, b);
+    put16(t, i * ROW_CELLS + 2, c);
 }
 
 // Row i is a tie of two loaders, in either order, on a name.
 fn tie_is(ties: &[u16], i: usize, one: u8, two: u8, name: u16) -> bool
-    requires { ⌜ i < 65536 ⌝ }
+    requires { ⌜ i < shortRange ⌝ }
     ensures { λ r. ⌜ r ≡ tieIs one two name (tieAt (now (ties .entry)) i) ⌝ }
 {
-    let first = at16(ties, i * 3);
-    let second = at16(ties, i * 3 + 1);
+    let first = at16(ties, i * ROW_CELLS);
+    let second = at16(ties, i * ROW_CELLS + 1);
     let near = from8(one);
     let far = from8(two);
-    if at16(ties, i * 3 + 2) != name {
+    if at16(ties, i * ROW_CELLS + 2) != name {
         return false;
     }
     if are_equal(first, second, near, far) {
@@ -88,16 +96,16 @@ pub fn add_tie(ties: &mut [u16], count: u16, one: u8, two: u8, name: u16) -> u32
 
 // Row i is a loader's subtype constraint on two names.
 fn subtype_is(subtypes: &[u16], i: usize, loader: u8, low: u16, high: u16) -> bool
-    requires { ⌜ i < 65536 ⌝ }
+    requires { ⌜ i < shortRange ⌝ }
     ensures { λ r. ⌜ r ≡ subtypeIs loader (note low high) (subtypeAt (now (subtypes .entry)) i) ⌝ }
 {
     if are_equal(
-        at16(subtypes, i * 3),
-        at16(subtypes, i * 3 + 1),
+        at16(subtypes, i * ROW_CELLS),
+        at16(subtypes, i * ROW_CELLS + 1),
         from8(loader),
         low,
     ) {
-        return at16(subtypes, i * 3 + 2) == high;
+        return at16(subtypes, i * ROW_CELLS + 2) == high;
     }
     false
 }
@@ -141,10 +149,10 @@ pub fn add_subtypes(
     ensures { λ r. ⌜ r ≡ counted (roomy (now (subtypes .entry))) (count + length (newNotesIn (now (subtypes .entry)) count loader (now (notes .entry)) «note_count»)) ⌝ }
     ensures { λ _. ⌜ now (subtypes .exit) ≡ notesPosted (now (subtypes .entry)) count (newNotesIn (now (subtypes .entry)) count loader (now (notes .entry)) «note_count») ⌝ }
 {
-    if subtypes.len() < 768 {
+    if subtypes.len() < SUBTYPES_LENGTH {
         return Added::Full;
     }
-    if 256 < count {
+    if SUBTYPE_LIMIT < count {
         return Added::Full;
     }
     let n = wide16(note_count);
@@ -155,10 +163,10 @@ pub fn add_subtypes(
             subtypes,
             total,
             loader,
-            at16(notes, i * 2),
-            at16(notes, i * 2 + 1),
+            at16(notes, i * NOTE_CELLS),
+            at16(notes, i * NOTE_CELLS + 1),
         );
-        if 256 < next {
+        if SUBTYPE_ROWS < next {
             return Added::Full;
         }
         total = next as u16;

@@ -5,6 +5,7 @@ use cells::put16;
 ghost use mathlib.Core.Path.{_≡_};
 ghost use Prim.Native.Nat.{_+_, _<_, _≤_};
 ghost use lib.ListN.{length};
+ghost use Rattle.constraints.specs.Nodes.{placeLimit};
 ghost use Rattle.constraints.specs.Groups.{Rooted};
 ghost use Rattle.constraints.specs.Joining.{Joined};
 ghost use Rattle.constraints.specs.Search.{startOf, Stamped, Queued, Visited, Expanded, Searched};
@@ -18,7 +19,7 @@ fn visit(
     queue: &mut [u16],
     tail: usize,
 ) -> usize
-    requires { ⌜ (group < 1280) × (0 < stamp) × Queued cached stamp (now marks) (now queue) tail ⌝ }
+    requires { ⌜ (group < placeLimit) × (0 < stamp) × Queued cached stamp (now marks) (now queue) tail ⌝ }
     ensures { λ r. ⌜ Visited cached stamp group (now (marks .entry)) (now (queue .entry)) tail (now (marks .exit)) (now (queue .exit)) r ⌝ }
 {
     if at16(marks, group) == stamp {
@@ -45,7 +46,7 @@ fn expand(
     queue: &mut [u16],
     tail: usize,
 ) -> usize
-    requires { ⌜ (group < 1280) × (cached + noted + noted ≤ 1280) × (0 < stamp) × Rooted (now groups) (cached + noted + noted) × Joined (startOf (now groups) cached) noted (now heads) (now nexts) × Queued cached stamp (now marks) (now queue) tail ⌝ }
+    requires { ⌜ (group < placeLimit) × (cached + noted + noted ≤ placeLimit) × (0 < stamp) × Rooted (now groups) (cached + noted + noted) × Joined (startOf (now groups) cached) noted (now heads) (now nexts) × Queued cached stamp (now marks) (now queue) tail ⌝ }
     ensures { λ r. ⌜ Expanded (now (groups .entry)) cached noted stamp group (now (marks .entry)) (now (queue .entry)) tail (now (marks .exit)) (now (queue .exit)) r ⌝ }
 {
     let mut queued = tail;
@@ -71,7 +72,7 @@ pub(crate) fn search(
     marks: &mut [u16],
     queue: &mut [u16],
 )
-    requires { ⌜ (a < 1280) × (cached + noted + noted ≤ 1280) × (0 < stamp) × Rooted (now groups) (cached + noted + noted) × Joined (startOf (now groups) cached) noted (now heads) (now nexts) × Stamped 1280 a (now marks) × (a < stamp) × (length (now queue) ≡ 1280) ⌝ }
+    requires { ⌜ (a < placeLimit) × (cached + noted + noted ≤ placeLimit) × (0 < stamp) × Rooted (now groups) (cached + noted + noted) × Joined (startOf (now groups) cached) noted (now heads) (now nexts) × Stamped placeLimit a (now marks) × (a < stamp) × (length (now queue) ≡ placeLimit) ⌝ }
     ensures { λ _. ⌜ Searched (now (groups .entry)) cached noted stamp a (now (marks .exit)) ⌝ }
 {
     let mut tail = expand(

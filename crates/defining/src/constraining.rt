@@ -4,11 +4,26 @@ use cells::at16;
 use constraints::Added;
 use constraints::add_subtypes;
 use definition::Refusal;
+use definition::numbers::CACHE_LENGTH;
+use definition::numbers::CACHE_LIMIT;
+use definition::numbers::CLASS_LIMIT;
+use definition::numbers::COUNT_CACHE;
+use definition::numbers::COUNT_CLASSES;
+use definition::numbers::COUNT_KEPT;
+use definition::numbers::COUNT_SUBTYPES;
+use definition::numbers::COUNT_TIES;
+use definition::numbers::COUNTS_LENGTH;
+use definition::numbers::FIELD_LIMIT;
+use definition::numbers::KEPT_LENGTH;
+use definition::numbers::TIE_LIMIT;
+use definition::numbers::WORD_CLASH;
+use definition::numbers::WORD_FULL;
 ghost use mathlib.Core.Path.{_≡_};
 ghost use mathlib.Core.Option.{some};
 ghost use Prim.Native.Nat.{_+_, _<_, _≤_};
 ghost use lib.ListN.{length, getD};
 ghost use lib.Dec.{leb};
+ghost use Rattle.definition.specs.Numbers.{classLimit, keptLimit, cacheLimit, tieLimit, subtypeLimit, fileLimit, memberLimit, countClasses, countKept, countCache, subtypesLength};
 ghost use Rattle.definition.specs.Lists.{rows};
 ghost use Rattle.definition.specs.Tables.{tieAt, subtypeAt};
 ghost use Rattle.definition.specs.Requests.{at};
@@ -19,6 +34,7 @@ ghost use Rattle.classfile.specs.Reading.{superName, methodCount, quickFile};
 ghost use Rattle.resolution.specs.Quick.{quickBase};
 ghost use Rattle.constraints.specs.Posting.{noteAt};
 ghost use Rattle.entries.specs.World.{worldIn, world, baseWith, Searchable, Loadable};
+ghost use Rattle.defining.specs.Posting.{triedTiesLength};
 ghost use Rattle.defining.specs.Stages.{roomFor, postedFor, Decided};
 
 // What is decided of a class: it is refused, or it is to be added with this loader and so many ties and subtype constraints in all.
@@ -37,23 +53,23 @@ fn has_room(
     file: &[u8],
     tied: u16,
 ) -> bool
-    requires { ⌜ length (now file) ≤ 4096 ⌝ }
+    requires { ⌜ length (now file) ≤ fileLimit ⌝ }
     ensures { λ r. ⌜ r ≡ roomFor (quickBase (now (counts .entry)) (now (classes .entry)) (now (kept .entry)) (now (cache .entry))) (now (counts .entry)) (now (file .entry)) p tied ⌝ }
 {
-    if 16384 < cells::wide16(at16(counts, 1)) + file.len() {
+    if KEPT_LENGTH < cells::wide16(at16(counts, COUNT_KEPT)) + file.len() {
         return false;
     }
-    if 64 <= at16(counts, 0) {
+    if CLASS_LIMIT <= at16(counts, COUNT_CLASSES) {
         return false;
     }
-    if 256 <= at16(counts, 2) {
+    if CACHE_LIMIT <= at16(counts, COUNT_CACHE) {
         return false;
     }
-    if 256 < tied {
+    if TIE_LIMIT < tied {
         return false;
     }
     let own = cells::from16(cells::from8(classfile::field_count(file)));
-    resolution::size_of(counts, classes, kept, cache, p) + own <= 16
+    resolution::size_of(counts, classes, kept, cache, p) + own <= FIELD_LIMIT
 }
 
 // The store with the file's class, below p, and with the rows of these tables agrees.
@@ -70,12 +86,12 @@ fn class_agrees(
     subtypes: &[u16],
     noted: u16,
 ) -> bool
-    requires { ⌜ Searchable (now counts) (now classes) (now kept) (now cache) × (getD (now counts) 0 0 < 64) × (getD (now counts) 2 0 < 256) × (tied ≤ 256) × (noted ≤ 256) × (find (quickBase (now counts) (now classes) (now kept) (now cache) .cache) (at loader (superName (now file))) ≡ some p) ⌝ }
+    requires { ⌜ Searchable (now counts) (now classes) (now kept) (now cache) × (getD (now counts) countClasses 0 < classLimit) × (getD (now counts) countCache 0 < cacheLimit) × (tied ≤ tieLimit) × (noted ≤ subtypeLimit) × (find (quickBase (now counts) (now classes) (now kept) (now cache) .cache) (at loader (superName (now file))) ≡ some p) ⌝ }
     ensures { λ r. ⌜ r ≡ agrees (world (baseWith (quickBase (now (counts .entry)) (now (classes .entry)) (now (kept .entry)) (now (cache .entry))) (classOf loader (quickFile (now (file .entry))))) (rows (tieAt (now (ties .entry))) tied 0) (rows (subtypeAt (now (subtypes .entry))) noted 0)) ⌝ }
 {
-    let class = at16(counts, 0);
-    let mut counted = [0u16; 8];
-    let mut trial = [0u16; 768];
+    let class = at16(counts, COUNT_CLASSES);
+    let mut counted = [0u16; COUNTS_LENGTH];
+    let mut trial = [0u16; CACHE_LENGTH];
     entries::enter(
         counts,
         cache,
@@ -85,13 +101,13 @@ fn class_agrees(
         &mut counted,
         &mut trial,
     );
-    let mut supers = [0u8; 64];
+    let mut supers = [0u8; CLASS_LIMIT as usize];
     resolution::fill_supers(&mut supers, &counted, classes, kept, &trial);
     cells::put8(&mut supers, cells::wide16(class), (p + 1) as u8);
     constraints::agree(
         &supers,
         &trial,
-        at16(&counted, 2),
+        at16(&counted, COUNT_CACHE),
         ties,
         tied,
         subtypes,
@@ -115,8 +131,8 @@ pub(crate) fn decide_constraints(
     new_ties: &mut [u16],
     new_subtypes: &mut [u16],
 ) -> Defining
-    requires { ⌜ Loadable (now counts) (now classes) (now kept) (now cache) (now ties) (now subtypes) × (length (now file) ≤ 4096) × (methodCount (now file) ≤ 8) × (length (now «new_ties») ≡ 816) × (length (now «new_subtypes») ≡ 768) × (find (quickBase (now counts) (now classes) (now kept) (now cache) .cache) (at loader (superName (now file))) ≡ some p) ⌝ }
-    ensures { λ r. ⌜ Decided r (postedFor (leb (getD (now (counts .entry)) 1 0 + length (now (file .entry))) 16384) (classOf loader (quickFile (now (file .entry)))) (worldIn (now (counts .entry)) (now (classes .entry)) (now (kept .entry)) (now (cache .entry)) (now (ties .entry)) (now (subtypes .entry))) (rows (noteAt (now (notes .entry))) «note_count» 0) p) (now (counts .entry)) (now (ties .entry)) (now (subtypes .entry)) (now («new_ties» .exit)) (now («new_subtypes» .exit)) (worldIn (now (counts .entry)) (now (classes .entry)) (now (kept .entry)) (now (cache .entry)) (now (ties .entry)) (now (subtypes .entry))) (classOf loader (quickFile (now (file .entry)))) ⌝ }
+    requires { ⌜ Loadable (now counts) (now classes) (now kept) (now cache) (now ties) (now subtypes) × (length (now file) ≤ fileLimit) × (methodCount (now file) ≤ memberLimit) × (length (now «new_ties») ≡ triedTiesLength) × (length (now «new_subtypes») ≡ subtypesLength) × (find (quickBase (now counts) (now classes) (now kept) (now cache) .cache) (at loader (superName (now file))) ≡ some p) ⌝ }
+    ensures { λ r. ⌜ Decided r (postedFor (leb (getD (now (counts .entry)) countKept 0 + length (now (file .entry))) keptLimit) (classOf loader (quickFile (now (file .entry)))) (worldIn (now (counts .entry)) (now (classes .entry)) (now (kept .entry)) (now (cache .entry)) (now (ties .entry)) (now (subtypes .entry))) (rows (noteAt (now (notes .entry))) «note_count» 0) p) (now (counts .entry)) (now (ties .entry)) (now (subtypes .entry)) (now («new_ties» .exit)) (now («new_subtypes» .exit)) (worldIn (now (counts .entry)) (now (classes .entry)) (now (kept .entry)) (now (cache .entry)) (now (ties .entry)) (now (subtypes .entry))) (classOf loader (quickFile (now (file .entry)))) ⌝ }
 {
     entries::write_cells(new_ties, 0, ties);
     entries::write_cells(new_subtypes, 0, subtypes);
@@ -126,17 +142,23 @@ pub(crate) fn decide_constraints(
         kept,
         cache,
         new_ties,
-        at16(counts, 3),
+        at16(counts, COUNT_TIES),
         loader,
         p,
         file,
     );
-    let added = add_subtypes(new_subtypes, at16(counts, 4), loader, notes, note_count);
+    let added = add_subtypes(
+        new_subtypes,
+        at16(counts, COUNT_SUBTYPES),
+        loader,
+        notes,
+        note_count,
+    );
     let Added::Count(noted) = added else {
-        return Defining::Refuse(Refusal::Word(10));
+        return Defining::Refuse(Refusal::Word(WORD_FULL));
     };
     if !has_room(counts, classes, kept, cache, p, file, tied) {
-        return Defining::Refuse(Refusal::Word(10));
+        return Defining::Refuse(Refusal::Word(WORD_FULL));
     }
     if !class_agrees(
         counts,
@@ -151,7 +173,7 @@ pub(crate) fn decide_constraints(
         new_subtypes,
         noted,
     ) {
-        return Defining::Refuse(Refusal::Word(9));
+        return Defining::Refuse(Refusal::Word(WORD_CLASH));
     }
     Defining::Add(loader, tied, noted)
 }

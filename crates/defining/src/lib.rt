@@ -7,6 +7,21 @@ use constraining::Defining;
 use constraining::decide_constraints;
 use definition::Refusal;
 use definition::Reply;
+use definition::numbers::COUNT_CACHE;
+use definition::numbers::COUNT_CLASSES;
+use definition::numbers::COUNT_KEPT;
+use definition::numbers::FILE_LIMIT;
+use definition::numbers::LOADER_LIMIT;
+use definition::numbers::MEMBER_LIMIT;
+use definition::numbers::NOTE_CELLS;
+use definition::numbers::ROW_CELLS;
+use definition::numbers::SUBTYPES_LENGTH;
+use definition::numbers::TIE_LIMIT;
+use definition::numbers::TIES_LENGTH;
+use definition::numbers::WORD_BROKEN;
+use definition::numbers::WORD_FILE;
+use definition::numbers::WORD_UNKNOWN;
+use definition::numbers::WORD_UNVERIFIED;
 use superclasses::Above;
 use superclasses::find_super;
 use verifier::Verified;
@@ -14,6 +29,7 @@ ghost use mathlib.Core.Path.{_≡_};
 ghost use Prim.Native.Nat.{_+_, _≤_};
 ghost use lib.ListN.{length, getD};
 ghost use lib.Dec.{leb};
+ghost use Rattle.definition.specs.Numbers.{keptLimit, fileLimit, memberLimit, countKept, subtypesLength};
 ghost use Rattle.definition.specs.Lists.{rows};
 ghost use Rattle.definition.specs.Tables.{tables};
 ghost use Rattle.definition.specs.Calls.{done, callDefine, perform};
@@ -21,8 +37,15 @@ ghost use Rattle.definition.specs.File.{classOf};
 ghost use Rattle.classfile.specs.Reading.{methodCount, quickFile};
 ghost use Rattle.constraints.specs.Posting.{noteAt};
 ghost use Rattle.entries.specs.World.{worldIn, Loadable};
+ghost use Rattle.defining.specs.Posting.{triedTiesLength};
 ghost use Rattle.defining.specs.Stages.{placedFor, Decided};
 ghost use Rattle.defining.specs.Writing.{Planned};
+
+// The verifier makes at most one note for each byte of a file.
+const NOTES_LENGTH: usize = FILE_LIMIT * NOTE_CELLS;
+
+// Cells for all ties that may be there and two more for each method of a file.
+const TRIED_TIES_LENGTH: usize = (TIE_LIMIT as usize + 2 * MEMBER_LIMIT as usize) * ROW_CELLS;
 
 // The superclass, then the constraints, of a file that was read and verified.
 fn decide_class(
@@ -39,8 +62,8 @@ fn decide_class(
     new_ties: &mut [u16],
     new_subtypes: &mut [u16],
 ) -> Defining
-    requires { ⌜ Loadable (now counts) (now classes) (now kept) (now cache) (now ties) (now subtypes) × (length (now file) ≤ 4096) × (methodCount (now file) ≤ 8) × (length (now «new_ties») ≡ 816) × (length (now «new_subtypes») ≡ 768) ⌝ }
-    ensures { λ r. ⌜ Decided r (placedFor (leb (getD (now (counts .entry)) 1 0 + length (now (file .entry))) 16384) (classOf loader (quickFile (now (file .entry)))) (worldIn (now (counts .entry)) (now (classes .entry)) (now (kept .entry)) (now (cache .entry)) (now (ties .entry)) (now (subtypes .entry))) (rows (noteAt (now (notes .entry))) «note_count» 0)) (now (counts .entry)) (now (ties .entry)) (now (subtypes .entry)) (now («new_ties» .exit)) (now («new_subtypes» .exit)) (worldIn (now (counts .entry)) (now (classes .entry)) (now (kept .entry)) (now (cache .entry)) (now (ties .entry)) (now (subtypes .entry))) (classOf loader (quickFile (now (file .entry)))) ⌝ }
+    requires { ⌜ Loadable (now counts) (now classes) (now kept) (now cache) (now ties) (now subtypes) × (length (now file) ≤ fileLimit) × (methodCount (now file) ≤ memberLimit) × (length (now «new_ties») ≡ triedTiesLength) × (length (now «new_subtypes») ≡ subtypesLength) ⌝ }
+    ensures { λ r. ⌜ Decided r (placedFor (leb (getD (now (counts .entry)) countKept 0 + length (now (file .entry))) keptLimit) (classOf loader (quickFile (now (file .entry)))) (worldIn (now (counts .entry)) (now (classes .entry)) (now (kept .entry)) (now (cache .entry)) (now (ties .entry)) (now (subtypes .entry))) (rows (noteAt (now (notes .entry))) «note_count» 0)) (now (counts .entry)) (now (ties .entry)) (now (subtypes .entry)) (now («new_ties» .exit)) (now («new_subtypes» .exit)) (worldIn (now (counts .entry)) (now (classes .entry)) (now (kept .entry)) (now (cache .entry)) (now (ties .entry)) (now (subtypes .entry))) (classOf loader (quickFile (now (file .entry)))) ⌝ }
 {
     let above = find_super(counts, classes, kept, cache, loader, file);
     match above {
@@ -78,7 +101,7 @@ fn decide_define(
     new_ties: &mut [u16],
     new_subtypes: &mut [u16],
 ) -> Defining
-    requires { ⌜ (length (now «new_ties») ≡ 816) × (length (now «new_subtypes») ≡ 768) ⌝ }
+    requires { ⌜ (length (now «new_ties») ≡ triedTiesLength) × (length (now «new_subtypes») ≡ subtypesLength) ⌝ }
     ensures { λ r. ⌜ Planned r (tables (now (counts .entry)) (now (classes .entry)) (now (kept .entry)) (now (cache .entry)) (now (ties .entry)) (now (subtypes .entry)) (now (objects .entry)) (now (frames .entry))) loader (now (file .entry)) (now («new_ties» .exit)) (now («new_subtypes» .exit)) ⌝ }
 {
     if store::is_broken(
@@ -91,17 +114,17 @@ fn decide_define(
         objects,
         frames,
     ) {
-        return Defining::Refuse(Refusal::Word(1));
+        return Defining::Refuse(Refusal::Word(WORD_BROKEN));
     }
-    if 16 <= loader {
-        return Defining::Refuse(Refusal::Word(3));
+    if LOADER_LIMIT <= loader {
+        return Defining::Refuse(Refusal::Word(WORD_UNKNOWN));
     }
     if !classfile::reads(file) {
-        return Defining::Refuse(Refusal::Word(2));
+        return Defining::Refuse(Refusal::Word(WORD_FILE));
     }
-    let mut notes = [0u16; 8192];
+    let mut notes = [0u16; NOTES_LENGTH];
     let Verified::Notes(n) = verifier::verify_class(file, &mut notes) else {
-        return Defining::Refuse(Refusal::Word(6));
+        return Defining::Refuse(Refusal::Word(WORD_UNVERIFIED));
     };
     decide_class(
         counts,
@@ -135,8 +158,8 @@ pub fn define(
 ) -> Reply
     ensures { λ r. ⌜ done r (tables (now (counts .exit)) (now (classes .exit)) (now (kept .exit)) (now (cache .exit)) (now (ties .exit)) (now (subtypes .exit)) (now (objects .entry)) (now (frames .entry))) ≡ perform (callDefine loader (now (file .entry))) (tables (now (counts .entry)) (now (classes .entry)) (now (kept .entry)) (now (cache .entry)) (now (ties .entry)) (now (subtypes .entry)) (now (objects .entry)) (now (frames .entry))) ⌝ }
 {
-    let mut new_ties = [0u16; 816];
-    let mut new_subtypes = [0u16; 768];
+    let mut new_ties = [0u16; TRIED_TIES_LENGTH];
+    let mut new_subtypes = [0u16; SUBTYPES_LENGTH];
     let plan = decide_define(
         counts,
         classes,
@@ -154,11 +177,11 @@ pub fn define(
     match plan {
         Defining::Refuse(r) => Reply::Denied(r),
         Defining::Add(under, tied, noted) => {
-            entries::write_cells(ties, 0, &new_ties[0..768]);
+            entries::write_cells(ties, 0, &new_ties[0..TIES_LENGTH]);
             entries::write_cells(subtypes, 0, &new_subtypes);
-            let class = cells::at16(counts, 0);
-            let start = cells::at16(counts, 1);
-            let row = cells::at16(counts, 2);
+            let class = cells::at16(counts, COUNT_CLASSES);
+            let start = cells::at16(counts, COUNT_KEPT);
+            let row = cells::at16(counts, COUNT_CACHE);
             let size = file.len() as u16;
             let own = cells::from8(under);
             entries::put_three(classes, class, own, start, size);

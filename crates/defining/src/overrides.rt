@@ -4,13 +4,14 @@ use resolution::Found;
 ghost use mathlib.Core.Path.{_≡_};
 ghost use Prim.Native.Nat.{ℕ, _+_, _*_, _<_, _≤_};
 ghost use lib.ListN.{length};
+ghost use Rattle.definition.specs.Numbers.{loaderLimit, tieLimit, memberLimit, rowCells};
 ghost use Rattle.definition.specs.Lists.{rows};
 ghost use Rattle.definition.specs.Tables.{tieAt};
 ghost use Rattle.definition.specs.Loading.{overrideTie, overrideTies};
 ghost use Rattle.definition.specs.Classes.{loaderOf};
 ghost use Rattle.classfile.specs.Reading.{methodCount, methodIn, quickMethods};
 ghost use Rattle.resolution.specs.Quick.{quickBase};
-ghost use Rattle.defining.specs.Posting.{TiesPosted, methodLike};
+ghost use Rattle.defining.specs.Posting.{TiesPosted, methodLike, triedTiesLength};
 
 // Ties on argument and result between a loader and that of the nearest class, p or one upward, with a method alike, behind the first rows of a table.
 // Answers the new count.
@@ -27,7 +28,7 @@ fn post_override(
     argument: u16,
     result: u16,
 ) -> u16
-    requires { ⌜ (count < 65534) × ((count + 2) * 3 ≤ length (now ties)) × ((c : ℕ) → loaderOf (quickBase (now counts) (now classes) (now kept) (now cache)) c < 16) ⌝ }
+    requires { ⌜ (count < 65534) × ((count + 2) * rowCells ≤ length (now ties)) × ((c : ℕ) → loaderOf (quickBase (now counts) (now classes) (now kept) (now cache)) c < loaderLimit) ⌝ }
     ensures { λ r. ⌜ TiesPosted (overrideTie (quickBase (now (counts .entry)) (now (classes .entry)) (now (kept .entry)) (now (cache .entry))) loader p (rows (tieAt (now (ties .entry))) count 0) (methodLike name argument result)) (now (ties .entry)) count (now (ties .exit)) r ⌝ }
 {
     let Found::At(y) = resolution::nearest_method(
@@ -60,7 +61,7 @@ fn post_method(
     file: &[u8],
     j: u8,
 ) -> u16
-    requires { ⌜ (j < methodCount (now file)) × (count < 65534) × ((count + 2) * 3 ≤ length (now ties)) × ((c : ℕ) → loaderOf (quickBase (now counts) (now classes) (now kept) (now cache)) c < 16) ⌝ }
+    requires { ⌜ (j < methodCount (now file)) × (count < 65534) × ((count + 2) * rowCells ≤ length (now ties)) × ((c : ℕ) → loaderOf (quickBase (now counts) (now classes) (now kept) (now cache)) c < loaderLimit) ⌝ }
     ensures { λ r. ⌜ TiesPosted (overrideTie (quickBase (now (counts .entry)) (now (classes .entry)) (now (kept .entry)) (now (cache .entry))) loader p (rows (tieAt (now (ties .entry))) count 0) (methodIn (now (file .entry)) j)) (now (ties .entry)) count (now (ties .exit)) r ⌝ }
 {
     let MethodFound::At(_, place) = classfile::method_place(file, j) else {
@@ -96,7 +97,7 @@ pub(crate) fn post_methods(
     p: u32,
     file: &[u8],
 ) -> u16
-    requires { ⌜ (methodCount (now file) ≤ 8) × (count ≤ 256) × (length (now ties) ≡ 816) × ((c : ℕ) → loaderOf (quickBase (now counts) (now classes) (now kept) (now cache)) c < 16) ⌝ }
+    requires { ⌜ (methodCount (now file) ≤ memberLimit) × (count ≤ tieLimit) × (length (now ties) ≡ triedTiesLength) × ((c : ℕ) → loaderOf (quickBase (now counts) (now classes) (now kept) (now cache)) c < loaderLimit) ⌝ }
     ensures { λ r. ⌜ TiesPosted (overrideTies (quickBase (now (counts .entry)) (now (classes .entry)) (now (kept .entry)) (now (cache .entry))) loader p (rows (tieAt (now (ties .entry))) count 0) (quickMethods (now (file .entry)))) (now (ties .entry)) count (now (ties .exit)) r ⌝ }
 {
     let n = classfile::method_count(file);

@@ -1,5 +1,7 @@
 // The direct superclass of a class that is to be defined, and what its file may not declare below it.
 use definition::Refusal;
+use definition::numbers::WORD_HIDDEN;
+use definition::numbers::WORD_TAKEN;
 use resolution::Found;
 ghost use mathlib.Core.Path.{_≡_};
 ghost use Rattle.definition.specs.Lists.{any};
@@ -58,14 +60,14 @@ pub(crate) fn find_super(
     let under = cells::from8(loader);
     let own = resolution::find(counts, cache, under, classfile::class_name(file));
     let Found::Absent = own else {
-        return Above::Refuse(Refusal::Word(4));
+        return Above::Refuse(Refusal::Word(WORD_TAKEN));
     };
     let name = classfile::super_name(file);
     let Found::At(p) = resolution::find(counts, cache, under, name) else {
         return Above::Refuse(Refusal::Wanted(loader, name));
     };
     if hides_any(counts, classes, kept, cache, file, p) {
-        return Above::Refuse(Refusal::Word(8));
+        return Above::Refuse(Refusal::Word(WORD_HIDDEN));
     }
     Above::Class(p)
 }

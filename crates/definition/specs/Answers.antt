@@ -12,6 +12,7 @@ pub use Rattle.definition.specs.declared.Answer.{Answer}
 pub use Rattle.definition.specs.declared.Answer.the-variants.{Idle, Ran, Finished, Refused}
 pub use Rattle.definition.specs.declared.Reply.{Reply}
 pub use Rattle.definition.specs.declared.Reply.the-variants.{Accepted, Defined, Stepped, RanFor, Denied}
+pub use Rattle.definition.specs.declared.Details.{Details}
 
 -- Ints: 32 bits, read as signed where people read them
 
@@ -56,36 +57,40 @@ countOf (Stepped a) = 0
 countOf (RanFor n a) = n
 countOf (Denied r) = 0
 
--- A printed line's numbers: the refusal's, then three details
+-- An answer's numbers, as a host's cells hold them and a script's line prints them: the refusal's, then three details; an int is its 32 bits
 
-pub record Details : Type 0 where
-  pub refusal : ℕ
-  pub one : ℤ
-  pub two : ℤ
-  pub three : ℤ
-
-abbrev pub line : ℕ → ℤ → ℤ → ℤ → Details
+abbrev pub line : ℕ → ℕ → ℕ → ℕ → Details
 line n a b c = record { refusal = n; one = a; two = b; three = c }
 
 -- wanted: loader, name, and the task whose step wants it, 0 if no step does
 unfoldable pub refusalDetails : ℕ → Refusal → Details
-refusalDetails k (Wanted l n) = line wordWanted (pos l) (pos n) (pos k)
-refusalDetails k (Word n) = line n (pos 0) (pos 0) (pos 0)
+refusalDetails k (Wanted l n) = line wordWanted l n k
+refusalDetails k (Word n) = line n 0 0 0
 
 -- idle, ran or finished as 0, 1, 2; the task; the result or 0. `turn` is the task whose turn it was.
 unfoldable pub stepDetails : ℕ → Answer → Details
-stepDetails turn Idle = line 0 (pos 0) (pos 0) (pos 0)
-stepDetails turn (Ran k) = line 0 (pos 1) (pos k) (pos 0)
-stepDetails turn (Finished k n) = line 0 (pos 2) (pos k) (signed n)
+stepDetails turn Idle = line 0 0 0 0
+stepDetails turn (Ran k) = line 0 1 k 0
+stepDetails turn (Finished k n) = line 0 2 k n
 stepDetails turn (Refused r) = refusalDetails turn r
 
--- a run's are those of its last answer; `countOf` gives its count
+-- a run's are those of its last answer; `countOf` gives its count, `endsIn` the number that it ends in, and `numberOf` its own, which is 0
 unfoldable pub details : ℕ → Reply → Details
-details turn Accepted = line 0 (pos 0) (pos 0) (pos 0)
-details turn (Defined c) = line 0 (pos c) (pos 0) (pos 0)
+details turn Accepted = line 0 0 0 0
+details turn (Defined c) = line 0 c 0 0
 details turn (Stepped a) = stepDetails turn a
 details turn (RanFor n a) = stepDetails turn a
 details turn (Denied r) = refusalDetails 0 r
+
+-- as people read them: the third may be an int
+pub record Shown : Type 0 where
+  pub refusal : ℕ
+  pub one : ℕ
+  pub two : ℕ
+  pub three : ℤ
+
+unfoldable pub shown : Details → Shown
+shown d = record { refusal = d .refusal; one = d .one; two = d .two; three = signed (d .three) }
 
 -- A value, or a refusal; in sequence, the first refusal
 

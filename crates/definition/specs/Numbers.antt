@@ -145,6 +145,10 @@ rowCells = 3
 abbrev pub valueCells : ℕ
 valueCells = 2
 
+-- a note of the verifier: the lower name, the higher name
+abbrev pub noteCells : ℕ
+noteCells = 2
+
 -- an object: its class, then its fields
 abbrev pub fieldsCell : ℕ
 fieldsCell = 1
@@ -178,6 +182,9 @@ countsLength = countFrames + taskLimit
 
 abbrev pub classesLength : ℕ
 classesLength = classLimit * rowCells
+
+abbrev pub keptLength : ℕ
+keptLength = keptLimit
 
 abbrev pub cacheLength : ℕ
 cacheLength = cacheLimit * rowCells
@@ -223,3 +230,19 @@ intRange = 4294967296
 -- ints below this are read as they are, others as negative
 abbrev pub signBit : ℕ
 signBit = 2147483648
+
+-- All of them, as src/numbers.rt lists its constants
+abbrev pub allNumbers : List ℕ
+allNumbers =
+    wordBroken ∷ wordFile ∷ wordUnknown ∷ wordTaken ∷ wordWanted ∷ wordUnverified
+    ∷ wordAbsent ∷ wordHidden ∷ wordClash ∷ wordFull ∷ wordNull ∷ wordBusy
+    ∷ wordMisnamed ∷ wordStuck ∷ nameInt ∷ nameObject ∷ loaderLimit ∷ taskLimit
+    ∷ classLimit ∷ keptLimit ∷ cacheLimit ∷ tieLimit ∷ subtypeLimit ∷ objectLimit
+    ∷ fieldLimit ∷ frameLimit ∷ operandLimit ∷ localCount ∷ runLimit ∷ versionOne
+    ∷ fileLimit ∷ memberLimit ∷ codeLimit ∷ countClasses ∷ countKept ∷ countCache
+    ∷ countTies ∷ countSubtypes ∷ countObjects ∷ countFrames ∷ rowCells ∷ valueCells ∷ noteCells
+    ∷ fieldsCell ∷ objectCells ∷ methodCell ∷ pointCell ∷ depthCell ∷ localsCell
+    ∷ operandsCell ∷ frameCells ∷ countsLength ∷ classesLength ∷ keptLength ∷ cacheLength
+    ∷ tiesLength ∷ subtypesLength ∷ objectsLength ∷ framesLength ∷ kindEmpty ∷ kindInt
+    ∷ kindNull ∷ kindObject ∷ byteRange ∷ shortRange ∷ intRange ∷ signBit
+    ∷ []

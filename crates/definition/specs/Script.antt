@@ -8,7 +8,7 @@ use lib.IntN.{ℤ, pos, negsuc}
 use lib.Dec.{eqb, leb, ltb}
 use Rattle.definition.specs.Numbers.{shortRange, intRange, signBit}
 use Rattle.definition.specs.Maybe.{_>>=_, need}
-use Rattle.definition.specs.Answers.{Details, Reply, details}
+use Rattle.definition.specs.Answers.{signed, Details, Reply, details}
 use Rattle.definition.specs.Tables.{Tables, view}
 use Rattle.definition.specs.Calls.{turn, Done, boot, Call, callDefine, callRecord, callStart, callStep, callDrop, perform}
 
@@ -115,9 +115,11 @@ unfoldable pub printedInt : ℤ → List ℕ
 printedInt (pos n) = printedNat n
 printedInt (negsuc n) = 45 ∷ printedNat (suc n)
 
--- letter, refusal number, three details
+-- letter, refusal number, three details, of which the third may be an int
 unfoldable pub printedLine : ℕ → Details → List ℕ
-printedLine b d = b ∷ 32 ∷ printedNat (d .refusal) ++ (32 ∷ printedInt (d .one)) ++ (32 ∷ printedInt (d .two)) ++ (32 ∷ printedInt (d .three)) ++ (10 ∷ [])
+printedLine b d =
+    b ∷ 32 ∷ printedNat (d .refusal) ++ (32 ∷ printedInt (pos (d .one))) ++ (32 ∷ printedInt (pos (d .two))) ++ (32 ∷ printedInt (signed (d .three)))
+    ++ (10 ∷ [])
 
 -- A line carried out: the tables after it and what is printed; a line it can't read ends the script
 

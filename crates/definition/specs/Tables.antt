@@ -5,7 +5,7 @@ use mathlib.Core.List.{List, [], _∷_, map}
 use Prim.Native.Nat.{ℕ, _+_, _*_}
 use lib.ListN.{length, take, drop, getD, set}
 use lib.Dec.{eqb, leb}
-use Rattle.definition.specs.Numbers.{keptLimit, fieldLimit, frameLimit, localCount, countClasses, countKept, countCache, countTies, countSubtypes, countObjects, countFrames, rowCells, valueCells, objectCells, fieldsCell, frameCells, methodCell, pointCell, depthCell, localsCell, operandsCell, countsLength, classesLength, cacheLength, tiesLength, subtypesLength, objectsLength, framesLength, kindEmpty, kindInt, kindNull, kindObject}
+use Rattle.definition.specs.Numbers.{fieldLimit, frameLimit, localCount, countClasses, countKept, countCache, countTies, countSubtypes, countObjects, countFrames, rowCells, valueCells, objectCells, fieldsCell, frameCells, methodCell, pointCell, depthCell, localsCell, operandsCell, countsLength, classesLength, keptLength, cacheLength, tiesLength, subtypesLength, objectsLength, framesLength, kindEmpty, kindInt, kindNull, kindObject}
 use Rattle.definition.specs.Lists.{every, rows, writeRows, stack, writeStack}
 use Rattle.definition.specs.Maybe.{_>>=_, need}
 use Rattle.definition.specs.Requests.{at}
@@ -33,7 +33,7 @@ unfoldable pub shaped : Tables → Bool
 shaped t = every
     (eqb (length (t .counts)) countsLength
     ∷ eqb (length (t .classes)) classesLength
-    ∷ eqb (length (t .kept)) keptLimit
+    ∷ eqb (length (t .kept)) keptLength
     ∷ eqb (length (t .cache)) cacheLength
     ∷ eqb (length (t .ties)) tiesLength
     ∷ eqb (length (t .subtypes)) subtypesLength

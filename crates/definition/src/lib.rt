@@ -1,4 +1,5 @@
 // The answers and instructions of the tariff class machine, as values that code and definitions share.
+pub mod numbers;
 
 // What a call refuses with: the class it wants, as a loader and a name (word 5), or another word by its number.
 pub enum Refusal {
@@ -21,6 +22,14 @@ pub enum Reply {
     Stepped(Answer),
     RanFor(u16, Answer),
     Denied(Refusal),
+}
+
+// A call's answer as numbers: the refusal's number, 0 if there is none, then three details. An int is its 32 bits.
+pub struct Details {
+    pub refusal: u8,
+    pub one: u32,
+    pub two: u32,
+    pub three: u32,
 }
 
 // What an opcode byte is.

@@ -1,4 +1,6 @@
 // The publishers' desk: the file and verifier checks of a byte range, for a program in C.
+use definition::numbers::WORD_FILE;
+use definition::numbers::WORD_UNVERIFIED;
 use verifier::Verified;
 ghost use mathlib.Core.Path.{_≡_};
 ghost use Rattle.definition.specs.Desk.{deskNumber};
@@ -10,11 +12,11 @@ pub extern "C" fn tariff_check(bytes: &[u8]) -> u8
     ensures { λ r. ⌜ r ≡ deskNumber (now (bytes .entry)) ⌝ }
 {
     if !classfile::reads(bytes) {
-        return 2;
+        return WORD_FILE;
     }
     let mut notes = [0u16; 2];
     let Verified::Notes(_) = verifier::verify_class(bytes, &mut notes) else {
-        return 6;
+        return WORD_UNVERIFIED;
     };
     0
 }

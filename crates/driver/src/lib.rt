@@ -5,6 +5,7 @@ ghost use mathlib.Core.List.{List};
 ghost use Prim.Native.Nat.{ℕ, _+_, _*_, _<_, _≤_};
 ghost use lib.ListN.{length};
 ghost use lib.Dec.{leb};
+ghost use Rattle.definition.specs.Numbers.{rowCells};
 ghost use Rattle.definition.specs.Instructions.{pick};
 ghost use Rattle.definition.specs.Tables.{tables};
 ghost use Rattle.definition.specs.Calls.{boot, callDefine, callStart};
@@ -16,6 +17,7 @@ use calls::Call;
 use definition::Answer;
 use definition::Refusal;
 use definition::Reply;
+use definition::numbers::WORD_WANTED;
 
 // Boot refused the tables, or so many calls were performed.
 pub enum Outcome {
@@ -41,7 +43,7 @@ fn refusal_number(refusal: Refusal) -> u32
     ensures { λ r. ⌜ r ≡ number refusal ⌝ }
 {
     match refusal {
-        Refusal::Wanted(_, _) => 5,
+        Refusal::Wanted(_, _) => WORD_WANTED,
         Refusal::Word(n) => cells::from16(cells::from8(n)),
     }
 }
@@ -85,7 +87,7 @@ fn tell(reply: Reply) -> Told
 
 // An answer written into row i, as far as the table has room.
 fn write_answer(answers: &mut [u32], i: usize, reply: Reply)
-    requires { ⌜ i * 3 + 2 < 18446744073709551616 ⌝ }
+    requires { ⌜ i * rowCells + 2 < 18446744073709551616 ⌝ }
     ensures { λ _. ⌜ now (answers .exit) ≡ putReply (now (answers .entry)) i reply ⌝ }
 {
     let place = i * 3;

@@ -1,4 +1,6 @@
 // Cells and rows written one after another, and a cache with one more entry on copies: what every call that loads goes by.
+use definition::numbers::COUNT_CACHE;
+use definition::numbers::ROW_CELLS;
 ghost use mathlib.Core.Path.{_≡_};
 ghost use Prim.Native.Nat.{_+_, _-_, _<_, _≤_};
 ghost use lib.ListN.{set};
@@ -47,7 +49,7 @@ pub fn write_bytes(t: &mut [u8], from: u16, bytes: &[u8])
 pub fn put_three(t: &mut [u16], i: u16, a: u16, b: u16, c: u16)
     ensures { λ _. ⌜ now (t .exit) ≡ putThree (now (t .entry)) i a b c ⌝ }
 {
-    let place = cells::wide16(i) * 3;
+    let place = cells::wide16(i) * ROW_CELLS;
     cells::put16(t, place, a);
     cells::put16(t, place + 1, b);
     cells::put16(t, place + 2, c);
@@ -68,7 +70,7 @@ pub fn enter(
 {
     write_cells(counted, 0, counts);
     write_cells(trial, 0, cache);
-    let entries = cells::at16(counts, 2);
-    cells::put16(counted, 2, std::num::wrapping_add_u16(entries, 1));
+    let entries = cells::at16(counts, COUNT_CACHE);
+    cells::put16(counted, COUNT_CACHE, std::num::wrapping_add_u16(entries, 1));
     put_three(trial, entries, loader, name, class);
 }

@@ -1,11 +1,16 @@
 // The one place that writes: ties are posted, and plans carried out.
 use definition::Answer;
+use definition::numbers::COUNT_OBJECTS;
+use definition::numbers::COUNT_TIES;
+use definition::numbers::FIELD_LIMIT;
+use definition::numbers::KIND_OBJECT;
 use instructions::Plan;
 use posting::Posting;
 ghost use mathlib.Core.Path.{_≡_};
 ghost use mathlib.Core.List.{[]};
 ghost use Prim.Native.Nat.{_+_, _-_, _<_, _≤_};
 ghost use lib.ListN.{length, getD, set};
+ghost use Rattle.definition.specs.Numbers.{tieLimit, objectLimit, fieldLimit, frameLimit, operandLimit, countTies, countObjects, countFrames, depthCell};
 ghost use Rattle.definition.specs.Lists.{writeRows};
 ghost use Rattle.definition.specs.Machine.{objectValue, newObject, entryFrame};
 ghost use Rattle.definition.specs.Tables.{tables, putTie, valueOf, sizeOf, putObject, putOperand, putLocal, putFrame, frameBase};
@@ -17,21 +22,21 @@ ghost use Rattle.execution.specs.Carried.{Left};
 
 // Ties posted: their rows and their count.
 pub(crate) fn post_ties(counts: &mut [u16], ties: &mut [u16], posting: Posting)
-    requires { ⌜ getD (now counts) 3 0 + length (toPost posting) ≤ 256 ⌝ }
-    ensures counted { λ _. ⌜ now (counts .exit) ≡ set (now (counts .entry)) 3 (getD (now (counts .entry)) 3 0 + length (toPost posting)) ⌝ }
-    ensures written { λ _. ⌜ now (ties .exit) ≡ writeRows putTie (toPost posting) (getD (now (counts .entry)) 3 0) (now (ties .entry)) ⌝ }
+    requires { ⌜ getD (now counts) countTies 0 + length (toPost posting) ≤ tieLimit ⌝ }
+    ensures counted { λ _. ⌜ now (counts .exit) ≡ set (now (counts .entry)) countTies (getD (now (counts .entry)) countTies 0 + length (toPost posting)) ⌝ }
+    ensures written { λ _. ⌜ now (ties .exit) ≡ writeRows putTie (toPost posting) (getD (now (counts .entry)) countTies 0) (now (ties .entry)) ⌝ }
 {
     if let Posting::Nothing = posting {
         return;
     }
-    let n = cells::at16(counts, 3);
+    let n = cells::at16(counts, COUNT_TIES);
     posting::write_ties(ties, n, posting);
-    cells::put16(counts, 3, n + posting::tie_number(posting));
+    cells::put16(counts, COUNT_TIES, n + posting::tie_number(posting));
 }
 
 // A value pushed: the frame goes on at point q with d operands and the value above them.
 fn push(frames: &mut [u32], b: u32, q: u32, d: u32, kind: u32, bits: u32)
-    requires { ⌜ d < 16 ⌝ }
+    requires { ⌜ d < operandLimit ⌝ }
     ensures { λ _. ⌜ now (frames .exit) ≡ putOperand b (moved (now (frames .entry)) b q (d + 1)) d (valueOf kind bits) ⌝ }
 {
     frames::write_moved(frames, b, q, d + 1);
@@ -48,9 +53,9 @@ fn store(frames: &mut [u32], b: u32, q: u32, d: u32, j: u8, kind: u32, bits: u32
 
 // A value given back to the frame in row m - 1 of a task, which is then its top frame.
 fn give(counts: &mut [u16], frames: &mut [u32], task: u8, m: u16, kind: u32, bits: u32)
-    requires { ⌜ (0 < m) × (getD (now frames) (frameBase task (m - 1) + 3) 0 < 16) ⌝ }
-    ensures counted { λ _. ⌜ now (counts .exit) ≡ set (now (counts .entry)) (6 + task) m ⌝ }
-    ensures written { λ _. ⌜ (let a = frameBase task (m - 1) in let d = getD (now (frames .entry)) (a + 3) 0 in now (frames .exit) ≡ putOperand a (set (now (frames .entry)) (a + 3) (d + 1)) d (valueOf kind bits)) ⌝ }
+    requires { ⌜ (0 < m) × (getD (now frames) (frameBase task (m - 1) + depthCell) 0 < operandLimit) ⌝ }
+    ensures counted { λ _. ⌜ now (counts .exit) ≡ set (now (counts .entry)) (countFrames + task) m ⌝ }
+    ensures written { λ _. ⌜ (let a = frameBase task (m - 1) in let d = getD (now (frames .entry)) (a + depthCell) 0 in now (frames .exit) ≡ putOperand a (set (now (frames .entry)) (a + depthCell) (d + 1)) d (valueOf kind bits)) ⌝ }
 {
     let a = frames::row(task, m - 1);
     let d = frames::depth(frames, a);
@@ -74,8 +79,8 @@ fn enter(
     kind: u32,
     bits: u32,
 )
-    requires { ⌜ m < 32 ⌝ }
-    ensures counted { λ _. ⌜ now (counts .exit) ≡ set (now (counts .entry)) (6 + task) (m + 2) ⌝ }
+    requires { ⌜ m < frameLimit ⌝ }
+    ensures counted { λ _. ⌜ now (counts .exit) ≡ set (now (counts .entry)) (countFrames + task) (m + 2) ⌝ }
     ensures written { λ _. ⌜ now (frames .exit) ≡ putFrame (moved (now (frames .entry)) b q d) (frameBase task (m + 1)) (entryFrame c j o (valueOf kind bits)) ⌝ }
 {
     frames::write_moved(frames, b, q, d);
@@ -93,10 +98,10 @@ pub(crate) fn write_new(
     o: u32,
     c: u32,
 )
-    requires { ⌜ sizeOf (quickBase (now counts) (now classes) (now kept) (now cache)) c ≤ 16 ⌝ }
+    requires { ⌜ sizeOf (quickBase (now counts) (now classes) (now kept) (now cache)) c ≤ fieldLimit ⌝ }
     ensures { λ _. ⌜ now (objects .exit) ≡ putObject (now (objects .entry)) o (newObject (quickBase (now (counts .entry)) (now (classes .entry)) (now (kept .entry)) (now (cache .entry))) c) ⌝ }
 {
-    let mut types = [0u16; 16];
+    let mut types = [0u16; FIELD_LIMIT as usize];
     let n = resolution::slot_types(&mut types, counts, classes, kept, cache, c);
     frames::write_object(objects, o, c, &types, n as u8);
 }
@@ -114,15 +119,15 @@ fn make(
     d: u32,
     c: u32,
 )
-    requires { ⌜ (d < 16) × (getD (now counts) 5 0 < 256) × (sizeOf (quickBase (now counts) (now classes) (now kept) (now cache)) c ≤ 16) ⌝ }
-    ensures counted { λ _. ⌜ now (counts .exit) ≡ set (now (counts .entry)) 5 (getD (now (counts .entry)) 5 0 + 1) ⌝ }
-    ensures made { λ _. ⌜ now (objects .exit) ≡ putObject (now (objects .entry)) (getD (now (counts .entry)) 5 0) (newObject (quickBase (now (counts .entry)) (now (classes .entry)) (now (kept .entry)) (now (cache .entry))) c) ⌝ }
-    ensures pushed { λ _. ⌜ now (frames .exit) ≡ putOperand b (moved (now (frames .entry)) b q (d + 1)) d (objectValue (getD (now (counts .entry)) 5 0)) ⌝ }
+    requires { ⌜ (d < operandLimit) × (getD (now counts) countObjects 0 < objectLimit) × (sizeOf (quickBase (now counts) (now classes) (now kept) (now cache)) c ≤ fieldLimit) ⌝ }
+    ensures counted { λ _. ⌜ now (counts .exit) ≡ set (now (counts .entry)) countObjects (getD (now (counts .entry)) countObjects 0 + 1) ⌝ }
+    ensures made { λ _. ⌜ now (objects .exit) ≡ putObject (now (objects .entry)) (getD (now (counts .entry)) countObjects 0) (newObject (quickBase (now (counts .entry)) (now (classes .entry)) (now (kept .entry)) (now (cache .entry))) c) ⌝ }
+    ensures pushed { λ _. ⌜ now (frames .exit) ≡ putOperand b (moved (now (frames .entry)) b q (d + 1)) d (objectValue (getD (now (counts .entry)) countObjects 0)) ⌝ }
 {
-    let n = cells::at16(counts, 5);
+    let n = cells::at16(counts, COUNT_OBJECTS);
     write_new(counts, classes, kept, cache, objects, cells::from16(n), c);
-    push(frames, b, q, d, 3, cells::from16(n));
-    cells::put16(counts, 5, n + 1);
+    push(frames, b, q, d, KIND_OBJECT, cells::from16(n));
+    cells::put16(counts, COUNT_OBJECTS, n + 1);
 }
 
 // A plan carried out: the top frame of the task, in row m, goes on at point q.
@@ -139,7 +144,7 @@ pub(crate) fn carry_out(
     q: u32,
     plan: Plan,
 ) -> Answer
-    requires { ⌜ (m < 32) × Fit (quickBase (now counts) (now classes) (now kept) (now cache)) (tables (now counts) (now classes) (now kept) (now cache) [] [] (now objects) (now frames)) task m plan ⌝ }
+    requires { ⌜ (m < frameLimit) × Fit (quickBase (now counts) (now classes) (now kept) (now cache)) (tables (now counts) (now classes) (now kept) (now cache) [] [] (now objects) (now frames)) task m plan ⌝ }
     ensures { λ r. ⌜ Left (quickBase (now (counts .entry)) (now (classes .entry)) (now (kept .entry)) (now (cache .entry))) (now (counts .entry)) (now (objects .entry)) (now (frames .entry)) task m b q plan r (now (counts .exit)) (now (objects .exit)) (now (frames .exit)) ⌝ }
 {
     match plan {

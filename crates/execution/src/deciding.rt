@@ -3,6 +3,8 @@ use crate::settling::Decision;
 use crate::settling::plain;
 use crate::settling::settle_access;
 use definition::Instruction;
+use definition::numbers::FRAME_LIMIT;
+use definition::numbers::WORD_STUCK;
 use instructions::Plan;
 use posting::Posting;
 use verifier::Reading;
@@ -10,6 +12,7 @@ ghost use mathlib.Core.Path.{_≡_};
 ghost use mathlib.Core.Bool.{false};
 ghost use Prim.Native.Nat.{suc, _+_, _<_};
 ghost use lib.ListN.{getD};
+ghost use Rattle.definition.specs.Numbers.{taskLimit, frameLimit, countFrames};
 ghost use Rattle.definition.specs.Tables.{tables, frameBase};
 ghost use Rattle.definition.specs.Broken.{broken};
 ghost use Rattle.execution.specs.Steps.{Chosen};
@@ -32,7 +35,7 @@ fn act(
     loader: u8,
     i: Instruction,
 ) -> Decision
-    requires { ⌜ Usable (now counts) (now classes) (now kept) (now cache) (now ties) × (m < 32) ⌝ }
+    requires { ⌜ Usable (now counts) (now classes) (now kept) (now cache) (now ties) × (m < frameLimit) ⌝ }
     ensures { λ r. ⌜ Acted (now (counts .entry)) (now (classes .entry)) (now (kept .entry)) (now (cache .entry)) (now (ties .entry)) (now (subtypes .entry)) (now (objects .entry)) (now (frames .entry)) task m b d loader i (r .posting) (r .plan) ⌝ }
 {
     match i {
@@ -105,7 +108,7 @@ fn act(
             cache,
             ties,
             subtypes,
-            m + 1 < 32,
+            m + 1 < FRAME_LIMIT,
             loader,
             argument,
             result,
@@ -163,7 +166,7 @@ pub(crate) fn choose(
     m: u16,
     b: u32,
 ) -> Choice
-    requires { ⌜ (broken (tables (now counts) (now classes) (now kept) (now cache) (now ties) (now subtypes) (now objects) (now frames)) ≡ false) × (task < 2) × (getD (now counts) (6 + task) 0 ≡ suc m) × (b ≡ frameBase task m) ⌝ }
+    requires { ⌜ (broken (tables (now counts) (now classes) (now kept) (now cache) (now ties) (now subtypes) (now objects) (now frames)) ≡ false) × (task < taskLimit) × (getD (now counts) (countFrames + task) 0 ≡ suc m) × (b ≡ frameBase task m) ⌝ }
     ensures { λ r. ⌜ Chosen (now (counts .entry)) (now (classes .entry)) (now (kept .entry)) (now (cache .entry)) (now (ties .entry)) (now (subtypes .entry)) (now (objects .entry)) (now (frames .entry)) task m b (r .posting) (r .plan) (r .next) ⌝ }
 {
     let c = frames::frame_class(frames, b);
@@ -172,7 +175,7 @@ pub(crate) fn choose(
     let Reading::At(i, n) = verifier::decode(code, cells::wide32(p)) else {
         return Choice {
             posting: Posting::Nothing,
-            plan: instructions::refuse(14),
+            plan: instructions::refuse(WORD_STUCK),
             next: 0,
         };
     };

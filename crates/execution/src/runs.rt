@@ -3,6 +3,8 @@ use crate::turns::step_unbroken;
 use definition::Answer;
 use definition::Refusal;
 use definition::Reply;
+use definition::numbers::RUN_LIMIT;
+use definition::numbers::WORD_UNKNOWN;
 ghost use mathlib.Core.Path.{_≡_};
 ghost use mathlib.Core.Bool.{false};
 ghost use Rattle.definition.specs.Tables.{tables};
@@ -85,9 +87,9 @@ fn denied(
         return 1;
     }
     if n == 0 {
-        return 3;
+        return WORD_UNKNOWN;
     }
-    if 65535 < n { 3 } else { 0 }
+    if RUN_LIMIT < n { WORD_UNKNOWN } else { 0 }
 }
 
 // Up to n steps, n from 1 to 65,535, ended by the first answer other than ran.

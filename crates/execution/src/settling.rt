@@ -1,12 +1,21 @@
 // A plan settled with the ties that it posts: first no room and clashes are refused, and a refusal posts nothing.
 use access::Access;
 use definition::Refusal;
+use definition::numbers::CLASS_LIMIT;
+use definition::numbers::COUNT_CACHE;
+use definition::numbers::COUNT_SUBTYPES;
+use definition::numbers::COUNT_TIES;
+use definition::numbers::TIE_LIMIT;
+use definition::numbers::TIES_LENGTH;
+use definition::numbers::WORD_CLASH;
+use definition::numbers::WORD_FULL;
 use instructions::Plan;
 use posting::Posting;
 ghost use mathlib.Core.Path.{_≡_};
 ghost use mathlib.Core.List.{[]};
 ghost use Prim.Native.Nat.{_+_, _≤_};
 ghost use lib.ListN.{length, getD};
+ghost use Rattle.definition.specs.Numbers.{tieLimit, countTies, tiesLength};
 ghost use Rattle.definition.specs.Lists.{rows};
 ghost use Rattle.definition.specs.Tables.{tables, tieAt};
 ghost use Rattle.definition.specs.Constraints.{posted, agrees};
@@ -38,23 +47,23 @@ fn agrees_with(
     subtypes: &[u16],
     posting: Posting,
 ) -> bool
-    requires { ⌜ Counts (now counts) × (length (now ties) ≡ 768) × (getD (now counts) 3 0 + length (toPost posting) ≤ 256) ⌝ }
+    requires { ⌜ Counts (now counts) × (length (now ties) ≡ tiesLength) × (getD (now counts) countTies 0 + length (toPost posting) ≤ tieLimit) ⌝ }
     ensures { λ r. ⌜ r ≡ agrees (posted (worldIn (quickBase (now (counts .entry)) (now (classes .entry)) (now (kept .entry)) (now (cache .entry))) (tables (now (counts .entry)) (now (classes .entry)) (now (kept .entry)) (now (cache .entry)) (now (ties .entry)) (now (subtypes .entry)) [] [])) (toPost posting)) ⌝ }
 {
-    let n = cells::at16(counts, 3);
-    let mut tried = [0u16; 768];
+    let n = cells::at16(counts, COUNT_TIES);
+    let mut tried = [0u16; TIES_LENGTH];
     copy_rows(&mut tried, ties);
     posting::write_ties(&mut tried, n, posting);
-    let mut supers = [0u8; 64];
+    let mut supers = [0u8; CLASS_LIMIT as usize];
     resolution::fill_supers(&mut supers, counts, classes, kept, cache);
     constraints::agree(
         &supers,
         cache,
-        cells::at16(counts, 2),
+        cells::at16(counts, COUNT_CACHE),
         &tried,
         n + posting::tie_number(posting),
         subtypes,
-        cells::at16(counts, 4),
+        cells::at16(counts, COUNT_SUBTYPES),
     )
 }
 
@@ -97,23 +106,23 @@ fn settle(
     second: u16,
     plan: Plan,
 ) -> Decision
-    requires { ⌜ Counts (now counts) × (length (now ties) ≡ 768) ⌝ }
-    ensures { λ r. ⌜ Settled (now (counts .entry)) (now (classes .entry)) (now (kept .entry)) (now (cache .entry)) (now (ties .entry)) (now (subtypes .entry)) room (tiesOn (rows (tieAt (now (ties .entry))) (getD (now (counts .entry)) 3 0) 0) one two first second) plan (r .posting) (r .plan) ⌝ }
+    requires { ⌜ Counts (now counts) × (length (now ties) ≡ tiesLength) ⌝ }
+    ensures { λ r. ⌜ Settled (now (counts .entry)) (now (classes .entry)) (now (kept .entry)) (now (cache .entry)) (now (ties .entry)) (now (subtypes .entry)) room (tiesOn (rows (tieAt (now (ties .entry))) (getD (now (counts .entry)) countTies 0) 0) one two first second) plan (r .posting) (r .plan) ⌝ }
 {
     if !room {
-        return refused(10);
+        return refused(WORD_FULL);
     }
-    let n = cells::at16(counts, 3);
+    let n = cells::at16(counts, COUNT_TIES);
     let posting = posting::new_ties(ties, n, one, two, first, second);
     let k = posting::tie_number(posting);
     if k == 0 {
         return decided(posting, plan);
     }
-    if 256 < n + k {
-        return refused(10);
+    if TIE_LIMIT < n + k {
+        return refused(WORD_FULL);
     }
     if !agrees_with(counts, classes, kept, cache, ties, subtypes, posting) {
-        return refused(9);
+        return refused(WORD_CLASH);
     }
     decided(posting, plan)
 }
@@ -142,7 +151,7 @@ pub(crate) fn settle_access(
     second: u16,
     found: Access,
 ) -> Decision
-    requires { ⌜ Counts (now counts) × (length (now ties) ≡ 768) × Narrow found ⌝ }
+    requires { ⌜ Counts (now counts) × (length (now ties) ≡ tiesLength) × Narrow found ⌝ }
     ensures { λ r. ⌜ AccessSettled (now (counts .entry)) (now (classes .entry)) (now (kept .entry)) (now (cache .entry)) (now (ties .entry)) (now (subtypes .entry)) room loader first second found (r .posting) (r .plan) ⌝ }
 {
     match found {

@@ -2,10 +2,13 @@
 use crate::carrying::write_new;
 use definition::Refusal;
 use definition::Reply;
+use definition::numbers::COUNT_OBJECTS;
+use definition::numbers::WORD_BROKEN;
 use opening::Opening;
 ghost use mathlib.Core.Path.{_≡_};
 ghost use Prim.Native.Nat.{_+_, _<_, _≤_};
 ghost use lib.ListN.{getD, set};
+ghost use Rattle.definition.specs.Numbers.{objectLimit, fieldLimit, countObjects, countFrames};
 ghost use Rattle.definition.specs.Machine.{intValue, newObject, entryFrame};
 ghost use Rattle.definition.specs.Tables.{tables, sizeOf, putObject, putFrame, frameBase};
 ghost use Rattle.definition.specs.Calls.{done, callStart, perform};
@@ -39,7 +42,7 @@ fn decide_start(
         objects,
         frames,
     ) {
-        return Opening::Deny(Refusal::Word(1));
+        return Opening::Deny(Refusal::Word(WORD_BROKEN));
     }
     opening::decide(counts, classes, kept, cache, task, loader, name, method)
 }
@@ -58,12 +61,12 @@ fn begin(
     j: u32,
     value: u32,
 )
-    requires { ⌜ (getD (now counts) 5 0 < 256) × (sizeOf (quickBase (now counts) (now classes) (now kept) (now cache)) c ≤ 16) ⌝ }
-    ensures counted { λ _. ⌜ now (counts .exit) ≡ set (set (now (counts .entry)) 5 (getD (now (counts .entry)) 5 0 + 1)) (6 + task) 1 ⌝ }
-    ensures made { λ _. ⌜ now (objects .exit) ≡ putObject (now (objects .entry)) (getD (now (counts .entry)) 5 0) (newObject (quickBase (now (counts .entry)) (now (classes .entry)) (now (kept .entry)) (now (cache .entry))) c) ⌝ }
-    ensures entered { λ _. ⌜ now (frames .exit) ≡ putFrame (now (frames .entry)) (frameBase task 0) (entryFrame s j (getD (now (counts .entry)) 5 0) (intValue value)) ⌝ }
+    requires { ⌜ (getD (now counts) countObjects 0 < objectLimit) × (sizeOf (quickBase (now counts) (now classes) (now kept) (now cache)) c ≤ fieldLimit) ⌝ }
+    ensures counted { λ _. ⌜ now (counts .exit) ≡ set (set (now (counts .entry)) countObjects (getD (now (counts .entry)) countObjects 0 + 1)) (countFrames + task) 1 ⌝ }
+    ensures made { λ _. ⌜ now (objects .exit) ≡ putObject (now (objects .entry)) (getD (now (counts .entry)) countObjects 0) (newObject (quickBase (now (counts .entry)) (now (classes .entry)) (now (kept .entry)) (now (cache .entry))) c) ⌝ }
+    ensures entered { λ _. ⌜ now (frames .exit) ≡ putFrame (now (frames .entry)) (frameBase task 0) (entryFrame s j (getD (now (counts .entry)) countObjects 0) (intValue value)) ⌝ }
 {
-    let n = cells::at16(counts, 5);
+    let n = cells::at16(counts, COUNT_OBJECTS);
     write_new(counts, classes, kept, cache, objects, cells::from16(n), c);
     frames::write_entry(
         frames,
@@ -74,7 +77,7 @@ fn begin(
         1,
         value,
     );
-    cells::put16(counts, 5, n + 1);
+    cells::put16(counts, COUNT_OBJECTS, n + 1);
     tasks::write_frame_count(counts, task, 1);
 }
 

@@ -4,6 +4,7 @@ use crate::carrying::post_ties;
 use crate::deciding::choose;
 use definition::Answer;
 use definition::Refusal;
+use definition::numbers::WORD_BROKEN;
 ghost use mathlib.Core.Path.{_≡_};
 ghost use mathlib.Core.Bool.{false};
 ghost use Rattle.definition.specs.Tables.{tables};
@@ -85,7 +86,7 @@ pub fn step(
         objects,
         frames,
     ) {
-        return Answer::Refused(Refusal::Word(1));
+        return Answer::Refused(Refusal::Word(WORD_BROKEN));
     }
     step_unbroken(
         counts,

@@ -1,11 +1,32 @@
 // Cells of frames and objects, read and written totally. A frame's row begins at cell b; a value is a kind and 32 bits.
+use definition::numbers::DEPTH_CELL;
+use definition::numbers::FIELDS_CELL;
+use definition::numbers::FRAME_CELLS;
+use definition::numbers::FRAME_LIMIT;
+use definition::numbers::KIND_EMPTY;
+use definition::numbers::KIND_INT;
+use definition::numbers::KIND_NULL;
+use definition::numbers::KIND_OBJECT;
+use definition::numbers::LOCALS_CELL;
+use definition::numbers::METHOD_CELL;
+use definition::numbers::NAME_INT;
+use definition::numbers::OBJECT_CELLS;
+use definition::numbers::OPERANDS_CELL;
+use definition::numbers::POINT_CELL;
+use definition::numbers::VALUE_CELLS;
 ghost use mathlib.Core.Path.{_≡_};
 ghost use Prim.Native.Nat.{_+_, _*_, _<_};
 ghost use lib.ListN.{getD, set};
+ghost use Rattle.definition.specs.Numbers.{objectCells, methodCell, pointCell, depthCell};
 ghost use Rattle.definition.specs.Machine.{entryFrame};
 ghost use Rattle.definition.specs.Tables.{valueOf, valueAt, putCells, operandAt, putOperand, localAt, putLocal, fieldAt, putField, putHead, putFrame, putObject, frameBase};
 ghost use Rattle.layout.specs.Cells.{moved};
 ghost use Rattle.frames.specs.Initial.{initialOf, initialObject, putEmpty};
+
+// The rows of a task, and the cells of a row of frames.
+const TASK_ROWS: u32 = FRAME_LIMIT as u32;
+
+const ROW_SIZE: u32 = FRAME_CELLS as u32;
 
 // A value's two cells.
 pub struct Cell {
@@ -29,27 +50,36 @@ fn pair(t: &[u32], i: usize) -> Cell
 pub fn operand(frames: &[u32], b: u32, i: u32) -> Cell
     ensures { λ r. ⌜ valueOf (r .kind) (r .bits) ≡ operandAt (now (frames .entry)) b i ⌝ }
 {
-    pair(frames, cells::wide32(b) + (20 + 2 * cells::wide32(i)))
+    pair(
+        frames,
+        cells::wide32(b) + (OPERANDS_CELL + VALUE_CELLS * cells::wide32(i)),
+    )
 }
 
 pub fn local(frames: &[u32], b: u32, j: u8) -> Cell
     ensures { λ r. ⌜ valueOf (r .kind) (r .bits) ≡ localAt (now (frames .entry)) b j ⌝ }
 {
-    pair(frames, cells::wide32(b) + (4 + 2 * cells::wide8(j)))
+    pair(
+        frames,
+        cells::wide32(b) + (LOCALS_CELL + VALUE_CELLS * cells::wide8(j)),
+    )
 }
 
 // Field j of object o.
 pub fn field(objects: &[u32], o: u32, j: u8) -> Cell
     ensures { λ r. ⌜ valueOf (r .kind) (r .bits) ≡ fieldAt (now (objects .entry)) o j ⌝ }
 {
-    pair(objects, cells::wide32(o) * 33 + (1 + 2 * cells::wide8(j)))
+    pair(
+        objects,
+        cells::wide32(o) * OBJECT_CELLS + (FIELDS_CELL + VALUE_CELLS * cells::wide8(j)),
+    )
 }
 
 // The class of object o.
 pub fn object_class(objects: &[u32], o: u32) -> u32
-    ensures { λ r. ⌜ r ≡ getD (now (objects .entry)) (o * 33) 0 ⌝ }
+    ensures { λ r. ⌜ r ≡ getD (now (objects .entry)) (o * objectCells) 0 ⌝ }
 {
-    cells::at32(objects, cells::wide32(o) * 33)
+    cells::at32(objects, cells::wide32(o) * OBJECT_CELLS)
 }
 
 // A frame's class, its method's place in that class, its point and its operand count.
@@ -60,28 +90,28 @@ pub fn frame_class(frames: &[u32], b: u32) -> u32
 }
 
 pub fn frame_method(frames: &[u32], b: u32) -> u32
-    ensures { λ r. ⌜ r ≡ getD (now (frames .entry)) (b + 1) 0 ⌝ }
+    ensures { λ r. ⌜ r ≡ getD (now (frames .entry)) (b + methodCell) 0 ⌝ }
 {
-    cells::at32(frames, cells::wide32(b) + 1)
+    cells::at32(frames, cells::wide32(b) + METHOD_CELL)
 }
 
 pub fn point(frames: &[u32], b: u32) -> u32
-    ensures { λ r. ⌜ r ≡ getD (now (frames .entry)) (b + 2) 0 ⌝ }
+    ensures { λ r. ⌜ r ≡ getD (now (frames .entry)) (b + pointCell) 0 ⌝ }
 {
-    cells::at32(frames, cells::wide32(b) + 2)
+    cells::at32(frames, cells::wide32(b) + POINT_CELL)
 }
 
 pub fn depth(frames: &[u32], b: u32) -> u32
-    ensures { λ r. ⌜ r ≡ getD (now (frames .entry)) (b + 3) 0 ⌝ }
+    ensures { λ r. ⌜ r ≡ getD (now (frames .entry)) (b + depthCell) 0 ⌝ }
 {
-    cells::at32(frames, cells::wide32(b) + 3)
+    cells::at32(frames, cells::wide32(b) + DEPTH_CELL)
 }
 
 // Where row m of a task begins.
 pub fn row(task: u8, m: u16) -> u32
     ensures { λ r. ⌜ r ≡ frameBase task m ⌝ }
 {
-    (cells::from16(cells::from8(task)) * 32 + cells::from16(m)) * 52
+    (cells::from16(cells::from8(task)) * TASK_ROWS + cells::from16(m)) * ROW_SIZE
 }
 
 // Writing
@@ -98,15 +128,15 @@ fn write_pair(t: &mut [u32], i: usize, kind: u32, bits: u32)
 pub fn write_moved(frames: &mut [u32], b: u32, p: u32, d: u32)
     ensures { λ _. ⌜ now (frames .exit) ≡ moved (now (frames .entry)) b p d ⌝ }
 {
-    cells::put32(frames, cells::wide32(b) + 2, p);
-    cells::put32(frames, cells::wide32(b) + 3, d);
+    cells::put32(frames, cells::wide32(b) + POINT_CELL, p);
+    cells::put32(frames, cells::wide32(b) + DEPTH_CELL, d);
 }
 
 // The operand count alone.
 pub fn write_depth(frames: &mut [u32], b: u32, d: u32)
-    ensures { λ _. ⌜ now (frames .exit) ≡ set (now (frames .entry)) (b + 3) d ⌝ }
+    ensures { λ _. ⌜ now (frames .exit) ≡ set (now (frames .entry)) (b + depthCell) d ⌝ }
 {
-    cells::put32(frames, cells::wide32(b) + 3, d);
+    cells::put32(frames, cells::wide32(b) + DEPTH_CELL, d);
 }
 
 pub fn write_operand(frames: &mut [u32], b: u32, i: u32, kind: u32, bits: u32)
@@ -114,7 +144,7 @@ pub fn write_operand(frames: &mut [u32], b: u32, i: u32, kind: u32, bits: u32)
 {
     write_pair(
         frames,
-        cells::wide32(b) + (20 + 2 * cells::wide32(i)),
+        cells::wide32(b) + (OPERANDS_CELL + VALUE_CELLS * cells::wide32(i)),
         kind,
         bits,
     );
@@ -125,7 +155,7 @@ pub fn write_local(frames: &mut [u32], b: u32, j: u8, kind: u32, bits: u32)
 {
     write_pair(
         frames,
-        cells::wide32(b) + (4 + 2 * cells::wide8(j)),
+        cells::wide32(b) + (LOCALS_CELL + VALUE_CELLS * cells::wide8(j)),
         kind,
         bits,
     );
@@ -136,7 +166,7 @@ pub fn write_field(objects: &mut [u32], o: u32, j: u8, kind: u32, bits: u32)
 {
     write_pair(
         objects,
-        cells::wide32(o) * 33 + (1 + 2 * cells::wide8(j)),
+        cells::wide32(o) * OBJECT_CELLS + (FIELDS_CELL + VALUE_CELLS * cells::wide8(j)),
         kind,
         bits,
     );
@@ -146,19 +176,19 @@ fn write_head(frames: &mut [u32], b: u32, c: u32, j: u32)
     ensures { λ _. ⌜ now (frames .exit) ≡ putHead (now (frames .entry)) b c j 0 0 ⌝ }
 {
     cells::put32(frames, cells::wide32(b), c);
-    cells::put32(frames, cells::wide32(b) + 1, j);
-    write_moved(frames, b, 0, 0);
+    cells::put32(frames, cells::wide32(b) + METHOD_CELL, j);
+    write_moved(frames, b, KIND_EMPTY, 0);
 }
 
 fn write_empty(frames: &mut [u32], b: u32)
     ensures { λ _. ⌜ now (frames .exit) ≡ putEmpty b (now (frames .entry)) ⌝ }
 {
-    write_local(frames, b, 7, 0, 0);
-    write_local(frames, b, 6, 0, 0);
-    write_local(frames, b, 5, 0, 0);
-    write_local(frames, b, 4, 0, 0);
-    write_local(frames, b, 3, 0, 0);
-    write_local(frames, b, 2, 0, 0);
+    write_local(frames, b, 7, KIND_EMPTY, 0);
+    write_local(frames, b, 6, KIND_EMPTY, 0);
+    write_local(frames, b, 5, KIND_EMPTY, 0);
+    write_local(frames, b, 4, KIND_EMPTY, 0);
+    write_local(frames, b, 3, KIND_EMPTY, 0);
+    write_local(frames, b, 2, KIND_EMPTY, 0);
 }
 
 // A frame entered: method j of class c, this is object o, the argument a kind and bits.
@@ -168,17 +198,17 @@ pub fn write_entry(frames: &mut [u32], b: u32, c: u32, j: u32, o: u32, kind: u32
     write_head(frames, b, c, j);
     write_empty(frames, b);
     write_local(frames, b, 1, kind, bits);
-    write_local(frames, b, 0, 3, o);
+    write_local(frames, b, 0, KIND_OBJECT, o);
 }
 
 // What a field of that type begins as: 0 for an int, null for a class name.
 fn write_initial(objects: &mut [u32], o: u32, j: u8, name: u16)
     ensures { λ _. ⌜ now (objects .exit) ≡ putField o (now (objects .entry)) j (initialOf name) ⌝ }
 {
-    if name == 1 {
-        write_field(objects, o, j, 1, 0);
+    if name == NAME_INT {
+        write_field(objects, o, j, KIND_INT, 0);
     } else {
-        write_field(objects, o, j, 2, 0);
+        write_field(objects, o, j, KIND_NULL, 0);
     }
 }
 
@@ -186,7 +216,7 @@ fn write_initial(objects: &mut [u32], o: u32, j: u8, name: u16)
 pub fn write_object(objects: &mut [u32], o: u32, c: u32, types: &[u16], n: u8)
     ensures { λ _. ⌜ now (objects .exit) ≡ putObject (now (objects .entry)) o (initialObject c (now (types .entry)) n) ⌝ }
 {
-    cells::put32(objects, cells::wide32(o) * 33, c);
+    cells::put32(objects, cells::wide32(o) * OBJECT_CELLS, c);
     let mut i = n;
     while 0 < i {
         write_initial(objects, o, i - 1, cells::at16(types, cells::wide8(i - 1)));

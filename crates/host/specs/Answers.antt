@@ -4,7 +4,7 @@ use mathlib.Core.List.{List, [], _∷_}
 use Prim.Native.Nat.{ℕ}
 use lib.ListN.{set}
 use Rattle.definition.specs.Lists.{writeRows}
-use Rattle.definition.specs.Answers.{number, numberOfStep, numberOf, countOf}
+use Rattle.definition.specs.Answers.{number, numberOfStep, numberOf, countOf, refusalDetails, stepDetails, details}
 use Rattle.definition.specs.declared.Refusal.{Refusal}
 use Rattle.definition.specs.declared.Refusal.the-variants.{Wanted, Word}
 use Rattle.definition.specs.declared.Answer.{Answer}
@@ -14,7 +14,6 @@ use Rattle.definition.specs.declared.Reply.the-variants.{Accepted, Defined, Ste
 use Rattle.definition.specs.Tables.{Tables, view}
 use Rattle.definition.specs.Calls.{Call, callStep, callRun, Done, done, turn, stepTables, ofStep, run, perform}
 use Rattle.layout.specs.Cells.{cells-sets}
-use Rattle.script.specs.Details.{refusalNumbers, stepNumbers, replyNumbers}
 use Rattle.tasks.specs.Turns.{turnOf, turn-is}
 
 unfoldable pub kindOf : Reply → ℕ
@@ -27,7 +26,7 @@ kindOf (Denied r) = 4
 -- kind, refusal's number, three details, steps that ran
 unfoldable pub answerCells : ℕ → Reply → List ℕ
 answerCells turn r =
-    let d = replyNumbers turn r in
+    let d = details turn r in
     kindOf r ∷ d .refusal ∷ d .one ∷ d .two ∷ d .three ∷ countOf r ∷ []
 
 -- the answer table before and after, and the number returned
@@ -42,13 +41,13 @@ pub record Called (c : Call) (t u : Tables) (before after : List ℕ) (r : ℕ) 
 
 -- Laws
 
-refusal-number : (k : ℕ) (r : Refusal) → refusalNumbers k r .refusal ≡ number r
-unfolding refusalNumbers number
+refusal-number : (k : ℕ) (r : Refusal) → refusalDetails k r .refusal ≡ number r
+unfolding refusalDetails number
 refusal-number k (Wanted l n) = refl
 refusal-number k (Word n) = refl
 
-step-number : (k : ℕ) (a : Answer) → stepNumbers k a .refusal ≡ numberOfStep a
-unfolding stepNumbers numberOfStep
+step-number : (k : ℕ) (a : Answer) → stepDetails k a .refusal ≡ numberOfStep a
+unfolding stepDetails numberOfStep
 step-number k Idle = refl
 step-number k (Ran j) = refl
 step-number k (Finished j n) = refl
@@ -62,8 +61,8 @@ numberGiven (Stepped a) k = k
 numberGiven (RanFor n a) k = 0
 numberGiven (Denied r) k = k
 
-pub reply-number : (k : ℕ) (r : Reply) → numberGiven r (replyNumbers k r .refusal) ≡ numberOf r
-unfolding numberGiven replyNumbers numberOf
+pub reply-number : (k : ℕ) (r : Reply) → numberGiven r (details k r .refusal) ≡ numberOf r
+unfolding numberGiven details numberOf
 reply-number k Accepted = refl
 reply-number k (Defined c) = refl
 reply-number k (Stepped a) = step-number k a

@@ -6,6 +6,14 @@ ghost use Rattle.instructions.specs.Plans.{FrameOnly, Returning};
 ghost use Rattle.instructions.specs.Operands.{isReference, isKind, roomBelow};
 use definition::Instruction;
 use definition::Refusal;
+use definition::numbers::KIND_INT;
+use definition::numbers::KIND_NULL;
+use definition::numbers::KIND_OBJECT;
+use definition::numbers::LOCAL_COUNT;
+use definition::numbers::NAME_INT;
+use definition::numbers::OPERAND_LIMIT;
+use definition::numbers::WORD_FULL;
+use definition::numbers::WORD_STUCK;
 
 // What a step is going to do. d operands stay; a value is a kind and 32 bits.
 pub enum Plan {
@@ -40,18 +48,18 @@ pub fn refuse(word: u8) -> Plan
 pub fn is_reference(kind: u32, bits: u32) -> bool
     ensures { λ r. ⌜ r ≡ isReference kind bits ⌝ }
 {
-    if kind == 3 {
+    if kind == KIND_OBJECT {
         return true;
     }
-    if kind == 2 { bits == 0 } else { false }
+    if kind == KIND_NULL { bits == 0 } else { false }
 }
 
 // Whether cells hold an int, for int, or a reference, for a class name.
 pub fn is_kind(name: u16, kind: u32, bits: u32) -> bool
     ensures { λ r. ⌜ r ≡ isKind name kind bits ⌝ }
 {
-    if name == 1 {
-        kind == 1
+    if name == NAME_INT {
+        kind == KIND_INT
     } else {
         is_reference(kind, bits)
     }
@@ -62,19 +70,19 @@ pub fn is_kind(name: u16, kind: u32, bits: u32) -> bool
 pub fn aconst_null(d: u32) -> Plan
     ensures { λ r. ⌜ ((F : List ℕ) (b : ℕ) → FrameOnly F b d Instruction.AconstNull r) ⌝ }
 {
-    if 16 <= d {
-        return refuse(10);
+    if OPERAND_LIMIT <= d {
+        return refuse(WORD_FULL);
     }
-    Plan::Above(d, 2, 0)
+    Plan::Above(d, KIND_NULL, 0)
 }
 
 pub fn sipush(d: u32, n: u32) -> Plan
     ensures { λ r. ⌜ ((F : List ℕ) (b : ℕ) → FrameOnly F b d (Instruction.Sipush n) r) ⌝ }
 {
-    if 16 <= d {
-        return refuse(10);
+    if OPERAND_LIMIT <= d {
+        return refuse(WORD_FULL);
     }
-    Plan::Above(d, 1, n)
+    Plan::Above(d, KIND_INT, n)
 }
 
 // Locals
@@ -82,15 +90,15 @@ pub fn sipush(d: u32, n: u32) -> Plan
 pub fn iload(frames: &[u32], b: u32, d: u32, j: u8) -> Plan
     ensures { λ r. ⌜ FrameOnly (now (frames .entry)) b d (Instruction.Iload j) r ⌝ }
 {
-    if 16 <= d {
-        return refuse(10);
+    if OPERAND_LIMIT <= d {
+        return refuse(WORD_FULL);
     }
-    if 8 <= j {
-        return refuse(14);
+    if LOCAL_COUNT <= j {
+        return refuse(WORD_STUCK);
     }
     let v = frames::local(frames, b, j);
-    if v.kind != 1 {
-        return refuse(14);
+    if v.kind != KIND_INT {
+        return refuse(WORD_STUCK);
     }
     Plan::Above(d, v.kind, v.bits)
 }
@@ -98,15 +106,15 @@ pub fn iload(frames: &[u32], b: u32, d: u32, j: u8) -> Plan
 pub fn aload(frames: &[u32], b: u32, d: u32, j: u8) -> Plan
     ensures { λ r. ⌜ FrameOnly (now (frames .entry)) b d (Instruction.Aload j) r ⌝ }
 {
-    if 16 <= d {
-        return refuse(10);
+    if OPERAND_LIMIT <= d {
+        return refuse(WORD_FULL);
     }
-    if 8 <= j {
-        return refuse(14);
+    if LOCAL_COUNT <= j {
+        return refuse(WORD_STUCK);
     }
     let v = frames::local(frames, b, j);
     if !is_reference(v.kind, v.bits) {
-        return refuse(14);
+        return refuse(WORD_STUCK);
     }
     Plan::Above(d, v.kind, v.bits)
 }
@@ -115,14 +123,14 @@ pub fn istore(frames: &[u32], b: u32, d: u32, j: u8) -> Plan
     ensures { λ r. ⌜ FrameOnly (now (frames .entry)) b d (Instruction.Istore j) r ⌝ }
 {
     if d == 0 {
-        return refuse(14);
+        return refuse(WORD_STUCK);
     }
     let v = frames::operand(frames, b, d - 1);
-    if v.kind != 1 {
-        return refuse(14);
+    if v.kind != KIND_INT {
+        return refuse(WORD_STUCK);
     }
-    if 8 <= j {
-        return refuse(14);
+    if LOCAL_COUNT <= j {
+        return refuse(WORD_STUCK);
     }
     Plan::Local(d - 1, j, v.kind, v.bits)
 }
@@ -131,14 +139,14 @@ pub fn astore(frames: &[u32], b: u32, d: u32, j: u8) -> Plan
     ensures { λ r. ⌜ FrameOnly (now (frames .entry)) b d (Instruction.Astore j) r ⌝ }
 {
     if d == 0 {
-        return refuse(14);
+        return refuse(WORD_STUCK);
     }
     let v = frames::operand(frames, b, d - 1);
     if !is_reference(v.kind, v.bits) {
-        return refuse(14);
+        return refuse(WORD_STUCK);
     }
-    if 8 <= j {
-        return refuse(14);
+    if LOCAL_COUNT <= j {
+        return refuse(WORD_STUCK);
     }
     Plan::Local(d - 1, j, v.kind, v.bits)
 }
@@ -149,7 +157,7 @@ pub fn pop(d: u32) -> Plan
     ensures { λ r. ⌜ ((F : List ℕ) (b : ℕ) → FrameOnly F b d Instruction.Pop r) ⌝ }
 {
     if d == 0 {
-        return refuse(14);
+        return refuse(WORD_STUCK);
     }
     Plan::Keep(d - 1)
 }
@@ -157,11 +165,11 @@ pub fn pop(d: u32) -> Plan
 pub fn dup(frames: &[u32], b: u32, d: u32) -> Plan
     ensures { λ r. ⌜ FrameOnly (now (frames .entry)) b d Instruction.Dup r ⌝ }
 {
-    if 16 <= d {
-        return refuse(10);
+    if OPERAND_LIMIT <= d {
+        return refuse(WORD_FULL);
     }
     if d == 0 {
-        return refuse(14);
+        return refuse(WORD_STUCK);
     }
     let v = frames::operand(frames, b, d - 1);
     Plan::Above(d, v.kind, v.bits)
@@ -171,42 +179,42 @@ pub fn iadd(frames: &[u32], b: u32, d: u32) -> Plan
     ensures { λ r. ⌜ FrameOnly (now (frames .entry)) b d Instruction.Iadd r ⌝ }
 {
     if d == 0 {
-        return refuse(14);
+        return refuse(WORD_STUCK);
     }
     let e = d - 1;
     if e == 0 {
-        return refuse(14);
+        return refuse(WORD_STUCK);
     }
     let y = frames::operand(frames, b, e);
-    if y.kind != 1 {
-        return refuse(14);
+    if y.kind != KIND_INT {
+        return refuse(WORD_STUCK);
     }
     let x = frames::operand(frames, b, e - 1);
-    if x.kind != 1 {
-        return refuse(14);
+    if x.kind != KIND_INT {
+        return refuse(WORD_STUCK);
     }
-    Plan::Above(e - 1, 1, std::num::wrapping_add_u32(x.bits, y.bits))
+    Plan::Above(e - 1, KIND_INT, std::num::wrapping_add_u32(x.bits, y.bits))
 }
 
 pub fn isub(frames: &[u32], b: u32, d: u32) -> Plan
     ensures { λ r. ⌜ FrameOnly (now (frames .entry)) b d Instruction.Isub r ⌝ }
 {
     if d == 0 {
-        return refuse(14);
+        return refuse(WORD_STUCK);
     }
     let e = d - 1;
     if e == 0 {
-        return refuse(14);
+        return refuse(WORD_STUCK);
     }
     let y = frames::operand(frames, b, e);
-    if y.kind != 1 {
-        return refuse(14);
+    if y.kind != KIND_INT {
+        return refuse(WORD_STUCK);
     }
     let x = frames::operand(frames, b, e - 1);
-    if x.kind != 1 {
-        return refuse(14);
+    if x.kind != KIND_INT {
+        return refuse(WORD_STUCK);
     }
-    Plan::Above(e - 1, 1, std::num::wrapping_sub_u32(x.bits, y.bits))
+    Plan::Above(e - 1, KIND_INT, std::num::wrapping_sub_u32(x.bits, y.bits))
 }
 
 // Returns
@@ -218,21 +226,21 @@ fn has_room_below(frames: &[u32], task: u8, m: u16) -> bool
     if m == 0 {
         return true;
     }
-    frames::depth(frames, frames::row(task, m - 1)) < 16
+    frames::depth(frames, frames::row(task, m - 1)) < OPERAND_LIMIT
 }
 
 pub fn ireturn(frames: &[u32], task: u8, m: u16, b: u32, d: u32) -> Plan
     ensures { λ r. ⌜ Returning (now (frames .entry)) task m b d Instruction.Ireturn r ⌝ }
 {
     if !has_room_below(frames, task, m) {
-        return refuse(10);
+        return refuse(WORD_FULL);
     }
     if d == 0 {
-        return refuse(14);
+        return refuse(WORD_STUCK);
     }
     let v = frames::operand(frames, b, d - 1);
-    if v.kind != 1 {
-        return refuse(14);
+    if v.kind != KIND_INT {
+        return refuse(WORD_STUCK);
     }
     if m == 0 {
         return Plan::Finish(v.bits);
@@ -244,17 +252,17 @@ pub fn areturn(frames: &[u32], task: u8, m: u16, b: u32, d: u32) -> Plan
     ensures { λ r. ⌜ Returning (now (frames .entry)) task m b d Instruction.Areturn r ⌝ }
 {
     if !has_room_below(frames, task, m) {
-        return refuse(10);
+        return refuse(WORD_FULL);
     }
     if d == 0 {
-        return refuse(14);
+        return refuse(WORD_STUCK);
     }
     let v = frames::operand(frames, b, d - 1);
     if !is_reference(v.kind, v.bits) {
-        return refuse(14);
+        return refuse(WORD_STUCK);
     }
     if m == 0 {
-        return refuse(14);
+        return refuse(WORD_STUCK);
     }
     Plan::Give(v.kind, v.bits)
 }

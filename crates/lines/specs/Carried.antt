@@ -12,8 +12,7 @@ use Rattle.definition.specs.Answers.{details}
 use Rattle.definition.specs.Tables.{Tables, view}
 use Rattle.definition.specs.Calls.{Call, done, turn, perform}
 use Rattle.definition.specs.Script.{Line, Turned, printedLine, turned, readLine, carryOut}
-use Rattle.script.specs.declared.Details.{Details}
-use Rattle.script.specs.Details.{Detailed, shown}
+use Rattle.definition.specs.declared.Details.{Details}
 use Rattle.script.specs.Printing as printing
 use Rattle.script.specs.Printing.{lineOf}
 use Rattle.script.specs.Facts.{line-facts}
@@ -45,12 +44,12 @@ carriedOn t out (some x) = printedOn out x
 
 -- the call made, and its answer printed
 pub answered : (b : ℕ) (t u : Tables) (c : Call) (k : ℕ) (r : Reply) (d : Details) (n : ℕ) (out after : List ℕ) → done r u ≡ perform c t → k ≡ turnOf (t .counts)
-    → Detailed k r d → printing.Printed (lineOf b (d .refusal) (d .one) (d .two) (d .three)) n out after
+    → d ≡ details k r → printing.Printed (lineOf b (d .refusal) (d .one) (d .two) (d .three)) n out after
     → left (Printed n) u after ≡ printedOn out (turned b t (perform c t))
-unfolding printedOn turned lineOf shown
+unfolding printedOn turned lineOf
 answered b t u c k r d n out after made turns e p =
     let reads : lineOf b (d .refusal) (d .one) (d .two) (d .three) ≡ printedLine b (details (turn (view t)) (perform c t .answer)) =
-    ap (printedLine b) (e .read ∙ (rw (turns, turn-is t, ← made))) in
+    ap (printedLine b) (e ∙ (rw (turns, turn-is t, ← made))) in
     rw (p .size, p .table, reads, ← made)
 
 -- the call that was read is the line's

@@ -2,6 +2,11 @@
 pub use defining::define;
 use definition::Refusal;
 use definition::Reply;
+use definition::numbers::COUNT_FRAMES;
+use definition::numbers::NAME_OBJECT;
+use definition::numbers::TASK_LIMIT;
+use definition::numbers::WORD_BROKEN;
+use definition::numbers::WORD_UNKNOWN;
 pub use recording::record;
 ghost use mathlib.Core.Path.{_≡_};
 ghost use Rattle.definition.specs.Tables.{tables};
@@ -30,11 +35,11 @@ pub fn boot(
         objects,
         frames,
     ) {
-        return Reply::Denied(Refusal::Word(1));
+        return Reply::Denied(Refusal::Word(WORD_BROKEN));
     }
     entries::write_cells(counts, 0, &[1, 0, 1, 0, 0, 0, 0, 0]);
     entries::put_three(classes, 0, 0, 0, 0);
-    entries::put_three(cache, 0, 0, 2, 0);
+    entries::put_three(cache, 0, 0, NAME_OBJECT, 0);
     Reply::Accepted
 }
 
@@ -62,11 +67,11 @@ pub fn drop_task(
         objects,
         frames,
     ) {
-        return Reply::Denied(Refusal::Word(1));
+        return Reply::Denied(Refusal::Word(WORD_BROKEN));
     }
-    if 2 <= task {
-        return Reply::Denied(Refusal::Word(3));
+    if TASK_LIMIT <= task {
+        return Reply::Denied(Refusal::Word(WORD_UNKNOWN));
     }
-    cells::put16(counts, 6 + cells::wide32(task), 0);
+    cells::put16(counts, COUNT_FRAMES + cells::wide32(task), 0);
     Reply::Accepted
 }

@@ -3,7 +3,17 @@ ghost use mathlib.Core.Path.{_≡_};
 ghost use mathlib.Core.Bool.{_&&_};
 ghost use lib.Dec.{leb, ltb};
 ghost use Rattle.opening.specs.Openings.{Opened};
+ghost use Rattle.definition.specs.Numbers.{nameObject, loaderLimit};
 use definition::Refusal;
+use definition::numbers::COUNT_OBJECTS;
+use definition::numbers::LOADER_LIMIT;
+use definition::numbers::NAME_OBJECT;
+use definition::numbers::OBJECT_LIMIT;
+use definition::numbers::TASK_LIMIT;
+use definition::numbers::WORD_ABSENT;
+use definition::numbers::WORD_BUSY;
+use definition::numbers::WORD_FULL;
+use definition::numbers::WORD_UNKNOWN;
 use resolution::Found;
 use resolution::Selection;
 
@@ -15,12 +25,12 @@ pub enum Opening {
 
 // The loader, class name and method name that a start may speak of.
 fn are_known(loader: u32, name: u16, method: u16) -> bool
-    ensures { λ r. ⌜ r ≡ (ltb loader 16 && leb 2 name && leb 1 method) ⌝ }
+    ensures { λ r. ⌜ r ≡ (ltb loader loaderLimit && leb nameObject name && leb 1 method) ⌝ }
 {
-    if 16 <= loader {
+    if LOADER_LIMIT <= loader {
         return false;
     }
-    if name < 2 {
+    if name < NAME_OBJECT {
         return false;
     }
     1 <= method
@@ -39,14 +49,14 @@ pub fn decide(
 ) -> Opening
     ensures { λ r. ⌜ Opened (now (counts .entry)) (now (classes .entry)) (now (kept .entry)) (now (cache .entry)) task loader name method r ⌝ }
 {
-    if 2 <= task {
-        return Opening::Deny(Refusal::Word(3));
+    if TASK_LIMIT <= task {
+        return Opening::Deny(Refusal::Word(WORD_UNKNOWN));
     }
     if !are_known(loader, name, method) {
-        return Opening::Deny(Refusal::Word(3));
+        return Opening::Deny(Refusal::Word(WORD_UNKNOWN));
     }
     if tasks::frame_count(counts, task as u8) != 0 {
-        return Opening::Deny(Refusal::Word(12));
+        return Opening::Deny(Refusal::Word(WORD_BUSY));
     }
     let Found::At(c) = resolution::find(counts, cache, loader as u16, name) else {
         return Opening::Deny(Refusal::Wanted(loader as u8, name));
@@ -61,10 +71,10 @@ pub fn decide(
         1,
         1,
     ) else {
-        return Opening::Deny(Refusal::Word(7));
+        return Opening::Deny(Refusal::Word(WORD_ABSENT));
     };
-    if 256 <= cells::at16(counts, 5) {
-        return Opening::Deny(Refusal::Word(10));
+    if OBJECT_LIMIT <= cells::at16(counts, COUNT_OBJECTS) {
+        return Opening::Deny(Refusal::Word(WORD_FULL));
     }
     Opening::First(c, s, j)
 }

@@ -6,6 +6,8 @@ ghost use Rattle.definition.specs.Lists.{rows, writeRows};
 ghost use Rattle.definition.specs.Tables.{tie, tieAt, putTie};
 ghost use Rattle.access.specs.Accesses.{tiesOn};
 ghost use Rattle.posting.specs.Postings.{toPost, isNew, quietly};
+use definition::numbers::NAME_INT;
+use definition::numbers::ROW_CELLS;
 use instructions::Plan;
 
 // The ties that a step posts between two loaders: one of each name.
@@ -19,7 +21,7 @@ pub enum Posting {
 fn is_new(ties: &[u16], count: u16, one: u8, two: u8, name: u16) -> bool
     ensures { λ r. ⌜ r ≡ isNew (rows (tieAt (now (ties .entry))) count 0) one two name ⌝ }
 {
-    if name == 1 {
+    if name == NAME_INT {
         return false;
     }
     !constraints::tie_known(ties, count, one, two, name)
@@ -62,7 +64,7 @@ pub fn tie_number(posting: Posting) -> u16
 fn write_tie(ties: &mut [u16], i: u32, one: u8, two: u8, name: u16)
     ensures { λ _. ⌜ now (ties .exit) ≡ putTie (now (ties .entry)) i (tie one two name) ⌝ }
 {
-    let place = cells::wide32(i) * 3;
+    let place = cells::wide32(i) * ROW_CELLS;
     cells::put16(ties, place, cells::from8(one));
     cells::put16(ties, place + 1, cells::from8(two));
     cells::put16(ties, place + 2, name);

@@ -1,10 +1,26 @@
 // record: a cache entry for a class that is there.
 use definition::Refusal;
 use definition::Reply;
+use definition::numbers::CACHE_LENGTH;
+use definition::numbers::CACHE_LIMIT;
+use definition::numbers::CLASS_LIMIT;
+use definition::numbers::COUNT_CACHE;
+use definition::numbers::COUNT_SUBTYPES;
+use definition::numbers::COUNT_TIES;
+use definition::numbers::COUNTS_LENGTH;
+use definition::numbers::LOADER_LIMIT;
+use definition::numbers::NAME_OBJECT;
+use definition::numbers::WORD_BROKEN;
+use definition::numbers::WORD_CLASH;
+use definition::numbers::WORD_FULL;
+use definition::numbers::WORD_MISNAMED;
+use definition::numbers::WORD_TAKEN;
+use definition::numbers::WORD_UNKNOWN;
 use resolution::Found;
 ghost use mathlib.Core.Path.{_≡_};
 ghost use Prim.Native.Nat.{_<_};
 ghost use lib.ListN.{getD};
+ghost use Rattle.definition.specs.Numbers.{cacheLimit, countCache};
 ghost use Rattle.definition.specs.Requests.{at};
 ghost use Rattle.definition.specs.Constraints.{agrees};
 ghost use Rattle.definition.specs.Loading.{withEntry};
@@ -12,6 +28,9 @@ ghost use Rattle.definition.specs.Tables.{tables};
 ghost use Rattle.definition.specs.Calls.{done, callRecord, perform};
 ghost use Rattle.entries.specs.World.{worldIn, Loadable};
 ghost use Rattle.recording.specs.Deciding.{entered, recordedBy, Planned};
+
+// The least name of a class, as a number that the host gives.
+const LEAST_CLASS_NAME: u32 = NAME_OBJECT as u32;
 
 // What is decided of an entry: it is refused, it is there already, or it is to be added with this loader, name and class.
 pub(crate) enum Recording {
@@ -32,22 +51,22 @@ fn entry_agrees(
     name: u16,
     class: u16,
 ) -> bool
-    requires { ⌜ Loadable (now counts) (now classes) (now kept) (now cache) (now ties) (now subtypes) × (getD (now counts) 2 0 < 256) ⌝ }
+    requires { ⌜ Loadable (now counts) (now classes) (now kept) (now cache) (now ties) (now subtypes) × (getD (now counts) countCache 0 < cacheLimit) ⌝ }
     ensures { λ r. ⌜ r ≡ agrees (withEntry (worldIn (now (counts .entry)) (now (classes .entry)) (now (kept .entry)) (now (cache .entry)) (now (ties .entry)) (now (subtypes .entry))) (at loader name) class) ⌝ }
 {
-    let mut counted = [0u16; 8];
-    let mut trial = [0u16; 768];
+    let mut counted = [0u16; COUNTS_LENGTH];
+    let mut trial = [0u16; CACHE_LENGTH];
     entries::enter(counts, cache, loader, name, class, &mut counted, &mut trial);
-    let mut supers = [0u8; 64];
+    let mut supers = [0u8; CLASS_LIMIT as usize];
     resolution::fill_supers(&mut supers, &counted, classes, kept, &trial);
     constraints::agree(
         &supers,
         &trial,
-        cells::at16(&counted, 2),
+        cells::at16(&counted, COUNT_CACHE),
         ties,
-        cells::at16(counts, 3),
+        cells::at16(counts, COUNT_TIES),
         subtypes,
-        cells::at16(counts, 4),
+        cells::at16(counts, COUNT_SUBTYPES),
     )
 }
 
@@ -71,10 +90,10 @@ fn decide_entry(
         if d == cells::from16(class) {
             return Recording::Keep;
         }
-        return Recording::Refuse(Refusal::Word(4));
+        return Recording::Refuse(Refusal::Word(WORD_TAKEN));
     }
-    if 256 <= cells::at16(counts, 2) {
-        return Recording::Refuse(Refusal::Word(10));
+    if CACHE_LIMIT <= cells::at16(counts, COUNT_CACHE) {
+        return Recording::Refuse(Refusal::Word(WORD_FULL));
     }
     if !entry_agrees(
         counts,
@@ -87,7 +106,7 @@ fn decide_entry(
         name,
         class,
     ) {
-        return Recording::Refuse(Refusal::Word(9));
+        return Recording::Refuse(Refusal::Word(WORD_CLASH));
     }
     Recording::Add(loader, name, class)
 }
@@ -118,20 +137,20 @@ fn decide_record(
         objects,
         frames,
     ) {
-        return Recording::Refuse(Refusal::Word(1));
+        return Recording::Refuse(Refusal::Word(WORD_BROKEN));
     }
-    if 16 <= loader {
-        return Recording::Refuse(Refusal::Word(3));
+    if LOADER_LIMIT <= loader {
+        return Recording::Refuse(Refusal::Word(WORD_UNKNOWN));
     }
-    if name < 2 {
-        return Recording::Refuse(Refusal::Word(3));
+    if name < LEAST_CLASS_NAME {
+        return Recording::Refuse(Refusal::Word(WORD_UNKNOWN));
     }
     if !resolution::is_class(counts, class) {
-        return Recording::Refuse(Refusal::Word(3));
+        return Recording::Refuse(Refusal::Word(WORD_UNKNOWN));
     }
     let own = resolution::name_of(counts, classes, kept, class);
     if cells::from16(own) != name {
-        return Recording::Refuse(Refusal::Word(13));
+        return Recording::Refuse(Refusal::Word(WORD_MISNAMED));
     }
     decide_entry(
         counts,
@@ -180,9 +199,9 @@ pub fn record(
         Recording::Refuse(r) => Reply::Denied(r),
         Recording::Keep => Reply::Accepted,
         Recording::Add(under, own, number) => {
-            let row = cells::at16(counts, 2);
+            let row = cells::at16(counts, COUNT_CACHE);
             entries::put_three(cache, row, under, own, number);
-            cells::put16(counts, 2, row + 1);
+            cells::put16(counts, COUNT_CACHE, row + 1);
             Reply::Accepted
         }
     }

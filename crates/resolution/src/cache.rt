@@ -1,7 +1,10 @@
 // The class that a request is cached as.
 use crate::Found;
+use definition::numbers::COUNT_CACHE;
+use definition::numbers::ROW_CELLS;
 ghost use mathlib.Core.Path.{_≡_};
 ghost use lib.ListN.{getD};
+ghost use Rattle.definition.specs.Numbers.{countCache};
 ghost use Rattle.definition.specs.Lists.{rows};
 ghost use Rattle.definition.specs.Requests.{at, sameRequest};
 ghost use Rattle.definition.specs.Classes.{find};
@@ -12,21 +15,21 @@ ghost use Rattle.resolution.specs.Quick.{found};
 fn is_entry(cache: &[u16], i: u16, loader: u16, name: u16) -> bool
     ensures { λ r. ⌜ r ≡ sameRequest (entryAt (now (cache .entry)) i .request) (at loader name) ⌝ }
 {
-    let place = cells::wide16(i) * 3;
+    let place = cells::wide16(i) * ROW_CELLS;
     cells::at16(cache, place) == loader && cells::at16(cache, place + 1) == name
 }
 
 fn entry_class(cache: &[u16], i: u16) -> u32
     ensures { λ r. ⌜ r ≡ entryAt (now (cache .entry)) i .class ⌝ }
 {
-    cells::from16(cells::at16(cache, cells::wide16(i) * 3 + 2))
+    cells::from16(cells::at16(cache, cells::wide16(i) * ROW_CELLS + 2))
 }
 
 // The class that a request is cached as; of two rows for one request the lower is read.
 pub fn find(counts: &[u16], cache: &[u16], loader: u16, name: u16) -> Found
-    ensures { λ r. ⌜ r ≡ found (find (rows (entryAt (now (cache .entry))) (getD (now (counts .entry)) 2 0) 0) (at loader name)) ⌝ }
+    ensures { λ r. ⌜ r ≡ found (find (rows (entryAt (now (cache .entry))) (getD (now (counts .entry)) countCache 0) 0) (at loader name)) ⌝ }
 {
-    let n = cells::at16(counts, 2);
+    let n = cells::at16(counts, COUNT_CACHE);
     let mut i: u16 = 0;
     while i < n {
         if is_entry(cache, i, loader, name) {

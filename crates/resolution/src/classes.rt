@@ -1,28 +1,36 @@
 // Classes by their number: loader, file, name, superclass.
 use crate::Found;
 use crate::cache::find;
+use definition::numbers::CLASS_LIMIT;
+use definition::numbers::COUNT_CLASSES;
+use definition::numbers::NAME_OBJECT;
+use definition::numbers::ROW_CELLS;
 ghost use mathlib.Core.Path.{_≡_};
 ghost use Prim.Native.Nat.{_+_, _*_};
 ghost use lib.ListN.{getD, set};
 ghost use lib.Dec.{ltb};
+ghost use Rattle.definition.specs.Numbers.{classLimit, countClasses, rowCells};
 ghost use Rattle.definition.specs.Lists.{rows, writeRows};
 ghost use Rattle.definition.specs.Superclasses.{below};
 ghost use Rattle.definition.specs.Classes.{superOf};
 ghost use Rattle.resolution.specs.Quick.{found, quickBase, fileIn, loaderIn};
 ghost use Rattle.resolution.specs.Lookups.{nameIn, superCell};
 
+// How many classes there are at most.
+const CLASSES: u8 = CLASS_LIMIT as u8;
+
 // Cells of a class's row.
 fn row_cell(classes: &[u16], c: u32, cell: u8) -> u16
-    ensures { λ r. ⌜ r ≡ getD (now (classes .entry)) (c * 3 + cell) 0 ⌝ }
+    ensures { λ r. ⌜ r ≡ getD (now (classes .entry)) (c * rowCells + cell) 0 ⌝ }
 {
-    cells::at16(classes, cells::wide32(c) * 3 + cells::wide8(cell))
+    cells::at16(classes, cells::wide32(c) * ROW_CELLS + cells::wide8(cell))
 }
 
 // Whether there is a class of that number.
 pub fn is_class(counts: &[u16], c: u32) -> bool
-    ensures { λ r. ⌜ r ≡ ltb c (getD (now (counts .entry)) 0 0) ⌝ }
+    ensures { λ r. ⌜ r ≡ ltb c (getD (now (counts .entry)) countClasses 0) ⌝ }
 {
-    c < cells::from16(cells::at16(counts, 0))
+    c < cells::from16(cells::at16(counts, COUNT_CLASSES))
 }
 
 // The loader of a class, 0 if there is none of that number.
@@ -55,7 +63,7 @@ pub fn name_of(counts: &[u16], classes: &[u16], kept: &[u8], c: u32) -> u16
         return 0;
     }
     if row_cell(classes, c, 2) == 0 {
-        return 2;
+        return NAME_OBJECT;
     }
     classfile::class_name(file_of(counts, classes, kept, c))
 }
@@ -102,9 +110,9 @@ fn super_cell(counts: &[u16], classes: &[u16], kept: &[u8], cache: &[u16], c: u8
 
 // The cells of classes 0 to 63, written from place 0 on.
 pub fn fill_supers(supers: &mut [u8], counts: &[u16], classes: &[u16], kept: &[u8], cache: &[u16])
-    ensures { λ _. ⌜ now (supers .exit) ≡ writeRows set (rows (superCell (quickBase (now (counts .entry)) (now (classes .entry)) (now (kept .entry)) (now (cache .entry)))) 64 0) 0 (now (supers .entry)) ⌝ }
+    ensures { λ _. ⌜ now (supers .exit) ≡ writeRows set (rows (superCell (quickBase (now (counts .entry)) (now (classes .entry)) (now (kept .entry)) (now (cache .entry)))) classLimit 0) 0 (now (supers .entry)) ⌝ }
 {
-    let mut i: u8 = 64;
+    let mut i: u8 = CLASSES;
     while 0 < i {
         i -= 1;
         cells::put8(

@@ -1,4 +1,4 @@
--- Lines read and printed: what a command says, reading by parts, the details as numbers, and their laws.
+-- Lines read and printed: what a command says, reading by parts, and their laws.
 pub mod Commands
 pub mod Parts
 pub mod Numbers
@@ -6,5 +6,4 @@ pub mod Files
 pub mod Calls
 pub mod Lines
 pub mod Facts
-pub mod Details
 pub mod Printing

@@ -11,14 +11,20 @@ use lib.ListN.{length, set, length-append}
 use lib.IntN.{ℤ, pos, negsuc}
 use lib.Dec.{ltb}
 use borrow.Author.Tests.{lt-ltb, le-ltb}
+use Rattle.definition.specs.Numbers.{signBit}
 use Rattle.definition.specs.Lists.{writeRows}
-use Rattle.definition.specs.Answers.{Details, signed, line}
+use Rattle.definition.specs.declared.Details.{Details}
+use Rattle.definition.specs.Answers.{signed, line}
 use Rattle.definition.specs.Script.{printed, printedInt, printedLine}
 use Rattle.layout.specs.Cells.{cell-rows, rows-parts}
 
 -- the line of a letter, a refusal's number and three details, the last of them an int
 unfoldable pub lineOf : ℕ → ℕ → ℕ → ℕ → ℕ → List ℕ
-lineOf letter refusal one two three = printedLine letter (line refusal (pos one) (pos two) (signed three))
+lineOf letter refusal one two three = printedLine letter (line refusal one two three)
+
+pub signed-small : (n : ℕ) → n < signBit → signed n ≡ pos n
+unfolding signed
+signed-small n h = rw (lt-ltb n signBit h, signed)
 
 -- a line written at a table's front, of that length
 pub record Printed (bs : List ℕ) (r : ℕ) (before after : List ℕ) : Type 0 where
@@ -122,10 +128,10 @@ pub line-short : (b : ℕ) (d : Details) → length (printedLine b d) ≤ 64
 unfolding printedLine
 line-short b d =
     let h : List ℕ = b ∷ 32 ∷ printed 9 (d .refusal) in
-    let i : List ℕ = 32 ∷ printedInt (d .one) in
-    let j : List ℕ = 32 ∷ printedInt (d .two) in
-    let k : List ℕ = 32 ∷ printedInt (d .three) in
-    omega (arith, length-append (h ++ i ++ j ++ k) (10 ∷ []), length-append (h ++ i ++ j) k, length-append (h ++ i) j, length-append h i, printed-length 9 (d .refusal), int-length (d .one), int-length (d .two), int-length (d .three))
+    let i : List ℕ = 32 ∷ printedInt (pos (d .one)) in
+    let j : List ℕ = 32 ∷ printedInt (pos (d .two)) in
+    let k : List ℕ = 32 ∷ printedInt (signed (d .three)) in
+    omega (arith, length-append (h ++ i ++ j ++ k) (10 ∷ []), length-append (h ++ i ++ j) k, length-append (h ++ i) j, length-append h i, printed-length 9 (d .refusal), int-length (pos (d .one)), int-length (pos (d .two)), int-length (signed (d .three)))
 
 -- a line written part by part
 pub line-wrote : (letter refusal one two three a b c d : ℕ) (t t₁ t₂ t₃ t₄ t₅ t₆ : List ℕ) → t₁ ≡ set t 0 letter

@@ -1,17 +1,18 @@
 // The details of an answer.
-use crate::Details;
+use definition::Details;
+use definition::numbers::WORD_WANTED;
 ghost use mathlib.Core.Path.{_≡_};
-ghost use Rattle.script.specs.Details.{refusalNumbers, stepNumbers, Detailed};
+ghost use Rattle.definition.specs.Answers.{refusalDetails, stepDetails, details};
 use definition::Answer;
 use definition::Refusal;
 use definition::Reply;
 
 fn refusal_details(task: u8, refusal: Refusal) -> Details
-    ensures { λ r. ⌜ r ≡ refusalNumbers task refusal ⌝ }
+    ensures { λ r. ⌜ r ≡ refusalDetails task refusal ⌝ }
 {
     match refusal {
         Refusal::Wanted(loader, name) => Details {
-            refusal: 5,
+            refusal: WORD_WANTED,
             one: cells::from16(cells::from8(loader)),
             two: cells::from16(name),
             three: cells::from16(cells::from8(task)),
@@ -26,7 +27,7 @@ fn refusal_details(task: u8, refusal: Refusal) -> Details
 }
 
 fn step_details(turn: u8, answer: Answer) -> Details
-    ensures { λ r. ⌜ r ≡ stepNumbers turn answer ⌝ }
+    ensures { λ r. ⌜ r ≡ stepDetails turn answer ⌝ }
 {
     match answer {
         Answer::Idle => Details {
@@ -53,7 +54,7 @@ fn step_details(turn: u8, answer: Answer) -> Details
 
 // The numbers of a call's answer. `turn` is the task whose turn it was.
 pub fn details_of(turn: u8, reply: Reply) -> Details
-    ensures { λ r. ⌜ Detailed turn reply r ⌝ }
+    ensures { λ r. ⌜ r ≡ details turn reply ⌝ }
 {
     match reply {
         Reply::Accepted => Details {

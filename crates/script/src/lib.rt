@@ -43,11 +43,3 @@ enum Head {
     Field(u16, usize),
     NoField,
 }
-
-// A printed line's numbers: the refusal's, then three details. An int is its 32 bits.
-pub struct Details {
-    pub refusal: u8,
-    pub one: u32,
-    pub two: u32,
-    pub three: u32,
-}

@@ -2,10 +2,18 @@
 use crate::Number;
 use crate::Short;
 use crate::fields::after;
+use definition::numbers::INT_RANGE;
+use definition::numbers::SHORT_RANGE;
+use definition::numbers::SIGN_BIT;
 ghost use mathlib.Core.Path.{_≡_};
 ghost use Rattle.definition.specs.Script.{upTo, short, int};
 ghost use Rattle.script.specs.Parts.{shortIs};
 ghost use Rattle.script.specs.Numbers.{numberIs, extended, negated};
+
+// The largest number of 16 bits, and the largest int.
+const MOST_SHORT: u32 = SHORT_RANGE - 1;
+
+const MOST_INT: u32 = SIGN_BIT - 1;
 
 // The number n with one digit more, if that is a digit and the number at most `most`.
 fn extend(n: u32, digit: u8, most: u32) -> Number
@@ -45,7 +53,7 @@ fn up_to(s: &[u8], most: u32) -> Number
 pub(crate) fn short_number(s: &[u8]) -> Short
     ensures { λ r. ⌜ r ≡ shortIs (short (now (s .entry))) ⌝ }
 {
-    let Number::Value(n) = up_to(s, 65535) else {
+    let Number::Value(n) = up_to(s, MOST_SHORT) else {
         return Short::NoShort;
     };
     Short::Name(n as u16)
@@ -58,14 +66,14 @@ fn negative(x: Number) -> Number
     let Number::Value(n) = x else {
         return Number::NoNumber;
     };
-    Number::Value(((4294967296 - cells::wide32(n)) % 4294967296) as u32)
+    Number::Value(((INT_RANGE - cells::wide32(n)) % INT_RANGE) as u32)
 }
 
 pub(crate) fn int_number(s: &[u8]) -> Number
     ensures { λ r. ⌜ r ≡ numberIs (int (now (s .entry))) ⌝ }
 {
     if cells::at8(s, 0) == 45 {
-        return negative(up_to(after(s, 1), 2147483648));
+        return negative(up_to(after(s, 1), SIGN_BIT));
     }
-    up_to(s, 2147483647)
+    up_to(s, MOST_INT)
 }

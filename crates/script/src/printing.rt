@@ -1,4 +1,5 @@
 // An answer printed as a line.
+use definition::numbers::SIGN_BIT;
 ghost use mathlib.Core.List.{_∷_};
 ghost use Prim.Native.Nat.{_≤_, _<_};
 ghost use lib.IntN.{pos};
@@ -38,7 +39,7 @@ fn put_int(out: &mut [u8], at: usize, bits: u32) -> usize
     requires { ⌜ at < 63 ⌝ }
     ensures { λ r. ⌜ Wrote (32 ∷ printedInt (signed bits)) at r (now (out .entry)) (now (out .exit)) ⌝ }
 {
-    if bits < 2147483648 {
+    if bits < SIGN_BIT {
         return put_number(out, at, bits);
     }
     cells::put8(out, at, 32);

@@ -6,14 +6,22 @@ use crate::sources::rows_fit;
 use crate::sources::sources_fit;
 use crate::values::frames_fit;
 use crate::values::objects_fit;
+use definition::numbers::CLASS_LIMIT;
+use definition::numbers::COUNT_CLASSES;
+use definition::numbers::FIELD_LIMIT;
 ghost use mathlib.Core.Path.{_≡_};
 ghost use mathlib.Core.Bool.{true};
 ghost use Prim.Native.Nat.{_≤_};
 ghost use lib.ListN.{length, getD};
+ghost use Rattle.definition.specs.Numbers.{classLimit, countClasses};
 ghost use Rattle.definition.specs.Tables.{tables, sizeOf};
 ghost use Rattle.definition.specs.Broken.{broken};
 ghost use Rattle.resolution.specs.Quick.{quickBase};
 ghost use Rattle.store.specs.Checks.{linkedSize, linksFit, Sized, valuesFit};
+
+// How many fields an object has at most.
+const FIELDS: usize = FIELD_LIMIT as usize;
+
 use resolution::Found;
 
 // The size of class c, where `sizes` has those of the classes below it.
@@ -34,7 +42,7 @@ fn linked_size(
     };
     let own = classfile::field_count(resolution::file_of(counts, classes, kept, number));
     let size = cells::wide8(cells::at8(sizes, cells::wide32(p))) + cells::wide8(own);
-    if 16 < size {
+    if FIELDS < size {
         return Fields::Unfit;
     }
     Fields::Count(size as u8)
@@ -42,11 +50,11 @@ fn linked_size(
 
 // Whether each class but the first is linked. If so `sizes` has the sizes of all of them.
 fn links_fit(sizes: &mut [u8], counts: &[u16], classes: &[u16], kept: &[u8], cache: &[u16]) -> bool
-    requires { ⌜ (length (now sizes) ≡ 64) × (getD (now counts) 0 0 ≤ 64) × (sizeOf (quickBase (now counts) (now classes) (now kept) (now cache)) 0 ≡ 0) ⌝ }
-    ensures { λ r. ⌜ (r ≡ linksFit (quickBase (now (counts .entry)) (now (classes .entry)) (now (kept .entry)) (now (cache .entry))) (getD (now (counts .entry)) 0 0)) × (r ≡ true → Sized (quickBase (now (counts .entry)) (now (classes .entry)) (now (kept .entry)) (now (cache .entry))) (getD (now (counts .entry)) 0 0) (now (sizes .exit))) ⌝ }
+    requires { ⌜ (length (now sizes) ≡ classLimit) × (getD (now counts) countClasses 0 ≤ classLimit) × (sizeOf (quickBase (now counts) (now classes) (now kept) (now cache)) 0 ≡ 0) ⌝ }
+    ensures { λ r. ⌜ (r ≡ linksFit (quickBase (now (counts .entry)) (now (classes .entry)) (now (kept .entry)) (now (cache .entry))) (getD (now (counts .entry)) countClasses 0)) × (r ≡ true → Sized (quickBase (now (counts .entry)) (now (classes .entry)) (now (kept .entry)) (now (cache .entry))) (getD (now (counts .entry)) countClasses 0) (now (sizes .exit))) ⌝ }
 {
     cells::put8(sizes, 0, 0);
-    let n = cells::at16(counts, 0);
+    let n = cells::at16(counts, COUNT_CLASSES);
     let mut c: u16 = 1;
     while c < n {
         let Fields::Count(size) = linked_size(sizes, counts, classes, kept, cache, c) else {
@@ -66,10 +74,10 @@ fn values_fit(
     objects: &[u32],
     frames: &[u32],
 ) -> bool
-    requires { ⌜ (getD (now counts) 0 0 ≤ 64) × (sizeOf (quickBase (now counts) (now classes) (now kept) (now cache)) 0 ≡ 0) ⌝ }
+    requires { ⌜ (getD (now counts) countClasses 0 ≤ classLimit) × (sizeOf (quickBase (now counts) (now classes) (now kept) (now cache)) 0 ≡ 0) ⌝ }
     ensures { λ r. ⌜ r ≡ valuesFit (quickBase (now (counts .entry)) (now (classes .entry)) (now (kept .entry)) (now (cache .entry))) (now (counts .entry)) (now (objects .entry)) (now (frames .entry)) ⌝ }
 {
-    let mut sizes = [0u8; 64];
+    let mut sizes = [0u8; CLASS_LIMIT as usize];
     if !links_fit(&mut sizes, counts, classes, kept, cache) {
         return false;
     }

@@ -1,10 +1,21 @@
 // Classes with their files, entries and constraints.
+use definition::numbers::COUNT_CACHE;
+use definition::numbers::COUNT_CLASSES;
+use definition::numbers::COUNT_KEPT;
+use definition::numbers::COUNT_SUBTYPES;
+use definition::numbers::COUNT_TIES;
+use definition::numbers::LOADER_LIMIT;
+use definition::numbers::ROW_CELLS;
 ghost use mathlib.Core.Path.{_≡_};
 ghost use lib.ListN.{getD};
+ghost use Rattle.definition.specs.Numbers.{countClasses, countKept, countCache, countTies, countSubtypes};
 ghost use Rattle.definition.specs.Lists.{all, rows};
 ghost use Rattle.definition.specs.Tables.{classRowAt, entryAt, tieAt, subtypeAt};
 ghost use Rattle.definition.specs.Broken.{isObject, entryFits, tieFits, subtypeFits};
 ghost use Rattle.store.specs.Checks.{fileFits, sourcesFit, rowsFit};
+
+// Loaders are numbers below this, in cells of 16 bits.
+const LOADERS: u16 = LOADER_LIMIT as u16;
 
 fn is_object(classes: &[u16]) -> bool
     ensures { λ r. ⌜ r ≡ isObject (classRowAt (now (classes .entry)) 0) ⌝ }
@@ -19,15 +30,15 @@ fn is_object(classes: &[u16]) -> bool
 }
 
 fn file_fits(counts: &[u16], classes: &[u16], kept: &[u8], c: u16) -> bool
-    ensures { λ r. ⌜ r ≡ fileFits (getD (now (counts .entry)) 1 0) (now (kept .entry)) (classRowAt (now (classes .entry)) c) ⌝ }
+    ensures { λ r. ⌜ r ≡ fileFits (getD (now (counts .entry)) countKept 0) (now (kept .entry)) (classRowAt (now (classes .entry)) c) ⌝ }
 {
-    let place = cells::wide16(c) * 3;
-    if 16 <= cells::at16(classes, place) {
+    let place = cells::wide16(c) * ROW_CELLS;
+    if LOADERS <= cells::at16(classes, place) {
         return false;
     }
     let start = cells::at16(classes, place + 1);
     let size = cells::at16(classes, place + 2);
-    if cells::wide16(cells::at16(counts, 1)) < cells::wide16(start) + cells::wide16(size) {
+    if cells::wide16(cells::at16(counts, COUNT_KEPT)) < cells::wide16(start) + cells::wide16(size) {
         return false;
     }
     classfile::reads(classfile::part(kept, start, size))
@@ -35,9 +46,9 @@ fn file_fits(counts: &[u16], classes: &[u16], kept: &[u8], c: u16) -> bool
 
 // Class 0, if there, is Object; every other class has a file that reads.
 pub(crate) fn sources_fit(counts: &[u16], classes: &[u16], kept: &[u8]) -> bool
-    ensures { λ r. ⌜ r ≡ sourcesFit (getD (now (counts .entry)) 1 0) (now (kept .entry)) (rows (classRowAt (now (classes .entry))) (getD (now (counts .entry)) 0 0) 0) ⌝ }
+    ensures { λ r. ⌜ r ≡ sourcesFit (getD (now (counts .entry)) countKept 0) (now (kept .entry)) (rows (classRowAt (now (classes .entry))) (getD (now (counts .entry)) countClasses 0) 0) ⌝ }
 {
-    let n = cells::at16(counts, 0);
+    let n = cells::at16(counts, COUNT_CLASSES);
     if n == 0 {
         return true;
     }
@@ -57,18 +68,18 @@ pub(crate) fn sources_fit(counts: &[u16], classes: &[u16], kept: &[u8]) -> bool
 fn entry_fits(cache: &[u16], classes: u16, i: u16) -> bool
     ensures { λ r. ⌜ r ≡ entryFits classes (entryAt (now (cache .entry)) i) ⌝ }
 {
-    let place = cells::wide16(i) * 3;
-    if 16 <= cells::at16(cache, place) {
+    let place = cells::wide16(i) * ROW_CELLS;
+    if LOADERS <= cells::at16(cache, place) {
         return false;
     }
     cells::at16(cache, place + 2) < classes
 }
 
 fn entries_fit(counts: &[u16], cache: &[u16]) -> bool
-    ensures { λ r. ⌜ r ≡ all (entryFits (getD (now (counts .entry)) 0 0)) (rows (entryAt (now (cache .entry))) (getD (now (counts .entry)) 2 0) 0) ⌝ }
+    ensures { λ r. ⌜ r ≡ all (entryFits (getD (now (counts .entry)) countClasses 0)) (rows (entryAt (now (cache .entry))) (getD (now (counts .entry)) countCache 0) 0) ⌝ }
 {
-    let classes = cells::at16(counts, 0);
-    let n = cells::at16(counts, 2);
+    let classes = cells::at16(counts, COUNT_CLASSES);
+    let n = cells::at16(counts, COUNT_CACHE);
     let mut i: u16 = 0;
     while i < n {
         if !entry_fits(cache, classes, i) {
@@ -82,17 +93,17 @@ fn entries_fit(counts: &[u16], cache: &[u16]) -> bool
 fn tie_fits(ties: &[u16], i: u16) -> bool
     ensures { λ r. ⌜ r ≡ tieFits (tieAt (now (ties .entry)) i) ⌝ }
 {
-    let place = cells::wide16(i) * 3;
-    if 16 <= cells::at16(ties, place) {
+    let place = cells::wide16(i) * ROW_CELLS;
+    if LOADERS <= cells::at16(ties, place) {
         return false;
     }
-    cells::at16(ties, place + 1) < 16
+    cells::at16(ties, place + 1) < LOADERS
 }
 
 fn ties_fit(counts: &[u16], ties: &[u16]) -> bool
-    ensures { λ r. ⌜ r ≡ all tieFits (rows (tieAt (now (ties .entry))) (getD (now (counts .entry)) 3 0) 0) ⌝ }
+    ensures { λ r. ⌜ r ≡ all tieFits (rows (tieAt (now (ties .entry))) (getD (now (counts .entry)) countTies 0) 0) ⌝ }
 {
-    let n = cells::at16(counts, 3);
+    let n = cells::at16(counts, COUNT_TIES);
     let mut i: u16 = 0;
     while i < n {
         if !tie_fits(ties, i) {
@@ -106,13 +117,13 @@ fn ties_fit(counts: &[u16], ties: &[u16]) -> bool
 fn subtype_fits(subtypes: &[u16], i: u16) -> bool
     ensures { λ r. ⌜ r ≡ subtypeFits (subtypeAt (now (subtypes .entry)) i) ⌝ }
 {
-    cells::at16(subtypes, cells::wide16(i) * 3) < 16
+    cells::at16(subtypes, cells::wide16(i) * ROW_CELLS) < LOADERS
 }
 
 fn subtypes_fit(counts: &[u16], subtypes: &[u16]) -> bool
-    ensures { λ r. ⌜ r ≡ all subtypeFits (rows (subtypeAt (now (subtypes .entry))) (getD (now (counts .entry)) 4 0) 0) ⌝ }
+    ensures { λ r. ⌜ r ≡ all subtypeFits (rows (subtypeAt (now (subtypes .entry))) (getD (now (counts .entry)) countSubtypes 0) 0) ⌝ }
 {
-    let n = cells::at16(counts, 4);
+    let n = cells::at16(counts, COUNT_SUBTYPES);
     let mut i: u16 = 0;
     while i < n {
         if !subtype_fits(subtypes, i) {

@@ -1,20 +1,42 @@
 // Values of objects' fields and of frames.
+use definition::numbers::COUNT_CLASSES;
+use definition::numbers::COUNT_FRAMES;
+use definition::numbers::COUNT_OBJECTS;
+use definition::numbers::DEPTH_CELL;
+use definition::numbers::FIELDS_CELL;
+use definition::numbers::FRAME_CELLS;
+use definition::numbers::FRAME_LIMIT;
+use definition::numbers::KIND_INT;
+use definition::numbers::KIND_NULL;
+use definition::numbers::KIND_OBJECT;
+use definition::numbers::LOCAL_COUNT;
+use definition::numbers::LOCALS_CELL;
+use definition::numbers::OBJECT_CELLS;
+use definition::numbers::OPERAND_LIMIT;
+use definition::numbers::OPERANDS_CELL;
+use definition::numbers::VALUE_CELLS;
 ghost use mathlib.Core.Path.{_≡_};
 ghost use lib.ListN.{getD};
+ghost use Rattle.definition.specs.Numbers.{localCount, countClasses, countObjects};
 ghost use Rattle.definition.specs.Lists.{all, rows, stack};
 ghost use Rattle.definition.specs.Tables.{valueOf, fieldAt, localAt, operandAt, frameAt};
 ghost use Rattle.store.specs.Checks.{objectSized, valueIn, localIn, objectIn, frameFit, framesFit};
 
+// The rows of a task, and the cells of a row of frames.
+const TASK_ROWS: u32 = FRAME_LIMIT as u32;
+
+const ROW_SIZE: u32 = FRAME_CELLS as u32;
+
 fn value_fits(kind: u32, bits: u32, made: u32) -> bool
     ensures { λ r. ⌜ r ≡ valueIn made (valueOf kind bits) ⌝ }
 {
-    if kind == 1 {
+    if kind == KIND_INT {
         return true;
     }
-    if kind == 3 {
+    if kind == KIND_OBJECT {
         return bits < made;
     }
-    if kind == 2 {
+    if kind == KIND_NULL {
         return bits == 0;
     }
     false
@@ -34,10 +56,10 @@ fn local_fits(kind: u32, bits: u32, made: u32) -> bool
 fn fields_fit(objects: &[u32], o: u16, size: u8, made: u32) -> bool
     ensures { λ r. ⌜ r ≡ all (valueIn made) (rows (fieldAt (now (objects .entry)) o) size 0) ⌝ }
 {
-    let first = cells::wide16(o) * 33;
+    let first = cells::wide16(o) * OBJECT_CELLS;
     let mut i: u8 = 0;
     while i < size {
-        let place = first + (1 + 2 * cells::wide8(i));
+        let place = first + (FIELDS_CELL + VALUE_CELLS * cells::wide8(i));
         if !value_fits(
             cells::at32(objects, place),
             cells::at32(objects, place + 1),
@@ -54,7 +76,7 @@ fn fields_fit(objects: &[u32], o: u16, size: u8, made: u32) -> bool
 fn object_fits(sizes: &[u8], objects: &[u32], o: u16, classes: u32, made: u32) -> bool
     ensures { λ r. ⌜ r ≡ objectIn classes made (objectSized (now (sizes .entry)) (now (objects .entry)) o) ⌝ }
 {
-    let class = cells::at32(objects, cells::wide16(o) * 33);
+    let class = cells::at32(objects, cells::wide16(o) * OBJECT_CELLS);
     if classes <= class {
         return false;
     }
@@ -62,10 +84,10 @@ fn object_fits(sizes: &[u8], objects: &[u32], o: u16, classes: u32, made: u32) -
 }
 
 pub(crate) fn objects_fit(sizes: &[u8], counts: &[u16], objects: &[u32]) -> bool
-    ensures { λ r. ⌜ r ≡ all (objectIn (getD (now (counts .entry)) 0 0) (getD (now (counts .entry)) 5 0)) (rows (objectSized (now (sizes .entry)) (now (objects .entry))) (getD (now (counts .entry)) 5 0) 0) ⌝ }
+    ensures { λ r. ⌜ r ≡ all (objectIn (getD (now (counts .entry)) countClasses 0) (getD (now (counts .entry)) countObjects 0)) (rows (objectSized (now (sizes .entry)) (now (objects .entry))) (getD (now (counts .entry)) countObjects 0) 0) ⌝ }
 {
-    let classes = cells::from16(cells::at16(counts, 0));
-    let n = cells::at16(counts, 5);
+    let classes = cells::from16(cells::at16(counts, COUNT_CLASSES));
+    let n = cells::at16(counts, COUNT_OBJECTS);
     let made = cells::from16(n);
     let mut o: u16 = 0;
     while o < n {
@@ -83,7 +105,7 @@ fn operands_fit(frames: &[u32], b: u32, depth: u32, made: u32) -> bool
 {
     let mut i = depth;
     while 0 < i {
-        let place = cells::wide32(b) + (20 + 2 * cells::wide32(i - 1));
+        let place = cells::wide32(b) + (OPERANDS_CELL + VALUE_CELLS * cells::wide32(i - 1));
         if !value_fits(
             cells::at32(frames, place),
             cells::at32(frames, place + 1),
@@ -97,11 +119,11 @@ fn operands_fit(frames: &[u32], b: u32, depth: u32, made: u32) -> bool
 }
 
 fn locals_fit(frames: &[u32], b: u32, made: u32) -> bool
-    ensures { λ r. ⌜ r ≡ all (localIn made) (rows (localAt (now (frames .entry)) b) 8 0) ⌝ }
+    ensures { λ r. ⌜ r ≡ all (localIn made) (rows (localAt (now (frames .entry)) b) localCount 0) ⌝ }
 {
     let mut i: u8 = 0;
-    while i < 8 {
-        let place = cells::wide32(b) + (4 + 2 * cells::wide8(i));
+    while i < LOCAL_COUNT {
+        let place = cells::wide32(b) + (LOCALS_CELL + VALUE_CELLS * cells::wide8(i));
         if !local_fits(
             cells::at32(frames, place),
             cells::at32(frames, place + 1),
@@ -120,8 +142,8 @@ fn frame_fits(frames: &[u32], b: u32, classes: u32, made: u32) -> bool
     if classes <= cells::at32(frames, cells::wide32(b)) {
         return false;
     }
-    let depth = cells::at32(frames, cells::wide32(b) + 3);
-    if 16 < depth {
+    let depth = cells::at32(frames, cells::wide32(b) + DEPTH_CELL);
+    if OPERAND_LIMIT < depth {
         return false;
     }
     if !operands_fit(frames, b, depth, made) {
@@ -134,12 +156,17 @@ fn frame_fits(frames: &[u32], b: u32, classes: u32, made: u32) -> bool
 pub(crate) fn frames_fit(counts: &[u16], frames: &[u32], task: u8) -> bool
     ensures { λ r. ⌜ r ≡ framesFit (now (counts .entry)) (now (frames .entry)) task ⌝ }
 {
-    let classes = cells::from16(cells::at16(counts, 0));
-    let made = cells::from16(cells::at16(counts, 5));
-    let first = cells::from16(cells::from8(task)) * 32;
-    let mut i = cells::at16(counts, 6 + cells::wide8(task));
+    let classes = cells::from16(cells::at16(counts, COUNT_CLASSES));
+    let made = cells::from16(cells::at16(counts, COUNT_OBJECTS));
+    let first = cells::from16(cells::from8(task)) * TASK_ROWS;
+    let mut i = cells::at16(counts, COUNT_FRAMES + cells::wide8(task));
     while 0 < i {
-        if !frame_fits(frames, (first + cells::from16(i - 1)) * 52, classes, made) {
+        if !frame_fits(
+            frames,
+            (first + cells::from16(i - 1)) * ROW_SIZE,
+            classes,
+            made,
+        ) {
             return false;
         }
         i -= 1;

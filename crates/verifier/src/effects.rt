@@ -1,5 +1,6 @@
 // What each instruction does to the types.
 use crate::types::INT;
+use crate::types::LOCALS;
 use crate::types::NULL;
 use crate::types::Popped;
 use crate::types::Types;
@@ -8,10 +9,13 @@ use crate::types::local;
 use crate::types::pop;
 use crate::types::type_of_name;
 use definition::Instruction;
+use definition::numbers::NAME_OBJECT;
+use definition::numbers::SHORT_RANGE;
 ghost use mathlib.Core.Bool.{_&&_};
 ghost use mathlib.Core.Option.{some};
 ghost use mathlib.Core.Path.{_≡_};
 ghost use lib.Dec.{leb};
+ghost use Rattle.definition.specs.Numbers.{nameObject};
 ghost use Rattle.definition.specs.Verifier.{meetClass, meetInt, meets, effect, returns};
 ghost use Rattle.verifier.specs.Types.{typeOf, localOf, typesOf};
 ghost use Rattle.verifier.specs.Effects.{notesIn, going, ending, outcome, outcomeOf};
@@ -43,7 +47,7 @@ fn meet_class(b: u16, t: u32) -> Meeting
     if t == NULL {
         return Meeting::Met;
     }
-    let a = (t % 65536) as u16;
+    let a = (t % SHORT_RANGE) as u16;
     if a == b {
         Meeting::Met
     } else {
@@ -80,14 +84,14 @@ fn stored(t: u32) -> u32
     if t == INT {
         return INT;
     }
-    if t == NULL { NULL } else { t % 65536 }
+    if t == NULL { NULL } else { t % SHORT_RANGE }
 }
 
 // An inline class is 2 or more, and other names are not 0.
 fn named(c: u16, n: u16, t: u16) -> bool
-    ensures { λ r. ⌜ r ≡ (leb 2 c && leb 1 n && leb 1 t) ⌝ }
+    ensures { λ r. ⌜ r ≡ (leb nameObject c && leb 1 n && leb 1 t) ⌝ }
 {
-    if c < 2 {
+    if c < NAME_OBJECT {
         return false;
     }
     if n == 0 {
@@ -135,7 +139,7 @@ fn istore(types: Types, i: u8) -> Effect
         return Effect::Rejected;
     }
     let place = cells::wide8(i);
-    if 8 <= place {
+    if LOCALS <= place {
         return Effect::Rejected;
     }
     Effect::Stored(d, place, INT)
@@ -151,7 +155,7 @@ fn astore(types: Types, i: u8) -> Effect
         return Effect::Rejected;
     }
     let place = cells::wide8(i);
-    if 8 <= place {
+    if LOCALS <= place {
         return Effect::Rejected;
     }
     Effect::Stored(d, place, stored(t))
@@ -242,7 +246,7 @@ fn invokevirtual(types: Types, c: u16, m: u16, t: u16, r: u16) -> Effect
 fn new(types: Types, c: u16) -> Effect
     ensures { λ r. ⌜ outcomeOf types r ≡ going (effect (Instruction.New c) (typesOf types)) ⌝ }
 {
-    if c < 2 {
+    if c < NAME_OBJECT {
         return Effect::Rejected;
     }
     push(types, cells::from16(c))

@@ -3,6 +3,7 @@ use crate::effects::Meeting;
 use crate::turns::Step;
 use crate::turns::turn_at;
 use crate::types::entry_types;
+use definition::numbers::NOTE_CELLS;
 ghost use mathlib.Core.Path.{_≡_};
 ghost use mathlib.Core.List.{_++_};
 ghost use Prim.Native.Nat.{_+_, _<_};
@@ -24,7 +25,7 @@ fn put_note(notes: &mut [u16], from: usize, i: usize, low: u16, high: u16)
     if notes.len() <= i {
         return;
     }
-    let place = (from + i) * 2;
+    let place = (from + i) * NOTE_CELLS;
     cells::put16(notes, place, low);
     cells::put16(notes, place + 1, high);
 }

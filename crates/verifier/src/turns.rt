@@ -4,6 +4,8 @@ use crate::decoding::decode;
 use crate::effects::Effect;
 use crate::effects::Meeting;
 use crate::effects::effect_of;
+use crate::types::LOCALS;
+use crate::types::OPERANDS;
 use crate::types::Types;
 ghost use mathlib.Core.Path.{_≡_};
 ghost use Rattle.definition.specs.Lists.{isSome};
@@ -69,7 +71,7 @@ fn go_on(types: Types, receiver: Meeting, value: Meeting, end: usize, last: bool
 fn kept(types: Types, d: usize, receiver: Meeting, value: Meeting, end: usize, last: bool) -> Turn
     ensures { λ r. ⌜ turnOf r ≡ settle end last (outcomeOf types (Effect.Kept d receiver value)) ⌝ }
 {
-    if 16 < d {
+    if OPERANDS < d {
         return stop(types);
     }
     let mut next = types;
@@ -89,7 +91,7 @@ fn pushed(
 ) -> Turn
     ensures { λ r. ⌜ turnOf r ≡ settle end last (outcomeOf types (Effect.Pushed d t receiver value)) ⌝ }
 {
-    if 16 <= d {
+    if OPERANDS <= d {
         return stop(types);
     }
     let mut next = types;
@@ -102,12 +104,12 @@ fn pushed(
 fn stored(types: Types, d: usize, i: usize, t: u32, end: usize, last: bool) -> Turn
     ensures { λ r. ⌜ turnOf r ≡ settle end last (outcomeOf types (Effect.Stored d i t)) ⌝ }
 {
-    if 16 < d {
+    if OPERANDS < d {
         return stop(types);
     }
     let mut next = types;
     next.depth = d;
-    if 8 <= i {
+    if LOCALS <= i {
         return go_on(next, Meeting::Met, Meeting::Met, end, last);
     }
     next.locals[i] = t;

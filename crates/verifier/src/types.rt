@@ -1,4 +1,7 @@
 // The verifier's types as numbers, and its state at a point.
+use definition::numbers::LOCAL_COUNT;
+use definition::numbers::OPERAND_LIMIT;
+use definition::numbers::SHORT_RANGE;
 ghost use mathlib.Core.Path.{_≡_};
 ghost use Prim.Native.Nat.{_<_};
 ghost use lib.ListN.{getD};
@@ -6,19 +9,24 @@ ghost use Rattle.definition.specs.Lists.{stack};
 ghost use Rattle.definition.specs.Verifier.{typeOfName, pop};
 ghost use Rattle.verifier.specs.Types.{typeOf, localOf, operandAt, localsOf, popped, entryOf, typesOf, knownLocal};
 
-// A type is a number. A class name is itself.
-pub(crate) const INT: u32 = 65536;
+// How many operands there are at most, and how many locals.
+pub(crate) const OPERANDS: usize = OPERAND_LIMIT as usize;
 
-pub(crate) const NULL: u32 = 65537;
+pub(crate) const LOCALS: usize = LOCAL_COUNT as usize;
+
+// A type is a number. A class name is itself.
+pub(crate) const INT: u32 = SHORT_RANGE;
+
+pub(crate) const NULL: u32 = SHORT_RANGE + 1;
 
 // A local that holds nothing.
-pub(crate) const UNSET: u32 = 65538;
+pub(crate) const UNSET: u32 = SHORT_RANGE + 2;
 
 // The types at a point: of the operands, from the lowest, as many as depth says, and of the locals.
 pub struct Types {
-    pub operands: [u32; 16],
+    pub operands: [u32; OPERANDS],
     pub depth: usize,
-    pub locals: [u32; 8],
+    pub locals: [u32; LOCALS],
 }
 
 // The last operand's type, and how many are left below it.
@@ -41,7 +49,7 @@ pub(crate) fn entry_types(own: u16, argument: u16) -> Types
     let first = cells::from16(own);
     let second = type_of_name(argument);
     Types {
-        operands: [0; 16],
+        operands: [0; OPERANDS],
         depth: 0,
         locals: [first, second, UNSET, UNSET, UNSET, UNSET, UNSET, UNSET],
     }
@@ -51,7 +59,7 @@ pub(crate) fn entry_types(own: u16, argument: u16) -> Types
 fn operand(types: Types, i: usize) -> u32
     ensures { λ r. ⌜ r ≡ getD (types .operands) i 0 ⌝ }
 {
-    if i < 16 { types.operands[i] } else { 0 }
+    if i < OPERANDS { types.operands[i] } else { 0 }
 }
 
 // The last of d operands.
@@ -69,7 +77,7 @@ pub(crate) fn local(types: Types, i: u8) -> u32
     ensures { λ r. ⌜ localOf r ≡ knownLocal (localsOf (types .locals)) i ⌝ }
 {
     let place = cells::wide8(i);
-    if place < 8 {
+    if place < LOCALS {
         types.locals[place]
     } else {
         UNSET

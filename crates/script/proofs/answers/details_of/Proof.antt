@@ -1,35 +1,28 @@
--- A call's answer by its kind. The turn is a small number, so that it reads as itself.
-use Rattle.script.specs.Details.{replyNumbers, detailed}
+-- A call's answer by its kind.
+use Rattle.definition.specs.Answers.{details}
 use borrow.Author.Needs.{needs}
-use native.Mathlib.Omega.{arith}
 use Rattle.script.proofs.answers.details_of.Statement.{statement}
 use Rattle.script.proofs.answers.details_of.Tie as tie
 
 returns : tie.Need-returns
-unfolding replyNumbers
-returns c = detailed (c .before .before .args .turn) (omega arith) _ _ (rw (c .enum-told .given .1))
+unfolding details
+returns c = rw (c .enum-told .given .1)
 
 returns-2 : tie.Need-returns-2
-unfolding replyNumbers
-returns-2 c =
-    let at1 = c .before .before .before in
-    let at2 = at1 .before .before in
-    detailed (at2 .args .turn) (omega arith) _ _ (rw (at1 .reply .given .1, c .from16 .ensures .0, c .before .from8 .ensures .0))
+unfolding details
+returns-2 c = rw (c .before .before .before .reply .given .1, c .from16 .ensures .0, c .before .from8 .ensures .0)
 
 returns-3 : tie.Need-returns-3
-unfolding replyNumbers
-returns-3 c =
-    detailed (c .before .before .before .before .args .turn) (omega arith) _ _ (rw (c .before .before .reply2 .given .1) (c .step-details .ensures))
+unfolding details
+returns-3 c = rw (c .before .before .reply2 .given .1) (c .step-details .ensures)
 
 returns-4 : tie.Need-returns-4
-unfolding replyNumbers
-returns-4 c =
-    detailed (c .before .before .before .before .args .turn) (omega arith) _ _ (rw (c .before .before .reply3 .given .1) (c .step-details2 .ensures))
+unfolding details
+returns-4 c = rw (c .before .before .reply3 .given .1) (c .step-details2 .ensures)
 
 returns-5 : tie.Need-returns-5
-unfolding replyNumbers
-returns-5 c =
-    detailed (c .before .before .before .before .args .turn) (omega arith) _ _ (rw (c .before .before .reply4 .given .1) (c .refusal-details .ensures))
+unfolding details
+returns-5 c = rw (c .before .before .reply4 .given .1) (c .refusal-details .ensures)
 
 pub details-of-spec : {M : Type 1} → statement M
 details-of-spec =

@@ -1,11 +1,11 @@
 -- A refusal's number and what it wants.
-use Rattle.script.specs.Details.{refusalNumbers}
+use Rattle.definition.specs.Answers.{refusalDetails}
 use borrow.Author.Needs.{needs}
 use Rattle.script.proofs.answers.refusal_details.Statement.{statement}
 use Rattle.script.proofs.answers.refusal_details.Tie as tie
 
 returns : tie.Need-returns
-unfolding refusalNumbers
+unfolding refusalDetails
 returns c =
     let at1 = c .before .before .before in
     let at2 = at1 .before in
@@ -13,7 +13,7 @@ returns c =
     rw (at3 .refusal .given .1, at1 .from16 .ensures .0, at2 .from8 .ensures .0, c .before .before .from162 .ensures .0, c .from163 .ensures .0, c .before .from82 .ensures .0)
 
 returns-2 : tie.Need-returns-2
-unfolding refusalNumbers
+unfolding refusalDetails
 returns-2 c = rw (c .before .refusal2 .given .1)
 
 pub refusal-details-spec : {M : Type 1} → statement M

@@ -1,7 +1,6 @@
 -- A space, a minus where the int is negative, then the digits.
 use mathlib.Core.Path.{_∙_}
-use Rattle.script.specs.Details.{signed-small}
-use Rattle.script.specs.Printing.{minus-wrote}
+use Rattle.script.specs.Printing.{signed-small, minus-wrote}
 use borrow.Author.Needs.{needs}
 use Rattle.script.proofs.printing.put_int.Statement.{statement}
 use Rattle.script.proofs.printing.put_int.Tie as tie

@@ -4,7 +4,7 @@ use Rattle.store.proofs.counts.is_within.Statement.{statement}
 use Rattle.store.proofs.counts.is_within.Tie as tie
 
 returns : tie.Need-returns
-returns c = rw (c .at16 .ensures, c .before .wide8 .ensures .0)
+returns c = rw (c .at16 .ensures)
 
 pub is-within-spec : {M : Type 1} → statement M
-is-within-spec = tie.close (tie.spec (λ c κs. search needs) (λ c κs. search needs) returns)
+is-within-spec = tie.close (tie.spec (λ c κs. search needs) returns)
