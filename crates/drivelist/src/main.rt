@@ -3,9 +3,17 @@
 //
 // The input is cells of four bytes, big-endian: how many cells of the counts, of the list and of the answers are lent (as many as there are,
 // if it says more), then the list. The files' bytes are the whole input, filled up with zeros to 65,536.
+use definition::numbers::CACHE_LENGTH;
+use definition::numbers::CLASSES_LENGTH;
+use definition::numbers::COUNTS_LENGTH;
+use definition::numbers::FRAMES_LENGTH;
+use definition::numbers::KEPT_LENGTH;
+use definition::numbers::OBJECTS_LENGTH;
+use definition::numbers::SUBTYPES_LENGTH;
+use definition::numbers::TIES_LENGTH;
+use driver::Outcome;
 use libc::STDIN_FILENO;
 use libc::STDOUT_FILENO;
-use driver::Outcome;
 ghost use Prim.Native.Nat.{_≤_};
 
 const LIST: usize = 600;
@@ -21,7 +29,8 @@ fn cell_at(input: &[u8], i: usize) -> u32
     requires { ⌜ i ≤ 1000 ⌝ }
 {
     let place = i * 4;
-    cells::from16(cells::short_at(input, place)) * 65536 + cells::from16(cells::short_at(input, place + 2))
+    cells::from16(cells::short_at(input, place)) * 65536
+        + cells::from16(cells::short_at(input, place + 2))
 }
 
 // How many cells are lent, of so many that there are.
@@ -196,14 +205,14 @@ fn play(
 }
 
 fn main() {
-    let mut counts = [0u16; 8];
-    let mut classes = [0u16; 192];
-    let mut kept = [0u8; 16384];
-    let mut cache = [0u16; 768];
-    let mut ties = [0u16; 768];
-    let mut subtypes = [0u16; 768];
-    let mut objects = [0u32; 8448];
-    let mut frames = [0u32; 3328];
+    let mut counts = [0u16; COUNTS_LENGTH];
+    let mut classes = [0u16; CLASSES_LENGTH];
+    let mut kept = [0u8; KEPT_LENGTH];
+    let mut cache = [0u16; CACHE_LENGTH];
+    let mut ties = [0u16; TIES_LENGTH];
+    let mut subtypes = [0u16; SUBTYPES_LENGTH];
+    let mut objects = [0u32; OBJECTS_LENGTH];
+    let mut frames = [0u32; FRAMES_LENGTH];
     let mut list = [0u32; LIST];
     let mut input = [0u8; 65536];
     let mut answers = [0u32; 300];
