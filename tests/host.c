@@ -100,6 +100,9 @@ static void damage(void)
             refuses("a constraint of loader 16", each(name), TARIFF_BROKEN);
     }
     put_back(&first);
+    set(CACHE, 13, 11);
+    refuses("an entry that is there, of a class with another name", record(1, 11, 1), TARIFF_MISNAMED);
+    put_back(&first);
     set(FRAMES, 2, 3);
     refuses("a point past the code", step(), TARIFF_STUCK);
     put_back(&first);
