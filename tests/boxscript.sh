@@ -60,5 +60,5 @@ for input in "$cases"/*; do
     fi
 done
 # 300 generated scripts
-(cd reference && TARIFF_BOXSCRIPT=$PWD/../target/bin/boxscript cargo test --offline --release --quiet --test boxscript -- --ignored)
+TARIFF_BOXSCRIPT=$PWD/target/bin/boxscript tests/cargo-test 1 --test boxscript -- --ignored
 exit "$wrong"

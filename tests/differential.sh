@@ -10,7 +10,7 @@ tests/build host desk
 cd reference
 log=../target/differential.log
 compare() { # LIBRARIES LINKED SEEDS WORDS...
-    TARIFF_LIB=$1 TARIFF_LINK=$2 TARIFF_SEEDS=$3 cargo test --offline --release --quiet --features host --test host "${@:4}"
+    TARIFF_LIB=$1 TARIFF_LINK=$2 TARIFF_SEEDS=$3 ../tests/cargo-test 1 --features host --test host "${@:4}"
 }
 
 TARIFF_SECONDS=${1:-0} compare "$PWD/../target/staticlib" static=host,static=desk 8000 -- --nocapture

@@ -5,6 +5,7 @@
 #include <sys/mman.h>
 #include <ucontext.h>
 
+#include "desk.h"
 #include "tariff.h"
 
 _Static_assert(sizeof(struct tariff_store) == 68496, "a store's bytes, as published");
@@ -103,7 +104,8 @@ static void make_tables(void)
 
 /* Calls */
 
-enum { BOOT, DEFINE, RECORD, START, STEP, RUN, DROP, CALLS };
+/* The calls on a store, and the desk's check, which takes none. */
+enum { BOOT, DEFINE, RECORD, START, STEP, RUN, DROP, CALLS, CHECK = CALLS, MEASURED };
 
 struct call {
     int name;
@@ -182,6 +184,7 @@ static uint8_t perform(const struct call *c)
     case START: return tariff_start(LENT, c->one, c->two, (uint16_t)c->three, (uint16_t)c->four, c->five, LEND(ANSWER));
     case STEP: return tariff_step(LENT, LEND(ANSWER));
     case RUN: return tariff_run(LENT, c->one, LEND(ANSWER));
+    case CHECK: return tariff_check(c->file, c->size);
     default: return tariff_drop(LENT, c->one, LEND(ANSWER));
     }
 }
@@ -191,7 +194,7 @@ static uint8_t perform(const struct call *c)
 enum { STACK = 1 << 18, PAINT = 0xA5, PROMISED = 96 * 1024 };
 
 static _Alignas(64) uint8_t stack[STACK];
-static size_t deepest[CALLS];
+static size_t deepest[MEASURED];
 static ucontext_t here, there;
 static const struct call *asked;
 static uint8_t returned;
@@ -216,7 +219,15 @@ static uint8_t performed(const struct call *c)
     return returned;
 }
 
-/* A call's number and six cells. It writes those cells of the answer table that there is room for, and if it is refused nothing else. */
+/* The desk's number for the file of a define. */
+static uint8_t desk(struct call c)
+{
+    c.name = CHECK;
+    return performed(&c);
+}
+
+/* A call's number and six cells. It writes those cells of the answer table that there is room for, and if it is refused nothing else. The
+   desk says of a define's file, if define looked at it, what define said. */
 static void expect(const char *what, struct call c, uint8_t number, const uint32_t six[])
 {
     static uint8_t cell[2 * PAGE];
@@ -228,6 +239,8 @@ static void expect(const char *what, struct call c, uint8_t number, const uint32
     check(what, memcmp(cell, memory[ANSWER], room[ANSWER]) == 0);
     if (number != 0)
         check(what, same(&before));
+    if (c.name == DEFINE && number != TARIFF_BROKEN && number != TARIFF_UNKNOWN)
+        check(what, desk(c) == (number == TARIFF_FILE || number == TARIFF_UNVERIFIED ? number : 0));
 }
 
 #define SIX(...) (const uint32_t[]){__VA_ARGS__}

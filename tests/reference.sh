@@ -1,5 +1,9 @@
 #!/usr/bin/env bash
 # The second implementation's own tests: the paper's cases, the words of each call, invariants on generated lists of calls.
-set -e
-cd "$(dirname "$0")/../reference"
-cargo test --offline --release --quiet --lib --bins --tests
+set -euo pipefail
+cd "$(dirname "$0")/.."
+# every test that is written runs, but for those that need the verified machine
+written=$(find reference/src reference/tests -name '*.rs' ! -name host.rs -exec cat {} + | grep -c '^ *#\[test\]')
+ignored=$(find reference/src reference/tests -name '*.rs' ! -name host.rs -exec cat {} + | grep -c '^ *#\[ignore')
+[ "$written" -gt "$ignored" ] || { echo "there are no tests"; exit 1; }
+tests/cargo-test $((written - ignored)) --lib --bins --tests

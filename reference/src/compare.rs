@@ -10,7 +10,7 @@ use crate::answer::{Answer, Reply};
 use crate::broken::unbroken;
 use crate::gen::chains::chains;
 use crate::gen::codes::{rejected, taken};
-use crate::gen::damage::{damaged, probes};
+use crate::gen::damage::{damaged, probes, SHAPES};
 use crate::gen::files::file;
 use crate::gen::limits::LIMITS;
 use crate::gen::list::list;
@@ -36,6 +36,10 @@ pub struct Comparison {
     pub damaged: Tally,
     /// Calls on tables of a wrong length, by call.
     pub misshapen: [u64; 7],
+    /// Damaged stores that have each of `SHAPES`.
+    pub shapes: [u64; SHAPES.len()],
+    /// Calls that followed the boot of a damaged store.
+    pub rebooted: u64,
     /// What the desk answered to so many files, by number.
     pub desk: [u64; 7],
     pub seeds: u64,
@@ -116,12 +120,30 @@ impl Comparison {
 
     fn damage(&mut self, seed: u64) {
         let store = damaged(seed);
+        SHAPES.iter().zip(&mut self.shapes).for_each(|((_, has), stores)| *stores += u64::from(has(&store)));
         let mut going = store.clone();
         for (at, call) in probes(seed, &store).iter().enumerate() {
             let label = format!("damage {seed}, call {at}");
             self.call(&store, call, (seed as usize + at) % 9, &label);
             if *call != Call::Boot {
                 going = self.call(&going, call, CELLS, &label);
+            }
+        }
+        if seed % STORES == 0 {
+            self.reboot(&store, &list(seed, 40), &format!("damage {seed}, booted"));
+        }
+    }
+
+    /// A list of calls, which begins with a boot, on any tables. What boot leaves takes it as zeros do; other lengths refuse every call.
+    fn reboot(&mut self, store: &Store, trial: &Trial, label: &str) {
+        let (mut ours, mut theirs) = (store.clone(), store.clone());
+        for (at, (call, &from_zeros)) in trial.calls.iter().zip(&trial.replies).enumerate() {
+            let label = format!("{label}, call {at}");
+            let reply = both(&mut ours, &mut theirs, call, CELLS, &label);
+            if store.lengths() == LENGTHS {
+                assert!(reply == from_zeros, "{label}: {call:?} answers {reply:?}, and {from_zeros:?} from zeros");
+                sound(&theirs, reply, &label);
+                self.rebooted += u64::from(at > 0);
             }
         }
     }
@@ -198,6 +220,8 @@ impl Comparison {
         self.damaged.add(&other.damaged);
         (0..7).for_each(|call| self.misshapen[call] += other.misshapen[call]);
         (0..7).for_each(|number| self.desk[number] += other.desk[number]);
+        (0..SHAPES.len()).for_each(|shape| self.shapes[shape] += other.shapes[shape]);
+        self.rebooted += other.rebooted;
         self.seeds += other.seeds;
     }
 
@@ -218,6 +242,11 @@ impl Comparison {
         demand(damaged.contains(&14) && !damaged.contains(&1), format!("runs on damaged stores ended with {damaged:?}"));
         demand(self.booted.idle_opcodes().is_empty(), format!("never ran: {:?}", self.booted.idle_opcodes()));
         demand(self.misshapen.iter().all(|&calls| calls > 0), format!("calls on misshapen tables: {:?}", self.misshapen));
+        for ((what, _), &stores) in SHAPES.iter().zip(&self.shapes) {
+            demand(stores > 0, format!("no damaged store has {what}"));
+        }
+        demand(self.rebooted > 0, "no calls after the boot of a damaged store".into());
+        demand(self.damaged.long_runs > 0, "no run of a thousand steps on damaged stores".into());
         demand([0, 2, 6].iter().all(|&number| self.desk[number] > 0), format!("the desk answered {:?}", self.desk));
         odd
     }
@@ -229,6 +258,8 @@ impl fmt::Display for Comparison {
         writeln!(f, "{} seeds\n\nCall lists from a boot\n{}", self.seeds, self.booted)?;
         writeln!(f, "Single calls, mostly on damaged stores\n{}", self.damaged)?;
         writeln!(f, "Calls on tables of a wrong length: {:?}", self.misshapen)?;
+        SHAPES.iter().zip(&self.shapes).try_for_each(|((what, _), stores)| writeln!(f, "Damaged stores with {what}: {stores}"))?;
+        writeln!(f, "Calls after the boot of a damaged store: {}", self.rebooted)?;
         writeln!(f, "The desk: {sound} sound, {} no files, {unverified} unverified", self.desk[2])
     }
 }

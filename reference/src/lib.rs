@@ -1,5 +1,5 @@
 //! The tariff class machine, written a second time: boot, define, record, start, step, run and drop
-//! over the eight lent tables that docs/STORE.md publishes, the desk's check, and boxscript.
+//! over the eight lent tables that docs/STORE.md publishes, the desk's check, boxscript and drivelist.
 //!
 //! It shares no code with the proved machine. The two are compared call by call and cell by cell.
 
@@ -10,6 +10,7 @@ pub mod classes;
 pub mod code;
 #[cfg(feature = "host")]
 pub mod compare;
+pub mod drive;
 pub mod file;
 pub mod gen;
 pub mod host;

@@ -42,11 +42,13 @@ pub struct Tally {
     /// The same of steps.
     pub steps: [u64; 18],
     pub opcodes: [u64; 256],
+    /// Runs of a thousand steps and more.
+    pub long_runs: u64,
 }
 
 impl Default for Tally {
     fn default() -> Tally {
-        Tally { words: [[0; 15]; 7], run_ends: [0; 18], steps: [0; 18], opcodes: [0; 256] }
+        Tally { words: [[0; 15]; 7], run_ends: [0; 18], steps: [0; 18], opcodes: [0; 256], long_runs: 0 }
     }
 }
 
@@ -85,6 +87,7 @@ impl Tally {
             }
             Reply::RanFor(steps, answer) => {
                 self.run_ends[ending(answer)] += 1;
+                self.long_runs += u64::from(steps >= 1_000);
                 let finished = u16::from(matches!(answer, Answer::Finished(..)));
                 self.count_opcodes(before, steps.saturating_add(finished).min(200));
             }
@@ -116,6 +119,7 @@ impl Tally {
         (0..18).for_each(|end| self.run_ends[end] += other.run_ends[end]);
         (0..18).for_each(|end| self.steps[end] += other.steps[end]);
         (0..256).for_each(|opcode| self.opcodes[opcode] += other.opcodes[opcode]);
+        self.long_runs += other.long_runs;
     }
 
     /// The words given to a call, by number; 0 is accepted.
@@ -157,6 +161,6 @@ impl fmt::Display for Tally {
         for (opcode, name) in op::ALL.iter().zip(op::NAMES) {
             writeln!(f, "   {opcode:02X} {name:<14}{:>9}", self.opcodes[usize::from(*opcode)])?;
         }
-        Ok(())
+        writeln!(f, "   runs of 1,000 steps and more{:>18}", self.long_runs)
     }
 }

@@ -1,9 +1,9 @@
 //! The program boxscript of the verified machine beside ours, on random scripts. TARIFF_BOXSCRIPT names the
 //! program; without it, ours alone is run.
 
-use std::io::Write;
-use std::process::{Command, Stdio};
+mod program;
 
+use program::play;
 use reference::gen::scripts::script;
 use reference::script::boxscript;
 
@@ -11,22 +11,6 @@ fn ours(input: &[u8]) -> Vec<u8> {
     let mut out = Vec::new();
     boxscript(input, &mut out).expect("a vector takes all");
     out
-}
-
-/// Gives a program the script and reads what it prints.
-fn play(program: &str, input: &[u8]) -> Vec<u8> {
-    let mut child = Command::new(program)
-        .stdin(Stdio::piped())
-        .stdout(Stdio::piped())
-        .spawn()
-        .expect("the program starts");
-    let mut stdin = child.stdin.take().expect("a pipe");
-    let bytes = input.to_vec();
-    // A program that ends early closes the pipe: what it printed counts.
-    let writer = std::thread::spawn(move || drop(stdin.write_all(&bytes)));
-    let out = child.wait_with_output().expect("the program ends");
-    writer.join().expect("the writer ends");
-    out.stdout
 }
 
 #[test]

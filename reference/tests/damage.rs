@@ -2,7 +2,7 @@
 
 use reference::answer::{Answer, Reply};
 use reference::gen::cases::whole;
-use reference::gen::damage::{damaged, probes};
+use reference::gen::damage::{damaged, probes, SHAPES};
 use reference::gen::stuck::stuck;
 use reference::gen::sweep::sweep;
 use reference::gen::Call;
@@ -45,11 +45,13 @@ fn try_call(before: &Store, call: &Call, label: &str, tally: &mut Tally) -> Stor
 fn damaged_stores() {
     let mut tally = Tally::default();
     let (mut whole, mut misplacing) = (0, 0);
+    let mut shapes = [0; SHAPES.len()];
     for seed in 0..SEEDS {
         let store = damaged(seed);
         let label = format!("damage {seed}");
         whole += usize::from(!broken(&store));
         misplacing += usize::from(!broken(&store) && misplaced(&store) > 0);
+        SHAPES.iter().zip(&mut shapes).for_each(|((_, has), stores)| *stores += u64::from(has(&store)));
         let mut going = store.clone();
         for call in probes(seed, &store) {
             try_call(&store, &call, &label, &mut tally);
@@ -64,6 +66,11 @@ fn damaged_stores() {
         let missing: Vec<_> = words.iter().filter(|word| !given.contains(word)).collect();
         assert!(missing.is_empty(), "{call}: not given on damaged stores: {missing:?}");
     }
+    for ((what, _), stores) in SHAPES.iter().zip(shapes) {
+        println!("{stores} with {what}");
+        assert!(stores > 20, "{what}: {stores} damaged stores");
+    }
+    assert!(tally.long_runs > 20, "{} runs of 1,000 steps and more", tally.long_runs);
     assert!(tally.run_ends[14] > 0 && whole > 1_000 && misplacing > 100);
 }
 

@@ -4,9 +4,15 @@ use std::sync::OnceLock;
 
 use reference::answer::{denied, word};
 use reference::broken::unbroken;
+use reference::classes::Classes;
+use reference::code::Instruction;
 use reference::gen::Call;
-use reference::store::count;
+use reference::step::{instruction_of, take_step};
+use reference::store::{cell, count, frame_base, FIELDS, LIMITS};
 use reference::{step, Answer, Refusal, Reply, Store};
+
+use crate::judged::{agrees, Judge};
+use crate::made::{post, write};
 
 /// The name of the fault and the calls that have it.
 type Fault = (&'static str, fn(&Call, &mut Store) -> Option<Reply>);
@@ -14,8 +20,9 @@ type Fault = (&'static str, fn(&Call, &mut Store) -> Option<Reply>);
 /// The fault of the desk's check: it lets by what the verifier rejects.
 const DESK: &str = "desk-skips-the-verifier";
 
-/// Each takes over the calls that it answers wrongly. The first seven are the machines that document 01 bars, the next four what learners do.
-const FAULTS: [Fault; 12] = [
+/// Each takes over the calls that it answers wrongly. First the machines that document 01 bars, with a table that is called full where one
+/// row, byte or field is left for each that has a limit, then what learners do.
+const FAULTS: [Fault; 26] = [
     ("run-does-one-step", |call, store| match *call {
         Call::Run { n } => match (call.apply(&mut store.clone()), step(store)) {
             (Reply::RanFor(..), answer @ Answer::Ran(_)) => Some(Reply::RanFor(n as u16, answer)),
@@ -29,32 +36,67 @@ const FAULTS: [Fault; 12] = [
         reply => Some(reply),
     }),
     ("step-moves-nothing", |call, store| matches!(call, Call::Step).then(|| call.apply(&mut store.clone()))),
-    ("record-has-no-room", |call, store| {
-        let adds = matches!(call, Call::Record { .. }) && call.apply(&mut store.clone()) == Reply::Accepted;
-        adds.then_some(denied(word::FULL))
+    ("classes-full-with-room", |call, store| one_less(call, store, count::CLASSES)),
+    ("kept-bytes-full-with-room", |call, store| one_less(call, store, count::KEPT)),
+    ("cache-full-with-room", |call, store| one_less(call, store, count::CACHE)),
+    ("ties-full-with-room", |call, store| one_less(call, store, count::TIES)),
+    ("subtypes-full-with-room", |call, store| one_less(call, store, count::SUBTYPES)),
+    ("objects-full-with-room", |call, store| one_less(call, store, count::OBJECTS)),
+    ("quote-full-with-room", |call, store| one_less(call, store, count::FRAMES)),
+    ("report-full-with-room", |call, store| one_less(call, store, count::FRAMES + 1)),
+    ("fields-full-with-room", |call, store| {
+        let mut after = store.clone();
+        let Reply::Defined(class) = call.apply(&mut after) else {
+            return None;
+        };
+        let fields = unbroken(&after).expect("a store").field_count(class.into());
+        let own = after.file(class.into()).expect("a class").field_count();
+        (fields == FIELDS && own > 0).then_some(denied(word::FULL))
     }),
     ("start-wants-a-cached-class", |call, store| match (call, call.apply(&mut store.clone())) {
         (&Call::Start { loader, name, .. }, Reply::Accepted) => Some(Reply::Denied(Refusal::Wanted(loader as u8, name))),
         _ => None,
     }),
+    ("step-wants-a-cached-class", |call, store| {
+        stepping(call, store, |store, classes| match asked(store) {
+            Some((loader, name)) if store.cached(loader, name).is_some() => Answer::Refused(Refusal::Wanted(loader as u8, name)),
+            _ => take_step(store, classes),
+        })
+    }),
     ("step-is-idle", |call, _| matches!(call, Call::Step).then_some(Reply::Stepped(Answer::Idle))),
-    ("all-is-refused", |_, _| Some(denied(word::BROKEN))),
-    ("checks-only-constraints-on-the-request", |call, store| match (call, call.apply(&mut store.clone())) {
-        (&Call::Record { loader, name, class }, Reply::Denied(Refusal::Word(word::CLASH))) => {
-            let entry = [loader, name, class].map(|number| number as u16);
-            (!clashes_nearby(store, entry)).then(|| {
-                store.add_cached(entry);
-                Reply::Accepted
-            })
-        }
+    ("define-is-refused", |call, store| match call.apply(&mut store.clone()) {
+        Reply::Defined(_) => Some(denied(word::CLASH)),
         _ => None,
     }),
-    ("posts-and-then-refuses", |call, store| match call.apply(store) {
+    ("record-is-refused", |call, store| {
+        let adds = matches!(call, Call::Record { .. }) && call.apply(&mut store.clone()) == Reply::Accepted;
+        adds.then_some(denied(word::CLASH))
+    }),
+    ("all-is-refused", |_, _| Some(denied(word::BROKEN))),
+    ("checks-only-constraints-on-the-request", |call, store| judged_by(call, store, Judge::OneConstraint)),
+    ("joins-only-direct-ties", |call, store| judged_by(call, store, Judge::OneTie)),
+    ("compares-by-name", |call, store| judged_by(call, store, Judge::Names)),
+    ("superclass-under-the-asking-loader", |call, store| {
+        stepping(call, store, |store, classes| {
+            let wrong = asking(store).and_then(|loader| classes_under(store, loader));
+            take_step(store, wrong.as_ref().unwrap_or(classes))
+        })
+    }),
+    ("step-posts-and-then-refuses", |call, store| match call.apply(store) {
         reply @ Reply::Stepped(Answer::Refused(Refusal::Word(word::NULL | word::CLASH))) => {
-            store.add_tie([1, 2, 12]);
+            if !store.is_full(count::TIES) {
+                store.add_tie([1, 2, 12]);
+            }
             Some(reply)
         }
         reply => Some(reply),
+    }),
+    ("define-posts-and-then-refuses", |call, store| match (call, call.apply(&mut store.clone())) {
+        (&Call::Define { loader, ref file }, reply @ Reply::Denied(Refusal::Word(word::CLASH))) => {
+            post(store, loader as u16, file);
+            Some(reply)
+        }
+        _ => None,
     }),
     ("overriding-ties-nothing", |call, store| {
         let ties = store.counts.get(count::TIES).copied();
@@ -63,13 +105,6 @@ const FAULTS: [Fault; 12] = [
             store.counts[count::TIES] = ties;
         }
         Some(reply)
-    }),
-    ("compares-by-name", |call, store| match (call, call.apply(&mut store.clone())) {
-        (&Call::Record { loader, name, class }, Reply::Denied(Refusal::Word(word::CLASH))) => {
-            store.add_cached([loader, name, class].map(|number| number as u16));
-            Some(Reply::Accepted)
-        }
-        _ => None,
     }),
     ("boot-clears-free-cells", |call, store| {
         let reply = call.apply(store);
@@ -80,16 +115,87 @@ const FAULTS: [Fault; 12] = [
     }),
 ];
 
-/// Does the entry clash with one that a single constraint joins it to?
-fn clashes_nearby(store: &Store, [loader, name, class]: [u16; 3]) -> bool {
-    let classes = unbroken(store).expect("a store");
-    let tied = store.tie_rows().filter(|&[one, other, of]| of == name && (one == loader || other == loader));
-    let mut apart = tied.filter_map(|[one, other, _]| store.cached(one ^ other ^ loader, name));
-    let noted: Vec<[u16; 3]> = store.subtype_rows().filter(|row| row[0] == loader).collect();
-    let loaded = |name: u16| store.cached(loader, name);
-    apart.any(|other| other != class)
-        || noted.iter().any(|row| row[1] == name && loaded(row[2]).is_some_and(|high| !classes.below(class, high)))
-        || noted.iter().any(|row| row[2] == name && loaded(row[1]).is_some_and(|low| !classes.below(low, class)))
+/// A step, or a run of such steps, on a store that isn't broken.
+fn stepping(call: &Call, store: &mut Store, step: impl Fn(&mut Store, &Classes) -> Answer) -> Option<Reply> {
+    let classes = unbroken(store)?;
+    match *call {
+        Call::Step => Some(Reply::Stepped(step(store, &classes))),
+        Call::Run { n: n @ 1..=65_535 } => {
+            let mut ran = 0;
+            loop {
+                let answer = step(store, &classes);
+                ran += u16::from(matches!(answer, Answer::Ran(_)));
+                if !matches!(answer, Answer::Ran(_)) || u32::from(ran) == n {
+                    return Some(Reply::RanFor(ran, answer));
+                }
+            }
+        }
+        _ => None,
+    }
+}
+
+/// A count whose last place is never used.
+fn one_less(call: &Call, store: &mut Store, which: usize) -> Option<Reply> {
+    let count = |store: &Store| store.counts.get(which).copied();
+    let fills = |before: &Store, after: &Store| count(before) != count(after) && count(after) == Some(LIMITS[which]);
+    let stepped = stepping(call, store, |store, classes| {
+        let mut after = store.clone();
+        let answer = take_step(&mut after, classes);
+        if fills(store, &after) {
+            return Answer::Refused(Refusal::Word(word::FULL));
+        }
+        *store = after;
+        answer
+    });
+    stepped.or_else(|| {
+        let mut after = store.clone();
+        call.apply(&mut after);
+        fills(store, &after).then_some(denied(word::FULL))
+    })
+}
+
+/// A define or record that is judged wrongly, and so let by.
+fn judged_by(call: &Call, store: &mut Store, judge: Judge) -> Option<Reply> {
+    if call.apply(&mut store.clone()) != denied(word::CLASH) {
+        return None;
+    }
+    let mut after = store.clone();
+    let (reply, entry) = write(call, &mut after)?;
+    agrees(&after, entry, judge).then(|| {
+        *store = after;
+        reply
+    })
+}
+
+/// The loader of the frame class at its turn.
+fn asking(store: &Store) -> Option<u16> {
+    let task = store.turn()?;
+    let base = frame_base(task, store.frame_count(task) - 1);
+    Some(store.loader_of(store.frames[base + cell::CLASS] as u16))
+}
+
+/// The request that the instruction at its turn names.
+fn asked(store: &Store) -> Option<(u16, u16)> {
+    let name = match instruction_of(store, store.turn()?)?.0 {
+        Instruction::New(class) => class,
+        Instruction::Getfield(at) | Instruction::Putfield(at) => at.class,
+        Instruction::Invokevirtual(at) => at.class,
+        _ => return None,
+    };
+    Some((asking(store)?, name))
+}
+
+/// The classes with every superclass looked up under one loader, where it is loaded.
+fn classes_under(store: &Store, loader: u16) -> Option<Classes> {
+    let mut booted = Store::zeros();
+    Call::Boot.apply(&mut booted);
+    let mut classes = Classes::read(&booted)?;
+    for class in 1..store.counts[count::CLASSES] {
+        let file = store.file(class)?;
+        let under = |loader: u16| store.cached(loader, file.superclass()).filter(|&up| up < class);
+        classes.add(under(loader).or_else(|| under(store.loader_of(class)))?, file)?;
+    }
+    Some(classes)
 }
 
 fn chosen() -> Option<&'static str> {

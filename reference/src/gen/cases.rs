@@ -122,6 +122,21 @@ pub fn override_apart() -> Trial {
     trial
 }
 
+/// Loader 2 uses loader 1's class 11 with a field and a method of its superclass 10, and has a 10 of its own without them.
+pub fn superclass_of_its_own_loader() -> Trial {
+    let mut trial = ready();
+    let back = Code::new().iload(1).ireturn();
+    trial.define(1, &Draft::new(10).field(30, INT).main(21, &back));
+    trial.define(1, &Draft::new(11).under(10));
+    trial.record(2, 11, 2);
+    trial.define(2, &Draft::new(10));
+    let code = Code::new().object(11).astore(2).aload(2).aload(2).getfield(11, 30, INT).invoke(11, 21, INT, INT).ireturn();
+    trial.define(2, &Draft::new(13).main(MAIN, &code));
+    trial.start(0, 2, 13, MAIN, 0);
+    trial.run(100);
+    trial
+}
+
 /// A store with all kinds of rows in use: two loaders, four classes with fields and methods, three objects, frames
 /// of both tasks, one of which waits, a tie and a subtype constraint.
 pub fn whole() -> Store {
@@ -162,7 +177,9 @@ pub fn wide_numbers() -> Trial {
 
 /// Every list here, run to its end.
 pub fn cases() -> Vec<Trial> {
-    let mut all = vec![far_ends_of_ties(), subtype_then_tie(), overriding(), override_apart(), wide_numbers()];
+    let mut all = vec![
+        far_ends_of_ties(), subtype_then_tie(), overriding(), override_apart(), wide_numbers(), superclass_of_its_own_loader(),
+    ];
     for code in [reader(), caller(), null_reader()] {
         for (first, second) in [(false, false), (false, true), (true, false), (true, true)] {
             let mut trial = across(&code, first, second);

@@ -1,18 +1,29 @@
 //! Damaged stores: good ones with cells, counts, rows, files or lengths changed.
 
 use super::blueprint::Blueprint;
-use super::build::Draft;
-use super::cases;
+use super::build::{Code, Draft};
+use super::cases::{self, MAIN};
+use super::large;
 use super::list::busy_list;
 use super::rng::Rng;
 use super::Call;
-use crate::store::{cell, count, frame_base, Store, FRAME_ROW, LIMITS, OBJECT_ROW, ROW};
+use crate::file::File;
+use crate::store::{cell, count, frame_base, Store, FIELDS, FRAME_ROW, INT, LIMITS, OBJECT, OBJECT_ROW, ROW};
 
 /// Kinds of damage, each a way to change a good store.
-const KINDS: [fn(&mut Rng, &mut Store); 18] = [
+const KINDS: [fn(&mut Rng, &mut Store); 22] = [
     any_cells, a_count, uniform_table, wrong_length, second_cache_row, overlapping_files, superclass_not_lower,
     code_bytes, kept_byte, top_frame, operand_count, a_value, constraints, full_frames, uniform_store, file_place,
-    nested_file, full_rows,
+    nested_file, full_rows, many_fields, repeated_field, many_classes, report_past_its_code,
+];
+
+/// What damaged stores must have among them, each with a test for it.
+pub const SHAPES: [(&str, fn(&Store) -> bool); 5] = [
+    ("a class of more than 16 fields", |store| classes(store).iter().any(|&class| field_names(store, class).len() > FIELDS)),
+    ("a field's name repeated below", has_repeated_field),
+    ("19 and more classes", |store| store.counts.first() >= Some(&19) && is_whole(store)),
+    ("a report's frame past its code, and a quote", has_report_past_its_code),
+    ("a value in field 3 or above", has_high_value),
 ];
 
 /// A store from a boot with some damage, from one change to three.
@@ -28,6 +39,10 @@ pub fn damaged(seed: u64) -> Store {
 
 /// A store from a boot, mostly with frames.
 fn good(seed: u64, rng: &mut Rng) -> Store {
+    if rng.percent(3) {
+        // Thousands of steps are left.
+        return if rng.percent(80) { large::tree() } else { large::tall_tree() };
+    }
     if rng.percent(80) {
         return busy_list(seed, rng.within(20, 90)).store;
     }
@@ -56,7 +71,7 @@ pub fn probes(seed: u64, store: &Store) -> Vec<Call> {
         Call::Start { task: rng.below(2) as u32, loader: loader.into(), name, method: 20, int },
         Call::Start { task: rng.below(3) as u32, loader: other, name: rng.below(16) as u16, method: 20, int },
         Call::Step,
-        Call::Run { n: rng.within(0, 40) as u32 },
+        Call::Run { n: if rng.percent(40) { rng.word().into() } else { rng.within(0, 40) as u32 } },
         Call::Drop { task: rng.below(3) as u32 },
     ]
 }
@@ -344,7 +359,7 @@ fn a_value(rng: &mut Rng, store: &mut Store) {
     let object = rng.draw() as u32 % objects;
     let pair = rng.pick(&[[0, 0], [1, 5], [2, 0], [3, object], [3, object], [3, objects], [2, 1], [4, 0], [0, 1]]);
     if rng.percent(40) && is_whole(store) {
-        let at = Store::field_cell(object, rng.below(3));
+        let at = Store::field_cell(object, rng.below(FIELDS));
         store.objects[at..at + 2].copy_from_slice(&pair);
     } else if let Some(frame) = top(store) {
         let places = rng.pick(&[3, 12, 12]);
@@ -400,4 +415,155 @@ fn full_frames(rng: &mut Rng, store: &mut Store) {
         store.frames[base..base + FRAME_ROW].copy_from_slice(&frame);
     }
     store.counts[count::FRAMES + task] = store.counts[count::FRAMES + task].max(frames as u16);
+}
+
+/// The classes but Object of a store, whatever is damaged; none if they can't be looked at.
+fn classes(store: &Store) -> Vec<u16> {
+    let looked_at = store.lengths() == crate::store::LENGTHS && store.counts.iter().zip(LIMITS).all(|(&count, limit)| count <= limit);
+    if looked_at { (1..store.counts[0]).collect() } else { Vec::new() }
+}
+
+/// The names of a class's fields, its own first and then those upward, as long as superclasses have lower numbers.
+fn field_names(store: &Store, class: u16) -> Vec<u16> {
+    let Some(file) = store.file_bytes(class).and_then(File::read) else {
+        return Vec::new();
+    };
+    let mut names: Vec<u16> = file.fields().map(|field| field.name).collect();
+    match store.cached(store.loader_of(class), file.superclass()) {
+        Some(up) if up != 0 && up < class => names.extend(field_names(store, up)),
+        _ => {}
+    }
+    names
+}
+
+fn has_repeated_field(store: &Store) -> bool {
+    let repeats = |&class: &u16| {
+        let mut names = field_names(store, class);
+        names.sort_unstable();
+        names.windows(2).any(|pair| pair[0] == pair[1])
+    };
+    is_whole(store) && classes(store).iter().any(repeats)
+}
+
+fn has_report_past_its_code(store: &Store) -> bool {
+    let both = store.counts.get(count::FRAMES..).is_some_and(|counts| counts.iter().all(|&frames| frames > 0));
+    let past = || store.frames[frame_base(1, store.frame_count(1) - 1) + cell::POINT] >= 512;
+    both && is_whole(store) && past()
+}
+
+/// A value other than the first that a field has.
+fn has_high_value(store: &Store) -> bool {
+    let Some(classes) = crate::broken::unbroken(store) else {
+        return false;
+    };
+    let high = |object: u32| {
+        let fields = classes.field_count(store.object_class(object));
+        (3..fields).any(|field| ![[1, 0], [2, 0]].contains(&[0, 1].map(|i| store.objects[Store::field_cell(object, field) + i])))
+    };
+    (0..u32::from(store.counts[count::OBJECTS])).any(high)
+}
+
+/// Adds a class that no define has looked at, of a loader that knows its superclass. Nothing if there is no room.
+fn add_unseen(store: &mut Store, loader: u16, draft: &Draft) -> Option<u16> {
+    let file = draft.file();
+    let room = store.count(count::KEPT) + file.len() <= usize::from(LIMITS[count::KEPT]);
+    if !room || store.is_full(count::CLASSES) || store.is_full(count::CACHE) {
+        return None;
+    }
+    let class = store.add_class(loader, &file);
+    store.add_cached([loader, draft.name, class]);
+    Some(class)
+}
+
+/// A name that no class has.
+fn unused_name(store: &Store) -> u16 {
+    50_000 + store.counts[count::CLASSES]
+}
+
+/// The frames of a task that starts in a method of this class, if it has room for its object.
+fn start_in(rng: &mut Rng, store: &mut Store, loader: u16, name: u16) {
+    let task = rng.below(2);
+    store.counts[count::FRAMES..].fill(0);
+    crate::start(store, task as u32, loader.into(), name, MAIN, 7);
+}
+
+/// Three classes below each other with 16 fields or more; if it isn't more, a task that uses the last of them, and values there.
+fn many_fields(rng: &mut Rng, store: &mut Store) {
+    if !is_whole(store) || store.cached(0, OBJECT) != Some(0) {
+        return;
+    }
+    let last = rng.pick(&[0, 0, 0, 1, 8]);
+    let (mut superclass, first) = (OBJECT, 600);
+    for (place, fields) in [8, 8, last].into_iter().enumerate() {
+        let name = unused_name(store);
+        let own = first + 8 * place as u16;
+        let (old, new) = (first + rng.within(3, 15) as u16, first + rng.within(3, 15) as u16);
+        let code = Code::new().aload(0).aload(0).getfield(name, old, INT).putfield(name, new, INT).aload(0);
+        let mut draft = Draft::new(name).under(superclass).main(MAIN, &code.getfield(name, new, INT).ireturn());
+        draft.fields = (own..own + fields).map(|field| (field, INT)).collect();
+        if add_unseen(store, 0, &draft).is_none() {
+            return;
+        }
+        superclass = name;
+    }
+    if last > 0 {
+        return;
+    }
+    start_in(rng, store, 0, superclass);
+    let object = u32::from(store.counts[count::OBJECTS]).saturating_sub(1);
+    for field in 3..FIELDS {
+        let value = rng.pick(&[[1, 5], [1, u32::MAX], [1, 0], [2, 0], [3, object]]);
+        let value = if rng.percent(97) { [1, value[1]] } else { value };
+        let at = Store::field_cell(object, field);
+        store.objects[at..at + 2].copy_from_slice(&value);
+    }
+}
+
+/// A class with a field whose name a superclass has, of the same type or another, and a task that uses both.
+fn repeated_field(rng: &mut Rng, store: &mut Store) {
+    if !is_whole(store) || store.cached(0, OBJECT) != Some(0) {
+        return;
+    }
+    let (upper, lower) = (unused_name(store), unused_name(store) + 1);
+    let other = rng.pick(&[INT, upper]);
+    let above = Draft::new(upper).field(30, INT).field(31, INT);
+    let used = rng.pick(&[upper, lower]);
+    let code = Code::new().aload(0).int(9).putfield(used, 30, INT).aload(0).getfield(lower, 30, INT).aload(0);
+    let code = code.getfield(upper, 30, INT).isub().ireturn();
+    let below = Draft::new(lower).under(upper).field(30, other).field(32, lower).main(MAIN, &code);
+    if add_unseen(store, 0, &above).and_then(|_| add_unseen(store, 0, &below)).is_some() {
+        start_in(rng, store, 0, lower);
+    }
+}
+
+/// Classes up to a number between 19 and their limit.
+fn many_classes(rng: &mut Rng, store: &mut Store) {
+    let wanted = rng.within(19, 64) as u16;
+    if !is_whole(store) || store.cached(0, OBJECT) != Some(0) {
+        return;
+    }
+    while store.counts[count::CLASSES] < wanted {
+        let name = unused_name(store);
+        let under = if rng.percent(50) && store.cached(0, name - 1).is_some() { name - 1 } else { OBJECT };
+        let draft = Draft::new(name).under(under).main(MAIN, &Code::new().iload(1).ireturn());
+        if add_unseen(store, 0, &draft).is_none() {
+            return;
+        }
+    }
+}
+
+/// Both tasks have a frame, and the report's stands past its code.
+fn report_past_its_code(rng: &mut Rng, store: &mut Store) {
+    let Some(frame) = top(store).map(|frame| frame.to_vec()) else {
+        return;
+    };
+    for task in 0..2 {
+        if store.frame_count(task) == 0 {
+            let base = frame_base(task, 0);
+            store.frames[base..base + FRAME_ROW].copy_from_slice(&frame);
+            store.counts[count::FRAMES + task] = 1;
+        }
+    }
+    let base = frame_base(1, store.frame_count(1) - 1);
+    store.frames[base + cell::POINT] = rng.pick(&[512, 513, 0xFFFF, u32::MAX]);
 }

@@ -6,6 +6,7 @@ pub mod cases;
 pub mod chains;
 pub mod codes;
 pub mod damage;
+pub mod drives;
 pub mod files;
 pub mod large;
 pub mod limits;

@@ -1,0 +1,63 @@
+//! The program drivelist of the verified machine beside ours, on random lists of calls. TARIFF_DRIVELIST names the program; without it, ours
+//! alone is run.
+
+mod program;
+
+use std::fs;
+
+use program::play;
+use reference::drive::{drivelist, ANSWERS};
+use reference::gen::drives::{drive, fixed};
+
+const SEEDS: u64 = 300;
+
+fn of_the_crate(name: &str) -> Vec<u8> {
+    fs::read(format!("{}/../crates/drivelist/{name}", env!("CARGO_MANIFEST_DIR"))).expect("a file of the crate")
+}
+
+#[test]
+fn the_crate_has_the_fixed_list_and_what_it_prints() {
+    assert!(of_the_crate("stdin") == fixed(), "crates/drivelist/stdin is what `drivelist_ref fixed` prints");
+    let printed = drivelist(&fixed());
+    assert!(of_the_crate("stdout") == printed.as_bytes(), "crates/drivelist/stdout is what `drivelist_ref` prints for it");
+    assert_eq!(printed.lines().count(), 1 + ANSWERS + 8);
+}
+
+#[test]
+fn the_program_prints_what_the_library_prints() {
+    for seed in 0..20 {
+        let input = drive(seed);
+        assert_eq!(play(env!("CARGO_BIN_EXE_drivelist_ref"), &input), drivelist(&input).as_bytes(), "drive {seed}");
+    }
+}
+
+#[test]
+#[ignore = "needs the verified program, which TARIFF_DRIVELIST names"]
+fn the_verified_program_prints_the_same() {
+    let program = std::env::var("TARIFF_DRIVELIST").expect("TARIFF_DRIVELIST names the verified program");
+    let good = fixed();
+    let edges = [vec![], vec![0; 12], good[..good.len() - 1].to_vec(), [good, vec![0; 70_000]].concat()];
+    let differs = |input: &[u8]| play(&program, input) != drivelist(input).as_bytes();
+    for (at, input) in edges.iter().enumerate() {
+        assert!(!differs(input), "input {at} at an edge");
+    }
+    for seed in 0..SEEDS {
+        assert!(!differs(&drive(seed)), "drive {seed}");
+    }
+}
+
+#[test]
+fn lists_are_refused_ended_or_driven_whole() {
+    let (mut refused, mut ended, mut whole) = (0, 0, 0);
+    for seed in 0..SEEDS {
+        let input = drive(seed);
+        let cells = u32::from_be_bytes([input[4], input[5], input[6], input[7]]);
+        match drivelist(&input).lines().next().expect("the outcome").parse::<u32>() {
+            Err(_) => refused += 1,
+            Ok(performed) if performed < cells / 6 => ended += 1,
+            Ok(_) => whole += 1,
+        }
+    }
+    println!("{refused} lists refused, {ended} ended by a row that has no call, {whole} driven whole");
+    assert!(refused > 10 && ended > 50 && whole > 100);
+}
