@@ -14,15 +14,18 @@ pub enum Judge {
     Names,
 }
 
+/// A loader and a class name.
+type Request = (u16, u16);
+
 /// The requests that one tie, and that one subtype constraint, lead to.
-fn steps(store: &Store, (loader, name): (u16, u16)) -> (Vec<(u16, u16)>, Vec<(u16, u16)>) {
+fn steps(store: &Store, (loader, name): Request) -> (Vec<Request>, Vec<Request>) {
     let ties = store.tie_rows().filter(|row| row[2] == name && row[..2].contains(&loader));
     let subtypes = store.subtype_rows().filter(|row| (row[0], row[1]) == (loader, name));
     (ties.map(|row| (row[0] ^ row[1] ^ loader, name)).collect(), subtypes.map(|row| (loader, row[2])).collect())
 }
 
 /// The requests that a request leads to, and whether it is by ties alone.
-fn led_to(store: &Store, from: (u16, u16), judge: Judge) -> Vec<((u16, u16), bool)> {
+fn led_to(store: &Store, from: Request, judge: Judge) -> Vec<(Request, bool)> {
     // a request, whether ties alone led there, and whether the last step was a tie
     let mut seen = vec![(from, true, false)];
     let mut at = 0;
@@ -41,7 +44,7 @@ fn led_to(store: &Store, from: (u16, u16), judge: Judge) -> Vec<((u16, u16), boo
 }
 
 /// Does the store with the new entry agree, as it is judged?
-pub fn agrees(store: &Store, entry: (u16, u16), judge: Judge) -> bool {
+pub fn agrees(store: &Store, entry: Request, judge: Judge) -> bool {
     let classes = unbroken(store).expect("a store");
     let name = |class: u16| store.name_of(class);
     let same = |a: u16, b: u16| if judge == Judge::Names { name(a) == name(b) } else { a == b };

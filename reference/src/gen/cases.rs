@@ -127,9 +127,9 @@ pub fn superclass_of_its_own_loader() -> Trial {
     let mut trial = ready();
     let back = Code::new().iload(1).ireturn();
     trial.define(1, &Draft::new(10).field(30, INT).main(21, &back));
-    trial.define(1, &Draft::new(11).under(10));
-    trial.record(2, 11, 2);
     trial.define(2, &Draft::new(10));
+    trial.define(1, &Draft::new(11).under(10));
+    trial.record(2, 11, 3);
     let code = Code::new().object(11).astore(2).aload(2).aload(2).getfield(11, 30, INT).invoke(11, 21, INT, INT).ireturn();
     trial.define(2, &Draft::new(13).main(MAIN, &code));
     trial.start(0, 2, 13, MAIN, 0);

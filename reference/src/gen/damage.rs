@@ -17,8 +17,11 @@ const KINDS: [fn(&mut Rng, &mut Store); 22] = [
     nested_file, full_rows, many_fields, repeated_field, many_classes, report_past_its_code,
 ];
 
-/// What damaged stores must have among them, each with a test for it.
-pub const SHAPES: [(&str, fn(&Store) -> bool); 5] = [
+/// What a damaged store may have, and the test for it.
+pub type Shape = (&'static str, fn(&Store) -> bool);
+
+/// What damaged stores must have among them.
+pub const SHAPES: [Shape; 5] = [
     ("a class of more than 16 fields", |store| classes(store).iter().any(|&class| field_names(store, class).len() > FIELDS)),
     ("a field's name repeated below", has_repeated_field),
     ("19 and more classes", |store| store.counts.first() >= Some(&19) && is_whole(store)),
