@@ -67,7 +67,7 @@ fn is_class_too_much(store: &Store, classes: &Classes, superclass: u16, file: Fi
 }
 
 /// The notes that are no rows yet, each once.
-fn new_subtypes(store: &Store, notes: &[[u16; 3]]) -> Vec<[u16; 3]> {
+pub fn new_subtypes(store: &Store, notes: &[[u16; 3]]) -> Vec<[u16; 3]> {
     let mut new: Vec<[u16; 3]> = Vec::new();
     for &note in notes {
         if !new.contains(&note) && !store.subtype_rows().any(|row| row == note) {
@@ -83,7 +83,7 @@ pub fn is_new_tie(store: &Store, among: &[[u16; 3]], row: [u16; 3]) -> bool {
 }
 
 /// The new ties of the methods that override one upward, on argument and then result.
-fn overriding_ties(store: &Store, classes: &Classes, loader: u16, superclass: u16, file: File) -> Vec<[u16; 3]> {
+pub fn overriding_ties(store: &Store, classes: &Classes, loader: u16, superclass: u16, file: File) -> Vec<[u16; 3]> {
     let mut new = Vec::new();
     for method in file.methods() {
         let overridden = classes.method(store, superclass, method.name, method.argument, method.result);
