@@ -10,7 +10,7 @@ use crate::tried::Tried;
 
 const MOST_PICTURES: usize = 60;
 const BOX: (i64, i64) = (132, 40);
-const STEP: (i64, i64) = (212, 84);
+const STEP: (i64, i64) = (212, 76);
 const LEFT: i64 = 40;
 const TOP: i64 = 96;
 
@@ -302,8 +302,9 @@ fn text(out: &mut String, (x, y): (i64, i64), colour: &str, anchor: &str, said: 
 
 fn legend(out: &mut String, y: i64) {
     let lines = [
-        "A box is a request, a loader and a name. Boxes of one colour mean one class; a dashed box isn't loaded.",
-        "A line is a tie, an arrow a subtype constraint that goes from the lower name to the higher. Orange is new since the last call; red dashes are what a refused call would have added.",
+        "A box is a request: a loader and a name. Boxes of one colour mean one class; a dashed box isn't loaded.",
+        "A line is a tie. An arrow is a subtype constraint and goes from the lower name to the higher.",
+        "Orange is new since the last call. Red dashes are what a refused call would have added.",
     ];
     for (place, line) in lines.iter().enumerate() {
         text(out, (LEFT, y + 18 * place as i64), "#555", "start", line);

@@ -10,6 +10,7 @@ use writer::check::{check, Verdict};
 use writer::input::{self, Input};
 use writer::lesson::Lesson;
 use writer::listing;
+use writer::names::Names;
 use writer::play::{Outcome, Play, Show};
 use writer::script;
 use writer::source::{Problem, Source};
@@ -117,12 +118,19 @@ fn assemble(input: &Input, directory: &Path) -> Result<(), Failure> {
     Ok(())
 }
 
+/// The names for a script: those that the lesson beside it declares, if there is one.
+fn names_beside(script: &str) -> Names {
+    let lesson = Path::new(script).with_extension("lesson");
+    let source = fs::read(&lesson).ok().and_then(|bytes| Source::new("", bytes).ok());
+    source.and_then(|source| Lesson::read(&source).ok()).map_or_else(Names::default, |lesson| lesson.names)
+}
+
 /// The script's lines beside what boxscript printed, which is read from standard input.
 fn answers(file: &str) -> Result<(), Failure> {
     let script = String::from_utf8_lossy(&bytes(file)?).into_owned();
     let mut printed = Vec::new();
     io::stdin().read_to_end(&mut printed)?;
-    print(&script::beside(&script, &String::from_utf8_lossy(&printed)))
+    print(&script::beside(&script, &String::from_utf8_lossy(&printed), &names_beside(file)))
 }
 
 fn play(mut options: &[&str], file: &str) -> Result<(), Failure> {
@@ -143,7 +151,7 @@ fn play(mut options: &[&str], file: &str) -> Result<(), Failure> {
     }
     let source = Source::new(file, bytes(file)?)?;
     let lesson = if file.ends_with(".box") {
-        script::lesson(&source)
+        script::lesson(&source, names_beside(file))
     } else {
         Lesson::read(&source).map_err(|problem| (source.clone(), problem))?
     };

@@ -24,6 +24,7 @@ pub struct Show {
 
 /// What came of a lesson.
 pub struct Outcome {
+    pub store: Store,
     pub calls: usize,
     /// Answers that were as expected.
     pub met: usize,
@@ -35,9 +36,9 @@ pub struct Play<'a> {
     source: &'a Source,
     lesson: &'a Lesson,
     show: Show,
-    store: Store,
     out: &'a mut dyn Write,
     outcome: Outcome,
+    is_after_call: bool,
 }
 
 /// A call that was made: its answer, and whether that was as expected.
@@ -50,12 +51,12 @@ struct Made {
 impl<'a> Play<'a> {
     /// Carries out the lesson on tables of zeros that are booted first, as boxscript does.
     pub fn run(source: &'a Source, lesson: &'a Lesson, show: Show, out: &'a mut dyn Write) -> io::Result<Outcome> {
-        let outcome = Outcome { calls: 0, met: 0, failed: 0, strip: Strip::default() };
-        let mut play = Play { source, lesson, show, store: Store::zeros(), out, outcome };
-        machine::make(&Call::Boot, &mut play.store).ok_or_else(|| io::Error::other("this build has no machine; use ./box"))?;
+        let outcome = Outcome { store: Store::zeros(), calls: 0, met: 0, failed: 0, strip: Strip::default() };
+        let mut play = Play { source, lesson, show, out, outcome, is_after_call: false };
+        machine::make(&Call::Boot, &mut play.outcome.store).ok_or_else(|| io::Error::other("this build has no machine; use ./box"))?;
         for act in &lesson.acts {
             match act {
-                Act::Say(said) => writeln!(play.out, "{said}")?,
+                Act::Say(said) => play.say(said)?,
                 Act::Do(doing) => {
                     let made = play.make(doing);
                     play.write(doing, &made)?;
@@ -64,6 +65,14 @@ impl<'a> Play<'a> {
             }
         }
         Ok(play.outcome)
+    }
+
+    /// Words for the reader; a line is left free before them.
+    fn say(&mut self, said: &str) -> io::Result<()> {
+        if std::mem::take(&mut self.is_after_call) {
+            writeln!(self.out)?;
+        }
+        writeln!(self.out, "{said}")
     }
 
     /// The first round is shown, of the others what is answered otherwise.
@@ -76,7 +85,7 @@ impl<'a> Play<'a> {
                 match act {
                     Act::Say(said) if round == 0 => {
                         first.push(String::new());
-                        writeln!(self.out, "{said}")?;
+                        self.say(said)?;
                     }
                     Act::Do(doing) => {
                         let made = self.make(doing);
@@ -100,7 +109,7 @@ impl<'a> Play<'a> {
     }
 
     fn make(&mut self, doing: &Doing) -> Made {
-        let before = self.store.clone();
+        let before = self.outcome.store.clone();
         let mut made = Made { answer: String::new(), problems: Vec::new(), changes: Vec::new() };
         match self.call_of(&doing.what) {
             Ok(Some(call)) => self.call(doing, &call, &before, &mut made),
@@ -112,7 +121,7 @@ impl<'a> Play<'a> {
             }
         }
         if self.show.store {
-            made.changes = rows::changes(&before, &self.store, &self.lesson.names);
+            made.changes = rows::changes(&before, &self.outcome.store, &self.lesson.names);
         }
         made
     }
@@ -122,12 +131,12 @@ impl<'a> Play<'a> {
         match *what {
             What::Call(ref call) => Ok(Some(call.clone())),
             What::RecordOf { loader, name, of } => {
-                let class = u16::try_from(of).ok().and_then(|of| self.store.cached(of, name));
+                let class = u16::try_from(of).ok().and_then(|of| self.outcome.store.cached(of, name));
                 let class = class.ok_or_else(|| format!("loader {of} has no {} yet", self.lesson.names.class(name)))?;
                 Ok(Some(Call::Record { loader, name: name.into(), class: class.into() }))
             }
             What::Damage { table, cell, value } => {
-                rows::damage(&mut self.store, table, cell, value);
+                rows::damage(&mut self.outcome.store, table, cell, value);
                 Ok(None)
             }
         }
@@ -135,7 +144,7 @@ impl<'a> Play<'a> {
 
     fn call(&mut self, doing: &Doing, call: &Call, before: &Store, made: &mut Made) {
         let names = &self.lesson.names;
-        let Some(told) = machine::make(call, &mut self.store) else {
+        let Some(told) = machine::make(call, &mut self.outcome.store) else {
             return;
         };
         let ran = rows::next_instruction(before, names);
@@ -147,8 +156,8 @@ impl<'a> Play<'a> {
                 continue;
             }
             self.outcome.failed += 1;
-            let wish = self.source.of(expected.span);
-            made.problems.push(Problem::new(expected.span, format!("{wish}, but the answer was: {}", made.answer)));
+            let wish = self.source.of(expected.span).trim_start_matches("expect").trim_start();
+            made.problems.push(Problem::new(expected.span, format!("expected {wish}, but the answer was: {}", made.answer)));
         }
         if self.show.draw {
             self.draw(&doing.said, call, &told, before, &made.answer);
@@ -157,12 +166,15 @@ impl<'a> Play<'a> {
 
     fn draw(&mut self, said: &str, call: &Call, told: &Told, before: &Store, answer: &str) {
         let clashed = told.cells[1] == u32::from(word::CLASH);
-        let tried = if clashed { tried(call, &self.store) } else { Default::default() };
+        let tried = if clashed { tried(call, &self.outcome.store) } else { Default::default() };
         let title = format!("{said}: {answer}");
-        self.outcome.strip.add(&title, before, &self.store, tried, &self.lesson.names);
+        self.outcome.strip.add(&title, before, &self.outcome.store, tried, &self.lesson.names);
     }
 
     fn write(&mut self, doing: &Doing, made: &Made) -> io::Result<()> {
+        if !std::mem::replace(&mut self.is_after_call, true) {
+            writeln!(self.out)?;
+        }
         let mark = match (made.problems.is_empty(), doing.expected.is_empty()) {
             (false, _) => "NO",
             (true, false) => "ok",

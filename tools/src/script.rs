@@ -36,9 +36,8 @@ pub fn lines(script: &str) -> Vec<(&str, Option<Call>)> {
     all
 }
 
-/// The script as a lesson that expects nothing.
-pub fn lesson(source: &Source) -> Lesson {
-    let names = Names::default();
+/// The script, which has no names of its own, as a lesson that expects nothing.
+pub fn lesson(source: &Source, names: Names) -> Lesson {
     let mut acts = Vec::new();
     let mut start = 0;
     for (line, call) in lines(&source.text) {
@@ -55,16 +54,15 @@ pub fn lesson(source: &Source) -> Lesson {
 const UNREADABLE: &str = "A line that it cannot read: the script ends here.";
 
 /// Each line of a script beside what boxscript printed for it and what that says.
-pub fn beside(script: &str, printed: &str) -> String {
-    let names = Names::default();
+pub fn beside(script: &str, printed: &str, names: &Names) -> String {
     let mut printed = printed.lines();
     let mut out = String::new();
     for (line, call) in lines(script) {
         let (numbers, said) = match call {
             Some(call) => {
                 let numbers = printed.next().unwrap_or("nothing");
-                let told = told(numbers).map(|told| words::answer(&call, &told, &names, None));
-                (numbers, format!("{}: {}", words::call(&call, &names), told.unwrap_or("no answer".into())))
+                let told = told(numbers).map(|told| words::answer(&call, &told, names, None));
+                (numbers, format!("{}: {}", words::call(&call, names), told.unwrap_or("no answer".into())))
             }
             None => ("", UNREADABLE.into()),
         };
@@ -103,7 +101,7 @@ mod tests {
 
     #[test]
     fn a_script_beside_its_answers() {
-        let shown = beside("R 1 2 0\nS 0 1 10 20 -7\nN\n\n", "R 0 0 0 0\nS 5 1 10 0\nN 0 2 1 -3\n");
+        let shown = beside("R 1 2 0\nS 0 1 10 20 -7\nN\n\n", "R 0 0 0 0\nS 5 1 10 0\nN 0 2 1 -3\n", &Names::default());
         let lines: Vec<&str> = shown.lines().collect();
         assert!(lines[0].ends_with("loader 1 records Object as 0: recorded"), "{shown}");
         assert!(lines[1].ends_with("quote starts 1 10.20 -7: refused: 5, wanted: 10 of loader 1"), "{shown}");

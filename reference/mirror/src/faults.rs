@@ -14,8 +14,8 @@ type Fault = (&'static str, fn(&Call, &mut Store) -> Option<Reply>);
 /// The fault of the desk's check: it lets by what the verifier rejects.
 const DESK: &str = "desk-skips-the-verifier";
 
-/// Each takes over the calls that it answers wrongly. The first seven are the machines that document 01 bars, the next four what learners do.
-const FAULTS: [Fault; 12] = [
+/// Each takes over the calls that it answers wrongly. The first seven are the machines that document 01 bars, the next five what learners do.
+const FAULTS: [Fault; 13] = [
     ("run-does-one-step", |call, store| match *call {
         Call::Run { n } => match (call.apply(&mut store.clone()), step(store)) {
             (Reply::RanFor(..), answer @ Answer::Ran(_)) => Some(Reply::RanFor(n as u16, answer)),
@@ -43,6 +43,16 @@ const FAULTS: [Fault; 12] = [
         (&Call::Record { loader, name, class }, Reply::Denied(Refusal::Word(word::CLASH))) => {
             let entry = [loader, name, class].map(|number| number as u16);
             (!clashes_nearby(store, entry)).then(|| {
+                store.add_cached(entry);
+                Reply::Accepted
+            })
+        }
+        _ => None,
+    }),
+    ("superclass-under-the-asking-loader", |call, store| match (call, call.apply(&mut store.clone())) {
+        (&Call::Record { loader, name, class }, Reply::Denied(Refusal::Word(word::CLASH))) => {
+            let entry = [loader, name, class].map(|number| number as u16);
+            lies_below_as_asked(store, entry).then(|| {
                 store.add_cached(entry);
                 Reply::Accepted
             })
@@ -90,6 +100,20 @@ fn clashes_nearby(store: &Store, [loader, name, class]: [u16; 3]) -> bool {
     apart.any(|other| other != class)
         || noted.iter().any(|row| row[1] == name && loaded(row[2]).is_some_and(|high| !classes.below(class, high)))
         || noted.iter().any(|row| row[2] == name && loaded(row[1]).is_some_and(|low| !classes.below(low, class)))
+}
+
+/// With the entry, and with each superclass looked up under the entry's loader, do that loader's subtype constraints hold?
+fn lies_below_as_asked(store: &Store, entry: [u16; 3]) -> bool {
+    let mut tried = store.clone();
+    tried.add_cached(entry);
+    let above = |class: u16| tried.cached(entry[0], tried.file(class)?.superclass());
+    let mut rows = tried.subtype_rows().filter(|row| row[0] == entry[0]);
+    rows.all(|[loader, low, high]| {
+        match (tried.cached(loader, low), tried.cached(loader, high)) {
+            (Some(low), Some(high)) => std::iter::successors(Some(low), |&class| above(class)).take(64).any(|class| class == high),
+            _ => true,
+        }
+    })
 }
 
 fn chosen() -> Option<&'static str> {
