@@ -48,7 +48,9 @@ fn main() -> ExitCode {
         Err(Failure::Usage(said)) => (2, said),
         Err(Failure::Differ(said)) => (3, said),
     };
-    eprintln!("{}", said.trim_end());
+    if !said.is_empty() {
+        eprintln!("{}", said.trim_end());
+    }
     ExitCode::from(status)
 }
 
@@ -99,7 +101,10 @@ fn verdict(input: &Input) -> Result<(), Failure> {
     let (verdict, said) = check(input);
     match verdict {
         Verdict::Accepted => print(&said),
-        Verdict::Refused => Err(Failure::Bad(said)),
+        Verdict::Refused => {
+            print(&said)?;
+            Err(Failure::Bad(String::new()))
+        }
         Verdict::Differ => Err(Failure::Differ(said)),
         Verdict::NoDesk => Err(Failure::Usage("this build has no desk; use ./box".into())),
     }
@@ -166,7 +171,7 @@ fn play(mut options: &[&str], file: &str) -> Result<(), Failure> {
 fn end(file: &str, outcome: &Outcome) -> Result<(), Failure> {
     let Outcome { calls, met, failed, .. } = *outcome;
     if failed > 0 {
-        return Err(Failure::Bad(format!("{file} failed: {failed} of its expectations weren't met")));
+        return Err(Failure::Bad(format!("{file} failed: {failed} {}", if failed == 1 { "answer wasn't as expected" } else { "answers weren't as expected" })));
     }
     let met = if met == 0 { String::new() } else { format!(", {met} answers as expected") };
     print(&format!("{file}: {calls} calls{met}\n"))

@@ -38,7 +38,15 @@ pub struct Play<'a> {
     show: Show,
     out: &'a mut dyn Write,
     outcome: Outcome,
-    is_after_call: bool,
+    last: Last,
+}
+
+/// What was written last.
+#[derive(Clone, Copy, PartialEq, Eq)]
+enum Last {
+    Nothing,
+    Words,
+    Call,
 }
 
 /// A call that was made: its answer, and whether that was as expected.
@@ -52,7 +60,7 @@ impl<'a> Play<'a> {
     /// Carries out the lesson on tables of zeros that are booted first, as boxscript does.
     pub fn run(source: &'a Source, lesson: &'a Lesson, show: Show, out: &'a mut dyn Write) -> io::Result<Outcome> {
         let outcome = Outcome { store: Store::zeros(), calls: 0, met: 0, failed: 0, strip: Strip::default() };
-        let mut play = Play { source, lesson, show, out, outcome, is_after_call: false };
+        let mut play = Play { source, lesson, show, out, outcome, last: Last::Nothing };
         machine::make(&Call::Boot, &mut play.outcome.store).ok_or_else(|| io::Error::other("this build has no machine; use ./box"))?;
         for act in &lesson.acts {
             match act {
@@ -67,11 +75,17 @@ impl<'a> Play<'a> {
         Ok(play.outcome)
     }
 
-    /// Words for the reader; a line is left free before them.
-    fn say(&mut self, said: &str) -> io::Result<()> {
-        if std::mem::take(&mut self.is_after_call) {
+    /// Leaves a line free between words and calls.
+    fn turn_to(&mut self, next: Last) -> io::Result<()> {
+        let last = std::mem::replace(&mut self.last, next);
+        if last != Last::Nothing && last != next {
             writeln!(self.out)?;
         }
+        Ok(())
+    }
+
+    fn say(&mut self, said: &str) -> io::Result<()> {
+        self.turn_to(Last::Words)?;
         writeln!(self.out, "{said}")
     }
 
@@ -172,9 +186,7 @@ impl<'a> Play<'a> {
     }
 
     fn write(&mut self, doing: &Doing, made: &Made) -> io::Result<()> {
-        if !std::mem::replace(&mut self.is_after_call, true) {
-            writeln!(self.out)?;
-        }
+        self.turn_to(Last::Call)?;
         let mark = match (made.problems.is_empty(), doing.expected.is_empty()) {
             (false, _) => "NO",
             (true, false) => "ok",

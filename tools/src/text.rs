@@ -1,7 +1,9 @@
 //! The text form of a class file: reading it, and the bytes that it stands for.
 //!
-//!     class Discount extends Object { field rate int  method of(int) int { iload 1  ireturn } }
-//!     file Damaged { 01 0006 000A 0002 00 }
+//! ```text
+//! class Discount extends Object { field rate int  method of(int) int { iload 1  ireturn } }
+//! file Damaged { 01 0006 000A 0002 00 }
+//! ```
 
 use reference::code::op::{self, Inline};
 use reference::gen::build::{Code, Draft, MethodDraft};
@@ -179,7 +181,7 @@ fn instruction(at: &mut Cursor, mut code: Code) -> Parsed<Code> {
     Ok(match op::INLINE[place] {
         Inline::Nothing => code.plain(opcode),
         Inline::Int => code.names(opcode, &[at.number("an int", i16::MIN.into(), i16::MAX.into())? as u16]),
-        Inline::Local => code.local(opcode, at.number("a local", 0, 255)? as u8),
+        Inline::Local => code.local(opcode, at.number("a local's number", 0, 255)? as u8),
         Inline::Class => code.names(opcode, &[at.name("a class")?]),
         Inline::Field => {
             let [class, field] = dotted(at, "a field")?;

@@ -1,0 +1,108 @@
+#!/usr/bin/env bash
+# The writer's tool: its own tests, the course's lessons on the proved machine, each mistake's lesson on a machine that makes it, what
+# ./box says of mistakes in a text, and any bytes for a minute.
+#
+#   tests/lessons.sh                   all of it
+#   tests/lessons.sh --write-errors    writes what ./box says to tools/tests/errors, to be read before it is committed
+set -eu
+cd "$(dirname "$0")/.."
+tests/build host desk boxscript
+wrong=0
+tools=${CARGO_TARGET_DIR:-$PWD/tools/target}
+work=$(mktemp -d)
+trap 'rm -rf "$work"' EXIT
+
+fail() { # WORDS
+    echo "lessons: $*"
+    wrong=1
+}
+
+# What ./box says of each text with a mistake, and its exit status.
+errors() {
+    local input said count=0
+    for input in tools/tests/errors/*.lesson tools/tests/errors/*.check tools/tests/errors/*.list; do
+        count=$((count + 1))
+        said=${input%.*}.out
+        case $input in
+        *.lesson) set -- ;;
+        *) set -- "${input##*.}" ;;
+        esac
+        { ./box "$@" "$input" 2>&1 && echo "status 0"; } >"$work/said" || echo "status $?" >>"$work/said"
+        if [ -n "$write" ]; then cp "$work/said" "$said"; fi
+        diff "$said" "$work/said" || fail "./box $* $input says something else"
+    done
+    [ "$count" -gt 20 ] || fail "there are only $count texts with a mistake"
+}
+
+# Each lesson through ./box, as a person runs it; its script, if it has one, goes through the proved program.
+lessons() {
+    local lesson count=0
+    for lesson in examples/*.lesson; do
+        [ -e "$lesson" ] || continue
+        count=$((count + 1))
+        ./box --store --draw "$lesson" "$work/picture.svg" >"$work/out" 2>&1 || { cat "$work/out"; fail "$lesson fails"; }
+        if [ -e "${lesson%.lesson}.box" ]; then
+            ./box "${lesson%.lesson}.box" >"$work/out" || fail "${lesson%.lesson}.box ends with an error"
+            grep -q "^R 1 2 0 .*loader 1 records Object as 0: recorded$" "$work/out" || fail "${lesson%.lesson}.box isn't in words"
+        fi
+    done
+    [ "$count" -gt 13 ] || fail "there are only $count lessons"
+}
+
+# A text through the assembler, and its files listed and assembled again.
+assembler() {
+    local file
+    ./box asm examples/spoofed-discount.lesson "$work/one" >/dev/null
+    for file in "$work"/one/*.class; do
+        ./box list "$file" >"$work/listing"
+        ./box asm "$work/listing" "$work/two" >/dev/null
+        cmp "$file" "$work/two/"*.class || fail "$(basename "$file") isn't the same after a listing"
+        ./box check "$file" >/dev/null || fail "$(basename "$file") isn't accepted"
+        rm -r "$work/two"
+    done
+}
+
+# Wrong usage ends with 2.
+usage() {
+    local words
+    for words in "" "--store" "nothing-there.lesson" "list" "check nothing-there" "asm examples/first.lesson" "--what examples/first.box" "-h"; do
+        # shellcheck disable=SC2086
+        ./box $words >"$work/out" 2>&1 && fail "./box $words is accepted"
+        # shellcheck disable=SC2086
+        [ "$(./box $words >/dev/null 2>&1; echo $?)" -eq 2 ] || fail "./box $words doesn't end with 2"
+    done
+}
+
+# The mirror stands in for the libraries: right, it passes; with a learner's mistake, that mistake's lesson fails.
+mistakes() {
+    local mirror=$PWD/reference/target/mirror/release writer=$tools/mirror/release/writer lesson fault number
+    (cd reference && cargo build --offline --release --quiet -p mirror --target-dir target/mirror)
+    TARIFF_LIB=$mirror TARIFF_LINK=dylib=tariff cargo build --manifest-path tools/Cargo.toml --offline --release --quiet --features host --target-dir "$tools/mirror"
+    export LD_LIBRARY_PATH=$mirror
+    for lesson in examples/*.lesson; do
+        "$writer" play "$lesson" >/dev/null 2>&1 || fail "$lesson fails on the second implementation"
+    done
+    for fault in 1-checks-only-constraints-on-the-request 2-superclass-under-the-asking-loader 3-posts-and-then-refuses 4-overriding-ties-nothing 5-compares-by-name; do
+        number=${fault%%-*}
+        MIRROR_FAULT=${fault#*-} "$writer" play examples/mistake-"$number"-*.lesson >"$work/out" 2>&1 && fail "mistake $number passes on a machine that makes it"
+        grep -q "^NO" "$work/out" || { cat "$work/out"; fail "mistake $number"; }
+    done
+    MIRROR_FAULT=desk-skips-the-verifier "$writer" check tools/tests/errors/unverified.check >"$work/out" 2>&1 && fail "a wrong desk is believed"
+    grep -q "the desk says 0 and the second implementation 6" "$work/out" || fail "a wrong desk isn't named"
+    unset LD_LIBRARY_PATH
+}
+
+write=''
+if [ "${1:-}" = --write-errors ]; then
+    write=1
+    errors
+    exit
+fi
+TARIFF_LIB=$PWD/target/staticlib FUZZ_SECONDS=${FUZZ_SECONDS:-60} \
+    cargo test --manifest-path tools/Cargo.toml --offline --release --quiet --features host --target-dir "$tools/host" --lib --test round_trips --test lessons --test fuzz
+lessons
+assembler
+usage
+errors
+mistakes
+exit "$wrong"
