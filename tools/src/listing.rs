@@ -16,14 +16,17 @@ pub const LEGEND: &str = "# Behind an instruction: its point, the [operands] and
 pub fn listing(bytes: &[u8], called: &str, names: &Names) -> String {
     let sketch = Sketch::read(bytes);
     match File::explained(bytes) {
-        Ok(file) => class(&sketch, Some(called).filter(|&called| called != names.class(file.name())), names),
+        Ok(file) => {
+            let called = Some(called).filter(|&called| called != names.class(file.name()));
+            class(&sketch, called, names, seen)
+        }
         Err(flaw) => damaged(bytes, &sketch, flaw, called, names),
     }
 }
 
 fn damaged(bytes: &[u8], sketch: &Sketch, flaw: Flaw, called: &str, names: &Names) -> String {
     let mut out = format!("# No class file: at byte {}, {}.\n", flaw.at, reasons::rule(flaw.rule, names));
-    let read = class(sketch, None, names);
+    let read = class(sketch, None, names, |_, _| (Vec::new(), None));
     out.push_str("# As far as it reads:\n");
     read.lines().for_each(|line| out.push_str(&format!("#   {line}\n")));
     let _ = writeln!(out, "file {} {{", called);
@@ -37,7 +40,10 @@ pub fn hexadecimal(bytes: &[u8]) -> String {
     bytes.iter().map(|byte| format!("{byte:02X}")).collect::<Vec<_>>().join(" ")
 }
 
-fn class(sketch: &Sketch, called: Option<&str>, names: &Names) -> String {
+/// What the verifier sees in a method; nothing in a file that doesn't read.
+type Seeing = fn(u16, Method) -> (Vec<Seen>, Option<Rejected>);
+
+fn class(sketch: &Sketch, called: Option<&str>, names: &Names, seeing: Seeing) -> String {
     let name = |name: Option<u16>| name.map_or("?".into(), |name| names.class(name));
     let called = called.map_or(String::new(), |called| format!(" as {called}"));
     let mut out = format!("class {} extends {}{called} {{\n", name(sketch.name), name(sketch.superclass));
@@ -46,15 +52,14 @@ fn class(sketch: &Sketch, called: Option<&str>, names: &Names) -> String {
     }
     for method in &sketch.methods {
         let _ = writeln!(out, "    method {} {{", names.method(method.name, method.argument, method.result));
-        out.push_str(&code(sketch.name.unwrap_or(0), *method, names));
+        out.push_str(&code(*method, names, seeing(sketch.name.unwrap_or(0), *method)));
         out.push_str("    }\n");
     }
     out + "}\n"
 }
 
 /// The instructions of a method, each with what the verifier sees there.
-fn code(own_name: u16, method: Method, names: &Names) -> String {
-    let (points, rejected) = seen(own_name, method);
+fn code(method: Method, names: &Names, (points, rejected): (Vec<Seen>, Option<Rejected>)) -> String {
     let mut out = String::new();
     let mut point = 0;
     while point < method.code.len() {
