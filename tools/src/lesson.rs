@@ -2,7 +2,7 @@
 
 use reference::answer::word;
 use reference::gen::Call;
-use reference::store::LENGTHS;
+use reference::store::{LENGTHS, TABLES};
 
 use crate::cursor::{Cursor, Parsed};
 use crate::names::{Names, Taken};
@@ -56,12 +56,6 @@ pub enum Wish {
     Wanted(Option<(u32, u16)>),
     Refused(u8),
 }
-
-/// The tables in the order of a store, and the largest number of their cells.
-pub const TABLES: [(&str, u32); 8] = [
-    ("counts", 0xFFFF), ("classes", 0xFFFF), ("kept", 0xFF), ("cache", 0xFFFF), ("ties", 0xFFFF),
-    ("subtypes", 0xFFFF), ("objects", u32::MAX), ("frames", u32::MAX),
-];
 
 const MOST_ROUNDS: i64 = 1_000;
 

@@ -150,7 +150,7 @@ impl<'a> Play<'a> {
                 Ok(Some(Call::Record { loader, name: name.into(), class: class.into() }))
             }
             What::Damage { table, cell, value } => {
-                rows::damage(&mut self.outcome.store, table, cell, value);
+                self.outcome.store.set(table, cell, value);
                 Ok(None)
             }
         }

@@ -5,10 +5,9 @@ use std::fmt::Write;
 use reference::broken::unbroken;
 use reference::classes::Classes;
 use reference::code::decode;
-use reference::store::{cell, count, frame_base, FRAME_ROW, LOCALS, TASKS};
+use reference::store::{cell, count, frame_base, FRAME_ROW, LENGTHS, LOCALS, TABLES, TASKS};
 use reference::store::{Store, Value};
 
-use crate::lesson::TABLES;
 use crate::listing;
 use crate::names::Names;
 use crate::words::task;
@@ -52,35 +51,12 @@ fn row_changes(before: &[Row], after: &[Row]) -> Vec<String> {
 
 fn cell_changes(before: &Store, after: &Store) -> Vec<String> {
     let mut lines = Vec::new();
-    for ((name, _), (old, new)) in TABLES.iter().zip(tables(before).into_iter().zip(tables(after))) {
-        let pairs = old.iter().zip(&new).enumerate().filter(|(_, (old, new))| old != new);
-        lines.extend(pairs.map(|(cell, (old, new))| format!("~ {name} {cell}: {old}, now {new}")));
+    for (table, ((name, _), length)) in TABLES.iter().zip(LENGTHS).enumerate() {
+        let pairs = (0..length).map(|cell| (cell, before.get(table, cell), after.get(table, cell)));
+        let changed = pairs.filter(|(_, old, new)| old != new);
+        lines.extend(changed.map(|(cell, old, new)| format!("~ {name} {cell}: {old}, now {new}")));
     }
     lines
-}
-
-/// The cells of every table, in the order of `TABLES`.
-fn tables(store: &Store) -> [Vec<u32>; 8] {
-    let wide = |cells: &[u16]| cells.iter().map(|&cell| cell.into()).collect::<Vec<u32>>();
-    let kept = store.kept.iter().map(|&cell| cell.into()).collect();
-    [
-        wide(&store.counts), wide(&store.classes), kept, wide(&store.cache), wide(&store.ties), wide(&store.subtypes),
-        store.objects.clone(), store.frames.clone(),
-    ]
-}
-
-/// Overwrites a cell; the lesson's reader has seen that it is there and the value fits.
-pub fn damage(store: &mut Store, table: usize, cell: usize, value: u32) {
-    match table {
-        0 => store.counts[cell] = value as u16,
-        1 => store.classes[cell] = value as u16,
-        2 => store.kept[cell] = value as u8,
-        3 => store.cache[cell] = value as u16,
-        4 => store.ties[cell] = value as u16,
-        5 => store.subtypes[cell] = value as u16,
-        6 => store.objects[cell] = value,
-        _ => store.frames[cell] = value,
-    }
 }
 
 /// All used rows of a store that isn't broken.
