@@ -62,14 +62,24 @@ assembler() {
     done
 }
 
+# The lessons that README.md and docs/LESSONS.md print do what they say.
+printed() {
+    awk '/^    name Policy/ { on = 1 } on && /^[^ ]/ { exit } on { print substr($0, 5) }' README.md >"$work/readme.lesson"
+    awk '/^## A lesson of one/ { on = 1; next } on && /^[^ ]/ { exit } on { print substr($0, 5) }' docs/LESSONS.md >"$work/mine.lesson"
+    ./box "$work/readme.lesson" >"$work/out" || fail "README.md's lesson fails"
+    grep -q "^ok  step  *finished: the quote with 7$" "$work/out" || fail "README.md's lesson has no quote"
+    ./box --draw "$work/mine.lesson" "$work/mine.svg" >"$work/out" || fail "the lesson of docs/LESSONS.md fails"
+    grep -q "class 4? refused" "$work/mine.svg" || fail "the picture of docs/LESSONS.md has no clash"
+}
+
 # Wrong usage ends with 2.
 usage() {
-    local words
+    local words status
     for words in "" "--store" "nothing-there.lesson" "list" "check nothing-there" "asm examples/first.lesson" "--what examples/first.box" "-h"; do
+        status=0
         # shellcheck disable=SC2086
-        ./box $words >"$work/out" 2>&1 && fail "./box $words is accepted"
-        # shellcheck disable=SC2086
-        [ "$(./box $words >/dev/null 2>&1; echo $?)" -eq 2 ] || fail "./box $words doesn't end with 2"
+        ./box $words >"$work/out" 2>&1 || status=$?
+        [ "$status" -eq 2 ] || fail "./box $words ends with $status"
     done
 }
 
@@ -102,6 +112,7 @@ TARIFF_LIB=$PWD/target/staticlib FUZZ_SECONDS=${FUZZ_SECONDS:-60} \
     cargo test --manifest-path tools/Cargo.toml --offline --release --quiet --features host --target-dir "$tools/host" --lib --test round_trips --test lessons --test fuzz
 lessons
 assembler
+printed
 usage
 errors
 mistakes
