@@ -4,12 +4,13 @@ use reference::answer::word;
 use reference::file::File;
 use reference::verifier::verify;
 
-use crate::input::{Input, Piece};
+use crate::input::Input;
 use crate::listing;
 use crate::machine;
 use crate::names::Names;
 use crate::reasons;
-use crate::source::Problem;
+use crate::source::{Problem, Source};
+use crate::text::Text;
 
 /// What the desk said of the files.
 #[derive(Clone, Copy, Debug, PartialEq, Eq)]
@@ -40,21 +41,22 @@ pub fn check(input: &Input) -> (Verdict, String) {
             None => out.push_str(&format!("{}: accepted, {} bytes\n", piece.called, piece.bytes.len())),
             Some(said) => {
                 worst = Verdict::Refused;
-                out.push_str(&format!("{}: refused: {number}, {said}\n{}", piece.called, reason(input, piece)));
+                let reason = reason(&piece.bytes, &input.names, piece.text.as_ref().zip(input.source.as_ref()));
+                out.push_str(&format!("{}: refused: {number}, {said}\n{reason}", piece.called));
             }
         }
     }
     (worst, out)
 }
 
-/// Where and why, with the line of the text if there is one.
-fn reason(input: &Input, piece: &Piece) -> String {
-    let Some((byte, place, why)) = place(&piece.bytes, &input.names) else {
+/// Where and why the bytes are refused, with the line of their text if they have one.
+pub fn reason(bytes: &[u8], names: &Names, text: Option<(&Text, &Source)>) -> String {
+    let Some((byte, place, why)) = place(bytes, names) else {
         return String::new();
     };
-    match (&piece.text, &input.source) {
-        (Some(text), Some(source)) => source.show(&Problem::new(text.part(byte), format!("{place}: {why}"))),
-        _ => format!("    {place}: {why}\n"),
+    match text {
+        Some((text, source)) => source.show(&Problem::new(text.part(byte), format!("{place}: {why}"))),
+        None => format!("    {place}: {why}\n"),
     }
 }
 

@@ -210,11 +210,11 @@ impl Picture {
         let (x, y) = (grid.x(loader), grid.y(name));
         let entry = self.entries.iter().find(|&&([at, of, _], _)| (at, of) == (loader, name));
         let (fill, stroke, below) = match entry {
-            None => ("white", "stroke=\"#888\" stroke-width=\"1.2\" stroke-dasharray=\"3 3\"".to_string(), "not loaded".into()),
-            Some(&([_, _, class], Age::Refused)) => ("white", Age::Refused.stroke(), format!("class {class}? refused")),
+            None => ("white".into(), "stroke=\"#888\" stroke-width=\"1.2\" stroke-dasharray=\"3 3\"".to_string(), "not loaded".into()),
+            Some(&([_, _, class], Age::Refused)) => ("white".into(), Age::Refused.stroke(), format!("class {class}? refused")),
             Some(&([_, _, class], age)) => {
                 let new = if age == Age::New { ", new" } else { "" };
-                (FILLS[usize::from(class) % FILLS.len()], age.stroke(), format!("class {class}{new}"))
+                (fill(class), age.stroke(), format!("class {class}{new}"))
             }
         };
         let (wide, high) = BOX;
@@ -224,14 +224,26 @@ impl Picture {
             out,
             "<text x=\"{middle}\" y=\"{}\" text-anchor=\"middle\" font-weight=\"bold\">{}</text>",
             y + 17,
-            escaped(&clipped(&names.class(name), 16))
+            escaped(&clipped(&names.class(name), 14))
         );
         text(out, (middle, y + 33), "#333", "middle", &below);
     }
 }
 
-/// One colour a class, so that requests that mean one class look alike.
-const FILLS: [&str; 8] = ["#e8e8e8", "#cfe8ff", "#d8f5d0", "#ffe3c2", "#f3d6f5", "#fff3b0", "#c9f2ee", "#ffd6d6"];
+/// One light colour a class, so that requests that mean one class look alike: Object's is grey, the others go round the colour wheel.
+fn fill(class: u16) -> String {
+    if class == 0 {
+        return "#e8e8e8".into();
+    }
+    let hue = u32::from(class) * 137 % 360;
+    let (least, wide) = if class / 16 % 2 == 0 { (205, 50) } else { (180, 55) };
+    let part = |turn: u32| {
+        let at = (hue + turn) % 360;
+        let height = if at < 60 { at } else if at < 180 { 60 } else { 240u32.saturating_sub(at) };
+        least + wide * height.min(60) / 60
+    };
+    format!("#{:02x}{:02x}{:02x}", part(120), part(0), part(240))
+}
 
 /// Where requests stand.
 struct Grid {
@@ -259,15 +271,17 @@ impl Grid {
     /// A tie joins one name under two loaders: a line, or an arc over the columns between.
     fn tie(&self, [one, other, name]: Row, age: Age, out: &mut String) {
         let (left, right) = if self.column(one) <= self.column(other) { (one, other) } else { (other, one) };
-        let (x1, x2, y) = (self.x(left) + BOX.0, self.x(right), self.y(name) + BOX.1 / 2);
-        let middle = (x1 + x2) / 2;
-        let up = if self.column(right) - self.column(left) > 1 { BOX.1 / 2 + 24 } else { 0 };
-        let _ = writeln!(
-            out,
-            "<path d=\"M{x1} {y}C{} {} {} {} {x2} {y}\" fill=\"none\" {}/>",
-            x1 + 30, y - up * 4 / 3, x2 - 30, y - up * 4 / 3, age.stroke()
-        );
-        text(out, (middle, y - up - 5), age.colour(), "middle", said(age, "tie"));
+        let (begin, end, top) = (self.x(left), self.x(right), self.y(name));
+        let is_next = self.column(right) - self.column(left) <= 1;
+        let (path, y) = if is_next {
+            let y = top + BOX.1 / 2;
+            (format!("M{} {y}L{end} {y}", begin + BOX.0), y)
+        } else {
+            let (from, to, up) = (begin + BOX.0 * 3 / 4, end + BOX.0 / 4, top - 30);
+            (format!("M{from} {top}C{} {up} {} {up} {to} {top}", from + 40, to - 40), top - 22)
+        };
+        let _ = writeln!(out, "<path d=\"{path}\" fill=\"none\" {}/>", age.stroke());
+        text(out, ((begin + end + BOX.0) / 2, y - 5), age.colour(), "middle", said(age, "tie"));
     }
 
     /// A subtype constraint goes up within a loader, beside the names between.
@@ -279,10 +293,10 @@ impl Grid {
             (format!("M{middle} {from}L{middle} {}", to + BOX.1), (middle + 6, (from + to + BOX.1) / 2 + 4))
         } else {
             let (x, y1, y2) = (self.x(loader), from + BOX.1 / 2, to + BOX.1 / 2);
-            (format!("M{x} {y1}C{} {y1} {} {y2} {x} {y2}", x - 44, x - 44), (x - 34, (y1 + y2) / 2 + 4))
+            (format!("M{x} {y1}C{} {y1} {} {y2} {x} {y2}", x - 44, x - 44), (x - 36, (y1 + y2) / 2 + 4))
         };
         let _ = writeln!(out, "<path d=\"{path}\" fill=\"none\" {} marker-end=\"url(#{})\"/>", age.stroke(), age.arrow());
-        text(out, at, age.colour(), "start", said(age, "below"));
+        text(out, at, age.colour(), if is_next { "start" } else { "end" }, said(age, "below"));
     }
 }
 

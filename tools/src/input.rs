@@ -34,18 +34,19 @@ fn hexadecimal(bytes: &[u8]) -> Option<Vec<u8>> {
     reference::script::hexadecimal(&digits)
 }
 
-/// Takes the input apart; a text that can't be read gives its problem.
-pub fn read(file: &str, bytes: Vec<u8>) -> Result<Input, (Source, Problem)> {
+/// Takes the input apart; a text that can't be read gives its problem. The names are for a script, which has none of its own.
+pub fn read(file: &str, bytes: Vec<u8>, names: Names) -> Result<Input, (Source, Problem)> {
     if bytes.is_empty() || !is_text(&bytes) {
-        return Ok(files(vec![bytes]));
+        return Ok(files(vec![bytes], Names::default()));
     }
     if let Some(bytes) = hexadecimal(&bytes) {
-        return Ok(files(vec![bytes]));
+        return Ok(files(vec![bytes], Names::default()));
     }
     let source = Source::new(file, bytes)?;
     if file.ends_with(".box") {
         let calls = script::lines(&source.text).into_iter().filter_map(|(_, call)| call);
-        return Ok(files(calls.filter_map(|call| if let Call::Define { file, .. } = call { Some(file) } else { None }).collect()));
+        let defined = calls.filter_map(|call| if let Call::Define { file, .. } = call { Some(file) } else { None });
+        return Ok(files(defined.collect(), names));
     }
     match Lesson::read(&source) {
         Ok(lesson) => {
@@ -57,8 +58,7 @@ pub fn read(file: &str, bytes: Vec<u8>) -> Result<Input, (Source, Problem)> {
 }
 
 /// Class files without a text: each is called by its class, or by its place if that is taken.
-fn files(all: Vec<Vec<u8>>) -> Input {
-    let names = Names::default();
+fn files(all: Vec<Vec<u8>>, names: Names) -> Input {
     let mut pieces: Vec<Piece> = Vec::new();
     for bytes in all {
         let name = Sketch::read(&bytes).name.filter(|_| File::read(&bytes).is_some());

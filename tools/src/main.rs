@@ -71,7 +71,8 @@ fn bytes(file: &str) -> Result<Vec<u8>, Failure> {
 }
 
 fn input(file: &str) -> Result<Input, Failure> {
-    Ok(input::read(file, bytes(file)?)?)
+    let names = if file.ends_with(".box") { names_beside(file) } else { Names::default() };
+    Ok(input::read(file, bytes(file)?, names)?)
 }
 
 /// Writes to standard output; a reader that has gone away is no failure.

@@ -7,6 +7,7 @@ use reference::gen::Call;
 use reference::host::Told;
 use reference::Store;
 
+use crate::check::reason;
 use crate::draw::Strip;
 use crate::lesson::{Act, Doing, Lesson, What};
 use crate::machine;
@@ -53,6 +54,8 @@ enum Last {
 struct Made {
     answer: String,
     problems: Vec<Problem>,
+    /// Why a file was refused.
+    reason: String,
     changes: Vec<String>,
 }
 
@@ -124,7 +127,7 @@ impl<'a> Play<'a> {
 
     fn make(&mut self, doing: &Doing) -> Made {
         let before = self.outcome.store.clone();
-        let mut made = Made { answer: String::new(), problems: Vec::new(), changes: Vec::new() };
+        let mut made = Made { answer: String::new(), problems: Vec::new(), reason: String::new(), changes: Vec::new() };
         match self.call_of(&doing.what) {
             Ok(Some(call)) => self.call(doing, &call, &before, &mut made),
             Ok(None) => made.answer = "damaged".into(),
@@ -173,6 +176,10 @@ impl<'a> Play<'a> {
             let wish = self.source.of(expected.span).trim_start_matches("expect").trim_start();
             made.problems.push(Problem::new(expected.span, format!("expected {wish}, but the answer was: {}", made.answer)));
         }
+        if let (Call::Define { file, .. }, word::FILE | word::UNVERIFIED) = (call, told.number) {
+            let text = self.lesson.texts.iter().find(|text| text.bytes == *file);
+            made.reason = reason(file, names, text.map(|text| (text, self.source)));
+        }
         if self.show.draw {
             self.draw(&doing.said, call, &told, before, &made.answer);
         }
@@ -193,6 +200,7 @@ impl<'a> Play<'a> {
             (true, true) => "  ",
         };
         writeln!(self.out, "{mark}  {:<42}  {}", doing.said, made.answer)?;
+        write!(self.out, "{}", made.reason)?;
         made.changes.iter().try_for_each(|change| writeln!(self.out, "        {change}"))?;
         made.problems.iter().try_for_each(|problem| write!(self.out, "{}", self.source.show(problem)))
     }

@@ -62,7 +62,7 @@ fn drawn(seed: u64, texts: &[Vec<u8>]) -> Vec<u8> {
 
 /// Everything that the program does with a file.
 fn try_all(name: &str, bytes: Vec<u8>) {
-    match input::read(name, bytes.clone()) {
+    match input::read(name, bytes.clone(), Names::default()) {
         Ok(input) => {
             input.pieces.iter().for_each(|piece| drop(listing(&piece.bytes, &piece.called, &input.names)));
             let (verdict, said) = check(&input);

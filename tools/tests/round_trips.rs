@@ -59,7 +59,7 @@ fn every_length() {
 fn the_examples() {
     for path in common::examples("box").into_iter().chain(common::examples("lesson")) {
         let source = common::source(&path);
-        let read = input::read(&source.file, source.text.clone().into_bytes());
+        let read = input::read(&source.file, source.text.clone().into_bytes(), Names::default());
         let input = read.unwrap_or_else(|(source, problem)| panic!("{}", source.show(&problem)));
         assert!(!input.pieces.is_empty());
         let mut text = String::new();
@@ -77,7 +77,7 @@ fn bytes_and_hexadecimal_are_one() {
     let bytes = of_length(300, 40);
     let digits: String = bytes.iter().map(|byte| format!("{byte:02x}\n")).collect();
     for written in [bytes.clone(), digits.into_bytes()] {
-        let input = input::read("a", written).unwrap_or_else(|_| panic!("no input"));
+        let input = input::read("a", written, Names::default()).unwrap_or_else(|_| panic!("no input"));
         assert_eq!(input.pieces[0].bytes, bytes);
     }
 }
