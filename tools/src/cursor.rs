@@ -138,11 +138,7 @@ impl<'a> Cursor<'a> {
 
     fn undeclared(&self, word: &str) -> Problem {
         let problem = Problem::new(self.peek().span, format!("the name {} isn't declared", clipped(word)));
-        let problem = problem.near(word, self.names.iter());
-        if problem.help.is_some() {
-            return problem;
-        }
-        problem.help(format!("declare it above, as: name {} 100", clipped(word)))
+        problem.near(word, self.names.iter()).or_help(format!("declare it above, as: name {} 100", clipped(word)))
     }
 
     /// A fresh word on the same line.

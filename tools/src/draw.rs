@@ -67,7 +67,8 @@ impl Strip {
         let height: i64 = self.pictures.iter().map(Picture::height).sum::<i64>() + 90;
         let mut out = format!(
             "<svg xmlns=\"http://www.w3.org/2000/svg\" width=\"{width}\" height=\"{height}\" viewBox=\"0 0 {width} {height}\" \
-             font-family=\"sans-serif\" font-size=\"13\">\n<rect width=\"{width}\" height=\"{height}\" fill=\"white\"/>\n{ARROWS}"
+             font-family=\"sans-serif\" font-size=\"13\">\n<rect width=\"{width}\" height=\"{height}\" fill=\"white\"/>\n{}",
+            heads()
         );
         let mut y = 0;
         for (place, picture) in self.pictures.iter().enumerate() {
@@ -84,11 +85,20 @@ impl Strip {
     }
 }
 
-const ARROWS: &str = "<defs>\n\
-<marker id=\"old\" viewBox=\"0 0 10 10\" refX=\"9\" refY=\"5\" markerWidth=\"8\" markerHeight=\"8\" orient=\"auto\"><path d=\"M0 0L10 5L0 10z\" fill=\"#444\"/></marker>\n\
-<marker id=\"new\" viewBox=\"0 0 10 10\" refX=\"9\" refY=\"5\" markerWidth=\"6\" markerHeight=\"6\" orient=\"auto\"><path d=\"M0 0L10 5L0 10z\" fill=\"#d97706\"/></marker>\n\
-<marker id=\"refused\" viewBox=\"0 0 10 10\" refX=\"9\" refY=\"5\" markerWidth=\"6\" markerHeight=\"6\" orient=\"auto\"><path d=\"M0 0L10 5L0 10z\" fill=\"#c00\"/></marker>\n\
-</defs>\n";
+/// The heads of the arrows, one for each age.
+fn heads() -> String {
+    let mut out = String::from("<defs>\n");
+    for age in [Age::Old, Age::New, Age::Refused] {
+        let _ = writeln!(
+            out,
+            "<marker id=\"{}\" viewBox=\"0 0 10 10\" refX=\"9\" refY=\"5\" markerUnits=\"userSpaceOnUse\" markerWidth=\"13\" \
+             markerHeight=\"13\" orient=\"auto\"><path d=\"M0 0L10 5L0 10z\" fill=\"{}\"/></marker>",
+            age.arrow(),
+            age.colour()
+        );
+    }
+    out + "</defs>\n"
+}
 
 impl Age {
     fn colour(self) -> &'static str {
@@ -210,7 +220,9 @@ impl Picture {
         let (x, y) = (grid.x(loader), grid.y(name));
         let entry = self.entries.iter().find(|&&([at, of, _], _)| (at, of) == (loader, name));
         let (fill, stroke, below) = match entry {
-            None => ("white".into(), "stroke=\"#888\" stroke-width=\"1.2\" stroke-dasharray=\"3 3\"".to_string(), "not loaded".into()),
+            None => {
+                ("white".into(), "stroke=\"#888\" stroke-width=\"1.2\" stroke-dasharray=\"3 3\"".to_string(), "not loaded".into())
+            }
             Some(&([_, _, class], Age::Refused)) => ("white".into(), Age::Refused.stroke(), format!("class {class}? refused")),
             Some(&([_, _, class], age)) => {
                 let new = if age == Age::New { ", new" } else { "" };
@@ -230,17 +242,17 @@ impl Picture {
     }
 }
 
-/// One light colour a class, so that requests that mean one class look alike: Object's is grey, the others go round the colour wheel.
+/// One light colour a class, so that requests that mean one class look alike: grey for Object, then round the colour wheel.
 fn fill(class: u16) -> String {
     if class == 0 {
         return "#e8e8e8".into();
     }
     let hue = u32::from(class) * 137 % 360;
-    let (least, wide) = if class / 16 % 2 == 0 { (205, 50) } else { (180, 55) };
+    let (least, wide) = if class & 16 == 0 { (205, 50) } else { (180, 55) };
     let part = |turn: u32| {
         let at = (hue + turn) % 360;
-        let height = if at < 60 { at } else if at < 180 { 60 } else { 240u32.saturating_sub(at) };
-        least + wide * height.min(60) / 60
+        let height = at.min(60).min(240u32.saturating_sub(at));
+        least + wide * height / 60
     };
     format!("#{:02x}{:02x}{:02x}", part(120), part(0), part(240))
 }
@@ -311,7 +323,11 @@ fn said(age: Age, what: &str) -> &str {
 }
 
 fn text(out: &mut String, (x, y): (i64, i64), colour: &str, anchor: &str, said: &str) {
-    let _ = writeln!(out, "<text x=\"{x}\" y=\"{y}\" font-size=\"11\" text-anchor=\"{anchor}\" fill=\"{colour}\">{}</text>", escaped(said));
+    let _ = writeln!(
+        out,
+        "<text x=\"{x}\" y=\"{y}\" font-size=\"11\" text-anchor=\"{anchor}\" fill=\"{colour}\">{}</text>",
+        escaped(said)
+    );
 }
 
 fn legend(out: &mut String, y: i64) {

@@ -20,7 +20,10 @@ pub enum Act {
     /// Words for the reader.
     Say(String),
     Do(Doing),
-    Repeat { times: u32, acts: Vec<Act> },
+    Repeat {
+        times: u32,
+        acts: Vec<Act>,
+    },
 }
 
 pub struct Doing {
@@ -34,9 +37,17 @@ pub struct Doing {
 pub enum What {
     Call(Call),
     /// Record of the class that another loader's cache has for the name.
-    RecordOf { loader: u32, name: u16, of: u32 },
+    RecordOf {
+        loader: u32,
+        name: u16,
+        of: u32,
+    },
     /// A cell of a table is overwritten.
-    Damage { table: usize, cell: usize, value: u32 },
+    Damage {
+        table: usize,
+        cell: usize,
+        value: u32,
+    },
 }
 
 pub struct Expected {
@@ -157,13 +168,11 @@ impl Reader<'_> {
     fn doing(&mut self, word: &str) -> Parsed<Doing> {
         let Some((_, form, read)) = STATEMENTS.iter().find(|statement| statement.0 == word) else {
             let known = STATEMENTS.iter().map(|statement| statement.0).chain(OTHERS);
-            let problem = Problem::new(self.at.peek().span, format!("'{word}' begins no statement")).near(word, known);
-            return Err(if problem.help.is_some() { problem } else { problem.help("see docs/LESSONS.md for the words of a lesson") });
+            let problem = Problem::new(self.at.peek().span, format!("'{word}' begins no statement"));
+            return Err(problem.near(word, known).or_help("docs/LESSONS.md has the words of a lesson"));
         };
         let begin = self.at.take();
-        let what = read(self).map_err(|problem| {
-            if problem.help.is_some() { problem } else { problem.help(format!("as in: {form}")) }
-        })?;
+        let what = read(self).map_err(|problem| problem.or_help(format!("as in: {form}")))?;
         let span = begin.to(self.at.last().span);
         let mut expected = Vec::new();
         while self.at.word() == Some("expect") {
@@ -258,9 +267,8 @@ impl Reader<'_> {
     fn damage(&mut self) -> Parsed<What> {
         let names = TABLES.map(|table| table.0);
         let Some(table) = names.iter().position(|name| self.at.took(name)) else {
-            let problem = self.at.expected("a table");
-            let near = problem.near(self.at.text(), names);
-            return Err(if near.help.is_some() { near } else { near.help(format!("the tables are {}", names.join(", "))) });
+            let problem = self.at.expected("a table").near(self.at.text(), names);
+            return Err(problem.or_help(format!("the tables are {}", names.join(", "))));
         };
         let cell = self.at.number("a cell", 0, LENGTHS[table] as i64 - 1)? as usize;
         let value = self.at.number("what the cell gets", 0, TABLES[table].1.into())? as u32;
@@ -295,8 +303,9 @@ impl Reader<'_> {
                 Some(place) => Ok(Wish::Refused(place as u8 + 1)),
                 None => {
                     let problem = Problem::new(span, format!("'{answer}' is no answer"));
-                    let near = problem.near(answer, ANSWERS.into_iter().chain(word::NAMES));
-                    Err(if near.help.is_some() { near } else { near.help(format!("answers are {}, and the words of refusal", ANSWERS.join(", "))) })
+                    let known = ANSWERS.into_iter().chain(word::NAMES);
+                    let all = format!("answers are {}, and the words of refusal", ANSWERS.join(", "));
+                    Err(problem.near(answer, known).or_help(all))
                 }
             },
         }

@@ -2,15 +2,16 @@
 
 use std::fmt::Write;
 
-use reference::code::op::{self, Inline};
 use reference::code::decode;
+use reference::code::op::{self, Inline};
 use reference::file::{File, Flaw, Method, Sketch};
 use reference::verifier::{seen, Rejected, Seen, Types};
 
 use crate::names::Names;
 use crate::reasons;
 
-pub const LEGEND: &str = "# Behind an instruction: its point, the [operands] and {locals} before it, and the notes that it makes.\n";
+pub const LEGEND: &str =
+    "# Behind an instruction: its point, the [operands] and {locals} before it, and the notes that it makes.\n";
 
 /// A listing that assembles to these bytes. Bytes that are no file are listed, in comments, as far as they read.
 pub fn listing(bytes: &[u8], called: &str, names: &Names) -> String {

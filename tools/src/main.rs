@@ -172,7 +172,8 @@ fn play(mut options: &[&str], file: &str) -> Result<(), Failure> {
 fn end(file: &str, outcome: &Outcome) -> Result<(), Failure> {
     let Outcome { calls, met, failed, .. } = *outcome;
     if failed > 0 {
-        return Err(Failure::Bad(format!("{file} failed: {failed} {}", if failed == 1 { "answer wasn't as expected" } else { "answers weren't as expected" })));
+        let answers = if failed == 1 { "answer wasn't" } else { "answers weren't" };
+        return Err(Failure::Bad(format!("{file} failed: {failed} {answers} as expected")));
     }
     let met = if met == 0 { String::new() } else { format!(", {met} answers as expected") };
     print(&format!("{file}: {calls} calls{met}\n"))

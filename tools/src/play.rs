@@ -64,7 +64,8 @@ impl<'a> Play<'a> {
     pub fn run(source: &'a Source, lesson: &'a Lesson, show: Show, out: &'a mut dyn Write) -> io::Result<Outcome> {
         let outcome = Outcome { store: Store::zeros(), calls: 0, met: 0, failed: 0, strip: Strip::default() };
         let mut play = Play { source, lesson, show, out, outcome, last: Last::Nothing };
-        machine::make(&Call::Boot, &mut play.outcome.store).ok_or_else(|| io::Error::other("this build has no machine; use ./box"))?;
+        machine::make(&Call::Boot, &mut play.outcome.store)
+            .ok_or_else(|| io::Error::other("this build has no machine; use ./box"))?;
         for act in &lesson.acts {
             match act {
                 Act::Say(said) => play.say(said)?,

@@ -124,7 +124,11 @@ fn object_says(store: &Store, classes: &Classes, object: u32, names: &Names) -> 
         }
     }
     let name = format!("{} (class {class})", names.class(store.name_of(class)));
-    if fields.is_empty() { name } else { format!("{name}, {}", fields.join(", ")) }
+    if fields.is_empty() {
+        name
+    } else {
+        format!("{name}, {}", fields.join(", "))
+    }
 }
 
 fn frame_says(store: &Store, task: usize, depth: usize, names: &Names) -> String {
@@ -135,9 +139,7 @@ fn frame_says(store: &Store, task: usize, depth: usize, names: &Names) -> String
     let place = method.map_or("no method".into(), |method| names.method(method.name, method.argument, method.result));
     let next = method.and_then(|method| Some((decode(method.code, point)?.1, method.code)));
     let next = next.map_or("nothing".into(), |(end, code)| listing::instruction(&code[point..end], names));
-    let values = |first: usize, count: usize| {
-        (0..count).map(|i| value(frame, first + 2 * i)).collect::<Vec<_>>()
-    };
+    let values = |first: usize, count: usize| (0..count).map(|i| value(frame, first + 2 * i)).collect::<Vec<_>>();
     let mut locals = values(cell::LOCAL_0, LOCALS);
     while locals.last().is_some_and(|local| local == "-") {
         locals.pop();

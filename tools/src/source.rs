@@ -40,6 +40,14 @@ impl Problem {
         self
     }
 
+    /// The same where no help is given yet.
+    pub fn or_help(self, help: impl Into<String>) -> Problem {
+        match self.help {
+            Some(_) => self,
+            None => self.help(help),
+        }
+    }
+
     /// Names the one of these that is nearest to what was written, if one is near.
     pub fn near<'a>(self, written: &str, names: impl IntoIterator<Item = &'a str>) -> Problem {
         match nearest(written, names) {
@@ -139,7 +147,11 @@ fn distance(a: &str, b: &str) -> usize {
                 let changed = rows[i - 1][j - 1] + usize::from(a[i - 1] != b[j - 1]);
                 let swapped = i > 1 && j > 1 && a[i - 1] == b[j - 2] && a[i - 2] == b[j - 1];
                 let best = changed.min(rows[i - 1][j] + 1).min(rows[i][j - 1] + 1);
-                if swapped { best.min(rows[i - 2][j - 2] + 1) } else { best }
+                if swapped {
+                    best.min(rows[i - 2][j - 2] + 1)
+                } else {
+                    best
+                }
             };
         }
     }

@@ -64,7 +64,8 @@ fn line_tokens(line: &str, start: usize, number: usize, all: &mut Vec<Token>) ->
 }
 
 fn strange(first: char, span: Span) -> Problem {
-    Problem::new(span, format!("{first:?} begins neither a word nor a number")).help("a comment begins with #, words for the reader with >")
+    Problem::new(span, format!("{first:?} begins neither a word nor a number"))
+        .help("a comment begins with #, words for the reader with >")
 }
 
 /// How far a word or number goes.

@@ -29,9 +29,7 @@ pub fn tried(call: &Call, store: &Store) -> Tried {
         Call::Record { loader, name, class } => {
             Tried { entry: Some([loader, name, class].map(|number| number as u16)), ..Tried::default() }
         }
-        Call::Step | Call::Run { .. } => {
-            Tried { ties: stepped(store, &classes).unwrap_or_default(), ..Tried::default() }
-        }
+        Call::Step | Call::Run { .. } => Tried { ties: stepped(store, &classes).unwrap_or_default(), ..Tried::default() },
         _ => Tried::default(),
     }
 }

@@ -18,9 +18,36 @@ use writer::source::Source;
 
 /// Pieces that make sense somewhere.
 const WORDS: [&str; 30] = [
-    "name ", "class ", "extends ", "Object ", "int ", "field ", "method ", "{", "}", "(", ")", ".", ":", "# ", "> ", "bytes ",
-    "file ", "expect ", "repeat 3 {", "damage counts 5 300", "damage kept 3 0\n", "run 65535\n", "step\n", "quote ",
-    "-2147483649 ", "4294967296 ", "99999999999999999999 ", "damage frames 0 4294967295\n", "é", "\u{0}",
+    "name ",
+    "class ",
+    "extends ",
+    "Object ",
+    "int ",
+    "field ",
+    "method ",
+    "{",
+    "}",
+    "(",
+    ")",
+    ".",
+    ":",
+    "# ",
+    "> ",
+    "bytes ",
+    "file ",
+    "expect ",
+    "repeat 3 {",
+    "damage counts 5 300",
+    "damage kept 3 0\n",
+    "run 65535\n",
+    "step\n",
+    "quote ",
+    "-2147483649 ",
+    "4294967296 ",
+    "99999999999999999999 ",
+    "damage frames 0 4294967295\n",
+    "é",
+    "\u{0}",
 ];
 
 /// The bytes with a few parts changed, left out, doubled or moved.
@@ -74,7 +101,8 @@ fn try_all(name: &str, bytes: Vec<u8>) {
     drop(script::beside(&lossy, "R 0 0 0 0\nN 5 1 2 3\nD", &Names::default()));
     match Source::new(name, bytes) {
         Ok(source) => {
-            let lesson = if name.ends_with(".box") { Ok(script::lesson(&source, Names::default())) } else { Lesson::read(&source) };
+            let lesson =
+                if name.ends_with(".box") { Ok(script::lesson(&source, Names::default())) } else { Lesson::read(&source) };
             match lesson {
                 Ok(lesson) => {
                     let outcome = Play::run(&source, &lesson, Show { store: true, draw: true }, &mut io::sink());

@@ -40,7 +40,8 @@ fn a_changed_expectation_fails() {
     for path in common::examples("lesson") {
         let source = common::source(&path);
         let is_statement = |at: usize| !source.line(at).starts_with('>');
-        let places: Vec<usize> = source.text.match_indices("expect ").map(|found| found.0).filter(|&at| is_statement(at)).collect();
+        let places: Vec<usize> =
+            source.text.match_indices("expect ").map(|found| found.0).filter(|&at| is_statement(at)).collect();
         assert!(!places.is_empty());
         for at in places {
             let changed = changed(&source, at);
