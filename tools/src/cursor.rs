@@ -118,6 +118,25 @@ impl<'a> Cursor<'a> {
         Ok(number)
     }
 
+    /// A number of any loader, task or class, which needn't be there.
+    pub fn any_number(&mut self, what: &str) -> Parsed<u32> {
+        Ok(self.number(what, 0, u32::MAX.into())? as u32)
+    }
+
+    /// An int, as its 32 bits.
+    pub fn int(&mut self) -> Parsed<u32> {
+        Ok(self.number("an int", i32::MIN.into(), i32::MAX.into())? as i32 as u32)
+    }
+
+    pub fn has_number(&self) -> bool {
+        self.goes_on() && matches!(self.peek().kind, Kind::Number(_))
+    }
+
+    /// Takes the name of a task, if one is next on the line.
+    pub fn task(&mut self) -> Option<u32> {
+        ["quote", "report"].iter().position(|task| self.took(task)).map(|task| task as u32)
+    }
+
     /// A name that was declared, or a number, on the same line.
     pub fn name(&mut self, what: &str) -> Parsed<u16> {
         if !self.goes_on() {

@@ -6,6 +6,7 @@ use reference::broken::unbroken;
 use reference::Store;
 
 use crate::names::Names;
+use crate::svg::{clipped, escaped, fill, heads, text, Age};
 use crate::tried::Tried;
 
 const MOST_PICTURES: usize = 60;
@@ -13,14 +14,6 @@ const BOX: (i64, i64) = (132, 40);
 const STEP: (i64, i64) = (212, 76);
 const LEFT: i64 = 40;
 const TOP: i64 = 96;
-
-/// How a row of the store stands in a picture.
-#[derive(Clone, Copy, Debug, PartialEq, Eq)]
-enum Age {
-    Old,
-    New,
-    Refused,
-}
 
 /// One picture: the store after a call that changed it, or that was refused for a clash.
 struct Picture {
@@ -82,49 +75,6 @@ impl Strip {
         }
         legend(&mut out, y + 40);
         out + "</svg>\n"
-    }
-}
-
-/// The heads of the arrows, one for each age.
-fn heads() -> String {
-    let mut out = String::from("<defs>\n");
-    for age in [Age::Old, Age::New, Age::Refused] {
-        let _ = writeln!(
-            out,
-            "<marker id=\"{}\" viewBox=\"0 0 10 10\" refX=\"9\" refY=\"5\" markerUnits=\"userSpaceOnUse\" markerWidth=\"13\" \
-             markerHeight=\"13\" orient=\"auto\"><path d=\"M0 0L10 5L0 10z\" fill=\"{}\"/></marker>",
-            age.arrow(),
-            age.colour()
-        );
-    }
-    out + "</defs>\n"
-}
-
-impl Age {
-    fn colour(self) -> &'static str {
-        match self {
-            Age::Old => "#444",
-            Age::New => "#d97706",
-            Age::Refused => "#c00",
-        }
-    }
-
-    /// How its lines are drawn.
-    fn stroke(self) -> String {
-        let (width, dashes) = match self {
-            Age::Old => ("1.5", ""),
-            Age::New => ("3", ""),
-            Age::Refused => ("3", " stroke-dasharray=\"7 4\""),
-        };
-        format!("stroke=\"{}\" stroke-width=\"{width}\"{dashes}", self.colour())
-    }
-
-    fn arrow(self) -> &'static str {
-        match self {
-            Age::Old => "old",
-            Age::New => "new",
-            Age::Refused => "refused",
-        }
     }
 }
 
@@ -242,21 +192,6 @@ impl Picture {
     }
 }
 
-/// One light colour a class, so that requests that mean one class look alike: grey for Object, then round the colour wheel.
-fn fill(class: u16) -> String {
-    if class == 0 {
-        return "#e8e8e8".into();
-    }
-    let hue = u32::from(class) * 137 % 360;
-    let (least, wide) = if class & 16 == 0 { (205, 50) } else { (180, 55) };
-    let part = |turn: u32| {
-        let at = (hue + turn) % 360;
-        let height = at.min(60).min(240u32.saturating_sub(at));
-        least + wide * height / 60
-    };
-    format!("#{:02x}{:02x}{:02x}", part(120), part(0), part(240))
-}
-
 /// Where requests stand.
 struct Grid {
     loaders: Vec<u16>,
@@ -322,14 +257,6 @@ fn said(age: Age, what: &str) -> &str {
     }
 }
 
-fn text(out: &mut String, (x, y): (i64, i64), colour: &str, anchor: &str, said: &str) {
-    let _ = writeln!(
-        out,
-        "<text x=\"{x}\" y=\"{y}\" font-size=\"11\" text-anchor=\"{anchor}\" fill=\"{colour}\">{}</text>",
-        escaped(said)
-    );
-}
-
 fn legend(out: &mut String, y: i64) {
     let lines = [
         "A box is a request: a loader and a name. Boxes of one colour mean one class; a dashed box isn't loaded.",
@@ -339,25 +266,4 @@ fn legend(out: &mut String, y: i64) {
     for (place, line) in lines.iter().enumerate() {
         text(out, (LEFT, y + 18 * place as i64), "#555", "start", line);
     }
-}
-
-fn clipped(text: &str, most: usize) -> String {
-    if text.chars().count() <= most {
-        return text.into();
-    }
-    text.chars().take(most - 2).chain("..".chars()).collect()
-}
-
-fn escaped(text: &str) -> String {
-    let mut out = String::new();
-    for c in text.chars() {
-        match c {
-            '&' => out.push_str("&amp;"),
-            '<' => out.push_str("&lt;"),
-            '>' => out.push_str("&gt;"),
-            c if c.is_control() => out.push(' '),
-            c => out.push(c),
-        }
-    }
-    out
 }

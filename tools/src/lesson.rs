@@ -1,10 +1,10 @@
 //! A lesson: names, class texts, and calls in words, each perhaps with the answer that is expected.
 
-use reference::answer::word;
 use reference::gen::Call;
 use reference::store::{LENGTHS, TABLES};
 
 use crate::cursor::{Cursor, Parsed};
+use crate::expect::Expected;
 use crate::names::{Names, Taken};
 use crate::source::{Problem, Source, Span};
 use crate::text::{self, Text};
@@ -48,24 +48,6 @@ pub enum What {
         cell: usize,
         value: u32,
     },
-}
-
-pub struct Expected {
-    pub span: Span,
-    pub wish: Wish,
-    /// How many steps of a run ran.
-    pub after: Option<u32>,
-}
-
-#[derive(Clone, Copy, Debug, PartialEq, Eq)]
-pub enum Wish {
-    Accepted,
-    Class(u32),
-    Idle,
-    Ran(Option<u32>),
-    Finished(Option<u32>, Option<u32>),
-    Wanted(Option<(u32, u16)>),
-    Refused(u8),
 }
 
 const MOST_ROUNDS: i64 = 1_000;
@@ -176,7 +158,7 @@ impl Reader<'_> {
         let span = begin.to(self.at.last().span);
         let mut expected = Vec::new();
         while self.at.word() == Some("expect") {
-            expected.push(self.expect()?);
+            expected.push(Expected::read(&mut self.at)?);
         }
         self.at.line_ends("a call").map_err(|problem| problem.near(self.at.text(), ["expect"]))?;
         if let (What::Damage { .. }, Some(first)) = (&what, expected.first()) {
@@ -186,12 +168,8 @@ impl Reader<'_> {
         Ok(Doing { what, said, span, expected })
     }
 
-    fn any_number(&mut self, what: &str) -> Parsed<u32> {
-        Ok(self.at.number(what, 0, u32::MAX.into())? as u32)
-    }
-
     fn loader(&mut self) -> Parsed<What> {
-        let loader = self.any_number("a loader")?;
+        let loader = self.at.any_number("a loader")?;
         if self.at.took("defines") {
             let file = self.text()?.bytes.clone();
             return Ok(What::Call(Call::Define { loader, file }));
@@ -203,12 +181,12 @@ impl Reader<'_> {
         let name = self.at.name("a class's name")?;
         if self.at.took("of") {
             self.at.keyword("loader")?;
-            return Ok(What::RecordOf { loader, name, of: self.any_number("a loader")? });
+            return Ok(What::RecordOf { loader, name, of: self.at.any_number("a loader")? });
         }
         if !self.at.took("as") {
             return Err(self.at.expected("'as' and a class number, or 'of loader' and a loader"));
         }
-        let class = self.any_number("a class number")?;
+        let class = self.at.any_number("a class number")?;
         Ok(What::Call(Call::Record { loader, name: name.into(), class }))
     }
 
@@ -232,36 +210,28 @@ impl Reader<'_> {
     fn starts(&mut self, task: u32) -> Parsed<What> {
         self.at.keyword("starts")?;
         self.at.took("loader");
-        let loader = self.any_number("a loader")?;
+        let loader = self.at.any_number("a loader")?;
         let [name, method] = text::dotted(&mut self.at, "a method")?;
-        let int = self.int()?;
+        let int = self.at.int()?;
         Ok(What::Call(Call::Start { task, loader, name, method, int }))
     }
 
-    fn int(&mut self) -> Parsed<u32> {
-        Ok(self.at.number("an int", i32::MIN.into(), i32::MAX.into())? as i32 as u32)
-    }
-
     fn any_task(&mut self) -> Parsed<What> {
-        let task = self.any_number("a task")?;
+        let task = self.at.any_number("a task")?;
         self.starts(task)
     }
 
     fn run(&mut self) -> Parsed<What> {
-        Ok(What::Call(Call::Run { n: self.any_number("how many steps")? }))
+        Ok(What::Call(Call::Run { n: self.at.any_number("how many steps")? }))
     }
 
     fn drop(&mut self) -> Parsed<What> {
-        let task = match self.task() {
+        let task = match self.at.task() {
             Some(task) => task,
-            None if self.at.took("task") => self.any_number("a task")?,
+            None if self.at.took("task") => self.at.any_number("a task")?,
             None => return Err(self.at.expected("'quote' or 'report'")),
         };
         Ok(What::Call(Call::Drop { task }))
-    }
-
-    fn task(&mut self) -> Option<u32> {
-        ["quote", "report"].iter().position(|task| self.at.took(task)).map(|task| task as u32)
     }
 
     fn damage(&mut self) -> Parsed<What> {
@@ -274,55 +244,4 @@ impl Reader<'_> {
         let value = self.at.number("what the cell gets", 0, TABLES[table].1.into())? as u32;
         Ok(What::Damage { table, cell, value })
     }
-
-    /// `expect ANSWER [after STEPS]`
-    fn expect(&mut self) -> Parsed<Expected> {
-        let begin = self.at.take();
-        let wish = self.wish()?;
-        let after = if self.at.took("after") { Some(self.any_number("how many steps ran")?) } else { None };
-        Ok(Expected { span: begin.to(self.at.last().span), wish, after })
-    }
-
-    fn wish(&mut self) -> Parsed<Wish> {
-        let Some(answer) = self.at.word().filter(|_| self.at.goes_on()) else {
-            return Err(self.at.expected("an answer"));
-        };
-        let span = self.at.take();
-        match answer {
-            "accepted" => Ok(Wish::Accepted),
-            "class" => Ok(Wish::Class(self.any_number("a class number")?)),
-            "idle" => Ok(Wish::Idle),
-            "ran" => Ok(Wish::Ran(self.task())),
-            "finished" => {
-                let task = self.task();
-                let int = if self.is_number() { Some(self.int()?) } else { None };
-                Ok(Wish::Finished(task, int))
-            }
-            "wanted" => self.wanted(),
-            _ => match word::NAMES.iter().position(|&name| name == answer) {
-                Some(place) => Ok(Wish::Refused(place as u8 + 1)),
-                None => {
-                    let problem = Problem::new(span, format!("'{answer}' is no answer"));
-                    let known = ANSWERS.into_iter().chain(word::NAMES);
-                    let all = format!("answers are {}, and the words of refusal", ANSWERS.join(", "));
-                    Err(problem.near(answer, known).or_help(all))
-                }
-            },
-        }
-    }
-
-    fn is_number(&self) -> bool {
-        self.at.goes_on() && matches!(self.at.peek().kind, Kind::Number(_))
-    }
-
-    /// `wanted`, perhaps with a loader and a name.
-    fn wanted(&mut self) -> Parsed<Wish> {
-        if !self.at.took("loader") && !self.is_number() {
-            return Ok(Wish::Wanted(None));
-        }
-        let loader = self.any_number("a loader")?;
-        Ok(Wish::Wanted(Some((loader, self.at.name("a class's name")?))))
-    }
 }
-
-const ANSWERS: [&str; 6] = ["accepted", "class", "idle", "ran", "finished", "wanted"];

@@ -3,6 +3,7 @@
 pub mod check;
 pub mod cursor;
 pub mod draw;
+pub mod expect;
 pub mod input;
 pub mod lesson;
 pub mod listing;
@@ -13,6 +14,7 @@ pub mod reasons;
 pub mod rows;
 pub mod script;
 pub mod source;
+pub mod svg;
 pub mod text;
 pub mod tokens;
 pub mod tried;

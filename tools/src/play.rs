@@ -169,7 +169,7 @@ impl<'a> Play<'a> {
         made.answer = words::answer(call, &told, names, ran.as_deref());
         self.outcome.calls += 1;
         for expected in &doing.expected {
-            if words::meets(&told, expected) {
+            if expected.is_met(&told) {
                 self.outcome.met += 1;
                 continue;
             }

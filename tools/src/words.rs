@@ -1,10 +1,9 @@
-//! Calls and answers in words, and whether an answer is the one that was expected.
+//! Calls and answers in words.
 
 use reference::answer::word;
 use reference::gen::Call;
 use reference::host::Told;
 
-use crate::lesson::{Expected, Wish};
 use crate::names::Names;
 
 pub fn task(number: u32) -> String {
@@ -82,23 +81,4 @@ pub fn answer(call: &Call, told: &Told, names: &Names, ran: Option<&str>) -> Str
         (_, Call::Drop { .. }) => "dropped".into(),
         _ => "accepted".into(),
     }
-}
-
-/// Is the answer the one that was expected?
-pub fn meets(told: &Told, expected: &Expected) -> bool {
-    let [kind, number, one, two, three, steps] = told.cells;
-    let is_step = (kind == 2 || kind == 3) && number == 0;
-    let is_or_any = |wanted: Option<u32>, is: u32| wanted.is_none_or(|wanted| wanted == is);
-    let meets = match expected.wish {
-        Wish::Accepted => told.number == 0,
-        Wish::Class(class) => kind == 1 && told.number == 0 && one == class,
-        Wish::Idle => is_step && one == 0,
-        Wish::Ran(task) => is_step && one == 1 && is_or_any(task, two),
-        Wish::Finished(task, int) => is_step && one == 2 && is_or_any(task, two) && is_or_any(int, three),
-        Wish::Wanted(request) => {
-            number == u32::from(word::WANTED) && request.is_none_or(|(loader, name)| (loader, u32::from(name)) == (one, two))
-        }
-        Wish::Refused(wanted) => number == u32::from(wanted),
-    };
-    meets && expected.after.is_none_or(|after| kind == 3 && steps == after)
 }
