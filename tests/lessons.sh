@@ -4,7 +4,7 @@
 #
 #   tests/lessons.sh                   all of it
 #   tests/lessons.sh --write-errors    writes what ./box says to tools/tests/errors, to be read before it is committed
-set -eu
+set -euo pipefail
 cd "$(dirname "$0")/.."
 tests/build host desk boxscript
 wrong=0
@@ -15,6 +15,15 @@ trap 'rm -rf "$work"' EXIT
 fail() { # WORDS
     echo "lessons: $*"
     wrong=1
+}
+
+# Its own tests, any bytes for a minute among them; none is left out.
+own() {
+    local ran
+    TARIFF_LIB=$PWD/target/staticlib FUZZ_SECONDS=${FUZZ_SECONDS:-60} cargo test --manifest-path tools/Cargo.toml --offline --release --quiet \
+        --features host --target-dir "$tools/host" --lib --test round_trips --test lessons --test fuzz 2>&1 | tee "$work/own" || fail "a test of tools/"
+    ran=$(awk '/^test result: ok\. [0-9]+ passed/ { ran += $4 } END { print ran + 0 }' "$work/own")
+    [ "$ran" -ge 14 ] || fail "only $ran tests of tools/ ran"
 }
 
 # What ./box says of each text with a mistake, and its exit status.
@@ -85,17 +94,24 @@ usage() {
 
 # The mirror stands in for the libraries: right, it passes; with a learner's mistake, that mistake's lesson fails.
 mistakes() {
-    local mirror=$PWD/reference/target/mirror/release writer=$tools/mirror/release/writer lesson fault number
+    local mirror=$PWD/reference/target/mirror/release writer=$tools/mirror/release/writer lesson fault number tried
+    # the names of the mirror's faults that are each mistake
+    local faults=(desk "checks-only-constraints-on-the-request|joins-only-direct-ties" superclass-under-the-asking-loader
+        "([a-z]+-)?posts-and-then-refuses" overriding-ties-nothing compares-by-name)
     (cd reference && cargo build --offline --release --quiet -p mirror --target-dir target/mirror)
     TARIFF_LIB=$mirror TARIFF_LINK=dylib=tariff cargo build --manifest-path tools/Cargo.toml --offline --release --quiet --features host --target-dir "$tools/mirror"
     export LD_LIBRARY_PATH=$mirror
     for lesson in examples/*.lesson; do
         "$writer" play "$lesson" >/dev/null 2>&1 || fail "$lesson fails on the second implementation"
     done
-    for fault in 1-checks-only-constraints-on-the-request 2-superclass-under-the-asking-loader 3-posts-and-then-refuses 4-overriding-ties-nothing 5-compares-by-name; do
-        number=${fault%%-*}
-        MIRROR_FAULT=${fault#*-} "$writer" play examples/mistake-"$number"-*.lesson >"$work/out" 2>&1 && fail "mistake $number passes on a machine that makes it"
-        grep -q "^NO" "$work/out" || { cat "$work/out"; fail "mistake $number"; }
+    for number in 1 2 3 4 5; do
+        tried=0
+        for fault in $(grep -oE "^    \\(\"(${faults[$number]})\"" reference/mirror/src/faults.rs | tr -d '( "'); do
+            tried=$((tried + 1))
+            MIRROR_FAULT=$fault "$writer" play examples/mistake-"$number"-*.lesson >"$work/out" 2>&1 && fail "mistake $number passes on the machine $fault"
+            grep -q "^NO" "$work/out" || { cat "$work/out"; fail "mistake $number on the machine $fault"; }
+        done
+        [ "$tried" -gt 0 ] || fail "no machine makes mistake $number"
     done
     MIRROR_FAULT=desk-skips-the-verifier "$writer" check tools/tests/errors/unverified.check >"$work/out" 2>&1 && fail "a wrong desk is believed"
     grep -q "the desk says 0 and the second implementation 6" "$work/out" || fail "a wrong desk isn't named"
@@ -108,8 +124,7 @@ if [ "${1:-}" = --write-errors ]; then
     errors
     exit
 fi
-TARIFF_LIB=$PWD/target/staticlib FUZZ_SECONDS=${FUZZ_SECONDS:-60} \
-    cargo test --manifest-path tools/Cargo.toml --offline --release --quiet --features host --target-dir "$tools/host" --lib --test round_trips --test lessons --test fuzz
+own
 lessons
 assembler
 printed
