@@ -64,7 +64,8 @@ impl Source {
         String::from_utf8(bytes).map(|text| Source { file: file.clone(), text }).map_err(|error| {
             let at = error.utf8_error().valid_up_to();
             let text = String::from_utf8_lossy(error.as_bytes()).into_owned();
-            (Source { file, text }, Problem::new(Span { start: at, end: at }, "a byte that is no text (UTF-8)"))
+            let problem = Problem::new(Span { start: at, end: at }, "a byte that is no text (UTF-8)");
+            (Source { file, text }, problem.help("a class file is shown by ./box list"))
         })
     }
 

@@ -64,8 +64,11 @@ fn line_tokens(line: &str, start: usize, number: usize, all: &mut Vec<Token>) ->
 }
 
 fn strange(first: char, span: Span) -> Problem {
-    Problem::new(span, format!("{first:?} begins neither a word nor a number"))
-        .help("a comment begins with #, words for the reader with >")
+    let problem = Problem::new(span, format!("{first:?} begins neither a word nor a number"));
+    if first.is_control() {
+        return problem.help("a class file is shown by ./box list");
+    }
+    problem.help("a comment begins with #, words for the reader with >")
 }
 
 /// How far a word or number goes.

@@ -1,4 +1,5 @@
-//! Any bytes as a lesson, a script, a text or a class file: no panic. FUZZ_SECONDS says for how long, 2 if it isn't set.
+//! Any bytes as a lesson, a script, a text or a class file: no panic. FUZZ_SECONDS says for how long, 2 if it isn't set, and
+//! FUZZ_SEED the first seed, 0 if it isn't.
 
 mod common;
 
@@ -117,17 +118,19 @@ fn try_all(name: &str, bytes: Vec<u8>) {
 
 #[test]
 fn any_bytes() {
-    let seconds = env::var("FUZZ_SECONDS").ok().and_then(|text| text.parse().ok()).unwrap_or(2);
+    let number = |name: &str| env::var(name).ok().and_then(|text| text.parse::<u64>().ok());
+    let seconds = number("FUZZ_SECONDS").unwrap_or(2);
+    let first = number("FUZZ_SEED").unwrap_or(0);
     let end = Instant::now() + Duration::from_secs(seconds);
     let paths = common::examples("lesson").into_iter().chain(common::examples("box"));
     let texts: Vec<Vec<u8>> = paths.map(|path| common::source(&path).text.into_bytes()).collect();
-    let mut seed = 0;
-    while seed < 300 || Instant::now() < end {
+    let mut seed = first;
+    while seed < first + 300 || Instant::now() < end {
         let name = ["a.lesson", "a.box", "a.class"][(seed % 3) as usize];
         let bytes = drawn(seed, &texts);
         let tried = std::panic::catch_unwind(|| try_all(name, bytes.clone()));
         assert!(tried.is_ok(), "seed {seed}, {name}: {}", String::from_utf8_lossy(&bytes));
         seed += 1;
     }
-    println!("{seed} inputs");
+    println!("{} inputs", seed - first);
 }
