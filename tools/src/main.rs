@@ -14,6 +14,7 @@ use writer::names::Names;
 use writer::play::{Outcome, Play, Show};
 use writer::script;
 use writer::source::{Problem, Source};
+use writer::words::counted;
 
 const USAGE: &str = "usage: writer play [--store] [--draw OUT] FILE | answers SCRIPT | list FILE | check FILE | asm FILE DIR
 ./box is the way to run it.";
@@ -164,7 +165,7 @@ fn play(mut options: &[&str], file: &str) -> Result<(), Failure> {
     let outcome = Play::run(&source, &lesson, show, &mut io::stdout().lock())?;
     if let Some(picture) = picture {
         fs::write(picture, outcome.strip.svg()).map_err(|error| Failure::Usage(format!("{picture}: {error}")))?;
-        print(&format!("drawn: {picture}, {} pictures\n", outcome.strip.count()))?;
+        print(&format!("drawn: {picture}, {}\n", counted(outcome.strip.count(), "picture")))?;
     }
     end(file, &outcome)
 }
@@ -175,6 +176,6 @@ fn end(file: &str, outcome: &Outcome) -> Result<(), Failure> {
         let answers = if failed == 1 { "answer wasn't" } else { "answers weren't" };
         return Err(Failure::Bad(format!("{file} failed: {failed} {answers} as expected")));
     }
-    let met = if met == 0 { String::new() } else { format!(", {met} answers as expected") };
-    print(&format!("{file}: {calls} calls{met}\n"))
+    let met = if met == 0 { String::new() } else { format!(", {} as expected", counted(met, "answer")) };
+    print(&format!("{file}: {}{met}\n", counted(calls, "call")))
 }

@@ -121,7 +121,7 @@ impl<'a> Play<'a> {
             alike += u32::from(round > 0 && others == 0);
         }
         if alike > 0 {
-            writeln!(self.out, "    ({alike} more rounds with the same answers)")?;
+            writeln!(self.out, "    ({alike} more {} with the same answers)", if alike == 1 { "round" } else { "rounds" })?;
         }
         Ok(())
     }

@@ -14,6 +14,12 @@ pub fn task(number: u32) -> String {
     }
 }
 
+/// A count of things: 1 step, 2 steps.
+pub fn counted(count: usize, what: &str) -> String {
+    let ending = if count == 1 { "" } else { "s" };
+    format!("{count} {what}{ending}")
+}
+
 /// A name's number that needn't be a name.
 fn class(names: &Names, number: u32) -> String {
     u16::try_from(number).map_or_else(|_| number.to_string(), |number| names.class(number))
@@ -67,7 +73,7 @@ pub fn answer(call: &Call, told: &Told, names: &Names, ran: Option<&str>) -> Str
     match (kind, call) {
         (2, _) => stepped([number, one, two, three], names, ran),
         (3, _) => {
-            let count = if steps == 1 { "1 step ran".into() } else { format!("{steps} steps ran") };
+            let count = format!("{} ran", counted(steps as usize, "step"));
             if (number, one) == (0, 1) {
                 return count;
             }
