@@ -70,7 +70,7 @@ impl<'a> Cursor<'a> {
         }
         let end = self.last().span.end;
         let place = if self.is_end() { "file" } else { "line" };
-        Problem::new(Span { start: end, end }, format!("expected {what} before the end of the {place}"))
+        Problem::new(Span { start: end, end }, format!("expected {what}, but the {place} ends here"))
     }
 
     /// The same, where the line doesn't matter.
@@ -118,8 +118,11 @@ impl<'a> Cursor<'a> {
         Ok(number)
     }
 
-    /// A number of any loader, task or class, which needn't be there.
+    /// A number of a loader, task, class or steps, which needn't be there: the machine says so.
     pub fn any_number(&mut self, what: &str) -> Parsed<u32> {
+        if !self.has_number() {
+            return Err(self.expected(what));
+        }
         Ok(self.number(what, 0, u32::MAX.into())? as u32)
     }
 

@@ -82,7 +82,7 @@ impl Wish {
         if !at.took("loader") && !at.has_number() {
             return Ok(Wish::Wanted(None));
         }
-        let loader = at.any_number("a loader")?;
+        let loader = at.any_number("a loader, 0 to 15")?;
         Ok(Wish::Wanted(Some((loader, at.name("a class's name")?))))
     }
 

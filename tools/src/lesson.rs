@@ -98,7 +98,7 @@ impl Reader<'_> {
             return Ok(Some(Act::Say(said)));
         }
         let Some(word) = self.at.word() else {
-            return Err(self.at.here("a statement"));
+            return Err(self.at.here(if in_repeat { "a call or '}'" } else { "a statement" }));
         };
         match word {
             "name" | "class" | "file" | "repeat" if in_repeat => Err(self.at.here("a call or '}'")),
@@ -151,6 +151,9 @@ impl Reader<'_> {
         let Some((_, form, read)) = STATEMENTS.iter().find(|statement| statement.0 == word) else {
             let known = STATEMENTS.iter().map(|statement| statement.0).chain(OTHERS);
             let problem = Problem::new(self.at.peek().span, format!("'{word}' begins no statement"));
+            if ["R", "D", "S", "N", "X"].contains(&word) {
+                return Err(problem.help("a script of such lines has a name that ends in .box"));
+            }
             return Err(problem.near(word, known).or_help("docs/LESSONS.md has the words of a lesson"));
         };
         let begin = self.at.take();
@@ -169,7 +172,7 @@ impl Reader<'_> {
     }
 
     fn loader(&mut self) -> Parsed<What> {
-        let loader = self.at.any_number("a loader")?;
+        let loader = self.at.any_number("a loader, 0 to 15")?;
         if self.at.took("defines") {
             let file = self.text()?.bytes.clone();
             return Ok(What::Call(Call::Define { loader, file }));
@@ -181,7 +184,7 @@ impl Reader<'_> {
         let name = self.at.name("a class's name")?;
         if self.at.took("of") {
             self.at.keyword("loader")?;
-            return Ok(What::RecordOf { loader, name, of: self.at.any_number("a loader")? });
+            return Ok(What::RecordOf { loader, name, of: self.at.any_number("a loader, 0 to 15")? });
         }
         if !self.at.took("as") {
             return Err(self.at.expected("'as' and a class number, or 'of loader' and a loader"));
@@ -210,25 +213,25 @@ impl Reader<'_> {
     fn starts(&mut self, task: u32) -> Parsed<What> {
         self.at.keyword("starts")?;
         self.at.took("loader");
-        let loader = self.at.any_number("a loader")?;
+        let loader = self.at.any_number("a loader, 0 to 15")?;
         let [name, method] = text::dotted(&mut self.at, "a method")?;
         let int = self.at.int()?;
         Ok(What::Call(Call::Start { task, loader, name, method, int }))
     }
 
     fn any_task(&mut self) -> Parsed<What> {
-        let task = self.at.any_number("a task")?;
+        let task = self.at.any_number("a task, 0 or 1")?;
         self.starts(task)
     }
 
     fn run(&mut self) -> Parsed<What> {
-        Ok(What::Call(Call::Run { n: self.at.any_number("how many steps")? }))
+        Ok(What::Call(Call::Run { n: self.at.any_number("how many steps, 1 to 65535")? }))
     }
 
     fn drop(&mut self) -> Parsed<What> {
         let task = match self.at.task() {
             Some(task) => task,
-            None if self.at.took("task") => self.at.any_number("a task")?,
+            None if self.at.took("task") => self.at.any_number("a task, 0 or 1")?,
             None => return Err(self.at.expected("'quote' or 'report'")),
         };
         Ok(What::Call(Call::Drop { task }))

@@ -48,10 +48,10 @@ pub fn class(at: &mut Cursor) -> Parsed<Text> {
         let (word, end) = at.fresh("what the text is called")?;
         (called, span) = (word.to_string(), begin.to(end));
     }
-    at.sign('{')?;
+    let brace = at.sign('{')?;
     let mut members = Members::default();
     while !at.has_sign('}') {
-        member(at, &mut draft, &mut members)?;
+        member(at, &mut draft, &mut members, brace)?;
     }
     let end = at.take();
     let mut marks = vec![(0, span), (HEAD, own), (HEAD + 2, above), (HEAD + 4, span)];
@@ -104,7 +104,8 @@ fn fits(draft: &Draft) -> Result<Vec<u8>, String> {
     Ok(bytes)
 }
 
-fn member(at: &mut Cursor, draft: &mut Draft, members: &mut Members) -> Parsed<()> {
+/// One member of the class with this brace.
+fn member(at: &mut Cursor, draft: &mut Draft, members: &mut Members, brace: Span) -> Parsed<()> {
     match at.word() {
         Some("field") => {
             let begin = at.take();
@@ -122,9 +123,13 @@ fn member(at: &mut Cursor, draft: &mut Draft, members: &mut Members) -> Parsed<(
         }
         word => {
             let problem = at.here("'field', 'method' or '}'");
-            Err(problem.near(word.unwrap_or(""), ["field", "method"]))
+            Err(problem.near(word.unwrap_or(""), ["field", "method"]).or_help(not_closed(at, brace)))
         }
     }
+}
+
+fn not_closed(at: &Cursor, brace: Span) -> String {
+    format!("the '{{' of line {} isn't closed yet", at.source.place(brace.start).0)
 }
 
 /// `method NAME(TYPE) TYPE { code }`
@@ -134,13 +139,13 @@ fn method(at: &mut Cursor) -> Parsed<(MethodDraft, MethodPlaces)> {
     let argument = argument(at)?;
     let result = at.name("the result's type")?;
     let head = begin.to(at.last().span);
-    at.sign('{')?;
+    let brace = at.sign('{')?;
     let mut code = Code::new();
     let mut instructions = Vec::new();
     while !at.has_sign('}') {
         let point = code.bytes.len();
         let first = at.peek().span;
-        code = instruction(at, code)?;
+        code = instruction(at, code, brace)?;
         instructions.push((point, first.to(at.last().span)));
     }
     at.take();
@@ -159,10 +164,10 @@ fn argument(at: &mut Cursor) -> Parsed<u16> {
     Ok(one)
 }
 
-/// One instruction, or `bytes` and code in hexadecimal.
-fn instruction(at: &mut Cursor, mut code: Code) -> Parsed<Code> {
+/// One instruction, or `bytes` and code in hexadecimal, of the method with this brace.
+fn instruction(at: &mut Cursor, mut code: Code, brace: Span) -> Parsed<Code> {
     let Some(word) = at.word() else {
-        return Err(at.here("an instruction or '}'"));
+        return Err(at.here("an instruction or '}'").or_help(not_closed(at, brace)));
     };
     if word == "bytes" {
         at.take();
@@ -174,7 +179,8 @@ fn instruction(at: &mut Cursor, mut code: Code) -> Parsed<Code> {
     }
     let Some(place) = op::NAMES.iter().position(|&name| name == word) else {
         let problem = Problem::new(at.peek().span, format!("'{word}' is no instruction"));
-        return Err(problem.near(word, op::NAMES.into_iter().chain(["bytes"])));
+        let problem = problem.near(word, op::NAMES.into_iter().chain(["bytes"]));
+        return Err(problem.or_help(not_closed(at, brace)));
     };
     at.take();
     let opcode = op::ALL[place];
