@@ -84,7 +84,8 @@ printed() {
 # Wrong usage ends with 2.
 usage() {
     local words status
-    for words in "" "--store" "nothing-there.lesson" "list" "check nothing-there" "asm examples/first.lesson" "--what examples/first.box" "-h"; do
+    for words in "" "--store" "nothing-there.lesson" "list" "check nothing-there" "asm examples/first.lesson" "--what examples/first.box" "-h" \
+        "--draw examples/first.lesson mine.lesson" "examples/first.lesson mine.svg" "examples"; do
         status=0
         # shellcheck disable=SC2086
         ./box $words >"$work/out" 2>&1 || status=$?
