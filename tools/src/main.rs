@@ -162,7 +162,10 @@ fn play(mut options: &[&str], file: &str) -> Result<(), Failure> {
     } else {
         Lesson::read(&source).map_err(|problem| (source.clone(), problem))?
     };
-    let outcome = Play::run(&source, &lesson, show, &mut io::stdout().lock())?;
+    let outcome = match Play::run(&source, &lesson, show, &mut io::stdout().lock()) {
+        Err(error) if error.kind() == io::ErrorKind::BrokenPipe => return Ok(()),
+        outcome => outcome?,
+    };
     if let Some(picture) = picture {
         fs::write(picture, outcome.strip.svg()).map_err(|error| Failure::Usage(format!("{picture}: {error}")))?;
         print(&format!("drawn: {picture}, {}\n", counted(outcome.strip.count(), "picture")))?;
