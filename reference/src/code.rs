@@ -27,6 +27,33 @@ pub mod op {
         "aconst_null", "sipush", "iload", "aload", "istore", "astore", "pop", "dup", "iadd", "isub", "ireturn",
         "areturn", "getfield", "putfield", "invokevirtual", "new",
     ];
+
+    /// What follows each opcode inline.
+    #[derive(Clone, Copy, Debug, PartialEq, Eq)]
+    pub enum Inline {
+        Nothing,
+        /// Signed, 16 bits.
+        Int,
+        /// One byte.
+        Local,
+        Class,
+        /// Class, field, type.
+        Field,
+        /// Class, method, argument, result.
+        Method,
+    }
+
+    use Inline::*;
+    pub const INLINE: [Inline; 16] = [
+        Nothing, Int, Local, Local, Local, Local, Nothing, Nothing, Nothing, Nothing, Nothing, Nothing, Field, Field,
+        Method, Class,
+    ];
+
+    /// The opcode's name and what follows it.
+    pub fn form(opcode: u8) -> Option<(&'static str, Inline)> {
+        let at = ALL.iter().position(|&other| other == opcode)?;
+        Some((NAMES[at], INLINE[at]))
+    }
 }
 
 /// A field as an instruction names it.
@@ -98,4 +125,24 @@ pub fn decode(code: &[u8], point: usize) -> Option<(Instruction, usize)> {
         _ => return None,
     };
     Some((instruction, point + 1 + inline_length))
+}
+
+#[cfg(test)]
+mod tests {
+    use super::op::{Inline, ALL, INLINE};
+    use super::*;
+
+    #[test]
+    fn the_table_has_the_lengths_that_are_decoded() {
+        for (opcode, inline) in ALL.into_iter().zip(INLINE) {
+            let length = match inline {
+                Inline::Nothing => 0,
+                Inline::Local => 1,
+                Inline::Int | Inline::Class => 2,
+                Inline::Field => 6,
+                Inline::Method => 8,
+            };
+            assert_eq!(decode(&[opcode, 0, 3, 0, 3, 0, 3, 0, 3], 0).map(|(_, next)| next), Some(1 + length));
+        }
+    }
 }

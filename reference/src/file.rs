@@ -1,4 +1,4 @@
-//! The file rules, and a view of a file that fits them.
+//! The file rules, the rule that bytes break, and a view of a file that fits them.
 
 pub const MOST_BYTES: usize = 4_096;
 pub const MOST_MEMBERS: usize = 8;
@@ -32,6 +32,39 @@ pub struct Method<'a> {
     pub code: &'a [u8],
 }
 
+/// A file rule that bytes break.
+#[derive(Clone, Copy, Debug, PartialEq, Eq)]
+pub enum Rule {
+    TooLong,
+    CutOff,
+    Version(u8),
+    /// What the length bytes say, and how many bytes follow them.
+    Length(u16, usize),
+    ClassBelow2(u16),
+    Name0,
+    TooManyFields(u8),
+    TooManyMethods(u8),
+    CodeLength(u16),
+    BytesLeft(usize),
+    SameField(u16),
+    SameMethod(u16),
+}
+
+/// The first rule that bytes break, and the byte where it shows.
+#[derive(Clone, Copy, Debug, PartialEq, Eq)]
+pub struct Flaw {
+    pub at: usize,
+    pub rule: Rule,
+}
+
+fn keeps(holds: bool, at: usize, rule: Rule) -> Result<(), Flaw> {
+    if holds {
+        Ok(())
+    } else {
+        Err(Flaw { at, rule })
+    }
+}
+
 impl Method<'_> {
     pub fn is(&self, name: u16, argument: u16, result: u16) -> bool {
         self.name == name && self.argument == argument && self.result == result
@@ -45,18 +78,26 @@ fn pair(bytes: &[u8], at: usize) -> u16 {
 impl<'a> File<'a> {
     /// The file, if the file rules hold.
     pub fn read(bytes: &'a [u8]) -> Option<File<'a>> {
-        if bytes.len() > MOST_BYTES || bytes.len() <= FIELDS || bytes[0] != VERSION {
-            return None;
+        File::explained(bytes).ok()
+    }
+
+    /// The file, or the first rule that the bytes break.
+    pub fn explained(bytes: &'a [u8]) -> Result<File<'a>, Flaw> {
+        keeps(bytes.len() <= MOST_BYTES, MOST_BYTES, Rule::TooLong)?;
+        let version = bytes.first().copied().unwrap_or(VERSION);
+        keeps(version == VERSION, 0, Rule::Version(version))?;
+        keeps(bytes.len() > FIELDS, bytes.len(), Rule::CutOff)?;
+        let (said, follow) = (pair(bytes, 1), bytes.len() - NAME);
+        keeps(usize::from(said) == follow, 1, Rule::Length(said, follow))?;
+        for at in [NAME, SUPERCLASS] {
+            keeps(pair(bytes, at) >= 2, at, Rule::ClassBelow2(pair(bytes, at)))?;
         }
-        if usize::from(pair(bytes, 1)) != bytes.len() - NAME || pair(bytes, NAME) < 2 || pair(bytes, SUPERCLASS) < 2 {
-            return None;
-        }
-        let methods = fields_end(bytes)?;
-        if methods_end(bytes, methods)? != bytes.len() {
-            return None;
-        }
+        let end = methods_end(bytes, fields_end(bytes)?)?;
+        keeps(end == bytes.len(), end, Rule::BytesLeft(bytes.len() - end))?;
         let file = File { bytes };
-        (file.fields_differ() && file.methods_differ()).then_some(file)
+        file.fields_differ()?;
+        file.methods_differ()?;
+        Ok(file)
     }
 
     /// A file that has been read before.
@@ -101,14 +142,21 @@ impl<'a> File<'a> {
         FIELDS + 1 + FIELD * self.field_count()
     }
 
-    fn fields_differ(&self) -> bool {
-        self.fields().enumerate().all(|(i, field)| self.fields().take(i).all(|other| other.name != field.name))
+    fn fields_differ(&self) -> Result<(), Flaw> {
+        self.fields().enumerate().try_for_each(|(i, field)| {
+            let differs = self.fields().take(i).all(|other| other.name != field.name);
+            keeps(differs, FIELDS + 1 + FIELD * i, Rule::SameField(field.name))
+        })
     }
 
-    fn methods_differ(&self) -> bool {
-        self.methods().all(|method| {
+    fn methods_differ(&self) -> Result<(), Flaw> {
+        let mut at = self.methods_at() + 1;
+        self.methods().try_for_each(|method| {
             let mut before = self.methods().take(method.place);
-            before.all(|other| !other.is(method.name, method.argument, method.result))
+            let differs = before.all(|other| !other.is(method.name, method.argument, method.result));
+            keeps(differs, at, Rule::SameMethod(method.name))?;
+            at += METHOD_HEAD + method.code.len();
+            Ok(())
         })
     }
 }
@@ -146,34 +194,68 @@ impl<'a> Iterator for Methods<'a> {
 }
 
 /// Where the fields end, if their count, names and types are fine and there is a byte behind them.
-fn fields_end(bytes: &[u8]) -> Option<usize> {
-    let count = usize::from(bytes[FIELDS]);
-    let end = FIELDS + 1 + FIELD * count;
-    if count > MOST_MEMBERS || end >= bytes.len() {
-        return None;
-    }
-    let words = bytes[FIELDS + 1..end].chunks_exact(2);
-    words.map(|word| pair(word, 0)).all(|word| word != 0).then_some(end)
+fn fields_end(bytes: &[u8]) -> Result<usize, Flaw> {
+    let count = bytes[FIELDS];
+    keeps(usize::from(count) <= MOST_MEMBERS, FIELDS, Rule::TooManyFields(count))?;
+    let end = FIELDS + 1 + FIELD * usize::from(count);
+    keeps(end < bytes.len(), bytes.len(), Rule::CutOff)?;
+    (FIELDS + 1..end).step_by(2).try_for_each(|at| keeps(pair(bytes, at) != 0, at, Rule::Name0))?;
+    Ok(end)
 }
 
 /// Where the methods end, if their count, names, types and code lengths are fine.
-fn methods_end(bytes: &[u8], at: usize) -> Option<usize> {
-    let count = usize::from(bytes[at]);
-    if count > MOST_MEMBERS {
-        return None;
-    }
+fn methods_end(bytes: &[u8], at: usize) -> Result<usize, Flaw> {
+    let count = bytes[at];
+    keeps(usize::from(count) <= MOST_MEMBERS, at, Rule::TooManyMethods(count))?;
     let mut end = at + 1;
     for _ in 0..count {
-        let head = bytes.get(end..end + METHOD_HEAD)?;
-        let code = usize::from(pair(head, 6));
-        let named = [0, 2, 4].iter().all(|&word| pair(head, word) != 0);
-        if !named || code == 0 || code > MOST_CODE {
-            return None;
-        }
-        end += METHOD_HEAD + code;
-        if end > bytes.len() {
-            return None;
-        }
+        let code_at = end + METHOD_HEAD;
+        keeps(code_at <= bytes.len(), bytes.len(), Rule::CutOff)?;
+        (0..3).map(|word| end + 2 * word).try_for_each(|at| keeps(pair(bytes, at) != 0, at, Rule::Name0))?;
+        let code = pair(bytes, end + 6);
+        keeps(code != 0 && usize::from(code) <= MOST_CODE, end + 6, Rule::CodeLength(code))?;
+        end = code_at + usize::from(code);
+        keeps(end <= bytes.len(), bytes.len(), Rule::CutOff)?;
     }
-    Some(end)
+    Ok(end)
+}
+
+/// What can be read of bytes that needn't be a file, from the front, until they end.
+#[derive(Clone, Debug, Default)]
+pub struct Sketch<'a> {
+    pub name: Option<u16>,
+    pub superclass: Option<u16>,
+    pub fields: Vec<Field>,
+    /// The last one's code may be cut off.
+    pub methods: Vec<Method<'a>>,
+}
+
+impl<'a> Sketch<'a> {
+    pub fn read(bytes: &'a [u8]) -> Sketch<'a> {
+        let word = |at: usize| (at + 2 <= bytes.len()).then(|| pair(bytes, at));
+        let count = |at: usize| bytes.get(at).map_or(0, |&count| usize::from(count));
+        let mut sketch = Sketch { name: word(NAME), superclass: word(SUPERCLASS), ..Sketch::default() };
+        let mut at = FIELDS + 1;
+        for _ in 0..count(FIELDS) {
+            let (Some(name), Some(of)) = (word(at), word(at + 2)) else {
+                return sketch;
+            };
+            sketch.fields.push(Field { name, of });
+            at += FIELD;
+        }
+        let methods = count(at);
+        at += 1;
+        for place in 0..methods {
+            let (Some(name), Some(argument), Some(result)) = (word(at), word(at + 2), word(at + 4)) else {
+                break;
+            };
+            let Some(length) = word(at + 6) else {
+                break;
+            };
+            let start = at + METHOD_HEAD;
+            at = bytes.len().min(start + usize::from(length));
+            sketch.methods.push(Method { place, name, argument, result, code: &bytes[start..at] });
+        }
+        sketch
+    }
 }

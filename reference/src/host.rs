@@ -1,4 +1,4 @@
-//! The C library of the verified machine, as the comparison calls it. Only the feature `host` links it.
+//! The C library of the verified machine, as the comparison calls it. Only the feature `host` links it; `desk` links its check alone.
 //!
 //! Every table passes as pointer and length, in the order of docs/STORE.md, then the call's own arguments, then the answer table. A call
 //! returns its refusal's number, 0 if it is accepted. What the answer table receives is said by `expected` alone.
@@ -6,7 +6,10 @@
 use crate::answer::{Answer, Refusal, Reply};
 
 #[cfg(feature = "host")]
-pub use library::{check, make};
+pub use library::make;
+
+#[cfg(feature = "desk")]
+pub use desk::check;
 
 /// Cells of the answer table.
 pub const CELLS: usize = 6;
@@ -94,10 +97,6 @@ mod library {
         tariff_drop(task: u32);
     }
 
-    extern "C" {
-        fn tariff_check(bytes: *const u8, length: usize) -> u8;
-    }
-
     /// Calls a function with the tables of a store, these arguments and an answer table.
     macro_rules! lend {
         ($name:ident, $store:ident, $answer:ident $(, $argument:expr)*) => {
@@ -134,6 +133,13 @@ mod library {
                 Call::Drop { task } => lend!(tariff_drop, store, answer, task),
             }
         }
+    }
+}
+
+#[cfg(feature = "desk")]
+mod desk {
+    extern "C" {
+        fn tariff_check(bytes: *const u8, length: usize) -> u8;
     }
 
     /// The desk's check by the library.

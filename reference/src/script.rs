@@ -65,7 +65,8 @@ fn int(field: &[u8]) -> Option<u32> {
     }
 }
 
-fn hexadecimal(field: &[u8]) -> Option<Vec<u8>> {
+/// Bytes written as two digits each; not none.
+pub fn hexadecimal(field: &[u8]) -> Option<Vec<u8>> {
     if field.is_empty() || field.len() % 2 == 1 {
         return None;
     }

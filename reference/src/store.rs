@@ -18,6 +18,11 @@ pub mod count {
 pub const LIMITS: [u16; 8] = [64, 16_384, 256, 256, 256, 256, 32, 32];
 /// The length of each table, in the order of `Store`.
 pub const LENGTHS: [usize; 8] = [8, 192, 16_384, 768, 768, 768, 8_448, 3_328];
+/// The tables' names, and the largest number that a cell holds.
+pub const TABLES: [(&str, u32); 8] = [
+    ("counts", 0xFFFF), ("classes", 0xFFFF), ("kept", 0xFF), ("cache", 0xFFFF), ("ties", 0xFFFF), ("subtypes", 0xFFFF),
+    ("objects", u32::MAX), ("frames", u32::MAX),
+];
 
 pub const LOADERS: u16 = 16;
 pub const TASKS: u16 = 2;
@@ -141,6 +146,34 @@ impl Store {
             self.objects.len(),
             self.frames.len(),
         ]
+    }
+
+    /// A cell of the table at this place in `TABLES`.
+    pub fn get(&self, table: usize, cell: usize) -> u32 {
+        match table {
+            0 => self.counts[cell].into(),
+            1 => self.classes[cell].into(),
+            2 => self.kept[cell].into(),
+            3 => self.cache[cell].into(),
+            4 => self.ties[cell].into(),
+            5 => self.subtypes[cell].into(),
+            6 => self.objects[cell],
+            _ => self.frames[cell],
+        }
+    }
+
+    /// Overwrites a cell; of a number that is too large, the low bits are written.
+    pub fn set(&mut self, table: usize, cell: usize, value: u32) {
+        match table {
+            0 => self.counts[cell] = value as u16,
+            1 => self.classes[cell] = value as u16,
+            2 => self.kept[cell] = value as u8,
+            3 => self.cache[cell] = value as u16,
+            4 => self.ties[cell] = value as u16,
+            5 => self.subtypes[cell] = value as u16,
+            6 => self.objects[cell] = value,
+            _ => self.frames[cell] = value,
+        }
     }
 
     pub fn count(&self, which: usize) -> usize {

@@ -29,42 +29,16 @@ pub fn sweep(store: &Store, mut each: impl FnMut(&Store, &str)) {
     for (table, cells) in ranges(store).into_iter().enumerate() {
         for cell in cells {
             for value in values(store, table, cell) {
-                set(&mut changed, table, cell, value);
+                changed.set(table, cell, value);
                 each(&changed, &format!("table {table}, cell {cell}, value {value}"));
             }
-            set(&mut changed, table, cell, get(store, table, cell));
+            changed.set(table, cell, store.get(table, cell));
         }
     }
 }
 
-fn get(store: &Store, table: usize, cell: usize) -> u32 {
-    match table {
-        0 => store.counts[cell].into(),
-        1 => store.classes[cell].into(),
-        2 => store.kept[cell].into(),
-        3 => store.cache[cell].into(),
-        4 => store.ties[cell].into(),
-        5 => store.subtypes[cell].into(),
-        6 => store.objects[cell],
-        _ => store.frames[cell],
-    }
-}
-
-fn set(store: &mut Store, table: usize, cell: usize, value: u32) {
-    match table {
-        0 => store.counts[cell] = value as u16,
-        1 => store.classes[cell] = value as u16,
-        2 => store.kept[cell] = value as u8,
-        3 => store.cache[cell] = value as u16,
-        4 => store.ties[cell] = value as u16,
-        5 => store.subtypes[cell] = value as u16,
-        6 => store.objects[cell] = value,
-        _ => store.frames[cell] = value,
-    }
-}
-
 fn values(store: &Store, table: usize, cell: usize) -> Vec<u32> {
-    let here = get(store, table, cell);
+    let here = store.get(table, cell);
     let near = [here.wrapping_add(1), here.wrapping_sub(1)];
     match table {
         2 => BYTES.iter().map(|&byte| byte.into()).chain(near).collect(),

@@ -1,0 +1,135 @@
+#!/usr/bin/env bash
+# The writer's tool: its own tests, the course's lessons on the proved machine, each mistake's lesson on a machine that makes it, what
+# ./box says of mistakes in a text, and any bytes for a minute.
+#
+#   tests/lessons.sh                   all of it
+#   tests/lessons.sh --write-errors    writes what ./box says to tools/tests/errors, to be read before it is committed
+set -euo pipefail
+cd "$(dirname "$0")/.."
+tests/build host desk boxscript
+wrong=0
+tools=${CARGO_TARGET_DIR:-$PWD/tools/target}
+work=$(mktemp -d)
+trap 'rm -rf "$work"' EXIT
+
+fail() { # WORDS
+    echo "lessons: $*"
+    wrong=1
+}
+
+# Its own tests, any bytes for a minute among them; none is left out.
+own() {
+    local ran
+    TARIFF_LIB=$PWD/target/staticlib FUZZ_SECONDS=${FUZZ_SECONDS:-60} cargo test --manifest-path tools/Cargo.toml --offline --release --quiet \
+        --features host --target-dir "$tools/host" --lib --test round_trips --test lessons --test fuzz 2>&1 | tee "$work/own" || fail "a test of tools/"
+    ran=$(awk '/^test result: ok\. [0-9]+ passed/ { ran += $4 } END { print ran + 0 }' "$work/own")
+    [ "$ran" -ge 14 ] || fail "only $ran tests of tools/ ran"
+}
+
+# What ./box says of each text with a mistake, and its exit status.
+errors() {
+    local input said count=0
+    for input in tools/tests/errors/*.lesson tools/tests/errors/*.check tools/tests/errors/*.list; do
+        count=$((count + 1))
+        said=${input%.*}.out
+        case $input in
+        *.lesson) set -- ;;
+        *) set -- "${input##*.}" ;;
+        esac
+        { ./box "$@" "$input" 2>&1 && echo "status 0"; } >"$work/said" || echo "status $?" >>"$work/said"
+        if [ -n "$write" ]; then cp "$work/said" "$said"; fi
+        diff "$said" "$work/said" || fail "./box $* $input says something else"
+    done
+    [ "$count" -gt 20 ] || fail "there are only $count texts with a mistake"
+}
+
+# Each lesson through ./box, as a person runs it; its script, if it has one, goes through the proved program.
+lessons() {
+    local lesson count=0
+    for lesson in examples/*.lesson; do
+        [ -e "$lesson" ] || continue
+        count=$((count + 1))
+        ./box --store --draw "$lesson" "$work/picture.svg" >"$work/out" 2>&1 || { cat "$work/out"; fail "$lesson fails"; }
+        if [ -e "${lesson%.lesson}.box" ]; then
+            ./box "${lesson%.lesson}.box" >"$work/out" || fail "${lesson%.lesson}.box ends with an error"
+            grep -q "^R 1 2 0 .*loader 1 records Object as 0: recorded$" "$work/out" || fail "${lesson%.lesson}.box isn't in words"
+        fi
+    done
+    [ "$count" -gt 13 ] || fail "there are only $count lessons"
+}
+
+# A text through the assembler, and its files listed and assembled again.
+assembler() {
+    local file
+    ./box asm examples/spoofed-discount.lesson "$work/one" >/dev/null
+    for file in "$work"/one/*.class; do
+        ./box list "$file" >"$work/listing"
+        ./box asm "$work/listing" "$work/two" >/dev/null
+        cmp "$file" "$work/two/"*.class || fail "$(basename "$file") isn't the same after a listing"
+        ./box check "$file" >/dev/null || fail "$(basename "$file") isn't accepted"
+        rm -r "$work/two"
+    done
+}
+
+# The lessons that README.md and docs/LESSONS.md print do what they say.
+printed() {
+    awk '/^    name Policy/ { on = 1 } on && /^[^ ]/ { exit } on { print substr($0, 5) }' README.md >"$work/readme.lesson"
+    awk '/^## A lesson of one/ { on = 1; next } on && /^[^ ]/ { exit } on { print substr($0, 5) }' docs/LESSONS.md >"$work/mine.lesson"
+    ./box "$work/readme.lesson" >"$work/out" || fail "README.md's lesson fails"
+    grep -q "^ok  step  *finished: the quote with 7$" "$work/out" || fail "README.md's lesson has no quote"
+    ./box --draw "$work/mine.lesson" "$work/mine.svg" >"$work/out" || fail "the lesson of docs/LESSONS.md fails"
+    grep -q "class 4? refused" "$work/mine.svg" || fail "the picture of docs/LESSONS.md has no clash"
+}
+
+# Wrong usage ends with 2.
+usage() {
+    local words status
+    for words in "" "--store" "nothing-there.lesson" "list" "check nothing-there" "asm examples/first.lesson" "--what examples/first.box" "-h" \
+        "--draw examples/first.lesson mine.lesson" "examples/first.lesson mine.svg" "examples"; do
+        status=0
+        # shellcheck disable=SC2086
+        ./box $words >"$work/out" 2>&1 || status=$?
+        [ "$status" -eq 2 ] || fail "./box $words ends with $status"
+    done
+}
+
+# The mirror stands in for the libraries: right, it passes; with a learner's mistake, that mistake's lesson fails.
+mistakes() {
+    local mirror=$PWD/reference/target/mirror/release writer=$tools/mirror/release/writer lesson fault number tried
+    # the names of the mirror's faults that are each mistake
+    local faults=(desk "checks-only-constraints-on-the-request|joins-only-direct-ties" superclass-under-the-asking-loader
+        "([a-z]+-)?posts-and-then-refuses" overriding-ties-nothing compares-by-name)
+    (cd reference && cargo build --offline --release --quiet -p mirror --target-dir target/mirror)
+    TARIFF_LIB=$mirror TARIFF_LINK=dylib=tariff cargo build --manifest-path tools/Cargo.toml --offline --release --quiet --features host --target-dir "$tools/mirror"
+    export LD_LIBRARY_PATH=$mirror
+    for lesson in examples/*.lesson; do
+        "$writer" play "$lesson" >/dev/null 2>&1 || fail "$lesson fails on the second implementation"
+    done
+    for number in 1 2 3 4 5; do
+        tried=0
+        for fault in $(grep -oE "^    \\(\"(${faults[$number]})\"" reference/mirror/src/faults.rs | tr -d '( "'); do
+            tried=$((tried + 1))
+            MIRROR_FAULT=$fault "$writer" play examples/mistake-"$number"-*.lesson >"$work/out" 2>&1 && fail "mistake $number passes on the machine $fault"
+            grep -q "^NO" "$work/out" || { cat "$work/out"; fail "mistake $number on the machine $fault"; }
+        done
+        [ "$tried" -gt 0 ] || fail "no machine makes mistake $number"
+    done
+    MIRROR_FAULT=desk-skips-the-verifier "$writer" check tools/tests/errors/unverified.check >"$work/out" 2>&1 && fail "a wrong desk is believed"
+    grep -q "the desk says 0 and the second implementation 6" "$work/out" || fail "a wrong desk isn't named"
+    unset LD_LIBRARY_PATH
+}
+
+write=''
+if [ "${1:-}" = --write-errors ]; then
+    write=1
+    errors
+    exit
+fi
+own
+lessons
+assembler
+printed
+usage
+errors
+mistakes
+exit "$wrong"

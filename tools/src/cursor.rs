@@ -1,0 +1,199 @@
+//! Going through tokens: what is expected next, and the problem if something else stands there.
+
+use crate::names::Names;
+use crate::source::{Problem, Source, Span};
+use crate::tokens::{tokens, Kind, Token};
+
+pub type Parsed<T> = Result<T, Problem>;
+
+/// Where in the tokens a reader is. What belongs to one statement stands on one line.
+pub struct Cursor<'a> {
+    pub source: &'a Source,
+    pub names: Names,
+    tokens: Vec<Token>,
+    at: usize,
+}
+
+impl<'a> Cursor<'a> {
+    pub fn new(source: &'a Source) -> Parsed<Cursor<'a>> {
+        Ok(Cursor { source, names: Names::default(), tokens: tokens(source)?, at: 0 })
+    }
+
+    /// The next token, on whatever line.
+    pub fn peek(&self) -> &Token {
+        &self.tokens[self.at.min(self.tokens.len() - 1)]
+    }
+
+    /// The token that was taken last.
+    pub fn last(&self) -> &Token {
+        &self.tokens[self.at.saturating_sub(1)]
+    }
+
+    pub fn is_end(&self) -> bool {
+        self.peek().kind == Kind::End
+    }
+
+    /// Does the next token stand on the line of the last one?
+    pub fn goes_on(&self) -> bool {
+        !self.is_end() && self.peek().line == self.last().line
+    }
+
+    pub fn take(&mut self) -> Span {
+        let span = self.peek().span;
+        self.at += 1;
+        span
+    }
+
+    pub fn text(&self) -> &'a str {
+        self.source.of(self.peek().span)
+    }
+
+    /// The next word, on whatever line.
+    pub fn word(&self) -> Option<&'a str> {
+        (self.peek().kind == Kind::Word).then(|| self.text())
+    }
+
+    /// Takes this word if it is next on the line.
+    pub fn took(&mut self, word: &str) -> bool {
+        let is = self.goes_on() && self.word() == Some(word);
+        if is {
+            self.at += 1;
+        }
+        is
+    }
+
+    /// The problem that something else is expected here.
+    pub fn expected(&self, what: &str) -> Problem {
+        if self.goes_on() || self.at == 0 {
+            let found = if self.is_end() { "the end".into() } else { format!("'{}'", clipped(self.text())) };
+            return Problem::new(self.peek().span, format!("expected {what}, found {found}"));
+        }
+        let end = self.last().span.end;
+        let place = if self.is_end() { "file" } else { "line" };
+        Problem::new(Span { start: end, end }, format!("expected {what}, but the {place} ends here"))
+    }
+
+    /// The same, where the line doesn't matter.
+    pub fn here(&self, what: &str) -> Problem {
+        if self.is_end() {
+            return self.expected(what);
+        }
+        Problem::new(self.peek().span, format!("expected {what}, found '{}'", clipped(self.text())))
+    }
+
+    pub fn keyword(&mut self, word: &str) -> Parsed<()> {
+        if self.took(word) {
+            return Ok(());
+        }
+        let problem = self.expected(&format!("'{word}'"));
+        Err(if self.goes_on() { problem.near(self.text(), [word]) } else { problem })
+    }
+
+    pub fn has_sign(&self, sign: char) -> bool {
+        self.peek().kind == Kind::Sign(sign)
+    }
+
+    /// A sign on the same line, or a brace on any.
+    pub fn sign(&mut self, sign: char) -> Parsed<Span> {
+        let fits = self.has_sign(sign) && (self.goes_on() || "{}".contains(sign));
+        if fits {
+            return Ok(self.take());
+        }
+        Err(self.expected(&format!("'{sign}'")))
+    }
+
+    /// A number on the same line, from `least` to `most`.
+    pub fn number(&mut self, what: &str, least: i64, most: i64) -> Parsed<i64> {
+        let range = format!("{what}, {least} to {most}");
+        let Kind::Number(number) = self.peek().kind else {
+            return Err(self.expected(&range));
+        };
+        if !self.goes_on() {
+            return Err(self.expected(&range));
+        }
+        if number < least || number > most {
+            return Err(Problem::new(self.peek().span, format!("expected {range}, found {}", clipped(self.text()))));
+        }
+        self.at += 1;
+        Ok(number)
+    }
+
+    /// A number of a loader, task, class or steps, which needn't be there: the machine says so.
+    pub fn any_number(&mut self, what: &str) -> Parsed<u32> {
+        if !self.has_number() {
+            return Err(self.expected(what));
+        }
+        Ok(self.number(what, 0, u32::MAX.into())? as u32)
+    }
+
+    /// An int, as its 32 bits.
+    pub fn int(&mut self) -> Parsed<u32> {
+        Ok(self.number("an int", i32::MIN.into(), i32::MAX.into())? as i32 as u32)
+    }
+
+    pub fn has_number(&self) -> bool {
+        self.goes_on() && matches!(self.peek().kind, Kind::Number(_))
+    }
+
+    /// Takes the name of a task, if one is next on the line.
+    pub fn task(&mut self) -> Option<u32> {
+        ["quote", "report"].iter().position(|task| self.took(task)).map(|task| task as u32)
+    }
+
+    /// A name that was declared, or a number, on the same line.
+    pub fn name(&mut self, what: &str) -> Parsed<u16> {
+        if !self.goes_on() {
+            return Err(self.expected(what));
+        }
+        match self.word() {
+            Some(word) => {
+                let number = self.names.number(word).ok_or_else(|| self.undeclared(word))?;
+                self.at += 1;
+                Ok(number)
+            }
+            None => match self.peek().kind {
+                Kind::Number(_) => Ok(self.number("a name's number", 0, u16::MAX.into())? as u16),
+                _ => Err(self.expected(what)),
+            },
+        }
+    }
+
+    fn undeclared(&self, word: &str) -> Problem {
+        let problem = Problem::new(self.peek().span, format!("the name {} isn't declared", clipped(word)));
+        problem.near(word, self.names.iter()).or_help(format!("declare it above, as: name {} 100", clipped(word)))
+    }
+
+    /// A fresh word on the same line.
+    pub fn fresh(&mut self, what: &str) -> Parsed<(&'a str, Span)> {
+        match self.word() {
+            Some(word) if self.goes_on() => Ok((word, self.take())),
+            _ => Err(self.expected(what)),
+        }
+    }
+
+    /// Nothing more may stand on this line.
+    pub fn line_ends(&self, after: &str) -> Parsed<()> {
+        if self.goes_on() && !self.has_sign('}') {
+            return Err(self.expected(&format!("the end of the line after {after}")));
+        }
+        Ok(())
+    }
+
+    /// Bytes in hexadecimal, two digits each, as far as they go.
+    pub fn bytes(&mut self, across_lines: bool) -> Parsed<Vec<u8>> {
+        let mut bytes = Vec::new();
+        while (across_lines || self.goes_on()) && !self.is_end() && !self.has_sign('}') {
+            let part = reference::script::hexadecimal(self.text().as_bytes());
+            bytes.extend(part.ok_or_else(|| self.expected("bytes in hexadecimal, two digits each"))?);
+            self.at += 1;
+        }
+        Ok(bytes)
+    }
+}
+
+fn clipped(text: &str) -> String {
+    match text.char_indices().nth(40) {
+        Some((end, _)) => format!("{}..", &text[..end]),
+        None => text.to_string(),
+    }
+}

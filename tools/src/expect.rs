@@ -1,0 +1,98 @@
+//! What a lesson expects of an answer, and whether the answer meets it.
+
+use reference::answer::word;
+use reference::host::Told;
+
+use crate::cursor::{Cursor, Parsed};
+use crate::source::{Problem, Span};
+
+pub struct Expected {
+    pub span: Span,
+    pub wish: Wish,
+    /// How many steps of a run ran.
+    pub after: Option<u32>,
+}
+
+#[derive(Clone, Copy, Debug, PartialEq, Eq)]
+pub enum Wish {
+    Accepted,
+    Class(u32),
+    Idle,
+    Ran(Option<u32>),
+    Finished(Option<u32>, Option<u32>),
+    Wanted(Option<(u32, u16)>),
+    Refused(u8),
+}
+
+/// Answers besides the words of refusal.
+const ANSWERS: [&str; 6] = ["accepted", "class", "idle", "ran", "finished", "wanted"];
+
+impl Expected {
+    /// `expect ANSWER [after STEPS]`, at its first word.
+    pub fn read(at: &mut Cursor) -> Parsed<Expected> {
+        let begin = at.take();
+        let wish = Wish::read(at)?;
+        let after = if at.took("after") { Some(at.any_number("how many steps ran")?) } else { None };
+        Ok(Expected { span: begin.to(at.last().span), wish, after })
+    }
+
+    pub fn is_met(&self, told: &Told) -> bool {
+        let [kind, number, one, two, three, steps] = told.cells;
+        let is_step = (kind == 2 || kind == 3) && number == 0;
+        let is_or_any = |wanted: Option<u32>, is: u32| wanted.is_none_or(|wanted| wanted == is);
+        let meets = match self.wish {
+            Wish::Accepted => told.number == 0,
+            Wish::Class(class) => kind == 1 && told.number == 0 && one == class,
+            Wish::Idle => is_step && one == 0,
+            Wish::Ran(task) => is_step && one == 1 && is_or_any(task, two),
+            Wish::Finished(task, int) => is_step && one == 2 && is_or_any(task, two) && is_or_any(int, three),
+            Wish::Wanted(request) => {
+                let is_wanted = number == u32::from(word::WANTED);
+                is_wanted && request.is_none_or(|(loader, name)| (loader, u32::from(name)) == (one, two))
+            }
+            Wish::Refused(wanted) => number == u32::from(wanted),
+        };
+        meets && self.after.is_none_or(|after| kind == 3 && steps == after)
+    }
+}
+
+impl Wish {
+    fn read(at: &mut Cursor) -> Parsed<Wish> {
+        let Some(answer) = at.word().filter(|_| at.goes_on()) else {
+            return Err(at.expected("an answer"));
+        };
+        let span = at.take();
+        match answer {
+            "accepted" => Ok(Wish::Accepted),
+            "class" => Ok(Wish::Class(at.any_number("a class number")?)),
+            "idle" => Ok(Wish::Idle),
+            "ran" => Ok(Wish::Ran(at.task())),
+            "finished" => {
+                let task = at.task();
+                let int = if at.has_number() { Some(at.int()?) } else { None };
+                Ok(Wish::Finished(task, int))
+            }
+            "wanted" => Wish::wanted(at),
+            _ => Wish::refused(answer, span),
+        }
+    }
+
+    /// `wanted`, perhaps with a loader and a name.
+    fn wanted(at: &mut Cursor) -> Parsed<Wish> {
+        if !at.took("loader") && !at.has_number() {
+            return Ok(Wish::Wanted(None));
+        }
+        let loader = at.any_number("a loader, 0 to 15")?;
+        Ok(Wish::Wanted(Some((loader, at.name("a class's name")?))))
+    }
+
+    /// A word of refusal.
+    fn refused(answer: &str, span: Span) -> Parsed<Wish> {
+        if let Some(place) = word::NAMES.iter().position(|&name| name == answer) {
+            return Ok(Wish::Refused(place as u8 + 1));
+        }
+        let known = ANSWERS.into_iter().chain(word::NAMES);
+        let all = format!("answers are {}, and the words of refusal", ANSWERS.join(", "));
+        Err(Problem::new(span, format!("'{answer}' is no answer")).near(answer, known).or_help(all))
+    }
+}

@@ -1,0 +1,116 @@
+//! A class file's listing: its text form, with the verifier's types and notes behind each instruction.
+
+use std::fmt::Write;
+
+use reference::code::decode;
+use reference::code::op::{self, Inline};
+use reference::file::{File, Flaw, Method, Sketch};
+use reference::verifier::{seen, Rejected, Seen, Types};
+
+use crate::names::Names;
+use crate::reasons;
+
+pub const LEGEND: &str =
+    "# Behind an instruction: its point, the [operands] and {locals} before it, and the notes that it makes.\n";
+
+/// A listing that assembles to these bytes. Bytes that are no file are listed, in comments, as far as they read.
+pub fn listing(bytes: &[u8], called: &str, names: &Names) -> String {
+    let sketch = Sketch::read(bytes);
+    match File::explained(bytes) {
+        Ok(file) => {
+            let called = Some(called).filter(|&called| called != names.class(file.name()));
+            class(&sketch, called, names, seen)
+        }
+        Err(flaw) => damaged(bytes, &sketch, flaw, called, names),
+    }
+}
+
+fn damaged(bytes: &[u8], sketch: &Sketch, flaw: Flaw, called: &str, names: &Names) -> String {
+    let mut out = format!("# No class file: at byte {}, {}.\n", flaw.at, reasons::rule(flaw.rule, names));
+    let read = class(sketch, None, names, |_, _| (Vec::new(), None));
+    out.push_str("# As far as it reads:\n");
+    read.lines().for_each(|line| out.push_str(&format!("#   {line}\n")));
+    let _ = writeln!(out, "file {} {{", called);
+    for part in bytes.chunks(24) {
+        let _ = writeln!(out, "    {}", hexadecimal(part));
+    }
+    out + "}\n"
+}
+
+pub fn hexadecimal(bytes: &[u8]) -> String {
+    bytes.iter().map(|byte| format!("{byte:02X}")).collect::<Vec<_>>().join(" ")
+}
+
+/// What the verifier sees in a method; nothing in a file that doesn't read.
+type Seeing = fn(u16, Method) -> (Vec<Seen>, Option<Rejected>);
+
+fn class(sketch: &Sketch, called: Option<&str>, names: &Names, seeing: Seeing) -> String {
+    let name = |name: Option<u16>| name.map_or("?".into(), |name| names.class(name));
+    let called = called.map_or(String::new(), |called| format!(" as {called}"));
+    let mut out = format!("class {} extends {}{called} {{\n", name(sketch.name), name(sketch.superclass));
+    for field in &sketch.fields {
+        let _ = writeln!(out, "    field {} {}", names.member(field.name), names.class(field.of));
+    }
+    for method in &sketch.methods {
+        let _ = writeln!(out, "    method {} {{", names.method(method.name, method.argument, method.result));
+        out.push_str(&code(*method, names, seeing(sketch.name.unwrap_or(0), *method)));
+        out.push_str("    }\n");
+    }
+    out + "}\n"
+}
+
+/// The instructions of a method, each with what the verifier sees there.
+fn code(method: Method, names: &Names, (points, rejected): (Vec<Seen>, Option<Rejected>)) -> String {
+    let mut out = String::new();
+    let mut point = 0;
+    while point < method.code.len() {
+        let seen = points.iter().find(|seen| seen.point == point);
+        let rejected = rejected.filter(|rejected| rejected.point == point);
+        let (text, next) = match decode(method.code, point) {
+            Some((_, next)) => (instruction(&method.code[point..next], names), next),
+            None => (format!("bytes {}", hexadecimal(&method.code[point..])), method.code.len()),
+        };
+        let line = format!("        {text:<44}  # {point:>3}{}", remark(seen, rejected, names));
+        let _ = writeln!(out, "{}", line.trim_end());
+        point = next;
+    }
+    out
+}
+
+fn remark(seen: Option<&Seen>, rejected: Option<Rejected>, names: &Names) -> String {
+    let Some(seen) = seen else {
+        return String::new();
+    };
+    let mut out = format!("  {}", types(&seen.types, names));
+    for &(lower, higher) in &seen.notes {
+        let _ = write!(out, "  note: {} below {}", names.class(lower), names.class(higher));
+    }
+    if let Some(rejected) = rejected {
+        let _ = write!(out, "  REJECTED: {}", reasons::why(rejected.why, names));
+    }
+    out
+}
+
+/// `[operands] {locals}`, the locals up to the last that is set.
+fn types(types: &Types, names: &Names) -> String {
+    let join = |types: &[_]| types.iter().map(|&of| reasons::of_type(of, names)).collect::<Vec<_>>().join(" ");
+    let set = types.locals.iter().rposition(|&of| of != reference::verifier::Type::Unset).map_or(0, |last| last + 1);
+    format!("[{}] {{{}}}", join(types.operands()), join(&types.locals[..set]))
+}
+
+/// One instruction, whole, as the text form writes it.
+pub fn instruction(bytes: &[u8], names: &Names) -> String {
+    let Some(((name, inline), rest)) = bytes.split_first().and_then(|(&code, rest)| Some((op::form(code)?, rest))) else {
+        return format!("bytes {}", hexadecimal(bytes));
+    };
+    let word = |place: usize| rest.get(2 * place..2 * place + 2).map_or(0, |two| u16::from_be_bytes([two[0], two[1]]));
+    let member = || format!("{}.{}", names.class(word(0)), names.member(word(1)));
+    match inline {
+        Inline::Nothing => name.into(),
+        Inline::Int => format!("{name} {}", word(0) as i16),
+        Inline::Local => format!("{name} {}", rest.first().copied().unwrap_or(0)),
+        Inline::Class => format!("{name} {}", names.class(word(0))),
+        Inline::Field => format!("{name} {} {}", member(), names.class(word(2))),
+        Inline::Method => format!("{name} {}({}) {}", member(), names.class(word(2)), names.class(word(3))),
+    }
+}

@@ -1,0 +1,29 @@
+//! The proved machine and the proved desk, where this build has them: all that this program knows of the C libraries.
+
+use reference::gen::Call;
+use reference::host::Told;
+use reference::Store;
+
+/// Makes the call on the store.
+#[cfg(feature = "host")]
+pub fn make(call: &Call, store: &mut Store) -> Option<Told> {
+    let mut cells = [0; reference::host::CELLS];
+    let number = reference::host::make(call, store, &mut cells);
+    Some(Told { number, cells })
+}
+
+#[cfg(not(feature = "host"))]
+pub fn make(_: &Call, _: &mut Store) -> Option<Told> {
+    None
+}
+
+/// The desk's number for a file.
+#[cfg(feature = "desk")]
+pub fn check(bytes: &[u8]) -> Option<u8> {
+    Some(reference::host::check(bytes))
+}
+
+#[cfg(not(feature = "desk"))]
+pub fn check(_: &[u8]) -> Option<u8> {
+    None
+}

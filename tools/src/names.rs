@@ -1,0 +1,71 @@
+//! Names and their numbers: those that a file declares, and the two that every file has.
+
+use reference::store::{INT, OBJECT};
+
+#[derive(Clone, Debug)]
+pub struct Names {
+    all: Vec<(String, u16)>,
+}
+
+/// Why a name can't be declared.
+#[derive(Clone, Debug, PartialEq, Eq)]
+pub enum Taken {
+    /// The name has this number already.
+    Name(u16),
+    /// The number has this name already.
+    Number(String),
+}
+
+impl Default for Names {
+    fn default() -> Names {
+        Names { all: vec![("int".into(), INT), ("Object".into(), OBJECT)] }
+    }
+}
+
+impl Names {
+    pub fn declare(&mut self, name: &str, number: u16) -> Result<(), Taken> {
+        if let Some(there) = self.number(name) {
+            return Err(Taken::Name(there));
+        }
+        if let Some(there) = self.name(number) {
+            return Err(Taken::Number(there.into()));
+        }
+        self.all.push((name.into(), number));
+        Ok(())
+    }
+
+    pub fn number(&self, name: &str) -> Option<u16> {
+        self.all.iter().find(|entry| entry.0 == name).map(|entry| entry.1)
+    }
+
+    pub fn name(&self, number: u16) -> Option<&str> {
+        self.all.iter().find(|entry| entry.1 == number).map(|entry| entry.0.as_str())
+    }
+
+    pub fn iter(&self) -> impl Iterator<Item = &str> {
+        self.all.iter().map(|entry| entry.0.as_str())
+    }
+
+    /// Those that were declared.
+    pub fn declared(&self) -> &[(String, u16)] {
+        &self.all[2..]
+    }
+
+    /// A class or type as people read it.
+    pub fn class(&self, number: u16) -> String {
+        self.name(number).map_or_else(|| number.to_string(), str::to_string)
+    }
+
+    /// A field or method as people read it: int and Object are no names for one.
+    pub fn member(&self, number: u16) -> String {
+        if number == INT || number == OBJECT {
+            return number.to_string();
+        }
+        self.class(number)
+    }
+
+    /// A method with its argument and result.
+    pub fn method(&self, name: u16, argument: u16, result: u16) -> String {
+        format!("{}({}) {}", self.member(name), self.class(argument), self.class(result))
+    }
+}

@@ -1,0 +1,208 @@
+//! Carrying out a lesson on the proved machine: each call beside its answer, what changed, and what wasn't as expected.
+
+use std::io::{self, Write};
+
+use reference::answer::word;
+use reference::gen::Call;
+use reference::host::Told;
+use reference::Store;
+
+use crate::check::reason;
+use crate::draw::Strip;
+use crate::lesson::{Act, Doing, Lesson, What};
+use crate::machine;
+use crate::rows;
+use crate::source::{Problem, Source};
+use crate::tried::tried;
+use crate::words;
+
+/// What is shown besides calls and answers.
+#[derive(Clone, Copy, Default)]
+pub struct Show {
+    pub store: bool,
+    pub draw: bool,
+}
+
+/// What came of a lesson.
+pub struct Outcome {
+    pub store: Store,
+    pub calls: usize,
+    /// Answers that were as expected.
+    pub met: usize,
+    pub failed: usize,
+    pub strip: Strip,
+}
+
+pub struct Play<'a> {
+    source: &'a Source,
+    lesson: &'a Lesson,
+    show: Show,
+    out: &'a mut dyn Write,
+    outcome: Outcome,
+    last: Last,
+}
+
+/// What was written last.
+#[derive(Clone, Copy, PartialEq, Eq)]
+enum Last {
+    Nothing,
+    Words,
+    Call,
+}
+
+/// A call that was made: its answer, and whether that was as expected.
+struct Made {
+    answer: String,
+    problems: Vec<Problem>,
+    /// Why a file was refused.
+    reason: String,
+    changes: Vec<String>,
+}
+
+impl<'a> Play<'a> {
+    /// Carries out the lesson on tables of zeros that are booted first, as boxscript does.
+    pub fn run(source: &'a Source, lesson: &'a Lesson, show: Show, out: &'a mut dyn Write) -> io::Result<Outcome> {
+        let outcome = Outcome { store: Store::zeros(), calls: 0, met: 0, failed: 0, strip: Strip::default() };
+        let mut play = Play { source, lesson, show, out, outcome, last: Last::Nothing };
+        machine::make(&Call::Boot, &mut play.outcome.store)
+            .ok_or_else(|| io::Error::other("this build has no machine; use ./box"))?;
+        for act in &lesson.acts {
+            match act {
+                Act::Say(said) => play.say(said)?,
+                Act::Do(doing) => {
+                    let made = play.make(doing);
+                    play.write(doing, &made)?;
+                }
+                Act::Repeat { times, acts } => play.repeat(*times, acts)?,
+            }
+        }
+        Ok(play.outcome)
+    }
+
+    /// Leaves a line free between words and calls.
+    fn turn_to(&mut self, next: Last) -> io::Result<()> {
+        let last = std::mem::replace(&mut self.last, next);
+        if last != Last::Nothing && last != next {
+            writeln!(self.out)?;
+        }
+        Ok(())
+    }
+
+    fn say(&mut self, said: &str) -> io::Result<()> {
+        self.turn_to(Last::Words)?;
+        writeln!(self.out, "{said}")
+    }
+
+    /// The first round is shown, of the others what is answered otherwise.
+    fn repeat(&mut self, times: u32, acts: &[Act]) -> io::Result<()> {
+        let mut first: Vec<String> = Vec::new();
+        let mut alike = 0;
+        for round in 0..times {
+            let mut others = 0;
+            for (place, act) in acts.iter().enumerate() {
+                match act {
+                    Act::Say(said) if round == 0 => {
+                        first.push(String::new());
+                        self.say(said)?;
+                    }
+                    Act::Do(doing) => {
+                        let made = self.make(doing);
+                        if round == 0 {
+                            first.push(made.answer.clone());
+                        }
+                        if round == 0 || !made.problems.is_empty() || first.get(place) != Some(&made.answer) {
+                            others += usize::from(round > 0);
+                            self.write(doing, &made)?;
+                        }
+                    }
+                    _ => {}
+                }
+            }
+            alike += u32::from(round > 0 && others == 0);
+        }
+        if alike > 0 {
+            writeln!(self.out, "    ({alike} more {} with the same answers)", if alike == 1 { "round" } else { "rounds" })?;
+        }
+        Ok(())
+    }
+
+    fn make(&mut self, doing: &Doing) -> Made {
+        let before = self.outcome.store.clone();
+        let mut made = Made { answer: String::new(), problems: Vec::new(), reason: String::new(), changes: Vec::new() };
+        match self.call_of(&doing.what) {
+            Ok(Some(call)) => self.call(doing, &call, &before, &mut made),
+            Ok(None) => made.answer = "damaged".into(),
+            Err(said) => {
+                self.outcome.failed += 1;
+                made.answer = "not made".into();
+                made.problems.push(Problem::new(doing.span, said));
+            }
+        }
+        if self.show.store {
+            made.changes = rows::changes(&before, &self.outcome.store, &self.lesson.names);
+        }
+        made
+    }
+
+    /// The call, if it is one: damage is done here.
+    fn call_of(&mut self, what: &What) -> Result<Option<Call>, String> {
+        match *what {
+            What::Call(ref call) => Ok(Some(call.clone())),
+            What::RecordOf { loader, name, of } => {
+                let class = u16::try_from(of).ok().and_then(|of| self.outcome.store.cached(of, name));
+                let class = class.ok_or_else(|| format!("loader {of} has no {} yet", self.lesson.names.class(name)))?;
+                Ok(Some(Call::Record { loader, name: name.into(), class: class.into() }))
+            }
+            What::Damage { table, cell, value } => {
+                self.outcome.store.set(table, cell, value);
+                Ok(None)
+            }
+        }
+    }
+
+    fn call(&mut self, doing: &Doing, call: &Call, before: &Store, made: &mut Made) {
+        let names = &self.lesson.names;
+        let Some(told) = machine::make(call, &mut self.outcome.store) else {
+            return;
+        };
+        let ran = rows::next_instruction(before, names);
+        made.answer = words::answer(call, &told, names, ran.as_deref());
+        self.outcome.calls += 1;
+        for expected in &doing.expected {
+            if expected.is_met(&told) {
+                self.outcome.met += 1;
+                continue;
+            }
+            self.outcome.failed += 1;
+            let wish = self.source.of(expected.span).trim_start_matches("expect").trim_start();
+            made.problems.push(Problem::new(expected.span, format!("expected {wish}, but the answer was: {}", made.answer)));
+        }
+        if let (Call::Define { file, .. }, word::FILE | word::UNVERIFIED) = (call, told.number) {
+            let text = self.lesson.texts.iter().find(|text| text.bytes == *file);
+            made.reason = reason(file, names, text.map(|text| (text, self.source)));
+        }
+        if self.show.draw {
+            self.draw(&doing.said, call, &told, before, &made.answer);
+        }
+    }
+
+    fn draw(&mut self, said: &str, call: &Call, told: &Told, before: &Store, answer: &str) {
+        let clashed = told.cells[1] == u32::from(word::CLASH);
+        let tried = if clashed { tried(call, &self.outcome.store) } else { Default::default() };
+        let title = format!("{said}: {answer}");
+        self.outcome.strip.add(&title, before, &self.outcome.store, tried, &self.lesson.names);
+    }
+
+    fn write(&mut self, doing: &Doing, made: &Made) -> io::Result<()> {
+        self.turn_to(Last::Call)?;
+        let mark = match (made.problems.is_empty(), doing.expected.is_empty()) {
+            (false, _) => "NO",
+            (true, false) => "ok",
+            (true, true) => "  ",
+        };
+        writeln!(self.out, "{mark}  {:<42}  {}", doing.said, made.answer)?;
+        write!(self.out, "{}", made.reason)?;
+        made.changes.iter().try_for_each(|change| writeln!(self.out, "        {change}"))?;
+        made.problems.iter().try_for_each(|problem| write!(self.out, "{}", self.source.show(problem)))
+    }
+}

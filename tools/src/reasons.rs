@@ -1,0 +1,59 @@
+//! Why a file is bad or unverified, in words.
+
+use reference::code::op;
+use reference::file::Rule;
+use reference::verifier::{Type, Why};
+
+use crate::names::Names;
+
+pub fn of_type(of: Type, names: &Names) -> String {
+    match of {
+        Type::Unset => "-".into(),
+        Type::Int => "int".into(),
+        Type::Null => "null".into(),
+        Type::Class(name) => names.class(name),
+    }
+}
+
+/// The rule of the file that is broken.
+pub fn rule(rule: Rule, names: &Names) -> String {
+    match rule {
+        Rule::TooLong => "a file has at most 4,096 bytes".into(),
+        Rule::CutOff => "the file ends here, and more should follow".into(),
+        Rule::Version(version) => format!("the version byte is {version}, and only version 1 is known"),
+        Rule::Length(said, follow) => format!("the length bytes say {said}, and {follow} bytes follow them"),
+        Rule::ClassBelow2(name) => format!("a class's or superclass's name is 2 or more, and this is {name}"),
+        Rule::Name0 => "a name or type is 0".into(),
+        Rule::TooManyFields(count) => format!("{count} fields, and a class has at most 8"),
+        Rule::TooManyMethods(count) => format!("{count} methods, and a class has at most 8"),
+        Rule::CodeLength(length) => format!("a method of {length} bytes of code, and it has 1 to 512"),
+        Rule::BytesLeft(1) => "the last method ends here, and 1 byte is left".into(),
+        Rule::BytesLeft(left) => format!("the last method ends here, and {left} bytes are left"),
+        Rule::SameField(name) => format!("a second field named {}", names.member(name)),
+        Rule::SameMethod(name) => format!("a second method {} with the same types", names.member(name)),
+    }
+}
+
+/// Why the verifier rejects an instruction.
+pub fn why(why: Why, names: &Names) -> String {
+    match why {
+        Why::UnknownOpcode(opcode) => format!("{opcode:02X} is no opcode"),
+        Why::CutOff(opcode) => {
+            let name = op::form(opcode).map_or("the instruction", |form| form.0);
+            format!("the code ends before all that belongs to {name}")
+        }
+        Why::Name0 => "a name in the instruction is 0".into(),
+        Why::ClassBelow2(name) => format!("a class is demanded, and {name} is none: a class's name is 2 or more"),
+        Why::NoLocal(number) => format!("there is no local {number}: locals are 0 to 7"),
+        Why::UnsetLocal(number) => format!("local {number} is unset here"),
+        Why::TooManyOperands => "a 17th operand, and there is room for 16".into(),
+        Why::TooFewOperands => "the instruction takes more operands than there are".into(),
+        Why::NoInt(of) => format!("an int is demanded, and {} stands there", of_type(of, names)),
+        Why::NoReference(Type::Int) => "a reference is demanded, and an int stands there".into(),
+        Why::NoReference(of) => format!("a reference is demanded, and {} stands there", of_type(of, names)),
+        Why::ResultIsNoInt(of) => format!("ireturn returns an int, and the method's result is {}", names.class(of)),
+        Why::ResultIsInt => "areturn returns a reference, and the method's result is int".into(),
+        Why::EndsWithoutReturn => "the code ends here, and its last instruction is no return".into(),
+        Why::GoesOnAfterReturn => "a return, and more code behind it: a return is the last instruction".into(),
+    }
+}

@@ -1,0 +1,163 @@
+//! The used rows of a store by name, and what changed between two stores.
+
+use std::fmt::Write;
+
+use reference::broken::unbroken;
+use reference::classes::Classes;
+use reference::code::decode;
+use reference::store::{cell, count, frame_base, FRAME_ROW, LENGTHS, LOCALS, TABLES, TASKS};
+use reference::store::{Store, Value};
+
+use crate::listing;
+use crate::names::Names;
+use crate::words::task;
+
+/// A used row: which it is, and what it says.
+#[derive(Clone, Debug, PartialEq, Eq)]
+struct Row {
+    which: String,
+    says: String,
+}
+
+/// What changed, a line a row: + new, ~ changed, - gone. Of tables that are no store, the cells that changed.
+pub fn changes(before: &Store, after: &Store, names: &Names) -> Vec<String> {
+    match (unbroken(before), unbroken(after)) {
+        (Some(then), Some(now)) => row_changes(&rows(before, &then, names), &rows(after, &now, names)),
+        (then, now) => {
+            let mut lines = cell_changes(before, after);
+            match (then.is_some(), now.is_some()) {
+                (true, false) => lines.push("the tables are no store now: broken".into()),
+                (false, true) => lines.push("the tables are a store again".into()),
+                _ => {}
+            }
+            lines
+        }
+    }
+}
+
+fn row_changes(before: &[Row], after: &[Row]) -> Vec<String> {
+    let mut lines = Vec::new();
+    for row in after {
+        match before.iter().find(|other| other.which == row.which) {
+            None => lines.push(format!("+ {}: {}", row.which, row.says)),
+            Some(other) if other != row => lines.push(format!("~ {}: {}", row.which, row.says)),
+            Some(_) => {}
+        }
+    }
+    let gone = before.iter().filter(|row| !after.iter().any(|other| other.which == row.which));
+    lines.extend(gone.map(|row| format!("- {}", row.which)));
+    lines
+}
+
+fn cell_changes(before: &Store, after: &Store) -> Vec<String> {
+    let mut lines = Vec::new();
+    for (table, ((name, _), length)) in TABLES.iter().zip(LENGTHS).enumerate() {
+        let pairs = (0..length).map(|cell| (cell, before.get(table, cell), after.get(table, cell)));
+        let changed = pairs.filter(|(_, old, new)| old != new);
+        lines.extend(changed.map(|(cell, old, new)| format!("~ {name} {cell}: {old}, now {new}")));
+    }
+    lines
+}
+
+/// All used rows of a store that isn't broken.
+fn rows(store: &Store, classes: &Classes, names: &Names) -> Vec<Row> {
+    let mut rows = Vec::new();
+    let mut add = |which: String, says: String| rows.push(Row { which, says });
+    for class in 0..store.counts[count::CLASSES] {
+        add(format!("class {class}"), class_says(store, class, names));
+    }
+    for (place, [loader, name, class]) in store.cache_rows().enumerate() {
+        add(format!("cache {place}"), format!("loader {loader} means class {class} by {}", names.class(name)));
+    }
+    for (place, [one, other, name]) in store.tie_rows().enumerate() {
+        add(format!("tie {place}"), format!("{} is one class under loaders {one} and {other}", names.class(name)));
+    }
+    for (place, [loader, lower, higher]) in store.subtype_rows().enumerate() {
+        let says = format!("under loader {loader}, {} is below {}", names.class(lower), names.class(higher));
+        add(format!("subtype constraint {place}"), says);
+    }
+    for object in 0..store.counts[count::OBJECTS] {
+        add(format!("object {object}"), object_says(store, classes, object.into(), names));
+    }
+    for task_number in 0..usize::from(TASKS) {
+        for depth in 0..store.frame_count(task_number) {
+            add(format!("{} frame {depth}", task(task_number as u32)), frame_says(store, task_number, depth, names));
+        }
+    }
+    rows
+}
+
+fn class_says(store: &Store, class: u16, names: &Names) -> String {
+    let Some(file) = store.file(class) else {
+        return "Object of loader 0".into();
+    };
+    let (name, above) = (names.class(file.name()), names.class(file.superclass()));
+    let mut says = format!("{name} of loader {}, below {above}", store.loader_of(class));
+    for field in file.fields() {
+        let _ = write!(says, ", field {} {}", names.member(field.name), names.class(field.of));
+    }
+    for method in file.methods() {
+        let _ = write!(says, ", method {}", names.method(method.name, method.argument, method.result));
+    }
+    says
+}
+
+fn value(cells: &[u32], at: usize) -> String {
+    match Value::read(cells, at) {
+        Some(Value::Int(bits)) => (bits as i32).to_string(),
+        Some(Value::Null) => "null".into(),
+        Some(Value::Object(object)) => format!("object {object}"),
+        Some(Value::Empty) => "-".into(),
+        None => "?".into(),
+    }
+}
+
+fn object_says(store: &Store, classes: &Classes, object: u32, names: &Names) -> String {
+    let class = store.object_class(object);
+    let mut fields = Vec::new();
+    let mut upward: Vec<u16> = classes.upward(class).collect();
+    upward.reverse();
+    for file in upward.into_iter().filter_map(|class| store.file(class)) {
+        for field in file.fields() {
+            let at = Store::field_cell(object, fields.len());
+            fields.push(format!("{} = {}", names.member(field.name), value(&store.objects, at)));
+        }
+    }
+    let name = format!("{} (class {class})", names.class(store.name_of(class)));
+    if fields.is_empty() {
+        name
+    } else {
+        format!("{name}, {}", fields.join(", "))
+    }
+}
+
+fn frame_says(store: &Store, task: usize, depth: usize, names: &Names) -> String {
+    let base = frame_base(task, depth);
+    let frame = &store.frames[base..base + FRAME_ROW];
+    let (class, point) = (frame[cell::CLASS] as u16, frame[cell::POINT] as usize);
+    let method = store.file(class).and_then(|file| file.method(frame[cell::METHOD] as usize));
+    let place = method.map_or("no method".into(), |method| names.method(method.name, method.argument, method.result));
+    let next = method.and_then(|method| Some((decode(method.code, point)?.1, method.code)));
+    let next = next.map_or("nothing".into(), |(end, code)| listing::instruction(&code[point..end], names));
+    let values = |first: usize, count: usize| (0..count).map(|i| value(frame, first + 2 * i)).collect::<Vec<_>>();
+    let mut locals = values(cell::LOCAL_0, LOCALS);
+    while locals.last().is_some_and(|local| local == "-") {
+        locals.pop();
+    }
+    let operands = values(cell::OPERAND_0, frame[cell::OPERANDS] as usize);
+    let class = names.class(store.name_of(class));
+    format!("{class}.{place} at {point}, next {next}; operands [{}] locals {{{}}}", operands.join(", "), locals.join(", "))
+}
+
+/// The instruction that the next step takes, and its task.
+pub fn next_instruction(store: &Store, names: &Names) -> Option<String> {
+    unbroken(store)?;
+    let task_number = store.turn()?;
+    let base = frame_base(task_number, store.frame_count(task_number) - 1);
+    let file = store.file(store.frames[base + cell::CLASS] as u16)?;
+    let method = file.method(store.frames[base + cell::METHOD] as usize)?;
+    let point = store.frames[base + cell::POINT] as usize;
+    let (_, end) = decode(method.code, point)?;
+    let instruction = listing::instruction(&method.code[point..end], names);
+    Some(format!("{instruction} ({})", task(task_number as u32)))
+}
