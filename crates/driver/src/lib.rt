@@ -13,6 +13,10 @@ ghost use Rattle.definition.specs.Answers.{number, numberOfStep, numberOf, ends
 ghost use Rattle.driver.specs.Encoded.{fileIn, callIn, callsIn};
 ghost use Rattle.driver.specs.Driven.{putReply, isAccepted, driven, performed, drive, SafelyDriven};
 ghost use Rattle.driver.specs.Laws.{callMade, rowDone, performRow};
+
+// The word of a refusal that wants a class, as a number of the list.
+const WANTED: u32 = WORD_WANTED as u32;
+
 use calls::Call;
 use definition::Answer;
 use definition::Refusal;
@@ -43,7 +47,7 @@ fn refusal_number(refusal: Refusal) -> u32
     ensures { λ r. ⌜ r ≡ number refusal ⌝ }
 {
     match refusal {
-        Refusal::Wanted(_, _) => WORD_WANTED,
+        Refusal::Wanted(_, _) => WANTED,
         Refusal::Word(n) => cells::from16(cells::from8(n)),
     }
 }

@@ -30,8 +30,8 @@ returns c =
     let at10 = at9 .before in
     let at11 = at10 .before .before in
     record {
-      answer = rw (at1 .put326 .ensures, at2 .count-of .ensures, at3 .put325 .ensures, at4 .put324 .ensures, at5 .put323 .ensures, at6 .put322 .ensures, at7 .from16 .ensures .0, at8 .from8 .ensures .0, at9 .put32 .ensures, at10 .kind-of .ensures, at11 .details-of .ensures .numbered) (cells-written _ _ _ _ _ _ _);
-      number = rw (c .number-of .ensures, at11 .details-of .ensures .numbered) (reply-number _ _);
+      answer = rw (at1 .put326 .ensures, at2 .count-of .ensures, at3 .put325 .ensures, at4 .put324 .ensures, at5 .put323 .ensures, at6 .put322 .ensures, at7 .from16 .ensures .0, at8 .from8 .ensures .0, at9 .put32 .ensures, at10 .kind-of .ensures, at11 .details-of .ensures) (cells-written _ _ _ _ _ _ _);
+      number = rw (c .number-of .ensures, at11 .details-of .ensures) (reply-number _ _);
     }
 
 pub report-spec : {M : Type 1} → statement M
