@@ -147,7 +147,7 @@ module _ (B : Base) (N L K E I S O F : List ℕ) (k m b q : ℕ) (us : List Tie)
       let w : (d < 16) × (getD N 5 0 < 256) × (sizeOf B s ≤ 16) = rw e at (r .fits) in
       rw (e, f, g, h, a, c, j, r .row, objects-fill before B .count)
       (ap (done (Ran k)) (sym (
-      progress-writes B before k _ us (getD N 5 0 + 1) (suc m) (putObject O (getD N 5 0) (newObject B s))
+      progress-writes B before k (leaves B before k m q us (r .two) _ _ none) us (getD N 5 0 + 1) (suc m) (putObject O (getD N 5 0) (newObject B s))
       (putOperand (frameBase k m) (moved F (frameBase k m) q (d + 1)) d (objectValue (getD N 5 0))) (r .two) refl (object-made before B (newObject B s))
       (top-above before k m (r .low) q d (objectValue (getD N 5 0)) (w .0))
       ∙ ap (λ z. tables z L K E (writeRows putTie us (getD N 3 0) I) S (putObject O (getD N 5 0) (newObject B s)) (putOperand (frameBase k m) (moved F (frameBase k m) q (d + 1)) d (objectValue (getD N 5 0)))) frames)))

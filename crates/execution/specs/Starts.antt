@@ -1,7 +1,7 @@
 -- The start of a task on tables: what is decided on it, and what it writes.
 use mathlib.Core.Path.{_≡_, refl, sym, ap, _∙_}
 use mathlib.Core.Bool.{Bool, true, false}
-use mathlib.Core.Option.{some}
+use mathlib.Core.Option.{none, some}
 use mathlib.Core.List.{List}
 use Prim.Native.Nat.{ℕ, _+_, _<_, _≤_}
 use native.Mathlib.Omega.{arith}
@@ -71,7 +71,7 @@ module _ (N L K E I S O F : List ℕ) (whole : broken (tables N L K E I S O F) �
   start-first c s j C P G e x y z =
       let f : (k < 2) × (getD N 5 0 < 256) × (find (base .cache) (at l n) ≡ some c) = rw e at (opened .fits) in
       sym (starts ∙ (rw (e, objects-fill T base .count, x, y, z) (ap (done Accepted) (
-      quiet-writes base T k _ (getD N 5 0 + 1) 1 (putObject O (getD N 5 0) (newObject base c)) (putFrame F (frameBase k 0) (entryFrame s j (getD N 5 0) (intValue v))) (f .0) refl
+      quiet-writes base T k (record { world = worldIn base T; objects = _; frames = _; result = none }) (getD N 5 0 + 1) 1 (putObject O (getD N 5 0) (newObject base c)) (putFrame F (frameBase k 0) (entryFrame s j (getD N 5 0) (intValue v))) (f .0) refl
       (object-made T base (newObject base c)) (first-entered T k (entryFrame s j (getD N 5 0) (intValue v)) (omega arith) (omega arith))))))
 
 -- The decision on a start of any tables
