@@ -135,6 +135,10 @@ module _ (bs : List ℕ) where
     pub quick-file : quickFile bs ≡ f
     quick-file = let e = reads-quick file-readable in cc
 
+    pub version-of : fileVersion bs ≡ f .version
+    unfolding quickFile
+    version-of = ap (λ (g : File). g .version) quick-file
+
     pub name-of : className bs ≡ f .name
     unfolding quickFile
     name-of = ap (λ (g : File). g .name) quick-file

@@ -1,10 +1,16 @@
-// A class's names and its fields, by their number.
+// A file's version, a class's names and its fields, by their number.
 use crate::FieldFound;
 ghost use mathlib.Core.Path.{_≡_};
 ghost use Prim.Native.Nat.{_≤_};
 ghost use Rattle.definition.specs.Lists.{any, indexOf};
-ghost use Rattle.classfile.specs.Reading.{className, superName, fieldCount, fieldPlace, fieldIn, quickFields, fieldsFrom};
+ghost use Rattle.classfile.specs.Reading.{fileVersion, className, superName, fieldCount, fieldPlace, fieldIn, quickFields, fieldsFrom};
 ghost use Rattle.classfile.specs.Reading.{fieldIs, fieldNamed, fieldFound};
+
+pub fn version(bytes: &[u8]) -> u8
+    ensures { λ r. ⌜ r ≡ fileVersion (now (bytes .entry)) ⌝ }
+{
+    cells::at8(bytes, 0)
+}
 
 pub fn class_name(bytes: &[u8]) -> u16
     ensures { λ r. ⌜ r ≡ className (now (bytes .entry)) ⌝ }

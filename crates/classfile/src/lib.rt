@@ -1,6 +1,6 @@
 // Class files read off any bytes. The quick functions read fixed places and check nothing, so that they are total; `reads` checks every
 // rule of a file. Of bytes that `reads` accepts the quick functions give the file that the rules give.
-mod fields; // fields.rt: a class's names and its fields, by their number
+mod fields; // fields.rt: the version, a class's names and its fields, by their number
 mod methods; // methods.rt: methods, by their number and by the place at which their record begins, and their code
 mod rules; // rules.rt: the rules of a file, one after another
 
@@ -11,6 +11,7 @@ pub use fields::field_type;
 pub use fields::find_field;
 pub use fields::has_field;
 pub use fields::super_name;
+pub use fields::version;
 pub use methods::code;
 pub use methods::find_method;
 pub use methods::is_named;

@@ -16,14 +16,14 @@ pub use Rattle.definition.specs.declared.Opcode.the-variants.{OpAconstNu
 pub use Rattle.definition.specs.declared.Instruction.{Instruction}
 pub use Rattle.definition.specs.declared.Instruction.the-variants.{AconstNull, Sipush, Load, Store, Pop, Dup, Arithmetic, Getfield, Putfield, Invokevirtual, New, Return}
 
--- The decision over opcode bytes
+-- The decision over opcode bytes, by the version of the class's file. Version 1 has these; as a file has no other version, the answer is the same for all
 
 unfoldable pub pick : {A : Type 0} → Bool → A → A → A
 pick true a b = a
 pick false a b = b
 
-unfoldable pub opcodeOf : ℕ → Opcode
-opcodeOf b =
+unfoldable pub opcodeOf : ℕ → ℕ → Opcode
+opcodeOf version b =
     pick (eqb b 0x01) OpAconstNull (pick (eqb b 0x11) OpSipush
     (pick (eqb b 0x15) (OpLoad IntKind) (pick (eqb b 0x19) (OpLoad ReferenceKind) (pick (eqb b 0x36) (OpStore IntKind) (pick (eqb b 0x3A) (OpStore ReferenceKind)
     (pick (eqb b 0x57) OpPop (pick (eqb b 0x59) OpDup (pick (eqb b 0x60) (OpArithmetic Add) (pick (eqb b 0x64) (OpArithmetic Subtract)
@@ -83,8 +83,8 @@ unfoldable pub sizedAs : ℕ → Option Instruction → Option Decoded
 sizedAs n none = none
 sizedAs n (some i) = some (record { instruction = i; size = n })
 
--- the instruction at point p of the code; none past the end, for an unknown opcode, or if the end cuts its inline bytes off
-unfoldable pub decode : List ℕ → ℕ → Option Decoded
-decode code p =
-    let o = opcodeOf (getD code p 0) in
+-- the instruction at point p of code of that version; none past the end, for an unknown opcode, or if the end cuts its inline bytes off
+unfoldable pub decode : ℕ → List ℕ → ℕ → Option Decoded
+decode version code p =
+    let o = opcodeOf version (getD code p 0) in
     elim (leb (p + suc (inlineLength o)) (length code)) [ true ↦ sizedAs (suc (inlineLength o)) (instructionOf code (p + 1) o) | false ↦ none ]

@@ -118,7 +118,7 @@ pub record Now : Type 0 where
 unfoldable pub now : World → Frame → Result Now
 now w f =
     take? (getElem? (w .base .classes) (f .class)) (Word wordStuck) >>= λ k. take? (getElem? (k .methods) (f .method)) (Word wordStuck) >>= λ m.
-    take? (decode (m .code) (f .point)) (Word wordStuck) >>= λ i. ok (record { theClass = k; method = m; at = i })
+    take? (decode (k .version) (m .code) (f .point)) (Word wordStuck) >>= λ i. ok (record { theClass = k; method = m; at = i })
 
 -- the frame past its instruction, with new operands and locals
 abbrev pub past : Frame → Decoded → List Value → List Value → Frame

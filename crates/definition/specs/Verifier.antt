@@ -111,12 +111,12 @@ returnKind (Return kind) = some kind
 unfoldable pub returns : Kind → ℕ → TypeState → Option (List Note)
 returns kind r s = meetKind kind (typeOfName r) >>= λ _. pop (s .operands) >>= λ p. meets (p .top) r
 
-module _ (code : List ℕ) (result : ℕ) where
+module _ (version : ℕ) (code : List ℕ) (result : ℕ) where
   -- the notes of the code from point p on, where the types are s; a return is the last instruction and nowhere else.
   -- Each instruction has a byte or more, so that as many steps as bytes are enough.
   unfoldable pub verify : ℕ → ℕ → TypeState → Option (List Note)
   verify zero p s = none
-  verify (suc k) p s = decode code p >>= λ i. elim (returnKind (i .instruction)) [
+  verify (suc k) p s = decode version code p >>= λ i. elim (returnKind (i .instruction)) [
     | some kind ↦ need (eqb (p + i .size) (length code)) >>= λ _. returns kind result s
     | none ↦ effect (i .instruction) s >>= λ f. verify k (p + i .size) (f .types) >>= λ ns. some (f .notes ++ ns)
   ]
@@ -126,16 +126,16 @@ module _ (code : List ℕ) (result : ℕ) where
   typesAt zero p s q = none
   typesAt (suc k) p s q = elim (eqb p q) [
     | true ↦ some s
-    | false ↦ decode code p >>= λ i. effect (i .instruction) s >>= λ f. typesAt k (p + i .size) (f .types) q
+    | false ↦ decode version code p >>= λ i. effect (i .instruction) s >>= λ f. typesAt k (p + i .size) (f .types) q
   ]
 
 -- What is said of a method: its notes, and the types at a point
 
 unfoldable pub notesOfMethod : Class → Method → Option (List Note)
-notesOfMethod k m = verify (m .code) (m .signature .result) (length (m .code)) 0 (entryTypes k m)
+notesOfMethod k m = verify (k .version) (m .code) (m .signature .result) (length (m .code)) 0 (entryTypes k m)
 
 unfoldable pub typesIn : Class → Method → ℕ → Option TypeState
-typesIn k m q = typesAt (m .code) (m .signature .result) (length (m .code)) 0 (entryTypes k m) q
+typesIn k m q = typesAt (k .version) (m .code) (m .signature .result) (length (m .code)) 0 (entryTypes k m) q
 
 -- notes in order of method, then point
 unfoldable pub notesOf : Class → List Method → Option (List Note)

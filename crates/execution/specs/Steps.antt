@@ -24,8 +24,8 @@ use Rattle.layout.specs.Whole.{All, Listed, Frames}
 use Rattle.layout.specs.Unbroken.{Unbroken, unbroken}
 use Rattle.layout.specs.ReadBack.{size-small}
 use Rattle.layout.specs.View.{countAt, frames-top}
-use Rattle.classfile.specs.Reading.{methodCount, methodPlace, codeLength, codeAt, methodAt, methodIn, quickMethods, partOf}
-use Rattle.resolution.specs.Quick.{quickBase, quickOf, fileIn, loaderIn, loader-quick, methods-quick}
+use Rattle.classfile.specs.Reading.{fileVersion, methodCount, methodPlace, codeLength, codeAt, methodAt, methodIn, quickMethods, partOf}
+use Rattle.resolution.specs.Quick.{quickBase, quickOf, fileIn, loaderIn, versionOf, loader-quick, methods-quick, version-quick}
 use Rattle.resolution.specs.Unbroken.{quick-base, row-first, row-other}
 use Rattle.execution.specs.Decisions.{Usable, Acted}
 use Rattle.verifier.specs.declared.decoding.Reading.{Reading}
@@ -46,52 +46,52 @@ use Rattle.execution.specs.Carried.{Ready}
 unfoldable pub codeOf : Base → Frame → List ℕ
 codeOf b f = codeIn (methodsOf b (f .class)) (f .method)
 
-decode-nothing : (p : ℕ) → decode [] p ≡ none
+decode-nothing : (v p : ℕ) → decode v [] p ≡ none
 unfolding decode
-decode-nothing p = rw (lt-leb (p + suc (inlineLength (opcodeOf 0))) 0 (omega arith), decode)
+decode-nothing v p = rw (lt-leb (p + suc (inlineLength (opcodeOf v 0))) 0 (omega arith), decode)
 
 module _ (w : World) (os : List Object) (f : Frame) (fs : List Frame) where
   -- no instruction can be read
-  pub step-unreadable : decode (codeOf (w .base) f) (f .point) ≡ none → step w os f fs ≡ refused (Word 14)
-  unfolding step now take? _>>=_ codeOf codeIn methodsOf
+  pub step-unreadable : decode (versionOf (w .base) (f .class)) (codeOf (w .base) f) (f .point) ≡ none → step w os f fs ≡ refused (Word 14)
+  unfolding step now take? _>>=_ codeOf codeIn methodsOf versionOf
   step-unreadable h = class (getElem? (w .base .classes) (f .class)) h
     where
       finish : Now → Result Progress
       finish n = execute w os f fs (n .theClass) (n .at) (n .at .instruction)
 
-      method : (k : Class) (o : Option Method) → decode (elim o as (λ _. List ℕ) [ none ↦ [] | some m ↦ m .code ]) (f .point) ≡ none
-          → ((take? o (Word 14) >>= λ m. take? (decode (m .code) (f .point)) (Word 14) >>= λ i. ok (record { theClass = k; method = m; at = i })) >>= finish) ≡ refused (Word 14)
+      method : (k : Class) (o : Option Method) → decode (k .version) (elim o as (λ _. List ℕ) [ none ↦ [] | some m ↦ m .code ]) (f .point) ≡ none
+          → ((take? o (Word 14) >>= λ m. take? (decode (k .version) (m .code) (f .point)) (Word 14) >>= λ i. ok (record { theClass = k; method = m; at = i })) >>= finish) ≡ refused (Word 14)
       method k none e = refl
       method k (some m) e = rw e
 
       class : (o : Option Class)
-          → decode (elim (getElem? {A = Method} (elim o as (λ _. List Method) [ none ↦ [] | some k ↦ k .methods ]) (f .method)) as (λ _. List ℕ) [ none ↦ [] | some m ↦ m .code ]) (f .point) ≡ none
+          → decode (elim o as (λ _. ℕ) [ none ↦ 0 | some k ↦ k .version ]) (elim (getElem? {A = Method} (elim o as (λ _. List Method) [ none ↦ [] | some k ↦ k .methods ]) (f .method)) as (λ _. List ℕ) [ none ↦ [] | some m ↦ m .code ]) (f .point) ≡ none
           → ((take? o (Word 14) >>= λ k. take? (getElem? (k .methods) (f .method)) (Word 14) >>= λ m.
-          take? (decode (m .code) (f .point)) (Word 14) >>= λ i. ok (record { theClass = k; method = m; at = i })) >>= finish) ≡ refused (Word 14)
+          take? (decode (k .version) (m .code) (f .point)) (Word 14) >>= λ i. ok (record { theClass = k; method = m; at = i })) >>= finish) ≡ refused (Word 14)
       class none e = refl
       class (some k) e = method k (getElem? (k .methods) (f .method)) e
 
   -- the instruction that is read, of a class with the frame class's loader
-  pub step-readable : (i : Decoded) → decode (codeOf (w .base) f) (f .point) ≡ some i
+  pub step-readable : (i : Decoded) → decode (versionOf (w .base) (f .class)) (codeOf (w .base) f) (f .point) ≡ some i
       → (k : Class) × (k .loader ≡ loaderOf (w .base) (f .class)) × (step w os f fs ≡ execute w os f fs k i (i .instruction))
-  unfolding step now take? _>>=_ codeOf codeIn methodsOf loaderOf
+  unfolding step now take? _>>=_ codeOf codeIn methodsOf versionOf loaderOf
   step-readable i h = class (getElem? (w .base .classes) (f .class)) h
     where
       finish : Now → Result Progress
       finish n = execute w os f fs (n .theClass) (n .at) (n .at .instruction)
 
-      method : (k : Class) (o : Option Method) → decode (elim o as (λ _. List ℕ) [ none ↦ [] | some m ↦ m .code ]) (f .point) ≡ some i
-          → ((take? o (Word 14) >>= λ m. take? (decode (m .code) (f .point)) (Word 14) >>= λ i. ok (record { theClass = k; method = m; at = i })) >>= finish)
+      method : (k : Class) (o : Option Method) → decode (k .version) (elim o as (λ _. List ℕ) [ none ↦ [] | some m ↦ m .code ]) (f .point) ≡ some i
+          → ((take? o (Word 14) >>= λ m. take? (decode (k .version) (m .code) (f .point)) (Word 14) >>= λ i. ok (record { theClass = k; method = m; at = i })) >>= finish)
           ≡ execute w os f fs k i (i .instruction)
-      method k none e = absurd (Option·none-ne-some i (sym (decode-nothing (f .point)) ∙ e))
+      method k none e = absurd (Option·none-ne-some i (sym (decode-nothing (k .version) (f .point)) ∙ e))
       method k (some m) e = rw e
 
       class : (o : Option Class)
-          → decode (elim (getElem? {A = Method} (elim o as (λ _. List Method) [ none ↦ [] | some k ↦ k .methods ]) (f .method)) as (λ _. List ℕ) [ none ↦ [] | some m ↦ m .code ]) (f .point) ≡ some i
+          → decode (elim o as (λ _. ℕ) [ none ↦ 0 | some k ↦ k .version ]) (elim (getElem? {A = Method} (elim o as (λ _. List Method) [ none ↦ [] | some k ↦ k .methods ]) (f .method)) as (λ _. List ℕ) [ none ↦ [] | some m ↦ m .code ]) (f .point) ≡ some i
           → (k : Class) × (k .loader ≡ (elim o as (λ _. ℕ) [ none ↦ 0 | some k ↦ k .loader ]))
           × (((take? o (Word 14) >>= λ k. take? (getElem? (k .methods) (f .method)) (Word 14) >>= λ m.
-          take? (decode (m .code) (f .point)) (Word 14) >>= λ i. ok (record { theClass = k; method = m; at = i })) >>= finish) ≡ execute w os f fs k i (i .instruction))
-      class none e = absurd (Option·none-ne-some i (sym (decode-nothing (f .point)) ∙ e))
+          take? (decode (k .version) (m .code) (f .point)) (Word 14) >>= λ i. ok (record { theClass = k; method = m; at = i })) >>= finish) ≡ execute w os f fs k i (i .instruction))
+      class none e = absurd (Option·none-ne-some i (sym (decode-nothing 0 (f .point)) ∙ e))
       class (some k) e = (k, refl, method k (getElem? (k .methods) (f .method)) e)
 
 -- What is known of tables that are not broken
@@ -185,27 +185,27 @@ file-length N L K c = go (ltb c (getD N 0 0))
     go true = part (classRowAt L c .start) (classRowAt L c .size) (leb (classRowAt L c .start + classRowAt L c .size) (length K))
     go false = omega arith
 
-pub decode-within : (code : List ℕ) (p : ℕ) (i : Decoded) → decode code p ≡ some i → p + i .size ≤ length code
+pub decode-within : (v : ℕ) (code : List ℕ) (p : ℕ) (i : Decoded) → decode v code p ≡ some i → p + i .size ≤ length code
 unfolding decode
-decode-within code p i h = go (leb (p + suc (inlineLength (opcodeOf (getD code p 0)))) (length code)) refl h
+decode-within v code p i h = go (leb (p + suc (inlineLength (opcodeOf v (getD code p 0)))) (length code)) refl h
   where
     n : ℕ
-    n = suc (inlineLength (opcodeOf (getD code p 0)))
+    n = suc (inlineLength (opcodeOf v (getD code p 0)))
 
     sized : (o : Option Instruction) → sizedAs n o ≡ some i → i .size ≡ n
     sized none e = unfold sizedAs in absurd (Option·none-ne-some i e)
     sized (some x) e = unfold sizedAs in ap (λ (d : Decoded). d .size) (sym (Option·some-injective (record { instruction = x; size = n }) i e))
 
     go : (u : Bool) → leb (p + n) (length code) ≡ u
-        → (elim u as (λ _. Option Decoded) [ true ↦ sizedAs n (instructionOf code (p + 1) (opcodeOf (getD code p 0))) | false ↦ none ]) ≡ some i → p + i .size ≤ length code
-    go true e q = omega (arith, leb-true (p + n) (length code) e, sized (instructionOf code (p + 1) (opcodeOf (getD code p 0))) q)
+        → (elim u as (λ _. Option Decoded) [ true ↦ sizedAs n (instructionOf code (p + 1) (opcodeOf v (getD code p 0))) | false ↦ none ]) ≡ some i → p + i .size ≤ length code
+    go true e q = omega (arith, leb-true (p + n) (length code) e, sized (instructionOf code (p + 1) (opcodeOf v (getD code p 0))) q)
     go false e q = absurd (Option·none-ne-some i q)
 
 -- so the next point is a number of 32 bits
-pub next-small : (N L K : List ℕ) (c j p : ℕ) (i : Decoded) → length K ≡ 16384 → decode (codeIn (quickMethods (fileIn N L K c)) j) p ≡ some i → p + i .size < 4294967296
-next-small N L K c j p i e h = omega (
+pub next-small : (N L K : List ℕ) (v c j p : ℕ) (i : Decoded) → length K ≡ 16384 → decode v (codeIn (quickMethods (fileIn N L K c)) j) p ≡ some i → p + i .size < 4294967296
+next-small N L K v c j p i e h = omega (
   arith,
-  decode-within (codeIn (quickMethods (fileIn N L K c)) j) p i h,
+  decode-within v (codeIn (quickMethods (fileIn N L K c)) j) p i h,
   code-length (fileIn N L K c) j,
   file-length N L K c,
 )
@@ -247,18 +247,22 @@ module _ (N L K E I S O F : List ℕ) (whole : broken (tables N L K E I S O F) �
   ready : (x : Posting) (p : Plan) → getD N 3 0 + length (toPost x) ≤ 256 → Quiet (toPost x) p → Fit B T k m p → Ready B T k m b (toPost x) p
   ready x p l h f = record { two = two; count = count; low = row-low T whole k m two count; row = row; ties = l; quiet = h; fits = f }
 
-  -- the code that is read is the frame's
+  -- the code that is read is the frame's, and the version its class's
   code-read : (c j : ℕ) → c ≡ getD F b 0 → j ≡ getD F (b + 1) 0 → codeIn (quickMethods (fileIn N L K c)) j ≡ codeOf B (frameIn F k m)
   unfolding codeOf frameIn frameAt frameOf
   code-read c j e f = rw (e, f, row, methods-quick N L K E (getD F (frameBase k m) 0))
 
-  module _ (c j p : ℕ) (code : List ℕ) (class : c ≡ getD F b 0) (method : j ≡ getD F (b + 1) 0) (point : p ≡ getD F (b + 2) 0)
-      (source : code ≡ codeIn (quickMethods (fileIn N L K c)) j) where
-    here : decode (codeOf B (frameIn F k m)) (frameIn F k m .point) ≡ decode code p
-    unfolding frameIn frameAt frameOf
-    here = rw (source, code-read c j class method, point, row)
+  version-read : (c : ℕ) → c ≡ getD F b 0 → fileVersion (fileIn N L K c) ≡ versionOf B (frameIn F k m .class)
+  unfolding frameIn frameAt frameOf
+  version-read c e = rw (e, row, version-quick N L K E (getD F (frameBase k m) 0))
 
-    pub chosen-unreadable : (q : ℕ) → decode code p ≡ none → Chosen N L K E I S O F k m b Nothing (Refuse (Word 14)) q
+  module _ (c j p v : ℕ) (code : List ℕ) (class : c ≡ getD F b 0) (method : j ≡ getD F (b + 1) 0) (point : p ≡ getD F (b + 2) 0)
+      (source : code ≡ codeIn (quickMethods (fileIn N L K c)) j) (version : v ≡ fileVersion (fileIn N L K c)) where
+    here : decode (versionOf B (frameIn F k m .class)) (codeOf B (frameIn F k m)) (frameIn F k m .point) ≡ decode v code p
+    unfolding frameIn frameAt frameOf
+    here = rw (version, version-read c class, source, code-read c j class method, point, row)
+
+    pub chosen-unreadable : (q : ℕ) → decode v code p ≡ none → Chosen N L K E I S O F k m b Nothing (Refuse (Word 14)) q
     unfolding meaning toPost
     chosen-unreadable q h = record {
       says = sym (step-unreadable (worldIn B T) (objectsOf B T) (frameIn F k m) (stack (frameIn F k) m) (here ∙ h));
@@ -266,10 +270,10 @@ module _ (N L K E I S O F : List ℕ) (whole : broken (tables N L K E I S O F) �
     }
 
     -- the point after the instruction is a number of 32 bits
-    pub next-fits : (i : Instruction) (n : ℕ) → decode code p ≡ some (decoded i n) → p + n < 4294967296
-    next-fits i n h = next-small N L K c j p (decoded i n) (unbroken T whole .lengths .kept) (rw (← source) h)
+    pub next-fits : (i : Instruction) (n : ℕ) → decode v code p ≡ some (decoded i n) → p + n < 4294967296
+    next-fits i n h = next-small N L K v c j p (decoded i n) (unbroken T whole .lengths .kept) (rw (← source) h)
 
-    pub chosen : (i : Instruction) (n d loader : ℕ) (x : Posting) (r : Plan) → decode code p ≡ some (decoded i n) → d ≡ getD F (b + 3) 0 → loader ≡ loaderIn N L c
+    pub chosen : (i : Instruction) (n d loader : ℕ) (x : Posting) (r : Plan) → decode v code p ≡ some (decoded i n) → d ≡ getD F (b + 3) 0 → loader ≡ loaderIn N L c
         → Acted N L K E I S O F k m b d loader i x r → Chosen N L K E I S O F k m b x r (p + n)
     chosen i n d loader x r h e l a =
         let s = step-readable (worldIn B T) (objectsOf B T) (frameIn F k m) (stack (frameIn F k) m) (decoded i n) (here ∙ h) in

@@ -166,7 +166,8 @@ pub(crate) fn choose(
     let c = frames::frame_class(frames, b);
     let p = frames::point(frames, b);
     let code = resolution::method_code(counts, classes, kept, c, frames::frame_method(frames, b));
-    let Reading::At(i, n) = verifier::decode(code, cells::wide32(p)) else {
+    let version = resolution::version_of(counts, classes, kept, c);
+    let Reading::At(i, n) = verifier::decode(version, code, cells::wide32(p)) else {
         return Choice {
             posting: Posting::Nothing,
             plan: instructions::refuse(WORD_STUCK),

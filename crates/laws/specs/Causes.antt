@@ -140,7 +140,7 @@ isEmpty (x ∷ xs) = false
 unfoldable pub reading : World → Frame → Option Now
 reading w f =
     getElem? (w .base .classes) (f .class) >>= λ k. getElem? (k .methods) (f .method) >>= λ m.
-    decode (m .code) (f .point) >>= λ i. some (record { theClass = k; method = m; at = i })
+    decode (k .version) (m .code) (f .point) >>= λ i. some (record { theClass = k; method = m; at = i })
 
 -- no room for one operand more, and none in the frame below for a result
 unfoldable pub noRoom : List Value → Bool

@@ -16,19 +16,19 @@ unfolding sizedAs
 sized-as n none i e = absurd (Option·none-ne-some i e)
 sized-as n (some j) i e = let z : suc n ≡ i .size = ap (λ (d : Decoded). d .size) (Option·some-injective _ _ e) in omega arith
 
-pub within : (s : List ℕ) (p : ℕ) (i : Decoded) → decode s p ≡ some i → p < length s
+pub within : (v : ℕ) (s : List ℕ) (p : ℕ) (i : Decoded) → decode v s p ≡ some i → p < length s
 unfolding decode
-within s p i h = go (leb (p + suc (inlineLength (opcodeOf (getD s p 0)))) (length s)) refl h
+within v s p i h = go (leb (p + suc (inlineLength (opcodeOf v (getD s p 0)))) (length s)) refl h
   where
-    go : (t : Bool) → leb (p + suc (inlineLength (opcodeOf (getD s p 0)))) (length s) ≡ t
-        → (elim t as (λ _. Option Decoded) [ true ↦ sizedAs (suc (inlineLength (opcodeOf (getD s p 0)))) (instructionOf s (p + 1) (opcodeOf (getD s p 0))) | false ↦ none ]) ≡ some i → p < length s
-    go true q e = let l = leb-true (p + suc (inlineLength (opcodeOf (getD s p 0)))) (length s) q in omega arith
+    go : (t : Bool) → leb (p + suc (inlineLength (opcodeOf v (getD s p 0)))) (length s) ≡ t
+        → (elim t as (λ _. Option Decoded) [ true ↦ sizedAs (suc (inlineLength (opcodeOf v (getD s p 0)))) (instructionOf s (p + 1) (opcodeOf v (getD s p 0))) | false ↦ none ]) ≡ some i → p < length s
+    go true q e = let l = leb-true (p + suc (inlineLength (opcodeOf v (getD s p 0)))) (length s) q in omega arith
     go false q e = absurd (Option·none-ne-some i e)
 
-pub sized : (s : List ℕ) (p : ℕ) (i : Decoded) → decode s p ≡ some i → 0 < i .size
+pub sized : (v : ℕ) (s : List ℕ) (p : ℕ) (i : Decoded) → decode v s p ≡ some i → 0 < i .size
 unfolding decode
-sized s p i h = go (leb (p + suc (inlineLength (opcodeOf (getD s p 0)))) (length s)) h
+sized v s p i h = go (leb (p + suc (inlineLength (opcodeOf v (getD s p 0)))) (length s)) h
   where
-    go : (t : Bool) → (elim t as (λ _. Option Decoded) [ true ↦ sizedAs (suc (inlineLength (opcodeOf (getD s p 0)))) (instructionOf s (p + 1) (opcodeOf (getD s p 0))) | false ↦ none ]) ≡ some i → 0 < i .size
+    go : (t : Bool) → (elim t as (λ _. Option Decoded) [ true ↦ sizedAs (suc (inlineLength (opcodeOf v (getD s p 0)))) (instructionOf s (p + 1) (opcodeOf v (getD s p 0))) | false ↦ none ]) ≡ some i → 0 < i .size
     go true e = sized-as _ _ i e
     go false e = absurd (Option·none-ne-some i e)

@@ -71,6 +71,10 @@ fileIn counts classes kept c =
 unfoldable pub loaderIn : List ℕ → List ℕ → ℕ → ℕ
 loaderIn counts classes c = elim (ltb c (getD counts 0 0)) [ true ↦ classRowAt classes c .loader | false ↦ 0 ]
 
+-- the version of class number c of a base, 0 if there is no such class
+unfoldable pub versionOf : Base → ℕ → ℕ
+versionOf b c = elim (getElem? (b .classes) c) [ none ↦ 0 | some k ↦ k .version ]
+
 -- a number that is below n, and one that is not
 pub either : {A : Type 0} (c n : ℕ) → (c < n → A) → (n ≤ c → A) → A
 either {A} c n f g = go (ltb c n) refl
@@ -167,6 +171,17 @@ module _ (counts classes kept cache : List ℕ) where
 
   pub loader-quick : (c : ℕ) → loaderOf b c ≡ loaderIn counts classes c
   loader-quick c = either c (getD counts 0 0) (loader-there c) (loader-past c)
+
+  version-there : (c : ℕ) → c < getD counts 0 0 → versionOf b c ≡ fileVersion (file c)
+  unfolding quickClass versionOf
+  version-there c h = rw (class-there c h, versionOf, file-there counts classes kept c h)
+
+  version-past : (c : ℕ) → getD counts 0 0 ≤ c → versionOf b c ≡ fileVersion (file c)
+  unfolding versionOf fileVersion
+  version-past c h = rw (class-past c h, versionOf, file-past counts classes kept c h)
+
+  pub version-quick : (c : ℕ) → versionOf b c ≡ fileVersion (file c)
+  version-quick c = either c (getD counts 0 0) (version-there c) (version-past c)
 
   -- What a class declares
 

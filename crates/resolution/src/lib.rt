@@ -1,7 +1,7 @@
 // Lookups on the tables: the class that a request is cached as, what lies upward of a class, its fields and its methods. Each is total and
 // reads classes off the kept files without checking them, over `quickBase`, which on a store that isn't broken is the definition's.
 mod cache; // cache.rt: the class that a request is cached as
-mod classes; // classes.rt: classes by their number: loader, file, name, superclass
+mod classes; // classes.rt: classes by their number: loader, file, version, name, superclass
 mod fields; // fields.rt: fields upward of a class, and the fields of its objects
 mod methods; // methods.rt: methods upward of a class, and their code
 
@@ -13,6 +13,7 @@ pub use classes::is_class;
 pub use classes::loader_of;
 pub use classes::name_of;
 pub use classes::super_of;
+pub use classes::version_of;
 pub use fields::has_slot;
 pub use fields::inherited;
 pub use fields::nearest_field;

@@ -73,7 +73,7 @@ module _ (w : World) (os : List Object) (lk : Linked w) where
   point-in f k m τ t =
       let v = lk .verified (f .class) (f .method) k m (t .isClass) (t .isMethod) in
       let kn = known k m (v .notes) (v .passes) (f .point) τ (t .types) in
-      within (m .code) (f .point) (kn .at) (kn .reads)
+      within (k .version) (m .code) (f .point) (kn .at) (kn .reads)
 
   frame-placed : (waits : Bool) (f : Frame) (k : Class) (m : Method) (τ : TypeState) (ts : List VerifierType) → Typed w f k m τ → waitingTypes waits (τ .operands) ≡ some ts
       → Each (Conforms w os (k .loader)) ts (f .operands) → Each (Local w os (k .loader)) (τ .locals) (f .locals) → misplacedInFrame w os waits f ≡ 0

@@ -314,7 +314,7 @@ module _ (w : World) (os : List Object) (f : Frame) (fs : List Frame) (k : Class
       let kn = known k m (ve .notes) (ve .passes) (f .point) (tp .τ) (t .types) in
       wp-bind (Kept w os) _ _ (wp-there _ _ _ _ (t .isClass) (wp-there _ _ _ _ (t .isMethod) (wp-there _ _ _ _ (kn .reads) (go ve kn))))
     where
-      go : (ve : Verified w k m) (kn : Known (m .code) (m .signature .result) (typesIn k m) (ve .notes) (f .point) (tp .τ)) → Wp (execute w os f fs k (kn .at) (kn .at .instruction)) (Kept w os)
+      go : (ve : Verified w k m) (kn : Known (k .version) (m .code) (m .signature .result) (typesIn k m) (ve .notes) (f .point) (tp .τ)) → Wp (execute w os f fs k (kn .at) (kn .at .instruction)) (Kept w os)
       go ve kn = elim (kn .way) [
         | inl a ↦ each-ret w os f fs k m lk hp tp un (kn .at) (a .made) (λ n x. ve .posted n (a .posted n x)) (kn .at .instruction) (a .kind) (a .is) (a .does)
         | inr a ↦ each-ins (kn .at) (a .flows) (a .next) (λ n x. ve .posted n (a .posted n x)) (kn .at .instruction) (a .does)

@@ -26,7 +26,7 @@ use Rattle.unbroken.specs.First.{found, applied, first-applies}
 notes-same : (l : ℕ) (f : File) (ms : List Method) → notesOf (classOf l f) ms ≡ notesOf (classOf 0 f) ms
 unfolding notesOf
 notes-same l f [] = refl
-notes-same l f (m ∷ ms) = rw (notes-by-name (classOf l f) (classOf 0 f) m refl, notes-same l f ms) refl
+notes-same l f (m ∷ ms) = rw (notes-by-name (classOf l f) (classOf 0 f) m refl refl, notes-same l f ms) refl
 
 module _ (l : ℕ) (bs : List ℕ) (t : Tables) where
   module _ (h : broken t ≡ false) (small : l < 16) where

@@ -79,7 +79,7 @@ now-sized w f n e =
     let a = bind-ok _ _ e in
     let b = bind-ok _ _ (a .2) in
     let c = bind-ok _ _ (b .2) in
-    rw (sym (ap (λ (y : Now). y .at) (ok-inj (c .2)))) (sized (b .0 .code) (f .point) (c .0) (take-ok _ _ (c .1)))
+    rw (sym (ap (λ (y : Now). y .at) (ok-inj (c .2)))) (sized (a .0 .version) (b .0 .code) (f .point) (c .0) (take-ok _ _ (c .1)))
 
 pub step-advances : (w : World) (os : List Object) (f : Frame) (fs : List Frame) → Ok (step w os f fs) (Advances os (f ∷ fs))
 unfolding step

@@ -139,11 +139,11 @@ module _ (end : ℕ) (walk : ℕ → TypeState → Trace) (bound : (q : ℕ) (u 
 
 -- an instruction that was decoded
 decoded-sparing :
-    (code : List ℕ) (p : ℕ) (s : TypeState) (d : Decoded) → decode code p ≡ some d → Sparing (d .size) s (d .instruction)
-decoded-sparing code p s d e =
-    subst (λ n. Sparing n s (d .instruction)) (sym (decode-size code p d e))
-    (subst (λ m. Spare (suc (inlineLength (opcodeOf (getD code p 0)))) s m) (decode-instruction code p d e)
-    (sparing code (p + 1) s (opcodeOf (getD code p 0))))
+    (version : ℕ) (code : List ℕ) (p : ℕ) (s : TypeState) (d : Decoded) → decode version code p ≡ some d → Sparing (d .size) s (d .instruction)
+decoded-sparing version code p s d e =
+    subst (λ n. Sparing n s (d .instruction)) (sym (decode-size version code p d e))
+    (subst (λ m. Spare (suc (inlineLength (opcodeOf version (getD code p 0)))) s m) (decode-instruction version code p d e)
+    (sparing code (p + 1) s (opcodeOf version (getD code p 0))))
 
 -- and whether it is a return
 module _ (code : List ℕ) (p result : ℕ) (s : TypeState) (walk : ℕ → TypeState → Trace)
@@ -156,20 +156,20 @@ module _ (code : List ℕ) (p result : ℕ) (s : TypeState) (walk : ℕ → Type
     by-return n i b none h k = few-goes (length code) walk bound p n b h (effect i s) (k .flows)
 
     decoded-few :
-        (d : Option Decoded) → decode code p ≡ d → p ≤ length code →
+        (version : ℕ) (d : Option Decoded) → decode version code p ≡ d → p ≤ length code →
         p + length (onto (length code) walk bound (turnedBy code result p s d)) ≤ length code
     unfolding turnedBy outcome onto after onward
-    decoded-few none e h = omega arith
-    decoded-few (some d) e h =
-        by-return (d .size) (d .instruction) (eqb (p + d .size) (length code)) (returnKind (d .instruction)) (decode-within code p d e .0) (decoded-sparing code p s d e)
+    decoded-few version none e h = omega arith
+    decoded-few version (some d) e h =
+        by-return (d .size) (d .instruction) (eqb (p + d .size) (length code)) (returnKind (d .instruction)) (decode-within version code p d e .0) (decoded-sparing version code p s d e)
 
-module _ (code : List ℕ) (result : ℕ) where
-  pub trace-few : (k p : ℕ) (s : TypeState) → p ≤ length code → p + length (trace code result k p s .notes) ≤ length code
+module _ (version : ℕ) (code : List ℕ) (result : ℕ) where
+  pub trace-few : (k p : ℕ) (s : TypeState) → p ≤ length code → p + length (trace version code result k p s .notes) ≤ length code
   unfolding trace turned onto
   trace-few zero p s h = omega arith
-  trace-few (suc k) p s h = decoded-few code p result s (trace code result k) (trace-few k) (decode code p) refl h
+  trace-few (suc k) p s h = decoded-few code p result s (trace version code result k) (trace-few k) version (decode version code p) refl h
 
 -- a method makes no more notes than its code has bytes
-pub notes-few : (own : ℕ) (s : Signature) (code : List ℕ) → length (methodTrace own s code .notes) ≤ length code
+pub notes-few : (version own : ℕ) (s : Signature) (code : List ℕ) → length (methodTrace version own s code .notes) ≤ length code
 unfolding methodTrace
-notes-few own s code = omega (arith, trace-few code (s .result) (length code) 0 (entryOf own s) (omega arith))
+notes-few version own s code = omega (arith, trace-few version code (s .result) (length code) 0 (entryOf own s) (omega arith))

@@ -73,11 +73,11 @@ module _ (rest : ℕ → TypeState → Option (List Note)) (walk : ℕ → TypeS
   says-read code result p s (some i) =
       says-kind (p + i .size) (eqb (p + i .size) (length code)) (returnKind (i .instruction)) (λ kind. returns kind result s) (effect (i .instruction) s)
 
-module _ (code : List ℕ) (result : ℕ) where
-  pub says : (k p : ℕ) (s : TypeState) → verify code result k p s ≡ acceptedNotes (trace code result k p s)
+module _ (version : ℕ) (code : List ℕ) (result : ℕ) where
+  pub says : (k p : ℕ) (s : TypeState) → verify version code result k p s ≡ acceptedNotes (trace version code result k p s)
   unfolding verify trace turned through acceptedNotes granted
   says zero p s = refl
-  says (suc k) p s = says-read (verify code result k) (trace code result k) (says k) code result p s (decode code p)
+  says (suc k) p s = says-read (verify version code result k) (trace version code result k) (says k) code result p s (decode version code p)
 
 -- The walk turn by turn, with its notes written as it goes
 
@@ -94,47 +94,47 @@ recorded-after from c ns w t =
     let f : c + length (ns ++ w .notes) ≡ c + length ns + length (w .notes) = omega (arith, length-append ns (w .notes)) in
     rw (e, f, rows-parts note-rows ns (w .notes) (from + c) t)
 
-pub out-of-turns : (code : List ℕ) (result left p i c : ℕ) (s : TypeState) (t : List ℕ) → left ≤ 0 → recorded i c (trace code result left p s) t ≡ verification Rejected t
+pub out-of-turns : (version : ℕ) (code : List ℕ) (result left p i c : ℕ) (s : TypeState) (t : List ℕ) → left ≤ 0 → recorded i c (trace version code result left p s) t ≡ verification Rejected t
 unfolding recorded trace pick writeRows
-out-of-turns code result left p i c s t h = let e : left ≡ 0 = omega arith in rw e
+out-of-turns version code result left p i c s t h = let e : left ≡ 0 = omega arith in rw e
 
 -- the walk after a turn
-next : List ℕ → ℕ → ℕ → Turn → Trace
-next code result left r = onward (nextOf (r .step) (typesOf (r .types))) (λ q x. trace code result left q x)
+next : ℕ → List ℕ → ℕ → ℕ → Turn → Trace
+next version code result left r = onward (nextOf (r .step) (typesOf (r .types))) (λ q x. trace version code result left q x)
 
 module _
-    (code : List ℕ) (result left p from c n : ℕ) (s : TypeState) (t u : List ℕ) (r : Turn) (more : 0 < left)
-    (e : turnOf r ≡ turned code result p s) (w : Wrote (made (r .receiver) ++ made (r .value)) (from + c) t u n)
+    (version : ℕ) (code : List ℕ) (result left p from c n : ℕ) (s : TypeState) (t u : List ℕ) (r : Turn) (more : 0 < left)
+    (e : turnOf r ≡ turned version code result p s) (w : Wrote (made (r .receiver) ++ made (r .value)) (from + c) t u n)
   where
-    trace-turn : trace code result left p s ≡ after (made (r .receiver) ++ made (r .value)) (next code result (left - 1) r)
+    trace-turn : trace version code result left p s ≡ after (made (r .receiver) ++ made (r .value)) (next version code result (left - 1) r)
     unfolding trace turnOf next
     trace-turn =
         let one : left ≡ suc (left - 1) = omega arith in
-        ap (λ m. trace code result m p s) one
-        ∙ ap (λ (d : Turned). after (d .notes) (onward (d .next) (λ q x. trace code result (left - 1) q x))) (sym e)
+        ap (λ m. trace version code result m p s) one
+        ∙ ap (λ (d : Turned). after (d .notes) (onward (d .next) (λ q x. trace version code result (left - 1) q x))) (sym e)
 
-    walked : recorded (from + c) c (trace code result left p s) t ≡ recorded (from + (c + n)) (c + n) (next code result (left - 1) r) u
-    walked = rw (w .count, w .table, trace-turn) (recorded-after from c (made (r .receiver) ++ made (r .value)) (next code result (left - 1) r) t)
+    walked : recorded (from + c) c (trace version code result left p s) t ≡ recorded (from + (c + n)) (c + n) (next version code result (left - 1) r) u
+    walked = rw (w .count, w .table, trace-turn) (recorded-after from c (made (r .receiver) ++ made (r .value)) (next version code result (left - 1) r) t)
 
-    pub walk-stops : r .step ≡ Stop → recorded (from + c) c (trace code result left p s) t ≡ verification Rejected u
+    pub walk-stops : r .step ≡ Stop → recorded (from + c) c (trace version code result left p s) t ≡ verification Rejected u
     unfolding next nextOf onward recorded pick writeRows
     walk-stops h = walked ∙ rw h
 
-    pub walk-ends : r .step ≡ End → recorded (from + c) c (trace code result left p s) t ≡ verification (Notes (c + n)) u
+    pub walk-ends : r .step ≡ End → recorded (from + c) c (trace version code result left p s) t ≡ verification (Notes (c + n)) u
     unfolding next nextOf onward recorded pick writeRows
     walk-ends h = let z : c + n + 0 ≡ c + n = omega arith in walked ∙ rw (h, z)
 
     pub walk-goes :
         (q : ℕ) → r .step ≡ Next q →
-        recorded (from + c) c (trace code result left p s) t ≡ recorded (from + (c + n)) (c + n) (trace code result (left - 1) q (typesOf (r .types))) u
+        recorded (from + c) c (trace version code result left p s) t ≡ recorded (from + (c + n)) (c + n) (trace version code result (left - 1) q (typesOf (r .types))) u
     unfolding next nextOf onward
     walk-goes q h = walked ∙ rw h
 
 -- For callers: what the verifier says of a method, by the answer and the table
 
-pub method-says : (k : Class) (m : Method) → notesOfMethod k m ≡ acceptedNotes (methodTrace (k .name) (m .signature) (m .code))
+pub method-says : (k : Class) (m : Method) → notesOfMethod k m ≡ acceptedNotes (methodTrace (k .version) (k .name) (m .signature) (m .code))
 unfolding methodTrace entryOf notesOfMethod
-method-says k m = says (m .code) (m .signature .result) (length (m .code)) 0 (entryTypes k m)
+method-says k m = says (k .version) (m .code) (m .signature .result) (length (m .code)) 0 (entryTypes k m)
 
 module _ (from : ℕ) (w : Trace) (t u : List ℕ) where
   -- the notes are in the table, whatever the answer

@@ -178,19 +178,19 @@ module _ (types : Types) (d i t : ℕ) where
 
 -- One turn, by what decoding answers
 
-module _ (code : List ℕ) (p : ℕ) (r : Reading) (e : r ≡ readingOf (decode code p)) where
-  pub turned-none : (result : ℕ) (s : TypeState) → r ≡ Unreadable → turned code result p s ≡ halted
+module _ (version : ℕ) (code : List ℕ) (p : ℕ) (r : Reading) (e : r ≡ readingOf (decode version code p)) where
+  pub turned-none : (result : ℕ) (s : TypeState) → r ≡ Unreadable → turned version code result p s ≡ halted
   unfolding turned turnedBy decodedOf
-  turned-none result s h = rw (decode-is (decode code p) r e, h)
+  turned-none result s h = rw (decode-is (decode version code p) r e, h)
 
   module _ (i : Instruction) (n : ℕ) (h : r ≡ At i n) where
-    decode-at : decode code p ≡ some (record { instruction = i; size = n })
+    decode-at : decode version code p ≡ some (record { instruction = i; size = n })
     unfolding decodedOf
-    decode-at = decode-is (decode code p) r e ∙ rw h
+    decode-at = decode-is (decode version code p) r e ∙ rw h
 
-    pub turned-at : (result : ℕ) (s : TypeState) → turned code result p s ≡ settle (p + n) (eqb (p + n) (length code)) (outcome i result s)
+    pub turned-at : (result : ℕ) (s : TypeState) → turned version code result p s ≡ settle (p + n) (eqb (p + n) (length code)) (outcome i result s)
     unfolding turned turnedBy
     turned-at result s = rw decode-at
 
     pub at-within : p + n ≤ length code
-    at-within = decode-within code p (record { instruction = i; size = n }) decode-at .0
+    at-within = decode-within version code p (record { instruction = i; size = n }) decode-at .0

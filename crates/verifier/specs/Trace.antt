@@ -12,7 +12,7 @@ use Rattle.definition.specs.Lists.{writeRows}
 use Rattle.definition.specs.Maybe.{_>>=_}
 use Rattle.definition.specs.Classes.{Method}
 use Rattle.definition.specs.Verifier.{Note, TypeState, Flow}
-use Rattle.classfile.specs.Reading.{className, quickMethods}
+use Rattle.classfile.specs.Reading.{fileVersion, className, quickMethods}
 use Rattle.verifier.specs.declared.effects.Meeting.{Meeting}
 use Rattle.verifier.specs.declared.effects.Meeting.the-variants.{Unmet, Met, Noted}
 use Rattle.verifier.specs.declared.turns.Step.{Step}
@@ -47,8 +47,8 @@ turnedBy code result p s none = halted
 turnedBy code result p s (some i) = settle (p + i .size) (eqb (p + i .size) (length code)) (outcome (i .instruction) result s)
 
 -- the instruction at point p, where the types are s
-unfoldable pub turned : List ℕ → ℕ → ℕ → TypeState → Turned
-turned code result p s = turnedBy code result p s (decode code p)
+unfoldable pub turned : ℕ → List ℕ → ℕ → ℕ → TypeState → Turned
+turned version code result p s = turnedBy code result p s (decode version code p)
 
 pub record Trace : Type 0 where
   pub notes : List Note
@@ -62,11 +62,11 @@ onward refused k = record { notes = []; accepts = false }
 onward accepted k = record { notes = []; accepts = true }
 onward (onto q s) k = k q s
 
-module _ (code : List ℕ) (result : ℕ) where
+module _ (version : ℕ) (code : List ℕ) (result : ℕ) where
   -- from point p on, where the types are s
   unfoldable pub trace : ℕ → ℕ → TypeState → Trace
   trace zero p s = record { notes = []; accepts = false }
-  trace (suc k) p s = after (turned code result p s .notes) (onward (turned code result p s .next) (λ q u. trace k q u))
+  trace (suc k) p s = after (turned version code result p s .notes) (onward (turned version code result p s .next) (λ q u. trace k q u))
 
 -- the notes, where they are accepted
 unfoldable pub granted : Bool → List Note → Option (List Note)
@@ -123,9 +123,9 @@ verification a t = record { answer = a; table = t }
 unfoldable pub recorded : ℕ → ℕ → Trace → List ℕ → Verification
 recorded i c w t = verification (pick (w .accepts) (Notes (c + length (w .notes))) Rejected) (writeRows putNote (w .notes) i t)
 
--- the walk over the code of a method of the class of that name
-unfoldable pub methodTrace : ℕ → Signature → List ℕ → Trace
-methodTrace own s code = trace code (s .result) (length code) 0 (entryOf own s)
+-- the walk over the code of a method of the class of that version and name
+unfoldable pub methodTrace : ℕ → ℕ → Signature → List ℕ → Trace
+methodTrace version own s code = trace version code (s .result) (length code) 0 (entryOf own s)
 
 -- what verifying a method answers and writes, from row i on
 unfoldable pub verified : ℕ → Trace → List ℕ → Verification
@@ -133,16 +133,16 @@ verified i w t = verification (pick (w .accepts) (Notes (length (w .notes))) Rej
 
 -- A class's methods in order: the first that is rejected ends the walk
 
-unfoldable pub traceOf : ℕ → Method → Trace
-traceOf own m = methodTrace own (m .signature) (m .code)
+unfoldable pub traceOf : ℕ → ℕ → Method → Trace
+traceOf version own m = methodTrace version own (m .signature) (m .code)
 
 unfoldable pub followed : Trace → Trace → Trace
 followed w v = pick (w .accepts) (after (w .notes) v) w
 
-unfoldable pub methodsTrace : ℕ → List Method → Trace
-methodsTrace own [] = record { notes = []; accepts = true }
-methodsTrace own (m ∷ ms) = followed (traceOf own m) (methodsTrace own ms)
+unfoldable pub methodsTrace : ℕ → ℕ → List Method → Trace
+methodsTrace version own [] = record { notes = []; accepts = true }
+methodsTrace version own (m ∷ ms) = followed (traceOf version own m) (methodsTrace version own ms)
 
 -- the methods of a class file, by the quick reading
 unfoldable pub classTrace : List ℕ → Trace
-classTrace bs = methodsTrace (className bs) (quickMethods bs)
+classTrace bs = methodsTrace (fileVersion bs) (className bs) (quickMethods bs)

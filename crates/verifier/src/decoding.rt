@@ -18,9 +18,9 @@ pub enum Reading {
     Unreadable,
 }
 
-// The one decision over opcode bytes.
-pub fn opcode_of(b: u8) -> Opcode
-    ensures { λ r. ⌜ r ≡ opcodeOf b ⌝ }
+// The one decision over opcode bytes, by the version of the class's file: version 1 has these.
+pub fn opcode_of(version: u8, b: u8) -> Opcode
+    ensures { λ r. ⌜ r ≡ opcodeOf version b ⌝ }
 {
     match b {
         0x01 => Opcode::OpAconstNull,
@@ -140,14 +140,14 @@ fn instruction_of(code: &[u8], i: usize, o: Opcode, n: usize) -> Reading
     }
 }
 
-// The instruction at point p of the code.
-pub fn decode(code: &[u8], p: usize) -> Reading
-    ensures { λ r. ⌜ r ≡ readingOf (decode (now (code .entry)) p) ⌝ }
+// The instruction at point p of code of that version.
+pub fn decode(version: u8, code: &[u8], p: usize) -> Reading
+    ensures { λ r. ⌜ r ≡ readingOf (decode version (now (code .entry)) p) ⌝ }
 {
     if code.len() <= p {
         return Reading::Unreadable;
     }
-    let o = opcode_of(cells::at8(code, p));
+    let o = opcode_of(version, cells::at8(code, p));
     let n = inline_length(o);
     if code.len() - p <= n {
         return Reading::Unreadable;

@@ -55,22 +55,23 @@ fn write_notes(notes: &mut [u16], from: usize, i: usize, receiver: Meeting, valu
     first + second
 }
 
-// The walk over the code of a method of the class of that name. Its notes are rows of the table, the first at `from`.
+// The walk over the code of a method of the class of that version and name. Its notes are rows of the table, the first at `from`.
 pub fn verify_method(
+    version: u8,
     code: &[u8],
     own: u16,
     s: Signature,
     notes: &mut [u16],
     from: usize,
 ) -> Verified
-    ensures { λ r. ⌜ verification r (now (notes .exit)) ≡ verified from (methodTrace own s (now (code .entry))) (now (notes .entry)) ⌝ }
+    ensures { λ r. ⌜ verification r (now (notes .exit)) ≡ verified from (methodTrace version own s (now (code .entry))) (now (notes .entry)) ⌝ }
 {
     let mut types = entry_types(own, s);
     let mut left = code.len();
     let mut p = 0;
     let mut count = 0;
     while 0 < left {
-        let turn = turn_at(code, p, s.result, types);
+        let turn = turn_at(version, code, p, s.result, types);
         let receiver = turn.receiver;
         let value = turn.value;
         let step = turn.step;

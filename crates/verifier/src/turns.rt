@@ -148,10 +148,10 @@ fn carried_out(types: Types, e: Effect, end: usize, last: bool) -> Turn
 }
 
 // The instruction at point p of a method with that result type.
-pub(crate) fn turn_at(code: &[u8], p: usize, result: u16, types: Types) -> Turn
-    ensures { λ r. ⌜ turnOf r ≡ turned (now (code .entry)) result p (typesOf types) ⌝ }
+pub(crate) fn turn_at(version: u8, code: &[u8], p: usize, result: u16, types: Types) -> Turn
+    ensures { λ r. ⌜ turnOf r ≡ turned version (now (code .entry)) result p (typesOf types) ⌝ }
 {
-    let Reading::At(i, size) = decode(code, p) else {
+    let Reading::At(i, size) = decode(version, code, p) else {
         return stop(types);
     };
     let e = effect_of(types, i, result);

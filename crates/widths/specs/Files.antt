@@ -247,18 +247,18 @@ module _ (code : List ℕ) (h : EachBelow 256 code) where
     pub instruction : InstructionFits (i .instruction)
     pub inside : p + i .size ≤ length code
 
-  pub decode-fits : (p : ℕ) → Read (decode code p) (DecodedFits p)
+  pub decode-fits : (v p : ℕ) → Read (decode v code p) (DecodedFits p)
   unfolding decode sizedAs
-  decode-fits p = go (leb (p + suc (inlineLength (opcodeOf (getD code p 0)))) (length code)) refl
+  decode-fits v p = go (leb (p + suc (inlineLength (opcodeOf v (getD code p 0)))) (length code)) refl
     where
       n : ℕ
-      n = suc (inlineLength (opcodeOf (getD code p 0)))
+      n = suc (inlineLength (opcodeOf v (getD code p 0)))
 
       sized : p + n ≤ length code → (o : Option Instruction) → Read o InstructionFits → Read (sizedAs n o) (DecodedFits p)
       sized l none x = tt
       sized l (some i) x = record { instruction = x; inside = l }
 
       go : (b : Bool) → leb (p + n) (length code) ≡ b
-          → Read (elim b as (λ _. Option Decoded) [ true ↦ sizedAs n (instructionOf code (p + 1) (opcodeOf (getD code p 0))) | false ↦ none ]) (DecodedFits p)
-      go true e = sized (leb-true (p + n) (length code) e) (instructionOf code (p + 1) (opcodeOf (getD code p 0))) (instruction-fits (p + 1) (opcodeOf (getD code p 0)))
+          → Read (elim b as (λ _. Option Decoded) [ true ↦ sizedAs n (instructionOf code (p + 1) (opcodeOf v (getD code p 0))) | false ↦ none ]) (DecodedFits p)
+      go true e = sized (leb-true (p + n) (length code) e) (instructionOf code (p + 1) (opcodeOf v (getD code p 0))) (instruction-fits (p + 1) (opcodeOf v (getD code p 0)))
       go false e = tt

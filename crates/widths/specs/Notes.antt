@@ -129,7 +129,7 @@ some-read P (some a) h = h a refl
 method-notes-fit : (k : Class) (m : Method) → k .name < 65536 → MethodFits m → Read (notesOfMethod k m) (All NoteFits)
 method-notes-fit k m l h = some-read (All NoteFits) (notesOfMethod k m) (λ ns v. notes-have k m ns v StateFits (All NoteFits) (λ a b x y. all-both NoteFits a b x y)
     (λ p i s f r hs e.
-    let x = read-some (DecodedFits (m .code) (h .code) p) (decode (m .code) p) i (decode-fits (m .code) (h .code) p) r in
+    let x = read-some (DecodedFits (m .code) (h .code) p) (decode (k .version) (m .code) p) i (decode-fits (m .code) (h .code) (k .version) p) r in
     let y = read-some FlowFits (effect (i .instruction) s) f (effect-fits s hs (i .instruction) (x .instruction)) e in
     (y .types, y .notes))
     (λ kind s a hs e. read-some (All NoteFits) (returns kind (m .signature .result) s) a (returns-fit s hs kind (m .signature .result) (h .types .1 .0)) e) (entry-fits k m l h))

@@ -233,7 +233,7 @@ module _ (w : World) (os : List Object) (classes : All ClassFits (w .base .class
       then-on ClassFits (NowFits f) _ _ (take-read ClassFits _ _ (read-nth ClassFits (w .base .classes) (f .class) classes)) (λ k hk.
       then-on MethodFits (NowFits f) _ _ (take-read MethodFits _ _ (read-nth MethodFits (k .methods) (f .method) (hk .methods .each))) (λ m hm.
       let D : Decoded → Type 0 = DecodedFits (m .code) (hm .code) (f .point) in
-      then-on D (NowFits f) _ _ (take-read D _ _ (decode-fits (m .code) (hm .code) (f .point))) (λ i hi.
+      then-on D (NowFits f) _ _ (take-read D _ _ (decode-fits (m .code) (hm .code) (k .version) (f .point))) (λ i hi.
       record { instruction = hi .instruction; point = omega (arith, hi .inside, hm .short) })))
 
   pub step-fits : (f : Frame) (fs : List Frame) → FrameFits f → All FrameFits fs → Ok (step w os f fs) ProgressFits

@@ -12,52 +12,54 @@ use Rattle.execution.proofs.deciding.choose.Tie as tie
 
 returns : tie.Need-returns
 returns c =
-    let at8 = c .before .before .before .before .before .before .before .before in
-    let at17 = at8 .before .before .before .before .before .before .before .before .before in
-    rw (c .refuse .ensures) (chosen-unreadable _ _ _ _ _ _ _ _ (at17 .pre .0) _ _ _ (at17 .pre .1) (at17 .pre .2) (at17 .pre .3) _ _ _ _ (at8 .frame-class .ensures) (c .before .before .before .before .before .before .frame-method .ensures) (c .before .before .before .before .before .before .before .point .ensures) (c .before .before .before .before .before .method-code .ensures) 0 (rw (c .before .before .before .before .wide32 .ensures .0) at (unread _ _ (c .before .before .before .decode .ensures) (c .before .enum-told .given .1))))
+    let at9 = c .before .before .before .before .before .before .before .before .before in
+    let at18 = at9 .before .before .before .before .before .before .before .before .before in
+    rw (c .refuse .ensures) (chosen-unreadable _ _ _ _ _ _ _ _ (at18 .pre .0) _ _ _ (at18 .pre .1) (at18 .pre .2) (at18 .pre .3) _ _ _ _ _ (at9 .frame-class .ensures) (c .before .before .before .before .before .before .before .frame-method .ensures) (c .before .before .before .before .before .before .before .before .point .ensures) (c .before .before .before .before .before .before .method-code .ensures) (c .before .before .before .before .before .version-of .ensures) 0 (rw (c .before .before .before .before .wide32 .ensures .0) at (unread _ _ (c .before .before .before .decode .ensures) (c .before .enum-told .given .1))))
 
 cast-act : tie.Need-cast-act
 cast-act c =
-    let at10 = c .before .before .before .before .before .before .before .before .before .before in
-    let at19 = at10 .before .before .before .before .before .before .before .before .before in
-    let counts = now (at19 .args .counts) in
-    let classes = now (at19 .args .classes) in
-    let kept = now (at19 .args .kept) in
-    let cache = now (at19 .args .cache) in
-    let h : c .before .loader-of .result < 16 = rw (c .before .loader-of .ensures, ← loader-quick counts classes kept cache (at10 .frame-class .result)) (usable (tables counts classes kept cache (now (at19 .args .ties)) (now (at19 .args .subtypes)) (now (at19 .args .objects)) (now (at19 .args .frames))) (at19 .pre .0) .loaders (at10 .frame-class .result)) in omega (arith, h)
+    let at11 = c .before .before .before .before .before .before .before .before .before .before .before in
+    let at20 = at11 .before .before .before .before .before .before .before .before .before in
+    let counts = now (at20 .args .counts) in
+    let classes = now (at20 .args .classes) in
+    let kept = now (at20 .args .kept) in
+    let cache = now (at20 .args .cache) in
+    let h : c .before .loader-of .result < 16 = rw (c .before .loader-of .ensures, ← loader-quick counts classes kept cache (at11 .frame-class .result)) (usable (tables counts classes kept cache (now (at20 .args .ties)) (now (at20 .args .subtypes)) (now (at20 .args .objects)) (now (at20 .args .frames))) (at20 .pre .0) .loaders (at11 .frame-class .result)) in omega (arith, h)
 
 act-requires : tie.Need-act-requires
 act-requires c κs =
-    let at19 = c .before .before .before .before .before .before .before .before .before .before .before .before .before .before .before .before .before .before .before in
-    let counts = now (at19 .args .counts) in
-    let classes = now (at19 .args .classes) in
-    let kept = now (at19 .args .kept) in
-    let cache = now (at19 .args .cache) in
-    let ties = now (at19 .args .ties) in
-    let subtypes = now (at19 .args .subtypes) in
-    let objects = now (at19 .args .objects) in
-    let frames = now (at19 .args .frames) in
-    (usable (tables counts classes kept cache ties subtypes objects frames) (at19 .pre .0), row-low (tables counts classes kept cache ties subtypes objects frames) (at19 .pre .0) _ _ (at19 .pre .1) (at19 .pre .2))
+    let at20 = c .before .before .before .before .before .before .before .before .before .before .before .before .before .before .before .before .before .before .before .before in
+    let counts = now (at20 .args .counts) in
+    let classes = now (at20 .args .classes) in
+    let kept = now (at20 .args .kept) in
+    let cache = now (at20 .args .cache) in
+    let ties = now (at20 .args .ties) in
+    let subtypes = now (at20 .args .subtypes) in
+    let objects = now (at20 .args .objects) in
+    let frames = now (at20 .args .frames) in
+    (usable (tables counts classes kept cache ties subtypes objects frames) (at20 .pre .0), row-low (tables counts classes kept cache ties subtypes objects frames) (at20 .pre .0) _ _ (at20 .pre .1) (at20 .pre .2))
 
-add-t27 : tie.Need-add-t27
-add-t27 c =
+add-t28 : tie.Need-add-t28
+add-t28 c =
     let at8 = c .before .before .before .before .before .before .before .before in
     let at9 = at8 .before in
     let at10 = at9 .before in
     let at11 = at10 .before in
     let at12 = at11 .before in
-    let at21 = at12 .before .before .before .before .before .before .before .before .before in
-    omega (arith, c .wide322 .ensures .0, next-fits _ _ _ _ _ _ _ _ (at21 .pre .0) _ _ _ (at21 .pre .1) (at21 .pre .2) (at21 .pre .3) _ _ _ _ (at12 .frame-class .ensures) (at10 .frame-method .ensures) (at11 .point .ensures) (at9 .method-code .ensures) _ _ (rw (at8 .wide32 .ensures .0) at (read-at _ _ (c .before .before .before .before .before .before .before .decode .ensures) _ _ (c .before .before .before .before .before .i .given .1))))
+    let at13 = at12 .before in
+    let at22 = at13 .before .before .before .before .before .before .before .before .before in
+    omega (arith, c .wide322 .ensures .0, next-fits _ _ _ _ _ _ _ _ (at22 .pre .0) _ _ _ (at22 .pre .1) (at22 .pre .2) (at22 .pre .3) _ _ _ _ _ (at13 .frame-class .ensures) (at11 .frame-method .ensures) (at12 .point .ensures) (at10 .method-code .ensures) (at9 .version-of .ensures) _ _ (rw (at8 .wide32 .ensures .0) at (read-at _ _ (c .before .before .before .before .before .before .before .decode .ensures) _ _ (c .before .before .before .before .before .i .given .1))))
 
-cast-t21 : tie.Need-cast-t21
-cast-t21 c =
+cast-t22 : tie.Need-cast-t22
+cast-t22 c =
     let at8 = c .before .before .before .before .before .before .before .before in
     let at9 = at8 .before in
     let at10 = at9 .before in
     let at11 = at10 .before in
     let at12 = at11 .before in
-    let at21 = at12 .before .before .before .before .before .before .before .before .before in
-    omega (arith, c .wide322 .ensures .0, next-fits _ _ _ _ _ _ _ _ (at21 .pre .0) _ _ _ (at21 .pre .1) (at21 .pre .2) (at21 .pre .3) _ _ _ _ (at12 .frame-class .ensures) (at10 .frame-method .ensures) (at11 .point .ensures) (at9 .method-code .ensures) _ _ (rw (at8 .wide32 .ensures .0) at (read-at _ _ (c .before .before .before .before .before .before .before .decode .ensures) _ _ (c .before .before .before .before .before .i .given .1))))
+    let at13 = at12 .before in
+    let at22 = at13 .before .before .before .before .before .before .before .before .before in
+    omega (arith, c .wide322 .ensures .0, next-fits _ _ _ _ _ _ _ _ (at22 .pre .0) _ _ _ (at22 .pre .1) (at22 .pre .2) (at22 .pre .3) _ _ _ _ _ (at13 .frame-class .ensures) (at11 .frame-method .ensures) (at12 .point .ensures) (at10 .method-code .ensures) (at9 .version-of .ensures) _ _ (rw (at8 .wide32 .ensures .0) at (read-at _ _ (c .before .before .before .before .before .before .before .decode .ensures) _ _ (c .before .before .before .before .before .i .given .1))))
 
 returns-2 : tie.Need-returns-2
 returns-2 c =
@@ -66,13 +68,15 @@ returns-2 c =
     let at10 = at9 .before in
     let at11 = at10 .before in
     let at12 = at11 .before in
-    let at21 = at12 .before .before .before .before .before .before .before .before .before in
-    rw (c .wide322 .ensures .0) (chosen _ _ _ _ _ _ _ _ (at21 .pre .0) _ _ _ (at21 .pre .1) (at21 .pre .2) (at21 .pre .3) _ _ _ _ (at12 .frame-class .ensures) (at10 .frame-method .ensures) (at11 .point .ensures) (at9 .method-code .ensures) _ _ _ _ _ _ (rw (at8 .wide32 .ensures .0) at (read-at _ _ (c .before .before .before .before .before .before .before .decode .ensures) _ _ (c .before .before .before .before .before .i .given .1))) (c .before .before .depth .ensures) (c .before .before .before .loader-of .ensures) (c .before .act .ensures))
+    let at13 = at12 .before in
+    let at22 = at13 .before .before .before .before .before .before .before .before .before in
+    rw (c .wide322 .ensures .0) (chosen _ _ _ _ _ _ _ _ (at22 .pre .0) _ _ _ (at22 .pre .1) (at22 .pre .2) (at22 .pre .3) _ _ _ _ _ (at13 .frame-class .ensures) (at11 .frame-method .ensures) (at12 .point .ensures) (at10 .method-code .ensures) (at9 .version-of .ensures) _ _ _ _ _ _ (rw (at8 .wide32 .ensures .0) at (read-at _ _ (c .before .before .before .before .before .before .before .decode .ensures) _ _ (c .before .before .before .before .before .i .given .1))) (c .before .before .depth .ensures) (c .before .before .before .loader-of .ensures) (c .before .act .ensures))
 
 pub choose-spec : {M : Type 1} → statement M
 choose-spec =
     tie.close
     (tie.spec
+    (λ c κs. search needs)
     (λ c κs. search needs)
     (λ c κs. search needs)
     (λ c κs. search needs)
@@ -88,6 +92,6 @@ choose-spec =
     cast-act
     act-requires
     (λ c κs. search needs)
-    add-t27
-    cast-t21
+    add-t28
+    cast-t22
     returns-2)

@@ -6,7 +6,7 @@ use lib.ListN.{length}
 use Rattle.verifier.specs.Trace.{recorded, verified, traceOf, methodsTrace, classTrace}
 use denote.Ref.{now}
 use Rattle.verifier.proofs.TraceLaws.{accepted-walk}
-use Rattle.classfile.specs.Reading.{className, methodCount, methodIn, methodsFrom}
+use Rattle.classfile.specs.Reading.{fileVersion, className, methodCount, methodIn, methodsFrom}
 use Rattle.verifier.proofs.ClassLaws.{class-goes, class-stops, class-ends, class-begins, method-small}
 use borrow.Author.Needs.{needs}
 use Rattle.verifier.proofs.classes.verify_class.Statement.{statement}
@@ -15,7 +15,7 @@ use Rattle.verifier.proofs.classes.verify_class.Tie as tie
 abbrev Inv-loop : tie.InvT-loop
 Inv-loop bytes notes₀ n j₀ count₀ notes j count =
     (j ≤ n) × (count ≤ 65535 * j) × (length notes ≡ length notes₀)
-    × (recorded count count (methodsTrace (className bytes) (methodsFrom bytes j)) notes ≡ verified 0 (classTrace bytes) notes₀)
+    × (recorded count count (methodsTrace (fileVersion bytes) (className bytes) (methodsFrom bytes j)) notes ≡ verified 0 (classTrace bytes) notes₀)
 
 abbrev μ-loop : tie.MeasureT-loop
 μ-loop bytes notes₀ n j₀ count₀ notes j count = n - j
@@ -29,9 +29,10 @@ few c =
     let k = c .before .before .before .before .before .before .before in
     let bs = now (k .before .before .before .before .args .bytes) in
     let own = className bs in
-    let w = traceOf own (methodIn bs (k .loop .j)) in
+    let version = fileVersion bs in
+    let w = traceOf version own (methodIn bs (k .loop .j)) in
     let a = accepted-walk (k .loop .count) w (k .loop .notes) (at4 .verify-numbered .last .1 .1 .0) (c .more .given .0 .0) (rw (c .more .given .1) at (at4 .verify-numbered .ensures)) in
-    omega (arith, a .1, method-small bs (λ i. omega (arith, k .before .before .before .shared-slice-known .given i)) own (k .loop .j))
+    omega (arith, a .1, method-small bs (λ i. omega (arith, k .before .before .before .shared-slice-known .given i)) version own (k .loop .j))
 
 loop-holds : tie.Need-loop-holds Inv-loop μ-loop
 loop-holds c = (omega arith, omega arith, refl, class-begins _ _)

@@ -13,17 +13,19 @@ returns c =
 
 returns-2 : tie.Need-returns-2
 returns-2 c =
-    let at8 = c .before .before .before .before .before .before .before .before in
-    let at10 = at8 .before .before in
-    let at13 = at10 .before .before .before in
+    let at7 = c .before .before .before .before .before .before .before in
+    let at9 = at7 .before .before in
+    let at11 = at9 .before .before in
+    let at14 = at11 .before .before .before in
     c .before .before .verify-method .ensures
     ∙ ap
-    (λ w. verified (at13 .args .from) w
-    (now (at13 .args .notes)))
-    (trace-found _ _ _ _ _ _
-    (found-at _ _ (at13 .pre) _
-    (at10 .method-place .ensures) _ _
-    (at8 .place .given .1))
+    (λ w. verified (at14 .args .from) w
+    (now (at14 .args .notes)))
+    (trace-found _ _ _ _ _ _ _
+    (found-at _ _ (at14 .pre) _
+    (at11 .method-place .ensures) _ _
+    (at9 .place .given .1))
+    (at7 .version .ensures)
     (c .before .before .before .before .before .before .class-name .ensures)
     (c .before .before .before .before .before .method-signature .ensures)
     (c .before .before .before .before .code .ensures))
@@ -36,6 +38,7 @@ verify-numbered-spec =
     (λ c. search needs)
     (λ c. search needs)
     returns
+    (λ c κs. search needs)
     (λ c κs. search needs)
     (λ c κs. search needs)
     (λ c κs. search needs)

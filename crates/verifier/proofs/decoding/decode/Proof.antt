@@ -9,20 +9,20 @@ use Rattle.verifier.proofs.decoding.decode.Tie as tie
 
 returns : tie.Need-returns
 unfolding readingOf
-returns c = rw (decode-past _ _ (c .if1 .taken))
+returns c = rw (decode-past _ _ _ (c .if1 .taken))
 
 returns-2 : tie.Need-returns-2
 unfolding readingOf
 returns-2 c =
     rw
-    (decode-cut _ _ _ _ (c .before .before .opcode-of .ensures ∙ ap opcodeOf (c .before .before .before .at8 .ensures))
+    (decode-cut _ _ _ _ _ (c .before .before .opcode-of .ensures ∙ ap (opcodeOf _) (c .before .before .before .at8 .ensures))
     (c .before .inline-length .ensures) (c .before .before .before .before .if1 .left) (c .if2 .taken))
 
 returns-3 : tie.Need-returns-3
 returns-3 c =
     rw (
       c .instruction-of .ensures,
-      decode-whole _ _ _ _ (c .before .before .before .opcode-of .ensures ∙ ap opcodeOf (c .before .before .before .before .at8 .ensures))
+      decode-whole _ _ _ _ _ (c .before .before .before .opcode-of .ensures ∙ ap (opcodeOf _) (c .before .before .before .before .at8 .ensures))
           (c .before .before .inline-length .ensures) (c .before .before .before .before .before .if1 .left) (c .before .if2 .left),
     )
 

@@ -12,12 +12,12 @@ use Rattle.verifier.proofs.methods.verify_method.Statement.{statement}
 use Rattle.verifier.proofs.methods.verify_method.Tie as tie
 
 abbrev Inv-loop : tie.InvT-loop
-Inv-loop code own s notes₀ from types₀ left₀ p₀ count₀ notes types left p count =
+Inv-loop version code own s notes₀ from types₀ left₀ p₀ count₀ notes types left p count =
     (left ≤ length code) × (count + 2 * left ≤ 2 * length code) × (length notes ≡ length notes₀)
-    × (recorded (from + count) count (trace code (s .result) left p (typesOf types)) notes ≡ verified from (methodTrace own s code) notes₀)
+    × (recorded (from + count) count (trace version code (s .result) left p (typesOf types)) notes ≡ verified from (methodTrace version own s code) notes₀)
 
 abbrev μ-loop : tie.MeasureT-loop
-μ-loop code own s notes₀ from types₀ left₀ p₀ count₀ notes types left p count = left
+μ-loop version code own s notes₀ from types₀ left₀ p₀ count₀ notes types left p count = left
 
 few : (c : tie.After-write-notes Inv-loop μ-loop) → c .write-notes .result ≤ 2
 few c = wrote-few _ _ _ _ _ _ (c .write-notes .ensures)
@@ -48,7 +48,7 @@ add-count c =
 returns : tie.Need-returns Inv-loop μ-loop
 returns c =
     sym
-    (walk-stops _ _ _ _ _ _ _ _ _ _ _ (c .before .before .before .before .before .before .before .loop-test .taken)
+    (walk-stops _ _ _ _ _ _ _ _ _ _ _ _ (c .before .before .before .before .before .before .before .loop-test .taken)
     (c .before .before .before .before .before .before .turn-at .ensures) (c .before .before .before .before .write-notes .ensures)
     (c .enum-told .given .1))
     ∙ c .before .before .before .before .before .before .before .before .loop .inv .3
@@ -56,7 +56,7 @@ returns c =
 returns-2 : tie.Need-returns-2 Inv-loop μ-loop
 returns-2 c =
     sym
-    (walk-ends _ _ _ _ _ _ _ _ _ _ _ (c .before .before .before .before .before .before .before .loop-test .taken)
+    (walk-ends _ _ _ _ _ _ _ _ _ _ _ _ (c .before .before .before .before .before .before .before .loop-test .taken)
     (c .before .before .before .before .before .before .turn-at .ensures) (c .before .before .before .before .write-notes .ensures)
     (c .enum-told2 .given .1))
     ∙ c .before .before .before .before .before .before .before .before .loop .inv .3
@@ -77,14 +77,14 @@ loop-again c =
       at6 .write-notes .kept .0
           ∙ at10 .loop .inv .2,
       sym
-          (walk-goes _ _ _ _ _ _ _ _ _ _ _ (at9 .loop-test .taken)
+          (walk-goes _ _ _ _ _ _ _ _ _ _ _ _ (at9 .loop-test .taken)
           (at8 .turn-at .ensures)
           (at6 .write-notes .ensures) _ (c .before .before .step .given .1))
           ∙ at10 .loop .inv .3,
     )
 
 returns-3 : tie.Need-returns-3 Inv-loop μ-loop
-returns-3 c = sym (out-of-turns _ _ _ _ _ _ _ _ (c .loop-test .left)) ∙ c .before .loop .inv .3
+returns-3 c = sym (out-of-turns _ _ _ _ _ _ _ _ _ (c .loop-test .left)) ∙ c .before .loop .inv .3
 
 pub verify-method-spec : {M : Type 1} → statement M
 verify-method-spec =
