@@ -87,7 +87,7 @@ module _ (N L K E O F : List ℕ) (b d e : ℕ) where
         }
 
         pub read-at : (j x y : ℕ) → nearest (superOf B) (hasField B n t) e ≡ some s → indexOf (slotIs s n t) (slots B s) ≡ some j → j < 16 → valueOf x y ≡ fieldAt O o j
-            → Read (Above (d - 1) x y)
+            → Read (Above (d - 1) (record { kind = x; bits = y }))
         unfolding readField meaning frameOf _>>=_ take? objectAt
         read-at j x y g h l v = record {
           says = λ I S fs z p i.
@@ -167,7 +167,7 @@ module _ (N L K E O F : List ℕ) (b d e : ℕ) where
           }
 
           pub write-at : (j : ℕ) → nearest (superOf B) (hasField B n t) e ≡ some s → indexOf (slotIs s n t) (slots B s) ≡ some j → j < 16
-              → Written (Field (d - 1 - 1) o j kind bits)
+              → Written (Field (d - 1 - 1) o j (record { kind = kind; bits = bits }))
           unfolding writeField meaning frameOf _>>=_ take?
           write-at j g h l = record {
             says = λ I S fs z p i.
@@ -228,7 +228,7 @@ module _ (N L K E O F : List ℕ) (b d e : ℕ) where
           fits = λ few I S k m l. tt;
         }
 
-        pub call-at : (a : Selected) → selected B g (objectAt B O o .class) ≡ some a → Called (Enter (d - 1 - 1) (a .class) (a .place) o kind bits)
+        pub call-at : (a : Selected) → selected B g (objectAt B O o .class) ≡ some a → Called (Enter (d - 1 - 1) (record { class = a .class; method = a .place; object = o; argument = record { kind = kind; bits = bits } }))
         unfolding callMethod meaning frameOf _>>=_ take?
         call-at a h = record {
           says = λ I S fs z p i.

@@ -39,7 +39,7 @@ fn read_field(
         return instructions::refuse(WORD_STUCK);
     }
     let x = frames::operand(frames, b, d - 1);
-    let r = received(counts, classes, kept, cache, objects, e, x.kind, x.bits);
+    let r = received(counts, classes, kept, cache, objects, e, x);
     match r {
         Receiver::Wrong(word) => instructions::refuse(word),
         Receiver::Right(o) => {
@@ -50,7 +50,7 @@ fn read_field(
                 return instructions::refuse(WORD_STUCK);
             }
             let v = frames::field(objects, o, j as u8);
-            Plan::Above(d - 1, v.kind, v.bits)
+            Plan::Above(d - 1, v)
         }
     }
 }
@@ -81,11 +81,11 @@ fn set_field(
         return instructions::refuse(WORD_STUCK);
     }
     let v = frames::operand(frames, b, top);
-    if !instructions::is_kind(of, v.kind, v.bits) {
+    if !instructions::is_kind(of, v) {
         return instructions::refuse(WORD_STUCK);
     }
     let x = frames::operand(frames, b, top - 1);
-    let r = received(counts, classes, kept, cache, objects, e, x.kind, x.bits);
+    let r = received(counts, classes, kept, cache, objects, e, x);
     match r {
         Receiver::Wrong(word) => instructions::refuse(word),
         Receiver::Right(o) => {
@@ -95,7 +95,7 @@ fn set_field(
             if FIELD_LIMIT <= j {
                 return Plan::Keep(top - 1);
             }
-            Plan::Field(top - 1, o, j as u8, v.kind, v.bits)
+            Plan::Field(top - 1, o, j as u8, v)
         }
     }
 }

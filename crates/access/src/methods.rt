@@ -14,6 +14,7 @@ ghost use Rattle.access.specs.Members.{framesLeft, Rest};
 use definition::Instruction;
 use definition::Refusal;
 use definition::Signature;
+use frames::Entry;
 use instructions::Plan;
 use resolution::Found;
 use resolution::Selection;
@@ -65,11 +66,11 @@ fn call_method(
         return instructions::refuse(WORD_STUCK);
     }
     let v = frames::operand(frames, b, top);
-    if !instructions::is_kind(s.argument, v.kind, v.bits) {
+    if !instructions::is_kind(s.argument, v) {
         return instructions::refuse(WORD_STUCK);
     }
     let x = frames::operand(frames, b, top - 1);
-    let r = received(counts, classes, kept, cache, objects, e, x.kind, x.bits);
+    let r = received(counts, classes, kept, cache, objects, e, x);
     match r {
         Receiver::Wrong(word) => instructions::refuse(word),
         Receiver::Right(o) => {
@@ -78,7 +79,15 @@ fn call_method(
             else {
                 return instructions::refuse(WORD_STUCK);
             };
-            Plan::Enter(top - 1, a, k, o, v.kind, v.bits)
+            Plan::Enter(
+                top - 1,
+                Entry {
+                    class: a,
+                    method: k,
+                    object: o,
+                    argument: v,
+                },
+            )
         }
     }
 }

@@ -5,6 +5,7 @@ use definition::numbers::KIND_NULL;
 use definition::numbers::KIND_OBJECT;
 use definition::numbers::WORD_NULL;
 use definition::numbers::WORD_STUCK;
+use frames::Cell;
 ghost use mathlib.Core.Path.{_≡_};
 ghost use mathlib.Core.List.{List};
 ghost use Prim.Native.Nat.{ℕ};
@@ -14,11 +15,11 @@ ghost use Rattle.access.specs.Accesses.{Received};
 ghost use Rattle.access.specs.Members.{noObject};
 
 // The word for a receiver that is no object: null's, or that it is of the wrong kind.
-fn no_object(kind: u32, bits: u32) -> u8
-    ensures { λ r. ⌜ r ≡ noObject kind bits ⌝ }
+fn no_object(v: Cell) -> u8
+    ensures { λ r. ⌜ r ≡ noObject (v .kind) (v .bits) ⌝ }
 {
-    if kind == KIND_NULL {
-        if bits == 0 { WORD_NULL } else { WORD_STUCK }
+    if v.kind == KIND_NULL {
+        if v.bits == 0 { WORD_NULL } else { WORD_STUCK }
     } else {
         WORD_STUCK
     }
@@ -32,15 +33,15 @@ pub(crate) fn received(
     cache: &[u16],
     objects: &[u32],
     e: u32,
-    kind: u32,
-    bits: u32,
+    v: Cell,
 ) -> Receiver
-    ensures { λ r. ⌜ ((I S F : List ℕ) → Received (quickBase (now (counts .entry)) (now (classes .entry)) (now (kept .entry)) (now (cache .entry))) (tables (now (counts .entry)) (now (classes .entry)) (now (kept .entry)) (now (cache .entry)) I S (now (objects .entry)) F) e kind bits r) ⌝ }
+    ensures { λ r. ⌜ ((I S F : List ℕ) → Received (quickBase (now (counts .entry)) (now (classes .entry)) (now (kept .entry)) (now (cache .entry))) (tables (now (counts .entry)) (now (classes .entry)) (now (kept .entry)) (now (cache .entry)) I S (now (objects .entry)) F) e (v .kind) (v .bits) r) ⌝ }
 {
-    if kind != KIND_OBJECT {
-        return Receiver::Wrong(no_object(kind, bits));
+    if v.kind != KIND_OBJECT {
+        return Receiver::Wrong(no_object(v));
     }
-    if cells::from16(cells::at16(counts, COUNT_OBJECTS)) <= bits {
+    let o = v.bits;
+    if cells::from16(cells::at16(counts, COUNT_OBJECTS)) <= o {
         return Receiver::Wrong(WORD_STUCK);
     }
     if !resolution::is_below(
@@ -48,10 +49,10 @@ pub(crate) fn received(
         classes,
         kept,
         cache,
-        frames::object_class(objects, bits),
+        frames::object_class(objects, o),
         e,
     ) {
         return Receiver::Wrong(WORD_STUCK);
     }
-    Receiver::Right(bits)
+    Receiver::Right(o)
 }

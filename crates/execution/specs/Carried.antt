@@ -26,6 +26,8 @@ use Rattle.resolution.specs.Slots.{slotType}
 use Rattle.access.specs.Accesses.{worldIn}
 use Rattle.posting.specs.Postings.{Quiet}
 use Rattle.instructions.specs.Plans.{meaning, Fit}
+use Rattle.frames.specs.declared.Cell.{Cell}
+use Rattle.frames.specs.declared.Entry.{Entry}
 use Rattle.instructions.specs.declared.Plan.{Plan}
 use Rattle.instructions.specs.declared.Plan.the-variants.{Refuse, Keep, Above, Local, Give, Finish, Field, Enter, Make}
 
@@ -101,44 +103,44 @@ module _ (B : Base) (N L K E I S O F : List ℕ) (k m b q : ℕ) (us : List Tie)
       (ap (done (Ran k)) (sym (top-frame B before k m q us (r .two) (objectsOf B before) (frameOf F (frameBase k m) q d ∷ stack (frameIn F k) m) O
       (moved F (frameBase k m) q d) (r .count) (objects-fill before B) (top-kept before k m (r .low) q d))))
 
-  pub out-above : (d kind v : ℕ) (G : List ℕ) → p ≡ Above d kind v → G ≡ putOperand b (moved F b q (d + 1)) d (valueOf kind v)
+  pub out-above : (d : ℕ) (v : Cell) (G : List ℕ) → p ≡ Above d v → G ≡ putOperand b (moved F b q (d + 1)) d (valueOf (v .kind) (v .bits))
       → done (Ran k) (tables C L K E J S O G) ≡ plans
   unfolding planned meaning _>>=_ carried answerOf
-  out-above d kind v G e g =
+  out-above d v G e g =
       let f : d < 16 = rw e at (r .fits) in
       rw (e, c, j, g, r .row)
       (ap (done (Ran k)) (sym (top-frame B before k m q us (r .two) (objectsOf B before) _ O
-      (putOperand (frameBase k m) (moved F (frameBase k m) q (d + 1)) d (valueOf kind v)) (r .count) (objects-fill before B) (top-above before k m (r .low) q d (valueOf kind v) f))))
+      (putOperand (frameBase k m) (moved F (frameBase k m) q (d + 1)) d (valueOf (v .kind) (v .bits))) (r .count) (objects-fill before B) (top-above before k m (r .low) q d (valueOf (v .kind) (v .bits)) f))))
 
-  pub out-local : (d i kind v : ℕ) (G : List ℕ) → p ≡ Local d i kind v → G ≡ putLocal b (moved F b q d) i (valueOf kind v)
+  pub out-local : (d i : ℕ) (v : Cell) (G : List ℕ) → p ≡ Local d i v → G ≡ putLocal b (moved F b q d) i (valueOf (v .kind) (v .bits))
       → done (Ran k) (tables C L K E J S O G) ≡ plans
   unfolding planned meaning _>>=_ carried answerOf
-  out-local d i kind v G e g =
+  out-local d i v G e g =
       let f : i < 8 = rw e at (r .fits) in
       rw (e, c, j, g, r .row)
       (ap (done (Ran k)) (sym (top-frame B before k m q us (r .two) (objectsOf B before) _ O
-      (putLocal (frameBase k m) (moved F (frameBase k m) q d) i (valueOf kind v)) (r .count) (objects-fill before B) (top-local before k m (r .low) q d i (valueOf kind v) f))))
+      (putLocal (frameBase k m) (moved F (frameBase k m) q d) i (valueOf (v .kind) (v .bits))) (r .count) (objects-fill before B) (top-local before k m (r .low) q d i (valueOf (v .kind) (v .bits)) f))))
 
-  pub out-field : (d o i kind v : ℕ) (G P : List ℕ) → p ≡ Field d o i kind v → G ≡ moved F b q d → P ≡ putField o O i (valueOf kind v)
+  pub out-field : (d o i : ℕ) (v : Cell) (G P : List ℕ) → p ≡ Field d o i v → G ≡ moved F b q d → P ≡ putField o O i (valueOf (v .kind) (v .bits))
       → done (Ran k) (tables C L K E J S P G) ≡ plans
   unfolding planned meaning _>>=_ carried answerOf take?
-  out-field d o i kind v G P e g h =
+  out-field d o i v G P e g h =
       let f : (o < getD N 5 0) × (i < usedFields B (objectAt B O o .class)) = rw e at (r .fits) in
       rw (e, c, j, g, h, r .row, object-there before B o (f .0))
-      (ap (done (Ran k)) (sym (top-frame B before k m q us (r .two) _ _ (putField o O i (valueOf kind v)) (moved F (frameBase k m) q d) (r .count)
-      (object-set before B o i (valueOf kind v) (f .0) (f .1)) (top-kept before k m (r .low) q d))))
+      (ap (done (Ran k)) (sym (top-frame B before k m q us (r .two) _ _ (putField o O i (valueOf (v .kind) (v .bits))) (moved F (frameBase k m) q d) (r .count)
+      (object-set before B o i (valueOf (v .kind) (v .bits)) (f .0) (f .1)) (top-kept before k m (r .low) q d))))
 
-  pub out-enter : (d s i o kind v : ℕ) (D G : List ℕ) → p ≡ Enter d s i o kind v → D ≡ set C (6 + k) (m + 2)
-      → G ≡ putFrame (moved F b q d) (frameBase k (m + 1)) (entryFrame s i o (valueOf kind v)) → done (Ran k) (tables D L K E J S O G) ≡ plans
+  pub out-enter : (d : ℕ) (x : Entry) (D G : List ℕ) → p ≡ Enter d x → D ≡ set C (6 + k) (m + 2)
+      → G ≡ putFrame (moved F b q d) (frameBase k (m + 1)) (entryFrame (x .class) (x .method) (x .object) (valueOf (x .argument .kind) (x .argument .bits))) → done (Ran k) (tables D L K E J S O G) ≡ plans
   unfolding planned meaning _>>=_ carried answerOf
-  out-enter d s i o kind v D G e f g =
+  out-enter d x D G e f g =
       let h : suc m < 32 = rw e at (r .fits) in
-      let x : m + 2 ≡ suc (suc m) = omega arith in
-      let y : m + 1 ≡ suc m = omega arith in
-      rw (e, f, g, c, j, r .row, x, y)
+      let y : m + 2 ≡ suc (suc m) = omega arith in
+      let z : m + 1 ≡ suc m = omega arith in
+      rw (e, f, g, c, j, r .row, y, z)
       (ap (done (Ran k)) (sym (same-objects B before k m q us (r .two) (objectsOf B before) _ none (suc (suc m)) O
-      (putFrame (moved F (frameBase k m) q d) (frameBase k (suc m)) (entryFrame s i o (valueOf kind v))) (objects-fill before B)
-      (top-entered before k m (r .low) q d (entryFrame s i o (valueOf kind v)) h (omega arith) (omega arith)))))
+      (putFrame (moved F (frameBase k m) q d) (frameBase k (suc m)) (entryFrame (x .class) (x .method) (x .object) (valueOf (x .argument .kind) (x .argument .bits)))) (objects-fill before B)
+      (top-entered before k m (r .low) q d (entryFrame (x .class) (x .method) (x .object) (valueOf (x .argument .kind) (x .argument .bits))) h (omega arith) (omega arith)))))
 
   pub out-make : (d s n : ℕ) (D G P : List ℕ) → p ≡ Make d s → n ≡ getD N 5 0 → D ≡ set C 5 (n + 1) → G ≡ putOperand b (moved F b q (d + 1)) d (objectValue n)
       → P ≡ putObject O n (newObject B s) → done (Ran k) (tables D L K E J S P G) ≡ plans
@@ -166,18 +168,18 @@ module _ (B : Base) (N L K E I S O F : List ℕ) (k m b q : ℕ) (us : List Tie)
       (ap (done (Finished k v)) (sym (same-objects B before k m q us (r .two) (objectsOf B before) [] (some v) 0 O F (objects-fill before B) (none-left before k))))
 
   -- the frame below is at a, with d operands
-  pub out-give : (kind v a d : ℕ) (D G : List ℕ) → p ≡ Give kind v → a ≡ frameBase k (m - 1) → d ≡ getD F (a + 3) 0 → D ≡ set C (6 + k) m
-      → G ≡ putOperand a (set F (a + 3) (d + 1)) d (valueOf kind v) → done (Ran k) (tables D L K E J S O G) ≡ plans
+  pub out-give : (v : Cell) (a d : ℕ) (D G : List ℕ) → p ≡ Give v → a ≡ frameBase k (m - 1) → d ≡ getD F (a + 3) 0 → D ≡ set C (6 + k) m
+      → G ≡ putOperand a (set F (a + 3) (d + 1)) d (valueOf (v .kind) (v .bits)) → done (Ran k) (tables D L K E J S O G) ≡ plans
   unfolding planned meaning _>>=_ carried answerOf give
-  out-give kind v a d D G e x y f g =
+  out-give v a d D G e x y f g =
       let h : (0 < m) × (getD F (frameBase k (m - 1) + 3) 0 < 16) = rw e at (r .fits) in
       let one : suc (m - 1) ≡ m = omega arith in
       let z : d ≡ getD F (frameBase k (m - 1) + 3) 0 = rw x at y in
       rw (e, f, g, c, j, x, stack-top (frameIn F k) m (h .0))
       (ap (done (Ran k)) (sym (
-      same-objects B before k m q us (r .two) (objectsOf B before) _ none (suc (m - 1)) O (putOperand (frameBase k (m - 1)) (set F (frameBase k (m - 1) + 3) (d + 1)) d (valueOf kind v))
-      (objects-fill before B) (top-given before k (m - 1) (omega (arith, r .low)) d (valueOf kind v) z (omega (arith, h .1, z)))
-      ∙ ap (λ (n : ℕ). tables (set (set N 3 (getD N 3 0 + length us)) (6 + k) n) L K E (writeRows putTie us (getD N 3 0) I) S O (putOperand (frameBase k (m - 1)) (set F (frameBase k (m - 1) + 3) (d + 1)) d (valueOf kind v))) one)))
+      same-objects B before k m q us (r .two) (objectsOf B before) _ none (suc (m - 1)) O (putOperand (frameBase k (m - 1)) (set F (frameBase k (m - 1) + 3) (d + 1)) d (valueOf (v .kind) (v .bits)))
+      (objects-fill before B) (top-given before k (m - 1) (omega (arith, r .low)) d (valueOf (v .kind) (v .bits)) z (omega (arith, h .1, z)))
+      ∙ ap (λ (n : ℕ). tables (set (set N 3 (getD N 3 0 + length us)) (6 + k) n) L K E (writeRows putTie us (getD N 3 0) I) S O (putOperand (frameBase k (m - 1)) (set F (frameBase k (m - 1) + 3) (d + 1)) d (valueOf (v .kind) (v .bits)))) one)))
 
 -- A new object's values, by the types of its fields
 
@@ -208,15 +210,15 @@ written-new B c o n O P ts us e f l h = h ∙ rw (e, f, typed-object B c ts l)
 abbrev pub Left : Base → List ℕ → List ℕ → List ℕ → ℕ → ℕ → ℕ → ℕ → Plan → Answer → List ℕ → List ℕ → List ℕ → Type 0
 Left B N O F k m b q (Refuse r) a C P G = (a ≡ Refused r) × (C ≡ N) × (P ≡ O) × (G ≡ F)
 Left B N O F k m b q (Keep d) a C P G = (a ≡ Ran k) × (C ≡ N) × (P ≡ O) × (G ≡ moved F b q d)
-Left B N O F k m b q (Above d kind v) a C P G = (a ≡ Ran k) × (C ≡ N) × (P ≡ O) × (G ≡ putOperand b (moved F b q (d + 1)) d (valueOf kind v))
-Left B N O F k m b q (Local d i kind v) a C P G = (a ≡ Ran k) × (C ≡ N) × (P ≡ O) × (G ≡ putLocal b (moved F b q d) i (valueOf kind v))
-Left B N O F k m b q (Give kind v) a C P G =
+Left B N O F k m b q (Above d v) a C P G = (a ≡ Ran k) × (C ≡ N) × (P ≡ O) × (G ≡ putOperand b (moved F b q (d + 1)) d (valueOf (v .kind) (v .bits)))
+Left B N O F k m b q (Local d i v) a C P G = (a ≡ Ran k) × (C ≡ N) × (P ≡ O) × (G ≡ putLocal b (moved F b q d) i (valueOf (v .kind) (v .bits)))
+Left B N O F k m b q (Give v) a C P G =
     (a ≡ Ran k) × (C ≡ set N (6 + k) m) × (P ≡ O)
-    × (let x = frameBase k (m - 1) in let d = getD F (x + 3) 0 in G ≡ putOperand x (set F (x + 3) (d + 1)) d (valueOf kind v))
+    × (let x = frameBase k (m - 1) in let d = getD F (x + 3) 0 in G ≡ putOperand x (set F (x + 3) (d + 1)) d (valueOf (v .kind) (v .bits)))
 Left B N O F k m b q (Finish v) a C P G = (a ≡ Finished k v) × (C ≡ set N (6 + k) 0) × (P ≡ O) × (G ≡ F)
-Left B N O F k m b q (Field d o i kind v) a C P G = (a ≡ Ran k) × (C ≡ N) × (P ≡ putField o O i (valueOf kind v)) × (G ≡ moved F b q d)
-Left B N O F k m b q (Enter d s i o kind v) a C P G =
-    (a ≡ Ran k) × (C ≡ set N (6 + k) (m + 2)) × (P ≡ O) × (G ≡ putFrame (moved F b q d) (frameBase k (m + 1)) (entryFrame s i o (valueOf kind v)))
+Left B N O F k m b q (Field d o i v) a C P G = (a ≡ Ran k) × (C ≡ N) × (P ≡ putField o O i (valueOf (v .kind) (v .bits))) × (G ≡ moved F b q d)
+Left B N O F k m b q (Enter d e) a C P G =
+    (a ≡ Ran k) × (C ≡ set N (6 + k) (m + 2)) × (P ≡ O) × (G ≡ putFrame (moved F b q d) (frameBase k (m + 1)) (entryFrame (e .class) (e .method) (e .object) (valueOf (e .argument .kind) (e .argument .bits))))
 Left B N O F k m b q (Make d s) a C P G =
     (a ≡ Ran k) × (C ≡ set N 5 (getD N 5 0 + 1)) × (P ≡ putObject O (getD N 5 0) (newObject B s))
     × (G ≡ putOperand b (moved F b q (d + 1)) d (objectValue (getD N 5 0)))
@@ -238,12 +240,12 @@ module _ (N L K E I S O F : List ℕ) (k m b : ℕ) (us : List Tie) (p : Plan) (
       go : (p : Plan) → Fit (quickBase N L K E) (tables N L K E I S O F) k m p → Fit (quickBase C L K E) (tables C L K E [] [] O F) k m p
       go (Refuse w) h = tt
       go (Keep d) h = tt
-      go (Above d kind v) h = h
-      go (Local d i kind v) h = h
-      go (Give kind v) h = h
+      go (Above d v) h = h
+      go (Local d i v) h = h
+      go (Give v) h = h
       go (Finish v) h = h
-      go (Field d o i kind v) h = rw (posted-base, posted-number) h
-      go (Enter d s i o kind v) h = h
+      go (Field d o i v) h = rw (posted-base, posted-number) h
+      go (Enter d e) h = h
       go (Make d s) h = rw (posted-base, posted-number) h
 
   -- what is left is what the machine makes of the plan
@@ -255,15 +257,15 @@ module _ (N L K E I S O F : List ℕ) (k m b : ℕ) (us : List Tie) (p : Plan) (
           → done a (tables D L K E J S P G) ≡ planned (quickBase N L K E) (tables N L K E I S O F) k m q us p
       go (Refuse w) r h = rw (h .0, h .1, h .2, h .3) (out-refuse (quickBase N L K E) N L K E I S O F k m b q us (Refuse w) r C J c j w refl)
       go (Keep d) r h = rw (h .0, h .1, h .2) (out-keep (quickBase N L K E) N L K E I S O F k m b q us (Keep d) r C J c j d G refl (h .3))
-      go (Above d kind v) r h = rw (h .0, h .1, h .2) (out-above (quickBase N L K E) N L K E I S O F k m b q us (Above d kind v) r C J c j d kind v G refl (h .3))
-      go (Local d i kind v) r h = rw (h .0, h .1, h .2) (out-local (quickBase N L K E) N L K E I S O F k m b q us (Local d i kind v) r C J c j d i kind v G refl (h .3))
-      go (Give kind v) r h =
+      go (Above d v) r h = rw (h .0, h .1, h .2) (out-above (quickBase N L K E) N L K E I S O F k m b q us (Above d v) r C J c j d v G refl (h .3))
+      go (Local d i v) r h = rw (h .0, h .1, h .2) (out-local (quickBase N L K E) N L K E I S O F k m b q us (Local d i v) r C J c j d i v G refl (h .3))
+      go (Give v) r h =
           rw (h .0, h .2)
-          (out-give (quickBase N L K E) N L K E I S O F k m b q us (Give kind v) r C J c j kind v (frameBase k (m - 1)) (getD F (frameBase k (m - 1) + 3) 0) D G refl refl refl (h .1) (h .3))
+          (out-give (quickBase N L K E) N L K E I S O F k m b q us (Give v) r C J c j v (frameBase k (m - 1)) (getD F (frameBase k (m - 1) + 3) 0) D G refl refl refl (h .1) (h .3))
       go (Finish v) r h = rw (h .0, h .2, h .3) (out-finish (quickBase N L K E) N L K E I S O F k m b q us (Finish v) r C J c j v D refl (h .1))
-      go (Field d o i kind v) r h = rw (h .0, h .1) (out-field (quickBase N L K E) N L K E I S O F k m b q us (Field d o i kind v) r C J c j d o i kind v G P refl (h .3) (h .2))
-      go (Enter d s i o kind v) r h =
-          rw (h .0, h .2) (out-enter (quickBase N L K E) N L K E I S O F k m b q us (Enter d s i o kind v) r C J c j d s i o kind v D G refl (h .1) (h .3))
+      go (Field d o i v) r h = rw (h .0, h .1) (out-field (quickBase N L K E) N L K E I S O F k m b q us (Field d o i v) r C J c j d o i v G P refl (h .3) (h .2))
+      go (Enter d e) r h =
+          rw (h .0, h .2) (out-enter (quickBase N L K E) N L K E I S O F k m b q us (Enter d e) r C J c j d e D G refl (h .1) (h .3))
       go (Make d s) r h =
           rw (h .0)
           (out-make (quickBase N L K E) N L K E I S O F k m b q us (Make d s) r C J c j d s (getD C 5 0) D G P refl posted-number (h .1) (h .3) (rw posted-base at (h .2)))

@@ -159,12 +159,12 @@ posted-none w = λ i. record { base = w .base; ties = append-nil (w .ties) i; su
 nothing-quiet : (p : Plan) → Quiet [] p
 nothing-quiet (Refuse r) = refl
 nothing-quiet (Keep d) = tt
-nothing-quiet (Above d kind v) = tt
-nothing-quiet (Local d j kind v) = tt
-nothing-quiet (Give kind v) = tt
+nothing-quiet (Above d v) = tt
+nothing-quiet (Local d j v) = tt
+nothing-quiet (Give v) = tt
 nothing-quiet (Finish v) = tt
-nothing-quiet (Field d o j kind v) = tt
-nothing-quiet (Enter d c j o kind v) = tt
+nothing-quiet (Field d o j v) = tt
+nothing-quiet (Enter d e) = tt
 nothing-quiet (Make d c) = tt
 
 module _ (N L K E I S O F : List ℕ) (k m b d loader : ℕ) (i : Instruction) (p : Plan) (low : getD N 3 0 ≤ 256) where

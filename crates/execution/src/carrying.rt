@@ -4,6 +4,8 @@ use definition::numbers::COUNT_OBJECTS;
 use definition::numbers::COUNT_TIES;
 use definition::numbers::FIELD_LIMIT;
 use definition::numbers::KIND_OBJECT;
+use frames::Cell;
+use frames::Entry;
 use instructions::Plan;
 use posting::Posting;
 ghost use mathlib.Core.Path.{_≡_};
@@ -35,56 +37,43 @@ pub(crate) fn post_ties(counts: &mut [u16], ties: &mut [u16], posting: Posting)
 }
 
 // A value pushed: the frame goes on at point q with d operands and the value above them.
-fn push(frames: &mut [u32], b: u32, q: u32, d: u32, kind: u32, bits: u32)
+fn push(frames: &mut [u32], b: u32, q: u32, d: u32, v: Cell)
     requires { ⌜ d < operandLimit ⌝ }
-    ensures { λ _. ⌜ now (frames .exit) ≡ putOperand b (moved (now (frames .entry)) b q (d + 1)) d (valueOf kind bits) ⌝ }
+    ensures { λ _. ⌜ now (frames .exit) ≡ putOperand b (moved (now (frames .entry)) b q (d + 1)) d (valueOf (v .kind) (v .bits)) ⌝ }
 {
     frames::write_moved(frames, b, q, d + 1);
-    frames::write_operand(frames, b, d, kind, bits);
+    frames::write_operand(frames, b, d, v);
 }
 
 // A local set: the frame goes on at point q with d operands.
-fn store(frames: &mut [u32], b: u32, q: u32, d: u32, j: u8, kind: u32, bits: u32)
-    ensures { λ _. ⌜ now (frames .exit) ≡ putLocal b (moved (now (frames .entry)) b q d) j (valueOf kind bits) ⌝ }
+fn store(frames: &mut [u32], b: u32, q: u32, d: u32, j: u8, v: Cell)
+    ensures { λ _. ⌜ now (frames .exit) ≡ putLocal b (moved (now (frames .entry)) b q d) j (valueOf (v .kind) (v .bits)) ⌝ }
 {
     frames::write_moved(frames, b, q, d);
-    frames::write_local(frames, b, j, kind, bits);
+    frames::write_local(frames, b, j, v);
 }
 
 // A value given back to the frame in row m - 1 of a task, which is then its top frame.
-fn give(counts: &mut [u16], frames: &mut [u32], task: u8, m: u16, kind: u32, bits: u32)
+fn give(counts: &mut [u16], frames: &mut [u32], task: u8, m: u16, v: Cell)
     requires { ⌜ (0 < m) × (getD (now frames) (frameBase task (m - 1) + depthCell) 0 < operandLimit) ⌝ }
     ensures counted { λ _. ⌜ now (counts .exit) ≡ set (now (counts .entry)) (countFrames + task) m ⌝ }
-    ensures written { λ _. ⌜ (let a = frameBase task (m - 1) in let d = getD (now (frames .entry)) (a + depthCell) 0 in now (frames .exit) ≡ putOperand a (set (now (frames .entry)) (a + depthCell) (d + 1)) d (valueOf kind bits)) ⌝ }
+    ensures written { λ _. ⌜ (let a = frameBase task (m - 1) in let d = getD (now (frames .entry)) (a + depthCell) 0 in now (frames .exit) ≡ putOperand a (set (now (frames .entry)) (a + depthCell) (d + 1)) d (valueOf (v .kind) (v .bits))) ⌝ }
 {
     let a = frames::row(task, m - 1);
     let d = frames::depth(frames, a);
     frames::write_depth(frames, a, d + 1);
-    frames::write_operand(frames, a, d, kind, bits);
+    frames::write_operand(frames, a, d, v);
     tasks::write_frame_count(counts, task, m);
 }
 
 // A frame entered in row m + 1 of a task, above the one that goes on at point q with d operands.
-fn enter(
-    counts: &mut [u16],
-    frames: &mut [u32],
-    task: u8,
-    m: u16,
-    b: u32,
-    q: u32,
-    d: u32,
-    c: u32,
-    j: u32,
-    o: u32,
-    kind: u32,
-    bits: u32,
-)
+fn enter(counts: &mut [u16], frames: &mut [u32], task: u8, m: u16, b: u32, q: u32, d: u32, e: Entry)
     requires { ⌜ m < frameLimit ⌝ }
     ensures counted { λ _. ⌜ now (counts .exit) ≡ set (now (counts .entry)) (countFrames + task) (m + 2) ⌝ }
-    ensures written { λ _. ⌜ now (frames .exit) ≡ putFrame (moved (now (frames .entry)) b q d) (frameBase task (m + 1)) (entryFrame c j o (valueOf kind bits)) ⌝ }
+    ensures written { λ _. ⌜ now (frames .exit) ≡ putFrame (moved (now (frames .entry)) b q d) (frameBase task (m + 1)) (entryFrame (e .class) (e .method) (e .object) (valueOf (e .argument .kind) (e .argument .bits))) ⌝ }
 {
     frames::write_moved(frames, b, q, d);
-    frames::write_entry(frames, frames::row(task, m + 1), c, j, o, kind, bits);
+    frames::write_entry(frames, frames::row(task, m + 1), e);
     tasks::write_frame_count(counts, task, m + 2);
 }
 
@@ -126,7 +115,16 @@ fn make(
 {
     let n = cells::at16(counts, COUNT_OBJECTS);
     write_new(counts, classes, kept, cache, objects, cells::from16(n), c);
-    push(frames, b, q, d, KIND_OBJECT, cells::from16(n));
+    push(
+        frames,
+        b,
+        q,
+        d,
+        Cell {
+            kind: KIND_OBJECT,
+            bits: cells::from16(n),
+        },
+    );
     cells::put16(counts, COUNT_OBJECTS, n + 1);
 }
 
@@ -153,29 +151,29 @@ pub(crate) fn carry_out(
             frames::write_moved(frames, b, q, d);
             Answer::Ran(task)
         }
-        Plan::Above(d, kind, bits) => {
-            push(frames, b, q, d, kind, bits);
+        Plan::Above(d, v) => {
+            push(frames, b, q, d, v);
             Answer::Ran(task)
         }
-        Plan::Local(d, j, kind, bits) => {
-            store(frames, b, q, d, j, kind, bits);
+        Plan::Local(d, j, v) => {
+            store(frames, b, q, d, j, v);
             Answer::Ran(task)
         }
-        Plan::Give(kind, bits) => {
-            give(counts, frames, task, m, kind, bits);
+        Plan::Give(v) => {
+            give(counts, frames, task, m, v);
             Answer::Ran(task)
         }
         Plan::Finish(bits) => {
             tasks::write_frame_count(counts, task, 0);
             Answer::Finished(task, bits)
         }
-        Plan::Field(d, o, j, kind, bits) => {
+        Plan::Field(d, o, j, v) => {
             frames::write_moved(frames, b, q, d);
-            frames::write_field(objects, o, j, kind, bits);
+            frames::write_field(objects, o, j, v);
             Answer::Ran(task)
         }
-        Plan::Enter(d, c, j, o, kind, bits) => {
-            enter(counts, frames, task, m, b, q, d, c, j, o, kind, bits);
+        Plan::Enter(d, e) => {
+            enter(counts, frames, task, m, b, q, d, e);
             Answer::Ran(task)
         }
         Plan::Make(d, c) => {

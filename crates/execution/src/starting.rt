@@ -3,7 +3,10 @@ use crate::carrying::write_new;
 use definition::Refusal;
 use definition::Reply;
 use definition::numbers::COUNT_OBJECTS;
+use definition::numbers::KIND_INT;
 use definition::numbers::WORD_BROKEN;
+use frames::Cell;
+use frames::Entry;
 use opening::Opening;
 ghost use mathlib.Core.Path.{_≡_};
 ghost use Prim.Native.Nat.{_+_, _<_, _≤_};
@@ -71,11 +74,15 @@ fn begin(
     frames::write_entry(
         frames,
         frames::row(task, 0),
-        s,
-        j,
-        cells::from16(n),
-        1,
-        value,
+        Entry {
+            class: s,
+            method: j,
+            object: cells::from16(n),
+            argument: Cell {
+                kind: KIND_INT,
+                bits: value,
+            },
+        },
     );
     cells::put16(counts, COUNT_OBJECTS, n + 1);
     tasks::write_frame_count(counts, task, 1);

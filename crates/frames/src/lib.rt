@@ -34,6 +34,14 @@ pub struct Cell {
     pub bits: u32,
 }
 
+// A frame to be entered: a class and its method, the object that is this, and the argument.
+pub struct Entry {
+    pub class: u32,
+    pub method: u32,
+    pub object: u32,
+    pub argument: Cell,
+}
+
 // Reading
 
 fn pair(t: &[u32], i: usize) -> Cell
@@ -116,12 +124,12 @@ pub fn row(task: u8, m: u16) -> u32
 
 // Writing
 
-fn write_pair(t: &mut [u32], i: usize, kind: u32, bits: u32)
+fn write_pair(t: &mut [u32], i: usize, v: Cell)
     requires { ⌜ i < 1099511627776 ⌝ }
-    ensures { λ _. ⌜ now (t .exit) ≡ putCells (now (t .entry)) i kind bits ⌝ }
+    ensures { λ _. ⌜ now (t .exit) ≡ putCells (now (t .entry)) i (v .kind) (v .bits) ⌝ }
 {
-    cells::put32(t, i, kind);
-    cells::put32(t, i + 1, bits);
+    cells::put32(t, i, v.kind);
+    cells::put32(t, i + 1, v.bits);
 }
 
 // The point and the operand count.
@@ -139,36 +147,33 @@ pub fn write_depth(frames: &mut [u32], b: u32, d: u32)
     cells::put32(frames, cells::wide32(b) + DEPTH_CELL, d);
 }
 
-pub fn write_operand(frames: &mut [u32], b: u32, i: u32, kind: u32, bits: u32)
-    ensures { λ _. ⌜ now (frames .exit) ≡ putOperand b (now (frames .entry)) i (valueOf kind bits) ⌝ }
+pub fn write_operand(frames: &mut [u32], b: u32, i: u32, v: Cell)
+    ensures { λ _. ⌜ now (frames .exit) ≡ putOperand b (now (frames .entry)) i (valueOf (v .kind) (v .bits)) ⌝ }
 {
     write_pair(
         frames,
         cells::wide32(b) + (OPERANDS_CELL + VALUE_CELLS * cells::wide32(i)),
-        kind,
-        bits,
+        v,
     );
 }
 
-pub fn write_local(frames: &mut [u32], b: u32, j: u8, kind: u32, bits: u32)
-    ensures { λ _. ⌜ now (frames .exit) ≡ putLocal b (now (frames .entry)) j (valueOf kind bits) ⌝ }
+pub fn write_local(frames: &mut [u32], b: u32, j: u8, v: Cell)
+    ensures { λ _. ⌜ now (frames .exit) ≡ putLocal b (now (frames .entry)) j (valueOf (v .kind) (v .bits)) ⌝ }
 {
     write_pair(
         frames,
         cells::wide32(b) + (LOCALS_CELL + VALUE_CELLS * cells::wide8(j)),
-        kind,
-        bits,
+        v,
     );
 }
 
-pub fn write_field(objects: &mut [u32], o: u32, j: u8, kind: u32, bits: u32)
-    ensures { λ _. ⌜ now (objects .exit) ≡ putField o (now (objects .entry)) j (valueOf kind bits) ⌝ }
+pub fn write_field(objects: &mut [u32], o: u32, j: u8, v: Cell)
+    ensures { λ _. ⌜ now (objects .exit) ≡ putField o (now (objects .entry)) j (valueOf (v .kind) (v .bits)) ⌝ }
 {
     write_pair(
         objects,
         cells::wide32(o) * OBJECT_CELLS + (FIELDS_CELL + VALUE_CELLS * cells::wide8(j)),
-        kind,
-        bits,
+        v,
     );
 }
 
@@ -183,22 +188,34 @@ fn write_head(frames: &mut [u32], b: u32, c: u32, j: u32)
 fn write_empty(frames: &mut [u32], b: u32)
     ensures { λ _. ⌜ now (frames .exit) ≡ putEmpty b (now (frames .entry)) ⌝ }
 {
-    write_local(frames, b, 7, KIND_EMPTY, 0);
-    write_local(frames, b, 6, KIND_EMPTY, 0);
-    write_local(frames, b, 5, KIND_EMPTY, 0);
-    write_local(frames, b, 4, KIND_EMPTY, 0);
-    write_local(frames, b, 3, KIND_EMPTY, 0);
-    write_local(frames, b, 2, KIND_EMPTY, 0);
+    let empty = Cell {
+        kind: KIND_EMPTY,
+        bits: 0,
+    };
+    write_local(frames, b, 7, empty);
+    write_local(frames, b, 6, empty);
+    write_local(frames, b, 5, empty);
+    write_local(frames, b, 4, empty);
+    write_local(frames, b, 3, empty);
+    write_local(frames, b, 2, empty);
 }
 
-// A frame entered: method j of class c, this is object o, the argument a kind and bits.
-pub fn write_entry(frames: &mut [u32], b: u32, c: u32, j: u32, o: u32, kind: u32, bits: u32)
-    ensures { λ _. ⌜ now (frames .exit) ≡ putFrame (now (frames .entry)) b (entryFrame c j o (valueOf kind bits)) ⌝ }
+// A frame entered, in the row at cell b.
+pub fn write_entry(frames: &mut [u32], b: u32, e: Entry)
+    ensures { λ _. ⌜ now (frames .exit) ≡ putFrame (now (frames .entry)) b (entryFrame (e .class) (e .method) (e .object) (valueOf (e .argument .kind) (e .argument .bits))) ⌝ }
 {
-    write_head(frames, b, c, j);
+    write_head(frames, b, e.class, e.method);
     write_empty(frames, b);
-    write_local(frames, b, 1, kind, bits);
-    write_local(frames, b, 0, KIND_OBJECT, o);
+    write_local(frames, b, 1, e.argument);
+    write_local(
+        frames,
+        b,
+        0,
+        Cell {
+            kind: KIND_OBJECT,
+            bits: e.object,
+        },
+    );
 }
 
 // What a field of that type begins as: 0 for an int, null for a class name.
@@ -206,9 +223,25 @@ fn write_initial(objects: &mut [u32], o: u32, j: u8, name: u16)
     ensures { λ _. ⌜ now (objects .exit) ≡ putField o (now (objects .entry)) j (initialOf name) ⌝ }
 {
     if name == NAME_INT {
-        write_field(objects, o, j, KIND_INT, 0);
+        write_field(
+            objects,
+            o,
+            j,
+            Cell {
+                kind: KIND_INT,
+                bits: 0,
+            },
+        );
     } else {
-        write_field(objects, o, j, KIND_NULL, 0);
+        write_field(
+            objects,
+            o,
+            j,
+            Cell {
+                kind: KIND_NULL,
+                bits: 0,
+            },
+        );
     }
 }
 

@@ -15,6 +15,8 @@ use Rattle.definition.specs.Answers.{Result, refused, ok, _>>=_, take?}
 use Rattle.definition.specs.Machine.{Value, intValue, objectValue, Object, Frame, existing, newObject, entryFrame, Progress, give, execute}
 use Rattle.definition.specs.Tables.{Tables, valueOf, operandAt, localAt, frame, frameOf, frameBase, frameIn, sizeOf, usedFields, objectAt}
 use Rattle.layout.specs.Cells.{frameWith, withField}
+use Rattle.frames.specs.declared.Cell.{Cell}
+use Rattle.frames.specs.declared.Entry.{Entry}
 pub use Rattle.instructions.specs.declared.Plan.{Plan}
 pub use Rattle.instructions.specs.declared.Plan.the-variants.{Refuse, Keep, Above, Local, Give, Finish, Field, Enter, Make}
 
@@ -36,18 +38,18 @@ module _ (w : World) (os : List Object) (fs : List Frame) (F : List ℕ) (b q : 
   unfoldable pub meaning : Plan → Result Progress
   meaning (Refuse r) = refused r
   meaning (Keep d) = leaves os (frameOf F b q d ∷ fs)
-  meaning (Above d k v) = leaves os (withAbove F b q d (valueOf k v) ∷ fs)
-  meaning (Local d j k v) = leaves os (withLocal F b q d j (valueOf k v) ∷ fs)
-  meaning (Give k v) = give fs w os (valueOf k v)
+  meaning (Above d v) = leaves os (withAbove F b q d (valueOf (v .kind) (v .bits)) ∷ fs)
+  meaning (Local d j v) = leaves os (withLocal F b q d j (valueOf (v .kind) (v .bits)) ∷ fs)
+  meaning (Give v) = give fs w os (valueOf (v .kind) (v .bits))
   meaning (Finish v) = ok (record { world = w; objects = os; frames = []; result = some v })
-  meaning (Field d o j k v) = take? (existing os o) (Word 14) >>= λ x. leaves (set os o (withField x j (valueOf k v))) (frameOf F b q d ∷ fs)
-  meaning (Enter d c j o k v) = leaves os (entryFrame c j o (valueOf k v) ∷ frameOf F b q d ∷ fs)
+  meaning (Field d o j v) = take? (existing os o) (Word 14) >>= λ x. leaves (set os o (withField x j (valueOf (v .kind) (v .bits)))) (frameOf F b q d ∷ fs)
+  meaning (Enter d e) = leaves os (entryFrame (e .class) (e .method) (e .object) (valueOf (e .argument .kind) (e .argument .bits)) ∷ frameOf F b q d ∷ fs)
   meaning (Make d c) = leaves (os ++ (newObject (w .base) c ∷ [])) (withAbove F b q d (objectValue (length os)) ∷ fs)
 
 -- What becomes of a computed int: it stands above d operands, unless the operator refuses
 unfoldable pub computed : ℕ → Result ℕ → Plan
 computed d (refused w) = Refuse w
-computed d (ok n) = Above d 1 n
+computed d (ok n) = Above d (record { kind = 1; bits = n })
 
 pub computed-means : (w : World) (os : List Object) (fs : List Frame) (F : List ℕ) (b q d : ℕ) (r : Result ℕ)
     → meaning w os fs F b q (computed d r) ≡ (r >>= λ n. ok (record { world = w; objects = os; frames = withAbove F b q d (intValue n) ∷ fs; result = none }))
@@ -60,12 +62,12 @@ computed-means w os fs F b q d (ok n) = refl
 abbrev pub Fit : Base → Tables → ℕ → ℕ → Plan → Type 0
 Fit B t k m (Refuse r) = Unit {0}
 Fit B t k m (Keep d) = Unit {0}
-Fit B t k m (Above d kind v) = d < 16
-Fit B t k m (Local d j kind v) = j < 8
-Fit B t k m (Give kind v) = (0 < m) × (getD (t .frames) (frameBase k (m - 1) + 3) 0 < 16)
+Fit B t k m (Above d v) = d < 16
+Fit B t k m (Local d j v) = j < 8
+Fit B t k m (Give v) = (0 < m) × (getD (t .frames) (frameBase k (m - 1) + 3) 0 < 16)
 Fit B t k m (Finish v) = m ≡ 0
-Fit B t k m (Field d o j kind v) = (o < getD (t .counts) 5 0) × (j < usedFields B (objectAt B (t .objects) o .class))
-Fit B t k m (Enter d c j o kind v) = suc m < 32
+Fit B t k m (Field d o j v) = (o < getD (t .counts) 5 0) × (j < usedFields B (objectAt B (t .objects) o .class))
+Fit B t k m (Enter d e) = suc m < 32
 Fit B t k m (Make d c) = (d < 16) × (getD (t .counts) 5 0 < 256) × (sizeOf B c ≤ 16)
 
 pub computed-fits : (B : Base) (t : Tables) (k m d : ℕ) (r : Result ℕ) → d < 16 → Fit B t k m (computed d r)

@@ -17,25 +17,27 @@ use definition::numbers::NAME_INT;
 use definition::numbers::OPERAND_LIMIT;
 use definition::numbers::WORD_FULL;
 use definition::numbers::WORD_STUCK;
+use frames::Cell;
+use frames::Entry;
 
-// What a step is going to do. d operands stay; a value is a kind and 32 bits.
+// What a step is going to do. d operands stay; a value is its two cells.
 pub enum Plan {
     // A refusal.
     Refuse(Refusal),
     // d operands stay.
     Keep(u32),
     // d operands stay, with a value above them.
-    Above(u32, u32, u32),
+    Above(u32, Cell),
     // d operands stay; a local is set to a value.
-    Local(u32, u8, u32, u32),
+    Local(u32, u8, Cell),
     // A value is given back to the frame below.
-    Give(u32, u32),
+    Give(Cell),
     // A first frame gives an int back.
     Finish(u32),
     // d operands stay; a field of an object is set to a value.
-    Field(u32, u32, u8, u32, u32),
-    // d operands stay; a frame is entered: class, method, object, argument.
-    Enter(u32, u32, u32, u32, u32, u32),
+    Field(u32, u32, u8, Cell),
+    // d operands stay; a frame is entered.
+    Enter(u32, Entry),
     // d operands stay; an object of a class is made, and stands above them.
     Make(u32, u32),
 }
@@ -48,33 +50,37 @@ pub fn refuse(word: u8) -> Plan
 }
 
 // Whether cells hold null or an object.
-pub fn is_reference(kind: u32, bits: u32) -> bool
-    ensures { λ r. ⌜ r ≡ isReference kind bits ⌝ }
+pub fn is_reference(v: Cell) -> bool
+    ensures { λ r. ⌜ r ≡ isReference (v .kind) (v .bits) ⌝ }
 {
-    if kind == KIND_OBJECT {
+    if v.kind == KIND_OBJECT {
         return true;
     }
-    if kind == KIND_NULL { bits == 0 } else { false }
+    if v.kind == KIND_NULL {
+        v.bits == 0
+    } else {
+        false
+    }
 }
 
 // Whether cells hold a value of the kind.
-pub fn is_of_kind(kind: Kind, cell: u32, bits: u32) -> bool
-    ensures { λ r. ⌜ r ≡ isOfKind kind cell bits ⌝ }
+pub fn is_of_kind(kind: Kind, v: Cell) -> bool
+    ensures { λ r. ⌜ r ≡ isOfKind kind (v .kind) (v .bits) ⌝ }
 {
     match kind {
-        Kind::IntKind => cell == KIND_INT,
-        Kind::ReferenceKind => is_reference(cell, bits),
+        Kind::IntKind => v.kind == KIND_INT,
+        Kind::ReferenceKind => is_reference(v),
     }
 }
 
 // Whether cells hold an int, for int, or a reference, for a class name.
-pub fn is_kind(name: u16, kind: u32, bits: u32) -> bool
-    ensures { λ r. ⌜ r ≡ isKind name kind bits ⌝ }
+pub fn is_kind(name: u16, v: Cell) -> bool
+    ensures { λ r. ⌜ r ≡ isKind name (v .kind) (v .bits) ⌝ }
 {
     if name == NAME_INT {
-        kind == KIND_INT
+        v.kind == KIND_INT
     } else {
-        is_reference(kind, bits)
+        is_reference(v)
     }
 }
 
@@ -86,7 +92,13 @@ pub fn aconst_null(d: u32) -> Plan
     if OPERAND_LIMIT <= d {
         return refuse(WORD_FULL);
     }
-    Plan::Above(d, KIND_NULL, 0)
+    Plan::Above(
+        d,
+        Cell {
+            kind: KIND_NULL,
+            bits: 0,
+        },
+    )
 }
 
 pub fn sipush(d: u32, n: u32) -> Plan
@@ -95,7 +107,13 @@ pub fn sipush(d: u32, n: u32) -> Plan
     if OPERAND_LIMIT <= d {
         return refuse(WORD_FULL);
     }
-    Plan::Above(d, KIND_INT, n)
+    Plan::Above(
+        d,
+        Cell {
+            kind: KIND_INT,
+            bits: n,
+        },
+    )
 }
 
 // Locals
@@ -110,10 +128,10 @@ pub fn load(frames: &[u32], b: u32, d: u32, kind: Kind, j: u8) -> Plan
         return refuse(WORD_STUCK);
     }
     let v = frames::local(frames, b, j);
-    if !is_of_kind(kind, v.kind, v.bits) {
+    if !is_of_kind(kind, v) {
         return refuse(WORD_STUCK);
     }
-    Plan::Above(d, v.kind, v.bits)
+    Plan::Above(d, v)
 }
 
 pub fn store(frames: &[u32], b: u32, d: u32, kind: Kind, j: u8) -> Plan
@@ -123,13 +141,13 @@ pub fn store(frames: &[u32], b: u32, d: u32, kind: Kind, j: u8) -> Plan
         return refuse(WORD_STUCK);
     }
     let v = frames::operand(frames, b, d - 1);
-    if !is_of_kind(kind, v.kind, v.bits) {
+    if !is_of_kind(kind, v) {
         return refuse(WORD_STUCK);
     }
     if LOCAL_COUNT <= j {
         return refuse(WORD_STUCK);
     }
-    Plan::Local(d - 1, j, v.kind, v.bits)
+    Plan::Local(d - 1, j, v)
 }
 
 // Operands
@@ -153,7 +171,7 @@ pub fn dup(frames: &[u32], b: u32, d: u32) -> Plan
         return refuse(WORD_STUCK);
     }
     let v = frames::operand(frames, b, d - 1);
-    Plan::Above(d, v.kind, v.bits)
+    Plan::Above(d, v)
 }
 
 // What an operator makes of the ints x and y, above d operands.
@@ -161,8 +179,20 @@ fn compute(o: Operator, d: u32, x: u32, y: u32) -> Plan
     ensures { λ r. ⌜ r ≡ computed d (compute o x y) ⌝ }
 {
     match o {
-        Operator::Add => Plan::Above(d, KIND_INT, std::num::wrapping_add_u32(x, y)),
-        Operator::Subtract => Plan::Above(d, KIND_INT, std::num::wrapping_sub_u32(x, y)),
+        Operator::Add => Plan::Above(
+            d,
+            Cell {
+                kind: KIND_INT,
+                bits: std::num::wrapping_add_u32(x, y),
+            },
+        ),
+        Operator::Subtract => Plan::Above(
+            d,
+            Cell {
+                kind: KIND_INT,
+                bits: std::num::wrapping_sub_u32(x, y),
+            },
+        ),
     }
 }
 
@@ -210,11 +240,11 @@ pub fn give_back(frames: &[u32], task: u8, m: u16, b: u32, d: u32, kind: Kind) -
         return refuse(WORD_STUCK);
     }
     let v = frames::operand(frames, b, d - 1);
-    if !is_of_kind(kind, v.kind, v.bits) {
+    if !is_of_kind(kind, v) {
         return refuse(WORD_STUCK);
     }
     if m != 0 {
-        return Plan::Give(v.kind, v.bits);
+        return Plan::Give(v);
     }
     if v.kind != KIND_INT {
         return refuse(WORD_STUCK);

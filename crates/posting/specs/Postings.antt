@@ -111,35 +111,35 @@ module _ (ts : List Tie) (l m a r : ℕ) (differ : l ≢ m) where
 abbrev pub Quiet : List Tie → Plan → Type 0
 Quiet us (Refuse r) = us ≡ []
 Quiet us (Keep d) = Unit {0}
-Quiet us (Above d kind v) = Unit {0}
-Quiet us (Local d j kind v) = Unit {0}
-Quiet us (Give kind v) = Unit {0}
+Quiet us (Above d v) = Unit {0}
+Quiet us (Local d j v) = Unit {0}
+Quiet us (Give v) = Unit {0}
 Quiet us (Finish v) = Unit {0}
-Quiet us (Field d o j kind v) = Unit {0}
-Quiet us (Enter d c j o kind v) = Unit {0}
+Quiet us (Field d o j v) = Unit {0}
+Quiet us (Enter d e) = Unit {0}
 Quiet us (Make d c) = Unit {0}
 
 abbrev pub quietly : Posting → Plan → Posting
 quietly x (Refuse r) = Nothing
 quietly x (Keep d) = x
-quietly x (Above d kind v) = x
-quietly x (Local d j kind v) = x
-quietly x (Give kind v) = x
+quietly x (Above d v) = x
+quietly x (Local d j v) = x
+quietly x (Give v) = x
 quietly x (Finish v) = x
-quietly x (Field d o j kind v) = x
-quietly x (Enter d c j o kind v) = x
+quietly x (Field d o j v) = x
+quietly x (Enter d e) = x
 quietly x (Make d c) = x
 
 pub quietly-quiet : (x : Posting) (p : Plan) → Quiet (toPost (quietly x p)) p
 unfolding toPost
 quietly-quiet x (Refuse r) = refl
 quietly-quiet x (Keep d) = tt
-quietly-quiet x (Above d kind v) = tt
-quietly-quiet x (Local d j kind v) = tt
-quietly-quiet x (Give kind v) = tt
+quietly-quiet x (Above d v) = tt
+quietly-quiet x (Local d j v) = tt
+quietly-quiet x (Give v) = tt
 quietly-quiet x (Finish v) = tt
-quietly-quiet x (Field d o j kind v) = tt
-quietly-quiet x (Enter d c j o kind v) = tt
+quietly-quiet x (Field d o j v) = tt
+quietly-quiet x (Enter d e) = tt
 quietly-quiet x (Make d c) = tt
 
 pub quietly-means : (w : World) (os : List Object) (fs : List Frame) (F : List ℕ) (b q : ℕ) (x : Posting) (p : Plan)
@@ -147,22 +147,22 @@ pub quietly-means : (w : World) (os : List Object) (fs : List Frame) (F : List �
 unfolding meaning
 quietly-means w os fs F b q x (Refuse r) = refl
 quietly-means w os fs F b q x (Keep d) = refl
-quietly-means w os fs F b q x (Above d kind v) = refl
-quietly-means w os fs F b q x (Local d j kind v) = refl
-quietly-means w os fs F b q x (Give kind v) = refl
+quietly-means w os fs F b q x (Above d v) = refl
+quietly-means w os fs F b q x (Local d j v) = refl
+quietly-means w os fs F b q x (Give v) = refl
 quietly-means w os fs F b q x (Finish v) = refl
-quietly-means w os fs F b q x (Field d o j kind v) = refl
-quietly-means w os fs F b q x (Enter d c j o kind v) = refl
+quietly-means w os fs F b q x (Field d o j v) = refl
+quietly-means w os fs F b q x (Enter d e) = refl
 quietly-means w os fs F b q x (Make d c) = refl
 
 pub quietly-few : (x : Posting) (p : Plan) → length (toPost (quietly x p)) ≤ length (toPost x)
 unfolding toPost
 quietly-few x (Refuse r) = omega arith
 quietly-few x (Keep d) = omega arith
-quietly-few x (Above d kind v) = omega arith
-quietly-few x (Local d j kind v) = omega arith
-quietly-few x (Give kind v) = omega arith
+quietly-few x (Above d v) = omega arith
+quietly-few x (Local d j v) = omega arith
+quietly-few x (Give v) = omega arith
 quietly-few x (Finish v) = omega arith
-quietly-few x (Field d o j kind v) = omega arith
-quietly-few x (Enter d c j o kind v) = omega arith
+quietly-few x (Field d o j v) = omega arith
+quietly-few x (Enter d e) = omega arith
 quietly-few x (Make d c) = omega arith

@@ -93,12 +93,12 @@ pub fn quiet(posting: Posting, plan: Plan) -> Posting
     match plan {
         Plan::Refuse(_) => Posting::Nothing,
         Plan::Keep(_) => posting,
-        Plan::Above(_, _, _) => posting,
-        Plan::Local(_, _, _, _) => posting,
-        Plan::Give(_, _) => posting,
+        Plan::Above(_, _) => posting,
+        Plan::Local(_, _, _) => posting,
+        Plan::Give(_) => posting,
         Plan::Finish(_) => posting,
-        Plan::Field(_, _, _, _, _) => posting,
-        Plan::Enter(_, _, _, _, _, _) => posting,
+        Plan::Field(_, _, _, _) => posting,
+        Plan::Enter(_, _) => posting,
         Plan::Make(_, _) => posting,
     }
 }

@@ -8,7 +8,7 @@ use Rattle.instructions.proofs.is_kind.Tie as tie
 
 returns : tie.Need-returns
 unfolding isKind pick
-returns c = rw (eq-eqb _ _ (c .if1 .taken))
+returns c = rw (eq-eqb _ _ (c .before .if1 .taken))
 
 returns-2 : tie.Need-returns-2
 unfolding isKind pick

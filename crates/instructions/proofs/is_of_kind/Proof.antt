@@ -6,7 +6,7 @@ use Rattle.instructions.proofs.is_of_kind.Tie as tie
 
 returns : tie.Need-returns
 unfolding isOfKind
-returns c = rw (c .enum-told .given .1)
+returns c = rw (c .before .enum-told .given .1)
 
 returns-2 : tie.Need-returns-2
 unfolding isOfKind

@@ -7,11 +7,11 @@ use Rattle.access.proofs.receivers.no_object.Tie as tie
 
 returns : tie.Need-returns
 unfolding noObject pick
-returns c = rw (eq-eqb _ _ (c .before .if1 .taken), eq-eqb _ _ (c .if2 .taken))
+returns c = rw (eq-eqb _ _ (c .before .before .if1 .taken), eq-eqb _ _ (c .if2 .taken))
 
 returns-2 : tie.Need-returns-2
 unfolding noObject pick
-returns-2 c = rw (eq-eqb _ _ (c .before .if1 .taken), ne-eqb _ _ (c .if2 .left))
+returns-2 c = rw (eq-eqb _ _ (c .before .before .if1 .taken), ne-eqb _ _ (c .if2 .left))
 
 returns-3 : tie.Need-returns-3
 unfolding noObject pick

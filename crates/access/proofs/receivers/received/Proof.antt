@@ -17,42 +17,42 @@ use Rattle.access.proofs.receivers.received.Tie as tie
 
 returns : tie.Need-returns
 returns c =
-    let at7 = c .before .before .before .before .before .before .before in
-    let counts = now (at7 .args .counts) in
-    let classes = now (at7 .args .classes) in
-    let kept = now (at7 .args .kept) in
-    let cache = now (at7 .args .cache) in
-    λ I S F. rw (c .no-object .ensures) (object-word (quickBase counts classes kept cache) (objectsOf (quickBase counts classes kept cache) (tables counts classes kept cache I S (now (at7 .args .objects)) F)) (at7 .args .e) (at7 .args .kind) (at7 .args .bits) (c .before .if1 .taken))
+    let at8 = c .before .before .before .before .before .before .before .before in
+    let counts = now (at8 .args .counts) in
+    let classes = now (at8 .args .classes) in
+    let kept = now (at8 .args .kept) in
+    let cache = now (at8 .args .cache) in
+    λ I S F. rw (c .no-object .ensures) (object-word (quickBase counts classes kept cache) (objectsOf (quickBase counts classes kept cache) (tables counts classes kept cache I S (now (at8 .args .objects)) F)) (at8 .args .e) (at8 .args .v .kind) (at8 .args .v .bits) (c .before .if1 .taken))
 
 returns-2 : tie.Need-returns-2
 returns-2 c =
-    let at9 = c .before .before .before .before .before .before .before .before .before in
-    let counts = now (at9 .args .counts) in
-    let classes = now (at9 .args .classes) in
-    let kept = now (at9 .args .kept) in
-    let cache = now (at9 .args .cache) in
-    λ I S F. object-missing (quickBase counts classes kept cache) (tables counts classes kept cache I S (now (at9 .args .objects)) F) (at9 .args .e) (at9 .args .kind) (at9 .args .bits) (c .before .before .before .if1 .left) (omega (arith, c .before .from16 .ensures .0, c .before .before .at16 .ensures, c .if2 .taken))
+    let at10 = c .before .before .before .before .before .before .before .before .before .before in
+    let counts = now (at10 .args .counts) in
+    let classes = now (at10 .args .classes) in
+    let kept = now (at10 .args .kept) in
+    let cache = now (at10 .args .cache) in
+    λ I S F. object-missing (quickBase counts classes kept cache) (tables counts classes kept cache I S (now (at10 .args .objects)) F) (at10 .args .e) (at10 .args .v .kind) (at10 .args .v .bits) (c .before .before .before .if1 .left) (omega (arith, c .before .from16 .ensures .0, c .before .before .at16 .ensures, c .if2 .taken))
 
 returns-3 : tie.Need-returns-3
 unfolding objectAt
 returns-3 c =
-    let at12 = c .before .before .before .before .before .before .before .before .before .before .before .before in
-    let counts = now (at12 .args .counts) in
-    let classes = now (at12 .args .classes) in
-    let kept = now (at12 .args .kept) in
-    let cache = now (at12 .args .cache) in
-    λ I S F. object-above (quickBase counts classes kept cache) (tables counts classes kept cache I S (now (at12 .args .objects)) F) (at12 .args .e) (at12 .args .kind) (at12 .args .bits) (c .before .before .before .before .before .before .if1 .left) (omega (arith, c .before .before .before .before .from16 .ensures .0, c .before .before .before .before .before .at16 .ensures, c .before .before .before .if2 .left)) (rw (← c .before .before .object-class .ensures) (sym (c .before .is-below .ensures) ∙ not-true _ (c .if3 .taken)))
+    let at13 = c .before .before .before .before .before .before .before .before .before .before .before .before .before in
+    let counts = now (at13 .args .counts) in
+    let classes = now (at13 .args .classes) in
+    let kept = now (at13 .args .kept) in
+    let cache = now (at13 .args .cache) in
+    λ I S F. object-above (quickBase counts classes kept cache) (tables counts classes kept cache I S (now (at13 .args .objects)) F) (at13 .args .e) (at13 .args .v .kind) (at13 .args .v .bits) (c .before .before .before .before .before .before .if1 .left) (omega (arith, c .before .before .before .before .from16 .ensures .0, c .before .before .before .before .before .at16 .ensures, c .before .before .before .if2 .left)) (rw (← c .before .before .object-class .ensures) (sym (c .before .is-below .ensures) ∙ not-true _ (c .if3 .taken)))
 
 returns-4 : tie.Need-returns-4
 unfolding objectAt
 returns-4 c =
-    let at12 = c .before .before .before .before .before .before .before .before .before .before .before .before in
-    let counts = now (at12 .args .counts) in
-    let classes = now (at12 .args .classes) in
-    let kept = now (at12 .args .kept) in
-    let cache = now (at12 .args .cache) in
-    let objects = now (at12 .args .objects) in
-    λ I S F. let l : at12 .args .bits < getD counts 5 0 = omega (arith, c .before .before .before .before .from16 .ensures .0, c .before .before .before .before .before .at16 .ensures, c .before .before .before .if2 .left) in let h : below (superOf (quickBase counts classes kept cache)) (objectAt (quickBase counts classes kept cache) objects (at12 .args .bits) .class) (at12 .args .e) ≡ true = rw (← c .before .before .object-class .ensures) (sym (c .before .is-below .ensures) ∙ not-false _ (c .if3 .left)) in (object-right (quickBase counts classes kept cache) (tables counts classes kept cache I S objects F) (at12 .args .e) (at12 .args .kind) (at12 .args .bits) (c .before .before .before .before .before .before .if1 .left) l h, l, h)
+    let at13 = c .before .before .before .before .before .before .before .before .before .before .before .before .before in
+    let counts = now (at13 .args .counts) in
+    let classes = now (at13 .args .classes) in
+    let kept = now (at13 .args .kept) in
+    let cache = now (at13 .args .cache) in
+    let objects = now (at13 .args .objects) in
+    λ I S F. let l : at13 .args .v .bits < getD counts 5 0 = omega (arith, c .before .before .before .before .from16 .ensures .0, c .before .before .before .before .before .at16 .ensures, c .before .before .before .if2 .left) in let h : below (superOf (quickBase counts classes kept cache)) (objectAt (quickBase counts classes kept cache) objects (at13 .args .v .bits) .class) (at13 .args .e) ≡ true = rw (← c .before .before .object-class .ensures) (sym (c .before .is-below .ensures) ∙ not-false _ (c .if3 .left)) in (object-right (quickBase counts classes kept cache) (tables counts classes kept cache I S objects F) (at13 .args .e) (at13 .args .v .kind) (at13 .args .v .bits) (c .before .before .before .before .before .before .if1 .left) l h, l, h)
 
 pub received-spec : {M : Type 1} → statement M
 received-spec =
