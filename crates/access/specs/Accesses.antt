@@ -3,14 +3,14 @@
 use mathlib.Core.Path.{_≡_}
 use mathlib.Core.Bool.{Bool, true}
 use mathlib.Core.List.{List, _∷_, _++_}
-use mathlib.Core.Option.{none}
+use mathlib.Core.Option.{Option, none, some}
 use Prim.Native.Nat.{ℕ, suc, _+_, _<_, _≤_}
 use lib.ListN.{length, getElem?, set}
 use lib.Dec.{ltb}
 use Rattle.definition.specs.declared.Signature.{Signature}
 use Rattle.definition.specs.Lists.{indexOf}
 use Rattle.definition.specs.Superclasses.{below}
-use Rattle.definition.specs.Classes.{Base, Class, loaderOf, superOf, slots, slotIs, selected}
+use Rattle.definition.specs.Classes.{Base, Class, superOf, slots, slotIs, selected}
 use Rattle.definition.specs.Constraints.{Tie, World, newTie, post}
 use Rattle.definition.specs.declared.Instruction.{Instruction}
 use Rattle.definition.specs.Instructions.{Decoded}
@@ -21,6 +21,7 @@ use Rattle.definition.specs.Tables.{Tables, tables, valueOf, objectAt, frameOf,
 use Rattle.layout.specs.View.{countAt}
 use Rattle.instructions.specs.Plans.{decoded, meaning, Fit}
 use Rattle.resolution.specs.Quick.{quickBase}
+use Rattle.access.specs.Declarers.{declaringLoader}
 pub use Rattle.access.specs.declared.Access.{Access}
 pub use Rattle.access.specs.declared.Access.the-variants.{Unresolved, Resolved}
 pub use Rattle.access.specs.declared.Receiver.{Receiver}
@@ -45,10 +46,10 @@ abbrev pub AccessFits : Base → Tables → ℕ → ℕ → Access → Type 0
 AccessFits B t k m (Unresolved r) = Unit {0}
 AccessFits B t k m (Resolved one p) = Fit B t k m p
 
--- what was found names the loader of a class
-abbrev pub Declared : Base → Access → Type 0
-Declared B (Unresolved r) = Unit {0}
-Declared B (Resolved one p) = (s : ℕ) × (one ≡ loaderOf B s)
+-- the loader that an answer names beside its plan
+abbrev pub named : Access → Option ℕ
+named (Unresolved r) = none
+named (Resolved one p) = some one
 
 -- The answer r is right for the instruction i of a frame with d operands and a class of that loader, whatever constraints, frames below, class, point
 -- and size there are: N L K E O F are the counts, classes, kept bytes, cache, objects and frames
@@ -58,7 +59,7 @@ pub record Accessing (N L K E O F : List ℕ) (b d loader : ℕ) (room : List Fr
       accessed (worldIn B t) (objectsOf B t) fs F b (p + n) (room fs) loader first second r
       ≡ execute (worldIn B t) (objectsOf B t) (frameOf F b p d) fs k (decoded i n) i)
   pub fits : d ≤ 16 → (I S : List ℕ) (k : ℕ) (fs : List Frame) → room fs ≡ true → AccessFits (quickBase N L K E) (tables N L K E I S O F) k (length fs) r
-  pub declared : Declared (quickBase N L K E) r
+  pub declared : named r ≡ declaringLoader (quickBase N L K E) loader i
 
 abbrev pub always : List Frame → Bool
 always fs = true

@@ -1,4 +1,5 @@
 -- Instructions that look a class up: what their answers mean, and the laws that decide on them.
+pub mod Declarers
 pub mod Accesses
 pub mod Members
 pub mod Remainders

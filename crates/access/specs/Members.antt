@@ -1,5 +1,5 @@
 -- Laws of fields and methods that were looked up: where a field stands in an object, what a receiver is, and the instructions case by case.
-use mathlib.Core.Path.{_≡_, refl, sym, _∙_}
+use mathlib.Core.Path.{_≡_, refl, sym, ap, _∙_}
 use mathlib.Core.Bool.{Bool, true, false, _||_, _&&_}
 use mathlib.Core.Option.{Option, none, some, Option·none-ne-some, Option·some-injective}
 use mathlib.Core.List.{List, [], _∷_, _++_, append-nil}
@@ -35,6 +35,7 @@ use Rattle.instructions.specs.Plans.{decoded, meaning, Fit}
 use Rattle.resolution.specs.declared.Found.{Found}
 use Rattle.resolution.specs.declared.Found.the-variants.{At, Absent}
 use Rattle.resolution.specs.Quick.{quickBase, found, found-at, found-absent}
+use Rattle.access.specs.Declarers.{declaringLoader, loader-missing, loader-absent, loader-there, class-absent, class-there, selectedClass}
 use Rattle.access.specs.Accesses.{Unresolved, Resolved, worldIn, tiesOn, accessed, Accessing, always, frameRoom, readField, writeField, callMethod}
 
 -- The cache, asked under a loader that was widened
@@ -228,36 +229,43 @@ module _ (N L K E O F : List ℕ) (b d loader c : ℕ) where
   pub unresolved : (room : List Frame → Bool) (x y : ℕ) (i : Instruction) (r : Refusal)
       → ((I S : List ℕ) (fs : List Frame) (k : Class) (p n : ℕ) → k .loader ≡ loader
       → (let t = tables N L K E I S O F in execute (worldIn B t) (objectsOf B t) (frameOf F b p d) fs k (decoded i n) i ≡ refused r))
+      → declaringLoader B loader i ≡ none
       → Accessing N L K E O F b d loader room x y i (Unresolved r)
   unfolding accessed
-  unresolved room x y i r h = record { says = λ I S fs k p n e. sym (h I S fs k p n e); fits = λ few I S k gs l. tt; declared = tt }
+  unresolved room x y i r h o = record { says = λ I S fs k p n e. sym (h I S fs k p n e); fits = λ few I S k gs l. tt; declared = sym o }
 
   module _ (missing : find (B .cache) (at loader c) ≡ none) where
     pub getfield-uncached : (n t : ℕ) → Accessing N L K E O F b d loader always t 1 (Getfield c n t) (Unresolved (Wanted loader c))
     getfield-uncached n t = unresolved always t 1 (Getfield c n t) (Wanted loader c) (λ I S fs k p m z.
         rw (← z) (getfield-wanted (worldIn B (tables N L K E I S O F)) (objectsOf B (tables N L K E I S O F)) (frameOf F b p d) fs k (decoded (Getfield c n t) m) c n t (rw z missing)))
+        (loader-missing B loader c (nearest (superOf B) (hasField B n t)) missing)
 
     pub putfield-uncached : (n t : ℕ) → Accessing N L K E O F b d loader always t 1 (Putfield c n t) (Unresolved (Wanted loader c))
     putfield-uncached n t = unresolved always t 1 (Putfield c n t) (Wanted loader c) (λ I S fs k p m z.
         rw (← z) (putfield-wanted (worldIn B (tables N L K E I S O F)) (objectsOf B (tables N L K E I S O F)) (frameOf F b p d) fs k (decoded (Putfield c n t) m) c n t (rw z missing)))
+        (loader-missing B loader c (nearest (superOf B) (hasField B n t)) missing)
 
     pub invoke-uncached : (s : Signature) → Accessing N L K E O F b d loader frameRoom (s .argument) (s .result) (Invokevirtual c s) (Unresolved (Wanted loader c))
     invoke-uncached s = unresolved frameRoom (s .argument) (s .result) (Invokevirtual c s) (Wanted loader c) (λ I S fs k p m z.
         rw (← z) (invoke-wanted (worldIn B (tables N L K E I S O F)) (objectsOf B (tables N L K E I S O F)) (frameOf F b p d) fs k (decoded (Invokevirtual c s) m) c s (rw z missing)))
+        (loader-missing B loader c (selectedClass B s) missing)
 
   module _ (e : ℕ) (there : find (B .cache) (at loader c) ≡ some e) where
     pub getfield-undeclared : (n t : ℕ) → nearest (superOf B) (hasField B n t) e ≡ none → Accessing N L K E O F b d loader always t 1 (Getfield c n t) (Unresolved (Word 7))
     getfield-undeclared n t h = unresolved always t 1 (Getfield c n t) (Word 7) (λ I S fs k p m z.
         getfield-absent (worldIn B (tables N L K E I S O F)) (objectsOf B (tables N L K E I S O F)) (frameOf F b p d) fs k (decoded (Getfield c n t) m) c n t e (rw z there) h)
+        (loader-absent B loader c (nearest (superOf B) (hasField B n t)) e there h)
 
     pub putfield-undeclared : (n t : ℕ) → nearest (superOf B) (hasField B n t) e ≡ none → Accessing N L K E O F b d loader always t 1 (Putfield c n t) (Unresolved (Word 7))
     putfield-undeclared n t h = unresolved always t 1 (Putfield c n t) (Word 7) (λ I S fs k p m z.
         putfield-absent (worldIn B (tables N L K E I S O F)) (objectsOf B (tables N L K E I S O F)) (frameOf F b p d) fs k (decoded (Putfield c n t) m) c n t e (rw z there) h)
+        (loader-absent B loader c (nearest (superOf B) (hasField B n t)) e there h)
 
     pub invoke-undeclared : (s : Signature) → selected B s e ≡ none
         → Accessing N L K E O F b d loader frameRoom (s .argument) (s .result) (Invokevirtual c s) (Unresolved (Word 7))
     invoke-undeclared s h = unresolved frameRoom (s .argument) (s .result) (Invokevirtual c s) (Word 7) (λ I S fs k p m z.
         invoke-absent (worldIn B (tables N L K E I S O F)) (objectsOf B (tables N L K E I S O F)) (frameOf F b p d) fs k (decoded (Invokevirtual c s) m) c s e (rw z there) h)
+        (loader-absent B loader c (selectedClass B s) e there (class-absent B s e h))
 
   module _ (e : ℕ) (there : find (B .cache) (at loader c) ≡ some e) (s one : ℕ) (declares : one ≡ loaderOf B s) (p : Plan) where
     pub getfield-right : (n t : ℕ) → nearest (superOf B) (hasField B n t) e ≡ some s → Rest N L K E O F b d unlimited (λ B os f fs i. readField B os f fs i e s n t) p
@@ -270,7 +278,7 @@ module _ (N L K E O F : List ℕ) (b d loader c : ℕ) where
           (λ w. q .says I S fs w x (decoded (Getfield c n t) y))
           ∙ rw (declares, ← z) (sym (getfield-found (worldIn B T) (objectsOf B T) (frameOf F b x d) fs k (decoded (Getfield c n t) y) c n t e (rw z there) s found));
       fits = λ few I S k gs l. q .fits few I S k (length gs) tt;
-      declared = (s, declares);
+      declared = ap some declares ∙ sym (loader-there B loader c (nearest (superOf B) (hasField B n t)) e there s found);
     }
 
     pub putfield-right : (n t : ℕ) → nearest (superOf B) (hasField B n t) e ≡ some s → Rest N L K E O F b d unlimited (λ B os f fs i. writeField B os f fs i e s n t) p
@@ -283,7 +291,7 @@ module _ (N L K E O F : List ℕ) (b d loader c : ℕ) where
           (λ w. q .says I S fs w x (decoded (Putfield c n t) y))
           ∙ rw (declares, ← z) (sym (putfield-found (worldIn B T) (objectsOf B T) (frameOf F b x d) fs k (decoded (Putfield c n t) y) c n t e (rw z there) s found));
       fits = λ few I S k gs l. q .fits few I S k (length gs) tt;
-      declared = (s, declares);
+      declared = ap some declares ∙ sym (loader-there B loader c (nearest (superOf B) (hasField B n t)) e there s found);
     }
 
     pub invoke-right : (g : Signature) (j : ℕ) → selected B g e ≡ some (record { class = s; place = j }) → Rest N L K E O F b d framesLeft (λ B os f fs i. callMethod B os f fs i e g) p
@@ -297,7 +305,7 @@ module _ (N L K E O F : List ℕ) (b d loader c : ℕ) where
           ∙ rw (declares, ← z)
           (sym (invoke-found (worldIn B T) (objectsOf B T) (frameOf F b x d) fs k (decoded (Invokevirtual c g) y) c g e (rw z there) _ found));
       fits = λ few I S k gs l. q .fits few I S k (length gs) (ltb-true (suc (length gs)) 32 l);
-      declared = (s, declares);
+      declared = ap some declares ∙ sym (loader-there B loader c (selectedClass B g) e there s (class-there B g e s j found));
     }
 
 -- new: a plan alone, since it posts no tie

@@ -1,4 +1,4 @@
-// getfield and putfield: `loader` is the frame class's, the names stand inline.
+// getfield and putfield: the class is looked up under the frame class's loader; the names stand inline.
 use crate::Access;
 use crate::Receiver;
 use crate::receivers::received;
@@ -14,6 +14,7 @@ ghost use Rattle.access.specs.Accesses.{Accessing, always, readField, wr
 ghost use Rattle.access.specs.Members.{unlimited, Rest};
 use definition::Instruction;
 use definition::Refusal;
+use frames::Top;
 use instructions::Plan;
 use resolution::Found;
 
@@ -25,20 +26,20 @@ fn read_field(
     cache: &[u16],
     objects: &[u32],
     frames: &[u32],
-    b: u32,
-    d: u32,
+    top: Top,
     e: u32,
     s: u32,
     name: u16,
     of: u16,
 ) -> Plan
     requires { ⌜ (let B = quickBase (now counts) (now classes) (now kept) (now cache) in nearest (superOf B) (hasField B name of) e ≡ some s) ⌝ }
-    ensures { λ r. ⌜ Rest (now (counts .entry)) (now (classes .entry)) (now (kept .entry)) (now (cache .entry)) (now (objects .entry)) (now (frames .entry)) b d unlimited (λ B os f fs i. readField B os f fs i e s name of) r ⌝ }
+    ensures { λ r. ⌜ Rest (now (counts .entry)) (now (classes .entry)) (now (kept .entry)) (now (cache .entry)) (now (objects .entry)) (now (frames .entry)) (top .base) (top .depth) unlimited (λ B os f fs i. readField B os f fs i e s name of) r ⌝ }
 {
+    let d = top.depth;
     if d == 0 {
         return instructions::refuse(WORD_STUCK);
     }
-    let x = frames::operand(frames, b, d - 1);
+    let x = frames::operand(frames, top.base, d - 1);
     let r = received(counts, classes, kept, cache, objects, e, x);
     match r {
         Receiver::Wrong(word) => instructions::refuse(word),
@@ -63,28 +64,28 @@ fn set_field(
     cache: &[u16],
     objects: &[u32],
     frames: &[u32],
-    b: u32,
-    d: u32,
+    top: Top,
     e: u32,
     s: u32,
     name: u16,
     of: u16,
 ) -> Plan
     requires { ⌜ (let B = quickBase (now counts) (now classes) (now kept) (now cache) in nearest (superOf B) (hasField B name of) e ≡ some s) ⌝ }
-    ensures { λ r. ⌜ Rest (now (counts .entry)) (now (classes .entry)) (now (kept .entry)) (now (cache .entry)) (now (objects .entry)) (now (frames .entry)) b d unlimited (λ B os f fs i. writeField B os f fs i e s name of) r ⌝ }
+    ensures { λ r. ⌜ Rest (now (counts .entry)) (now (classes .entry)) (now (kept .entry)) (now (cache .entry)) (now (objects .entry)) (now (frames .entry)) (top .base) (top .depth) unlimited (λ B os f fs i. writeField B os f fs i e s name of) r ⌝ }
 {
+    let d = top.depth;
     if d == 0 {
         return instructions::refuse(WORD_STUCK);
     }
-    let top = d - 1;
-    if top == 0 {
+    let last = d - 1;
+    if last == 0 {
         return instructions::refuse(WORD_STUCK);
     }
-    let v = frames::operand(frames, b, top);
+    let v = frames::operand(frames, top.base, last);
     if !instructions::is_kind(of, v) {
         return instructions::refuse(WORD_STUCK);
     }
-    let x = frames::operand(frames, b, top - 1);
+    let x = frames::operand(frames, top.base, last - 1);
     let r = received(counts, classes, kept, cache, objects, e, x);
     match r {
         Receiver::Wrong(word) => instructions::refuse(word),
@@ -93,9 +94,9 @@ fn set_field(
                 return instructions::refuse(WORD_STUCK);
             };
             if FIELD_LIMIT <= j {
-                return Plan::Keep(top - 1);
+                return Plan::Keep(last - 1);
             }
-            Plan::Field(top - 1, o, j as u8, v)
+            Plan::Field(last - 1, o, j as u8, v)
         }
     }
 }
@@ -107,17 +108,15 @@ pub fn getfield(
     cache: &[u16],
     objects: &[u32],
     frames: &[u32],
-    b: u32,
-    d: u32,
-    loader: u8,
+    top: Top,
     class: u16,
     name: u16,
     of: u16,
 ) -> Access
-    ensures { λ r. ⌜ Accessing (now (counts .entry)) (now (classes .entry)) (now (kept .entry)) (now (cache .entry)) (now (objects .entry)) (now (frames .entry)) b d loader always of 1 (Instruction.Getfield class name of) r ⌝ }
+    ensures { λ r. ⌜ Accessing (now (counts .entry)) (now (classes .entry)) (now (kept .entry)) (now (cache .entry)) (now (objects .entry)) (now (frames .entry)) (top .base) (top .depth) (top .loader) always of 1 (Instruction.Getfield class name of) r ⌝ }
 {
-    let Found::At(e) = resolution::find(counts, cache, cells::from8(loader), class) else {
-        return Access::Unresolved(Refusal::Wanted(loader, class));
+    let Found::At(e) = resolution::find(counts, cache, cells::from8(top.loader), class) else {
+        return Access::Unresolved(Refusal::Wanted(top.loader, class));
     };
     let Found::At(s) = resolution::nearest_field(counts, classes, kept, cache, e, name, of) else {
         return Access::Unresolved(Refusal::Word(WORD_ABSENT));
@@ -132,8 +131,7 @@ pub fn getfield(
             cache,
             objects,
             frames,
-            b,
-            d,
+            top,
             e,
             s,
             name,
@@ -149,17 +147,15 @@ pub fn putfield(
     cache: &[u16],
     objects: &[u32],
     frames: &[u32],
-    b: u32,
-    d: u32,
-    loader: u8,
+    top: Top,
     class: u16,
     name: u16,
     of: u16,
 ) -> Access
-    ensures { λ r. ⌜ Accessing (now (counts .entry)) (now (classes .entry)) (now (kept .entry)) (now (cache .entry)) (now (objects .entry)) (now (frames .entry)) b d loader always of 1 (Instruction.Putfield class name of) r ⌝ }
+    ensures { λ r. ⌜ Accessing (now (counts .entry)) (now (classes .entry)) (now (kept .entry)) (now (cache .entry)) (now (objects .entry)) (now (frames .entry)) (top .base) (top .depth) (top .loader) always of 1 (Instruction.Putfield class name of) r ⌝ }
 {
-    let Found::At(e) = resolution::find(counts, cache, cells::from8(loader), class) else {
-        return Access::Unresolved(Refusal::Wanted(loader, class));
+    let Found::At(e) = resolution::find(counts, cache, cells::from8(top.loader), class) else {
+        return Access::Unresolved(Refusal::Wanted(top.loader, class));
     };
     let Found::At(s) = resolution::nearest_field(counts, classes, kept, cache, e, name, of) else {
         return Access::Unresolved(Refusal::Word(WORD_ABSENT));
@@ -174,8 +170,7 @@ pub fn putfield(
             cache,
             objects,
             frames,
-            b,
-            d,
+            top,
             e,
             s,
             name,

@@ -1,10 +1,11 @@
-// new: `loader` is the frame class's, the class's name stands inline.
+// new: the class is looked up under the frame class's loader; the class's name stands inline.
 ghost use Rattle.access.specs.Members.{Making};
 use definition::Refusal;
 use definition::numbers::COUNT_OBJECTS;
 use definition::numbers::OBJECT_LIMIT;
 use definition::numbers::OPERAND_LIMIT;
 use definition::numbers::WORD_FULL;
+use frames::Top;
 use instructions::Plan;
 use resolution::Found;
 
@@ -15,21 +16,19 @@ pub fn new_object(
     cache: &[u16],
     objects: &[u32],
     frames: &[u32],
-    b: u32,
-    d: u32,
-    loader: u8,
+    top: Top,
     class: u16,
 ) -> Plan
-    ensures { λ r. ⌜ Making (now (counts .entry)) (now (classes .entry)) (now (kept .entry)) (now (cache .entry)) (now (objects .entry)) (now (frames .entry)) b d loader class r ⌝ }
+    ensures { λ r. ⌜ Making (now (counts .entry)) (now (classes .entry)) (now (kept .entry)) (now (cache .entry)) (now (objects .entry)) (now (frames .entry)) (top .base) (top .depth) (top .loader) class r ⌝ }
 {
-    let Found::At(e) = resolution::find(counts, cache, cells::from8(loader), class) else {
-        return Plan::Refuse(Refusal::Wanted(loader, class));
+    let Found::At(e) = resolution::find(counts, cache, cells::from8(top.loader), class) else {
+        return Plan::Refuse(Refusal::Wanted(top.loader, class));
     };
     if OBJECT_LIMIT <= cells::at16(counts, COUNT_OBJECTS) {
         return instructions::refuse(WORD_FULL);
     }
-    if OPERAND_LIMIT <= d {
+    if OPERAND_LIMIT <= top.depth {
         return instructions::refuse(WORD_FULL);
     }
-    Plan::Make(d, e)
+    Plan::Make(top.depth, e)
 }

@@ -1,4 +1,4 @@
-// invokevirtual: `loader` is the frame class's, the names stand inline.
+// invokevirtual: the class is looked up under the frame class's loader; the names stand inline.
 use crate::Access;
 use crate::Receiver;
 use crate::receivers::received;
@@ -15,6 +15,7 @@ use definition::Instruction;
 use definition::Refusal;
 use definition::Signature;
 use frames::Entry;
+use frames::Top;
 use instructions::Plan;
 use resolution::Found;
 use resolution::Selection;
@@ -48,28 +49,28 @@ fn call_method(
     cache: &[u16],
     objects: &[u32],
     frames: &[u32],
-    b: u32,
-    d: u32,
+    top: Top,
     e: u32,
     m: u32,
     j: u32,
     s: Signature,
 ) -> Plan
     requires { ⌜ selected (quickBase (now counts) (now classes) (now kept) (now cache)) s e ≡ some (record { class = m; place = j }) ⌝ }
-    ensures { λ r. ⌜ Rest (now (counts .entry)) (now (classes .entry)) (now (kept .entry)) (now (cache .entry)) (now (objects .entry)) (now (frames .entry)) b d framesLeft (λ B os f fs i. callMethod B os f fs i e s) r ⌝ }
+    ensures { λ r. ⌜ Rest (now (counts .entry)) (now (classes .entry)) (now (kept .entry)) (now (cache .entry)) (now (objects .entry)) (now (frames .entry)) (top .base) (top .depth) framesLeft (λ B os f fs i. callMethod B os f fs i e s) r ⌝ }
 {
+    let d = top.depth;
     if d == 0 {
         return instructions::refuse(WORD_STUCK);
     }
-    let top = d - 1;
-    if top == 0 {
+    let last = d - 1;
+    if last == 0 {
         return instructions::refuse(WORD_STUCK);
     }
-    let v = frames::operand(frames, b, top);
+    let v = frames::operand(frames, top.base, last);
     if !instructions::is_kind(s.argument, v) {
         return instructions::refuse(WORD_STUCK);
     }
-    let x = frames::operand(frames, b, top - 1);
+    let x = frames::operand(frames, top.base, last - 1);
     let r = received(counts, classes, kept, cache, objects, e, x);
     match r {
         Receiver::Wrong(word) => instructions::refuse(word),
@@ -80,7 +81,7 @@ fn call_method(
                 return instructions::refuse(WORD_STUCK);
             };
             Plan::Enter(
-                top - 1,
+                last - 1,
                 Entry {
                     class: a,
                     method: k,
@@ -99,16 +100,14 @@ pub fn invokevirtual(
     cache: &[u16],
     objects: &[u32],
     frames: &[u32],
-    b: u32,
-    d: u32,
-    loader: u8,
+    top: Top,
     class: u16,
     s: Signature,
 ) -> Access
-    ensures { λ r. ⌜ Accessing (now (counts .entry)) (now (classes .entry)) (now (kept .entry)) (now (cache .entry)) (now (objects .entry)) (now (frames .entry)) b d loader frameRoom (s .argument) (s .result) (Instruction.Invokevirtual class s) r ⌝ }
+    ensures { λ r. ⌜ Accessing (now (counts .entry)) (now (classes .entry)) (now (kept .entry)) (now (cache .entry)) (now (objects .entry)) (now (frames .entry)) (top .base) (top .depth) (top .loader) frameRoom (s .argument) (s .result) (Instruction.Invokevirtual class s) r ⌝ }
 {
-    let Found::At(e) = resolution::find(counts, cache, cells::from8(loader), class) else {
-        return Access::Unresolved(Refusal::Wanted(loader, class));
+    let Found::At(e) = resolution::find(counts, cache, cells::from8(top.loader), class) else {
+        return Access::Unresolved(Refusal::Wanted(top.loader, class));
     };
     let Selection::Selected(m, j) = resolution::select_method(counts, classes, kept, cache, e, s)
     else {
@@ -124,8 +123,7 @@ pub fn invokevirtual(
             cache,
             objects,
             frames,
-            b,
-            d,
+            top,
             e,
             m,
             j,

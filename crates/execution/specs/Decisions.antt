@@ -29,7 +29,8 @@ use Rattle.instructions.specs.Plans.{decoded, meaning, Fit, FrameOnly, Returnin
 use Rattle.resolution.specs.Quick.{quickBase}
 use Rattle.access.specs.declared.Access.{Access}
 use Rattle.access.specs.declared.Access.the-variants.{Unresolved, Resolved}
-use Rattle.access.specs.Accesses.{worldIn, tiesOn, accessed, Declared, Accessing, frameRoom}
+use Rattle.access.specs.Declarers.{declaring-some}
+use Rattle.access.specs.Accesses.{worldIn, tiesOn, accessed, Accessing, frameRoom}
 use Rattle.access.specs.Members.{Making}
 use Rattle.posting.specs.declared.Posting.{Posting}
 use Rattle.posting.specs.declared.Posting.the-variants.{Nothing}
@@ -267,9 +268,10 @@ pub record Usable (N L K E I : List ℕ) : Type 0 where
   pub sizes : (r : Request) (e : ℕ) → find (quickBase N L K E .cache) r ≡ some e → sizeOf (quickBase N L K E) e ≤ 16
   pub loaders : (c : ℕ) → loaderOf (quickBase N L K E) c < 16
 
-pub narrow : (N L K E I : List ℕ) → Usable N L K E I → (a : Access) → Declared (quickBase N L K E) a → Narrow a
-narrow N L K E I u (Unresolved r) h = tt
-narrow N L K E I u (Resolved one p) h = omega (arith, u .loaders (h .0), h .1)
+pub narrow : (N L K E I : List ℕ) → Usable N L K E I → (O F : List ℕ) (b d loader : ℕ) (room : List Frame → Bool) (first second : ℕ) (i : Instruction) (a : Access)
+    → Accessing N L K E O F b d loader room first second i a → Narrow a
+narrow N L K E I u O F b d loader room first second i (Unresolved r) h = tt
+narrow N L K E I u O F b d loader room first second i (Resolved one p) h = let s = declaring-some (quickBase N L K E) loader i one (h .declared) in omega (arith, u .loaders (s .0), s .1)
 
 -- room for one frame more, where m are below
 pub frames-room : (F : List ℕ) (k m : ℕ) → ltb (m + 1) 32 ≡ frameRoom (stack (frameIn F k) m)

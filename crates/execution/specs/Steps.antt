@@ -32,6 +32,7 @@ use Rattle.verifier.specs.declared.decoding.Reading.{Reading}
 use Rattle.verifier.specs.declared.decoding.Reading.the-variants.{At, Unreadable}
 use Rattle.verifier.specs.Decoding.{readingOf, decodedOf}
 use Rattle.resolution.specs.Lookups.{codeIn}
+use Rattle.frames.specs.declared.Top.{Top}
 use Rattle.instructions.specs.declared.Plan.{Plan}
 use Rattle.instructions.specs.declared.Plan.the-variants.{Refuse}
 use Rattle.instructions.specs.Plans.{decoded, meaning, Fit}
@@ -228,6 +229,10 @@ module _ (o : Option Decoded) (r : Reading) (reads : r ≡ readingOf o) where
   pub read-at : (i : Instruction) (n : ℕ) → r ≡ At i n → o ≡ some (decoded i n)
   unfolding decodedOf
   read-at i n e = sym back ∙ rw e
+
+-- A top frame as its cells say: where its row begins, its number of operands, and the loader of its class
+abbrev pub IsTop : List ℕ → List ℕ → List ℕ → Top → Type 0
+IsTop N L F t = (t .base ≡ frameBase (t .task) (t .row)) × (t .depth ≡ getD F (t .base + 3) 0) × (t .loader ≡ loaderIn N L (getD F (t .base) 0))
 
 -- What a step chooses for the top frame of task k, in row m, which begins at cell b: ties, a plan, the next point
 

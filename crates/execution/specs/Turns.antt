@@ -124,6 +124,12 @@ module _ (N L K E I S O F : List ℕ) (whole : broken (tables N L K E I S O F) �
       left-planned N L K E I S O F k (n - 1) b (toPost x) p (h .ready) C c J j q a D P G l
       ∙ (planned-taken T k (n - 1) b q x p h ∙ (rw turns (sym (step-taken T whole (n - 1) (rw turns at (turn-count e))))))
 
+  -- the same, where a top frame says its task and its row
+  pub top-carried : n ≢ 0 → (h i : ℕ) → h ≡ k → i ≡ n - 1 → (b q : ℕ) (x : Posting) (p : Plan) → Chosen N L K E I S O F h i b x p q
+      → (C J : List ℕ) → C ≡ set N 3 (getD N 3 0 + length (toPost x)) → J ≡ writeRows putTie (toPost x) (getD N 3 0) I
+      → (a : Answer) (D P G : List ℕ) → Left (quickBase C L K E) C O F h i b q p a D P G → done a (tables D L K E J S P G) ≡ stepTables T
+  top-carried e h i y z b q x p g C J c j a D P G l = turn-carried e b q x p (rw (y, z) at g) C J c j a D P G (rw (y, z) at l)
+
 pub step-broken : (t : Tables) → broken t ≡ true → done (Refused (Word 1)) t ≡ stepTables t
 unfolding stepTables wrap
 step-broken t h = rw (h, wrap)

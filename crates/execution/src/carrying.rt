@@ -6,6 +6,7 @@ use definition::numbers::FIELD_LIMIT;
 use definition::numbers::KIND_OBJECT;
 use frames::Cell;
 use frames::Entry;
+use frames::Top;
 use instructions::Plan;
 use posting::Posting;
 ghost use mathlib.Core.Path.{_≡_};
@@ -53,28 +54,30 @@ fn store(frames: &mut [u32], b: u32, q: u32, d: u32, j: u8, v: Cell)
     frames::write_local(frames, b, j, v);
 }
 
-// A value given back to the frame in row m - 1 of a task, which is then its top frame.
-fn give(counts: &mut [u16], frames: &mut [u32], task: u8, m: u16, v: Cell)
-    requires { ⌜ (0 < m) × (getD (now frames) (frameBase task (m - 1) + depthCell) 0 < operandLimit) ⌝ }
-    ensures counted { λ _. ⌜ now (counts .exit) ≡ set (now (counts .entry)) (countFrames + task) m ⌝ }
-    ensures written { λ _. ⌜ (let a = frameBase task (m - 1) in let d = getD (now (frames .entry)) (a + depthCell) 0 in now (frames .exit) ≡ putOperand a (set (now (frames .entry)) (a + depthCell) (d + 1)) d (valueOf (v .kind) (v .bits))) ⌝ }
+// A value given back to the frame below the top frame of a task, which is then its top frame.
+fn give(counts: &mut [u16], frames: &mut [u32], top: Top, v: Cell)
+    requires { ⌜ (0 < top .row) × (getD (now frames) (frameBase (top .task) (top .row - 1) + depthCell) 0 < operandLimit) ⌝ }
+    ensures counted { λ _. ⌜ now (counts .exit) ≡ set (now (counts .entry)) (countFrames + top .task) (top .row) ⌝ }
+    ensures written { λ _. ⌜ (let a = frameBase (top .task) (top .row - 1) in let d = getD (now (frames .entry)) (a + depthCell) 0 in now (frames .exit) ≡ putOperand a (set (now (frames .entry)) (a + depthCell) (d + 1)) d (valueOf (v .kind) (v .bits))) ⌝ }
 {
-    let a = frames::row(task, m - 1);
+    let m = top.row;
+    let a = frames::row(top.task, m - 1);
     let d = frames::depth(frames, a);
     frames::write_depth(frames, a, d + 1);
     frames::write_operand(frames, a, d, v);
-    tasks::write_frame_count(counts, task, m);
+    tasks::write_frame_count(counts, top.task, m);
 }
 
-// A frame entered in row m + 1 of a task, above the one that goes on at point q with d operands.
-fn enter(counts: &mut [u16], frames: &mut [u32], task: u8, m: u16, b: u32, q: u32, d: u32, e: Entry)
-    requires { ⌜ m < frameLimit ⌝ }
-    ensures counted { λ _. ⌜ now (counts .exit) ≡ set (now (counts .entry)) (countFrames + task) (m + 2) ⌝ }
-    ensures written { λ _. ⌜ now (frames .exit) ≡ putFrame (moved (now (frames .entry)) b q d) (frameBase task (m + 1)) (entryFrame (e .class) (e .method) (e .object) (valueOf (e .argument .kind) (e .argument .bits))) ⌝ }
+// A frame entered above the top frame of a task, which goes on at point q with d operands.
+fn enter(counts: &mut [u16], frames: &mut [u32], top: Top, q: u32, d: u32, e: Entry)
+    requires { ⌜ top .row < frameLimit ⌝ }
+    ensures counted { λ _. ⌜ now (counts .exit) ≡ set (now (counts .entry)) (countFrames + top .task) (top .row + 2) ⌝ }
+    ensures written { λ _. ⌜ now (frames .exit) ≡ putFrame (moved (now (frames .entry)) (top .base) q d) (frameBase (top .task) (top .row + 1)) (entryFrame (e .class) (e .method) (e .object) (valueOf (e .argument .kind) (e .argument .bits))) ⌝ }
 {
-    frames::write_moved(frames, b, q, d);
-    frames::write_entry(frames, frames::row(task, m + 1), e);
-    tasks::write_frame_count(counts, task, m + 2);
+    let m = top.row;
+    frames::write_moved(frames, top.base, q, d);
+    frames::write_entry(frames, frames::row(top.task, m + 1), e);
+    tasks::write_frame_count(counts, top.task, m + 2);
 }
 
 // The row of a new object of class c.
@@ -128,7 +131,7 @@ fn make(
     cells::put16(counts, COUNT_OBJECTS, n + 1);
 }
 
-// A plan carried out: the top frame of the task, in row m, goes on at point q.
+// A plan carried out: the top frame of a task goes on at point q.
 pub(crate) fn carry_out(
     counts: &mut [u16],
     classes: &[u16],
@@ -136,49 +139,58 @@ pub(crate) fn carry_out(
     cache: &[u16],
     objects: &mut [u32],
     frames: &mut [u32],
-    task: u8,
-    m: u16,
-    b: u32,
+    top: Top,
     q: u32,
     plan: Plan,
 ) -> Answer
-    requires { ⌜ (m < frameLimit) × Fit (quickBase (now counts) (now classes) (now kept) (now cache)) (tables (now counts) (now classes) (now kept) (now cache) [] [] (now objects) (now frames)) task m plan ⌝ }
-    ensures { λ r. ⌜ Left (quickBase (now (counts .entry)) (now (classes .entry)) (now (kept .entry)) (now (cache .entry))) (now (counts .entry)) (now (objects .entry)) (now (frames .entry)) task m b q plan r (now (counts .exit)) (now (objects .exit)) (now (frames .exit)) ⌝ }
+    requires { ⌜ (top .row < frameLimit) × Fit (quickBase (now counts) (now classes) (now kept) (now cache)) (tables (now counts) (now classes) (now kept) (now cache) [] [] (now objects) (now frames)) (top .task) (top .row) plan ⌝ }
+    ensures { λ r. ⌜ Left (quickBase (now (counts .entry)) (now (classes .entry)) (now (kept .entry)) (now (cache .entry))) (now (counts .entry)) (now (objects .entry)) (now (frames .entry)) (top .task) (top .row) (top .base) q plan r (now (counts .exit)) (now (objects .exit)) (now (frames .exit)) ⌝ }
 {
     match plan {
         Plan::Refuse(r) => Answer::Refused(r),
         Plan::Keep(d) => {
-            frames::write_moved(frames, b, q, d);
-            Answer::Ran(task)
+            frames::write_moved(frames, top.base, q, d);
+            Answer::Ran(top.task)
         }
         Plan::Above(d, v) => {
-            push(frames, b, q, d, v);
-            Answer::Ran(task)
+            push(frames, top.base, q, d, v);
+            Answer::Ran(top.task)
         }
         Plan::Local(d, j, v) => {
-            store(frames, b, q, d, j, v);
-            Answer::Ran(task)
+            store(frames, top.base, q, d, j, v);
+            Answer::Ran(top.task)
         }
         Plan::Give(v) => {
-            give(counts, frames, task, m, v);
-            Answer::Ran(task)
+            give(counts, frames, top, v);
+            Answer::Ran(top.task)
         }
         Plan::Finish(bits) => {
-            tasks::write_frame_count(counts, task, 0);
-            Answer::Finished(task, bits)
+            tasks::write_frame_count(counts, top.task, 0);
+            Answer::Finished(top.task, bits)
         }
         Plan::Field(d, o, j, v) => {
-            frames::write_moved(frames, b, q, d);
+            frames::write_moved(frames, top.base, q, d);
             frames::write_field(objects, o, j, v);
-            Answer::Ran(task)
+            Answer::Ran(top.task)
         }
         Plan::Enter(d, e) => {
-            enter(counts, frames, task, m, b, q, d, e);
-            Answer::Ran(task)
+            enter(counts, frames, top, q, d, e);
+            Answer::Ran(top.task)
         }
         Plan::Make(d, c) => {
-            make(counts, classes, kept, cache, objects, frames, b, q, d, c);
-            Answer::Ran(task)
+            make(
+                counts,
+                classes,
+                kept,
+                cache,
+                objects,
+                frames,
+                top.base,
+                q,
+                d,
+                c,
+            );
+            Answer::Ran(top.task)
         }
     }
 }

@@ -5,20 +5,22 @@ use crate::settling::settle_access;
 use definition::Instruction;
 use definition::numbers::FRAME_LIMIT;
 use definition::numbers::WORD_STUCK;
+use frames::Top;
 use instructions::Plan;
 use posting::Posting;
 use verifier::Reading;
 ghost use mathlib.Core.Path.{_≡_};
 ghost use mathlib.Core.Bool.{false};
-ghost use Prim.Native.Nat.{suc, _+_, _<_};
+ghost use Prim.Native.Nat.{ℕ, suc, _+_, _<_};
 ghost use lib.ListN.{getD};
-ghost use Rattle.definition.specs.Numbers.{taskLimit, frameLimit, countFrames};
-ghost use Rattle.definition.specs.Tables.{tables, frameBase};
+ghost use Rattle.definition.specs.Numbers.{taskLimit, frameLimit, loaderLimit, countFrames};
+ghost use Rattle.definition.specs.Tables.{tables};
 ghost use Rattle.definition.specs.Broken.{broken};
-ghost use Rattle.execution.specs.Steps.{Chosen};
+ghost use Rattle.resolution.specs.Quick.{loaderIn};
+ghost use Rattle.execution.specs.Steps.{IsTop, Chosen};
 ghost use Rattle.execution.specs.Decisions.{Usable, Acted};
 
-// The decision on an instruction of the top frame of a task, in row m: the frame has d operands, and its class that loader.
+// The decision on an instruction of the top frame of a task.
 fn act(
     counts: &[u16],
     classes: &[u16],
@@ -28,24 +30,20 @@ fn act(
     subtypes: &[u16],
     objects: &[u32],
     frames: &[u32],
-    task: u8,
-    m: u16,
-    b: u32,
-    d: u32,
-    loader: u8,
+    top: Top,
     i: Instruction,
 ) -> Decision
-    requires { ⌜ Usable (now counts) (now classes) (now kept) (now cache) (now ties) × (m < frameLimit) ⌝ }
-    ensures { λ r. ⌜ Acted (now (counts .entry)) (now (classes .entry)) (now (kept .entry)) (now (cache .entry)) (now (ties .entry)) (now (subtypes .entry)) (now (objects .entry)) (now (frames .entry)) task m b d loader i (r .posting) (r .plan) ⌝ }
+    requires { ⌜ Usable (now counts) (now classes) (now kept) (now cache) (now ties) × (top .row < frameLimit) ⌝ }
+    ensures { λ r. ⌜ Acted (now (counts .entry)) (now (classes .entry)) (now (kept .entry)) (now (cache .entry)) (now (ties .entry)) (now (subtypes .entry)) (now (objects .entry)) (now (frames .entry)) (top .task) (top .row) (top .base) (top .depth) (top .loader) i (r .posting) (r .plan) ⌝ }
 {
     match i {
-        Instruction::AconstNull => plain(instructions::aconst_null(d)),
-        Instruction::Sipush(n) => plain(instructions::sipush(d, n)),
-        Instruction::Load(k, j) => plain(instructions::load(frames, b, d, k, j)),
-        Instruction::Store(k, j) => plain(instructions::store(frames, b, d, k, j)),
-        Instruction::Pop => plain(instructions::pop(d)),
-        Instruction::Dup => plain(instructions::dup(frames, b, d)),
-        Instruction::Arithmetic(o) => plain(instructions::arithmetic(frames, b, d, o)),
+        Instruction::AconstNull => plain(instructions::aconst_null(top)),
+        Instruction::Sipush(n) => plain(instructions::sipush(top, n)),
+        Instruction::Load(k, j) => plain(instructions::load(frames, top, k, j)),
+        Instruction::Store(k, j) => plain(instructions::store(frames, top, k, j)),
+        Instruction::Pop => plain(instructions::pop(top)),
+        Instruction::Dup => plain(instructions::dup(frames, top)),
+        Instruction::Arithmetic(o) => plain(instructions::arithmetic(frames, top, o)),
         Instruction::Getfield(class, name, of) => settle_access(
             counts,
             classes,
@@ -54,7 +52,7 @@ fn act(
             ties,
             subtypes,
             true,
-            loader,
+            top.loader,
             of,
             1,
             access::getfield(
@@ -64,9 +62,7 @@ fn act(
                 cache,
                 objects,
                 frames,
-                b,
-                d,
-                loader,
+                top,
                 class,
                 name,
                 of,
@@ -80,7 +76,7 @@ fn act(
             ties,
             subtypes,
             true,
-            loader,
+            top.loader,
             of,
             1,
             access::putfield(
@@ -90,9 +86,7 @@ fn act(
                 cache,
                 objects,
                 frames,
-                b,
-                d,
-                loader,
+                top,
                 class,
                 name,
                 of,
@@ -105,23 +99,11 @@ fn act(
             cache,
             ties,
             subtypes,
-            m + 1 < FRAME_LIMIT,
-            loader,
+            top.row + 1 < FRAME_LIMIT,
+            top.loader,
             s.argument,
             s.result,
-            access::invokevirtual(
-                counts,
-                classes,
-                kept,
-                cache,
-                objects,
-                frames,
-                b,
-                d,
-                loader,
-                class,
-                s,
-            ),
+            access::invokevirtual(counts, classes, kept, cache, objects, frames, top, class, s),
         ),
         Instruction::New(class) => plain(access::new_object(
             counts,
@@ -130,12 +112,10 @@ fn act(
             cache,
             objects,
             frames,
-            b,
-            d,
-            loader,
+            top,
             class,
         )),
-        Instruction::Return(k) => plain(instructions::give_back(frames, task, m, b, d, k)),
+        Instruction::Return(k) => plain(instructions::give_back(frames, top, k)),
     }
 }
 
@@ -146,7 +126,23 @@ pub struct Choice {
     pub next: u32,
 }
 
-// The choice for the top frame of a task, in row m, which begins at cell b.
+// The top frame of a task, in row m, as its cells say.
+pub(crate) fn top_frame(counts: &[u16], classes: &[u16], frames: &[u32], task: u8, m: u16) -> Top
+    requires { ⌜ ((c : ℕ) → loaderIn (now counts) (now classes) c < loaderLimit) ⌝ }
+    ensures { λ r. ⌜ (r .task ≡ task) × (r .row ≡ m) × IsTop (now (counts .entry)) (now (classes .entry)) (now (frames .entry)) r ⌝ }
+{
+    let base = frames::row(task, m);
+    let loader = resolution::loader_of(counts, classes, frames::frame_class(frames, base));
+    Top {
+        task,
+        row: m,
+        base,
+        depth: frames::depth(frames, base),
+        loader: loader as u8,
+    }
+}
+
+// The choice for the top frame of a task.
 pub(crate) fn choose(
     counts: &[u16],
     classes: &[u16],
@@ -156,16 +152,15 @@ pub(crate) fn choose(
     subtypes: &[u16],
     objects: &[u32],
     frames: &[u32],
-    task: u8,
-    m: u16,
-    b: u32,
+    top: Top,
 ) -> Choice
-    requires { ⌜ (broken (tables (now counts) (now classes) (now kept) (now cache) (now ties) (now subtypes) (now objects) (now frames)) ≡ false) × (task < taskLimit) × (getD (now counts) (countFrames + task) 0 ≡ suc m) × (b ≡ frameBase task m) ⌝ }
-    ensures { λ r. ⌜ Chosen (now (counts .entry)) (now (classes .entry)) (now (kept .entry)) (now (cache .entry)) (now (ties .entry)) (now (subtypes .entry)) (now (objects .entry)) (now (frames .entry)) task m b (r .posting) (r .plan) (r .next) ⌝ }
+    requires { ⌜ (broken (tables (now counts) (now classes) (now kept) (now cache) (now ties) (now subtypes) (now objects) (now frames)) ≡ false) × (top .task < taskLimit) × (getD (now counts) (countFrames + top .task) 0 ≡ suc (top .row)) × IsTop (now counts) (now classes) (now frames) top ⌝ }
+    ensures { λ r. ⌜ Chosen (now (counts .entry)) (now (classes .entry)) (now (kept .entry)) (now (cache .entry)) (now (ties .entry)) (now (subtypes .entry)) (now (objects .entry)) (now (frames .entry)) (top .task) (top .row) (top .base) (r .posting) (r .plan) (r .next) ⌝ }
 {
-    let c = frames::frame_class(frames, b);
-    let p = frames::point(frames, b);
-    let code = resolution::method_code(counts, classes, kept, c, frames::frame_method(frames, b));
+    let c = frames::frame_class(frames, top.base);
+    let p = frames::point(frames, top.base);
+    let j = frames::frame_method(frames, top.base);
+    let code = resolution::method_code(counts, classes, kept, c, j);
     let version = resolution::version_of(counts, classes, kept, c);
     let Reading::At(i, n) = verifier::decode(version, code, cells::wide32(p)) else {
         return Choice {
@@ -174,7 +169,6 @@ pub(crate) fn choose(
             next: 0,
         };
     };
-    let loader = resolution::loader_of(counts, classes, c);
     let r = act(
         counts,
         classes,
@@ -184,11 +178,7 @@ pub(crate) fn choose(
         subtypes,
         objects,
         frames,
-        task,
-        m,
-        b,
-        frames::depth(frames, b),
-        loader as u8,
+        top,
         i,
     );
     let posting = r.posting;

@@ -2,6 +2,7 @@
 use crate::carrying::carry_out;
 use crate::carrying::post_ties;
 use crate::deciding::choose;
+use crate::deciding::top_frame;
 use definition::Answer;
 use definition::Refusal;
 use definition::numbers::WORD_BROKEN;
@@ -30,8 +31,7 @@ pub(crate) fn step_unbroken(
     if n == 0 {
         return Answer::Idle;
     }
-    let m = n - 1;
-    let b = frames::row(task, m);
+    let top = top_frame(counts, classes, frames, task, n - 1);
     let r = choose(
         counts,
         classes,
@@ -41,9 +41,7 @@ pub(crate) fn step_unbroken(
         subtypes,
         objects,
         frames,
-        task,
-        m,
-        b,
+        top,
     );
     let posting = r.posting;
     let plan = r.plan;
@@ -55,9 +53,7 @@ pub(crate) fn step_unbroken(
         cache,
         objects,
         frames,
-        task,
-        m,
-        b,
+        top,
         r.next,
         plan,
     )

@@ -42,6 +42,15 @@ pub struct Entry {
     pub argument: Cell,
 }
 
+// The top frame of a task: its row, the cell at which that row begins, its number of operands, and the loader of its class.
+pub struct Top {
+    pub task: u8,
+    pub row: u16,
+    pub base: u32,
+    pub depth: u32,
+    pub loader: u8,
+}
+
 // Reading
 
 fn pair(t: &[u32], i: usize) -> Cell

@@ -19,6 +19,7 @@ use definition::numbers::WORD_FULL;
 use definition::numbers::WORD_STUCK;
 use frames::Cell;
 use frames::Entry;
+use frames::Top;
 
 // What a step is going to do. d operands stay; a value is its two cells.
 pub enum Plan {
@@ -86,9 +87,10 @@ pub fn is_kind(name: u16, v: Cell) -> bool
 
 // Constants
 
-pub fn aconst_null(d: u32) -> Plan
-    ensures { λ r. ⌜ ((F : List ℕ) (b : ℕ) → FrameOnly F b d Instruction.AconstNull r) ⌝ }
+pub fn aconst_null(top: Top) -> Plan
+    ensures { λ r. ⌜ ((F : List ℕ) (b : ℕ) → FrameOnly F b (top .depth) Instruction.AconstNull r) ⌝ }
 {
+    let d = top.depth;
     if OPERAND_LIMIT <= d {
         return refuse(WORD_FULL);
     }
@@ -101,9 +103,10 @@ pub fn aconst_null(d: u32) -> Plan
     )
 }
 
-pub fn sipush(d: u32, n: u32) -> Plan
-    ensures { λ r. ⌜ ((F : List ℕ) (b : ℕ) → FrameOnly F b d (Instruction.Sipush n) r) ⌝ }
+pub fn sipush(top: Top, n: u32) -> Plan
+    ensures { λ r. ⌜ ((F : List ℕ) (b : ℕ) → FrameOnly F b (top .depth) (Instruction.Sipush n) r) ⌝ }
 {
+    let d = top.depth;
     if OPERAND_LIMIT <= d {
         return refuse(WORD_FULL);
     }
@@ -118,29 +121,31 @@ pub fn sipush(d: u32, n: u32) -> Plan
 
 // Locals
 
-pub fn load(frames: &[u32], b: u32, d: u32, kind: Kind, j: u8) -> Plan
-    ensures { λ r. ⌜ FrameOnly (now (frames .entry)) b d (Instruction.Load kind j) r ⌝ }
+pub fn load(frames: &[u32], top: Top, kind: Kind, j: u8) -> Plan
+    ensures { λ r. ⌜ FrameOnly (now (frames .entry)) (top .base) (top .depth) (Instruction.Load kind j) r ⌝ }
 {
+    let d = top.depth;
     if OPERAND_LIMIT <= d {
         return refuse(WORD_FULL);
     }
     if LOCAL_COUNT <= j {
         return refuse(WORD_STUCK);
     }
-    let v = frames::local(frames, b, j);
+    let v = frames::local(frames, top.base, j);
     if !is_of_kind(kind, v) {
         return refuse(WORD_STUCK);
     }
     Plan::Above(d, v)
 }
 
-pub fn store(frames: &[u32], b: u32, d: u32, kind: Kind, j: u8) -> Plan
-    ensures { λ r. ⌜ FrameOnly (now (frames .entry)) b d (Instruction.Store kind j) r ⌝ }
+pub fn store(frames: &[u32], top: Top, kind: Kind, j: u8) -> Plan
+    ensures { λ r. ⌜ FrameOnly (now (frames .entry)) (top .base) (top .depth) (Instruction.Store kind j) r ⌝ }
 {
+    let d = top.depth;
     if d == 0 {
         return refuse(WORD_STUCK);
     }
-    let v = frames::operand(frames, b, d - 1);
+    let v = frames::operand(frames, top.base, d - 1);
     if !is_of_kind(kind, v) {
         return refuse(WORD_STUCK);
     }
@@ -152,25 +157,27 @@ pub fn store(frames: &[u32], b: u32, d: u32, kind: Kind, j: u8) -> Plan
 
 // Operands
 
-pub fn pop(d: u32) -> Plan
-    ensures { λ r. ⌜ ((F : List ℕ) (b : ℕ) → FrameOnly F b d Instruction.Pop r) ⌝ }
+pub fn pop(top: Top) -> Plan
+    ensures { λ r. ⌜ ((F : List ℕ) (b : ℕ) → FrameOnly F b (top .depth) Instruction.Pop r) ⌝ }
 {
+    let d = top.depth;
     if d == 0 {
         return refuse(WORD_STUCK);
     }
     Plan::Keep(d - 1)
 }
 
-pub fn dup(frames: &[u32], b: u32, d: u32) -> Plan
-    ensures { λ r. ⌜ FrameOnly (now (frames .entry)) b d Instruction.Dup r ⌝ }
+pub fn dup(frames: &[u32], top: Top) -> Plan
+    ensures { λ r. ⌜ FrameOnly (now (frames .entry)) (top .base) (top .depth) Instruction.Dup r ⌝ }
 {
+    let d = top.depth;
     if OPERAND_LIMIT <= d {
         return refuse(WORD_FULL);
     }
     if d == 0 {
         return refuse(WORD_STUCK);
     }
-    let v = frames::operand(frames, b, d - 1);
+    let v = frames::operand(frames, top.base, d - 1);
     Plan::Above(d, v)
 }
 
@@ -196,9 +203,10 @@ fn compute(o: Operator, d: u32, x: u32, y: u32) -> Plan
     }
 }
 
-pub fn arithmetic(frames: &[u32], b: u32, d: u32, o: Operator) -> Plan
-    ensures { λ r. ⌜ FrameOnly (now (frames .entry)) b d (Instruction.Arithmetic o) r ⌝ }
+pub fn arithmetic(frames: &[u32], top: Top, o: Operator) -> Plan
+    ensures { λ r. ⌜ FrameOnly (now (frames .entry)) (top .base) (top .depth) (Instruction.Arithmetic o) r ⌝ }
 {
+    let d = top.depth;
     if d == 0 {
         return refuse(WORD_STUCK);
     }
@@ -206,11 +214,11 @@ pub fn arithmetic(frames: &[u32], b: u32, d: u32, o: Operator) -> Plan
     if e == 0 {
         return refuse(WORD_STUCK);
     }
-    let y = frames::operand(frames, b, e);
+    let y = frames::operand(frames, top.base, e);
     if y.kind != KIND_INT {
         return refuse(WORD_STUCK);
     }
-    let x = frames::operand(frames, b, e - 1);
+    let x = frames::operand(frames, top.base, e - 1);
     if x.kind != KIND_INT {
         return refuse(WORD_STUCK);
     }
@@ -220,30 +228,32 @@ pub fn arithmetic(frames: &[u32], b: u32, d: u32, o: Operator) -> Plan
 // Returns
 
 // Whether the frame below, if there is one, has room for a result.
-fn has_room_below(frames: &[u32], task: u8, m: u16) -> bool
-    ensures { λ r. ⌜ r ≡ roomBelow (now (frames .entry)) task m ⌝ }
+fn has_room_below(frames: &[u32], top: Top) -> bool
+    ensures { λ r. ⌜ r ≡ roomBelow (now (frames .entry)) (top .task) (top .row) ⌝ }
 {
+    let m = top.row;
     if m == 0 {
         return true;
     }
-    frames::depth(frames, frames::row(task, m - 1)) < OPERAND_LIMIT
+    frames::depth(frames, frames::row(top.task, m - 1)) < OPERAND_LIMIT
 }
 
 // A value of the kind given back; a first frame's must be an int.
-pub fn give_back(frames: &[u32], task: u8, m: u16, b: u32, d: u32, kind: Kind) -> Plan
-    ensures { λ r. ⌜ Returning (now (frames .entry)) task m b d (Instruction.Return kind) r ⌝ }
+pub fn give_back(frames: &[u32], top: Top, kind: Kind) -> Plan
+    ensures { λ r. ⌜ Returning (now (frames .entry)) (top .task) (top .row) (top .base) (top .depth) (Instruction.Return kind) r ⌝ }
 {
-    if !has_room_below(frames, task, m) {
+    let d = top.depth;
+    if !has_room_below(frames, top) {
         return refuse(WORD_FULL);
     }
     if d == 0 {
         return refuse(WORD_STUCK);
     }
-    let v = frames::operand(frames, b, d - 1);
+    let v = frames::operand(frames, top.base, d - 1);
     if !is_of_kind(kind, v) {
         return refuse(WORD_STUCK);
     }
-    if m != 0 {
+    if top.row != 0 {
         return Plan::Give(v);
     }
     if v.kind != KIND_INT {

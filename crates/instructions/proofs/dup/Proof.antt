@@ -21,7 +21,7 @@ returns-2 c = record { says = λ w os fs k p n. rw (c .refuse2 .ensures, room-fr
 
 returns-3 : tie.Need-returns-3
 unfolding meaning execute _>>=_ frameOf
-returns-3 c = record { says = λ w os fs k p n. rw (room-free _ _ (c .before .before .if1 .left), pop-some _ _ (c .before .if2 .left), stack-top (operandAt (now (c .before .before .before .before .args .frames)) (c .before .before .before .before .args .b)) (c .before .before .before .before .args .d) (omega arith), ← c .operand .ensures); fits = λ few B t k m. omega arith }
+returns-3 c = record { says = λ w os fs k p n. rw (room-free _ _ (c .before .before .if1 .left), pop-some _ _ (c .before .if2 .left), stack-top (operandAt (now (c .before .before .before .before .args .frames)) (c .before .before .before .before .args .top .base)) (c .before .before .before .before .args .top .depth) (omega arith), ← c .operand .ensures); fits = λ few B t k m. omega arith }
 
 pub dup-spec : {M : Type 1} → statement M
 dup-spec =

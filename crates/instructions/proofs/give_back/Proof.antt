@@ -28,32 +28,31 @@ returns-3 c = record { says = λ w os kl p n. rw (c .refuse3 .ensures, under-roo
 returns-4 : tie.Need-returns-4
 unfolding meaning execute _>>=_ frameOf need
 returns-4 c =
-    let at = c .before in
-    let below = at .before .before .before .before in
     record {
       says = λ w os kl p n. rw (
         under-room _ _ _,
-        sym (below .before .has-room-below .ensures) ∙ not-false _ (below .if1 .left),
-        pop-some _ _ (at .before .before .before .if2 .left),
-        ← at .before .before .operand .ensures,
-        of-is _ _ _ (sym (at .before .is-of-kind .ensures) ∙ not-false _ (at .if3 .left)),
+        sym (c .before .before .before .before .before .before .before .has-room-below .ensures) ∙ not-false _ (c .before .before .before .before .before .before .if1 .left),
+        pop-some _ _ (c .before .before .before .before .before .if2 .left),
+        ← c .before .before .before .before .operand .ensures,
+        of-is _ _ _ (sym (c .before .before .before .is-of-kind .ensures) ∙ not-false _ (c .before .before .if3 .left)),
       );
-      fits = λ B t e. (omega (arith, c .if4 .taken), rw e (room-below _ _ _ (sym (below .before .has-room-below .ensures) ∙ not-false _ (below .if1 .left)) (c .if4 .taken)));
+      fits = λ B t e. (omega (arith, c .if4 .taken), rw e (room-below _ _ _ (sym (c .before .before .before .before .before .before .before .has-room-below .ensures) ∙ not-false _ (c .before .before .before .before .before .before .if1 .left)) (c .if4 .taken)));
     }
 
 returns-5 : tie.Need-returns-5
 unfolding meaning execute _>>=_ frameOf need give stack
 returns-5 c =
-    let at = c .before .before .before .before in
-    let below = at .before .before .before .before in
+    let at8 = c .before .before .before .before .before .before .before .before in
+    let at9 = at8 .before in
+    let at10 = at9 .before in
     record {
       says = λ w os kl p n. rw (
         c .refuse4 .ensures,
         under-room _ _ _,
-        sym (below .before .has-room-below .ensures) ∙ not-false _ (below .if1 .left),
-        pop-some _ _ (at .before .before .before .if2 .left),
-        ← at .before .before .operand .ensures,
-        of-is _ _ _ (sym (at .before .is-of-kind .ensures) ∙ not-false _ (at .if3 .left)),
+        sym (at10 .has-room-below .ensures) ∙ not-false _ (at9 .if1 .left),
+        pop-some _ _ (at8 .if2 .left),
+        ← c .before .before .before .before .before .before .before .operand .ensures,
+        of-is _ _ _ (sym (c .before .before .before .before .before .before .is-of-kind .ensures) ∙ not-false _ (c .before .before .before .before .before .if3 .left)),
         c .before .before .before .if4 .left,
         int-not _ _ (c .before .if5 .taken),
       );
@@ -63,15 +62,15 @@ returns-5 c =
 returns-6 : tie.Need-returns-6
 unfolding meaning execute _>>=_ frameOf need give stack
 returns-6 c =
-    let at = c .before .before .before in
-    let below = at .before .before .before .before in
+    let at8 = c .before .before .before .before .before .before .before .before in
+    let at9 = at8 .before in
     record {
       says = λ w os kl p n. rw (
         under-room _ _ _,
-        sym (below .before .has-room-below .ensures) ∙ not-false _ (below .if1 .left),
-        pop-some _ _ (at .before .before .before .if2 .left),
-        ← at .before .before .operand .ensures,
-        of-is _ _ _ (sym (at .before .is-of-kind .ensures) ∙ not-false _ (at .if3 .left)),
+        sym (at9 .has-room-below .ensures) ∙ not-false _ (at8 .if1 .left),
+        pop-some _ _ (c .before .before .before .before .before .before .before .if2 .left),
+        ← c .before .before .before .before .before .before .operand .ensures,
+        of-is _ _ _ (sym (c .before .before .before .before .before .is-of-kind .ensures) ∙ not-false _ (c .before .before .before .before .if3 .left)),
         c .before .before .if4 .left,
         int-is _ _ (c .if5 .left),
       );

@@ -15,10 +15,13 @@ returns-2 c = rw (c .refuse .ensures) (new-no-room _ _ _ _ _ _ _ _ _ _ _ (cached
 returns-3 : tie.Need-returns-3
 returns-3 c =
     let at8 = c .before .before .before .before .before .before .before .before in
-    rw (c .refuse2 .ensures) (new-no-room _ _ _ _ _ _ _ _ _ _ _ (cached _ _ _ _ _ _ _ _ (c .before .before .before .before .before .before .before .find .ensures) (at8 .from8 .ensures .0) _ (c .before .before .before .before .before .e .given .1)) (rw (lt-ltb _ _ (rw (c .before .before .before .at16 .ensures) at (c .before .before .if1 .left)), le-ltb _ _ (c .before .if2 .taken))))
+    let at9 = at8 .before in
+    rw (c .refuse2 .ensures) (new-no-room _ _ _ _ _ _ _ _ _ _ _ (cached _ _ _ _ _ _ _ _ (at8 .find .ensures) (at9 .from8 .ensures .0) _ (c .before .before .before .before .before .before .e .given .1)) (rw (lt-ltb _ _ (rw (c .before .before .before .before .at16 .ensures) at (c .before .before .before .if1 .left)), le-ltb _ _ (c .before .if2 .taken))))
 
 returns-4 : tie.Need-returns-4
-returns-4 c = new-made _ _ _ _ _ _ _ _ _ _ _ (cached _ _ _ _ _ _ _ _ (c .before .before .before .before .before .before .find .ensures) (c .before .before .before .before .before .before .before .from8 .ensures .0) _ (c .before .before .before .before .e .given .1)) (rw (c .before .before .at16 .ensures) at (c .before .if1 .left)) (c .if2 .left)
+returns-4 c =
+    let at8 = c .before .before .before .before .before .before .before .before in
+    new-made _ _ _ _ _ _ _ _ _ _ _ (cached _ _ _ _ _ _ _ _ (c .before .before .before .before .before .before .before .find .ensures) (at8 .from8 .ensures .0) _ (c .before .before .before .before .before .e .given .1)) (rw (c .before .before .before .at16 .ensures) at (c .before .before .if1 .left)) (c .if2 .left)
 
 pub new-object-spec : {M : Type 1} → statement M
 new-object-spec =

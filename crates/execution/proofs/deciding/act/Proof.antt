@@ -10,30 +10,32 @@ use Rattle.execution.proofs.deciding.act.Tie as tie
 settle-access-requires : tie.Need-settle-access-requires
 settle-access-requires c κs =
     let at12 = c .before .before .before .before .before .before .before .before .before .before .before .before in
-    (at12 .pre .0 .counts, at12 .pre .0 .ties, narrow _ _ _ _ _ (at12 .pre .0) (c .getfield .result) (c .getfield .ensures .declared))
+    (at12 .pre .0 .counts, at12 .pre .0 .ties, narrow _ _ _ _ _ (at12 .pre .0) _ _ _ _ _ _ _ _ _ _ (c .getfield .ensures))
 
 settle-access-requires-2 : tie.Need-settle-access-requires-2
 settle-access-requires-2 c κs =
     let at12 = c .before .before .before .before .before .before .before .before .before .before .before .before in
-    (at12 .pre .0 .counts, at12 .pre .0 .ties, narrow _ _ _ _ _ (at12 .pre .0) (c .putfield .result) (c .putfield .ensures .declared))
+    (at12 .pre .0 .counts, at12 .pre .0 .ties, narrow _ _ _ _ _ (at12 .pre .0) _ _ _ _ _ _ _ _ _ _ (c .putfield .ensures))
 
 add-settle-access : tie.Need-add-settle-access
-add-settle-access c = omega (arith, c .before .before .before .before .before .before .before .before .before .before .before .pre .1)
+add-settle-access c =
+    let at12 = c .before .before .before .before .before .before .before .before .before .before .before .before in
+    omega (arith, at12 .pre .1)
 
 settle-access-requires-3 : tie.Need-settle-access-requires-3
 settle-access-requires-3 c κs =
-    let at12 = c .before .before .before .before .before .before .before .before .before .before .before .before in
-    (at12 .pre .0 .counts, at12 .pre .0 .ties, narrow _ _ _ _ _ (at12 .pre .0) (c .invokevirtual .result) (c .invokevirtual .ensures .declared))
+    let at13 = c .before .before .before .before .before .before .before .before .before .before .before .before .before in
+    (at13 .pre .0 .counts, at13 .pre .0 .ties, narrow _ _ _ _ _ (at13 .pre .0) _ _ _ _ _ _ _ _ _ _ (c .invokevirtual .ensures))
 
 returns : tie.Need-returns
 returns c =
     let at12 = c .before .before .before .before .before .before .before .before .before .before .before .before in
-    rw (c .plain .ensures .0, c .plain .ensures .1, c .before .before .enum-told .given .1) (acted-frame _ _ _ _ _ _ _ _ _ _ _ _ _ _ _ (at12 .pre .0 .counts .ties) (c .before .aconst-null .ensures (now (at12 .args .frames)) (at12 .args .b)))
+    rw (c .plain .ensures .0, c .plain .ensures .1, c .before .before .enum-told .given .1) (acted-frame _ _ _ _ _ _ _ _ _ _ _ _ _ _ _ (at12 .pre .0 .counts .ties) (c .before .aconst-null .ensures (now (at12 .args .frames)) (at12 .args .top .base)))
 
 returns-2 : tie.Need-returns-2
 returns-2 c =
     let at13 = c .before .before .before .before .before .before .before .before .before .before .before .before .before in
-    rw (c .plain2 .ensures .0, c .plain2 .ensures .1, c .before .before .before .i .given .1) (acted-frame _ _ _ _ _ _ _ _ _ _ _ _ _ _ _ (at13 .pre .0 .counts .ties) (c .before .sipush .ensures (now (at13 .args .frames)) (at13 .args .b)))
+    rw (c .plain2 .ensures .0, c .plain2 .ensures .1, c .before .before .before .i .given .1) (acted-frame _ _ _ _ _ _ _ _ _ _ _ _ _ _ _ (at13 .pre .0 .counts .ties) (c .before .sipush .ensures (now (at13 .args .frames)) (at13 .args .top .base)))
 
 returns-3 : tie.Need-returns-3
 returns-3 c = rw (c .plain3 .ensures .0, c .plain3 .ensures .1, c .before .before .before .i2 .given .1) (acted-frame _ _ _ _ _ _ _ _ _ _ _ _ _ _ _ (c .before .before .before .before .before .before .before .before .before .before .before .before .before .pre .0 .counts .ties) (c .before .load .ensures))
@@ -44,7 +46,7 @@ returns-4 c = rw (c .plain4 .ensures .0, c .plain4 .ensures .1, c .before .befor
 returns-5 : tie.Need-returns-5
 returns-5 c =
     let at12 = c .before .before .before .before .before .before .before .before .before .before .before .before in
-    rw (c .plain5 .ensures .0, c .plain5 .ensures .1, c .before .before .enum-told2 .given .1) (acted-frame _ _ _ _ _ _ _ _ _ _ _ _ _ _ _ (at12 .pre .0 .counts .ties) (c .before .pop .ensures (now (at12 .args .frames)) (at12 .args .b)))
+    rw (c .plain5 .ensures .0, c .plain5 .ensures .1, c .before .before .enum-told2 .given .1) (acted-frame _ _ _ _ _ _ _ _ _ _ _ _ _ _ _ (at12 .pre .0 .counts .ties) (c .before .pop .ensures (now (at12 .args .frames)) (at12 .args .top .base)))
 
 returns-6 : tie.Need-returns-6
 returns-6 c = rw (c .plain6 .ensures .0, c .plain6 .ensures .1, c .before .before .enum-told3 .given .1) (acted-frame _ _ _ _ _ _ _ _ _ _ _ _ _ _ _ (c .before .before .before .before .before .before .before .before .before .before .before .before .pre .0 .counts .ties) (c .before .dup .ensures))
@@ -60,8 +62,8 @@ returns-9 c = rw (c .before .before .before .i6 .given .1) (acted-access _ _ _ _
 
 returns-10 : tie.Need-returns-10
 returns-10 c =
-    let at13 = c .before .before .before .before .before .before .before .before .before .before .before .before .before in
-    rw (c .before .before .before .i7 .given .1) (acted-access _ _ _ _ _ _ _ _ _ _ _ _ _ _ _ _ _ _ _ _ _ (at13 .pre .0 .counts .ties) (c .before .invokevirtual .ensures) (frames-room (now (at13 .args .frames)) (at13 .args .task) (at13 .args .m)) (c .settle-access3 .ensures))
+    let at14 = c .before .before .before .before .before .before .before .before .before .before .before .before .before .before in
+    rw (c .before .before .before .before .i7 .given .1) (acted-access _ _ _ _ _ _ _ _ _ _ _ _ _ _ _ _ _ _ _ _ _ (at14 .pre .0 .counts .ties) (c .before .invokevirtual .ensures) (frames-room (now (at14 .args .frames)) (at14 .args .top .task) (at14 .args .top .row)) (c .settle-access3 .ensures))
 
 returns-11 : tie.Need-returns-11
 returns-11 c =

@@ -2,7 +2,11 @@
 use denote.Ref.{now}
 use Rattle.tasks.specs.Turns.{turn-two}
 use Rattle.execution.specs.Carried.{still-ready}
-use Rattle.execution.specs.Turns.{turn-idle, turn-count, turn-carried}
+use Rattle.definition.specs.Requests.{at}
+use Rattle.definition.specs.Tables.{tables}
+use Rattle.resolution.specs.Quick.{loader-quick}
+use Rattle.execution.specs.Steps.{usable}
+use Rattle.execution.specs.Turns.{turn-idle, turn-count, top-carried}
 use borrow.Author.Needs.{needs}
 use Rattle.execution.proofs.turns.step_unbroken.Statement.{statement}
 use Rattle.execution.proofs.turns.step_unbroken.Tie as tie
@@ -10,11 +14,21 @@ use Rattle.execution.proofs.turns.step_unbroken.Tie as tie
 returns : tie.Need-returns
 returns c = turn-idle _ _ _ _ _ _ _ _ (c .before .before .before .before .before .before .before .before .before .before .before .before .before .pre) _ _ (c .before .before .before .turn .ensures) (c .before .frame-count .ensures) (c .if1 .taken)
 
+top-frame-requires : tie.Need-top-frame-requires
+top-frame-requires c κs =
+    let at15 = c .before .before .before .before .before .before .before .before .before .before .before .before .before .before .before in
+    let counts = now (at15 .args .counts) in
+    let classes = now (at15 .args .classes) in
+    let kept = now (at15 .args .kept) in
+    let cache = now (at15 .args .cache) in
+    λ x. rw (← loader-quick counts classes kept cache x) (usable (tables counts classes kept cache (now (at15 .args .ties)) (now (at15 .args .subtypes)) (now (at15 .args .objects)) (now (at15 .args .frames))) (at15 .pre) .loaders x)
+
 choose-requires : tie.Need-choose-requires
 choose-requires c κs =
     let at8 = c .before .before .before .before .before .before .before .before in
-    let at18 = at8 .before .before .before .before .before .before .before .before .before .before in
-    (at18 .pre, rw (at8 .turn .ensures) (turn-two (now (at18 .args .counts))), turn-count _ _ _ _ _ _ _ _ (at18 .pre) _ _ (at8 .turn .ensures) (c .before .before .before .before .before .before .frame-count .ensures) (c .before .before .before .before .before .if1 .left), c .before .before .before .before .row .ensures)
+    let at10 = at8 .before .before in
+    let at20 = at10 .before .before .before .before .before .before .before .before .before .before in
+    (at20 .pre, rw (c .before .before .before .before .top-frame .ensures .0, at10 .turn .ensures) (turn-two (now (at20 .args .counts))), rw (c .before .before .before .before .top-frame .ensures .0, c .before .before .before .before .top-frame .ensures .1) (turn-count _ _ _ _ _ _ _ _ (at20 .pre) _ _ (at10 .turn .ensures) (at8 .frame-count .ensures) (c .before .before .before .before .before .before .before .if1 .left)), c .before .before .before .before .top-frame .ensures .2)
 
 post-ties-requires : tie.Need-post-ties-requires
 post-ties-requires c κs = c .before .before .choose .ensures .ready .ties
@@ -26,11 +40,12 @@ returns-2 : tie.Need-returns-2
 returns-2 c =
     let at14 = c .before .before .before .before .before .before .before .before .before .before .before .before .before .before in
     let at17 = at14 .before .before .before in
-    let at23 = at17 .before .before .before .before .before .before in
-    let at24 = at23 .before in
-    let at26 = at24 .before .before in
-    let at36 = at26 .before .before .before .before .before .before .before .before .before .before in
-    turn-carried _ _ _ _ _ _ _ _ (at36 .pre) _ _ (at26 .turn .ensures) (at24 .frame-count .ensures) (at23 .if1 .left) _ _ _ _ (at17 .choose .ensures) _ _ (at14 .post-ties .ensures .0) (at14 .post-ties .ensures .1) _ _ _ _ (c .before .before .before .before .before .before .carry-out .ensures)
+    let at22 = at17 .before .before .before .before .before in
+    let at25 = at22 .before .before .before in
+    let at26 = at25 .before in
+    let at28 = at26 .before .before in
+    let at38 = at28 .before .before .before .before .before .before .before .before .before .before in
+    top-carried _ _ _ _ _ _ _ _ (at38 .pre) _ _ (at28 .turn .ensures) (at26 .frame-count .ensures) (at25 .if1 .left) _ _ (at22 .top-frame .ensures .0) (at22 .top-frame .ensures .1) _ _ _ _ (at17 .choose .ensures) _ _ (at14 .post-ties .ensures .0) (at14 .post-ties .ensures .1) _ _ _ _ (c .before .before .before .before .before .before .carry-out .ensures)
 
 pub step-unbroken-spec : {M : Type 1} → statement M
 step-unbroken-spec =
@@ -41,7 +56,7 @@ step-unbroken-spec =
     (λ c. search needs)
     returns
     (λ c. search needs)
-    (λ c κs. search needs)
+    top-frame-requires
     choose-requires
     post-ties-requires
     carry-out-requires
