@@ -8,12 +8,19 @@ use Rattle.definition.specs.Instructions.{pick}
 use Rattle.definition.specs.Calls.{Call, callBoot, callDefine, callRecord, callStart, callStep, callRun, callDrop}
 use Rattle.classfile.specs.Reading.{partOf}
 
+-- cells of a row of the list, and of an answer's row
+abbrev pub callCells : ℕ
+callCells = 6
+
+abbrev pub answerCells : ℕ
+answerCells = 3
+
 -- the kind of row i, and the number in its cell k
 unfoldable pub kindIn : List ℕ → ℕ → ℕ
-kindIn cells i = getD cells (i * 6) 0
+kindIn cells i = getD cells (i * callCells) 0
 
 unfoldable pub cellIn : List ℕ → ℕ → ℕ → ℕ
-cellIn cells i k = getD cells (i * 6 + k) 0
+cellIn cells i k = getD cells (i * callCells + k) 0
 
 -- the file that row i names by its start and size; no bytes if it lies outside
 unfoldable pub fileIn : List ℕ → List ℕ → ℕ → List ℕ
@@ -38,4 +45,4 @@ callsFrom g zero i = []
 callsFrom g (suc k) i = elim (g i) [ none ↦ [] | some c ↦ c ∷ callsFrom g k (suc i) ]
 
 unfoldable pub callsIn : List ℕ → List ℕ → List Call
-callsIn cells files = callsFrom (callIn cells files) (length cells / 6) 0
+callsIn cells files = callsFrom (callIn cells files) (length cells / callCells) 0

@@ -5,23 +5,26 @@ ghost use mathlib.Core.List.{List};
 ghost use Prim.Native.Nat.{ℕ, _+_, _*_, _<_, _≤_};
 ghost use lib.ListN.{length};
 ghost use lib.Dec.{leb};
-ghost use Rattle.definition.specs.Numbers.{rowCells};
 ghost use Rattle.definition.specs.Instructions.{pick};
 ghost use Rattle.definition.specs.Tables.{tables};
 ghost use Rattle.definition.specs.Calls.{boot, callDefine, callStart};
 ghost use Rattle.definition.specs.Answers.{number, numberOfStep, numberOf, endsIn, countOf};
-ghost use Rattle.driver.specs.Encoded.{fileIn, callIn, callsIn};
+ghost use Rattle.driver.specs.Encoded.{callCells, answerCells, fileIn, callIn, callsIn};
 ghost use Rattle.driver.specs.Driven.{putReply, isAccepted, driven, performed, drive, SafelyDriven};
 ghost use Rattle.driver.specs.Laws.{callMade, rowDone, performRow};
-
-// The word of a refusal that wants a class, as a number of the list.
-const WANTED: u32 = WORD_WANTED as u32;
-
 use calls::Call;
 use definition::Answer;
 use definition::Refusal;
 use definition::Reply;
 use definition::numbers::WORD_WANTED;
+
+// Cells of a row of the list, and of an answer's row.
+const CALL_CELLS: usize = 6;
+
+const ANSWER_CELLS: usize = 3;
+
+// The word of a refusal that wants a class, as an answer's cell holds it.
+const WANTED: u32 = WORD_WANTED as u32;
 
 // Boot refused the tables, or so many calls were performed.
 pub enum Outcome {
@@ -91,10 +94,10 @@ fn tell(reply: Reply) -> Told
 
 // An answer written into row i, as far as the table has room.
 fn write_answer(answers: &mut [u32], i: usize, reply: Reply)
-    requires { ⌜ i * rowCells + 2 < 18446744073709551616 ⌝ }
+    requires { ⌜ i * answerCells + 2 < 18446744073709551616 ⌝ }
     ensures { λ _. ⌜ now (answers .exit) ≡ putReply (now (answers .entry)) i reply ⌝ }
 {
-    let place = i * 3;
+    let place = i * ANSWER_CELLS;
     let it = tell(reply);
     cells::put32(answers, place, it.number);
     cells::put32(answers, place + 1, it.end);
@@ -116,11 +119,11 @@ fn is_accepted(reply: Reply) -> bool
 
 // The file that row i names, a part of the bytes; none of them if it lies outside.
 fn file_of<'a>(list: &[u32], files: &'a [u8], i: usize) -> &'a [u8]
-    requires { ⌜ i * 6 + 6 ≤ length (now list) ⌝ }
+    requires { ⌜ i * callCells + callCells ≤ length (now list) ⌝ }
     ensures { λ r. ⌜ now r ≡ fileIn (now (list .entry)) (now (files .entry)) i ⌝ }
 {
-    let start = cells::wide32(list[i * 6 + 2]);
-    let end = start + cells::wide32(list[i * 6 + 3]);
+    let start = cells::wide32(list[i * CALL_CELLS + 2]);
+    let end = start + cells::wide32(list[i * CALL_CELLS + 3]);
     if end <= files.len() {
         &files[start..end]
     } else {
@@ -153,10 +156,10 @@ fn read_start(task: u32, loader: u32, name: u32, method: u32, value: u32) -> Row
 
 // The call of row i, or none.
 fn read_row(list: &[u32], files: &[u8], i: usize) -> Row
-    requires { ⌜ i * 6 + 6 ≤ length (now list) ⌝ }
+    requires { ⌜ i * callCells + callCells ≤ length (now list) ⌝ }
     ensures { λ r. ⌜ callMade r (fileIn (now (list .entry)) (now (files .entry)) i) ≡ callIn (now (list .entry)) (now (files .entry)) i ⌝ }
 {
-    let at = i * 6;
+    let at = i * CALL_CELLS;
     let kind = list[at];
     let first = list[at + 1];
     match kind {
@@ -192,7 +195,7 @@ fn perform_row(
     answers: &mut [u32],
     i: usize,
 ) -> bool
-    requires { ⌜ i * 6 + 6 ≤ length (now list) ⌝ }
+    requires { ⌜ i * callCells + callCells ≤ length (now list) ⌝ }
     ensures { λ r. ⌜ rowDone r (tables (now (counts .exit)) (now (classes .exit)) (now (kept .exit)) (now (cache .exit)) (now (ties .exit)) (now (subtypes .exit)) (now (objects .exit)) (now (frames .exit))) (now (answers .exit)) ≡ performRow (callIn (now (list .entry)) (now (files .entry)) i) i (tables (now (counts .entry)) (now (classes .entry)) (now (kept .entry)) (now (cache .entry)) (now (ties .entry)) (now (subtypes .entry)) (now (objects .entry)) (now (frames .entry))) (now (answers .entry)) ⌝ }
 {
     let row = read_row(list, files, i);
@@ -232,7 +235,7 @@ fn perform_rows(
 ) -> usize
     ensures { λ r. ⌜ driven (Outcome.Performed r) (tables (now (counts .exit)) (now (classes .exit)) (now (kept .exit)) (now (cache .exit)) (now (ties .exit)) (now (subtypes .exit)) (now (objects .exit)) (now (frames .exit))) (now (answers .exit)) ≡ performed (callsIn (now (list .entry)) (now (files .entry))) 0 (tables (now (counts .entry)) (now (classes .entry)) (now (kept .entry)) (now (cache .entry)) (now (ties .entry)) (now (subtypes .entry)) (now (objects .entry)) (now (frames .entry))) (now (answers .entry)) ⌝ }
 {
-    let n = list.len() / 6;
+    let n = list.len() / CALL_CELLS;
     let mut i: usize = 0;
     while i < n {
         if !perform_row(

@@ -7,6 +7,7 @@ ghost use mathlib.Core.Path.{_≡_};
 ghost use mathlib.Core.List.{map};
 ghost use Prim.Native.Nat.{_<_, _≤_};
 ghost use lib.ListN.{length, set};
+ghost use Rattle.definition.specs.Numbers.{byteRange};
 ghost use Rattle.definition.specs.Lists.{any, indexOf, writeRows};
 ghost use Rattle.definition.specs.Superclasses.{nearest};
 ghost use Rattle.definition.specs.Classes.{superOf, slots, slotIs, hasField};
@@ -61,7 +62,7 @@ pub fn nearest_field(
 
 // How many fields a class itself declares.
 fn own_size(counts: &[u16], classes: &[u16], kept: &[u8], c: u32) -> u32
-    ensures { λ r. ⌜ (r ≡ fieldCount (fileIn (now (counts .entry)) (now (classes .entry)) (now (kept .entry)) c)) × (r < 256) ⌝ }
+    ensures { λ r. ⌜ (r ≡ fieldCount (fileIn (now (counts .entry)) (now (classes .entry)) (now (kept .entry)) c)) × (r < byteRange) ⌝ }
 {
     cells::from16(cells::from8(classfile::field_count(file_of(counts, classes, kept, c))))
 }

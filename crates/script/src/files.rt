@@ -5,6 +5,10 @@ ghost use lib.ListN.{length, set};
 ghost use Rattle.definition.specs.Lists.{isSome, writeRows};
 ghost use Rattle.definition.specs.Script.{file};
 ghost use Rattle.script.specs.Files.{hexValue, pairValue, quickPairs};
+use definition::numbers::BYTE_RANGE;
+
+// How many values a byte has, as a place is counted.
+const BYTES: usize = BYTE_RANGE as usize;
 
 // A digit's value; 16 if it is no digit.
 fn hex_value(b: u8) -> u8
@@ -58,7 +62,7 @@ fn byte_at(s: &[u8], i: usize) -> u8
 {
     let high = cells::wide8(hex_value(s[i]));
     let low = cells::wide8(hex_value(s[i + 1]));
-    ((high * 16 + low) % 256) as u8
+    ((high * 16 + low) % BYTES) as u8
 }
 
 // The bytes that pairs of digits stand for, written from the table's front.
