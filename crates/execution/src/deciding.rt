@@ -4,6 +4,7 @@ use crate::settling::plain;
 use crate::settling::settle_access;
 use definition::Instruction;
 use definition::numbers::FRAME_LIMIT;
+use definition::numbers::NAME_INT;
 use definition::numbers::WORD_STUCK;
 use frames::Top;
 use instructions::Plan;
@@ -54,7 +55,7 @@ fn act(
             true,
             top.loader,
             of,
-            1,
+            NAME_INT,
             access::getfield(
                 counts,
                 classes,
@@ -78,7 +79,7 @@ fn act(
             true,
             top.loader,
             of,
-            1,
+            NAME_INT,
             access::putfield(
                 counts,
                 classes,
