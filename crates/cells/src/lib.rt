@@ -1,10 +1,12 @@
 // Cells of a table, read and written totally: a read past the end answers 0, a write past the end does nothing.
 use definition::numbers::BYTE_RANGE;
+use definition::numbers::ROW_CELLS;
 ghost use mathlib.Core.Path.{_≡_};
 ghost use Prim.Native.Nat.{_+_, _*_, _<_};
 ghost use lib.ListN.{getD, set};
 ghost use Rattle.definition.specs.Numbers.{byteRange, shortRange, intRange};
 ghost use Rattle.definition.specs.Instructions.{shortAt};
+ghost use Rattle.definition.specs.Tables.{putThree};
 
 // Numbers widened: sums and products of these do not wrap.
 pub fn wide8(x: u8) -> usize
@@ -79,6 +81,16 @@ pub fn put32(t: &mut [u32], i: usize, v: u32)
     if i < t.len() {
         t[i] = v;
     }
+}
+
+// A row of three cells written, as far as the table has them.
+pub fn put_three(t: &mut [u16], i: u32, a: u16, b: u16, c: u16)
+    ensures { λ _. ⌜ now (t .exit) ≡ putThree (now (t .entry)) i a b c ⌝ }
+{
+    let place = wide32(i) * ROW_CELLS;
+    put16(t, place, a);
+    put16(t, place + 1, b);
+    put16(t, place + 2, c);
 }
 
 // The byte after place i; the place may be the last that a slice can have.

@@ -3,7 +3,7 @@ use crate::Added;
 use cells::at16;
 use cells::from8;
 use cells::from16;
-use cells::put16;
+use cells::put_three;
 use cells::wide16;
 use definition::numbers::NOTE_CELLS;
 use definition::numbers::ROW_CELLS;
@@ -19,7 +19,7 @@ ghost use Rattle.definition.specs.Numbers.{shortRange};
 ghost use Rattle.definition.specs.Lists.{rows, any};
 ghost use Rattle.definition.specs.Constraints.{tieIs};
 ghost use Rattle.definition.specs.Loading.{subtypeIs};
-ghost use Rattle.definition.specs.Tables.{tieAt, subtypeAt, putThree};
+ghost use Rattle.definition.specs.Tables.{tieAt, subtypeAt};
 ghost use Rattle.constraints.specs.Posting.{newTieIn, newSubtypesIn, newNotesIn, note, tiesAfter, subtypesAfter, roomy, counted, notesPosted};
 
 // How many subtype constraints there may be, as a count that may have grown past 16 bits.
@@ -30,16 +30,6 @@ fn are_equal(a: u16, b: u16, x: u16, y: u16) -> bool
     ensures { λ r. ⌜ r ≡ (eqb a x && eqb b y) ⌝ }
 {
     if a == x { b == y } else { false }
-}
-
-// A row of three cells written, as far as the table has them.
-fn put_row(t: &mut [u16], i: usize, a: u16, b: u16, c: u16)
-    requires { ⌜ i < shortRange ⌝ }
-    ensures { λ _. ⌜ now (t .exit) ≡ putThree (now (t .entry)) i a b c ⌝ }
-{
-    put16(t, i * ROW_CELLS, a);
-    put16(t, i * ROW_CELLS + 1, b);
-    put16(t, i * ROW_CELLS + 2, c);
 }
 
 // Row i is a tie of two loaders, in either order, on a name.
@@ -90,7 +80,7 @@ pub fn add_tie(ties: &mut [u16], count: u16, one: u8, two: u8, name: u16) -> u32
     if tie_known(ties, count, one, two, name) {
         return rows;
     }
-    put_row(ties, wide16(count), from8(one), from8(two), name);
+    put_three(ties, rows, from8(one), from8(two), name);
     rows + 1
 }
 
@@ -134,7 +124,7 @@ pub fn add_subtype(subtypes: &mut [u16], count: u16, loader: u8, low: u16, high:
     if subtype_known(subtypes, count, loader, low, high) {
         return rows;
     }
-    put_row(subtypes, wide16(count), from8(loader), low, high);
+    put_three(subtypes, rows, from8(loader), low, high);
     rows + 1
 }
 

@@ -1,6 +1,5 @@
 // Cells and rows written one after another, and a cache with one more entry on copies: what every call that loads goes by.
 use definition::numbers::COUNT_CACHE;
-use definition::numbers::ROW_CELLS;
 ghost use mathlib.Core.Path.{_≡_};
 ghost use Prim.Native.Nat.{_+_, _-_, _<_, _≤_};
 ghost use lib.ListN.{set};
@@ -49,10 +48,7 @@ pub fn write_bytes(t: &mut [u8], from: u16, bytes: &[u8])
 pub fn put_three(t: &mut [u16], i: u16, a: u16, b: u16, c: u16)
     ensures { λ _. ⌜ now (t .exit) ≡ putThree (now (t .entry)) i a b c ⌝ }
 {
-    let place = cells::wide16(i) * ROW_CELLS;
-    cells::put16(t, place, a);
-    cells::put16(t, place + 1, b);
-    cells::put16(t, place + 2, c);
+    cells::put_three(t, cells::from16(i), a, b, c);
 }
 
 // The counts and the cache written over the fronts of two tables, of any lengths, with one more entry: its row stands at the old count of entries,

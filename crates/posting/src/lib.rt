@@ -7,7 +7,6 @@ ghost use Rattle.definition.specs.Tables.{tie, tieAt, putTie};
 ghost use Rattle.access.specs.Accesses.{tiesOn};
 ghost use Rattle.posting.specs.Postings.{toPost, isNew, quietly};
 use definition::numbers::NAME_INT;
-use definition::numbers::ROW_CELLS;
 use instructions::Plan;
 
 // The ties that a step posts between two loaders: one of each name.
@@ -64,10 +63,7 @@ pub fn tie_number(posting: Posting) -> u16
 fn write_tie(ties: &mut [u16], i: u32, one: u8, two: u8, name: u16)
     ensures { λ _. ⌜ now (ties .exit) ≡ putTie (now (ties .entry)) i (tie one two name) ⌝ }
 {
-    let place = cells::wide32(i) * ROW_CELLS;
-    cells::put16(ties, place, cells::from8(one));
-    cells::put16(ties, place + 1, cells::from8(two));
-    cells::put16(ties, place + 2, name);
+    cells::put_three(ties, i, cells::from8(one), cells::from8(two), name);
 }
 
 // Ties written from row n on.

@@ -4,7 +4,7 @@ use Rattle.entries.proofs.put_three.Statement.{statement}
 use Rattle.entries.proofs.put_three.Tie as tie
 
 returns : tie.Need-returns
-returns c = rw (c .before .before .put163 .ensures, c .before .before .before .before .before .before .put162 .ensures, c .before .before .before .before .before .before .before .before .before .before .put16 .ensures, c .before .before .before .before .before .before .before .before .before .before .before .before .wide16 .ensures .0)
+returns c = rw (c .before .before .put-three .ensures, c .before .before .before .from16 .ensures .0)
 
 pub put-three-spec : {M : Type 1} → statement M
-put-three-spec = tie.close (tie.spec (λ c κs. search needs) (λ c. search needs) (λ c κs. search needs) (λ c. search needs) (λ c κs. search needs) (λ c. search needs) (λ c κs. search needs) (λ c. search needs) returns)
+put-three-spec = tie.close (tie.spec (λ c κs. search needs) (λ c κs. search needs) (λ c. search needs) returns)

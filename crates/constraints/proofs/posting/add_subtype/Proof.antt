@@ -12,15 +12,14 @@ returns c =
 
 returns-2 : tie.Need-returns-2
 returns-2 c =
-    let at9 = c .before .before .before .before .before .before .before .before .before in
-    let put-row = c .before .before .put-row in
+    let at8 = c .before .before .before .before .before .before .before .before in
+    let put-three = c .before .before .put-three in
     let from8 = c .before .before .before .from8 in
-    let wide16 = c .before .before .before .before .wide16 in
-    let if1 = c .before .before .before .before .before .before .if1 in
-    let subtype-known = c .before .before .before .before .before .before .before .subtype-known in
-    let from16 = at9 .from16 in
+    let if1 = c .before .before .before .before .before .if1 in
+    let subtype-known = c .before .before .before .before .before .before .subtype-known in
+    let from16 = at8 .from16 in
     subtype-new _ _ _ _ _ _ _ (sym (subtype-known .ensures) ∙ if1 .left) (from16 .ensures .0)
-    (rw (wide16 .ensures .0, from8 .ensures .0) at (put-row .ensures))
+    (rw (from16 .ensures .0, from8 .ensures .0) at (put-three .ensures))
 
 pub add-subtype-spec : {M : Type 1} → statement M
 add-subtype-spec =
@@ -30,7 +29,6 @@ add-subtype-spec =
     (λ c κs. search needs)
     (λ c. search needs)
     returns
-    (λ c κs. search needs)
     (λ c κs. search needs)
     (λ c κs. search needs)
     (λ c. search needs)

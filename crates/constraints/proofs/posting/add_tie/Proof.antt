@@ -20,21 +20,19 @@ returns-3 c =
 
 returns-4 : tie.Need-returns-4
 returns-4 c =
-    let at8 = c .before .before .before .before .before .before .before .before in
-    let at10 = at8 .before .before in
+    let at9 = c .before .before .before .before .before .before .before .before .before in
+    let at10 = at9 .before in
     let at11 = at10 .before in
-    let at12 = at11 .before in
-    let put-row = c .before .before .put-row in
+    let put-three = c .before .before .put-three in
     let from82 = c .before .before .before .from82 in
     let from8 = c .before .before .before .before .from8 in
-    let wide16 = c .before .before .before .before .before .wide16 in
-    let if3 = c .before .before .before .before .before .before .before .if3 in
-    let tie-known = at8 .tie-known in
-    let if2 = at10 .if2 in
-    let if1 = at11 .if1 in
-    let from16 = at12 .from16 in
+    let if3 = c .before .before .before .before .before .before .if3 in
+    let tie-known = c .before .before .before .before .before .before .before .tie-known in
+    let if2 = at9 .if2 in
+    let if1 = at10 .if1 in
+    let from16 = at11 .from16 in
     tie-new _ _ _ _ _ _ _ (if1 .left) (if2 .left) (sym (tie-known .ensures) ∙ if3 .left) (from16 .ensures .0)
-    (rw (wide16 .ensures .0, from8 .ensures .0, from82 .ensures .0) at (put-row .ensures))
+    (rw (from16 .ensures .0, from8 .ensures .0, from82 .ensures .0) at (put-three .ensures))
 
 pub add-tie-spec : {M : Type 1} → statement M
 add-tie-spec =
@@ -46,7 +44,6 @@ add-tie-spec =
     (λ c κs. search needs)
     (λ c. search needs)
     returns-3
-    (λ c κs. search needs)
     (λ c κs. search needs)
     (λ c κs. search needs)
     (λ c κs. search needs)
