@@ -191,7 +191,7 @@ fn write_head(frames: &mut [u32], b: u32, c: u32, j: u32)
 {
     cells::put32(frames, cells::wide32(b), c);
     cells::put32(frames, cells::wide32(b) + METHOD_CELL, j);
-    write_moved(frames, b, KIND_EMPTY, 0);
+    write_moved(frames, b, 0, 0);
 }
 
 fn write_empty(frames: &mut [u32], b: u32)
