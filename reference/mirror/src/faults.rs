@@ -198,20 +198,6 @@ fn classes_under(store: &Store, loader: u16) -> Option<Classes> {
     Some(classes)
 }
 
-/// With the entry, and with each superclass looked up under the entry's loader, do that loader's subtype constraints hold?
-fn lies_below_as_asked(store: &Store, entry: [u16; 3]) -> bool {
-    let mut tried = store.clone();
-    tried.add_cached(entry);
-    let above = |class: u16| tried.cached(entry[0], tried.file(class)?.superclass());
-    let mut rows = tried.subtype_rows().filter(|row| row[0] == entry[0]);
-    rows.all(|[loader, low, high]| {
-        match (tried.cached(loader, low), tried.cached(loader, high)) {
-            (Some(low), Some(high)) => std::iter::successors(Some(low), |&class| above(class)).take(64).any(|class| class == high),
-            _ => true,
-        }
-    })
-}
-
 fn chosen() -> Option<&'static str> {
     static CHOSEN: OnceLock<Option<String>> = OnceLock::new();
     CHOSEN.get_or_init(|| std::env::var("MIRROR_FAULT").ok()).as_deref()
