@@ -11,7 +11,7 @@ pub use Rattle.definition.specs.declared.Refusal.the-variants.{Wanted, W
 pub use Rattle.definition.specs.declared.Answer.{Answer}
 pub use Rattle.definition.specs.declared.Answer.the-variants.{Idle, Ran, Finished, Refused}
 pub use Rattle.definition.specs.declared.Reply.{Reply}
-pub use Rattle.definition.specs.declared.Reply.the-variants.{Accepted, Defined, Stepped, RanFor, Denied}
+pub use Rattle.definition.specs.declared.Reply.the-variants.{Accepted, Defined, Stepped, RanFor, Swept, Denied}
 pub use Rattle.definition.specs.declared.Details.{Details}
 
 -- Ints: 32 bits, read as signed where people read them
@@ -40,6 +40,7 @@ numberOf Accepted = 0
 numberOf (Defined c) = 0
 numberOf (Stepped a) = numberOfStep a
 numberOf (RanFor n a) = 0
+numberOf (Swept n) = 0
 numberOf (Denied r) = number r
 
 -- the number that a run ends in, and the count of its steps that ran
@@ -48,6 +49,7 @@ endsIn Accepted = 0
 endsIn (Defined c) = 0
 endsIn (Stepped a) = 0
 endsIn (RanFor n a) = numberOfStep a
+endsIn (Swept n) = 0
 endsIn (Denied r) = 0
 
 unfoldable pub countOf : Reply → ℕ
@@ -55,6 +57,7 @@ countOf Accepted = 0
 countOf (Defined c) = 0
 countOf (Stepped a) = 0
 countOf (RanFor n a) = n
+countOf (Swept n) = 0
 countOf (Denied r) = 0
 
 -- An answer's numbers, as a host's cells hold them and a script's line prints them: the refusal's, then three details; an int is its 32 bits
@@ -80,6 +83,7 @@ details turn Accepted = line 0 0 0 0
 details turn (Defined c) = line 0 c 0 0
 details turn (Stepped a) = stepDetails turn a
 details turn (RanFor n a) = stepDetails turn a
+details turn (Swept n) = line 0 n 0 0
 details turn (Denied r) = refusalDetails 0 r
 
 -- as people read them: the third may be an int

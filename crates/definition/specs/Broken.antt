@@ -4,11 +4,11 @@ use mathlib.Core.List.{List, [], _∷_}
 use Prim.Native.Nat.{ℕ, _+_}
 use lib.ListN.{length, getD}
 use lib.Dec.{eqb, leb, ltb}
-use Rattle.definition.specs.Numbers.{loaderLimit, classLimit, keptLimit, cacheLimit, tieLimit, subtypeLimit, objectLimit, fieldLimit, frameLimit, operandLimit, countClasses, countKept, countCache, countTies, countSubtypes, countObjects, countFrames}
+use Rattle.definition.specs.Numbers.{loaderLimit, taskLimit, classLimit, keptLimit, cacheLimit, tieLimit, subtypeLimit, objectLimit, fieldLimit, frameLimit, operandLimit, countClasses, countKept, countCache, countTies, countSubtypes, countObjects, countFrames}
 use Rattle.definition.specs.Lists.{every, all, allFrom, isSome}
 use Rattle.definition.specs.Classes.{Base, Entry, superOf}
 use Rattle.definition.specs.Constraints.{Tie, Subtype}
-use Rattle.definition.specs.Machine.{Value, emptyValue, intValue, nullValue, objectValue, unlistedValue, Object, Frame, existing}
+use Rattle.definition.specs.Machine.{Value, emptyValue, intValue, nullValue, objectValue, unlistedValue, ObjectRow, free, owned, Objects, Frame, existing}
 use Rattle.definition.specs.Tables.{Tables, shaped, ClassRow, Rows, fileAt, baseOf, sizeOf, view}
 
 -- each count within its limit
@@ -36,7 +36,7 @@ unfoldable pub classesFit : Base → List ℕ → List ClassRow → Bool
 classesFit b bs [] = true
 classesFit b bs (k ∷ ks) = every (isObject k ∷ allFrom (classFits b bs) 1 ks ∷ [])
 
--- no class, object or loader number is unused or too large; n classes there are
+-- no class, object, loader or task number is unused or too large; n classes there are
 unfoldable pub entryFits : ℕ → Entry → Bool
 entryFits n e = every (ltb (e .request .loader) loaderLimit ∷ ltb (e .class) n ∷ [])
 
@@ -47,24 +47,26 @@ unfoldable pub subtypeFits : Subtype → Bool
 subtypeFits s = ltb (s .loader) loaderLimit
 
 -- a value's kind is listed, for a field or operand and for a local, which alone may be empty
-unfoldable pub valueFits : List Object → Value → Bool
+unfoldable pub valueFits : Objects → Value → Bool
 valueFits os emptyValue = false
 valueFits os (intValue n) = true
 valueFits os nullValue = true
 valueFits os (objectValue o) = isSome (existing os o)
 valueFits os (unlistedValue k b) = false
 
-unfoldable pub localFits : List Object → Value → Bool
+unfoldable pub localFits : Objects → Value → Bool
 localFits os emptyValue = true
 localFits os (intValue n) = true
 localFits os nullValue = true
 localFits os (objectValue o) = isSome (existing os o)
 localFits os (unlistedValue k b) = false
 
-unfoldable pub objectFits : ℕ → List Object → Object → Bool
-objectFits n os o = every (ltb (o .class) n ∷ all (valueFits os) (o .values) ∷ [])
+-- an object's owner is a task; of a free row nothing is asked
+unfoldable pub objectFits : ℕ → Objects → ObjectRow → Bool
+objectFits n os free = true
+objectFits n os (owned k o) = every (ltb k taskLimit ∷ ltb (o .class) n ∷ all (valueFits os) (o .values) ∷ [])
 
-unfoldable pub frameFits : ℕ → List Object → Frame → Bool
+unfoldable pub frameFits : ℕ → Objects → Frame → Bool
 frameFits n os f = every (ltb (f .class) n ∷ leb (length (f .operands)) operandLimit ∷ all (valueFits os) (f .operands) ∷ all (localFits os) (f .locals) ∷ [])
 
 unfoldable pub sound : Rows → Bool

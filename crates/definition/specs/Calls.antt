@@ -1,4 +1,4 @@
--- The seven calls: on rows, then on tables.
+-- The eight calls: on rows, then on tables.
 use mathlib.Core.Path.{_≡_}
 use mathlib.Core.Bool.{true, false, _&&_}
 use mathlib.Core.Option.{Option, none, some}
@@ -8,9 +8,10 @@ use lib.ListN.{length}
 use lib.Dec.{leb, ltb}
 use Rattle.definition.specs.Numbers.{wordBroken, wordFile, wordUnknown, wordTaken, wordWanted, wordUnverified, wordAbsent, wordHidden, wordClash, wordFull, wordNull, wordBusy, wordMisnamed, wordStuck, nameObject, loaderLimit, taskLimit, keptLimit, runLimit}
 use Rattle.definition.specs.Constraints.{World}
-use Rattle.definition.specs.Answers.{Refusal, Word, Answer, Idle, Ran, Finished, Refused, Reply, Accepted, Defined, Stepped, RanFor, Denied, Result, refused, ok, _>>=_, need, take?}
+use Rattle.definition.specs.Answers.{Refusal, Word, Answer, Idle, Ran, Finished, Refused, Reply, Accepted, Defined, Stepped, RanFor, Swept, Denied, Result, refused, ok, _>>=_, need, take?}
 use Rattle.definition.specs.Machine.{Frame, Progress, step}
 use Rattle.definition.specs.Loading.{define, recorded, started}
+use Rattle.definition.specs.Sweeping.{reached, sweptFrom, freedFrom}
 use Rattle.definition.specs.File.{readFile, classOf}
 use Rattle.definition.specs.Tables.{Tables, shaped, Rows, noRows, withClasses, withKept, withCache, withTies, withSubtypes, withObjects, withFrames, framesIn, classRow, entry, worldOf, view, put}
 use Rattle.definition.specs.Broken.{broken}
@@ -55,11 +56,17 @@ recordRows l n c r = recorded l n c (worldOf r) >>= λ w. given Accepted (addEnt
 -- start of task k. 3 12 5 7 10
 unfoldable pub startRows : ℕ → ℕ → ℕ → ℕ → ℕ → Rows → Result (Given Reply)
 startRows k l n m v r =
-    need (ltb k taskLimit) (Word wordUnknown) >>= λ _. started l n m v (worldOf r) (r .objects) (framesIn k r) >>= λ o. given Accepted (progressed k r o)
+    need (ltb k taskLimit) (Word wordUnknown) >>= λ _. started k l n m v (worldOf r) (r .objects) (framesIn k r) >>= λ o. given Accepted (progressed k r o)
 
 -- drop of task k. 3
 unfoldable pub dropRows : ℕ → Rows → Result (Given Reply)
 dropRows k r = need (ltb k taskLimit) (Word wordUnknown) >>= λ _. given Accepted (withFrames k [] r)
+
+-- sweep: every object that no frame reaches is freed; the answer is their number. No refusal but 'broken'.
+unfoldable pub sweepRows : Rows → Result (Given Reply)
+sweepRows r =
+    let R = reached (r .objects) (r .quote ++ r .report) in
+    given (Swept (freedFrom R 0 (r .objects))) (withObjects (sweptFrom R 0 (r .objects)) r)
 
 -- step: one instruction of the quote if it has a frame, else of the report; w is what the rows' classes, cache and constraints are
 
@@ -68,7 +75,7 @@ answerOf k none = Ran k
 answerOf k (some n) = Finished k n
 
 unfoldable pub stepTask : ℕ → World → Frame → List Frame → Rows → Result (Given Answer)
-stepTask k w f fs r = step w (r .objects) f fs >>= λ o. given (answerOf k (o .result)) (progressed k r o)
+stepTask k w f fs r = step k w (r .objects) f fs >>= λ o. given (answerOf k (o .result)) (progressed k r o)
 
 unfoldable pub stepOn : List Frame → List Frame → World → Rows → Result (Given Answer)
 stepOn (f ∷ fs) gs w r = stepTask 0 w f fs r
@@ -135,12 +142,14 @@ pub data RowCall : Type 0 where
   rowRecord : ℕ → ℕ → ℕ → RowCall
   rowStart : ℕ → ℕ → ℕ → ℕ → ℕ → RowCall
   rowDrop : ℕ → RowCall
+  rowSweep : RowCall
 
 abbrev pub onRowCall : RowCall → Rows → Result (Given Reply)
 onRowCall (rowDefine l bs) = defineRows l bs
 onRowCall (rowRecord l n c) = recordRows l n c
 onRowCall (rowStart k l n m v) = startRows k l n m v
 onRowCall (rowDrop k) = dropRows k
+onRowCall rowSweep = sweepRows
 
 pub data Call : Type 0 where
   callBoot : Call
@@ -162,6 +171,9 @@ callStart k l n m v = callRows (rowStart k l n m v)
 abbrev pub callDrop : ℕ → Call
 callDrop k = callRows (rowDrop k)
 
+abbrev pub callSweep : Call
+callSweep = callRows rowSweep
+
 -- the words that each call may refuse with, in the order in which the definitions above test them; a run's last answer may be any of a step's
 unfoldable pub stepRefusals : List ℕ
 stepRefusals = wordBroken ∷ wordStuck ∷ wordWanted ∷ wordAbsent ∷ wordFull ∷ wordClash ∷ wordNull ∷ []
@@ -172,6 +184,7 @@ rowRefusals (rowDefine l bs) = wordUnknown ∷ wordFile ∷ wordUnverified ∷ w
 rowRefusals (rowRecord l n c) = wordUnknown ∷ wordMisnamed ∷ wordTaken ∷ wordFull ∷ wordClash ∷ []
 rowRefusals (rowStart k l n m v) = wordUnknown ∷ wordBusy ∷ wordWanted ∷ wordAbsent ∷ wordFull ∷ []
 rowRefusals (rowDrop k) = wordUnknown ∷ []
+rowRefusals rowSweep = []
 
 unfoldable pub refusalsOf : Call → List ℕ
 refusalsOf callBoot = wordBroken ∷ []

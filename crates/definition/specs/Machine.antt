@@ -1,10 +1,11 @@
 -- The machine on rows: values, objects, frames, and one instruction.
-use mathlib.Core.Bool.{true, false, _&&_}
+use mathlib.Core.Path.{_≡_}
+use mathlib.Core.Bool.{Bool, true, false, not, _&&_}
 use mathlib.Core.Option.{Option, none, some}
-use mathlib.Core.List.{List, [], _∷_, _++_, map}
+use mathlib.Core.List.{List, [], _∷_, map}
 use Prim.Native.Nat.{ℕ, suc, _+_, _-_, _%_}
 use lib.ListN.{length, getElem?, set}
-use lib.Dec.{eqb, ltb}
+use lib.Dec.{eqb, leb, ltb}
 use Rattle.definition.specs.Numbers.{wordAbsent, wordFull, wordNull, wordStuck, nameInt, objectLimit, frameLimit, operandLimit, intRange}
 use Rattle.definition.specs.Lists.{indexOf}
 use Rattle.definition.specs.Requests.{at}
@@ -37,9 +38,55 @@ pub record Frame : Type 0 where
   pub operands : List Value
   pub locals : List Value
 
+-- The rows of objects by number. A row is free, or holds an object with its owner, the task that made it.
+
+pub data ObjectRow : Type 0 where
+  free : ObjectRow
+  owned : ℕ → Object → ObjectRow
+
+abbrev pub Objects : Type 0
+Objects = List ObjectRow
+
+unfoldable pub objectHeld : ObjectRow → Option Object
+objectHeld free = none
+objectHeld (owned k x) = some x
+
 -- an object exists from its making until its row is emptied
-unfoldable pub existing : List Object → ℕ → Option Object
-existing os o = getElem? os o
+unfoldable pub existing : Objects → ℕ → Option Object
+existing os o = elim (getElem? os o) [ none ↦ none | some x ↦ objectHeld x ]
+
+abbrev pub Exists : Objects → ℕ → Type 0
+Exists os o = (x : Object) × (existing os o ≡ some x)
+
+-- how many objects exist
+unfoldable pub inUse : Objects → ℕ
+inUse [] = 0
+inUse (free ∷ os) = inUse os
+inUse (owned k x ∷ os) = suc (inUse os)
+
+-- the lowest number unused
+unfoldable pub unused : Objects → ℕ
+unused [] = 0
+unused (free ∷ os) = 0
+unused (owned k x ∷ os) = suc (unused os)
+
+-- an object made by task k takes that number: the first free row, or the next
+unfoldable pub made : ℕ → Object → Objects → Objects
+made k x [] = owned k x ∷ []
+made k x (free ∷ os) = owned k x ∷ os
+made k x (owned j y ∷ os) = owned j y ∷ made k x os
+
+-- task k may make no object: 256 are in use
+unfoldable pub roomless : ℕ → Objects → Bool
+roomless k os = leb objectLimit (unused os)
+
+-- object o becomes x, its owner the same
+unfoldable pub rewritten : Object → ObjectRow → ObjectRow
+rewritten x free = free
+rewritten x (owned k y) = owned k x
+
+unfoldable pub changed : Objects → ℕ → Object → Objects
+changed os o x = elim (getElem? os o) [ none ↦ os | some y ↦ set os o (rewritten x y) ]
 
 -- Fields begin as 0 or null; local 0 holds this and local 1 the argument, the rest begin empty
 
@@ -93,7 +140,7 @@ unfoldable pub room! : List Value → Result (Unit {0})
 room! vs = need (ltb (length vs) operandLimit) (Word wordFull)
 
 -- the receiver: an object whose class is e or below it; 14, then 11 for null
-unfoldable pub object! : Base → List Object → ℕ → Value → Result (record { number : ℕ; object : Object })
+unfoldable pub object! : Base → Objects → ℕ → Value → Result (record { number : ℕ; object : Object })
 object! w os e emptyValue = refused (Word wordStuck)
 object! w os e (intValue n) = refused (Word wordStuck)
 object! w os e nullValue = refused (Word wordNull)
@@ -105,7 +152,7 @@ object! w os e (unlistedValue k b) = refused (Word wordStuck)
 
 pub record Progress : Type 0 where
   pub world : World
-  pub objects : List Object
+  pub objects : Objects
   pub frames : List Frame
   pub result : Option ℕ
 
@@ -130,7 +177,7 @@ under! [] = ok tt
 under! (g ∷ gs) = room! (g .operands)
 
 -- a value given back to the frame below; a first frame's must be an int
-unfoldable pub give : List Frame → World → List Object → Value → Result Progress
+unfoldable pub give : List Frame → World → Objects → Value → Result Progress
 give [] w os v = int! v >>= λ n. ok (record { world = w; objects = os; frames = []; result = some n })
 give (g ∷ gs) w os v = ok (record {
   world = w;
@@ -139,8 +186,8 @@ give (g ∷ gs) w os v = ok (record {
   result = none;
 })
 
--- An instruction of frame f, above fs, of class k. Refusals in order: 5 7 10 9, then 14, then 11.
-module _ (w : World) (os : List Object) (f : Frame) (fs : List Frame) (k : Class) (i : Decoded) where
+-- An instruction of frame f, of class k, above the frames fs of its task. Refusals in order: 5 7 10 9, then 14, then 11.
+module _ (task : ℕ) (w : World) (os : Objects) (f : Frame) (fs : List Frame) (k : Class) (i : Decoded) where
   -- nothing but the frame changes
   abbrev pub on : List Value → List Value → Result Progress
   on o l = ok (record { world = w; objects = os; frames = past f i o l ∷ fs; result = none })
@@ -173,7 +220,7 @@ module _ (w : World) (os : List Object) (f : Frame) (fs : List Frame) (k : Class
       take? (indexOf (slotIs d n t) (slots (w .base) d)) (Word wordStuck) >>= λ j.
       ok (record {
         world = w′;
-        objects = set os (o .number) (record { class = o .object .class; values = set (o .object .values) j (p .top) });
+        objects = changed os (o .number) (record { class = o .object .class; values = set (o .object .values) j (p .top) });
         frames = past f i (q .more) (f .locals) ∷ fs;
         result = none;
       })
@@ -186,10 +233,15 @@ module _ (w : World) (os : List Object) (f : Frame) (fs : List Frame) (k : Class
       ok (record { world = w′; objects = os; frames = entryFrame (m .class) (m .place) (o .number) (p .top) ∷ past f i (q .more) (f .locals) ∷ fs; result = none })
   execute (New c) =
       take? (find (w .base .cache) (at (k .loader) c)) (wanted (at (k .loader) c)) >>= λ e.
-      need (ltb (length os) objectLimit && ltb (length (f .operands)) operandLimit) (Word wordFull) >>= λ _.
-      ok (record { world = w; objects = os ++ (newObject (w .base) e ∷ []); frames = past f i (objectValue (length os) ∷ f .operands) (f .locals) ∷ fs; result = none })
+      need (not (roomless task os) && ltb (length (f .operands)) operandLimit) (Word wordFull) >>= λ _.
+      ok (record {
+        world = w;
+        objects = made task (newObject (w .base) e) os;
+        frames = past f i (objectValue (unused os) ∷ f .operands) (f .locals) ∷ fs;
+        result = none;
+      })
   execute (Return kind) = under! fs >>= λ _. pop! (f .operands) >>= λ p. ofKind! kind (p .top) >>= λ _. give fs w os (p .top)
 
 -- one instruction of the frame f, above the frames fs of its task
-unfoldable pub step : World → List Object → Frame → List Frame → Result Progress
-step w os f fs = now w f >>= λ n. execute w os f fs (n .theClass) (n .at) (n .at .instruction)
+unfoldable pub step : ℕ → World → Objects → Frame → List Frame → Result Progress
+step task w os f fs = now w f >>= λ n. execute task w os f fs (n .theClass) (n .at) (n .at .instruction)

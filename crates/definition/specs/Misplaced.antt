@@ -13,13 +13,13 @@ use Rattle.definition.specs.Superclasses.{Below, below}
 use Rattle.definition.specs.Classes.{find, superOf, loaderOf, slots}
 use Rattle.definition.specs.Constraints.{World}
 use Rattle.definition.specs.Verifier.{VerifierType, typeInt, typeNull, typeClass, typeOfName, typesIn}
-use Rattle.definition.specs.Machine.{Value, emptyValue, intValue, nullValue, objectValue, unlistedValue, Object, Frame, existing}
+use Rattle.definition.specs.Machine.{Value, emptyValue, intValue, nullValue, objectValue, unlistedValue, Object, free, owned, Objects, Frame, existing}
 use Rattle.definition.specs.Tables.{Tables, Rows, worldOf, view}
 
 -- A value in a place of type t under loader l, in words: of type int an int; null where the type is null; of a class name null or an object
 -- that exists and, if the request is loaded, is of that class or below it
 
-abbrev pub Placed : World → List Object → ℕ → VerifierType → Value → Type 0
+abbrev pub Placed : World → Objects → ℕ → VerifierType → Value → Type 0
 Placed w os l typeInt emptyValue = ⊥
 Placed w os l typeInt (intValue n) = Unit {0}
 Placed w os l typeInt nullValue = ⊥
@@ -39,7 +39,7 @@ Placed w os l (typeClass n) (unlistedValue k b) = ⊥
 
 -- The same as a test
 
-unfoldable pub placed : World → List Object → ℕ → VerifierType → Value → Bool
+unfoldable pub placed : World → Objects → ℕ → VerifierType → Value → Bool
 placed w os l typeInt emptyValue = false
 placed w os l typeInt (intValue n) = true
 placed w os l typeInt nullValue = false
@@ -60,11 +60,11 @@ placed w os l (typeClass n) (objectValue o) = elim (existing os o) [
 placed w os l (typeClass n) (unlistedValue k b) = false
 
 -- a local is set unless its type is unset
-abbrev pub PlacedLocal : World → List Object → ℕ → Option VerifierType → Value → Type 0
+abbrev pub PlacedLocal : World → Objects → ℕ → Option VerifierType → Value → Type 0
 PlacedLocal w os l none v = Unit {0}
 PlacedLocal w os l (some t) v = Placed w os l t v
 
-unfoldable pub placedLocal : World → List Object → ℕ → Option VerifierType → Value → Bool
+unfoldable pub placedLocal : World → Objects → ℕ → Option VerifierType → Value → Bool
 placedLocal w os l none v = true
 placedLocal w os l (some t) v = placed w os l t v
 
@@ -76,9 +76,10 @@ failures f (x ∷ xs) [] = 1 + failures f xs []
 failures f (x ∷ xs) (y ∷ ys) = elim (f x y) [ true ↦ failures f xs ys | false ↦ 1 + failures f xs ys ]
 
 -- a field's type is its declaring class's, under that class's loader
-unfoldable pub misplacedFields : World → List Object → List Object → ℕ
+unfoldable pub misplacedFields : World → Objects → Objects → ℕ
 misplacedFields w os [] = 0
-misplacedFields w os (b ∷ bs) =
+misplacedFields w os (free ∷ bs) = misplacedFields w os bs
+misplacedFields w os (owned k b ∷ bs) =
     failures (λ s v. placed w os (loaderOf (w .base) (s .owner)) (typeOfName (s .type)) v) (slots (w .base) (b .class)) (b .values)
     + misplacedFields w os bs
 
@@ -101,14 +102,14 @@ typesOf w waits f =
     waitingTypes waits (s .operands) >>= λ ts. some (record { loader = k .loader; operands = ts; locals = s .locals })
 
 -- a frame that has no types counts 1; operands are paired from the lowest
-unfoldable pub misplacedInFrame : World → List Object → Bool → Frame → ℕ
+unfoldable pub misplacedInFrame : World → Objects → Bool → Frame → ℕ
 misplacedInFrame w os waits f = elim (typesOf w waits f) [
   | none ↦ 1
   | some x ↦ failures (placed w os (x .loader)) (reverse (x .operands)) (reverse (f .operands)) + failures (placedLocal w os (x .loader)) (x .locals) (f .locals)
 ]
 
 -- the top frame runs, those below wait
-unfoldable pub misplacedInFrames : World → List Object → Bool → List Frame → ℕ
+unfoldable pub misplacedInFrames : World → Objects → Bool → List Frame → ℕ
 misplacedInFrames w os waits [] = 0
 misplacedInFrames w os waits (f ∷ fs) = misplacedInFrame w os waits f + misplacedInFrames w os true fs
 
@@ -122,16 +123,16 @@ misplaced t = misplacedIn (view t)
 
 -- No value is misplaced, in words: each field of each object that exists, each operand and each set local of each frame is placed
 
-abbrev pub FieldsPlaced : World → List Object → Object → Type 0
+abbrev pub FieldsPlaced : World → Objects → Object → Type 0
 FieldsPlaced w os b = Each (λ s v. Placed w os (loaderOf (w .base) (s .owner)) (typeOfName (s .type)) v) (slots (w .base) (b .class)) (b .values)
 
-pub record FramePlaced (w : World) (os : List Object) (waits : Bool) (f : Frame) : Type 0 where
+pub record FramePlaced (w : World) (os : Objects) (waits : Bool) (f : Frame) : Type 0 where
   pub types : FrameTypes
   pub has : typesOf w waits f ≡ some types
   pub operands : Each (Placed w os (types .loader)) (types .operands) (f .operands)
   pub locals : Each (PlacedLocal w os (types .loader)) (types .locals) (f .locals)
 
-abbrev pub FramesPlaced : World → List Object → Bool → List Frame → Type 0
+abbrev pub FramesPlaced : World → Objects → Bool → List Frame → Type 0
 FramesPlaced w os waits [] = Unit {0}
 FramesPlaced w os waits (f ∷ fs) = FramePlaced w os waits f × FramesPlaced w os true fs
 

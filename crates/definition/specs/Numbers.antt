@@ -137,6 +137,10 @@ countObjects = 5
 abbrev pub countFrames : ℕ
 countFrames = 6
 
+-- behind them, the owners of the object rows: 0 of a free row, else 1 and the task that made the object
+abbrev pub ownersCell : ℕ
+ownersCell = countFrames + taskLimit
+
 -- Rows: cells of a row of classes, cache, ties and subtypes; of a value; of an object and of a frame, and where in them something stands
 
 abbrev pub rowCells : ℕ
@@ -178,7 +182,7 @@ frameCells = operandsCell + valueCells * operandLimit
 -- The published lengths
 
 abbrev pub countsLength : ℕ
-countsLength = countFrames + taskLimit
+countsLength = ownersCell + objectLimit
 
 abbrev pub classesLength : ℕ
 classesLength = classLimit * rowCells
@@ -240,7 +244,7 @@ allNumbers =
     ∷ classLimit ∷ keptLimit ∷ cacheLimit ∷ tieLimit ∷ subtypeLimit ∷ objectLimit
     ∷ fieldLimit ∷ frameLimit ∷ operandLimit ∷ localCount ∷ runLimit ∷ versionOne
     ∷ fileLimit ∷ memberLimit ∷ codeLimit ∷ countClasses ∷ countKept ∷ countCache
-    ∷ countTies ∷ countSubtypes ∷ countObjects ∷ countFrames ∷ rowCells ∷ valueCells ∷ noteCells
+    ∷ countTies ∷ countSubtypes ∷ countObjects ∷ countFrames ∷ ownersCell ∷ rowCells ∷ valueCells ∷ noteCells
     ∷ fieldsCell ∷ objectCells ∷ methodCell ∷ pointCell ∷ depthCell ∷ localsCell
     ∷ operandsCell ∷ frameCells ∷ countsLength ∷ classesLength ∷ keptLength ∷ cacheLength
     ∷ tiesLength ∷ subtypesLength ∷ objectsLength ∷ framesLength ∷ kindEmpty ∷ kindInt

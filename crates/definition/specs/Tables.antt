@@ -9,14 +9,14 @@ use mathlib.Core.List.{List, [], _∷_, map}
 use Prim.Native.Nat.{ℕ, zero, suc, _+_, _*_}
 use lib.ListN.{length, replicate, take, drop, getD, set}
 use lib.Dec.{eqb, leb}
-use Rattle.definition.specs.Numbers.{fieldLimit, frameLimit, localCount, countClasses, countKept, countCache, countTies, countSubtypes, countObjects, countFrames, rowCells, valueCells, objectCells, fieldsCell, frameCells, methodCell, pointCell, depthCell, localsCell, operandsCell, countsLength, classesLength, keptLength, cacheLength, tiesLength, subtypesLength, objectsLength, framesLength, kindEmpty, kindInt, kindNull, kindObject}
+use Rattle.definition.specs.Numbers.{fieldLimit, frameLimit, localCount, countClasses, countKept, countCache, countTies, countSubtypes, countObjects, countFrames, ownersCell, rowCells, valueCells, objectCells, fieldsCell, frameCells, methodCell, pointCell, depthCell, localsCell, operandsCell, countsLength, classesLength, keptLength, cacheLength, tiesLength, subtypesLength, objectsLength, framesLength, kindEmpty, kindInt, kindNull, kindObject}
 use Rattle.definition.specs.Lists.{every, rows, writeRows, stack, writeStack}
 use Rattle.definition.specs.Maybe.{_>>=_, need}
 use Rattle.definition.specs.Requests.{at}
 use Rattle.definition.specs.Classes.{Base, Class, Entry, slots}
 use Rattle.definition.specs.Constraints.{Tie, Subtype, World}
 use Rattle.definition.specs.Instructions.{pick}
-use Rattle.definition.specs.Machine.{Value, emptyValue, intValue, nullValue, objectValue, unlistedValue, Object, Frame}
+use Rattle.definition.specs.Machine.{Value, emptyValue, intValue, nullValue, objectValue, unlistedValue, Object, ObjectRow, free, owned, Objects, Frame}
 use Rattle.definition.specs.File.{File, readFile, classOf, objectClass}
 
 pub record Tables : Type 0 where
@@ -64,11 +64,11 @@ pub record Rows : Type 0 where
   pub cache : List Entry
   pub ties : List Tie
   pub subtypes : List Subtype
-  pub objects : List Object
+  pub objects : Objects
   pub quote : List Frame
   pub report : List Frame
 
-abbrev pub rowsOf : List ClassRow → List ℕ → List Entry → List Tie → List Subtype → List Object → List Frame → List Frame → Rows
+abbrev pub rowsOf : List ClassRow → List ℕ → List Entry → List Tie → List Subtype → Objects → List Frame → List Frame → Rows
 rowsOf c k e t s o q p = record { classes = c; kept = k; cache = e; ties = t; subtypes = s; objects = o; quote = q; report = p }
 
 abbrev pub noRows : Rows
@@ -91,7 +91,7 @@ withTies x r = rowsOf (r .classes) (r .kept) (r .cache) x (r .subtypes) (r .obje
 abbrev pub withSubtypes : List Subtype → Rows → Rows
 withSubtypes x r = rowsOf (r .classes) (r .kept) (r .cache) (r .ties) x (r .objects) (r .quote) (r .report)
 
-abbrev pub withObjects : List Object → Rows → Rows
+abbrev pub withObjects : Objects → Rows → Rows
 withObjects x r = rowsOf (r .classes) (r .kept) (r .cache) (r .ties) (r .subtypes) x (r .quote) (r .report)
 
 -- what is said of task k: 0 is the quote, any other the report
@@ -215,6 +215,30 @@ objectAt b t o = record { class = getD t (o * objectCells) 0; values = rows (fie
 unfoldable pub putObject : List ℕ → ℕ → Object → List ℕ
 putObject t o x = writeRows (putField o) (x .values) 0 (set t (o * objectCells) (x .class))
 
+-- Whether a row is free, and whose its object is, stands in its owner cell, behind the counts: 0 free, else 1 and the task. A free row's own cells hold
+-- no value: none is read or written.
+
+unfoldable pub ownedBy : ℕ → Object → ObjectRow
+ownedBy zero x = free
+ownedBy (suc k) x = owned k x
+
+unfoldable pub ownerOf : ObjectRow → ℕ
+ownerOf free = 0
+ownerOf (owned k x) = suc k
+
+unfoldable pub ownerAt : List ℕ → ℕ → ℕ
+ownerAt n o = getD n (ownersCell + o) 0
+
+unfoldable pub putOwner : List ℕ → ℕ → ObjectRow → List ℕ
+putOwner n o x = set n (ownersCell + o) (ownerOf x)
+
+unfoldable pub objectRowAt : Base → List ℕ → List ℕ → ℕ → ObjectRow
+objectRowAt b n t o = ownedBy (ownerAt n o) (objectAt b t o)
+
+unfoldable pub putObjectRow : List ℕ → ℕ → ObjectRow → List ℕ
+putObjectRow t o free = t
+putObjectRow t o (owned k x) = putObject t o x
+
 -- A frame has 52 cells: class, method, point, operand count, 8 locals, 16 operands from the lowest
 
 unfoldable pub localAt : List ℕ → ℕ → ℕ → Value
@@ -276,8 +300,8 @@ subtypesOf t = rows (subtypeAt (t .subtypes)) (getD (t .counts) countSubtypes 0)
 abbrev pub viewBase : Tables → Base
 viewBase t = baseOf (classRowsOf t) (keptOf t) (cacheOf t)
 
-unfoldable pub objectsOf : Base → Tables → List Object
-objectsOf b t = rows (objectAt b (t .objects)) (getD (t .counts) countObjects 0) 0
+unfoldable pub objectsOf : Base → Tables → Objects
+objectsOf b t = rows (objectRowAt b (t .counts) (t .objects)) (getD (t .counts) countObjects 0) 0
 
 -- task 0 is the quote, 1 the report; the top frame first
 unfoldable pub framesOf : Tables → ℕ → List Frame
@@ -299,12 +323,12 @@ countsOf r =
 
 unfoldable pub put : Rows → Tables → Tables
 put r t = record {
-  counts = writeRows set (countsOf r) 0 (t .counts);
+  counts = writeRows putOwner (r .objects) 0 (writeRows set (countsOf r) 0 (t .counts));
   classes = writeRows putClassRow (r .classes) 0 (t .classes);
   kept = writeRows set (r .kept) 0 (t .kept);
   cache = writeRows putEntry (r .cache) 0 (t .cache);
   ties = writeRows putTie (r .ties) 0 (t .ties);
   subtypes = writeRows putSubtype (r .subtypes) 0 (t .subtypes);
-  objects = writeRows putObject (r .objects) 0 (t .objects);
+  objects = writeRows putObjectRow (r .objects) 0 (t .objects);
   frames = writeStack (putFrameIn 1) (r .report) (writeStack (putFrameIn 0) (r .quote) (t .frames));
 }

@@ -15,12 +15,14 @@ pub enum Answer {
     Refused(Refusal),
 }
 
-// What a call answers: define its class's number, a step its answer, a run its count of steps that ran and the last answer.
+// What a call answers: define its class's number, a step its answer, a run its count of steps that ran and the last answer, a sweep the
+// number of objects that it freed.
 pub enum Reply {
     Accepted,
     Defined(u8),
     Stepped(Answer),
     RanFor(u16, Answer),
+    Swept(u16),
     Denied(Refusal),
 }
 

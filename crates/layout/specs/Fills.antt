@@ -2,18 +2,20 @@
 -- fields may be read off any base: the laws ask nothing of it.
 use mathlib.Core.Path.{_≡_, refl, sym, ap, _∙_}
 use mathlib.Core.List.{List, [], _∷_, _++_}
-use Prim.Native.Nat.{ℕ, _+_, _<_}
+use Prim.Native.Nat.{ℕ, zero, suc, _+_, _<_}
 use native.Mathlib.Omega.{arith}
 use lib.ListN.{length, getD, set, length-append, length-set}
+use Rattle.definition.specs.Numbers.{ownersCell}
 use Rattle.definition.specs.Lists.{rows, writeRows, stack, writeStack}
 use Rattle.definition.specs.Requests.{at}
 use Rattle.definition.specs.Classes.{Base}
 use Rattle.definition.specs.Constraints.{Tie, Subtype}
-use Rattle.definition.specs.Machine.{Value, Object, Frame}
-use Rattle.definition.specs.Tables.{Tables, tables, Rows, putClassRow, putEntry, putTie, putSubtype, usedFields, objectAt, putObject, putField, frameIn, putFrameIn, classRowsOf, keptOf, cacheOf, tiesOf, subtypesOf, viewBase, objectsOf, framesOf, viewOver, view, countsOf, put}
+use Rattle.definition.specs.Machine.{Value, Object, Objects, unused, made, rewritten, changed, Frame}
+use Rattle.definition.specs.Tables.{Tables, tables, Rows, putClassRow, putEntry, putTie, putSubtype, usedFields, objectAt, putObject, putField, ownedBy, ownerAt, putOwner, objectRowAt, putObjectRow, frameIn, putFrameIn, classRowsOf, keptOf, cacheOf, tiesOf, subtypesOf, viewBase, objectsOf, framesOf, viewOver, view, countsOf, put}
 use Rattle.layout.specs.Places.{rows-length, stack-length, writeStack-same, written-set}
 use Rattle.layout.specs.Rows.{RowLaws, Anything, rows-kept, rows-more, row-more, class-rows, entry-rows, tie-rows, subtype-rows, cell-rows}
-use Rattle.layout.specs.ObjectRows.{withField, object-rows, objects-field, objects-made}
+use Rattle.layout.specs.ObjectRows.{withField, object-field}
+use Rattle.layout.specs.OwnedRows.{SameOwners, owners-set, rowsWith, made-count, changed-length, rows-same, owners-same, rows-made, owners-made, rows-changed, owners-changed}
 use Rattle.layout.specs.FrameRows.{frameIn-same}
 
 -- the count in cell i
@@ -33,17 +35,30 @@ pub record FillsFrames (qs rs : List Frame) (t : List ℕ) (m n : ℕ) (u : List
   pub report : length rs ≡ n
   pub cells : writeStack (putFrameIn 1) rs (writeStack (putFrameIn 0) qs t) ≡ u
 
+-- The eight counts, that leave d where they are written into c, and the owners behind them as they were
+
+pub record FillsCounts (xs c d : List ℕ) : Type 0 where
+  pub fill : Fills set xs c 8 d
+  pub owners : SameOwners c d
+
+-- Objects with their owners, that leave the tables m and u where they are written into d, which has the owners of c, and into t
+
+pub record FillsObjects (xs : Objects) (c t : List ℕ) (n : ℕ) (leaves : List ℕ → List ℕ) (u : List ℕ) : Type 0 where
+  pub count : length xs ≡ n
+  pub owners : (d : List ℕ) → SameOwners c d → writeRows putOwner xs 0 d ≡ leaves d
+  pub cells : writeRows putObjectRow xs 0 t ≡ u
+
 -- the tables that rows leave, part by part, the counts last
-pub put-fills : (r : Rows) (t : Tables) {n0 n1 n2 n3 n4 n5 n6 n7 : ℕ} {n c k e i s o f : List ℕ}
+pub put-fills : (r : Rows) (t : Tables) {n0 n1 n2 n3 n4 n5 n6 n7 : ℕ} {n c k e i s o f : List ℕ} {m : List ℕ → List ℕ}
     → Fills putClassRow (r .classes) (t .classes) n0 c → Fills set (r .kept) (t .kept) n1 k → Fills putEntry (r .cache) (t .cache) n2 e
-    → Fills putTie (r .ties) (t .ties) n3 i → Fills putSubtype (r .subtypes) (t .subtypes) n4 s → Fills putObject (r .objects) (t .objects) n5 o
+    → Fills putTie (r .ties) (t .ties) n3 i → Fills putSubtype (r .subtypes) (t .subtypes) n4 s → FillsObjects (r .objects) (t .counts) (t .objects) n5 m o
     → FillsFrames (r .quote) (r .report) (t .frames) n6 n7 f
-    → Fills set (n0 ∷ n1 ∷ n2 ∷ n3 ∷ n4 ∷ n5 ∷ n6 ∷ n7 ∷ []) (t .counts) 8 n
-    → put r t ≡ tables n c k e i s o f
+    → FillsCounts (n0 ∷ n1 ∷ n2 ∷ n3 ∷ n4 ∷ n5 ∷ n6 ∷ n7 ∷ []) (t .counts) n
+    → put r t ≡ tables (m n) c k e i s o f
 unfolding put countsOf
 put-fills r t a b c d e f g n =
     (λ j. record {
-      counts = writeRows set (a .count j ∷ b .count j ∷ c .count j ∷ d .count j ∷ e .count j ∷ f .count j ∷ g .quote j ∷ g .report j ∷ []) 0 (t .counts);
+      counts = writeRows putOwner (r .objects) 0 (writeRows set (a .count j ∷ b .count j ∷ c .count j ∷ d .count j ∷ e .count j ∷ f .count j ∷ g .quote j ∷ g .report j ∷ []) 0 (t .counts));
       classes = a .cells j;
       kept = b .cells j;
       cache = c .cells j;
@@ -52,7 +67,7 @@ put-fills r t a b c d e f g n =
       objects = f .cells j;
       frames = g .cells j;
     })
-    ∙ rw (n .cells)
+    ∙ rw (n .fill .cells, f .owners _ (n .owners))
 
 -- Rows as they were read, and with others behind them
 
@@ -68,21 +83,24 @@ module _ {A : Type 0} {at : List ℕ → ℕ → A} {p : List ℕ → ℕ → A 
   fill-last x = record { count = length-append (rows (at t) n 0) (x ∷ []) ∙ rw (rows-length (at t) n 0); cells = row-more laws t n x }
 
 -- one of the eight counts set
-pub count-set : {xs c d : List ℕ} (j x : ℕ) → j < 8 → Fills set xs c 8 d → Fills set (set xs j x) c 8 (set d j x)
+pub count-set : {xs c d : List ℕ} (j x : ℕ) → j < 8 → FillsCounts xs c d → FillsCounts (set xs j x) c (set d j x)
 count-set {xs} {c} {d} j x l h =
     let e : 0 + j ≡ j = omega arith in
     record {
-      count = length-set xs j x ∙ h .count;
-      cells = (rw e at (written-set xs 0 j x c (omega (arith, h .count)))) ∙ ap (λ (z : List ℕ). set z j x) (h .cells);
+      fill = record {
+        count = length-set xs j x ∙ h .fill .count;
+        cells = (rw e at (written-set xs 0 j x c (omega (arith, h .fill .count)))) ∙ ap (λ (z : List ℕ). set z j x) (h .fill .cells);
+      };
+      owners = λ o. owners-set d j x l o ∙ h .owners o;
     }
 
 module _ (t : Tables) where
   abbrev pub countsOn : List ℕ
   countsOn = countAt t 0 ∷ countAt t 1 ∷ countAt t 2 ∷ countAt t 3 ∷ countAt t 4 ∷ countAt t 5 ∷ countAt t 6 ∷ countAt t 7 ∷ []
 
-  pub counts-fill : Fills set countsOn (t .counts) 8 (t .counts)
+  pub counts-fill : FillsCounts countsOn (t .counts) (t .counts)
   unfolding rows
-  counts-fill = fill-kept cell-rows (t .counts) 8
+  counts-fill = record { fill = fill-kept cell-rows (t .counts) 8; owners = λ o. refl }
 
   pub classes-fill : Fills putClassRow (classRowsOf t) (t .classes) (countAt t 0) (t .classes)
   classes-fill = fill-kept class-rows (t .classes) (countAt t 0)
@@ -108,24 +126,39 @@ module _ (t : Tables) where
 
   -- objects, where b gives the classes' fields: as they are, one made, a field of one set
   module _ (b : Base) where
-    pub objects-fill : Fills putObject (objectsOf b t) (t .objects) (countAt t 5) (t .objects)
+    pub objects-fill : FillsObjects (objectsOf b t) (t .counts) (t .objects) (countAt t 5) (λ d. d) (t .objects)
     unfolding objectsOf
-    objects-fill = fill-kept (object-rows b) (t .objects) (countAt t 5)
-
-    pub object-made : (x : Object) → Fills putObject (objectsOf b t ++ (x ∷ [])) (t .objects) (countAt t 5 + 1) (putObject (t .objects) (countAt t 5) x)
-    unfolding objectsOf
-    object-made x = record {
-      count = length-append (objectsOf b t) (x ∷ []) ∙ rw (rows-length (objectAt b (t .objects)) (countAt t 5) 0);
-      cells = objects-made b (t .objects) (countAt t 5) x;
+    objects-fill = record {
+      count = rows-length (objectRowAt b (t .counts) (t .objects)) (countAt t 5) 0;
+      owners = λ d h. owners-same b (t .counts) (t .objects) d h (countAt t 5);
+      cells = rows-same b (t .counts) (t .objects) (countAt t 5);
     }
 
-    pub object-set : (o j : ℕ) (v : Value) → o < countAt t 5 → j < usedFields b (objectAt b (t .objects) o .class)
-        → Fills putObject (set (objectsOf b t) o (withField (objectAt b (t .objects) o) j v)) (t .objects) (countAt t 5) (putField o (t .objects) j v)
+    pub object-made : (k : ℕ) (x : Object)
+        → FillsObjects (made k x (objectsOf b t)) (t .counts) (t .objects) (rowsWith (unused (objectsOf b t)) (countAt t 5))
+        (λ d. set d (ownersCell + unused (objectsOf b t)) (suc k)) (putObject (t .objects) (unused (objectsOf b t)) x)
     unfolding objectsOf
-    object-set o j v l h = record {
-      count = length-set (objectsOf b t) o (withField (objectAt b (t .objects) o) j v) ∙ rows-length (objectAt b (t .objects)) (countAt t 5) 0;
-      cells = objects-field b (t .objects) (countAt t 5) o j v l h;
+    object-made k x = record {
+      count = made-count k x _ (countAt t 5) (rows-length (objectRowAt b (t .counts) (t .objects)) (countAt t 5) 0);
+      owners = λ d h. owners-made b (t .counts) (t .objects) d h k (countAt t 5) x;
+      cells = rows-made b (t .counts) (t .objects) k (countAt t 5) x;
     }
+
+    pub object-set : (o j : ℕ) (v : Value) → o < countAt t 5 → 0 < ownerAt (t .counts) o → j < usedFields b (objectAt b (t .objects) o .class)
+        → FillsObjects (changed (objectsOf b t) o (withField (objectAt b (t .objects) o) j v)) (t .counts) (t .objects) (countAt t 5) (λ d. d)
+        (putField o (t .objects) j v)
+    unfolding objectsOf
+    object-set o j v l u h = record {
+      count = changed-length _ o _ ∙ rows-length (objectRowAt b (t .counts) (t .objects)) (countAt t 5) 0;
+      owners = λ d h. owners-changed b (t .counts) (t .objects) d h (countAt t 5) o _ l;
+      cells = rows-changed b (t .counts) (t .objects) (countAt t 5) o _ l ∙ field (ownerAt (t .counts) o) refl u;
+    }
+      where
+        field : (w : ℕ) → ownerAt (t .counts) o ≡ w → 0 < w
+            → putObjectRow (t .objects) o (rewritten (withField (objectAt b (t .objects) o) j v) (objectRowAt b (t .counts) (t .objects) o)) ≡ putField o (t .objects) j v
+        unfolding objectRowAt
+        field zero e z = absurd (omega arith)
+        field (suc k) e z = rw e (unfold ownedBy rewritten putObjectRow in object-field b (t .objects) o j v h)
 
   -- frames as they are
   pub frames-fill : FillsFrames (framesOf t 0) (framesOf t 1) (t .frames) (countAt t 6) (countAt t 7) (t .frames)

@@ -4,6 +4,7 @@ pub mod Places
 pub mod Rows
 pub mod Values
 pub mod ObjectRows
+pub mod OwnedRows
 pub mod FrameRows
 pub mod Cells
 pub mod Whole

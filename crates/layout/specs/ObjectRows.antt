@@ -81,18 +81,18 @@ putObject-length t o x = unread-object length o (o * objectCells + (fieldsCell +
 
 module _ (b : Base) where
   -- objects before it, and after it where its values fit its row
-  object-below : (t : List ℕ) (i o : ℕ) (x : Object) → i < o → objectAt b (putObject t o x) i ≡ objectAt b t i
+  pub object-below : (t : List ℕ) (i o : ℕ) (x : Object) → i < o → objectAt b (putObject t o x) i ≡ objectAt b t i
   object-below t i o x l =
       object-cells b t (putObject t o x) i (λ c h.
       unread-object (λ s. getD s (i * objectCells + c) 0) o (o * objectCells + (fieldsCell + valueCells * length (x .values)))
       (unread-cell (i * objectCells + c) (o * objectCells) (o * objectCells + (fieldsCell + valueCells * length (x .values))) (λ m j k e. omega arith)) x (omega arith) t)
 
-  object-other : (t : List ℕ) (i o : ℕ) (x : Object) → i ≢ o → length (x .values) ≤ fieldLimit → objectAt b (putObject t o x) i ≡ objectAt b t i
+  pub object-other : (t : List ℕ) (i o : ℕ) (x : Object) → i ≢ o → length (x .values) ≤ fieldLimit → objectAt b (putObject t o x) i ≡ objectAt b t i
   object-other t i o x n l =
       object-cells b t (putObject t o x) i (λ c h.
       unread-object (λ s. getD s (i * objectCells + c) 0) o (o * objectCells + objectCells) (unread-cell (i * objectCells + c) (o * objectCells) (o * objectCells + objectCells) (λ m j k e. omega arith)) x (omega arith) t)
 
-  object-back : (t : List ℕ) (o : ℕ) (x : Object) → o * objectCells + objectCells ≤ length t → length (x .values) ≡ usedFields b (x .class) → All Proper (x .values)
+  pub object-back : (t : List ℕ) (o : ℕ) (x : Object) → o * objectCells + objectCells ≤ length t → length (x .values) ≡ usedFields b (x .class) → All Proper (x .values)
       → objectAt b (putObject t o x) o ≡ x
   unfolding objectAt putObject fieldAt putField
   object-back t o x room n proper =
@@ -113,19 +113,19 @@ module _ (b : Base) where
     pub size : length (x .values) ≡ usedFields b (x .class)
     pub values : All Proper (x .values)
 
+  pub proper-few : (x : Object) → ObjectProper x → length (x .values) ≤ fieldLimit
+  proper-few x p = omega (arith, p .size, used-few b (x .class))
+
   pub object-rows : RowLaws (objectAt b) putObject objectCells ObjectProper
   object-rows = record {
     same = object-same b;
     back = λ t o x l p. object-back t o x l (p .size) (p .values);
-    other = λ t i o x n p _. object-other t i o x n (few x p);
+    other = λ t i o x n p _. object-other t i o x n (proper-few x p);
     long = putObject-length;
     commute = λ t i j x y l p q.
         within-apart (λ s. putObject s i x) (λ s. putObject s j y) (i * objectCells) (i * objectCells + objectCells) (j * objectCells) (j * objectCells + objectCells)
-        (within-object i x (few x p)) (within-object j y (few y q)) (λ m n a c d e r. omega arith) t;
+        (within-object i x (proper-few x p)) (within-object j y (proper-few y q)) (λ m n a c d e r. omega arith) t;
   }
-    where
-      few : (x : Object) → ObjectProper x → length (x .values) ≤ fieldLimit
-      few x p = omega (arith, p .size, used-few b (x .class))
 
   -- its values, as the machine reads them
   pub object-size : (t : List ℕ) (o : ℕ) → length (objectAt b t o .values) ≡ usedFields b (objectAt b t o .class)

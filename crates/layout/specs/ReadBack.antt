@@ -1,28 +1,28 @@
 -- Tables of the published lengths, and rows that are put into them: no length changes, and whole rows are read back as they are.
-use mathlib.Core.Path.{_≡_, refl, sym, _∙_}
+use mathlib.Core.Path.{_≡_, refl, sym, ap, _∙_}
 use mathlib.Core.Bool.{Bool, true, false}
 use mathlib.Core.Option.{Option, none}
 use mathlib.Core.List.{List, [], _∷_}
 use Prim.Native.Nat.{ℕ, zero, suc, _+_, _*_, _≤_, _<_}
 use native.Mathlib.Omega.{arith}
 use lib.ListN.{length, getD, set, length-set}
-use lib.Seq.{take-all}
 use lib.Dec.{leb}
 use borrow.Author.Tests.{eqb-true, eq-eqb}
-use Rattle.definition.specs.Numbers.{taskLimit, objectLimit, fieldLimit, frameLimit, countsLength, classesLength, keptLength, cacheLength, tiesLength, subtypesLength, objectsLength, framesLength, countClasses, countKept, countCache, countTies, countSubtypes, countObjects, countFrames}
+use Rattle.definition.specs.Numbers.{taskLimit, objectLimit, fieldLimit, frameLimit, countsLength, classesLength, keptLength, cacheLength, tiesLength, subtypesLength, objectsLength, framesLength, ownersCell, countClasses, countKept, countCache, countTies, countSubtypes, countObjects, countFrames}
 use Rattle.definition.specs.Lists.{rows, writeRows, stack, writeStack}
 use Rattle.definition.specs.Maybe.{_>>=_, need}
 use Rattle.definition.specs.Classes.{Base, Entry, slots, slotsIn, ownSlots}
-use Rattle.definition.specs.Machine.{Value, emptyValue, intValue, nullValue, objectValue, unlistedValue, Object, Frame}
+use Rattle.definition.specs.Machine.{Value, emptyValue, intValue, nullValue, objectValue, unlistedValue, Object, ObjectRow, free, owned, Objects, Exists, Frame}
 use Rattle.definition.specs.File.{File, byte, readFile, objectClass}
-use Rattle.definition.specs.Tables.{Tables, shaped, ClassRow, Rows, rowsOf, fileAt, classAt, baseOf, worldOf, sizeOf, classRowAt, putClassRow, entryAt, putEntry, tieAt, putTie, subtypeAt, putSubtype, objectAt, putObject, frameBase, frameIn, putFrameIn, viewBase, objectsOf, framesOf, viewOver, view, countsOf, put}
+use Rattle.definition.specs.Tables.{Tables, shaped, ClassRow, Rows, rowsOf, fileAt, classAt, baseOf, worldOf, sizeOf, classRowAt, putClassRow, entryAt, putEntry, tieAt, putTie, subtypeAt, putSubtype, putOwner, objectRowAt, putObjectRow, frameBase, frameIn, putFrameIn, viewBase, objectsOf, framesOf, viewOver, view, countsOf, put}
 use Rattle.layout.specs.Tests.{All, From, every-true, true-every, all-more}
-use Rattle.layout.specs.Places.{rows-take, stack-cong, all-stack, writeRows-length, writeStack-length}
-use Rattle.layout.specs.Rows.{fitting-back, stack-back, stack-apart, rows-back, class-rows, entry-rows, tie-rows, subtype-rows, cell-rows}
+use Rattle.layout.specs.Places.{rows-getD, stack-cong, all-stack, writeRows-length, writeStack-length}
+use Rattle.layout.specs.Rows.{stack-back, stack-apart, rows-back, class-rows, entry-rows, tie-rows, subtype-rows, cell-rows}
 use Rattle.layout.specs.Values.{Proper, proper-empty, proper-int, proper-null, proper-object}
-use Rattle.layout.specs.ObjectRows.{used-all, putObject-length, ObjectProper, object-rows}
+use Rattle.layout.specs.ObjectRows.{used-all}
+use Rattle.layout.specs.OwnedRows.{putOwner-length, putObjectRow-length, owners-behind, RowProper, object-rows-back}
 use Rattle.layout.specs.FrameRows.{putFrame-length, FrameProper, frame-rows}
-use Rattle.layout.specs.Whole.{Local, ValueSound, ObjectSound, Framed, First, ClassSound, Classes, Whole}
+use Rattle.layout.specs.Whole.{Local, ValueSound, RowSound, Framed, First, ClassSound, Classes, Whole}
 
 -- The published lengths
 
@@ -72,13 +72,13 @@ true-shaped t l =
 pub put-lengths : (r : Rows) (t : Tables) → Lengths t → Lengths (put r t)
 unfolding put putFrameIn
 put-lengths r t l = record {
-  counts = writeRows-length set length-set (countsOf r) 0 (t .counts) ∙ l .counts;
+  counts = writeRows-length putOwner putOwner-length (r .objects) 0 (writeRows set (countsOf r) 0 (t .counts)) ∙ (writeRows-length set length-set (countsOf r) 0 (t .counts) ∙ l .counts);
   classes = writeRows-length putClassRow (class-rows .long) (r .classes) 0 (t .classes) ∙ l .classes;
   kept = writeRows-length set length-set (r .kept) 0 (t .kept) ∙ l .kept;
   cache = writeRows-length putEntry (entry-rows .long) (r .cache) 0 (t .cache) ∙ l .cache;
   ties = writeRows-length putTie (tie-rows .long) (r .ties) 0 (t .ties) ∙ l .ties;
   subtypes = writeRows-length putSubtype (subtype-rows .long) (r .subtypes) 0 (t .subtypes) ∙ l .subtypes;
-  objects = writeRows-length putObject putObject-length (r .objects) 0 (t .objects) ∙ l .objects;
+  objects = writeRows-length putObjectRow putObjectRow-length (r .objects) 0 (t .objects) ∙ l .objects;
   frames =
       writeStack-length (putFrameIn 1) (λ s i f. putFrame-length s (frameBase 1 i) f) (r .report) (writeStack (putFrameIn 0) (r .quote) (t .frames))
       ∙ (writeStack-length (putFrameIn 0) (λ s i f. putFrame-length s (frameBase 0 i) f) (r .quote) (t .frames) ∙ l .frames);
@@ -119,45 +119,50 @@ size-small es bs (k ∷ ks) h (suc c) l = let e : suc c ≡ 1 + c = omega arith 
 
 -- Values that are listed
 
-pub value-proper : (m : ℕ) (v : Value) → ValueSound m v → Proper v
-value-proper m emptyValue h = absurd h
-value-proper m (intValue n) h = proper-int n
-value-proper m nullValue h = proper-null
-value-proper m (objectValue o) h = proper-object o
-value-proper m (unlistedValue k b) h = absurd h
+pub value-proper : (X : ℕ → Type 0) (v : Value) → ValueSound X v → Proper v
+value-proper X emptyValue h = absurd h
+value-proper X (intValue n) h = proper-int n
+value-proper X nullValue h = proper-null
+value-proper X (objectValue o) h = proper-object o
+value-proper X (unlistedValue k b) h = absurd h
 
-pub local-proper : (m : ℕ) (v : Value) → Local m v → Proper v
-local-proper m emptyValue h = proper-empty
-local-proper m (intValue n) h = proper-int n
-local-proper m nullValue h = proper-null
-local-proper m (objectValue o) h = proper-object o
-local-proper m (unlistedValue k b) h = absurd h
+pub local-proper : (X : ℕ → Type 0) (v : Value) → Local X v → Proper v
+local-proper X emptyValue h = proper-empty
+local-proper X (intValue n) h = proper-int n
+local-proper X nullValue h = proper-null
+local-proper X (objectValue o) h = proper-object o
+local-proper X (unlistedValue k b) h = absurd h
 
-pub frame-proper : (n m : ℕ) (f : Frame) → Framed n m f → FrameProper f
-frame-proper n m f h = record {
+pub frame-proper : (n : ℕ) (X : ℕ → Type 0) (f : Frame) → Framed n X f → FrameProper f
+frame-proper n X f h = record {
   few = h .depth;
   eight = h .eight;
-  operands = all-more (value-proper m) (f .operands) (h .operands);
-  locals = all-more (local-proper m) (f .locals) (h .locals);
+  operands = all-more (value-proper X) (f .operands) (h .operands);
+  locals = all-more (local-proper X) (f .locals) (h .locals);
 }
 
 -- Reading what was put
 
--- eight counts written are the counts
-counts-put : (r : Rows) (c : List ℕ) → length c ≡ 8 → writeRows set (countsOf r) 0 c ≡ countsOf r
+-- the eight counts, with owners written behind them
+counts-put : (r : Rows) (c : List ℕ) → length c ≡ countsLength → (j : ℕ) → j < ownersCell
+    → getD (writeRows putOwner (r .objects) 0 (writeRows set (countsOf r) 0 c)) j 0 ≡ getD (countsOf r) j 0
 unfolding countsOf
-counts-put r c e =
+counts-put r c e j l =
     let u : List ℕ = writeRows set (countsOf r) 0 c in
-    let n : length u ≡ 8 = writeRows-length set length-set (countsOf r) 0 c ∙ e in
-    sym (take-all 8 u (omega arith)) ∙ (sym (rows-take u 8 (omega arith)) ∙ rows-back cell-rows (countsOf r) c (omega arith))
+    owners-behind (r .objects) 0 u j l
+    ∙ (sym (rows-getD (λ i. getD u i 0) 8 0 j 0 l) ∙ ap (λ (z : List ℕ). getD z j 0) (rows-back cell-rows (countsOf r) c (omega arith)))
 
-objects-put : (b : Base) (n m : ℕ) (os : List Object) (t : List ℕ) → length t ≡ objectsLength → length os ≤ objectLimit → ((c : ℕ) → c < n → sizeOf b c ≤ fieldLimit)
-    → All (ObjectSound b n m) os
-    → rows (objectAt b (writeRows putObject os 0 t)) (length os) 0 ≡ os
-objects-put b n m os t e l small h = fitting-back (object-rows b) os t (omega arith) (all-more proper os h)
+objects-put : (b : Base) (n : ℕ) (X : ℕ → Type 0) (os : Objects) (c t : List ℕ) → length c ≡ countsLength → length t ≡ objectsLength → length os ≤ objectLimit
+    → ((c : ℕ) → c < n → sizeOf b c ≤ fieldLimit) → All (RowSound b n X) os
+    → rows (objectRowAt b (writeRows putOwner os 0 c) (writeRows putObjectRow os 0 t)) (length os) 0 ≡ os
+objects-put b n X os c t d e l small h = object-rows-back b os c t (omega arith) (omega arith) (all-more proper os h)
   where
-    proper : (x : Object) → ObjectSound b n m x → ObjectProper b x
-    proper x p = record { size = p .size ∙ sym (used-all b (x .class) (small (x .class) (p .class))); values = all-more (value-proper m) (x .values) (p .values) }
+    proper : (x : ObjectRow) → RowSound b n X x → RowProper b x
+    proper free p = tt
+    proper (owned k x) p = record {
+      size = p .1 .size ∙ sym (used-all b (x .class) (small (x .class) (p .1 .class)));
+      values = all-more (value-proper X) (x .values) (p .1 .values);
+    }
 
 -- a task's frames
 
@@ -174,7 +179,7 @@ frames-behind n gs t l m h q = stack-cong (frameIn (writeStack (putFrameIn 1) gs
     stack-apart frame-rows (1 * frameLimit) gs (0 * frameLimit + i) t (λ j b e. omega arith) h (all-stack FrameProper (frameIn t 0) n q i k))
 
 module _ (r : Rows) (t : Tables) (l : Lengths t) (w : Whole r) where
-  abbrev counted : writeRows set (countsOf r) 0 (t .counts) ≡ countsOf r
+  abbrev counted : (j : ℕ) → j < ownersCell → getD (writeRows putOwner (r .objects) 0 (writeRows set (countsOf r) 0 (t .counts))) j 0 ≡ getD (countsOf r) j 0
   counted = counts-put r (t .counts) (l .counts)
 
   classes-read : rows (classRowAt (writeRows putClassRow (r .classes) 0 (t .classes))) (length (r .classes)) 0 ≡ r .classes
@@ -192,9 +197,11 @@ module _ (r : Rows) (t : Tables) (l : Lengths t) (w : Whole r) where
   subtypes-read : rows (subtypeAt (writeRows putSubtype (r .subtypes) 0 (t .subtypes))) (length (r .subtypes)) 0 ≡ r .subtypes
   subtypes-read = rows-back subtype-rows (r .subtypes) (t .subtypes) (omega (arith, w .limits .subtypes, l .subtypes))
 
-  objects-read : rows (objectAt (worldOf r .base) (writeRows putObject (r .objects) 0 (t .objects))) (length (r .objects)) 0 ≡ r .objects
+  objects-read : rows (objectRowAt (worldOf r .base) (put r t .counts) (put r t .objects)) (length (r .objects)) 0 ≡ r .objects
+  unfolding put
   objects-read =
-      objects-put (worldOf r .base) (length (r .classes)) (length (r .objects)) (r .objects) (t .objects) (l .objects) (w .limits .objects)
+      objects-put (worldOf r .base) (length (r .classes)) (Exists (r .objects)) (r .objects) (writeRows set (countsOf r) 0 (t .counts)) (t .objects)
+      (writeRows-length set length-set (countsOf r) 0 (t .counts) ∙ l .counts) (l .objects) (w .limits .objects)
       (size-small (r .cache) (r .kept) (r .classes) (w .classes)) (w .objects)
 
   abbrev quoted : List ℕ
@@ -222,9 +229,9 @@ module _ (r : Rows) (t : Tables) (l : Lengths t) (w : Whole r) where
   unfolding put countsOf
   base-read =
       (λ i. baseOf
-      (rows (classRowAt (put r t .classes)) (getD (counted i) 0 0) 0)
-      (rows (λ j. getD (put r t .kept) j 0) (getD (counted i) 1 0) 0)
-      (rows (entryAt (put r t .cache)) (getD (counted i) 2 0) 0))
+      (rows (classRowAt (put r t .classes)) (counted countClasses (omega arith) i) 0)
+      (rows (λ j. getD (put r t .kept) j 0) (counted countKept (omega arith) i) 0)
+      (rows (entryAt (put r t .cache)) (counted countCache (omega arith) i) 0))
       ∙ (λ i. baseOf (classes-read i) (kept-read i) (cache-read i))
 
   -- what was put is read back
@@ -232,12 +239,12 @@ module _ (r : Rows) (t : Tables) (l : Lengths t) (w : Whole r) where
   unfolding view viewOver objectsOf framesOf put countsOf
   view-put =
       (λ i. rowsOf
-      (rows (classRowAt (put r t .classes)) (getD (counted i) countClasses 0) 0)
-      (rows (λ j. getD (put r t .kept) j 0) (getD (counted i) countKept 0) 0)
-      (rows (entryAt (put r t .cache)) (getD (counted i) countCache 0) 0)
-      (rows (tieAt (put r t .ties)) (getD (counted i) countTies 0) 0)
-      (rows (subtypeAt (put r t .subtypes)) (getD (counted i) countSubtypes 0) 0)
-      (rows (objectAt (base-read i) (put r t .objects)) (getD (counted i) countObjects 0) 0)
-      (stack (frameIn (put r t .frames) 0) (getD (counted i) countFrames 0))
-      (stack (frameIn (put r t .frames) 1) (getD (counted i) (countFrames + 1) 0)))
+      (rows (classRowAt (put r t .classes)) (counted countClasses (omega arith) i) 0)
+      (rows (λ j. getD (put r t .kept) j 0) (counted countKept (omega arith) i) 0)
+      (rows (entryAt (put r t .cache)) (counted countCache (omega arith) i) 0)
+      (rows (tieAt (put r t .ties)) (counted countTies (omega arith) i) 0)
+      (rows (subtypeAt (put r t .subtypes)) (counted countSubtypes (omega arith) i) 0)
+      (rows (objectRowAt (base-read i) (put r t .counts) (put r t .objects)) (counted countObjects (omega arith) i) 0)
+      (stack (frameIn (put r t .frames) 0) (counted countFrames (omega arith) i))
+      (stack (frameIn (put r t .frames) 1) (counted (countFrames + 1) (omega arith) i)))
       ∙ (λ i. rowsOf (classes-read i) (kept-read i) (cache-read i) (ties-read i) (subtypes-read i) (objects-read i) (quote-read i) (report-read i))

@@ -8,12 +8,13 @@ use lib.ListN.{length, getD}
 use borrow.Author.Tests.{leb-true, le-leb, not-false}
 use Rattle.definition.specs.Lists.{rows, stack}
 use Rattle.definition.specs.Classes.{Base}
-use Rattle.definition.specs.Tables.{Tables, Rows, sizeOf, usedFields, classRowAt, entryAt, tieAt, subtypeAt, objectAt, localAt, fieldAt, frameOf, frameAt, frameBase, frameIn, classRowsOf, keptOf, cacheOf, viewBase, objectsOf, framesOf, viewOver, view, put}
+use Rattle.definition.specs.Machine.{Exists}
+use Rattle.definition.specs.Tables.{Tables, Rows, sizeOf, usedFields, classRowAt, entryAt, tieAt, subtypeAt, objectAt, ownedBy, ownerAt, objectRowAt, localAt, fieldAt, frameOf, frameAt, frameBase, frameIn, classRowsOf, keptOf, cacheOf, viewBase, objectsOf, framesOf, viewOver, view, put}
 use Rattle.definition.specs.Broken.{within, whole, broken}
 use Rattle.layout.specs.Tests.{All, every-true, true-every}
 use Rattle.layout.specs.Places.{rows-length, stack-length}
 use Rattle.layout.specs.ObjectRows.{used-all}
-use Rattle.layout.specs.Whole.{ObjectSound, Framed, Objected, Frames, Limits, Whole, Sound, sound-true, sound-is, whole-sound}
+use Rattle.layout.specs.Whole.{RowSound, Framed, RowOwned, Frames, Limits, Whole, Sound, sound-true, sound-is, whole-sound}
 use Rattle.layout.specs.ReadBack.{Lengths, shaped-true, true-shaped, put-lengths, size-small, view-put}
 
 -- Counts within their limits
@@ -87,7 +88,7 @@ view-limits t c = record {
   cache = rw (rows-length (entryAt (t .cache)) (getD (t .counts) 2 0) 0) (c .cache);
   ties = rw (rows-length (tieAt (t .ties)) (getD (t .counts) 3 0) 0) (c .ties);
   subtypes = rw (rows-length (subtypeAt (t .subtypes)) (getD (t .counts) 4 0) 0) (c .subtypes);
-  objects = rw (rows-length (objectAt (viewBase t) (t .objects)) (getD (t .counts) 5 0) 0) (c .objects);
+  objects = rw (rows-length (objectRowAt (viewBase t) (t .counts) (t .objects)) (getD (t .counts) 5 0) 0) (c .objects);
   quote = rw (stack-length (frameIn (t .frames) 0) (getD (t .counts) 6 0)) (c .quote);
   report = rw (stack-length (frameIn (t .frames) 1) (getD (t .counts) 7 0)) (c .report);
 }
@@ -100,27 +101,32 @@ limits-view t m = record {
   cache = rw (rows-length (entryAt (t .cache)) (getD (t .counts) 2 0) 0) at (m .cache);
   ties = rw (rows-length (tieAt (t .ties)) (getD (t .counts) 3 0) 0) at (m .ties);
   subtypes = rw (rows-length (subtypeAt (t .subtypes)) (getD (t .counts) 4 0) 0) at (m .subtypes);
-  objects = rw (rows-length (objectAt (viewBase t) (t .objects)) (getD (t .counts) 5 0) 0) at (m .objects);
+  objects = rw (rows-length (objectRowAt (viewBase t) (t .counts) (t .objects)) (getD (t .counts) 5 0) 0) at (m .objects);
   quote = rw (stack-length (frameIn (t .frames) 0) (getD (t .counts) 6 0)) at (m .quote);
   report = rw (stack-length (frameIn (t .frames) 1) (getD (t .counts) 7 0)) at (m .report);
 }
 
 -- objects that are read have their class's number of fields, frames that are read have 8 locals
 
-sized-objects : (b : Base) (n m : ℕ) (t : List ℕ) (k i : ℕ) → ((c : ℕ) → c < n → sizeOf b c ≤ 16) → All (Objected n m) (rows (objectAt b t) k i)
-    → All (ObjectSound b n m) (rows (objectAt b t) k i)
-unfolding rows objectAt
-sized-objects b n m t zero i small h = tt
-sized-objects b n m t (suc k) i small h =
-    let c : ℕ = getD t (i * 33) 0 in (
-      record { class = h .0 .class; size = rows-length (fieldAt t i) (usedFields b c) 0 ∙ used-all b c (small c (h .0 .class)); values = h .0 .values },
-      sized-objects b n m t k (suc i) small (h .1),
-    )
+sized-objects : (b : Base) (n : ℕ) (X : ℕ → Type 0) (c t : List ℕ) (k i : ℕ) → ((c : ℕ) → c < n → sizeOf b c ≤ 16) → All (RowOwned n X) (rows (objectRowAt b c t) k i)
+    → All (RowSound b n X) (rows (objectRowAt b c t) k i)
+unfolding rows objectRowAt
+sized-objects b n X c t zero i small h = tt
+sized-objects b n X c t (suc k) i small h = (sized (ownerAt c i) (h .0), sized-objects b n X c t k (suc i) small (h .1))
+  where
+    sized : (w : ℕ) → RowOwned n X (ownedBy w (objectAt b t i)) → RowSound b n X (ownedBy w (objectAt b t i))
+    unfolding ownedBy objectAt
+    sized zero h = tt
+    sized (suc j) h =
+        let d : ℕ = getD t (i * 33) 0 in (
+          h .0,
+          record { class = h .1 .class; size = rows-length (fieldAt t i) (usedFields b d) 0 ∙ used-all b d (small d (h .1 .class)); values = h .1 .values },
+        )
 
-eight-locals : (n m : ℕ) (t : List ℕ) (k j : ℕ) → All (Frames n m) (stack (frameIn t k) j) → All (Framed n m) (stack (frameIn t k) j)
+eight-locals : (n : ℕ) (X : ℕ → Type 0) (t : List ℕ) (k j : ℕ) → All (Frames n X) (stack (frameIn t k) j) → All (Framed n X) (stack (frameIn t k) j)
 unfolding stack frameIn frameAt frameOf
-eight-locals n m t k zero h = tt
-eight-locals n m t k (suc j) h = (
+eight-locals n X t k zero h = tt
+eight-locals n X t k (suc j) h = (
   record {
     class = h .0 .class;
     depth = h .0 .depth;
@@ -128,7 +134,7 @@ eight-locals n m t k (suc j) h = (
     eight = rows-length (localAt t (frameBase k j)) 8 0;
     locals = h .0 .locals;
   },
-  eight-locals n m t k j (h .1),
+  eight-locals n X t k j (h .1),
 )
 
 pub view-whole : (t : Tables) → Counts (t .counts) → Sound (view t) → Whole (view t)
@@ -140,10 +146,10 @@ view-whole t c s = record {
   ties = s .ties;
   subtypes = s .subtypes;
   objects =
-      sized-objects (viewBase t) (length (classRowsOf t)) (length (objectsOf (viewBase t) t)) (t .objects) (getD (t .counts) 5 0) 0
+      sized-objects (viewBase t) (length (classRowsOf t)) (Exists (objectsOf (viewBase t) t)) (t .counts) (t .objects) (getD (t .counts) 5 0) 0
       (size-small (cacheOf t) (keptOf t) (classRowsOf t) (s .classes)) (s .objects);
-  quote = eight-locals (length (classRowsOf t)) (length (objectsOf (viewBase t) t)) (t .frames) 0 (getD (t .counts) 6 0) (s .quote);
-  report = eight-locals (length (classRowsOf t)) (length (objectsOf (viewBase t) t)) (t .frames) 1 (getD (t .counts) 7 0) (s .report);
+  quote = eight-locals (length (classRowsOf t)) (Exists (objectsOf (viewBase t) t)) (t .frames) 0 (getD (t .counts) 6 0) (s .quote);
+  report = eight-locals (length (classRowsOf t)) (Exists (objectsOf (viewBase t) t)) (t .frames) 1 (getD (t .counts) 7 0) (s .report);
 }
 
 -- Tables that are not broken show whole rows, and tables of the published lengths that show whole rows are not broken

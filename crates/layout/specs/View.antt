@@ -1,25 +1,28 @@
 -- What the calls write and what they read: rows that were appended, replaced or dropped write their own cells and their count.
 use mathlib.Core.Path.{_≡_, refl, sym, ap, _∙_}
+use mathlib.Core.Bool.{Bool, true, false}
 use mathlib.Core.Option.{none, some}
 use mathlib.Core.List.{List, [], _∷_, _++_, map, append-nil}
 use Prim.Native.Nat.{ℕ, zero, suc, _+_, _*_, _<_, _≤_}
 use native.Mathlib.Omega.{arith}
 use lib.ListN.{length, getElem?, getD, set, length-map}
 use lib.Seq.{set-getD}
+use lib.Dec.{ltb}
+use borrow.Author.Tests.{ltb-true, ltb-false}
 use Rattle.definition.specs.Lists.{rows, writeRows, stack, writeStack}
 use Rattle.definition.specs.Requests.{at}
 use Rattle.definition.specs.Classes.{Base, Class}
 use Rattle.definition.specs.Constraints.{Tie, Subtype}
-use Rattle.definition.specs.Machine.{Value, Frame, Progress, existing}
+use Rattle.definition.specs.Machine.{Value, Frame, Progress, objectHeld, existing}
 use Rattle.definition.specs.Loading.{withClass, withEntry}
-use Rattle.definition.specs.Tables.{Tables, tables, classAt, worldOf, putThree, classRowAt, putClassRow, putEntry, putTie, putSubtype, objectAt, putObject, localAt, putLocal, operandAt, putOperand, frameOf, putFrame, frameBase, frameIn, putFrameIn, classRowsOf, keptOf, tiesOf, viewBase, objectsOf, framesOf, viewOver, put, withFrames}
+use Rattle.definition.specs.Tables.{Tables, tables, classAt, worldOf, putThree, classRowAt, putClassRow, putEntry, putTie, putSubtype, objectAt, ownedBy, ownerAt, objectRowAt, localAt, putLocal, operandAt, putOperand, frameOf, putFrame, frameBase, frameIn, putFrameIn, classRowsOf, keptOf, tiesOf, viewBase, objectsOf, framesOf, viewOver, put, withFrames}
 use Rattle.definition.specs.Calls.{addFile, addEntry, progressed}
 use Rattle.layout.specs.Places.{rows-map, rows-there, rows-past, stack-length, stack-cong, writeStack-above, writeStack-two}
 use Rattle.layout.specs.Rows.{class-rows, entry-rows, cell-rows}
 use Rattle.layout.specs.Values.{Unread, unread-value}
 use Rattle.layout.specs.FrameRows.{moved, frameWith, withValue, frame-kept, frame-above, frame-local, frame-given, frameIn-same, frame-unread, unread-frame}
-pub use Rattle.layout.specs.Fills.{countAt, Fills, classes-fill, kept-fill, objects-fill, object-made, object-set, put-view, FillsTask}
-use Rattle.layout.specs.Fills.{put-fills, fill-more, fill-last, count-set, countsOn, counts-fill, cache-fill, ties-fill, ties-more, subtypes-fill, subtypes-more, frames-fill, quote-fill, report-fill}
+pub use Rattle.layout.specs.Fills.{countAt, Fills, FillsObjects, classes-fill, kept-fill, objects-fill, object-made, object-set, put-view, FillsTask}
+use Rattle.layout.specs.Fills.{FillsCounts, put-fills, fill-more, fill-last, count-set, countsOn, counts-fill, cache-fill, ties-fill, ties-more, subtypes-fill, subtypes-more, frames-fill, quote-fill, report-fill}
 
 -- What the calls put
 
@@ -80,23 +83,23 @@ module _ (b : Base) (t : Tables) where
       ∙ rw (n, m)
 
   -- a task's progress: the ties that it posted, the objects and the task's frames that it leaves, and their three counts
-  pub progress-writes : (k : ℕ) (p : Progress) (us : List Tie) (m n : ℕ) (o u : List ℕ) → k < 2 → p .world .ties ≡ tiesOf t ++ us
-      → Fills putObject (p .objects) (t .objects) m o → FillsTask k (p .frames) t n u
+  pub progress-writes : (k : ℕ) (p : Progress) (us : List Tie) (m n : ℕ) (w : List ℕ → List ℕ) (o u : List ℕ) → k < 2 → p .world .ties ≡ tiesOf t ++ us
+      → FillsObjects (p .objects) (t .counts) (t .objects) m w o → FillsTask k (p .frames) t n u
       → put (progressed k (viewOver b t) p) t
-      ≡ tables (set (set (set (t .counts) 3 (countAt t 3 + length us)) 5 m) (6 + k) n) (t .classes) (t .kept) (t .cache)
+      ≡ tables (w (set (set (set (t .counts) 3 (countAt t 3 + length us)) 5 m) (6 + k) n)) (t .classes) (t .kept) (t .cache)
       (writeRows putTie us (countAt t 3) (t .ties)) (t .subtypes) o u
   unfolding viewOver
-  progress-writes k p us m n o u two e g h = go k two h
+  progress-writes k p us m n w o u two e g h = go k two h
     where
       posted : Fills putTie (p .world .ties) (t .ties) (countAt t 3 + length us) (writeRows putTie us (countAt t 3) (t .ties))
       posted = rw e (ties-more t us)
 
-      counts : Fills set (set (set (countsOn t) 3 (countAt t 3 + length us)) 5 m) (t .counts) 8 (set (set (t .counts) 3 (countAt t 3 + length us)) 5 m)
+      counts : FillsCounts (set (set (countsOn t) 3 (countAt t 3 + length us)) 5 m) (t .counts) (set (set (t .counts) 3 (countAt t 3 + length us)) 5 m)
       counts = count-set 5 m (omega arith) (count-set 3 (countAt t 3 + length us) (omega arith) (counts-fill t))
 
       go : (k : ℕ) → k < 2 → FillsTask k (p .frames) t n u
           → put (progressed k (viewOver b t) p) t
-          ≡ tables (set (set (set (t .counts) 3 (countAt t 3 + length us)) 5 m) (6 + k) n) (t .classes) (t .kept) (t .cache)
+          ≡ tables (w (set (set (set (t .counts) 3 (countAt t 3 + length us)) 5 m) (6 + k) n)) (t .classes) (t .kept) (t .cache)
           (writeRows putTie us (countAt t 3) (t .ties)) (t .subtypes) o u
       go zero two h =
           put-fills (progressed 0 (viewOver b t) p) t (classes-fill t) (kept-fill t) (cache-fill t) posted (subtypes-fill t) g
@@ -107,13 +110,13 @@ module _ (b : Base) (t : Tables) where
       go (suc (suc k)) two h = absurd (omega arith)
 
   -- the same where it posted no tie
-  pub quiet-writes : (k : ℕ) (p : Progress) (m n : ℕ) (o u : List ℕ) → k < 2 → p .world .ties ≡ tiesOf t
-      → Fills putObject (p .objects) (t .objects) m o → FillsTask k (p .frames) t n u
-      → put (progressed k (viewOver b t) p) t ≡ tables (set (set (t .counts) 5 m) (6 + k) n) (t .classes) (t .kept) (t .cache) (t .ties) (t .subtypes) o u
+  pub quiet-writes : (k : ℕ) (p : Progress) (m n : ℕ) (w : List ℕ → List ℕ) (o u : List ℕ) → k < 2 → p .world .ties ≡ tiesOf t
+      → FillsObjects (p .objects) (t .counts) (t .objects) m w o → FillsTask k (p .frames) t n u
+      → put (progressed k (viewOver b t) p) t ≡ tables (w (set (set (t .counts) 5 m) (6 + k) n)) (t .classes) (t .kept) (t .cache) (t .ties) (t .subtypes) o u
   unfolding writeRows
-  quiet-writes k p m n o u two e g h =
+  quiet-writes k p m n w o u two e g h =
       let z : countAt t 3 + 0 ≡ countAt t 3 = omega arith in
-      progress-writes k p [] m n o u two (e ∙ sym (append-nil (tiesOf t))) g h ∙ rw (z, set-getD (t .counts) 3 0)
+      progress-writes k p [] m n w o u two (e ∙ sym (append-nil (tiesOf t))) g h ∙ rw (z, set-getD (t .counts) 3 0)
 
 -- What a task's frames write
 
@@ -254,13 +257,27 @@ module _ (t : Tables) where
   pub class-count : length (viewBase t .classes) ≡ countAt t 0
   class-count = length-map (classRowsOf t) (classAt (keptOf t)) ∙ classes-fill t .count
 
-  pub object-there : (b : Base) (o : ℕ) → o < countAt t 5 → existing (objectsOf b t) o ≡ some (objectAt b (t .objects) o)
-  unfolding existing objectsOf
-  object-there b o l = rows-there (objectAt b (t .objects)) (countAt t 5) o l
+  -- an object exists if its row has been used and has an owner
+  pub object-there : (b : Base) (o : ℕ) → o < countAt t 5 → 0 < ownerAt (t .counts) o → existing (objectsOf b t) o ≡ some (objectAt b (t .objects) o)
+  unfolding existing objectsOf objectRowAt
+  object-there b o l u = rw (rows-there (objectRowAt b (t .counts) (t .objects)) (countAt t 5) o l, existing) (held (ownerAt (t .counts) o) u)
+    where
+      held : (w : ℕ) → 0 < w → objectHeld (ownedBy w (objectAt b (t .objects) o)) ≡ some (objectAt b (t .objects) o)
+      unfolding objectHeld ownedBy
+      held zero h = absurd (omega arith)
+      held (suc k) h = refl
 
   pub object-past : (b : Base) (o : ℕ) → countAt t 5 ≤ o → existing (objectsOf b t) o ≡ none
   unfolding existing objectsOf
-  object-past b o l = rows-past (objectAt b (t .objects)) (countAt t 5) 0 o l
+  object-past b o l = rw (rows-past (objectRowAt b (t .counts) (t .objects)) (countAt t 5) 0 o l, existing) refl
+
+  pub object-free : (b : Base) (o : ℕ) → ownerAt (t .counts) o ≡ 0 → existing (objectsOf b t) o ≡ none
+  object-free b o e = go (ltb o (countAt t 5)) refl
+    where
+      go : (u : Bool) → ltb o (countAt t 5) ≡ u → existing (objectsOf b t) o ≡ none
+      unfolding existing objectsOf objectRowAt objectHeld ownedBy
+      go true h = rw (rows-there (objectRowAt b (t .counts) (t .objects)) (countAt t 5) o (ltb-true o (countAt t 5) h), existing, e) refl
+      go false h = object-past b o (ltb-false o (countAt t 5) h)
 
   -- a task's frames: none, or the top frame and those under it
   pub frames-none : (k : ℕ) → countAt t (6 + k) ≡ 0 → framesOf t k ≡ []

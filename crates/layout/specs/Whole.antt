@@ -3,49 +3,52 @@ use mathlib.Core.Path.{_≡_, refl}
 use mathlib.Core.Bool.{true, false≢true}
 use mathlib.Core.Option.{some}
 use mathlib.Core.List.{List, [], _∷_}
-use Prim.Native.Nat.{ℕ, zero, suc, _≤_, _<_}
-use native.Mathlib.Omega.{arith}
+use Prim.Native.Nat.{ℕ, _≤_, _<_}
 use lib.ListN.{length}
 use borrow.Author.Tests.{eqb-true, eq-eqb, leb-true, le-leb, ltb-true, lt-ltb}
-use Rattle.definition.specs.Lists.{isSome}
 use Rattle.definition.specs.Classes.{Base, Entry, superOf}
 use Rattle.definition.specs.Constraints.{Tie, Subtype}
-use Rattle.definition.specs.Machine.{Value, emptyValue, intValue, nullValue, objectValue, unlistedValue, Object, Frame, existing}
+use Rattle.definition.specs.Machine.{Value, emptyValue, intValue, nullValue, objectValue, unlistedValue, Object, ObjectRow, free, owned, Objects, Exists, Frame}
 use Rattle.definition.specs.File.{File}
 use Rattle.definition.specs.Tables.{ClassRow, Rows, fileAt, sizeOf, worldOf}
 use Rattle.definition.specs.Broken.{isObject, classFits, classesFit, entryFits, tieFits, subtypeFits, valueFits, localFits, objectFits, frameFits, sound}
 pub use Rattle.layout.specs.Tests.{All, From}
 use Rattle.layout.specs.Tests.{all-all, all-test, all-more, from-all, all-from, every-true, true-every, is-some, some-is}
 
--- Values, objects and frames, where there are n classes and m objects
+-- Values, objects and frames, where there are n classes, and X says which objects exist
 
 -- a local: alone it may be empty
-abbrev pub Local : ℕ → Value → Type 0
-Local m emptyValue = Unit {0}
-Local m (intValue n) = Unit {0}
-Local m nullValue = Unit {0}
-Local m (objectValue o) = o < m
-Local m (unlistedValue k b) = ⊥
+abbrev pub Local : (ℕ → Type 0) → Value → Type 0
+Local X emptyValue = Unit {0}
+Local X (intValue n) = Unit {0}
+Local X nullValue = Unit {0}
+Local X (objectValue o) = X o
+Local X (unlistedValue k b) = ⊥
 
 -- a field or an operand
-abbrev pub ValueSound : ℕ → Value → Type 0
-ValueSound m emptyValue = ⊥
-ValueSound m (intValue n) = Unit {0}
-ValueSound m nullValue = Unit {0}
-ValueSound m (objectValue o) = o < m
-ValueSound m (unlistedValue k b) = ⊥
+abbrev pub ValueSound : (ℕ → Type 0) → Value → Type 0
+ValueSound X emptyValue = ⊥
+ValueSound X (intValue n) = Unit {0}
+ValueSound X nullValue = Unit {0}
+ValueSound X (objectValue o) = X o
+ValueSound X (unlistedValue k b) = ⊥
 
-pub record ObjectSound (b : Base) (n m : ℕ) (o : Object) : Type 0 where
+pub record ObjectSound (b : Base) (n : ℕ) (X : ℕ → Type 0) (o : Object) : Type 0 where
   pub class : o .class < n
   pub size : length (o .values) ≡ sizeOf b (o .class)
-  pub values : All (ValueSound m) (o .values)
+  pub values : All (ValueSound X) (o .values)
 
-pub record Framed (n m : ℕ) (f : Frame) : Type 0 where
+-- a row of objects: free, or an object that a task owns
+abbrev pub RowSound : Base → ℕ → (ℕ → Type 0) → ObjectRow → Type 0
+RowSound b n X free = Unit {0}
+RowSound b n X (owned k o) = (k < 2) × ObjectSound b n X o
+
+pub record Framed (n : ℕ) (X : ℕ → Type 0) (f : Frame) : Type 0 where
   pub class : f .class < n
   pub depth : length (f .operands) ≤ 16
-  pub operands : All (ValueSound m) (f .operands)
+  pub operands : All (ValueSound X) (f .operands)
   pub eight : length (f .locals) ≡ 8
-  pub locals : All (Local m) (f .locals)
+  pub locals : All (Local X) (f .locals)
 
 pub record Listed (n : ℕ) (e : Entry) : Type 0 where
   pub loader : e .request .loader < 16
@@ -89,30 +92,34 @@ pub record Whole (r : Rows) : Type 0 where
   pub cache : All (Listed (length (r .classes))) (r .cache)
   pub ties : All Between (r .ties)
   pub subtypes : All (λ s. s .loader < 16) (r .subtypes)
-  pub objects : All (ObjectSound (worldOf r .base) (length (r .classes)) (length (r .objects))) (r .objects)
-  pub quote : All (Framed (length (r .classes)) (length (r .objects))) (r .quote)
-  pub report : All (Framed (length (r .classes)) (length (r .objects))) (r .report)
+  pub objects : All (RowSound (worldOf r .base) (length (r .classes)) (Exists (r .objects))) (r .objects)
+  pub quote : All (Framed (length (r .classes)) (Exists (r .objects))) (r .quote)
+  pub report : All (Framed (length (r .classes)) (Exists (r .objects))) (r .report)
 
 -- The same but for limits, an object's number of fields and a frame's number of locals, which rows read off tables have by themselves
 
-pub record Objected (n m : ℕ) (o : Object) : Type 0 where
+pub record Objected (n : ℕ) (X : ℕ → Type 0) (o : Object) : Type 0 where
   pub class : o .class < n
-  pub values : All (ValueSound m) (o .values)
+  pub values : All (ValueSound X) (o .values)
 
-pub record Frames (n m : ℕ) (f : Frame) : Type 0 where
+abbrev pub RowOwned : ℕ → (ℕ → Type 0) → ObjectRow → Type 0
+RowOwned n X free = Unit {0}
+RowOwned n X (owned k o) = (k < 2) × Objected n X o
+
+pub record Frames (n : ℕ) (X : ℕ → Type 0) (f : Frame) : Type 0 where
   pub class : f .class < n
   pub depth : length (f .operands) ≤ 16
-  pub operands : All (ValueSound m) (f .operands)
-  pub locals : All (Local m) (f .locals)
+  pub operands : All (ValueSound X) (f .operands)
+  pub locals : All (Local X) (f .locals)
 
 pub record Sound (r : Rows) : Type 0 where
   pub classes : Classes (worldOf r .base) (r .kept) (r .classes)
   pub cache : All (Listed (length (r .classes))) (r .cache)
   pub ties : All Between (r .ties)
   pub subtypes : All (λ s. s .loader < 16) (r .subtypes)
-  pub objects : All (Objected (length (r .classes)) (length (r .objects))) (r .objects)
-  pub quote : All (Frames (length (r .classes)) (length (r .objects))) (r .quote)
-  pub report : All (Frames (length (r .classes)) (length (r .objects))) (r .report)
+  pub objects : All (RowOwned (length (r .classes)) (Exists (r .objects))) (r .objects)
+  pub quote : All (Frames (length (r .classes)) (Exists (r .objects))) (r .quote)
+  pub report : All (Frames (length (r .classes)) (Exists (r .objects))) (r .report)
 
 pub whole-sound : (r : Rows) → Whole r → Sound r
 whole-sound r w = record {
@@ -120,72 +127,72 @@ whole-sound r w = record {
   cache = w .cache;
   ties = w .ties;
   subtypes = w .subtypes;
-  objects = all-more (λ o h. record { class = h .class; values = h .values }) (r .objects) (w .objects);
+  objects = all-more sound-owned (r .objects) (w .objects);
   quote = all-more (framed-frames _ _) (r .quote) (w .quote);
   report = all-more (framed-frames _ _) (r .report) (w .report);
 }
   where
-    framed-frames : (n m : ℕ) (f : Frame) → Framed n m f → Frames n m f
-    framed-frames n m f h = record { class = h .class; depth = h .depth; operands = h .operands; locals = h .locals }
+    sound-owned : (x : ObjectRow) → RowSound (worldOf r .base) (length (r .classes)) (Exists (r .objects)) x → RowOwned (length (r .classes)) (Exists (r .objects)) x
+    sound-owned free h = tt
+    sound-owned (owned k o) h = (h .0, record { class = h .1 .class; values = h .1 .values })
+
+    framed-frames : (n : ℕ) (X : ℕ → Type 0) (f : Frame) → Framed n X f → Frames n X f
+    framed-frames n X f h = record { class = h .class; depth = h .depth; operands = h .operands; locals = h .locals }
 
 -- Tests and their meaning
 
-pub existing-some : (os : List Object) (o : ℕ) → o < length os → isSome (existing os o) ≡ true
-unfolding existing isSome
-existing-some [] o h = absurd (omega arith)
-existing-some (x ∷ os) zero h = refl
-existing-some (x ∷ os) (suc o) h = existing-some os o (omega arith)
-
-pub some-existing : (os : List Object) (o : ℕ) → isSome (existing os o) ≡ true → o < length os
-unfolding existing isSome
-some-existing [] o h = absurd (false≢true h)
-some-existing (x ∷ os) zero h = omega arith
-some-existing (x ∷ os) (suc o) h = let l = some-existing os o h in omega arith
-
-module _ (os : List Object) where
-  pub local-fits : (v : Value) → Local (length os) v → localFits os v ≡ true
+module _ (os : Objects) where
+  pub local-fits : (v : Value) → Local (Exists os) v → localFits os v ≡ true
   unfolding localFits
   local-fits emptyValue h = refl
   local-fits (intValue n) h = refl
   local-fits nullValue h = refl
-  local-fits (objectValue o) h = existing-some os o h
+  local-fits (objectValue o) h = some-is _ (h .0) (h .1)
   local-fits (unlistedValue k b) h = absurd h
 
-  pub fits-local : (v : Value) → localFits os v ≡ true → Local (length os) v
+  pub fits-local : (v : Value) → localFits os v ≡ true → Local (Exists os) v
   unfolding localFits
   fits-local emptyValue h = tt
   fits-local (intValue n) h = tt
   fits-local nullValue h = tt
-  fits-local (objectValue o) h = some-existing os o h
+  fits-local (objectValue o) h = is-some _ h
   fits-local (unlistedValue k b) h = absurd (false≢true h)
 
-  pub value-fits : (v : Value) → ValueSound (length os) v → valueFits os v ≡ true
+  pub value-fits : (v : Value) → ValueSound (Exists os) v → valueFits os v ≡ true
   unfolding valueFits
   value-fits emptyValue h = absurd h
   value-fits (intValue n) h = refl
   value-fits nullValue h = refl
-  value-fits (objectValue o) h = existing-some os o h
+  value-fits (objectValue o) h = some-is _ (h .0) (h .1)
   value-fits (unlistedValue k b) h = absurd h
 
-  pub fits-value : (v : Value) → valueFits os v ≡ true → ValueSound (length os) v
+  pub fits-value : (v : Value) → valueFits os v ≡ true → ValueSound (Exists os) v
   unfolding valueFits
   fits-value emptyValue h = absurd (false≢true h)
   fits-value (intValue n) h = tt
   fits-value nullValue h = tt
-  fits-value (objectValue o) h = some-existing os o h
+  fits-value (objectValue o) h = is-some _ h
   fits-value (unlistedValue k b) h = absurd (false≢true h)
 
-  pub object-fits : (n : ℕ) (o : Object) → Objected n (length os) o → objectFits n os o ≡ true
+  pub object-fits : (n : ℕ) (x : ObjectRow) → RowOwned n (Exists os) x → objectFits n os x ≡ true
   unfolding objectFits
-  object-fits n o h = true-every _ (lt-ltb (o .class) n (h .class), (all-test (valueFits os) (ValueSound (length os)) value-fits (o .values) (h .values), tt))
+  object-fits n free h = refl
+  object-fits n (owned k o) h =
+      true-every _ (
+        lt-ltb k 2 (h .0),
+        (lt-ltb (o .class) n (h .1 .class), (all-test (valueFits os) (ValueSound (Exists os)) value-fits (o .values) (h .1 .values), tt)),
+      )
 
-  pub fits-object : (n : ℕ) (o : Object) → objectFits n os o ≡ true → Objected n (length os) o
+  pub fits-object : (n : ℕ) (x : ObjectRow) → objectFits n os x ≡ true → RowOwned n (Exists os) x
   unfolding objectFits
-  fits-object n o h =
-      let p = every-true _ h in
-      record { class = ltb-true (o .class) n (p .0); values = all-all (valueFits os) (ValueSound (length os)) fits-value (o .values) (p .1 .0) }
+  fits-object n free h = tt
+  fits-object n (owned k o) h =
+      let p = every-true _ h in (
+        ltb-true k 2 (p .0),
+        record { class = ltb-true (o .class) n (p .1 .0); values = all-all (valueFits os) (ValueSound (Exists os)) fits-value (o .values) (p .1 .1 .0) },
+      )
 
-  pub frame-fits : (n : ℕ) (f : Frame) → Frames n (length os) f → frameFits n os f ≡ true
+  pub frame-fits : (n : ℕ) (f : Frame) → Frames n (Exists os) f → frameFits n os f ≡ true
   unfolding frameFits
   frame-fits n f h =
       true-every _ (
@@ -193,21 +200,21 @@ module _ (os : List Object) where
         (
           le-leb (length (f .operands)) 16 (h .depth),
           (
-            all-test (valueFits os) (ValueSound (length os)) value-fits (f .operands) (h .operands),
-            (all-test (localFits os) (Local (length os)) local-fits (f .locals) (h .locals), tt),
+            all-test (valueFits os) (ValueSound (Exists os)) value-fits (f .operands) (h .operands),
+            (all-test (localFits os) (Local (Exists os)) local-fits (f .locals) (h .locals), tt),
           ),
         ),
       )
 
-  pub fits-frame : (n : ℕ) (f : Frame) → frameFits n os f ≡ true → Frames n (length os) f
+  pub fits-frame : (n : ℕ) (f : Frame) → frameFits n os f ≡ true → Frames n (Exists os) f
   unfolding frameFits
   fits-frame n f h =
       let p = every-true _ h in
       record {
         class = ltb-true (f .class) n (p .0);
         depth = leb-true (length (f .operands)) 16 (p .1 .0);
-        operands = all-all (valueFits os) (ValueSound (length os)) fits-value (f .operands) (p .1 .1 .0);
-        locals = all-all (localFits os) (Local (length os)) fits-local (f .locals) (p .1 .1 .1 .0);
+        operands = all-all (valueFits os) (ValueSound (Exists os)) fits-value (f .operands) (p .1 .1 .0);
+        locals = all-all (localFits os) (Local (Exists os)) fits-local (f .locals) (p .1 .1 .1 .0);
       }
 
 module _ (b : Base) (bs : List ℕ) where
@@ -280,9 +287,9 @@ sound-true r h =
       cache = all-all _ (Listed n) (fits-entry n) (r .cache) (p .1 .0);
       ties = all-all _ Between fits-tie (r .ties) (p .1 .1 .0);
       subtypes = all-all _ (λ s. s .loader < 16) fits-subtype (r .subtypes) (p .1 .1 .1 .0);
-      objects = all-all _ (Objected n (length os)) (fits-object os n) os (p .1 .1 .1 .1 .0);
-      quote = all-all _ (Frames n (length os)) (fits-frame os n) (r .quote) (p .1 .1 .1 .1 .1 .0);
-      report = all-all _ (Frames n (length os)) (fits-frame os n) (r .report) (p .1 .1 .1 .1 .1 .1 .0);
+      objects = all-all _ (RowOwned n (Exists os)) (fits-object os n) os (p .1 .1 .1 .1 .0);
+      quote = all-all _ (Frames n (Exists os)) (fits-frame os n) (r .quote) (p .1 .1 .1 .1 .1 .0);
+      report = all-all _ (Frames n (Exists os)) (fits-frame os n) (r .report) (p .1 .1 .1 .1 .1 .1 .0);
     }
 
 pub sound-is : (r : Rows) → Sound r → sound r ≡ true
@@ -299,10 +306,10 @@ sound-is r s =
           (
             all-test _ (λ s. s .loader < 16) subtype-fits (r .subtypes) (s .subtypes),
             (
-              all-test _ (Objected n (length os)) (object-fits os n) os (s .objects),
+              all-test _ (RowOwned n (Exists os)) (object-fits os n) os (s .objects),
               (
-                all-test _ (Frames n (length os)) (frame-fits os n) (r .quote) (s .quote),
-                (all-test _ (Frames n (length os)) (frame-fits os n) (r .report) (s .report), tt),
+                all-test _ (Frames n (Exists os)) (frame-fits os n) (r .quote) (s .quote),
+                (all-test _ (Frames n (Exists os)) (frame-fits os n) (r .report) (s .report), tt),
               ),
             ),
           ),
