@@ -147,7 +147,7 @@ module _ (t : Tables) where
     pub object-set : (o j : ℕ) (v : Value) → o < countAt t 5 → 0 < ownerAt (t .counts) o → j < usedFields b (objectAt b (t .objects) o .class)
         → FillsObjects (changed (objectsOf b t) o (withField (objectAt b (t .objects) o) j v)) (t .counts) (t .objects) (countAt t 5) (λ d. d)
         (putField o (t .objects) j v)
-    unfolding objectsOf
+    unfolding objectsOf objectRowAt
     object-set o j v l u h = record {
       count = changed-length _ o _ ∙ rows-length (objectRowAt b (t .counts) (t .objects)) (countAt t 5) 0;
       owners = λ d h. owners-changed b (t .counts) (t .objects) d h (countAt t 5) o _ l;
@@ -156,7 +156,6 @@ module _ (t : Tables) where
       where
         field : (w : ℕ) → ownerAt (t .counts) o ≡ w → 0 < w
             → putObjectRow (t .objects) o (rewritten (withField (objectAt b (t .objects) o) j v) (objectRowAt b (t .counts) (t .objects) o)) ≡ putField o (t .objects) j v
-        unfolding objectRowAt
         field zero e z = absurd (omega arith)
         field (suc k) e z = rw e (unfold ownedBy rewritten putObjectRow in object-field b (t .objects) o j v h)
 

@@ -119,11 +119,10 @@ module _ (b : Base) (n t : List ℕ) where
   -- Rows as they were read
 
   pub row-same : (o : ℕ) → putObjectRow t o (Row o) ≡ t
-  unfolding objectRowAt
+  unfolding objectRowAt ownedBy putObjectRow
   row-same o = go (ownerAt n o)
     where
       go : (w : ℕ) → putObjectRow t o (ownedBy w (objectAt b t o)) ≡ t
-      unfolding ownedBy putObjectRow
       go zero = refl
       go (suc k) = object-same b t o
 
@@ -140,24 +139,24 @@ module _ (b : Base) (n t : List ℕ) where
 
   -- a row written elsewhere leaves the rows before it
   row-kept : (j o : ℕ) (x : Object) → j < o → putObjectRow (putObject t o x) j (Row j) ≡ putObject t o x
-  unfolding objectRowAt
+  unfolding objectRowAt ownedBy putObjectRow
   row-kept j o x l = go (ownerAt n j)
     where
       go : (w : ℕ) → putObjectRow (putObject t o x) j (ownedBy w (objectAt b t j)) ≡ putObject t o x
-      unfolding ownedBy putObjectRow
       go zero = refl
       go (suc k) = rw (← object-below b t j o x l) (object-same b (putObject t o x) j)
 
   owner-kept : (m : List ℕ) → SameOwners n m → (j o w : ℕ) → j < o → putOwner (set m (ownersCell + o) w) j (Row j) ≡ set m (ownersCell + o) w
   unfolding putOwner objectRowAt
   owner-kept m same j o w l =
-      let e : ownerAt (set m (ownersCell + o) w) j ≡ ownerAt n j = (unfold ownerAt in getD-set-other m (ownersCell + o) (ownersCell + j) w 0 (λ e. omega arith)) ∙ same j in
+      let d : ownerAt (set m (ownersCell + o) w) j ≡ ownerAt m j = unfold ownerAt in getD-set-other m (ownersCell + o) (ownersCell + j) w 0 (λ e. omega arith) in
+      let e : ownerAt (set m (ownersCell + o) w) j ≡ ownerAt n j = d ∙ same j in
       rw (owner-is (ownerAt n j) (objectAt b t j), ← e) (unfold ownerAt in set-getD (set m (ownersCell + o) w) (ownersCell + j) 0)
 
   -- An object made: one row written, and its owner
 
   pub rows-made : (k c : ℕ) (x : Object) → writeRows putObjectRow (made k x (rows Row c 0)) 0 t ≡ putObject t (unused (rows Row c 0)) x
-  unfolding putObjectRow
+  unfolding putObjectRow writeRows
   rows-made k c x = go (made-is k x (rows Row c 0))
     where
       os : Objects
@@ -165,7 +164,6 @@ module _ (b : Base) (n t : List ℕ) where
 
       go : ((unused os < length os) × (made k x os ≡ set os (unused os) (owned k x))) ⊎ ((unused os ≡ length os) × (made k x os ≡ os ++ (owned k x ∷ [])))
           → writeRows putObjectRow (made k x os) 0 t ≡ putObject t (unused os) x
-      unfolding putObjectRow writeRows
       go (inl h) = rw (h .1) (writeRows-put putObjectRow Row t row-same c (unused os) (owned k x) (omega (arith, h .0, rows-length Row c 0)) (λ j l. row-kept j (unused os) x l))
       go (inr h) =
           let e : unused os ≡ 0 + c = h .0 ∙ rows-length Row c 0 ∙ omega arith in
@@ -173,6 +171,7 @@ module _ (b : Base) (n t : List ℕ) where
 
   pub owners-made : (m : List ℕ) → SameOwners n m → (k c : ℕ) (x : Object)
       → writeRows putOwner (made k x (rows Row c 0)) 0 m ≡ set m (ownersCell + unused (rows Row c 0)) (suc k)
+  unfolding writeRows putOwner ownerOf
   owners-made m same k c x = go (made-is k x (rows Row c 0))
     where
       os : Objects
@@ -180,7 +179,6 @@ module _ (b : Base) (n t : List ℕ) where
 
       go : ((unused os < length os) × (made k x os ≡ set os (unused os) (owned k x))) ⊎ ((unused os ≡ length os) × (made k x os ≡ os ++ (owned k x ∷ [])))
           → writeRows putOwner (made k x os) 0 m ≡ set m (ownersCell + unused os) (suc k)
-      unfolding writeRows putOwner ownerOf
       go (inl h) =
           rw (h .1) (writeRows-put putOwner Row m (owner-same m same) c (unused os) (owned k x) (omega (arith, h .0, rows-length Row c 0))
           (λ j l. owner-kept m same j (unused os) (suc k) l))
@@ -191,12 +189,11 @@ module _ (b : Base) (n t : List ℕ) where
   -- An object changed: its row written, no owner
 
   pub rows-changed : (c o : ℕ) (x : Object) → o < c → writeRows putObjectRow (changed (rows Row c 0) o x) 0 t ≡ putObjectRow t o (rewritten x (Row o))
-  unfolding changed
+  unfolding changed putObjectRow
   rows-changed c o x l =
       rw (rows-there Row c o l, changed) (writeRows-put putObjectRow Row t row-same c o (rewritten x (Row o)) l (λ j h. kept j h (rewritten x (Row o))))
     where
       kept : (j : ℕ) → j < o → (r : ObjectRow) → putObjectRow (putObjectRow t o r) j (Row j) ≡ putObjectRow t o r
-      unfolding putObjectRow
       kept j h free = row-same j
       kept j h (owned k y) = row-kept j o y h
 
@@ -208,12 +205,11 @@ module _ (b : Base) (n t : List ℕ) where
 
   -- Rows freed: no row written
   pub rows-swept : (R : List ℕ) (c i : ℕ) → writeRows putObjectRow (sweptFrom R i (rows Row c i)) i t ≡ t
-  unfolding sweptFrom writeRows rows
+  unfolding sweptFrom writeRows rows pick putObjectRow
   rows-swept R zero i = refl
   rows-swept R (suc c) i = rw (rows-swept R c (suc i)) (go (has eqb i R))
     where
       go : (u : Bool) → putObjectRow t i (pick u (Row i) free) ≡ t
-      unfolding pick putObjectRow
       go true = row-same i
       go false = refl
 
@@ -272,11 +268,10 @@ rows-are {A} g (x ∷ xs) j h =
 
 pub object-rows-back : (b : Base) (os : Objects) (n t : List ℕ) → ownersCell + length os ≤ length n → length os * objectCells ≤ length t → All (RowProper b) os
     → rows (objectRowAt b (writeRows putOwner os 0 n) (writeRows putObjectRow os 0 t)) (length os) 0 ≡ os
-unfolding objectRowAt
+unfolding objectRowAt ownedBy ownerOf
 object-rows-back b os n t ln lt a = rows-are _ os 0 (λ i x e. go i x e)
   where
     go : (i : ℕ) (x : ObjectRow) → getElem? os i ≡ some x
         → ownedBy (ownerAt (writeRows putOwner os 0 n) (0 + i)) (objectAt b (writeRows putObjectRow os 0 t) (0 + i)) ≡ x
-    unfolding ownedBy ownerOf
     go i free e = rw (owner-back os 0 n (omega arith) i free e)
     go i (owned k x) e = rw (owner-back os 0 n (omega arith) i (owned k x) e, row-back b os 0 t (omega arith) a i k x e)

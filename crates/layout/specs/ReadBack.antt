@@ -149,8 +149,9 @@ counts-put : (r : Rows) (c : List ℕ) → length c ≡ countsLength → (j : �
 unfolding countsOf
 counts-put r c e j l =
     let u : List ℕ = writeRows set (countsOf r) 0 c in
+    let z : 0 + j ≡ j = omega arith in
     owners-behind (r .objects) 0 u j l
-    ∙ (sym (rows-getD (λ i. getD u i 0) 8 0 j 0 l) ∙ ap (λ (z : List ℕ). getD z j 0) (rows-back cell-rows (countsOf r) c (omega arith)))
+    ∙ (sym (rw z at (rows-getD (λ i. getD u i 0) 8 0 j 0 l)) ∙ ap (λ (z : List ℕ). getD z j 0) (rows-back cell-rows (countsOf r) c (omega arith)))
 
 objects-put : (b : Base) (n : ℕ) (X : ℕ → Type 0) (os : Objects) (c t : List ℕ) → length c ≡ countsLength → length t ≡ objectsLength → length os ≤ objectLimit
     → ((c : ℕ) → c < n → sizeOf b c ≤ fieldLimit) → All (RowSound b n X) os

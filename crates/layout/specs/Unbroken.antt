@@ -110,12 +110,11 @@ limits-view t m = record {
 
 sized-objects : (b : Base) (n : ℕ) (X : ℕ → Type 0) (c t : List ℕ) (k i : ℕ) → ((c : ℕ) → c < n → sizeOf b c ≤ 16) → All (RowOwned n X) (rows (objectRowAt b c t) k i)
     → All (RowSound b n X) (rows (objectRowAt b c t) k i)
-unfolding rows objectRowAt
+unfolding rows objectRowAt ownedBy objectAt
 sized-objects b n X c t zero i small h = tt
 sized-objects b n X c t (suc k) i small h = (sized (ownerAt c i) (h .0), sized-objects b n X c t k (suc i) small (h .1))
   where
     sized : (w : ℕ) → RowOwned n X (ownedBy w (objectAt b t i)) → RowSound b n X (ownedBy w (objectAt b t i))
-    unfolding ownedBy objectAt
     sized zero h = tt
     sized (suc j) h =
         let d : ℕ = getD t (i * 33) 0 in (

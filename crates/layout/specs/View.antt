@@ -259,11 +259,10 @@ module _ (t : Tables) where
 
   -- an object exists if its row has been used and has an owner
   pub object-there : (b : Base) (o : ℕ) → o < countAt t 5 → 0 < ownerAt (t .counts) o → existing (objectsOf b t) o ≡ some (objectAt b (t .objects) o)
-  unfolding existing objectsOf objectRowAt
+  unfolding existing objectsOf objectRowAt objectHeld ownedBy
   object-there b o l u = rw (rows-there (objectRowAt b (t .counts) (t .objects)) (countAt t 5) o l, existing) (held (ownerAt (t .counts) o) u)
     where
       held : (w : ℕ) → 0 < w → objectHeld (ownedBy w (objectAt b (t .objects) o)) ≡ some (objectAt b (t .objects) o)
-      unfolding objectHeld ownedBy
       held zero h = absurd (omega arith)
       held (suc k) h = refl
 
@@ -272,10 +271,10 @@ module _ (t : Tables) where
   object-past b o l = rw (rows-past (objectRowAt b (t .counts) (t .objects)) (countAt t 5) 0 o l, existing) refl
 
   pub object-free : (b : Base) (o : ℕ) → ownerAt (t .counts) o ≡ 0 → existing (objectsOf b t) o ≡ none
+  unfolding existing objectsOf objectRowAt objectHeld ownedBy
   object-free b o e = go (ltb o (countAt t 5)) refl
     where
       go : (u : Bool) → ltb o (countAt t 5) ≡ u → existing (objectsOf b t) o ≡ none
-      unfolding existing objectsOf objectRowAt objectHeld ownedBy
       go true h = rw (rows-there (objectRowAt b (t .counts) (t .objects)) (countAt t 5) o (ltb-true o (countAt t 5) h), existing, e) refl
       go false h = object-past b o (ltb-false o (countAt t 5) h)
 
