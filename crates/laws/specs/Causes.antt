@@ -19,12 +19,12 @@ use Rattle.definition.specs.Classes.{Class, find, superOf, loaderOf, slots, has
 use Rattle.definition.specs.Constraints.{Tie, World, agrees, newTie, signatureTies, agreesAfter}
 use Rattle.definition.specs.Instructions.{decode}
 use Rattle.definition.specs.Verifier.{Note, notesOf}
-use Rattle.definition.specs.Machine.{Value, emptyValue, intValue, nullValue, objectValue, unlistedValue, Object, Frame, Now, existing}
+use Rattle.definition.specs.Machine.{Value, emptyValue, intValue, nullValue, objectValue, unlistedValue, Objects, Frame, Now, existing, roomless}
 use Rattle.definition.specs.Loading.{newSubtypes, overrideTies, hides, withClass, withEntry}
 use Rattle.definition.specs.File.{File, readFile, classOf}
 use Rattle.definition.specs.Tables.{Tables, shaped, Rows, framesIn, worldOf, view}
 use Rattle.definition.specs.Broken.{broken}
-use Rattle.definition.specs.Calls.{Call, callBoot, callStep, callRun, refusalsOf, RowCall, rowDefine, rowRecord, rowStart, rowDrop, callRows, rowRefusals}
+use Rattle.definition.specs.Calls.{Call, callBoot, callStep, callRun, refusalsOf, RowCall, rowDefine, rowRecord, rowStart, rowDrop, rowSweep, callRows, rowRefusals, turn}
 use Rattle.laws.specs.Refusals.{running}
 
 -- a word by its number, and whether it applies
@@ -98,7 +98,7 @@ startCauses k l n m r =
     ∷ cause 12 (not (leb (length (framesIn k r)) 0))
     ∷ cause 5 (isNone cached)
     ∷ cause 7 (isSomeAnd cached (λ c. isNone (selected (worldOf r .base) (startSignature m) c)))
-    ∷ cause 10 (not (ltb (length (r .objects)) 256))
+    ∷ cause 10 (roomless k (r .objects))
     ∷ []
 
 -- step: unreadable 14, 5 7 10 9, other 14, 11
@@ -150,7 +150,7 @@ abbrev pub noRoomBelow : List Frame → Bool
 noRoomBelow [] = false
 noRoomBelow (g ∷ gs) = noRoom (g .operands)
 
-module _ (w : World) (os : List Object) where
+module _ (w : World) (os : Objects) where
   -- null, or an object whose class is e or below it
   abbrev pub receives : ℕ → Value → Bool
   receives e emptyValue = false
@@ -199,8 +199,8 @@ module _ (w : World) (k : Class) where
       ∷ cause 11 null
       ∷ []
 
--- an instruction of the frame f above the frames fs, in class k; operands are counted from the last pushed
-module _ (w : World) (os : List Object) (f : Frame) (fs : List Frame) (k : Class) where
+-- an instruction of the frame f above the frames fs of its task, in class k; operands are counted from the last pushed
+module _ (task : ℕ) (w : World) (os : Objects) (f : Frame) (fs : List Frame) (k : Class) where
   abbrev pub operand : ℕ → Option Value
   operand n = getElem? (f .operands) n
 
@@ -225,7 +225,7 @@ module _ (w : World) (os : List Object) (f : Frame) (fs : List Frame) (k : Class
       accessing w k (named w k c) (selected (w .base) s) (methodTies w k s) (ltb (suc (length fs)) 32)
       (λ e. isSomeAnd (operand 0) (ofKind (s .argument)) && isSomeAnd (operand 1) (λ v. receives w os e v && selects w os s v)) (isSomeAnd (operand 1) aNull)
   instructionCauses (New c) =
-      cause 5 (isNone (named w k c)) ∷ cause 7 false ∷ cause 10 (not (ltb (length os) 256 && ltb (length (f .operands)) 16)) ∷ cause 9 false ∷ cause 14 false ∷ cause 11 false ∷ []
+      cause 5 (isNone (named w k c)) ∷ cause 7 false ∷ cause 10 (not (not (roomless task os) && ltb (length (f .operands)) 16)) ∷ cause 9 false ∷ cause 14 false ∷ cause 11 false ∷ []
   instructionCauses (Return kind) =
       plainly (noRoomBelow fs) (not (isSomeAnd (operand 0) (aValueOf kind) && (not (isEmpty fs) || isSomeAnd (operand 0) anInt)))
 
@@ -233,13 +233,13 @@ module _ (w : World) (os : List Object) (f : Frame) (fs : List Frame) (k : Class
 abbrev pub nothing : List Cause
 nothing = cause 5 false ∷ cause 7 false ∷ cause 10 false ∷ cause 9 false ∷ cause 14 false ∷ cause 11 false ∷ []
 
-abbrev pub readCauses : World → List Object → Frame → List Frame → Option Now → List Cause
-readCauses w os f fs none = cause 14 true ∷ nothing
-readCauses w os f fs (some n) = cause 14 false ∷ instructionCauses w os f fs (n .theClass) (n .at .instruction)
+abbrev pub readCauses : ℕ → World → Objects → Frame → List Frame → Option Now → List Cause
+readCauses task w os f fs none = cause 14 true ∷ nothing
+readCauses task w os f fs (some n) = cause 14 false ∷ instructionCauses task w os f fs (n .theClass) (n .at .instruction)
 
-abbrev pub frameCauses : World → List Object → List Frame → List Cause
-frameCauses w os [] = cause 14 false ∷ nothing
-frameCauses w os (f ∷ fs) = readCauses w os f fs (reading w f)
+abbrev pub frameCauses : ℕ → World → Objects → List Frame → List Cause
+frameCauses task w os [] = cause 14 false ∷ nothing
+frameCauses task w os (f ∷ fs) = readCauses task w os f fs (reading w f)
 
 -- Every call; 1 before all else
 
@@ -248,11 +248,12 @@ rowCauses (rowDefine l bs) r = defineCauses l bs r
 rowCauses (rowRecord l n c) r = recordCauses l n c r
 rowCauses (rowStart k l n m v) r = startCauses k l n m r
 rowCauses (rowDrop k) r = cause 3 (not (ltb k 2)) ∷ []
+rowCauses rowSweep r = []
 
 unfoldable pub causes : Call → Tables → List Cause
 causes callBoot t = cause 1 (not (shaped t)) ∷ []
 causes (callRows c) t = cause 1 (broken t) ∷ rowCauses c (view t)
-causes callStep t = cause 1 (broken t) ∷ frameCauses (worldOf (view t)) (view t .objects) (running (view t .quote) (view t .report))
+causes callStep t = cause 1 (broken t) ∷ frameCauses (turn (view t)) (worldOf (view t)) (view t .objects) (running (view t .quote) (view t .report))
 causes (callRun n) t = cause 1 (broken t) ∷ cause 3 (not (leb 1 n && leb n 65535)) ∷ []
 
 -- The paper's order: that of `refusalsOf`, but for a step, where 14 stands twice
@@ -267,28 +268,28 @@ order (callRun n) = refusalsOf (callRun n)
 abbrev pub words : List Cause → List ℕ
 words cs = map (λ c. c .word) cs
 
-instruction-order : (w : World) (os : List Object) (f : Frame) (fs : List Frame) (k : Class) (i : Instruction) → words (instructionCauses w os f fs k i) ≡ 5 ∷ 7 ∷ 10 ∷ 9 ∷ 14 ∷ 11 ∷ []
+instruction-order : (task : ℕ) (w : World) (os : Objects) (f : Frame) (fs : List Frame) (k : Class) (i : Instruction) → words (instructionCauses task w os f fs k i) ≡ 5 ∷ 7 ∷ 10 ∷ 9 ∷ 14 ∷ 11 ∷ []
 unfolding instructionCauses accessing
-instruction-order w os f fs k AconstNull = refl
-instruction-order w os f fs k (Sipush n) = refl
-instruction-order w os f fs k (Load kind j) = refl
-instruction-order w os f fs k (Store kind j) = refl
-instruction-order w os f fs k Pop = refl
-instruction-order w os f fs k Dup = refl
-instruction-order w os f fs k (Arithmetic o) = refl
-instruction-order w os f fs k (Getfield c n t) = refl
-instruction-order w os f fs k (Putfield c n t) = refl
-instruction-order w os f fs k (Invokevirtual c s) = refl
-instruction-order w os f fs k (New c) = refl
-instruction-order w os f fs k (Return kind) = refl
+instruction-order task w os f fs k AconstNull = refl
+instruction-order task w os f fs k (Sipush n) = refl
+instruction-order task w os f fs k (Load kind j) = refl
+instruction-order task w os f fs k (Store kind j) = refl
+instruction-order task w os f fs k Pop = refl
+instruction-order task w os f fs k Dup = refl
+instruction-order task w os f fs k (Arithmetic o) = refl
+instruction-order task w os f fs k (Getfield c n t) = refl
+instruction-order task w os f fs k (Putfield c n t) = refl
+instruction-order task w os f fs k (Invokevirtual c s) = refl
+instruction-order task w os f fs k (New c) = refl
+instruction-order task w os f fs k (Return kind) = refl
 
-frame-order : (w : World) (os : List Object) (fs : List Frame) → words (frameCauses w os fs) ≡ 14 ∷ 5 ∷ 7 ∷ 10 ∷ 9 ∷ 14 ∷ 11 ∷ []
-frame-order w os [] = refl
-frame-order w os (f ∷ fs) = go (reading w f)
+frame-order : (task : ℕ) (w : World) (os : Objects) (fs : List Frame) → words (frameCauses task w os fs) ≡ 14 ∷ 5 ∷ 7 ∷ 10 ∷ 9 ∷ 14 ∷ 11 ∷ []
+frame-order task w os [] = refl
+frame-order task w os (f ∷ fs) = go (reading w f)
   where
-    go : (o : Option Now) → words (readCauses w os f fs o) ≡ 14 ∷ 5 ∷ 7 ∷ 10 ∷ 9 ∷ 14 ∷ 11 ∷ []
+    go : (o : Option Now) → words (readCauses task w os f fs o) ≡ 14 ∷ 5 ∷ 7 ∷ 10 ∷ 9 ∷ 14 ∷ 11 ∷ []
     go none = refl
-    go (some n) = rw (instruction-order w os f fs (n .theClass) (n .at .instruction)) refl
+    go (some n) = rw (instruction-order task w os f fs (n .theClass) (n .at .instruction)) refl
 
 rows-order : (c : RowCall) (r : Rows) → words (rowCauses c r) ≡ rowRefusals c
 unfolding rowCauses rowRefusals defineCauses recordCauses startCauses
@@ -296,11 +297,12 @@ rows-order (rowDefine l bs) r = refl
 rows-order (rowRecord l n c) r = refl
 rows-order (rowStart k l n m v) r = refl
 rows-order (rowDrop k) r = refl
+rows-order rowSweep r = refl
 
 -- the words that `causes` lists stand in the paper's order
 pub in-order : (c : Call) (t : Tables) → words (causes c t) ≡ order c
 unfolding causes order refusalsOf
 in-order callBoot t = refl
 in-order (callRows c) t = rw (rows-order c (view t)) refl
-in-order callStep t = rw (frame-order (worldOf (view t)) (view t .objects) (running (view t .quote) (view t .report))) refl
+in-order callStep t = rw (frame-order (turn (view t)) (worldOf (view t)) (view t .objects) (running (view t .quote) (view t .report))) refl
 in-order (callRun n) t = refl

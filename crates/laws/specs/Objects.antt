@@ -1,38 +1,187 @@
--- Objects keep their numbers and their classes when one is made or a field of one is written.
+-- Objects by number. The number that is taken is unused and the lowest, and none is left exactly if 256 are in use; an object made or changed leaves every other
+-- as it was.
 use mathlib.Core.Path.{_≡_, refl, sym, ap, _∙_}
-use mathlib.Core.Option.{some, Option·some-injective}
-use mathlib.Core.List.{List, [], _∷_, _++_}
+use mathlib.Core.Bool.{true}
+use mathlib.Core.Option.{Option, none, some, Option·some-injective, Option·none-ne-some}
+use mathlib.Core.List.{List, [], _∷_}
 use mathlib.Core.Logic.{_⊎_, inl, inr}
-use Prim.Native.Nat.{ℕ}
-use lib.ListN.{getElem?, set}
-use Rattle.definition.specs.Machine.{Value, Object}
-use Rattle.laws.specs.Agreement.{nth-more}
-use Rattle.laws.specs.Options.{nth-set}
+use Prim.Native.Nat.{ℕ, zero, suc, _<_, _≤_}
+use native.Mathlib.Nat.{suc-inj}
+use native.Mathlib.Omega.{arith}
+use lib.ListN.{length, getElem?, set}
+use borrow.Author.Tests.{leb-true, le-leb}
+use Rattle.definition.specs.Machine.{Object, ObjectRow, free, owned, Objects, objectHeld, existing, Exists, inUse, unused, made, roomless, rewritten, changed}
 
--- each object of the earlier list is there in the later one, by its number and of its class
-abbrev pub Numbered : List Object → List Object → Type 0
-Numbered os qs = (o : ℕ) (b : Object) → getElem? os o ≡ some b → (d : Object) × (getElem? qs o ≡ some d) × (d .class ≡ b .class)
+-- The first row, and the rows behind it
 
-pub numbered-same : (os : List Object) → Numbered os os
+pub existing-tail : (x : ObjectRow) (os : Objects) (o : ℕ) → existing (x ∷ os) (suc o) ≡ existing os o
+unfolding existing
+existing-tail x os o = refl
+
+pub existing-head : (x : ObjectRow) (os : Objects) → existing (x ∷ os) 0 ≡ objectHeld x
+unfolding existing
+existing-head x os = refl
+
+pub existing-none : (o : ℕ) → existing [] o ≡ none
+unfolding existing
+existing-none o = refl
+
+-- a number that is used lies among the rows
+pub exists-lt : (os : Objects) (o : ℕ) → Exists os o → o < length os
+exists-lt [] o h = absurd (Option·none-ne-some (h .0) (sym (existing-none o) ∙ h .1))
+exists-lt (x ∷ os) zero h = omega arith
+exists-lt (x ∷ os) (suc o) h = let l = exists-lt os o (h .0, sym (existing-tail x os o) ∙ h .1) in omega arith
+
+-- The number that is taken: unused, and every lower one is in use
+
+pub unused-free : (os : Objects) → existing os (unused os) ≡ none
+unfolding unused existing objectHeld
+unused-free [] = refl
+unused-free (free ∷ os) = refl
+unused-free (owned k x ∷ os) = unused-free os
+
+pub unused-lowest : (os : Objects) (o : ℕ) → o < unused os → Exists os o
+unfolding unused
+unused-lowest [] o l = absurd (omega arith)
+unused-lowest (free ∷ os) o l = absurd (omega arith)
+unused-lowest (owned k x ∷ os) zero l = (x, unfold existing objectHeld in refl)
+unused-lowest (owned k x ∷ os) (suc o) l = let h = unused-lowest os o (omega arith) in (h .0, existing-tail (owned k x) os o ∙ h .1)
+
+-- Room: as many numbers are in use as there are, or one is unused
+
+pub in-use-few : (os : Objects) → inUse os ≤ length os
+unfolding inUse
+in-use-few [] = omega arith
+in-use-few (free ∷ os) = let h = in-use-few os in omega arith
+in-use-few (owned k x ∷ os) = let h = in-use-few os in omega arith
+
+unused-in-use : (os : Objects) → unused os ≤ inUse os
+unfolding unused inUse
+unused-in-use [] = omega arith
+unused-in-use (free ∷ os) = omega arith
+unused-in-use (owned k x ∷ os) = let h = unused-in-use os in omega arith
+
+in-use-all : (os : Objects) → inUse os ≡ length os → unused os ≡ length os
+unfolding unused inUse
+in-use-all [] e = refl
+in-use-all (free ∷ os) e = absurd (omega (arith, in-use-few os))
+in-use-all (owned k x ∷ os) e = ap suc (in-use-all os (suc-inj e))
+
+-- 'full' for objects: exactly if 256 are in use
+pub full-in-use : (k : ℕ) (os : Objects) → length os ≤ 256 → roomless k os ≡ true → inUse os ≡ 256
+unfolding roomless
+full-in-use k os l h = omega (arith, leb-true 256 (unused os) h, unused-in-use os, in-use-few os)
+
+pub in-use-full : (k : ℕ) (os : Objects) → length os ≤ 256 → inUse os ≡ 256 → roomless k os ≡ true
+unfolding roomless
+in-use-full k os l e =
+    let n : inUse os ≡ length os = omega (arith, in-use-few os) in
+    le-leb 256 (unused os) (omega (arith, in-use-all os n))
+
+-- An object made: it is there under its number, and every other number means what it meant
+
+pub made-there : (k : ℕ) (x : Object) (os : Objects) → existing (made k x os) (unused os) ≡ some x
+unfolding made unused existing objectHeld
+made-there k x [] = refl
+made-there k x (free ∷ os) = refl
+made-there k x (owned j y ∷ os) = made-there k x os
+
+pub made-keeps : (k : ℕ) (x : Object) (os : Objects) (o : ℕ) (b : Object) → existing os o ≡ some b → existing (made k x os) o ≡ some b
+unfolding made
+made-keeps k x [] o b e = absurd (Option·none-ne-some b (sym (existing-none o) ∙ e))
+made-keeps k x (free ∷ os) zero b e = absurd (Option·none-ne-some b (unfold existing objectHeld in e))
+made-keeps k x (free ∷ os) (suc o) b e = existing-tail (owned k x) os o ∙ (sym (existing-tail free os o) ∙ e)
+made-keeps k x (owned j y ∷ os) zero b e = existing-head (owned j y) (made k x os) ∙ (sym (existing-head (owned j y) os) ∙ e)
+made-keeps k x (owned j y ∷ os) (suc o) b e =
+    existing-tail (owned j y) (made k x os) o ∙ made-keeps k x os o b (sym (existing-tail (owned j y) os o) ∙ e)
+
+pub made-from : (k : ℕ) (x : Object) (os : Objects) (o : ℕ) (b : Object) → existing (made k x os) o ≡ some b → (existing os o ≡ some b) ⊎ ((o ≡ unused os) × (x ≡ b))
+unfolding made unused existing objectHeld
+made-from k x [] zero b e = inr (refl, Option·some-injective x b e)
+made-from k x [] (suc o) b e = absurd (Option·none-ne-some b e)
+made-from k x (free ∷ os) zero b e = inr (refl, Option·some-injective x b e)
+made-from k x (free ∷ os) (suc o) b e = inl e
+made-from k x (owned j y ∷ os) zero b e = inl e
+made-from k x (owned j y ∷ os) (suc o) b e = elim (made-from k x os o b e) [ inl h ↦ inl h | inr h ↦ inr (ap suc (h .0), h .1) ]
+
+pub made-exists : (k : ℕ) (x : Object) (os : Objects) (o : ℕ) → Exists os o → Exists (made k x os) o
+made-exists k x os o h = (h .0, made-keeps k x os o (h .0) (h .1))
+
+-- An object changed: where it exists it becomes the new one, and every other number means what it meant
+
+changed-tail : (y : ObjectRow) (os : Objects) (o : ℕ) (x : Object) → changed (y ∷ os) (suc o) x ≡ y ∷ changed os o x
+unfolding changed
+changed-tail y os o x = go (getElem? os o)
+  where
+    go : (r : Option ObjectRow) → (elim r as (λ _. Objects) [ none ↦ y ∷ os | some z ↦ y ∷ set os o (rewritten x z) ])
+        ≡ y ∷ (elim r as (λ _. Objects) [ none ↦ os | some z ↦ set os o (rewritten x z) ])
+    go none = refl
+    go (some z) = refl
+
+changed-next : (y : ObjectRow) (os : Objects) (o : ℕ) (x : Object) (p : ℕ) → existing (changed (y ∷ os) (suc o) x) (suc p) ≡ existing (changed os o x) p
+changed-next y os o x p = ap (λ (z : Objects). existing z (suc p)) (changed-tail y os o x) ∙ existing-tail y (changed os o x) p
+
+changed-first : (y : ObjectRow) (os : Objects) (o : ℕ) (x : Object) → existing (changed (y ∷ os) (suc o) x) 0 ≡ existing (y ∷ os) 0
+changed-first y os o x = ap (λ (z : Objects). existing z 0) (changed-tail y os o x) ∙ (existing-head y (changed os o x) ∙ sym (existing-head y os))
+
+-- a row behind the one that is changed
+changed-behind : (y : ObjectRow) (os : Objects) (x : Object) (p : ℕ) → existing (changed (y ∷ os) 0 x) (suc p) ≡ existing (y ∷ os) (suc p)
+unfolding changed existing
+changed-behind y os x p = refl
+
+pub changed-there : (os : Objects) (o : ℕ) (b x : Object) → existing os o ≡ some b → existing (changed os o x) o ≡ some x
+changed-there [] o b x e = absurd (Option·none-ne-some b (sym (existing-none o) ∙ e))
+changed-there (free ∷ os) zero b x e = absurd (Option·none-ne-some b (unfold existing objectHeld in e))
+changed-there (owned k y ∷ os) zero b x e = unfold changed existing rewritten objectHeld in refl
+changed-there (y ∷ os) (suc o) b x e = changed-next y os o x o ∙ changed-there os o b x (sym (existing-tail y os o) ∙ e)
+
+pub changed-keeps : (os : Objects) (o : ℕ) (x : Object) (p : ℕ) (b : Object) → existing os p ≡ some b
+    → (existing (changed os o x) p ≡ some b) ⊎ ((p ≡ o) × (existing (changed os o x) p ≡ some x))
+changed-keeps [] o x p b e = absurd (Option·none-ne-some b (sym (existing-none p) ∙ e))
+changed-keeps (y ∷ os) zero x zero b e = inr (refl, changed-there (y ∷ os) 0 b x e)
+changed-keeps (y ∷ os) zero x (suc p) b e = inl (changed-behind y os x p ∙ e)
+changed-keeps (y ∷ os) (suc o) x zero b e = inl (changed-first y os o x ∙ e)
+changed-keeps (y ∷ os) (suc o) x (suc p) b e = elim (changed-keeps os o x p b (sym (existing-tail y os p) ∙ e)) [
+  | inl h ↦ inl (changed-next y os o x p ∙ h)
+  | inr h ↦ inr (ap suc (h .0), changed-next y os o x p ∙ h .1)
+]
+
+pub changed-from : (os : Objects) (o : ℕ) (x : Object) (p : ℕ) (b : Object) → existing (changed os o x) p ≡ some b
+    → (existing os p ≡ some b) ⊎ ((p ≡ o) × (x ≡ b) × Exists os o)
+changed-from [] o x p b e = inl (unfold changed in e)
+changed-from (free ∷ os) zero x zero b e = absurd (Option·none-ne-some b (unfold changed existing rewritten objectHeld in e))
+changed-from (owned k y ∷ os) zero x zero b e =
+    inr (refl, Option·some-injective x b (unfold changed existing rewritten objectHeld in e), (y, unfold existing objectHeld in refl))
+changed-from (y ∷ os) zero x (suc p) b e = inl (sym (changed-behind y os x p) ∙ e)
+changed-from (y ∷ os) (suc o) x zero b e = inl (sym (changed-first y os o x) ∙ e)
+changed-from (y ∷ os) (suc o) x (suc p) b e = elim (changed-from os o x p b (sym (changed-next y os o x p) ∙ e)) [
+  | inl h ↦ inl (existing-tail y os p ∙ h)
+  | inr h ↦ inr (ap suc (h .0), h .1, (h .2 .0, existing-tail y os o ∙ h .2 .1))
+]
+
+pub changed-exists : (os : Objects) (o : ℕ) (x : Object) (p : ℕ) → Exists os p → Exists (changed os o x) p
+changed-exists os o x p h = elim (changed-keeps os o x p (h .0) (h .1)) [ inl e ↦ (h .0, e) | inr e ↦ (x, e .1) ]
+
+-- Numbers and classes last
+
+-- each object of the earlier rows is there in the later ones, by its number and of its class
+abbrev pub Numbered : Objects → Objects → Type 0
+Numbered os qs = (o : ℕ) (b : Object) → existing os o ≡ some b → (d : Object) × (existing qs o ≡ some d) × (d .class ≡ b .class)
+
+pub numbered-same : (os : Objects) → Numbered os os
 numbered-same os o b h = (b, h, refl)
 
-pub numbered-join : (os ps qs : List Object) → Numbered os ps → Numbered ps qs → Numbered os qs
+pub numbered-join : (os ps qs : Objects) → Numbered os ps → Numbered ps qs → Numbered os qs
 numbered-join os ps qs y z o b h = let c = y o b h in let d = z o (c .0) (c .1) in (d .0, d .1, d .2 ∙ c .2)
 
--- an object with other values
-abbrev pub changed : List Object → ℕ → Object → List Value → List Object
-changed os o b vs = set os o (record { class = b .class; values = vs })
+pub numbered-exists : (os qs : Objects) → Numbered os qs → (o : ℕ) → Exists os o → Exists qs o
+numbered-exists os qs n o h = let d = n o (h .0) (h .1) in (d .0, d .1)
 
-pub numbered-changed : (os : List Object) (o : ℕ) (b : Object) (vs : List Value) → getElem? os o ≡ some b → Numbered os (changed os o b vs)
-numbered-changed os o b vs h x y e = go (nth-set os o (record { class = b .class; values = vs }) x y e)
-  where
-    go : (d : Object) × (getElem? (changed os o b vs) x ≡ some d) × ((d ≡ y) ⊎ ((x ≡ o) × (d ≡ record { class = b .class; values = vs })))
-        → (d : Object) × (getElem? (changed os o b vs) x ≡ some d) × (d .class ≡ y .class)
-    go (d, a, inl z) = (d, a, ap (λ (q : Object). q .class) z)
-    go (d, a, inr z) =
-        let s : b ≡ y = Option·some-injective b y (sym h ∙ sym (ap (getElem? os) (z .0)) ∙ e) in
-        (d, a, ap (λ (q : Object). q .class) (z .1) ∙ ap (λ (q : Object). q .class) s)
+pub numbered-changed : (os : Objects) (o : ℕ) (b x : Object) → existing os o ≡ some b → x .class ≡ b .class → Numbered os (changed os o x)
+numbered-changed os o b x h s p y e = elim (changed-keeps os o x p y e) [
+  | inl g ↦ (y, g, refl)
+  | inr g ↦ (x, g .1, s ∙ ap (λ (z : Object). z .class) (Option·some-injective b y (sym h ∙ (sym (ap (existing os) (g .0)) ∙ e))))
+]
 
--- one object more
-pub numbered-more : (os : List Object) (b : Object) → Numbered os (os ++ (b ∷ []))
-numbered-more os b x y e = (y, nth-more os (b ∷ []) x y e, refl)
+pub numbered-made : (k : ℕ) (x : Object) (os : Objects) → Numbered os (made k x os)
+numbered-made k x os o b e = (b, made-keeps k x os o b e, refl)

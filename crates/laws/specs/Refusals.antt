@@ -22,10 +22,10 @@ use Rattle.definition.specs.Classes.{Base, Class, find}
 use Rattle.definition.specs.Constraints.{Tie, World, agrees, post}
 use Rattle.definition.specs.File.{File, readFile}
 use Rattle.definition.specs.Instructions.{Decoded}
-use Rattle.definition.specs.Machine.{Value, emptyValue, intValue, nullValue, objectValue, unlistedValue, Object, Frame, Now, pop!, int!, reference!, ofKind!, kind!, compute, room!, object!, now, under!, give, execute, step}
+use Rattle.definition.specs.Machine.{Value, emptyValue, intValue, nullValue, objectValue, unlistedValue, Object, Objects, Frame, Now, pop!, int!, reference!, ofKind!, kind!, compute, room!, object!, now, under!, give, execute, step}
 use Rattle.definition.specs.Loading.{define, recorded, started, withEntry}
 use Rattle.definition.specs.Tables.{Rows, worldOf}
-use Rattle.definition.specs.Calls.{stepRefusals, refusalsOf, Call, callBoot, callDefine, callRecord, callStart, callStep, callRun, callDrop, defineRows, recordRows, startRows, dropRows, stepTask, stepOn, stepRows, RowCall, rowDefine, rowRecord, rowStart, rowDrop, onRowCall, callRows, rowRefusals}
+use Rattle.definition.specs.Calls.{stepRefusals, refusalsOf, Call, callBoot, callDefine, callRecord, callStart, callStep, callRun, callDrop, defineRows, recordRows, startRows, dropRows, sweepRows, stepTask, stepOn, stepRows, RowCall, rowDefine, rowRecord, rowStart, rowDrop, rowSweep, onRowCall, callRows, rowRefusals}
 
 -- what holds of the refusal, if it is one
 abbrev pub Refuses : {A : Type 0} → (Refusal → Type 0) → Result A → Type 0
@@ -100,7 +100,7 @@ module _ (P : Refusal → Type 0) (stuck : P (Word 14)) (full : P (Word 10)) (cl
   compute-refuses Add a b = tt
   compute-refuses Subtract a b = tt
 
-  object-refuses : (w : Base) (os : List Object) (e : ℕ) (v : Value) → Refuses P (object! w os e v)
+  object-refuses : (w : Base) (os : Objects) (e : ℕ) (v : Value) → Refuses P (object! w os e v)
   unfolding object!
   object-refuses w os e emptyValue = stuck
   object-refuses w os e (intValue n) = stuck
@@ -108,7 +108,7 @@ module _ (P : Refusal → Type 0) (stuck : P (Word 14)) (full : P (Word 10)) (cl
   object-refuses w os e (objectValue o) = on-take P _ _ _ (λ _. stuck) (λ _ _. on-need P _ _ _ stuck (λ _. tt))
   object-refuses w os e (unlistedValue k b) = stuck
 
-  give-refuses : (fs : List Frame) (w : World) (os : List Object) (v : Value) → Refuses P (give fs w os v)
+  give-refuses : (fs : List Frame) (w : World) (os : Objects) (v : Value) → Refuses P (give fs w os v)
   unfolding give
   give-refuses [] w os v = on-bind P (int! v) _ (int-refuses v) (λ _ _. tt)
   give-refuses (g ∷ gs) w os v = tt
@@ -140,11 +140,11 @@ module _ (P : Refusal → Type 0) (stuck : P (Word 14)) (full : P (Word 10)) (cl
   unfolding post
   posting w t us f k = on-bind P _ f (on-need P _ _ _ full (λ _. on-need P _ _ _ clash (λ _. tt))) (λ v _. k v)
 
-  receiver : {B : Type 0} (w : Base) (os : List Object) (e : ℕ) (v : Value) (f : record { number : ℕ; object : Object } → Result B) → ((o : record { number : ℕ; object : Object }) → Refuses P (f o)) → Refuses P (object! w os e v >>= f)
+  receiver : {B : Type 0} (w : Base) (os : Objects) (e : ℕ) (v : Value) (f : record { number : ℕ; object : Object } → Result B) → ((o : record { number : ℕ; object : Object }) → Refuses P (f o)) → Refuses P (object! w os e v >>= f)
   receiver w os e v f k = on-bind P (object! w os e v) f (object-refuses w os e v) (λ o _. k o)
 
-  module _ (w : World) (os : List Object) (f : Frame) (fs : List Frame) (k : Class) (i : Decoded) where
-    pub execute-refuses : (j : Instruction) → ((c : ℕ) → classIn j ≡ some c → find (w .base .cache) (at (k .loader) c) ≡ none → P (wanted (at (k .loader) c))) → Refuses P (execute w os f fs k i j)
+  module _ (task : ℕ) (w : World) (os : Objects) (f : Frame) (fs : List Frame) (k : Class) (i : Decoded) where
+    pub execute-refuses : (j : Instruction) → ((c : ℕ) → classIn j ≡ some c → find (w .base .cache) (at (k .loader) c) ≡ none → P (wanted (at (k .loader) c))) → Refuses P (execute task w os f fs k i j)
     unfolding execute
     execute-refuses AconstNull h = room _ _ (λ _. tt)
     execute-refuses (Sipush n) h = room _ _ (λ _. tt)
@@ -167,13 +167,13 @@ module _ (P : Refusal → Type 0) (stuck : P (Word 14)) (full : P (Word 10)) (cl
     execute-refuses (Return kind) h = under fs _ (λ _. popped _ _ (λ p. of-kind kind (p .top) _ (λ _. give-refuses fs w os (p .top))))
 
   -- what the frame whose turn it is needs: at its point an instruction that names class c
-  pub step-refuses : (w : World) (os : List Object) (f : Frame) (fs : List Frame)
+  pub step-refuses : (task : ℕ) (w : World) (os : Objects) (f : Frame) (fs : List Frame)
       → ((n : Now) (c : ℕ) → now w f ≡ ok n → classIn (n .at .instruction) ≡ some c → find (w .base .cache) (at (n .theClass .loader) c) ≡ none → P (wanted (at (n .theClass .loader) c)))
-      → Refuses P (step w os f fs)
+      → Refuses P (step task w os f fs)
   unfolding step now
-  step-refuses w os f fs h =
+  step-refuses task w os f fs h =
       on-bind P (now w f) _ (local _ _ (λ _. local _ _ (λ _. local _ _ (λ _. tt))))
-      (λ n e. execute-refuses w os f fs (n .theClass) (n .at) (n .at .instruction) (λ c. h n c e))
+      (λ n e. execute-refuses task w os f fs (n .theClass) (n .at) (n .at .instruction) (λ c. h n c e))
 
 -- The calls
 
@@ -198,6 +198,7 @@ RowNeeds (rowDefine k bs) r l n = (f : File) × (readFile bs ≡ some f) × (l �
 RowNeeds (rowRecord k x c) r l n = ⊥
 RowNeeds (rowStart j k x m v) r l n = (l ≡ k) × (n ≡ x)
 RowNeeds (rowDrop j) r l n = ⊥
+RowNeeds rowSweep r l n = ⊥
 
 abbrev pub Needs : Call → Rows → ℕ → ℕ → Type 0
 Needs callBoot r l n = ⊥
@@ -222,8 +223,8 @@ step-due r = go (r .quote) (r .report) (λ f fs e. e)
     P = Due callStep r
 
     task : (k : ℕ) (f : Frame) (fs : List Frame) → running (r .quote) (r .report) ≡ f ∷ fs → Refuses P (stepTask k (worldOf r) f fs r)
-    task k f fs q = unfold stepTask in on-bind P (step (worldOf r) (r .objects) f fs) _
-        (step-refuses P refl refl refl refl refl (worldOf r) (r .objects) f fs (λ n c e i m. (refl, record { frame = f; others = fs; turn = q; reads = n; isNow = e; names = i; loader = refl }, m))) (λ _ _. tt)
+    task k f fs q = unfold stepTask in on-bind P (step k (worldOf r) (r .objects) f fs) _
+        (step-refuses P refl refl refl refl refl k (worldOf r) (r .objects) f fs (λ n c e i m. (refl, record { frame = f; others = fs; turn = q; reads = n; isNow = e; names = i; loader = refl }, m))) (λ _ _. tt)
 
     go : (q p : List Frame) → ((f : Frame) (fs : List Frame) → running q p ≡ f ∷ fs → running (r .quote) (r .report) ≡ f ∷ fs) → Refuses P (stepOn q p (worldOf r) r)
     go (f ∷ fs) p s = unfold stepOn in task 0 f fs (s f fs refl)
@@ -270,3 +271,4 @@ rows-due (rowDefine l bs) r = define-due l bs r
 rows-due (rowRecord l n c) r = record-due l n c r
 rows-due (rowStart k l n m v) r = start-due k l n m v r
 rows-due (rowDrop k) r = drop-due k r
+rows-due rowSweep r = unfold sweepRows in tt

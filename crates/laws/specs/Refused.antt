@@ -12,7 +12,7 @@ use Rattle.definition.specs.declared.Refusal.the-variants.{Wanted, Word}
 use Rattle.definition.specs.declared.Answer.{Answer}
 use Rattle.definition.specs.declared.Answer.the-variants.{Idle, Ran, Finished, Refused}
 use Rattle.definition.specs.declared.Reply.{Reply}
-use Rattle.definition.specs.declared.Reply.the-variants.{Accepted, Defined, Stepped, RanFor, Denied}
+use Rattle.definition.specs.declared.Reply.the-variants.{Accepted, Defined, Stepped, RanFor, Swept, Denied}
 use Rattle.definition.specs.Lists.{any}
 use Rattle.definition.specs.Requests.{at}
 use Rattle.definition.specs.Answers.{number, Result, refused, ok}
@@ -21,7 +21,7 @@ use Rattle.definition.specs.Constraints.{World}
 use Rattle.definition.specs.Machine.{Frame}
 use Rattle.definition.specs.Tables.{Tables, shaped, Rows, worldOf, view, put}
 use Rattle.definition.specs.Broken.{broken}
-use Rattle.definition.specs.Calls.{Given, bootRows, defineRows, recordRows, startRows, dropRows, answerOf, stepTask, stepOn, stepRows, Done, done, wrap, boot, stepTables, runFrom, run, Call, callBoot, callStep, callRun, stepRefusals, refusalsOf, perform, RowCall, rowDefine, rowRecord, rowStart, rowDrop, onRowCall, callRows}
+use Rattle.definition.specs.Calls.{Given, bootRows, defineRows, recordRows, startRows, dropRows, sweepRows, answerOf, stepTask, stepOn, stepRows, Done, done, wrap, boot, stepTables, runFrom, run, Call, callBoot, callStep, callRun, stepRefusals, refusalsOf, perform, RowCall, rowDefine, rowRecord, rowStart, rowDrop, rowSweep, onRowCall, callRows}
 use Rattle.laws.specs.Wrapped.{wrapped, Ok, then, ok-at}
 use Rattle.laws.specs.Runs.{after, run-is, run-ends-refused}
 use Rattle.laws.specs.Refusals.{Refuses, Needs, Due, due-listed, step-due, rows-due}
@@ -35,6 +35,7 @@ refusal (Stepped (Ran k)) = none
 refusal (Stepped (Finished k n)) = none
 refusal (Stepped (Refused w)) = some w
 refusal (RanFor k s) = none
+refusal (Swept n) = none
 refusal (Denied w) = some w
 
 abbrev pub Taken : Given Reply → Type 0
@@ -66,6 +67,7 @@ rows-taken (rowDefine l bs) r = define-taken l bs r
 rows-taken (rowRecord l n c) r = record-taken l n c r
 rows-taken (rowStart k l n m v) r = start-taken k l n m v r
 rows-taken (rowDrop k) r = drop-taken k r
+rows-taken rowSweep r = unfold sweepRows in refl
 
 answer-went : (k : ℕ) (o : Option ℕ) → refusal (Stepped (answerOf k o)) ≡ none
 unfolding answerOf
