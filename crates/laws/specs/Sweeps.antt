@@ -30,11 +30,11 @@ reached-found os fs o r = chain-reached numbers (links os) (roots fs) (r .root) 
 
 -- Links go from an object that exists to those that its values name
 
-member-left : {A : Type 0} {x : A} (xs ys : List A) → List·Memᴰ x xs → List·Memᴰ x (xs ++ ys)
+pub member-left : {A : Type 0} {x : A} (xs ys : List A) → List·Memᴰ x xs → List·Memᴰ x (xs ++ ys)
 member-left (y ∷ xs) ys (List·Memᴰ·head e) = List·Memᴰ·head e
 member-left (y ∷ xs) ys (List·Memᴰ·tail m) = List·Memᴰ·tail (member-left xs ys m)
 
-member-right : {A : Type 0} {x : A} (xs ys : List A) → List·Memᴰ x ys → List·Memᴰ x (xs ++ ys)
+pub member-right : {A : Type 0} {x : A} (xs ys : List A) → List·Memᴰ x ys → List·Memᴰ x (xs ++ ys)
 member-right [] ys m = m
 member-right (y ∷ xs) ys m = List·Memᴰ·tail (member-right xs ys m)
 
