@@ -151,15 +151,16 @@ unfolding sweptFrom
 swept-length R i [] = refl
 swept-length R i (x ∷ os) = ap suc (swept-length R (suc i) os)
 
+free-either : (u : Bool) → pick u free free ≡ free
+unfolding pick
+free-either true = refl
+free-either false = refl
+
 -- as many as are freed are no longer in use
 pub swept-freed : (R : List ℕ) (i : ℕ) (os : Objects) → inUse os ≡ inUse (sweptFrom R i os) + freedFrom R i os
 unfolding sweptFrom freedFrom inUse
 swept-freed R i [] = refl
 swept-freed R i (free ∷ os) = rw (free-either (has eqb i R)) (swept-freed R (suc i) os)
-  where
-    free-either : (u : Bool) → pick u free free ≡ free
-    free-either true = unfold pick in refl
-    free-either false = unfold pick in refl
 swept-freed R i (owned k x ∷ os) = go (has eqb i R) (swept-freed R (suc i) os)
   where
     go : (u : Bool) → inUse os ≡ inUse (sweptFrom R (suc i) os) + freedFrom R (suc i) os
@@ -167,6 +168,18 @@ swept-freed R i (owned k x ∷ os) = go (has eqb i R) (swept-freed R (suc i) os)
         + (elim u as (λ _. ℕ) [ true ↦ freedFrom R (suc i) os | false ↦ suc (freedFrom R (suc i) os) ])
     go true e = unfold pick in omega arith
     go false e = unfold pick in omega arith
+
+-- where none is freed, the rows are as they were
+pub none-freed : (R : List ℕ) (i : ℕ) (os : Objects) → freedFrom R i os ≡ 0 → sweptFrom R i os ≡ os
+unfolding sweptFrom freedFrom pick
+none-freed R i [] h = refl
+none-freed R i (free ∷ os) h = let r : sweptFrom R (suc i) os ≡ os = none-freed R (suc i) os h in λ j. free-either (has eqb i R) j ∷ r j
+none-freed R i (owned k x ∷ os) h = go (has eqb i R) h (none-freed R (suc i) os)
+  where
+    go : (u : Bool) → _≡_ {A = ℕ} (elim u as (λ _. ℕ) [ true ↦ freedFrom R (suc i) os | false ↦ suc (freedFrom R (suc i) os) ]) 0 → (freedFrom R (suc i) os ≡ 0 → sweptFrom R (suc i) os ≡ os)
+        → _≡_ {A = Objects} (pick u (owned k x) free ∷ sweptFrom R (suc i) os) (owned k x ∷ os)
+    go true e f = let r : sweptFrom R (suc i) os ≡ os = f e in λ j. owned k x ∷ r j
+    go false e f = absurd (omega arith)
 
 -- What a sweep leaves
 
