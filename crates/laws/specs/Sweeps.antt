@@ -7,7 +7,6 @@ use mathlib.Core.List.{List, [], _∷_, _++_, map, List·Memᴰ, List·Memᴰ·h
 use mathlib.Core.Logic.{_⊎_, inl, inr}
 use Prim.Native.Nat.{ℕ, zero, suc, _+_}
 use native.Mathlib.Omega.{arith}
-use lib.ListN.{length}
 use lib.Dec.{eqb}
 use Rattle.definition.specs.Chains.{Edge, Chain, stay, hop, has, reachFrom}
 use Rattle.definition.specs.Instructions.{pick}
@@ -145,11 +144,6 @@ swept-from R i (x ∷ os) (suc o) =
 
 pub swept-is : (R : List ℕ) (os : Objects) (o : ℕ) → existing (sweptFrom R 0 os) o ≡ pick (has eqb o R) (existing os o) none
 swept-is R os o = let z : 0 + o ≡ o = omega arith in rw z at (swept-from R 0 os o)
-
-pub swept-length : (R : List ℕ) (i : ℕ) (os : Objects) → length (sweptFrom R i os) ≡ length os
-unfolding sweptFrom
-swept-length R i [] = refl
-swept-length R i (x ∷ os) = ap suc (swept-length R (suc i) os)
 
 free-either : (u : Bool) → pick u free free ≡ free
 unfolding pick

@@ -15,7 +15,8 @@ use Rattle.definition.specs.Machine.{Value, emptyValue, intValue, nullValue, ob
 use Rattle.definition.specs.Sweeping.{named, roots, Reached, reached, sweptFrom}
 use Rattle.definition.specs.Tables.{Rows, worldOf, withObjects}
 use Rattle.laws.specs.Objects.{existing-tail}
-use Rattle.laws.specs.Sweeps.{member-left, member-right, roots-left, roots-right, found-reached, names-link, swept-length, swept, sweep-keeps}
+use Rattle.laws.specs.Sweeps.{member-left, member-right, roots-left, roots-right, found-reached, names-link, swept, sweep-keeps}
+use Rattle.layout.specs.OwnedRows.{swept-length}
 use Rattle.layout.specs.Tests.{All}
 use Rattle.layout.specs.Whole.{Local, ValueSound, RowSound, Framed, Whole}
 
