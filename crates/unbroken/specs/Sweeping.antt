@@ -127,8 +127,8 @@ sweep-twice t h =
     let s : view u ≡ withObjects (swept (view t .objects) (allFrames (view t))) (view t) = sweep-shows t h in
     let none : freed (view u .objects) (allFrames (view u)) ≡ 0 = ap (λ (r : Rows). freed (r .objects) (allFrames r)) s ∙ sweep-rests (view t .objects) (allFrames (view t)) in
     let same : withObjects (swept (view u .objects) (allFrames (view u))) (view u) ≡ view u =
-        ap (λ (r : Rows). withObjects (swept (r .objects) (allFrames r)) r) s
-        ∙ (ap (λ (qs : Objects). withObjects qs (view t)) (sweep-again (view t .objects) (allFrames (view t))) ∙ sym s) in
+    ap (λ (r : Rows). withObjects (swept (r .objects) (allFrames r)) r) s
+    ∙ (ap (λ (qs : Objects). withObjects qs (view t)) (sweep-again (view t .objects) (allFrames (view t))) ∙ sym s) in
     sweep-done u b ∙ λ i. done (Swept (none i)) ((ap (λ (r : Rows). put r u) same ∙ put-view u) i)
 
 -- No place names an object that doesn't exist, of rows that are whole: a freed number stands nowhere
