@@ -1,6 +1,6 @@
--- Laws that the proofs of the tests share: of joined tests, of a value's cells, of files and of sizes.
-use mathlib.Core.Path.{_≡_, refl, sym, ap, _∙_}
-use mathlib.Core.Bool.{Bool, true, false}
+-- Laws that the proofs of the tests share: of joined tests, of a value's cells, of files, of sizes and of the verdict.
+use mathlib.Core.Path.{_≡_, refl, sym, ap, subst, _∙_}
+use mathlib.Core.Bool.{Bool, true, false, not}
 use mathlib.Core.Option.{Option, none, some}
 use mathlib.Core.List.{List, [], _∷_}
 use Prim.Native.Nat.{ℕ, zero, suc, _+_, _*_, _-_, _≤_, _<_}
@@ -8,25 +8,26 @@ use native.Mathlib.Omega.{arith}
 use lib.ListN.{length, getD, set}
 use lib.Seq.{getD-set-same, getD-set-other}
 use lib.Dec.{eqb, leb, ltb}
-use borrow.Author.Tests.{ne-eqb, lt-ltb, le-ltb, le-leb, lt-leb, leb-true, eqb-true, eqb-false}
+use borrow.Author.Tests.{ne-eqb, lt-ltb, le-ltb, le-leb, lt-leb, leb-true, eqb-true, eqb-false, not-false}
 use Rattle.definition.specs.Lists.{every, all, isSome, rows, stack}
 use Rattle.definition.specs.Instructions.{pick}
 use Rattle.definition.specs.Classes.{Base, superOf}
 use Rattle.definition.specs.Machine.{Value, emptyValue, intValue, nullValue, objectValue, unlistedValue, Object}
-use Rattle.definition.specs.Tables.{ClassRow, sizeOf, valueOf, classRowAt, usedFields, objectAt, ownedBy, ownerAt, objectRowAt, localAt, operandAt, frameOf, frameAt}
-use Rattle.definition.specs.Broken.{isObject}
+use Rattle.definition.specs.Tables.{Tables, ClassRow, sizeOf, valueOf, classRowAt, usedFields, objectAt, ownedBy, ownerAt, objectRowAt, localAt, operandAt, frameOf, frameAt}
+use Rattle.definition.specs.Broken.{isObject, broken}
 use Rattle.laws.specs.Agreement.{super-falls}
 use Rattle.layout.specs.Tests.{every-true}
 use Rattle.layout.specs.Places.{stack-length}
+use Rattle.layout.specs.Unbroken.{within-true}
 use Rattle.classfile.specs.Lists.{every-first, every-fails, every-last}
 use Rattle.classfile.specs.Reading.{fieldCount}
-use Rattle.resolution.specs.Quick.{quickBase, fileIn, file-there, file-past, either}
+use Rattle.resolution.specs.Quick.{quickBase, quickOf, fileIn, file-there, file-past, either}
 use Rattle.resolution.specs.Slots.{size-none, size-some, own-size}
-use Rattle.resolution.specs.Unbroken.{part-none}
+use Rattle.resolution.specs.Unbroken.{part-none, quick-base}
 use Rattle.store.specs.declared.Fields.{Fields}
 use Rattle.store.specs.declared.Fields.the-variants.{Count, Unfit}
-use Rattle.store.specs.Checks.{fileFits, sourcesFit, linked, linkedSize, Sized, sizedObject, objectSized, exists, valueIn, localIn, objectIn, frameFit}
-use Rattle.store.specs.Same.{sources-first}
+use Rattle.store.specs.Checks.{fileFits, sourcesFit, linked, linkedSize, Sized, sizedObject, objectSized, exists, valueIn, localIn, objectIn, frameFit, valuesFit, readable, checks, Tested}
+use Rattle.store.specs.Same.{sources-first, checks-broken}
 
 -- Whether an object exists
 
@@ -237,7 +238,7 @@ module _ (counts classes kept cache : List ℕ) where
       go (some p) e = absurd (omega (arith, super-falls base 0 p e))
 
   -- Object has no fields
-  pub object-size : sourcesFit (getD counts 1 0) kept (rows (classRowAt classes) (getD counts 0 0) 0) ≡ true → sizeOf base 0 ≡ 0
+  object-size : sourcesFit (getD counts 1 0) kept (rows (classRowAt classes) (getD counts 0 0) 0) ≡ true → sizeOf base 0 ≡ 0
   unfolding fieldCount
   object-size h = size-none base 0 no-super ∙ (own-size counts classes kept cache 0 ∙ rw (object-file h))
 
@@ -248,3 +249,31 @@ pub frame-tests : (t : List ℕ) (b n : ℕ) (X : ℕ → Bool)
     ≡ every (ltb (getD t b 0) n ∷ leb (getD t (b + 3) 0) 16 ∷ all (valueIn X) (stack (operandAt t b) (getD t (b + 3) 0)) ∷ all (localIn X) (rows (localAt t b) 8 0) ∷ [])
 unfolding frameFit frameAt frameOf
 frame-tests t b n X = rw (stack-length (operandAt t b) (getD t (b + 3) 0))
+
+-- The verdict
+
+module _ (t : Tables) where
+  pub unreadable : readable t ≡ false → true ≡ broken t
+  unfolding checks
+  unreadable h = sym (checks-broken t ∙ ap not (every-fails _ _ h))
+
+  module _ (h : readable t ≡ true) where
+    pub verdict-values : (v : Bool) → v ≡ valuesFit (quickOf t) (t .counts) (t .objects) (t .frames) → not v ≡ broken t
+    unfolding checks
+    verdict-values v e = ap not e ∙ sym (checks-broken t ∙ ap not (every-first _ _ h ∙ every-last _))
+
+    -- what the values' tests ask
+    pub readable-few : getD (t .counts) 0 0 ≤ 64
+    unfolding readable
+    readable-few = within-true (t .counts) (every-true _ h .1 .0) .classes
+
+    pub readable-object : sizeOf (quickOf t) 0 ≡ 0
+    unfolding readable
+    readable-object = object-size (t .counts) (t .classes) (t .kept) (t .cache) (every-true _ h .1 .1 .0)
+
+    pub tested : (v : Bool) (sizes : List ℕ) → v ≡ valuesFit (quickOf t) (t .counts) (t .objects) (t .frames) → (v ≡ true → Sized (quickOf t) (getD (t .counts) 0 0) sizes)
+        → Tested t (not v) sizes
+    tested v sizes e s = record {
+      verdict = verdict-values v e;
+      sized = λ q. subst (λ (b : Base). Sized b (getD (t .counts) 0 0) sizes) (quick-base t (sym (verdict-values v e) ∙ q)) (s (not-false v q));
+    }

@@ -10,8 +10,8 @@ use Rattle.definition.specs.Lists.{every, all, isSome, rows, stack}
 use Rattle.definition.specs.Classes.{Base, superOf}
 use Rattle.definition.specs.Machine.{Value, emptyValue, intValue, nullValue, objectValue, unlistedValue, Object, ObjectRow, free, owned, Frame}
 use Rattle.definition.specs.File.{readFile}
-use Rattle.definition.specs.Tables.{Tables, shaped, ClassRow, classRowAt, entryAt, tieAt, subtypeAt, fieldAt, ownedBy, ownerAt, objectRowAt, frameIn, sizeOf}
-use Rattle.definition.specs.Broken.{within, isObject, entryFits, tieFits, subtypeFits}
+use Rattle.definition.specs.Tables.{Tables, shaped, ClassRow, classRowAt, entryAt, tieAt, subtypeAt, fieldAt, ownedBy, ownerAt, objectRowAt, frameIn, sizeOf, viewBase}
+use Rattle.definition.specs.Broken.{within, isObject, entryFits, tieFits, subtypeFits, broken}
 use Rattle.classfile.specs.Reading.{partOf}
 use Rattle.resolution.specs.Quick.{quickOf}
 use Rattle.store.specs.declared.Fields.{Fields}
@@ -105,11 +105,19 @@ valuesFit b counts objects frames = every
 
 -- All together
 
-unfoldable pub checks : Tables → Bool
-checks t = every
+-- lengths, counts, files and rows: after these, classes are read at once
+unfoldable pub readable : Tables → Bool
+readable t = every
     (shaped t
     ∷ within (t .counts)
     ∷ sourcesFit (getD (t .counts) 1 0) (t .kept) (rows (classRowAt (t .classes)) (getD (t .counts) 0 0) 0)
     ∷ rowsFit (t .counts) (t .cache) (t .ties) (t .subtypes)
-    ∷ valuesFit (quickOf t) (t .counts) (t .objects) (t .frames)
     ∷ [])
+
+unfoldable pub checks : Tables → Bool
+checks t = every (readable t ∷ valuesFit (quickOf t) (t .counts) (t .objects) (t .frames) ∷ [])
+
+-- what the tests leave: the verdict, and if the tables are not broken, how many fields each class has
+pub record Tested (t : Tables) (v : Bool) (sizes : List ℕ) : Type 0 where
+  pub verdict : v ≡ broken t
+  pub sized : v ≡ false → Sized (viewBase t) (getD (t .counts) 0 0) sizes

@@ -25,7 +25,7 @@ use Rattle.classfile.specs.Searches.{file-part}
 use Rattle.classfile.specs.Lists.{every-first, every-fails}
 use Rattle.resolution.specs.Quick.{either}
 use Rattle.resolution.specs.Unbroken.{Sources, part-same, part-within, part-reads, quick-view, row-first, row-other}
-use Rattle.store.specs.Checks.{fileFits, sourcesFit, linked, linksFit, number, exists, valueIn, localIn, objectIn, frameFit, rowsFit, objectsFit, framesFit, valuesFit, checks}
+use Rattle.store.specs.Checks.{fileFits, sourcesFit, linked, linksFit, number, exists, valueIn, localIn, objectIn, frameFit, rowsFit, objectsFit, framesFit, valuesFit, readable, checks}
 
 -- Values: an object exists exactly if its row has been used and has an owner
 
@@ -201,14 +201,15 @@ enough : (t : Tables) → shaped t ≡ true → within (t .counts) ≡ true → 
 enough t s w = omega (arith, shaped-true t s .kept, within-true (t .counts) w .kept)
 
 checks-sound : (t : Tables) → checks t ≡ true → whole t ≡ true
-unfolding checks whole sound view viewOver rowsFit valuesFit
+unfolding checks readable whole sound view viewOver rowsFit valuesFit
 checks-sound t h =
-    let p = every-true _ h in
+    let k = every-true _ h in
+    let p = every-true _ (k .0) in
     let bytes = enough t (p .0) (p .1 .0) in
     let s = fit-sources t bytes (p .1 .1 .0) in
     let e = quick-view t s in
     let r = every-true _ (p .1 .1 .1 .0) in
-    let v = every-true _ (p .1 .1 .1 .1 .0) in
+    let v = every-true _ (k .1 .0) in
     let n = getD (t .counts) 0 0 in
     let b = viewBase t in
     let classes : Classes b (keptOf t) (classRowsOf t) =
@@ -244,7 +245,7 @@ checks-sound t h =
     )
 
 sound-checks : (t : Tables) → whole t ≡ true → checks t ≡ true
-unfolding checks whole sound view viewOver rowsFit valuesFit
+unfolding checks readable whole sound view viewOver rowsFit valuesFit
 sound-checks t h =
     let p = every-true _ h in
     let q = every-true _ (p .1 .1 .0) in
@@ -257,25 +258,25 @@ sound-checks t h =
     let e = quick-view t (fit-sources t bytes files) in
     let links = said-links b n (λ c i j. let s = row-other b (keptOf t) g n k c i j in (some-is _ _ (s .isSuper), s .size)) in
     true-every _ (
-      p .0,
-      (
-        p .1 .0,
+      true-every _ (
+        p .0,
         (
-          files,
+          p .1 .0,
           (
-            true-every _ (ap (λ (m : ℕ). all (entryFits m) (cacheOf t)) (sym (classes-number t)) ∙ q .1 .0, (q .1 .1 .0, (q .1 .1 .1 .0, tt))),
-            (
-              true-every _ (
-                ap (λ (d : Base). linksFit d n) e ∙ links,
-                (
-                  ap (λ (d : Base). objectsFit d (t .counts) (t .objects)) e ∙ (sym (objects-same t b) ∙ q .1 .1 .1 .1 .0),
-                  (sym (frames-same t b 0) ∙ q .1 .1 .1 .1 .1 .0, (sym (frames-same t b 1) ∙ q .1 .1 .1 .1 .1 .1 .0, tt)),
-                ),
-              ),
-              tt,
-            ),
+            files,
+            (true-every _ (ap (λ (m : ℕ). all (entryFits m) (cacheOf t)) (sym (classes-number t)) ∙ q .1 .0, (q .1 .1 .0, (q .1 .1 .1 .0, tt))), tt),
           ),
         ),
+      ),
+      (
+        true-every _ (
+          ap (λ (d : Base). linksFit d n) e ∙ links,
+          (
+            ap (λ (d : Base). objectsFit d (t .counts) (t .objects)) e ∙ (sym (objects-same t b) ∙ q .1 .1 .1 .1 .0),
+            (sym (frames-same t b 0) ∙ q .1 .1 .1 .1 .1 .0, (sym (frames-same t b 1) ∙ q .1 .1 .1 .1 .1 .1 .0, tt)),
+          ),
+        ),
+        tt,
       ),
     )
 
