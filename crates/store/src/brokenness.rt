@@ -152,15 +152,7 @@ pub fn is_broken(
         return true;
     }
     let mut sizes = [0u8; CLASS_LIMIT as usize];
-    !values_fit(
-        &mut sizes,
-        counts,
-        classes,
-        kept,
-        cache,
-        objects,
-        frames,
-    )
+    !values_fit(&mut sizes, counts, classes, kept, cache, objects, frames)
 }
 
 // The same, with the number of fields of each class, if the tables are not broken.
@@ -187,16 +179,14 @@ pub fn class_sizes(
         objects,
         frames,
     ) {
-        return Sizes { broken: true, fields: sizes };
+        return Sizes {
+            broken: true,
+            fields: sizes,
+        };
     }
-    let fit = values_fit(
-        &mut sizes,
-        counts,
-        classes,
-        kept,
-        cache,
-        objects,
-        frames,
-    );
-    Sizes { broken: !fit, fields: sizes }
+    let fit = values_fit(&mut sizes, counts, classes, kept, cache, objects, frames);
+    Sizes {
+        broken: !fit,
+        fields: sizes,
+    }
 }
