@@ -1,4 +1,4 @@
--- What the machine answers on rows in the proved cases and in the paper's worked example: computed, all at once.
+-- What the machine answers on rows in the proved cases and in the paper's worked example: computed, a table at once.
 use mathlib.Core.Path.{_≡_, refl, sym}
 use mathlib.Core.Bool.{Bool, true, false, false≢true}
 use mathlib.Core.Option.{none, some}
@@ -18,16 +18,18 @@ use Rattle.definition.specs.Constraints.{tieEdges, subtypeEdges, edges, pairAgr
 use Rattle.definition.specs.File.{byte, short, name, count, fieldsIn, signatureIn, methodsIn, ends, sameField, sameMethod, readFile}
 use Rattle.definition.specs.Instructions.{pick, opcodeOf, inlineLength, shortAt, extend, instructionOf, sizedAs, decode}
 use Rattle.definition.specs.Verifier.{typeOfName, meetClass, meetInt, meets, meetKind, pop, effect, returns, returnKind, verify, typesAt, notesOfMethod, notesOf}
-use Rattle.definition.specs.Machine.{existing, initialValue, newObject, pop!, int!, reference!, ofKind!, kind!, compute, room!, object!, now, under!, give, execute, step}
+use Rattle.definition.specs.Machine.{objectHeld, existing, inUse, unused, made, roomless, rewritten, changed, initialValue, newObject, pop!, int!, reference!, ofKind!, kind!, compute, room!, object!, now, under!, give, execute, step}
 use Rattle.definition.specs.Loading.{subtypeIs, newSubtypes, overrideTie, overrideTies, hides, define, recorded, started}
+use Rattle.definition.specs.Sweeping.{named, roots, linksFrom, reached, sweptFrom, freedFrom}
 use Rattle.definition.specs.Tables.{Rows, fileAt, classAt}
-use Rattle.definition.specs.Calls.{turn, turnOf, bootRows, defineRows, recordRows, startRows, dropRows, answerOf, stepTask, stepOn, stepRows}
+use Rattle.definition.specs.Calls.{turn, turnOf, bootRows, defineRows, recordRows, startRows, dropRows, sweepRows, answerOf, stepTask, stepOn, stepRows}
 use Rattle.definition.specs.Computing.OnRows.{settle, onRows, runRows, performRows, performAllRows}
 use Rattle.definition.specs.Computing.Samples.{fileF, two, method, fileOf, plain, taker, coded, lifts, pushes, ready, tied12, tied123}
 use Rattle.definition.specs.Script as Script
 use Rattle.laws.specs.Refused.{refusal}
 use Rattle.layout.specs.Tests.{All}
-use Rattle.cases.specs.Cases.{Case, table, accepted, input, output}
+use Rattle.unbroken.specs.OnRows.{OneStep}
+use Rattle.cases.specs.Cases.{Case, table, numbersFrom, accepted, input, output}
 
 -- the rows before and after a case's last call, and what it answers
 
@@ -40,22 +42,22 @@ rowsAfter c = performRows (c .last) (rowsBefore c) .rows
 unfoldable pub answeredRows : Case → Shown
 answeredRows c = shown (details (turn (rowsBefore c)) (performRows (c .last) (rowsBefore c) .answer))
 
--- Whether rows stay. A call that changes something here changes the number of classes, cache entries or frames.
+-- Whether rows stay. A call that changes something here changes the number of classes, cache entries, frames or objects.
 
 unfoldable pub size : Rows → ℕ
-size r = length (r .classes) + length (r .cache) + length (r .quote)
+size r = length (r .classes) + length (r .cache) + length (r .quote) + inUse (r .objects)
 
 abbrev pub Stays : Case → Type 0
 Stays c = (c .unchanged ≡ true → (isSome (refusal (performRows (c .last) (rowsBefore c) .answer)) ≡ true) ⊎ (rowsAfter c ≡ rowsBefore c))
     × (c .unchanged ≡ false → eqb (size (rowsAfter c)) (size (rowsBefore c)) ≡ false)
 
-impossible : {A : Type 0} → Path Bool false true → A
+pub impossible : {A : Type 0} → Path Bool false true → A
 impossible e = absurd (false≢true e)
 
-abbrev same : {A B : Type 0} → A → (Path Bool true true → A) × (Path Bool true false → B)
+abbrev pub same : {A B : Type 0} → A → (Path Bool true true → A) × (Path Bool true false → B)
 same p = ((λ _. p), (λ e. impossible (sym e)))
 
-abbrev other : {A B : Type 0} → B → (Path Bool false true → A) × (Path Bool false false → B)
+abbrev pub other : {A B : Type 0} → B → (Path Bool false true → A) × (Path Bool false false → B)
 other p = ((λ e. impossible e), (λ _. p))
 
 -- boxscript on rows
@@ -66,21 +68,23 @@ scriptRows (l ∷ ls) r = elim (Script.readLine l) [
   | some x ↦ Script.printedLine (x .letter) (details (turn r) (performRows (x .call) r .answer)) ++ scriptRows ls (performRows (x .call) r .rows)
 ]
 
-pub record Computed : Type 0 where
+pub record Computed (table : List Case) : Type 0 where
   pub answers : map answeredRows table ≡ map (λ c. c .expect) table
   pub prepared : map (λ c. accepted (performAllRows (c .before) bootRows .answer)) table ≡ map (λ _. true) table
   pub ties : map (λ c. rowsBefore c .ties) table ≡ map (λ c. c .ties) table
   pub subtypes : map (λ c. rowsBefore c .subtypes) table ≡ map (λ c. c .subtypes) table
+  pub objects : map (λ c. numbersFrom 0 (rowsBefore c .objects)) table ≡ map (λ c. c .objects) table
   pub stays : All Stays table
-  pub example : scriptRows (Script.linesOf input) bootRows ≡ output
+  pub steps : All (λ c. OneStep (c .last)) table
 
-pub computed : Computed
-unfolding rowsBefore rowsAfter answeredRows size accepted input output scriptRows endsIn isSome signed shown number numberOfStep numberOf refusalDetails stepDetails details _>>=_ need take? defineRows recordRows startRows dropRows answerOf stepTask stepOn stepRows turnOf turn find lower superOf loaderOf ownSlots slotsIn slots slotIs hasField sameSignature alike methodsOf hasMethod selected tieEdges subtypeEdges edges pairAgrees rowAgrees agreesOver agrees tieIs newTie newTies signatureTies agreesAfter post byte short name count fieldsIn signatureIn methodsIn ends sameField sameMethod readFile pick opcodeOf inlineLength shortAt extend instructionOf sizedAs decode every all any doubled indexOf isNone subtypeIs newSubtypes overrideTie overrideTies hides define recorded started existing initialValue newObject pop! int! reference! kind! room! object! now under! give execute step Maybe._>>=_ Maybe.need sameRequest has fires rest grow reachFrom reach leads seek nearest below fileAt classAt typeOfName meetClass meetInt meets pop isNamed effect returns verify typesAt notesOf settle onRows runRows performRows performAllRows two method fileOf plain fileF taker coded lifts pushes ready tied12 tied123 table Script.digit Script.digits Script.decimal Script.upTo Script.int Script.hexDigit Script.hexPairs Script.file Script.grow Script.fields Script.command Script.commandOf Script.readLine Script.printed Script.printedInt Script.printedLine Script.linesOf ofKind! compute meetKind returnKind notesOfMethod
+pub computed : Computed table
+unfolding rowsBefore rowsAfter answeredRows size accepted endsIn isSome signed shown number numberOfStep numberOf refusalDetails stepDetails details _>>=_ need take? defineRows recordRows startRows dropRows answerOf stepTask stepOn stepRows turnOf turn find lower superOf loaderOf ownSlots slotsIn slots slotIs hasField sameSignature alike methodsOf hasMethod selected tieEdges subtypeEdges edges pairAgrees rowAgrees agreesOver agrees tieIs newTie newTies signatureTies agreesAfter post byte short name count fieldsIn signatureIn methodsIn ends sameField sameMethod readFile pick opcodeOf inlineLength shortAt extend instructionOf sizedAs decode every all any doubled indexOf isNone subtypeIs newSubtypes overrideTie overrideTies hides define recorded started existing initialValue newObject pop! int! reference! kind! room! object! now under! give execute step Maybe._>>=_ Maybe.need sameRequest has fires rest grow reachFrom reach leads seek nearest below fileAt classAt typeOfName meetClass meetInt meets pop isNamed effect returns verify typesAt notesOf settle onRows runRows performRows performAllRows two method fileOf plain fileF taker coded lifts pushes ready tied12 tied123 table ofKind! compute meetKind returnKind notesOfMethod unused made roomless rewritten changed objectHeld inUse numbersFrom named roots linksFrom reached sweptFrom freedFrom sweepRows
 computed = record {
   answers = refl;
   prepared = refl;
   ties = refl;
   subtypes = refl;
+  objects = refl;
   stays = (
     same (inr refl),
     (
@@ -106,5 +110,10 @@ computed = record {
       ),
     ),
   );
-  example = refl;
+  steps = (tt, (tt, (tt, (tt, (tt, (tt, (tt, (tt, (tt, (tt, (tt, (tt, (tt, (tt, (tt, (tt, (tt, tt)))))))))))))))));
 }
+
+-- the paper's worked example
+pub printed : scriptRows (Script.linesOf input) bootRows ≡ output
+unfolding input output scriptRows endsIn isSome signed shown number numberOfStep numberOf refusalDetails stepDetails details _>>=_ need take? defineRows recordRows startRows dropRows answerOf stepTask stepOn stepRows turnOf turn find lower superOf loaderOf ownSlots slotsIn slots slotIs hasField sameSignature alike methodsOf hasMethod selected tieEdges subtypeEdges edges pairAgrees rowAgrees agreesOver agrees tieIs newTie newTies signatureTies agreesAfter post byte short name count fieldsIn signatureIn methodsIn ends sameField sameMethod readFile pick opcodeOf inlineLength shortAt extend instructionOf sizedAs decode every all any doubled indexOf isNone subtypeIs newSubtypes overrideTie overrideTies hides define recorded started existing initialValue newObject pop! int! reference! kind! room! object! now under! give execute step Maybe._>>=_ Maybe.need sameRequest has fires rest grow reachFrom reach leads seek nearest below fileAt classAt typeOfName meetClass meetInt meets pop isNamed effect returns verify typesAt notesOf settle onRows runRows performRows performAllRows two method fileOf plain fileF taker coded lifts pushes ready tied12 tied123 Script.digit Script.digits Script.decimal Script.upTo Script.int Script.hexDigit Script.hexPairs Script.file Script.grow Script.fields Script.command Script.commandOf Script.readLine Script.printed Script.printedInt Script.printedLine Script.linesOf ofKind! compute meetKind returnKind notesOfMethod unused made roomless objectHeld
+printed = refl

@@ -2,3 +2,4 @@
 pub mod Cases
 pub mod Computed
 pub mod Proved
+pub mod Sweeps

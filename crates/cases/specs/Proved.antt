@@ -19,12 +19,8 @@ use Rattle.laws.specs.Refused.{refusal, refused-same}
 use Rattle.layout.specs.Tests.{All, is-some}
 use Rattle.unbroken.specs.Steps.{all-nth}
 use Rattle.unbroken.specs.OnRows.{Same, Shows, accepted-shaped, same-boot, same-booted, same-perform, OneStep, rows-same}
-use Rattle.cases.specs.Cases.{Case, table, beforeLast, answered, left, Right, preparedBy, accepted, input, output}
-use Rattle.cases.specs.Computed.{rowsBefore, rowsAfter, answeredRows, size, Stays, scriptRows, computed}
-
-one-steps : All (λ c. OneStep (c .last)) table
-unfolding table
-one-steps = (tt, (tt, (tt, (tt, (tt, (tt, (tt, (tt, (tt, (tt, (tt, (tt, (tt, (tt, (tt, (tt, (tt, tt)))))))))))))))))
+use Rattle.cases.specs.Cases.{Case, table, numbersFrom, beforeLast, answered, left, Right, preparedBy, accepted, input, output}
+use Rattle.cases.specs.Computed.{rowsBefore, rowsAfter, answeredRows, size, Stays, scriptRows, Computed, computed, printed}
 
 -- From rows to tables
 
@@ -60,18 +56,23 @@ keeps t h c o (inl q) =
     refused-same (c .last) (beforeLast t c) (w .0) (w .1) .same
 keeps t h c o (inr q) = rows-same (c .last) o (beforeLast t c) (rowsBefore c) (shows t h c) q
 
-pub cases : (t : Tables) → boot t .answer ≡ Accepted → Right t
-cases t a = record {
+-- what was computed on rows holds from a boot of any tables that boot accepts
+pub right : (table : List Case) → Computed table → (t : Tables) → boot t .answer ≡ Accepted → Right table t
+right table computed t a = record {
   prepared = map-same (preparedBy t) (λ c. accepted (performAllRows (c .before) bootRows .answer)) (prepared-same t h) table ∙ computed .prepared;
   ties = map-same (λ c. view (beforeLast t c) .ties) (λ c. rowsBefore c .ties) (λ c. ap (λ (r : Rows). r .ties) (shows t h c .rows)) table ∙ computed .ties;
   subtypes = map-same (λ c. view (beforeLast t c) .subtypes) (λ c. rowsBefore c .subtypes) (λ c. ap (λ (r : Rows). r .subtypes) (shows t h c .rows)) table ∙ computed .subtypes;
+  objects = map-same (λ c. numbersFrom 0 (view (beforeLast t c) .objects)) (λ c. numbersFrom 0 (rowsBefore c .objects)) (λ c. ap (λ (r : Rows). numbersFrom 0 (r .objects)) (shows t h c .rows)) table ∙ computed .objects;
   answers = map-same (answered t) answeredRows (answered-rows t h) table ∙ computed .answers;
-  unchanged = λ i c e u. keeps t h c (all-nth (λ c. OneStep (c .last)) table one-steps i c e) (all-nth Stays table (computed .stays) i c e .0 u);
+  unchanged = λ i c e u. keeps t h c (all-nth (λ c. OneStep (c .last)) table (computed .steps) i c e) (all-nth Stays table (computed .stays) i c e .0 u);
   changed = λ i c e u q. eqb-false _ _ (all-nth Stays table (computed .stays) i c e .1 u) (ap size (sym (view-left t h c) ∙ ap view q ∙ shows t h c .rows));
 }
   where
     h : shaped t ≡ true
     h = accepted-shaped t a
+
+pub cases : (t : Tables) → boot t .answer ≡ Accepted → Right table t
+cases t a = right table computed t a
 
 -- In a program each table starts as zeros
 
@@ -79,7 +80,7 @@ zeros-accepted : boot zeros .answer ≡ Accepted
 unfolding boot shaped every zeros
 zeros-accepted = refl
 
-pub from-zeros : Right zeros
+pub from-zeros : Right table zeros
 from-zeros = cases zeros zeros-accepted
 
 -- boxscript on tables is boxscript on rows
@@ -100,4 +101,4 @@ script-same (l ∷ ls) t r s = go (readLine l) (λ u q h. script-same ls u q h)
 -- the paper's worked example, from a boot of any tables that boot accepts
 pub example : (t : Tables) → boot t .answer ≡ Accepted → boxscript t input ≡ output
 unfolding boxscript
-example t h = script-same (linesOf input) (boot t .tables) bootRows (same-boot t (accepted-shaped t h) .1) ∙ computed .example
+example t h = script-same (linesOf input) (boot t .tables) bootRows (same-boot t (accepted-shaped t h) .1) ∙ printed

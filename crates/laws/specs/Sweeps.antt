@@ -7,7 +7,6 @@ use mathlib.Core.List.{List, [], _∷_, _++_, map, List·Memᴰ, List·Memᴰ·h
 use mathlib.Core.Logic.{_⊎_, inl, inr}
 use Prim.Native.Nat.{ℕ, zero, suc, _+_}
 use native.Mathlib.Omega.{arith}
-use lib.ListN.{length}
 use lib.Dec.{eqb}
 use Rattle.definition.specs.Chains.{Edge, Chain, stay, hop, has, reachFrom}
 use Rattle.definition.specs.Instructions.{pick}
@@ -42,6 +41,23 @@ member-either : {A : Type 0} {x : A} (xs ys : List A) → List·Memᴰ x (xs ++ 
 member-either [] ys m = inr m
 member-either (y ∷ xs) ys (List·Memᴰ·head e) = inl (List·Memᴰ·head e)
 member-either (y ∷ xs) ys (List·Memᴰ·tail m) = elim (member-either xs ys m) [ inl a ↦ inl (List·Memᴰ·tail a) | inr b ↦ inr b ]
+
+-- The roots of both tasks
+
+more-behind : (os ps qs : List ℕ) (o : ℕ) → (List·Memᴰ o ps → List·Memᴰ o qs) → List·Memᴰ o (os ++ ps) → List·Memᴰ o (os ++ qs)
+more-behind [] ps qs o k m = k m
+more-behind (x ∷ os) ps qs o k (List·Memᴰ·head e) = List·Memᴰ·head e
+more-behind (x ∷ os) ps qs o k (List·Memᴰ·tail m) = List·Memᴰ·tail (more-behind os ps qs o k m)
+
+pub roots-left : (qs rs : List Frame) (o : ℕ) → List·Memᴰ o (roots qs) → List·Memᴰ o (roots (qs ++ rs))
+unfolding roots
+roots-left [] rs o m = absurd (List·Memᴰ·not-nil m)
+roots-left (f ∷ qs) rs o m = more-behind (named (f .operands)) _ _ o (more-behind (named (f .locals)) _ _ o (roots-left qs rs o)) m
+
+pub roots-right : (qs rs : List Frame) (o : ℕ) → List·Memᴰ o (roots rs) → List·Memᴰ o (roots (qs ++ rs))
+unfolding roots
+roots-right [] rs o m = m
+roots-right (f ∷ qs) rs o m = member-right (named (f .operands)) _ (member-right (named (f .locals)) _ (roots-right qs rs o m))
 
 abbrev link : ℕ → ℕ → Edge ℕ
 link o p = record { from = o; to = p }
@@ -129,20 +145,16 @@ swept-from R i (x ∷ os) (suc o) =
 pub swept-is : (R : List ℕ) (os : Objects) (o : ℕ) → existing (sweptFrom R 0 os) o ≡ pick (has eqb o R) (existing os o) none
 swept-is R os o = let z : 0 + o ≡ o = omega arith in rw z at (swept-from R 0 os o)
 
-pub swept-length : (R : List ℕ) (i : ℕ) (os : Objects) → length (sweptFrom R i os) ≡ length os
-unfolding sweptFrom
-swept-length R i [] = refl
-swept-length R i (x ∷ os) = ap suc (swept-length R (suc i) os)
+free-either : (u : Bool) → pick u free free ≡ free
+unfolding pick
+free-either true = refl
+free-either false = refl
 
 -- as many as are freed are no longer in use
 pub swept-freed : (R : List ℕ) (i : ℕ) (os : Objects) → inUse os ≡ inUse (sweptFrom R i os) + freedFrom R i os
 unfolding sweptFrom freedFrom inUse
 swept-freed R i [] = refl
 swept-freed R i (free ∷ os) = rw (free-either (has eqb i R)) (swept-freed R (suc i) os)
-  where
-    free-either : (u : Bool) → pick u free free ≡ free
-    free-either true = unfold pick in refl
-    free-either false = unfold pick in refl
 swept-freed R i (owned k x ∷ os) = go (has eqb i R) (swept-freed R (suc i) os)
   where
     go : (u : Bool) → inUse os ≡ inUse (sweptFrom R (suc i) os) + freedFrom R (suc i) os
@@ -150,6 +162,18 @@ swept-freed R i (owned k x ∷ os) = go (has eqb i R) (swept-freed R (suc i) os)
         + (elim u as (λ _. ℕ) [ true ↦ freedFrom R (suc i) os | false ↦ suc (freedFrom R (suc i) os) ])
     go true e = unfold pick in omega arith
     go false e = unfold pick in omega arith
+
+-- where none is freed, the rows are as they were
+pub none-freed : (R : List ℕ) (i : ℕ) (os : Objects) → freedFrom R i os ≡ 0 → sweptFrom R i os ≡ os
+unfolding sweptFrom freedFrom pick
+none-freed R i [] h = refl
+none-freed R i (free ∷ os) h = let r : sweptFrom R (suc i) os ≡ os = none-freed R (suc i) os h in λ j. free-either (has eqb i R) j ∷ r j
+none-freed R i (owned k x ∷ os) h = go (has eqb i R) h (none-freed R (suc i) os)
+  where
+    go : (u : Bool) → _≡_ {A = ℕ} (elim u as (λ _. ℕ) [ true ↦ freedFrom R (suc i) os | false ↦ suc (freedFrom R (suc i) os) ]) 0 → (freedFrom R (suc i) os ≡ 0 → sweptFrom R (suc i) os ≡ os)
+        → _≡_ {A = Objects} (pick u (owned k x) free ∷ sweptFrom R (suc i) os) (owned k x ∷ os)
+    go true e f = let r : sweptFrom R (suc i) os ≡ os = f e in λ j. owned k x ∷ r j
+    go false e f = absurd (omega arith)
 
 -- What a sweep leaves
 

@@ -11,11 +11,12 @@ use Rattle.definition.specs.Requests.{at}
 use Rattle.definition.specs.Classes.{Base}
 use Rattle.definition.specs.Constraints.{Tie, Subtype}
 use Rattle.definition.specs.Machine.{Value, Object, Objects, unused, made, rewritten, changed, Frame}
+use Rattle.definition.specs.Sweeping.{sweptFrom}
 use Rattle.definition.specs.Tables.{Tables, tables, Rows, putClassRow, putEntry, putTie, putSubtype, usedFields, objectAt, putObject, putField, ownedBy, ownerAt, putOwner, objectRowAt, putObjectRow, frameIn, putFrameIn, classRowsOf, keptOf, cacheOf, tiesOf, subtypesOf, viewBase, objectsOf, framesOf, viewOver, view, countsOf, put}
 use Rattle.layout.specs.Places.{rows-length, stack-length, writeStack-same, written-set}
 use Rattle.layout.specs.Rows.{RowLaws, Anything, rows-kept, rows-more, row-more, class-rows, entry-rows, tie-rows, subtype-rows, cell-rows}
 use Rattle.layout.specs.ObjectRows.{withField, object-field}
-use Rattle.layout.specs.OwnedRows.{SameOwners, owners-set, rowsWith, made-count, changed-length, rows-same, owners-same, rows-made, owners-made, rows-changed, owners-changed}
+use Rattle.layout.specs.OwnedRows.{SameOwners, owners-set, rowsWith, made-count, changed-length, swept-length, rows-swept, rows-same, owners-same, rows-made, owners-made, rows-changed, owners-changed}
 use Rattle.layout.specs.FrameRows.{frameIn-same}
 
 -- the count in cell i
@@ -158,6 +159,16 @@ module _ (t : Tables) where
             → putObjectRow (t .objects) o (rewritten (withField (objectAt b (t .objects) o) j v) (objectRowAt b (t .counts) (t .objects) o)) ≡ putField o (t .objects) j v
         field zero e z = absurd (omega arith)
         field (suc k) e z = rw e (unfold ownedBy rewritten putObjectRow in object-field b (t .objects) o j v h)
+
+    -- some of them freed: owners alone are written
+    pub objects-swept : (R : List ℕ)
+        → FillsObjects (sweptFrom R 0 (objectsOf b t)) (t .counts) (t .objects) (countAt t 5) (λ d. writeRows putOwner (sweptFrom R 0 (objectsOf b t)) 0 d) (t .objects)
+    unfolding objectsOf
+    objects-swept R = record {
+      count = swept-length R 0 (objectsOf b t) ∙ rows-length (objectRowAt b (t .counts) (t .objects)) (countAt t 5) 0;
+      owners = λ d h. refl;
+      cells = rows-swept b (t .counts) (t .objects) R (countAt t 5) 0;
+    }
 
   -- frames as they are
   pub frames-fill : FillsFrames (framesOf t 0) (framesOf t 1) (t .frames) (countAt t 6) (countAt t 7) (t .frames)

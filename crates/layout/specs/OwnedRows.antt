@@ -112,6 +112,11 @@ changed-length os o x = go (getElem? os o)
     go none = refl
     go (some r) = length-set os o (rewritten x r)
 
+pub swept-length : (R : List ℕ) (i : ℕ) (os : Objects) → length (sweptFrom R i os) ≡ length os
+unfolding sweptFrom
+swept-length R i [] = refl
+swept-length R i (x ∷ os) = ap suc (swept-length R (suc i) os)
+
 module _ (b : Base) (n t : List ℕ) where
   abbrev Row : ℕ → ObjectRow
   Row = objectRowAt b n t

@@ -15,14 +15,15 @@ use Rattle.definition.specs.Classes.{Base, Class}
 use Rattle.definition.specs.Constraints.{Tie, Subtype}
 use Rattle.definition.specs.Machine.{Value, Frame, Progress, objectHeld, existing}
 use Rattle.definition.specs.Loading.{withClass, withEntry}
-use Rattle.definition.specs.Tables.{Tables, tables, classAt, worldOf, putThree, classRowAt, putClassRow, putEntry, putTie, putSubtype, objectAt, ownedBy, ownerAt, objectRowAt, localAt, putLocal, operandAt, putOperand, frameOf, putFrame, frameBase, frameIn, putFrameIn, classRowsOf, keptOf, tiesOf, viewBase, objectsOf, framesOf, viewOver, put, withFrames}
+use Rattle.definition.specs.Sweeping.{sweptFrom}
+use Rattle.definition.specs.Tables.{Tables, tables, classAt, worldOf, putThree, classRowAt, putClassRow, putEntry, putTie, putSubtype, objectAt, ownedBy, ownerAt, objectRowAt, localAt, putLocal, operandAt, putOperand, frameOf, putFrame, frameBase, frameIn, putFrameIn, classRowsOf, keptOf, tiesOf, viewBase, objectsOf, framesOf, viewOver, put, withObjects, withFrames, putOwner}
 use Rattle.definition.specs.Calls.{addFile, addEntry, progressed}
 use Rattle.layout.specs.Places.{rows-map, rows-there, rows-past, stack-length, stack-cong, writeStack-above, writeStack-two}
 use Rattle.layout.specs.Rows.{class-rows, entry-rows, cell-rows}
 use Rattle.layout.specs.Values.{Unread, unread-value}
 use Rattle.layout.specs.FrameRows.{moved, frameWith, withValue, frame-kept, frame-above, frame-local, frame-given, frameIn-same, frame-unread, unread-frame}
 pub use Rattle.layout.specs.Fills.{countAt, Fills, FillsObjects, classes-fill, kept-fill, objects-fill, object-made, object-set, put-view, FillsTask}
-use Rattle.layout.specs.Fills.{FillsCounts, put-fills, fill-more, fill-last, count-set, countsOn, counts-fill, cache-fill, ties-fill, ties-more, subtypes-fill, subtypes-more, frames-fill, quote-fill, report-fill}
+use Rattle.layout.specs.Fills.{FillsCounts, put-fills, fill-more, fill-last, count-set, countsOn, counts-fill, objects-swept, cache-fill, ties-fill, ties-more, subtypes-fill, subtypes-more, frames-fill, quote-fill, report-fill}
 
 -- What the calls put
 
@@ -117,6 +118,14 @@ module _ (b : Base) (t : Tables) where
   quiet-writes k p m n w o u two e g h =
       let z : countAt t 3 + 0 ≡ countAt t 3 = omega arith in
       progress-writes k p [] m n w o u two (e ∙ sym (append-nil (tiesOf t))) g h ∙ rw (z, set-getD (t .counts) 3 0)
+
+  -- sweep: owners
+  pub sweep-writes : (R : List ℕ) → put (withObjects (sweptFrom R 0 (objectsOf b t)) (viewOver b t)) t
+      ≡ tables (writeRows putOwner (sweptFrom R 0 (objectsOf b t)) 0 (t .counts)) (t .classes) (t .kept) (t .cache) (t .ties) (t .subtypes) (t .objects) (t .frames)
+  unfolding viewOver
+  sweep-writes R =
+      put-fills (withObjects (sweptFrom R 0 (objectsOf b t)) (viewOver b t)) t (classes-fill t) (kept-fill t) (cache-fill t) (ties-fill t) (subtypes-fill t)
+      (objects-swept t b R) (frames-fill t) (counts-fill t)
 
 -- What a task's frames write
 
