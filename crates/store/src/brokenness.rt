@@ -1,5 +1,6 @@
-// Superclasses, and whether a store is broken.
+// Superclasses, whether a store is broken, and the sizes of its classes.
 use crate::Fields;
+use crate::Sizes;
 use crate::counts::are_within;
 use crate::counts::is_shaped;
 use crate::sources::rows_fit;
@@ -17,7 +18,7 @@ ghost use Rattle.definition.specs.Numbers.{classLimit, countClasses};
 ghost use Rattle.definition.specs.Tables.{tables, sizeOf};
 ghost use Rattle.definition.specs.Broken.{broken};
 ghost use Rattle.resolution.specs.Quick.{quickBase};
-ghost use Rattle.store.specs.Checks.{linkedSize, linksFit, Sized, valuesFit};
+ghost use Rattle.store.specs.Checks.{linkedSize, linksFit, Sized, valuesFit, readable, Tested};
 
 // How many fields an object has at most.
 const FIELDS: usize = FIELD_LIMIT as usize;
@@ -66,7 +67,9 @@ fn links_fit(sizes: &mut [u8], counts: &[u16], classes: &[u16], kept: &[u8], cac
     true
 }
 
+// Superclasses and sizes, and all values. If they fit, `sizes` has the sizes of all classes.
 fn values_fit(
+    sizes: &mut [u8],
     counts: &[u16],
     classes: &[u16],
     kept: &[u8],
@@ -74,20 +77,53 @@ fn values_fit(
     objects: &[u32],
     frames: &[u32],
 ) -> bool
-    requires { ⌜ (getD (now counts) countClasses 0 ≤ classLimit) × (sizeOf (quickBase (now counts) (now classes) (now kept) (now cache)) 0 ≡ 0) ⌝ }
-    ensures { λ r. ⌜ r ≡ valuesFit (quickBase (now (counts .entry)) (now (classes .entry)) (now (kept .entry)) (now (cache .entry))) (now (counts .entry)) (now (objects .entry)) (now (frames .entry)) ⌝ }
+    requires { ⌜ (length (now sizes) ≡ classLimit) × (getD (now counts) countClasses 0 ≤ classLimit) × (sizeOf (quickBase (now counts) (now classes) (now kept) (now cache)) 0 ≡ 0) ⌝ }
+    ensures { λ r. ⌜ (r ≡ valuesFit (quickBase (now (counts .entry)) (now (classes .entry)) (now (kept .entry)) (now (cache .entry))) (now (counts .entry)) (now (objects .entry)) (now (frames .entry))) × (r ≡ true → Sized (quickBase (now (counts .entry)) (now (classes .entry)) (now (kept .entry)) (now (cache .entry))) (getD (now (counts .entry)) countClasses 0) (now (sizes .exit))) ⌝ }
 {
-    let mut sizes = [0u8; CLASS_LIMIT as usize];
-    if !links_fit(&mut sizes, counts, classes, kept, cache) {
+    if !links_fit(sizes, counts, classes, kept, cache) {
         return false;
     }
-    if !objects_fit(&sizes, counts, objects) {
+    if !objects_fit(sizes, counts, objects) {
         return false;
     }
     if !frames_fit(counts, frames, 0) {
         return false;
     }
     frames_fit(counts, frames, 1)
+}
+
+// Lengths, counts, files and rows: after these, classes are read at once.
+fn is_readable(
+    counts: &[u16],
+    classes: &[u16],
+    kept: &[u8],
+    cache: &[u16],
+    ties: &[u16],
+    subtypes: &[u16],
+    objects: &[u32],
+    frames: &[u32],
+) -> bool
+    ensures { λ r. ⌜ r ≡ readable (tables (now (counts .entry)) (now (classes .entry)) (now (kept .entry)) (now (cache .entry)) (now (ties .entry)) (now (subtypes .entry)) (now (objects .entry)) (now (frames .entry))) ⌝ }
+{
+    if !is_shaped(
+        counts,
+        classes,
+        kept,
+        cache,
+        ties,
+        subtypes,
+        objects,
+        frames,
+    ) {
+        return false;
+    }
+    if !are_within(counts) {
+        return false;
+    }
+    if !sources_fit(counts, classes, kept) {
+        return false;
+    }
+    rows_fit(counts, cache, ties, subtypes)
 }
 
 // Whether the tables are broken.
@@ -103,7 +139,7 @@ pub fn is_broken(
 ) -> bool
     ensures { λ r. ⌜ r ≡ broken (tables (now (counts .entry)) (now (classes .entry)) (now (kept .entry)) (now (cache .entry)) (now (ties .entry)) (now (subtypes .entry)) (now (objects .entry)) (now (frames .entry))) ⌝ }
 {
-    if !is_shaped(
+    if !is_readable(
         counts,
         classes,
         kept,
@@ -115,14 +151,42 @@ pub fn is_broken(
     ) {
         return true;
     }
-    if !are_within(counts) {
-        return true;
+    let mut sizes = [0u8; CLASS_LIMIT as usize];
+    !values_fit(&mut sizes, counts, classes, kept, cache, objects, frames)
+}
+
+// The same, with the number of fields of each class, if the tables are not broken.
+pub fn class_sizes(
+    counts: &[u16],
+    classes: &[u16],
+    kept: &[u8],
+    cache: &[u16],
+    ties: &[u16],
+    subtypes: &[u16],
+    objects: &[u32],
+    frames: &[u32],
+) -> Sizes
+    ensures { λ r. ⌜ Tested (tables (now (counts .entry)) (now (classes .entry)) (now (kept .entry)) (now (cache .entry)) (now (ties .entry)) (now (subtypes .entry)) (now (objects .entry)) (now (frames .entry))) (r .broken) (r .fields) ⌝ }
+{
+    let mut sizes = [0u8; CLASS_LIMIT as usize];
+    if !is_readable(
+        counts,
+        classes,
+        kept,
+        cache,
+        ties,
+        subtypes,
+        objects,
+        frames,
+    ) {
+        return Sizes {
+            broken: true,
+            fields: sizes,
+        };
     }
-    if !sources_fit(counts, classes, kept) {
-        return true;
+    let fit = values_fit(&mut sizes, counts, classes, kept, cache, objects, frames);
+    Sizes {
+        broken: !fit,
+        fields: sizes,
     }
-    if !rows_fit(counts, cache, ties, subtypes) {
-        return true;
-    }
-    !values_fit(counts, classes, kept, cache, objects, frames)
 }

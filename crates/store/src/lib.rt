@@ -3,13 +3,21 @@
 mod counts; // counts.rt: lengths of the tables, and counts within their limits
 mod sources; // sources.rt: classes with their files, entries and constraints
 mod values; // values.rt: values of objects' fields and of frames
-mod brokenness; // brokenness.rt: superclasses, and whether a store is broken
+mod brokenness; // brokenness.rt: superclasses, whether a store is broken, and the sizes of its classes
 
+pub use brokenness::class_sizes;
 pub use brokenness::is_broken;
 pub use counts::is_shaped;
+use definition::numbers::CLASS_LIMIT;
 
 // The number of fields of a class that has a superclass and at most 16 fields.
 pub enum Fields {
     Count(u8),
     Unfit,
+}
+
+// The verdict on tables, and the number of fields of each class of a store.
+pub struct Sizes {
+    pub broken: bool,
+    pub fields: [u8; CLASS_LIMIT as usize],
 }

@@ -1,0 +1,2 @@
+-- Marks and the work list, and what is freed, as the code does it.
+pub mod Marking
