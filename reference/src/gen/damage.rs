@@ -3,30 +3,40 @@
 use super::blueprint::Blueprint;
 use super::build::{Code, Draft};
 use super::cases::{self, MAIN};
+use super::graphs::graphs;
 use super::large;
 use super::list::busy_list;
 use super::rng::Rng;
 use super::Call;
+use crate::broken::unbroken;
 use crate::file::File;
-use crate::store::{cell, count, frame_base, Store, FIELDS, FRAME_ROW, INT, LIMITS, OBJECT, OBJECT_ROW, ROW};
+use crate::store::{cell, count, frame_base, Store, Value, FIELDS, FRAME_ROW, FREE, INT, LENGTHS, LIMITS};
+use crate::store::{LOCALS, MOST_OBJECTS, OBJECT, OBJECT_ROW, ROW, TASKS};
+use crate::task::make_object;
 
 /// Kinds of damage, each a way to change a good store.
-const KINDS: [fn(&mut Rng, &mut Store); 22] = [
+const KINDS: [fn(&mut Rng, &mut Store); 27] = [
     any_cells, a_count, uniform_table, wrong_length, second_cache_row, overlapping_files, superclass_not_lower,
     code_bytes, kept_byte, top_frame, operand_count, a_value, constraints, full_frames, uniform_store, file_place,
-    nested_file, full_rows, many_fields, repeated_field, many_classes, report_past_its_code,
+    nested_file, full_rows, many_fields, repeated_field, many_classes, report_past_its_code, an_owner, free_rows,
+    unused_number, links, many_objects,
 ];
 
 /// What a damaged store may have, and the test for it.
 pub type Shape = (&'static str, fn(&Store) -> bool);
 
 /// What damaged stores must have among them.
-pub const SHAPES: [Shape; 5] = [
+pub const SHAPES: [Shape; 10] = [
     ("a class of more than 16 fields", |store| classes(store).iter().any(|&class| field_names(store, class).len() > FIELDS)),
     ("a field's name repeated below", has_repeated_field),
     ("19 and more classes", |store| store.counts.first() >= Some(&19) && is_whole(store)),
     ("a report's frame past its code, and a quote", has_report_past_its_code),
     ("a value in field 3 or above", has_high_value),
+    ("an owner above 2", |store| looked_at(store) && store.owners().iter().any(|&owner| owner > TASKS)),
+    ("a free row below an object", |store| is_whole(store) && store.objects_in_use().zip(0..).any(|(object, place)| object > place)),
+    ("a free row with any cells", |store| is_whole(store) && crate::broken(&all_in_use(store, false))),
+    ("a value that names a free row", |store| looked_at(store) && crate::broken(store) && is_whole(&all_in_use(store, true))),
+    ("256 objects in use", |store| is_whole(store) && store.unused_object().is_none()),
 ];
 
 /// A store from a boot with some damage, from one change to three.
@@ -45,6 +55,9 @@ fn good(seed: u64, rng: &mut Rng) -> Store {
     if rng.percent(3) {
         // Thousands of steps are left.
         return if rng.percent(80) { large::tree() } else { large::tall_tree() };
+    }
+    if rng.percent(20) {
+        return graphs(seed, rng.within(5, 60)).store;
     }
     if rng.percent(80) {
         return busy_list(seed, rng.within(20, 90)).store;
@@ -71,11 +84,13 @@ pub fn probes(seed: u64, store: &Store) -> Vec<Call> {
         Call::Define { loader: loader.into(), file: Draft::new(rng.within(2, 30) as u16).file() },
         Call::Record { loader: other, name: name.into(), class: class.into() },
         Call::Record { loader: rng.below(17) as u32, name: rng.below(16) as u32, class: rng.below(9) as u32 },
+        Call::Sweep,
         Call::Start { task: rng.below(2) as u32, loader: loader.into(), name, method: 20, int },
         Call::Start { task: rng.below(3) as u32, loader: other, name: rng.below(16) as u16, method: 20, int },
         Call::Step,
         Call::Run { n: if rng.percent(40) { rng.word().into() } else { rng.within(0, 40) as u32 } },
         Call::Drop { task: rng.below(3) as u32 },
+        Call::Sweep,
     ]
 }
 
@@ -174,9 +189,10 @@ fn uniform_table(rng: &mut Rng, store: &mut Store) {
 fn uniform_store(rng: &mut Rng, store: &mut Store) {
     let bits = rng.pick(&[0, u32::MAX]);
     (0..8).for_each(|which| fill(store, which, bits));
-    if rng.percent(50) && store.counts.len() == 8 {
-        let counts: Vec<u16> = LIMITS.iter().map(|&limit| rng.below(usize::from(limit) + 1) as u16).collect();
-        store.counts.copy_from_slice(&counts);
+    if rng.percent(50) && store.counts.len() == LENGTHS[0] {
+        for (count, limit) in store.counts.iter_mut().zip(LIMITS) {
+            *count = rng.below(usize::from(limit) + 1) as u16;
+        }
     }
 }
 
@@ -420,10 +436,14 @@ fn full_frames(rng: &mut Rng, store: &mut Store) {
     store.counts[count::FRAMES + task] = store.counts[count::FRAMES + task].max(frames as u16);
 }
 
+/// Are lengths and counts such that rows can be looked at?
+fn looked_at(store: &Store) -> bool {
+    store.lengths() == LENGTHS && store.counts.iter().zip(LIMITS).all(|(&count, limit)| count <= limit)
+}
+
 /// The classes but Object of a store, whatever is damaged; none if they can't be looked at.
 fn classes(store: &Store) -> Vec<u16> {
-    let looked_at = store.lengths() == crate::store::LENGTHS && store.counts.iter().zip(LIMITS).all(|(&count, limit)| count <= limit);
-    if looked_at { (1..store.counts[0]).collect() } else { Vec::new() }
+    if looked_at(store) { (1..store.counts[0]).collect() } else { Vec::new() }
 }
 
 /// The names of a class's fields, its own first and then those upward, as long as superclasses have lower numbers.
@@ -449,21 +469,21 @@ fn has_repeated_field(store: &Store) -> bool {
 }
 
 fn has_report_past_its_code(store: &Store) -> bool {
-    let both = store.counts.get(count::FRAMES..).is_some_and(|counts| counts.iter().all(|&frames| frames > 0));
+    let both = store.counts.get(count::FRAMES..count::OWNERS).is_some_and(|counts| counts.iter().all(|&frames| frames > 0));
     let past = || store.frames[frame_base(1, store.frame_count(1) - 1) + cell::POINT] >= 512;
     both && is_whole(store) && past()
 }
 
 /// A value other than the first that a field has.
 fn has_high_value(store: &Store) -> bool {
-    let Some(classes) = crate::broken::unbroken(store) else {
+    let Some(classes) = unbroken(store) else {
         return false;
     };
     let high = |object: u32| {
         let fields = classes.field_count(store.object_class(object));
         (3..fields).any(|field| ![[1, 0], [2, 0]].contains(&[0, 1].map(|i| store.objects[Store::field_cell(object, field) + i])))
     };
-    (0..u32::from(store.counts[count::OBJECTS])).any(high)
+    store.objects_in_use().any(high)
 }
 
 /// Adds a class that no define has looked at, of a loader that knows its superclass. Nothing if there is no room.
@@ -483,11 +503,12 @@ fn unused_name(store: &Store) -> u16 {
     50_000 + store.counts[count::CLASSES]
 }
 
-/// The frames of a task that starts in a method of this class, if it has room for its object.
-fn start_in(rng: &mut Rng, store: &mut Store, loader: u16, name: u16) {
-    let task = rng.below(2);
-    store.counts[count::FRAMES..].fill(0);
+/// The frames of a task that starts in a method of this class, if it has room for its object, and then the object.
+fn start_in(rng: &mut Rng, store: &mut Store, loader: u16, name: u16) -> Option<u32> {
+    let (task, object) = (rng.below(2), store.unused_object());
+    store.counts[count::FRAMES..count::OWNERS].fill(0);
     crate::start(store, task as u32, loader.into(), name, MAIN, 7);
+    object
 }
 
 /// Three classes below each other with 16 fields or more; if it isn't more, a task that uses the last of them, and values there.
@@ -512,8 +533,9 @@ fn many_fields(rng: &mut Rng, store: &mut Store) {
     if last > 0 {
         return;
     }
-    start_in(rng, store, 0, superclass);
-    let object = u32::from(store.counts[count::OBJECTS]).saturating_sub(1);
+    let Some(object) = start_in(rng, store, 0, superclass) else {
+        return;
+    };
     for field in 3..FIELDS {
         let value = rng.pick(&[[1, 5], [1, u32::MAX], [1, 0], [2, 0], [3, object]]);
         let value = if rng.percent(97) { [1, value[1]] } else { value };
@@ -569,4 +591,115 @@ fn report_past_its_code(rng: &mut Rng, store: &mut Store) {
     }
     let base = frame_base(1, store.frame_count(1) - 1);
     store.frames[base + cell::POINT] = rng.pick(&[512, 513, 0xFFFF, u32::MAX]);
+}
+
+/// A copy in which every row below the object count is in use; those that were free hold what they hold, or an object of Object.
+pub fn all_in_use(store: &Store, emptied: bool) -> Store {
+    let mut copy = store.clone();
+    for (object, &owner) in store.owners().iter().enumerate() {
+        if owner == FREE {
+            copy.own_object(object as u32, 0);
+            let class = &mut copy.objects[object * OBJECT_ROW];
+            *class = if emptied { 0 } else { *class };
+        }
+    }
+    copy
+}
+
+/// An owner changed, mostly of a row below the object count.
+fn an_owner(rng: &mut Rng, store: &mut Store) {
+    let used = store.counts.get(count::OBJECTS).map_or(1, |&used| usize::from(used).clamp(1, MOST_OBJECTS));
+    let end = if rng.percent(75) { used } else { MOST_OBJECTS };
+    let row = rng.below(end);
+    if let Some(owner) = store.counts.get_mut(count::OWNERS + row) {
+        *owner = rng.pick(&[0, 0, 1, 2, 3, 255, 256, u16::MAX]);
+    }
+}
+
+/// Rows that nothing reaches are freed, some that were never used are counted in, and free rows hold anything.
+fn free_rows(rng: &mut Rng, store: &mut Store) {
+    if !is_whole(store) {
+        return;
+    }
+    crate::sweep(store);
+    for _ in 0..rng.below(6) {
+        let used = store.count(count::OBJECTS);
+        if used < MOST_OBJECTS {
+            store.counts[count::OWNERS + used] = FREE;
+            store.counts[count::OBJECTS] += 1;
+        }
+    }
+    for (&owner, row) in store.counts[count::OWNERS..].iter().zip(store.objects.chunks_exact_mut(OBJECT_ROW)) {
+        if owner == FREE && rng.percent(50) {
+            row.iter_mut().for_each(|cell| *cell = number(rng));
+        }
+    }
+}
+
+/// Some frame's row that is used.
+fn some_frame(rng: &mut Rng, store: &Store) -> Option<usize> {
+    let each = |task: usize| (0..store.frame_count(task)).map(move |depth| frame_base(task, depth));
+    let all: Vec<usize> = (0..usize::from(TASKS)).flat_map(each).collect();
+    (!all.is_empty()).then(|| rng.pick(&all))
+}
+
+/// Writes a value to a local or operand of some frame, or to a field of some object; the cells may hold no value.
+fn put_somewhere(rng: &mut Rng, store: &mut Store, value: Value) {
+    let objects: Vec<u32> = store.objects_in_use().collect();
+    if !objects.is_empty() && rng.percent(50) {
+        let at = Store::field_cell(rng.pick(&objects), rng.below(4));
+        value.write(&mut store.objects, at);
+    } else if let Some(base) = some_frame(rng, store) {
+        value.write(&mut store.frames, base + cell::LOCAL_0 + 2 * rng.below(LOCALS + 4));
+    }
+}
+
+/// A value that names a row below the object count which is free, or the row behind them.
+fn unused_number(rng: &mut Rng, store: &mut Store) {
+    if rng.percent(60) {
+        free_rows(rng, store);
+    }
+    if !is_whole(store) {
+        return;
+    }
+    let free: Vec<u32> = (0..=store.counts[count::OBJECTS].into()).filter(|&object| !store.objects_in_use().any(|used| used == object)).collect();
+    let object = rng.pick(&free);
+    put_somewhere(rng, store, Value::Object(object));
+}
+
+/// Values that name objects in use, in fields and frames, whatever their types.
+fn links(rng: &mut Rng, store: &mut Store) {
+    if !is_whole(store) {
+        return;
+    }
+    let objects: Vec<u32> = store.objects_in_use().collect();
+    for _ in 0..2 * objects.len() {
+        let value = if rng.percent(80) { Value::Object(rng.pick(&objects)) } else { Value::Null };
+        put_somewhere(rng, store, value);
+    }
+}
+
+/// Objects up to their limit, or fewer, of a class with fields if there is one, each linked to a neighbour or to any other.
+fn many_objects(rng: &mut Rng, store: &mut Store) {
+    let Some(classes) = unbroken(store).filter(|classes| classes.has(0)) else {
+        return;
+    };
+    let linked: Vec<u16> = (0..store.counts[count::CLASSES]).filter(|&class| classes.field_count(class) > 0).collect();
+    let class = if linked.is_empty() { 0 } else { rng.pick(&linked) };
+    let (all, task) = (rng.pick(&[256, 256, 255, 100]), rng.below(2));
+    while store.objects_in_use().count() < all && make_object(store, &classes, class, task).is_some() {}
+    let objects: Vec<u32> = store.objects_in_use().collect();
+    let way = rng.below(4);
+    for (at, &object) in objects.iter().enumerate().filter(|_| way > 0) {
+        let to = [at + 1, at.wrapping_sub(1), rng.below(objects.len())][way - 1];
+        let fields = classes.field_count(store.object_class(object));
+        if let Some(&to) = objects.get(to).filter(|_| fields > 0) {
+            let field = rng.below(fields);
+            Value::Object(to).write(&mut store.objects, Store::field_cell(object, field));
+        }
+    }
+    if rng.percent(50) {
+        let end = rng.pick(&[objects[0], objects[objects.len() - 1]]);
+        put_somewhere(rng, store, Value::Object(end));
+    }
 }
