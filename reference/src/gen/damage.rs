@@ -437,7 +437,7 @@ fn full_frames(rng: &mut Rng, store: &mut Store) {
 }
 
 /// Are lengths and counts such that rows can be looked at?
-fn looked_at(store: &Store) -> bool {
+pub fn looked_at(store: &Store) -> bool {
     store.lengths() == LENGTHS && store.counts.iter().zip(LIMITS).all(|(&count, limit)| count <= limit)
 }
 
