@@ -205,7 +205,7 @@ impl Comparison {
             (chain, large::chain_record()), (grid, large::grid_record()), (usual.clone(), large::usual_define()),
             (usual, large::usual_record()), (large::posting(), Call::Step),
         ];
-        let held = [large::Held::Upward, large::Held::Downward, large::Held::ByFrames, large::Held::First];
+        let held = [large::Held::Upward, large::Held::Downward, large::Held::ByFrames, large::Held::Nothing];
         let swept = held.map(|held| (large::objects(held), Call::Sweep));
         let made = [false, true].map(|freed| (large::making(freed), run.clone()));
         for (at, (store, call)) in calls.iter().chain(&swept).chain(&made).enumerate() {

@@ -161,11 +161,11 @@ fn loads() -> Vec<Case> {
     ]
 }
 
-/// A sweep of 256 objects, and beside it a step on the same store, which looks at the store and pushes a null or takes it off.
+/// A sweep of 256 objects, and beside it a step on the same store, which looks at the store and pushes a null or takes it off, or is idle.
 fn sweeps() -> Vec<Case> {
     let stores = [
         ("one chain upward", Held::Upward), ("one chain downward", Held::Downward), ("all reached from frames", Held::ByFrames),
-        ("all but one freed", Held::First),
+        ("none reached", Held::Nothing),
     ];
     let both = |(name, held): (&str, Held)| {
         let store = objects(held);

@@ -235,11 +235,11 @@ pub enum Held {
     Downward,
     /// The quote's 32 frames hold eight each, in locals and operands.
     ByFrames,
-    /// The quote holds the first alone.
-    First,
+    /// No task has a frame.
+    Nothing,
 }
 
-/// 256 objects of a class with one field. The quote can run 100 steps, which change only their frame.
+/// 256 objects of a class with one field. The quote, if it has a frame, can run 100 steps, which change only that.
 pub fn objects(held: Held) -> Store {
     let code = fifty_times(Code::new().null().pop());
     let mut store = started(&[Draft::new(TREE).field(NEXT, TREE).main(ROOT, &code)], TREE);
@@ -254,7 +254,7 @@ pub fn objects(held: Held) -> Store {
             Value::Object(last).write(&mut store.frames, cell::LOCAL_0);
         }
         Held::ByFrames => (0..32).for_each(|depth| hold_eight(&mut store, depth)),
-        Held::First => {}
+        Held::Nothing => store.counts[count::FRAMES] = 0,
     }
     store
 }
@@ -345,11 +345,12 @@ mod tests {
 
     #[test]
     fn objects_are_held_and_made() {
-        for (held, freed) in [(Held::Upward, 0), (Held::Downward, 0), (Held::ByFrames, 0), (Held::First, 255)] {
+        for (held, freed) in [(Held::Upward, 0), (Held::Downward, 0), (Held::ByFrames, 0), (Held::Nothing, 256)] {
             let mut store = objects(held);
             sound(&store, "objects");
             assert_eq!(store.objects_in_use().count(), 256);
-            assert_eq!(crate::run(&mut store.clone(), 100), Reply::RanFor(100, Answer::Ran(0)));
+            let steps = if held == Held::Nothing { (0, Answer::Idle) } else { (100, Answer::Ran(0)) };
+            assert_eq!(crate::run(&mut store.clone(), 100), Reply::RanFor(steps.0, steps.1));
             assert_eq!(crate::sweep(&mut store), Reply::Swept(freed), "{held:?}");
         }
         for freed in [false, true] {
