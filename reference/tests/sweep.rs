@@ -5,7 +5,7 @@ use reference::gen::damage::damaged;
 use reference::gen::graphs::graphs;
 use reference::gen::reach::{reached, Without};
 use reference::gen::swept::{
-    cycles, held_by_a_local, held_by_a_waiting_frame, held_by_an_operand, held_by_fields, held_by_inherited_fields, held_by_the_report,
+    a_deep_chain, cycles, held_by_a_local, held_by_a_waiting_frame, held_by_an_operand, held_by_fields, held_by_inherited_fields, held_by_the_report,
     lowest_numbers, twice, NODE,
 };
 use reference::gen::Trial;
@@ -31,6 +31,7 @@ fn what_holds_an_object() {
     assert_eq!(freed(&held_by_the_report()), [1, 0, 2]);
     assert_eq!(freed(&held_by_fields()), [0, 3, 3]);
     assert_eq!(freed(&held_by_inherited_fields()), [0, 1, 1, 1]);
+    assert_eq!(freed(&a_deep_chain()), [0, 256]);
     assert_eq!(freed(&cycles()), [0, 0, 3]);
     assert_eq!(freed(&twice()), [0, 1, 0]);
 }

@@ -51,8 +51,8 @@ struct Graphs {
 impl Graphs {
     fn turn(&mut self) {
         let idle = self.trial.store.turn().is_none();
-        let start = if idle { 12 } else { 2 };
-        match self.rng.weighted(&[start, 4, 10, self.sweeps, 1]) {
+        let (start, sweeps) = if idle { (16, 1) } else { (3, self.sweeps) };
+        match self.rng.weighted(&[start, 4, 10, sweeps, 1]) {
             0 => {
                 let (task, class) = (self.rng.below(2) as u16, self.rng.pick(&[NODE, LOWER]));
                 if self.trial.start(task, 1, class, MAIN, 7) == Reply::Denied(Refusal::Word(word::FULL)) {
@@ -71,7 +71,7 @@ impl Graphs {
 
     /// A run; where it has no room it is swept, and a task that still can't go on is dropped, mostly.
     fn run(&mut self) {
-        let n = self.rng.pick(&[1, 5, 20, 60, 300]);
+        let n = self.rng.pick(&[3, 10, 30, 60, 300]);
         for _ in 0..2 {
             let Reply::RanFor(_, Answer::Refused(refusal)) = self.trial.run(n) else {
                 return;
@@ -130,7 +130,7 @@ impl<'a> Weaver<'a> {
     }
 
     fn action(&mut self) {
-        match self.rng.weighted(&[5, 8, 3, 2, 2, 1, 2, 2, 3]) {
+        match self.rng.weighted(&[5, 8, 3, 2, 2, 1, 4, 2, 3]) {
             0 => self.make(),
             1 => self.link(),
             2 => self.follow(),
@@ -235,7 +235,7 @@ impl<'a> Weaver<'a> {
         if self.locals[usize::from(local)].is_none() {
             self.emit(|code| code.null().astore(local));
         }
-        for _ in 0..self.rng.within(1, 8) {
+        for _ in 0..self.rng.within(1, 9) {
             self.emit(|code| prepend(code, local));
         }
         self.locals[usize::from(local)] = Some(Held { of: Some(NODE), sure: true });

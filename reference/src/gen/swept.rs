@@ -86,6 +86,22 @@ pub fn held_by_inherited_fields() -> Trial {
     swept_after(quoting(fields.into_iter().fold(linked, unlink)), &[11, 3, 3, 3])
 }
 
+/// One chain of 255 that only the top of 32 frames holds, in a full store; then the task is dropped. It frees 0, 256.
+pub fn a_deep_chain() -> Trial {
+    const DEEP: u16 = 22;
+    let call = |code: Code, chain: u8| code.aload(0).aload(chain).null().astore(chain).invoke(NODE, DEEP, NODE, NODE);
+    let mut trial = Trial::ready([1]);
+    let main = call(Code::new().null().astore(2), 2).pop().end(INT);
+    let deep = call((0..9).fold(Code::new(), |code, _| prepend(code, 1)), 1).areturn();
+    trial.define(1, &Draft::new(NODE).field(FIELDS[0], NODE).main(MAIN, &main).method(DEEP, NODE, NODE, &deep));
+    trial.start(1, 1, NODE, MAIN, 0);
+    trial.run(5_000);
+    trial.sweep();
+    trial.drop_task(1);
+    trial.sweep();
+    trial
+}
+
 /// Two objects that hold each other, and one that holds itself, in locals; then one of the two is let go, and the others. It frees 0, 0, 3.
 pub fn cycles() -> Trial {
     let made = [2, 3, 4].into_iter().fold(Code::new(), |code, local| code.object(NODE).astore(local));
@@ -122,6 +138,6 @@ pub fn twice() -> Trial {
 pub fn swept() -> Vec<Trial> {
     vec![
         held_by_a_local(), held_by_an_operand(), held_by_a_waiting_frame(), held_by_the_report(), held_by_fields(),
-        held_by_inherited_fields(), cycles(), lowest_numbers(), twice(),
+        held_by_inherited_fields(), a_deep_chain(), cycles(), lowest_numbers(), twice(),
     ]
 }
