@@ -5,8 +5,8 @@ use reference::gen::damage::damaged;
 use reference::gen::graphs::graphs;
 use reference::gen::reach::{reached, Without};
 use reference::gen::swept::{
-    a_deep_chain, cycles, held_by_a_local, held_by_a_waiting_frame, held_by_an_operand, held_by_fields, held_by_inherited_fields, held_by_the_report,
-    lowest_numbers, twice, NODE,
+    a_deep_chain, cycles, held_by_a_local, held_by_a_waiting_frame, held_by_an_operand, held_by_fields, held_by_inherited_fields,
+    held_by_the_report, lowest_numbers, twice, NODE,
 };
 use reference::gen::Trial;
 use reference::store::{count, Store, Value, FREE, INT};

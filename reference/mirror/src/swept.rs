@@ -4,7 +4,8 @@ use std::collections::BTreeSet;
 
 use reference::answer::{denied, word};
 use reference::broken::unbroken;
-use reference::gen::damage::{all_in_use, looked_at};
+use reference::gen::damage::looked_at;
+use reference::gen::objects::all_in_use;
 use reference::gen::reach::{reached, Without};
 use reference::gen::Call;
 use reference::store::{count, FREE, MOST_OBJECTS, OBJECT_ROW};

@@ -7,8 +7,8 @@
 use std::time::{Duration, Instant};
 
 use reference::gen::large::{
-    chain, chain_define, chain_record, full, grid, grid_record, making, objects, posting, tall_tree, tree, usual, usual_define, usual_record,
-    Held, Repeated,
+    chain, chain_define, chain_record, full, grid, grid_record, making, objects, posting, tall_tree, tree, usual, usual_define,
+    usual_record, Held, Repeated,
 };
 use reference::gen::{Call, Trial};
 use reference::host::{self, CELLS};

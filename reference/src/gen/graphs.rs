@@ -1,5 +1,5 @@
-//! Random call lists from a boot about objects: chains, cycles and webs of them, held by locals, operands and frames that wait, in both tasks,
-//! let go and swept, until the store is full and after that.
+//! Random call lists from a boot about objects: chains, cycles and webs of them, held by locals, operands and frames that wait, in both
+//! tasks, let go and swept, until the store is full and after that.
 
 use super::build::{Code, Draft};
 use super::rng::Rng;

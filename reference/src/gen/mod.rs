@@ -13,6 +13,7 @@ pub mod graphs;
 pub mod large;
 pub mod limits;
 pub mod list;
+pub mod objects;
 pub mod reach;
 pub mod rng;
 pub mod scripts;

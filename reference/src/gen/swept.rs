@@ -54,7 +54,8 @@ pub fn held_by_a_waiting_frame() -> Trial {
     swept_after(quoting(code.pop().pop().null().astore(2)), &[6, 4, 2])
 }
 
-/// The report waits while the quote runs. It frees 1 that was there before, 0, and the report's 2, whose lowest number the next report takes.
+/// The report waits while the quote runs. It frees 1 that was there before, then 0, then the report's 2; the next report takes the lower
+/// of their numbers.
 pub fn held_by_the_report() -> Trial {
     let mut trial = quoting(Code::new().object(NODE).astore(2).object(NODE).pop());
     trial.drop_task(0);
