@@ -158,3 +158,18 @@ fn the_sweep_is_the_plain_reading() {
     println!("{stores} stores, {freed} objects freed");
     assert!(stores > 5_000 && freed > 50_000);
 }
+
+/// The lists about objects have many of them.
+#[test]
+fn lists_about_objects_are_about_objects() {
+    let (mut most, mut full) = (0, 0);
+    for seed in 0..200 {
+        let trial = graphs(seed, 40);
+        assert!(matches!(trial.replies[2..4], [Reply::Defined(1), Reply::Defined(2)]), "seed {seed}: {:?}", &trial.replies[..4]);
+        most = most.max(trial.store.objects_in_use().count());
+        let is_full = |reply: &Reply| matches!(reply, Reply::RanFor(_, Answer::Refused(Refusal::Word(10)))) || *reply == FULL;
+        full += usize::from(trial.replies.iter().any(is_full));
+    }
+    println!("at most {most} objects at an end, {full} of 200 lists were told 'full'");
+    assert!(most > 100 && full > 10);
+}

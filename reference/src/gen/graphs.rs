@@ -12,9 +12,9 @@ const MAIN: u16 = 20;
 /// Methods from a node to a node; each calls those behind it, mostly.
 const METHODS: [u16; 3] = [21, 22, 23];
 /// Code that is longer gets no more instructions.
-const LONG: usize = 420;
+const LONG: usize = 360;
 
-/// A list of so many turns, one to three calls each.
+/// A list of so many turns, one to five calls each.
 pub fn graphs(seed: u64, turns: usize) -> Trial {
     let mut rng = Rng::new(seed ^ 0x67_72_61_70);
     let mut trial = Trial::ready([1]);
