@@ -1,3 +1,6 @@
 -- The first document's machine, kept, and what today's machine has in common with it.
 pub mod Machine
-pub mod Same
+pub mod Tables
+pub mod Broken
+pub mod Calls
+pub mod Objects
