@@ -4,3 +4,5 @@ pub mod Tables
 pub mod Broken
 pub mod Calls
 pub mod Objects
+pub mod Likewise
+pub mod Steps
