@@ -6,3 +6,4 @@ pub mod Calls
 pub mod Objects
 pub mod Likewise
 pub mod Steps
+pub mod SameRows
