@@ -7,3 +7,4 @@ pub mod Objects
 pub mod Likewise
 pub mod Steps
 pub mod SameRows
+pub mod Carries

@@ -1,0 +1,125 @@
+-- Today's tables that carry the first document's: what that is, and that then both read the same rows, are broken together, and still carry where the same rows
+-- are written.
+use mathlib.Core.Path.{_≡_, refl, sym, ap, subst, _∙_}
+use mathlib.Core.Bool.{Bool, true, false, not}
+use mathlib.Core.List.{List, [], _∷_, _++_}
+use Prim.Native.Nat.{ℕ, zero, suc, _+_, _<_, _≤_}
+use native.Mathlib.Omega.{arith}
+use lib.ListN.{length, getD, set, length-set, length-append, List·getD-append}
+use lib.Seq.{getD-append-add, set-append-left, getD-set-same, getD-set-other}
+use lib.Dec.{eqb, leb}
+use borrow.Author.Tests.{eqb-true, eqb-false, eq-eqb, ne-eqb, leb-true}
+use Rattle.definition.specs.Numbers.{taskLimit, classLimit, keptLimit, cacheLimit, tieLimit, subtypeLimit, objectLimit, frameLimit, countClasses, countKept, countCache, countTies, countSubtypes, countObjects, countFrames, ownersCell, countsLength, classesLength, keptLength, cacheLength, tiesLength, subtypesLength, objectsLength, framesLength}
+use Rattle.definition.specs.Lists.{every, rows, writeRows, stack, writeStack}
+use Rattle.definition.specs.Classes.{Base}
+use Rattle.definition.specs.Machine.{Object, ObjectRow, owned, Objects}
+use Rattle.definition.specs.Tables.{Tables, tables, shaped, Rows, baseOf, classRowAt, putClassRow, entryAt, putEntry, tieAt, putTie, subtypeAt, putSubtype, objectAt, putObject, ownedBy, ownerOf, ownerAt, putOwner, objectRowAt, putObjectRow, frameIn, putFrameIn, viewBase, objectsOf, framesOf, viewOver, view, countsOf, put}
+use Rattle.definition.specs.Broken.{within, sound, whole, broken}
+use Rattle.layout.specs.Places.{writeRows-length}
+use Rattle.layout.specs.Tests.{every-true}
+use Rattle.first.specs.Tables.{FirstTables, firstCountsLength, firstShaped, FirstRows, firstRowsOf, firstObjectsOf, firstViewOver, firstView, firstCountsOf, firstPut}
+use Rattle.first.specs.Broken.{firstSound, firstWhole, firstBroken}
+use Rattle.first.specs.Objects.{SameObjects, noObjects, sameObject, same-count}
+use Rattle.first.specs.SameRows.{plain, SameRows, same-sound}
+
+-- an owner cell that says a task, whichever
+abbrev pub IsOwner : ℕ → Type 0
+IsOwner w = (k : ℕ) × (k < taskLimit) × (w ≡ suc k)
+
+-- today's tables, but for the counts
+abbrev pub withCounts : List ℕ → Tables → FirstTables
+withCounts n t = tables n (t .classes) (t .kept) (t .cache) (t .ties) (t .subtypes) (t .objects) (t .frames)
+
+-- Today's tables t say what the first document's tables u say: the eight counts are those of u, with 256 owners behind them, every object that u has is owned by
+-- a task, and the other seven tables are the same
+pub record Carries (u : FirstTables) (t : Tables) : Type 0 where
+  pub owners : List ℕ
+  pub counts : t .counts ≡ u .counts ++ owners
+  pub all : length owners ≡ objectLimit
+  pub tasks : (o : ℕ) → o < getD (u .counts) countObjects 0 → o < objectLimit → IsOwner (getD owners o 0)
+  pub rest : u ≡ withCounts (u .counts) t
+
+-- The published lengths
+
+same-length : (n : ℕ) → eqb n firstCountsLength ≡ eqb (n + objectLimit) countsLength
+same-length n = go (eqb n firstCountsLength) refl
+  where
+    go : (b : Bool) → eqb n firstCountsLength ≡ b → b ≡ eqb (n + objectLimit) countsLength
+    go true e = sym (eq-eqb (n + objectLimit) countsLength (ap (λ (z : ℕ). z + objectLimit) (eqb-true n firstCountsLength e)))
+    go false e = sym (ne-eqb (n + objectLimit) countsLength (λ q. eqb-false n firstCountsLength e (omega arith)))
+
+pub same-shaped : (u : FirstTables) (t : Tables) → Carries u t → firstShaped u ≡ shaped t
+unfolding firstShaped shaped
+same-shaped u t h =
+    let n : length (t .counts) ≡ length (u .counts) + objectLimit = ap length (h .counts) ∙ (length-append (u .counts) (h .owners) ∙ ap (λ (z : ℕ). length (u .counts) + z) (h .all)) in
+    let e : eqb (length (u .counts)) firstCountsLength ≡ eqb (length (t .counts)) countsLength = same-length (length (u .counts)) ∙ ap (λ (z : ℕ). eqb z countsLength) (sym n) in
+    λ i. every
+    (e i
+    ∷ eqb (length (h .rest i .classes)) classesLength
+    ∷ eqb (length (h .rest i .kept)) keptLength
+    ∷ eqb (length (h .rest i .cache)) cacheLength
+    ∷ eqb (length (h .rest i .ties)) tiesLength
+    ∷ eqb (length (h .rest i .subtypes)) subtypesLength
+    ∷ eqb (length (h .rest i .objects)) objectsLength
+    ∷ eqb (length (h .rest i .frames)) framesLength
+    ∷ [])
+
+-- Reading. The eight counts are where they were.
+
+-- rows whose owners are tasks hold the same objects
+same-read : (b : Base) (n t : List ℕ) (k i : ℕ) → ((m : ℕ) → i ≤ m → m < i + k → IsOwner (ownerAt n m)) → SameObjects (rows (objectAt b t) k i) (rows (objectRowAt b n t) k i)
+unfolding rows objectRowAt ownedBy
+same-read b n t zero i h = noObjects
+same-read b n t (suc k) i h =
+    let w = h i (omega arith) (omega arith) in
+    rw (w .2) (sameObject (w .1) (same-read b n t k (suc i) (λ m a l. h m (omega arith) (omega arith))))
+
+module _ (u : FirstTables) (t : Tables) (h : Carries u t) (eight : length (u .counts) ≡ firstCountsLength) where
+  same-cell : (j : ℕ) → j < firstCountsLength → getD (u .counts) j 0 ≡ getD (t .counts) j 0
+  same-cell j l = sym (ap (λ (z : List ℕ). getD z j 0) (h .counts) ∙ List·getD-append (u .counts) (h .owners) 0 j (omega arith))
+
+  same-owner : (o : ℕ) → ownerAt (t .counts) o ≡ getD (h .owners) o 0
+  unfolding ownerAt
+  same-owner o = ap (λ (z : List ℕ). getD z (ownersCell + o) 0) (h .counts) ∙ (rw eight at (getD-append-add (u .counts) (h .owners) o 0))
+
+  same-within : within (u .counts) ≡ within (t .counts)
+  unfolding within
+  same-within = λ i. every
+      (leb (same-cell countClasses (omega arith) i) classLimit
+      ∷ leb (same-cell countKept (omega arith) i) keptLimit
+      ∷ leb (same-cell countCache (omega arith) i) cacheLimit
+      ∷ leb (same-cell countTies (omega arith) i) tieLimit
+      ∷ leb (same-cell countSubtypes (omega arith) i) subtypeLimit
+      ∷ leb (same-cell countObjects (omega arith) i) objectLimit
+      ∷ leb (same-cell countFrames (omega arith) i) frameLimit
+      ∷ leb (same-cell (countFrames + 1) (omega arith) i) frameLimit
+      ∷ [])
+
+  same-base : viewBase u ≡ viewBase t
+  same-base = λ i. baseOf
+      (rows (classRowAt (h .rest i .classes)) (same-cell countClasses (omega arith) i) 0)
+      (rows (λ j. getD (h .rest i .kept) j 0) (same-cell countKept (omega arith) i) 0)
+      (rows (entryAt (h .rest i .cache)) (same-cell countCache (omega arith) i) 0)
+
+  same-objects : getD (u .counts) countObjects 0 ≤ objectLimit → SameObjects (firstObjectsOf (viewBase u) u) (objectsOf (viewBase t) t)
+  unfolding firstObjectsOf objectsOf
+  same-objects few =
+      let e : rows (objectAt (viewBase u) (u .objects)) (getD (u .counts) countObjects 0) 0 ≡ rows (objectAt (viewBase t) (t .objects)) (getD (t .counts) countObjects 0) 0 =
+      λ i. rows (objectAt (same-base i) (h .rest i .objects)) (same-cell countObjects (omega arith) i) 0 in
+      rw e (same-read (viewBase t) (t .counts) (t .objects) (getD (t .counts) countObjects 0) 0
+      (λ m _ l. rw (same-owner m) (h .tasks m (omega (arith, same-cell countObjects (omega arith))) (omega (arith, same-cell countObjects (omega arith))))))
+
+  pub same-view : getD (u .counts) countObjects 0 ≤ objectLimit → SameRows (firstView u) (view t)
+  unfolding firstView firstViewOver view viewOver framesOf
+  same-view few = record {
+    rest = λ i. firstRowsOf
+        (rows (classRowAt (h .rest i .classes)) (same-cell countClasses (omega arith) i) 0)
+        (rows (λ j. getD (h .rest i .kept) j 0) (same-cell countKept (omega arith) i) 0)
+        (rows (entryAt (h .rest i .cache)) (same-cell countCache (omega arith) i) 0)
+        (rows (tieAt (h .rest i .ties)) (same-cell countTies (omega arith) i) 0)
+        (rows (subtypeAt (h .rest i .subtypes)) (same-cell countSubtypes (omega arith) i) 0)
+        (firstObjectsOf (viewBase u) u)
+        (stack (frameIn (h .rest i .frames) 0) (same-cell countFrames (omega arith) i))
+        (stack (frameIn (h .rest i .frames) 1) (same-cell (countFrames + 1) (omega arith) i));
+    objects = same-objects few;
+  }
