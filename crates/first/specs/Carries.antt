@@ -1,5 +1,4 @@
--- Today's tables that carry the first document's: what that is, and that then both read the same rows, are broken together, and still carry where the same rows
--- are written.
+-- Today's tables that carry the first document's: what that is, and that then both are broken or both hold the same rows.
 use mathlib.Core.Path.{_≡_, refl, sym, ap, subst, _∙_}
 use mathlib.Core.Bool.{Bool, true, false, not}
 use mathlib.Core.List.{List, [], _∷_, _++_}
@@ -8,14 +7,15 @@ use native.Mathlib.Omega.{arith}
 use lib.ListN.{length, getD, set, length-set, length-append, List·getD-append}
 use lib.Seq.{getD-append-add, set-append-left, getD-set-same, getD-set-other}
 use lib.Dec.{eqb, leb}
-use borrow.Author.Tests.{eqb-true, eqb-false, eq-eqb, ne-eqb, leb-true}
+use borrow.Author.Tests.{eqb-true, eqb-false, eq-eqb, ne-eqb, leb-true, not-false}
 use Rattle.definition.specs.Numbers.{taskLimit, classLimit, keptLimit, cacheLimit, tieLimit, subtypeLimit, objectLimit, frameLimit, countClasses, countKept, countCache, countTies, countSubtypes, countObjects, countFrames, ownersCell, countsLength, classesLength, keptLength, cacheLength, tiesLength, subtypesLength, objectsLength, framesLength}
 use Rattle.definition.specs.Lists.{every, rows, writeRows, stack, writeStack}
 use Rattle.definition.specs.Classes.{Base}
 use Rattle.definition.specs.Machine.{Object, ObjectRow, owned, Objects}
 use Rattle.definition.specs.Tables.{Tables, tables, shaped, Rows, baseOf, classRowAt, putClassRow, entryAt, putEntry, tieAt, putTie, subtypeAt, putSubtype, objectAt, putObject, ownedBy, ownerOf, ownerAt, putOwner, objectRowAt, putObjectRow, frameIn, putFrameIn, viewBase, objectsOf, framesOf, viewOver, view, countsOf, put}
 use Rattle.definition.specs.Broken.{within, sound, whole, broken}
-use Rattle.layout.specs.Places.{writeRows-length}
+use Rattle.layout.specs.Places.{rows-getD, writeRows-length}
+use Rattle.layout.specs.Rows.{rows-back, cell-rows}
 use Rattle.layout.specs.Tests.{every-true}
 use Rattle.first.specs.Tables.{FirstTables, firstCountsLength, firstShaped, FirstRows, firstRowsOf, firstObjectsOf, firstViewOver, firstView, firstCountsOf, firstPut}
 use Rattle.first.specs.Broken.{firstSound, firstWhole, firstBroken}
@@ -123,3 +123,32 @@ module _ (u : FirstTables) (t : Tables) (h : Carries u t) (eight : length (u .co
         (stack (frameIn (h .rest i .frames) 1) (same-cell (countFrames + 1) (omega arith) i));
     objects = same-objects few;
   }
+
+-- 'Broken'
+
+-- tests in sequence: the second is asked only where the first passed
+in-turn : (a b : Bool) (xs ys : List Bool) → a ≡ b → (a ≡ true → every xs ≡ every ys) → every (a ∷ xs) ≡ every (b ∷ ys)
+unfolding every
+in-turn true b xs ys e k = rw (← e) (k refl)
+in-turn false b xs ys e k = rw (← e) refl
+
+module _ (u : FirstTables) (t : Tables) (h : Carries u t) where
+  pub eight-counts : firstShaped u ≡ true → length (u .counts) ≡ firstCountsLength
+  unfolding firstShaped
+  eight-counts s = eqb-true _ _ (every-true _ s .0)
+
+  -- of the first document's lengths, and counts within the limits: both hold the same rows
+  same-rows : firstShaped u ≡ true → within (u .counts) ≡ true → SameRows (firstView u) (view t)
+  unfolding within
+  same-rows s w = same-view u t h (eight-counts s) (leb-true _ _ (every-true _ w .1 .1 .1 .1 .1 .0))
+
+  pub same-whole : firstWhole u ≡ whole t
+  unfolding firstWhole whole
+  same-whole =
+      in-turn _ _ _ _ (same-shaped u t h) (λ s. in-turn _ _ _ _ (same-within u t h (eight-counts s)) (λ w.
+      let r = same-rows s w in
+      ap (λ (z : Bool). every (z ∷ [])) (ap firstSound (r .rest) ∙ same-sound (firstView u .objects) (view t) (r .objects))))
+
+  pub unbroken-rows : firstBroken u ≡ false → SameRows (firstView u) (view t)
+  unfolding firstBroken firstWhole
+  unbroken-rows e = let p = every-true _ (not-false _ e) in same-rows (p .0) (p .1 .0)

@@ -8,3 +8,4 @@ pub mod Likewise
 pub mod Steps
 pub mod SameRows
 pub mod Carries
+pub mod Written
