@@ -142,13 +142,18 @@ module _ (u : FirstTables) (t : Tables) (h : Carries u t) where
   unfolding within
   same-rows s w = same-view u t h (eight-counts s) (leb-true _ _ (every-true _ w .1 .1 .1 .1 .1 .0))
 
-  pub same-whole : firstWhole u ≡ whole t
-  unfolding firstWhole whole
-  same-whole =
-      in-turn _ _ _ _ (same-shaped u t h) (λ s. in-turn _ _ _ _ (same-within u t h (eight-counts s)) (λ w.
+  pub same-broken : firstBroken u ≡ broken t
+  unfolding firstBroken broken firstWhole whole
+  same-broken = ap not
+      (in-turn _ _ _ _ (same-shaped u t h) (λ s. in-turn _ _ _ _ (same-within u t h (eight-counts s)) (λ w.
       let r = same-rows s w in
-      ap (λ (z : Bool). every (z ∷ [])) (ap firstSound (r .rest) ∙ same-sound (firstView u .objects) (view t) (r .objects))))
+      ap (λ (z : Bool). every (z ∷ [])) (ap firstSound (r .rest) ∙ same-sound (firstView u .objects) (view t) (r .objects)))))
 
-  pub unbroken-rows : firstBroken u ≡ false → SameRows (firstView u) (view t)
+  -- a store that isn't broken
+  pub record SameStore : Type 0 where
+    pub eight : length (u .counts) ≡ firstCountsLength
+    pub rows : SameRows (firstView u) (view t)
+
+  pub same-store : firstBroken u ≡ false → SameStore
   unfolding firstBroken firstWhole
-  unbroken-rows e = let p = every-true _ (not-false _ e) in same-rows (p .0) (p .1 .0)
+  same-store e = let p = every-true _ (not-false _ e) in record { eight = eight-counts (p .0); rows = same-rows (p .0) (p .1 .0) }

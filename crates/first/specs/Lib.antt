@@ -9,3 +9,5 @@ pub mod Steps
 pub mod SameRows
 pub mod Carries
 pub mod Written
+pub mod SameCalls
+pub mod Same
