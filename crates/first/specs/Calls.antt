@@ -114,16 +114,16 @@ firstRun n t = elim (firstBroken t) as (λ _. FirstDone FirstReply) [
 
 -- A call but boot, step and run refuses or puts rows: what it does is said on rows alone
 pub data FirstRowCall : Type 0 where
-  firstDefine : ℕ → List ℕ → FirstRowCall
-  firstRecord : ℕ → ℕ → ℕ → FirstRowCall
-  firstStart : ℕ → ℕ → ℕ → ℕ → ℕ → FirstRowCall
-  firstDrop : ℕ → FirstRowCall
+  firstRowDefine : ℕ → List ℕ → FirstRowCall
+  firstRowRecord : ℕ → ℕ → ℕ → FirstRowCall
+  firstRowStart : ℕ → ℕ → ℕ → ℕ → ℕ → FirstRowCall
+  firstRowDrop : ℕ → FirstRowCall
 
 abbrev pub firstOnRowCall : FirstRowCall → FirstRows → Result (FirstGiven FirstReply)
-firstOnRowCall (firstDefine l bs) = firstDefineRows l bs
-firstOnRowCall (firstRecord l n c) = firstRecordRows l n c
-firstOnRowCall (firstStart k l n m v) = firstStartRows k l n m v
-firstOnRowCall (firstDrop k) = firstDropRows k
+firstOnRowCall (firstRowDefine l bs) = firstDefineRows l bs
+firstOnRowCall (firstRowRecord l n c) = firstRecordRows l n c
+firstOnRowCall (firstRowStart k l n m v) = firstStartRows k l n m v
+firstOnRowCall (firstRowDrop k) = firstDropRows k
 
 pub data FirstCall : Type 0 where
   firstCallBoot : FirstCall

@@ -1,26 +1,23 @@
 -- Today's tables that carry the first document's: what that is, and that then both are broken or both hold the same rows.
-use mathlib.Core.Path.{_≡_, refl, sym, ap, subst, _∙_}
+use mathlib.Core.Path.{_≡_, refl, sym, ap, _∙_}
 use mathlib.Core.Bool.{Bool, true, false, not}
 use mathlib.Core.List.{List, [], _∷_, _++_}
 use Prim.Native.Nat.{ℕ, zero, suc, _+_, _<_, _≤_}
 use native.Mathlib.Omega.{arith}
-use lib.ListN.{length, getD, set, length-set, length-append, List·getD-append}
-use lib.Seq.{getD-append-add, set-append-left, getD-set-same, getD-set-other}
+use lib.ListN.{length, getD, replicate, length-replicate, getD-replicate, length-append, List·getD-append}
+use lib.Seq.{getD-append-add}
 use lib.Dec.{eqb, leb}
 use borrow.Author.Tests.{eqb-true, eqb-false, eq-eqb, ne-eqb, leb-true, not-false}
 use Rattle.definition.specs.Numbers.{taskLimit, classLimit, keptLimit, cacheLimit, tieLimit, subtypeLimit, objectLimit, frameLimit, countClasses, countKept, countCache, countTies, countSubtypes, countObjects, countFrames, ownersCell, countsLength, classesLength, keptLength, cacheLength, tiesLength, subtypesLength, objectsLength, framesLength}
-use Rattle.definition.specs.Lists.{every, rows, writeRows, stack, writeStack}
+use Rattle.definition.specs.Lists.{every, rows, stack}
 use Rattle.definition.specs.Classes.{Base}
-use Rattle.definition.specs.Machine.{Object, ObjectRow, owned, Objects}
-use Rattle.definition.specs.Tables.{Tables, tables, shaped, Rows, baseOf, classRowAt, putClassRow, entryAt, putEntry, tieAt, putTie, subtypeAt, putSubtype, objectAt, putObject, ownedBy, ownerOf, ownerAt, putOwner, objectRowAt, putObjectRow, frameIn, putFrameIn, viewBase, objectsOf, framesOf, viewOver, view, countsOf, put}
-use Rattle.definition.specs.Broken.{within, sound, whole, broken}
-use Rattle.layout.specs.Places.{rows-getD, writeRows-length}
-use Rattle.layout.specs.Rows.{rows-back, cell-rows}
+use Rattle.definition.specs.Tables.{Tables, tables, shaped, baseOf, classRowAt, entryAt, tieAt, subtypeAt, objectAt, ownedBy, ownerAt, objectRowAt, frameIn, viewBase, objectsOf, framesOf, viewOver, view}
+use Rattle.definition.specs.Broken.{within, whole, broken}
 use Rattle.layout.specs.Tests.{every-true}
-use Rattle.first.specs.Tables.{FirstTables, firstCountsLength, firstShaped, FirstRows, firstRowsOf, firstObjectsOf, firstViewOver, firstView, firstCountsOf, firstPut}
+use Rattle.first.specs.Tables.{FirstTables, firstCountsLength, firstShaped, firstRowsOf, firstObjectsOf, firstViewOver, firstView}
 use Rattle.first.specs.Broken.{firstSound, firstWhole, firstBroken}
-use Rattle.first.specs.Objects.{SameObjects, noObjects, sameObject, same-count}
-use Rattle.first.specs.SameRows.{plain, SameRows, same-sound}
+use Rattle.first.specs.SameObjects.{SameObjects, noObjects, sameObject}
+use Rattle.first.specs.SameRows.{SameRows, same-sound}
 
 -- an owner cell that says a task, whichever
 abbrev pub IsOwner : ℕ → Type 0
@@ -30,14 +27,26 @@ IsOwner w = (k : ℕ) × (k < taskLimit) × (w ≡ suc k)
 abbrev pub withCounts : List ℕ → Tables → FirstTables
 withCounts n t = tables n (t .classes) (t .kept) (t .cache) (t .ties) (t .subtypes) (t .objects) (t .frames)
 
--- Today's tables t say what the first document's tables u say: the eight counts are those of u, with 256 owners behind them, every object that u has is owned by
--- a task, and the other seven tables are the same
+-- Today's tables t say what the first document's tables u say
 pub record Carries (u : FirstTables) (t : Tables) : Type 0 where
+  -- behind the counts of u stands an owner for each of the 256 rows of objects
   pub owners : List ℕ
   pub counts : t .counts ≡ u .counts ++ owners
   pub all : length owners ≡ objectLimit
+  -- that of an object of u is a task, whichever; what an unused row's cell says doesn't matter
   pub tasks : (o : ℕ) → o < getD (u .counts) countObjects 0 → o < objectLimit → IsOwner (getD owners o 0)
+  -- the other seven tables are the same
   pub rest : u ≡ withCounts (u .counts) t
+
+-- every tables of the first document are carried: by those in which task k owns every row
+pub carrying : (k : ℕ) → k < taskLimit → (u : FirstTables) → Carries u (withCounts (u .counts ++ replicate objectLimit (suc k)) u)
+carrying k two u = record {
+  owners = replicate objectLimit (suc k);
+  counts = refl;
+  all = length-replicate objectLimit (suc k);
+  tasks = λ o _ l. (k, two, getD-replicate objectLimit o (suc k) 0 l);
+  rest = refl;
+}
 
 -- The published lengths
 

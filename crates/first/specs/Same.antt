@@ -17,7 +17,7 @@ use Rattle.first.specs.Tables.{FirstTables}
 use Rattle.first.specs.Calls.{FirstReply, FirstCall, firstCallBoot, firstCallRows, firstCallStep, firstCallRun, FirstDone, firstPerform, firstPerformAll}
 use Rattle.first.specs.SameRows.{todayRow}
 pub use Rattle.first.specs.Carries.{Carries, same-broken}
-use Rattle.first.specs.SameCalls.{SameDone, same-boot, same-rows-call, same-step-tables, same-run}
+use Rattle.first.specs.SameCalls.{same-boot, same-rows-call, same-step-tables, same-run}
 
 -- a call of the first document, asked of today's machine
 abbrev pub today : FirstCall → Call

@@ -1,7 +1,6 @@
 -- A call of both machines on tables of which today's carry the first document's: the same answer, and tables that carry again.
-use mathlib.Core.Path.{_≡_, refl, sym, ap, subst, _∙_}
+use mathlib.Core.Path.{_≡_, refl, ap}
 use mathlib.Core.Bool.{Bool, true, false, _&&_}
-use mathlib.Core.List.{List, [], _∷_}
 use Prim.Native.Nat.{ℕ, zero, suc}
 use lib.ListN.{length}
 use lib.Dec.{leb}
@@ -9,20 +8,17 @@ use Rattle.definition.specs.declared.Refusal.{Refusal}
 use Rattle.definition.specs.declared.Refusal.the-variants.{Word}
 use Rattle.definition.specs.declared.Answer.{Answer}
 use Rattle.definition.specs.declared.Answer.the-variants.{Idle, Ran, Finished, Refused}
-use Rattle.definition.specs.declared.Reply.{Reply}
-use Rattle.definition.specs.declared.Reply.the-variants.{Accepted, RanFor, Denied}
-use Rattle.definition.specs.Numbers.{wordBroken, wordUnknown, runLimit}
+use Rattle.definition.specs.declared.Reply.the-variants.{Denied}
+use Rattle.definition.specs.Numbers.{wordUnknown, runLimit}
 use Rattle.definition.specs.Answers.{Result, refused, ok}
-use Rattle.definition.specs.Tables.{Tables, shaped, Rows, view, put}
-use Rattle.definition.specs.Broken.{broken}
+use Rattle.definition.specs.Tables.{Tables, Rows, view}
 use Rattle.definition.specs.Calls.{Given, bootRows, Done, done, carried, wrap, boot, stepRows, stepTables, goOn, runFrom, run, onRowCall}
-use Rattle.first.specs.Tables.{FirstTables, firstCountsLength, firstShaped, FirstRows, firstView, firstPut}
-use Rattle.first.specs.Broken.{firstBroken}
+use Rattle.first.specs.Tables.{FirstTables, firstCountsLength, FirstRows, firstView}
 use Rattle.first.specs.Calls.{FirstGiven, firstBootRows, FirstDone, firstCarried, firstWrap, firstBoot, firstStepRows, firstStepTables, firstRun, FirstRowCall, firstOnRowCall}
-use Rattle.first.specs.Objects.{noObjects}
+use Rattle.first.specs.SameObjects.{noObjects}
 use Rattle.first.specs.Likewise.{Likewise}
-use Rattle.first.specs.SameRows.{plain, SameRows, SameGiven, todayRow, same-row-call, same-step-rows}
-use Rattle.first.specs.Carries.{Carries, eight-counts, same-shaped, same-broken, SameStore, same-store}
+use Rattle.first.specs.SameRows.{SameRows, SameGiven, todayRow, same-row-call, same-step-rows}
+use Rattle.first.specs.Carries.{Carries, eight-counts, same-shaped, same-broken, same-store}
 use Rattle.first.specs.Written.{same-rows-put}
 
 pub record SameDone {A : Type 0} (d : FirstDone A) (e : Done A) : Type 0 where

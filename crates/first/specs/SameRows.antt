@@ -1,4 +1,5 @@
--- Both machines on the same rows: today's, with the objects that SameObjects gives. The same rows are sound together, and a call leaves the same rows again.
+-- The same rows in both machines: the same objects, and every other part equal. They are sound together, and a call on them gives the same answer and leaves
+-- the same rows again.
 use mathlib.Core.Path.{_≡_, refl, ap, _∙_}
 use mathlib.Core.Bool.{Bool, true, false}
 use mathlib.Core.List.{List, [], _∷_}
@@ -7,12 +8,8 @@ use native.Mathlib.Omega.{arith}
 use lib.ListN.{length}
 use lib.Dec.{leb, ltb}
 use borrow.Author.Tests.{ltb-true, lt-ltb}
-use Rattle.definition.specs.declared.Answer.{Answer}
-use Rattle.definition.specs.declared.Reply.{Reply}
 use Rattle.definition.specs.Numbers.{taskLimit, operandLimit}
 use Rattle.definition.specs.Lists.{every, all, isSome}
-use Rattle.definition.specs.Constraints.{World}
-use Rattle.definition.specs.Answers.{Result, _>>=_}
 use Rattle.definition.specs.Machine.{Value, emptyValue, intValue, nullValue, objectValue, unlistedValue, Object, owned, Objects, Frame, Progress}
 use Rattle.definition.specs.Tables.{Rows, worldOf, framesIn}
 use Rattle.definition.specs.Broken.{classesFit, entryFits, tieFits, subtypeFits, valueFits, localFits, objectFits, frameFits, sound}
@@ -20,10 +17,10 @@ use Rattle.definition.specs.Calls.{Given, progressed, answerOf, defineRows, rec
 use Rattle.first.specs.Machine.{FirstProgress}
 use Rattle.first.specs.Tables.{FirstRows, firstRowsOf}
 use Rattle.first.specs.Broken.{firstValueFits, firstLocalFits, firstObjectFits, firstFrameFits, firstSound}
-use Rattle.first.specs.Calls.{FirstGiven, firstProgressed, firstDefineRows, firstRecordRows, firstStartRows, firstDropRows, firstStepTask, firstStepOn, firstStepRows, FirstRowCall, firstDefine, firstRecord, firstStart, firstDrop, firstOnRowCall}
-use Rattle.first.specs.Objects.{SameObjects, noObjects, sameObject, same-existing}
+use Rattle.first.specs.Calls.{FirstGiven, firstProgressed, firstDefineRows, firstRecordRows, firstStartRows, firstDropRows, firstStepTask, firstStepOn, firstStepRows, FirstRowCall, firstRowDefine, firstRowRecord, firstRowStart, firstRowDrop, firstOnRowCall}
+use Rattle.first.specs.SameObjects.{SameObjects, noObjects, sameObject, same-existing}
 use Rattle.first.specs.Likewise.{Likewise, both, after, passed}
-use Rattle.first.specs.Steps.{SameProgress, same-step, same-started}
+use Rattle.first.specs.SameSteps.{SameProgress, same-step, same-started}
 
 -- today's rows, but for the objects
 abbrev pub plain : List Object → Rows → FirstRows
@@ -92,10 +89,10 @@ pub record SameGiven {A : Type 0} (g : FirstGiven A) (h : Given A) : Type 0 wher
 
 -- a call of the first document, asked of today's machine
 abbrev pub todayRow : FirstRowCall → RowCall
-todayRow (firstDefine l bs) = rowDefine l bs
-todayRow (firstRecord l n c) = rowRecord l n c
-todayRow (firstStart k l n m v) = rowStart k l n m v
-todayRow (firstDrop k) = rowDrop k
+todayRow (firstRowDefine l bs) = rowDefine l bs
+todayRow (firstRowRecord l n c) = rowRecord l n c
+todayRow (firstRowStart k l n m v) = rowStart k l n m v
+todayRow (firstRowDrop k) = rowDrop k
 
 module _ (os : List Object) (q : Rows) (h : SameObjects os (q .objects)) where
   -- a task's progress
@@ -104,13 +101,13 @@ module _ (os : List Object) (q : Rows) (h : SameObjects os (q .objects)) where
 
   pub same-row-call : (c : FirstRowCall) → Likewise SameGiven (firstOnRowCall c (plain os q)) (onRowCall (todayRow c) q)
   unfolding firstDefineRows defineRows firstRecordRows recordRows firstStartRows startRows firstDropRows dropRows
-  same-row-call (firstDefine l bs) =
+  same-row-call (firstRowDefine l bs) =
       after SameGiven _ _ refl _ _ (λ _. after SameGiven _ _ refl _ _ (λ f. after SameGiven _ _ refl _ _ (λ w. record { answer = refl; rows = record { rest = refl; objects = h } })))
-  same-row-call (firstRecord l n c) = after SameGiven _ _ refl _ _ (λ w. record { answer = refl; rows = record { rest = refl; objects = h } })
-  same-row-call (firstStart k l n m v) =
+  same-row-call (firstRowRecord l n c) = after SameGiven _ _ refl _ _ (λ w. record { answer = refl; rows = record { rest = refl; objects = h } })
+  same-row-call (firstRowStart k l n m v) =
       passed SameGiven _ _ _ _ (λ t. both SameProgress SameGiven _ _ _ _ (same-started os (q .objects) h k (ltb-true k taskLimit t) (worldOf q) l n m v (framesIn k q))
       (λ p o g. record { answer = refl; rows = same-progressed k p o g }))
-  same-row-call (firstDrop k) = after SameGiven _ _ refl _ _ (λ _. record { answer = refl; rows = record { rest = refl; objects = h } })
+  same-row-call (firstRowDrop k) = after SameGiven _ _ refl _ _ (λ _. record { answer = refl; rows = record { rest = refl; objects = h } })
 
   same-task : (k : ℕ) → k < taskLimit → (f : Frame) (fs : List Frame)
       → Likewise SameGiven (firstStepTask k (worldOf q) f fs (plain os q)) (stepTask k (worldOf q) f fs q)

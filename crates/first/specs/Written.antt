@@ -12,7 +12,7 @@ use Rattle.definition.specs.Tables.{Tables, tables, Rows, putClassRow, putEntry
 use Rattle.layout.specs.Places.{rows-getD, writeRows-length}
 use Rattle.layout.specs.Rows.{rows-back, cell-rows}
 use Rattle.first.specs.Tables.{FirstTables, firstCountsLength, FirstRows, firstCountsOf, firstPut}
-use Rattle.first.specs.Objects.{SameObjects, noObjects, sameObject, same-count}
+use Rattle.first.specs.SameObjects.{SameObjects, noObjects, sameObject, same-count}
 use Rattle.first.specs.SameRows.{plain, SameRows}
 use Rattle.first.specs.Carries.{IsOwner, Carries}
 

@@ -1,13 +1,10 @@
 -- One instruction, and a start, of both machines on the same objects: the same refusal, or the same constraints, frames and result, with the same objects again.
-use mathlib.Core.Path.{_≡_, refl, ap}
-use mathlib.Core.Bool.{_&&_, not}
+use mathlib.Core.Path.{_≡_, refl}
 use mathlib.Core.List.{List, [], _∷_}
 use Prim.Native.Nat.{ℕ, _<_}
-use lib.ListN.{length}
-use lib.Dec.{ltb}
 use Rattle.definition.specs.declared.Instruction.{Instruction}
 use Rattle.definition.specs.declared.Instruction.the-variants.{AconstNull, Sipush, Load, Store, Pop, Dup, Arithmetic, Getfield, Putfield, Invokevirtual, New, Return}
-use Rattle.definition.specs.Numbers.{taskLimit, operandLimit}
+use Rattle.definition.specs.Numbers.{taskLimit}
 use Rattle.definition.specs.Classes.{Base, Class}
 use Rattle.definition.specs.Constraints.{World}
 use Rattle.definition.specs.Instructions.{Decoded}
@@ -15,7 +12,7 @@ use Rattle.definition.specs.Machine.{Value, emptyValue, intValue, nullValue, ob
 use Rattle.definition.specs.Loading.{started}
 use Rattle.definition.specs.Answers.{Result, _>>=_}
 use Rattle.first.specs.Machine.{firstObject!, FirstProgress, firstGive, firstExecute, firstStep, firstStarted}
-use Rattle.first.specs.Objects.{SameObjects, same-existing, same-next, same-room, same-made, same-changed}
+use Rattle.first.specs.SameObjects.{SameObjects, same-existing, same-next, same-room, same-made, same-changed}
 use Rattle.first.specs.Likewise.{Likewise, after}
 
 -- today's progress, but for the objects
@@ -29,13 +26,14 @@ pub record SameProgress (p : FirstProgress) (o : Progress) : Type 0 where
 abbrev Popped : Type 0
 Popped = record { top : Value; more : List Value }
 
--- after one answer, that both write alike or not
-module _ {A : Type 0} (o p : Result A) (e : o ≡ p) (f : A → Result FirstProgress) (g : A → Result Progress) where
-  then-by : ((a : A) → Likewise SameProgress (f a) (g a)) → Likewise SameProgress (o >>= f) (p >>= g)
-  then-by = after SameProgress o p e f g
+-- after one answer, which both write alike, or otherwise
+then : {A : Type 0} (o : Result A) (f : A → Result FirstProgress) (g : A → Result Progress)
+    → ((a : A) → Likewise SameProgress (f a) (g a)) → Likewise SameProgress (o >>= f) (o >>= g)
+then o = after SameProgress o o refl
 
-then : {A : Type 0} (o : Result A) (f : A → Result FirstProgress) (g : A → Result Progress) → ((a : A) → Likewise SameProgress (f a) (g a)) → Likewise SameProgress (o >>= f) (o >>= g)
-then o f g = then-by o o refl f g
+then-by : {A : Type 0} (o p : Result A) → o ≡ p → (f : A → Result FirstProgress) (g : A → Result Progress)
+    → ((a : A) → Likewise SameProgress (f a) (g a)) → Likewise SameProgress (o >>= f) (p >>= g)
+then-by = after SameProgress
 
 module _ (os : List Object) (qs : Objects) (h : SameObjects os qs) where
   same-receiver : (b : Base) (e : ℕ) (v : Value) → firstObject! b os e v ≡ object! b qs e v

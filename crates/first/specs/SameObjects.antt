@@ -2,14 +2,13 @@
 -- made and are changed alike.
 use mathlib.Core.Path.{_≡_, refl, ap}
 use mathlib.Core.Bool.{Bool, true, false, not}
-use mathlib.Core.Option.{Option, none, some}
 use mathlib.Core.List.{List, [], _∷_, _++_}
 use Prim.Native.Nat.{ℕ, zero, suc, _<_}
-use lib.ListN.{length, getElem?, set}
+use lib.ListN.{length, set}
 use lib.Dec.{leb, ltb}
 use borrow.Author.Tests.{leb-true, leb-false, lt-ltb, le-ltb}
 use Rattle.definition.specs.Numbers.{taskLimit, objectLimit}
-use Rattle.definition.specs.Machine.{Object, ObjectRow, owned, Objects, objectHeld, existing, unused, made, roomless, rewritten, changed}
+use Rattle.definition.specs.Machine.{Object, owned, Objects, objectHeld, existing, unused, made, roomless, rewritten, changed}
 use Rattle.laws.specs.Objects.{changed-tail}
 use Rattle.first.specs.Machine.{firstExisting}
 
