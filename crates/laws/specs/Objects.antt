@@ -109,7 +109,7 @@ made-exists k x os o h = (h .0, made-keeps k x os o (h .0) (h .1))
 
 -- An object changed: where it exists it becomes the new one, and every other number means what it meant
 
-changed-tail : (y : ObjectRow) (os : Objects) (o : ℕ) (x : Object) → changed (y ∷ os) (suc o) x ≡ y ∷ changed os o x
+pub changed-tail : (y : ObjectRow) (os : Objects) (o : ℕ) (x : Object) → changed (y ∷ os) (suc o) x ≡ y ∷ changed os o x
 unfolding changed
 changed-tail y os o x = go (getElem? os o)
   where
