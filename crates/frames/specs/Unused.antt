@@ -1,22 +1,28 @@
--- The lowest number unused, sought over the owners of object rows: the law is that it is the machine's (`unused-on`, `unused-is`).
+-- Whether an object's number is used, and the lowest that isn't, read off the owners of object rows. The laws are that these are the machine's: `used-there` and
+-- `used-none`, `unused-is` and `unused-on`.
 use mathlib.Core.Path.{_≡_, refl, sym, ap, _∙_}
-use mathlib.Core.Bool.{Bool, true, false}
-use mathlib.Core.Option.{Option·none-ne-some}
-use mathlib.Core.List.{List, [], _∷_}
-use mathlib.Core.Logic.{_≢_}
+use mathlib.Core.Bool.{Bool, true, false, not, false≢true}
+use mathlib.Core.Option.{none, some, Option·none-ne-some}
+use mathlib.Core.List.{List, _∷_}
+use mathlib.Core.Logic.{_≢_, _⊎_, inl, inr}
 use Prim.Native.Nat.{ℕ, zero, suc, _+_, _-_, _<_, _≤_}
 use native.Mathlib.Omega.{arith}
-use lib.ListN.{length, getD, set}
+use lib.ListN.{getD, set}
 use lib.Seq.{getD-set-other}
 use lib.Dec.{eqb, eqb·suc-zero, ltb}
-use borrow.Author.Tests.{eqb-true, eqb-false, eq-eqb, ne-eqb, ltb-true, ltb-false}
-use Rattle.definition.specs.Numbers.{countObjects, ownersCell}
+use borrow.Author.Tests.{eqb-true, eqb-false, ne-eqb, ltb-true, ltb-false, not-true, not-false}
+use Rattle.definition.specs.Numbers.{countObjects}
 use Rattle.definition.specs.Lists.{rows}
 use Rattle.definition.specs.Classes.{Base}
-use Rattle.definition.specs.Machine.{Object, ObjectRow, free, owned, Objects, Exists, unused}
+use Rattle.definition.specs.Instructions.{pick}
+use Rattle.definition.specs.Machine.{existing, Exists, unused}
 use Rattle.definition.specs.Tables.{Tables, objectAt, ownedBy, ownerAt, objectRowAt, objectsOf}
 use Rattle.layout.specs.OwnedRows.{SameOwners, owners-set}
-use Rattle.layout.specs.View.{countAt, object-past, object-free}
+use Rattle.layout.specs.View.{countAt, object-there, object-past, object-free}
+
+-- number o is used: it is below the object count and its row has an owner
+unfoldable pub isUsed : List ℕ → ℕ → Bool
+isUsed N o = pick (ltb o (getD N countObjects 0)) (not (eqb (ownerAt N o) 0)) false
 
 -- the first of k rows from row o on that has no owner, or the row behind them
 unfoldable pub ownerless : List ℕ → ℕ → ℕ → ℕ
@@ -26,6 +32,32 @@ ownerless N (suc k) o = elim (eqb (ownerAt N o) 0) [ true ↦ o | false ↦ owne
 -- the lowest row from row o on that is free or past the object count
 unfoldable pub unusedFrom : List ℕ → ℕ → ℕ
 unusedFrom N o = ownerless N (getD N countObjects 0 - o) o
+
+-- A used number is an object's
+
+module _ (N : List ℕ) (o : ℕ) where
+  pub used-row : isUsed N o ≡ true → (o < getD N 5 0) × (0 < ownerAt N o)
+  unfolding isUsed pick
+  used-row h = go (ltb o (getD N 5 0)) refl h
+    where
+      go : (u : Bool) → ltb o (getD N 5 0) ≡ u → pick u (not (eqb (ownerAt N o) 0)) false ≡ true → (o < getD N 5 0) × (0 < ownerAt N o)
+      go true e q = (ltb-true o (getD N 5 0) e, omega (arith, eqb-false (ownerAt N o) 0 (not-true (eqb (ownerAt N o) 0) q)))
+      go false e q = absurd (false≢true q)
+
+  unused-row : isUsed N o ≡ false → (getD N 5 0 ≤ o) ⊎ (ownerAt N o ≡ 0)
+  unfolding isUsed pick
+  unused-row h = go (ltb o (getD N 5 0)) refl h
+    where
+      go : (u : Bool) → ltb o (getD N 5 0) ≡ u → pick u (not (eqb (ownerAt N o) 0)) false ≡ false → (getD N 5 0 ≤ o) ⊎ (ownerAt N o ≡ 0)
+      go true e q = inr (eqb-true (ownerAt N o) 0 (not-false (eqb (ownerAt N o) 0) q))
+      go false e q = inl (ltb-false o (getD N 5 0) e)
+
+module _ (b : Base) (t : Tables) (o : ℕ) where
+  pub used-there : isUsed (t .counts) o ≡ true → existing (objectsOf b t) o ≡ some (objectAt b (t .objects) o)
+  used-there h = let r = used-row (t .counts) o h in object-there t b o (r .0) (r .1)
+
+  pub used-none : isUsed (t .counts) o ≡ false → existing (objectsOf b t) o ≡ none
+  used-none h = elim (unused-row (t .counts) o h) [ inl l ↦ object-past t b o l | inr e ↦ object-free t b o e ]
 
 -- One row at a time
 
@@ -78,12 +110,12 @@ module _ (b : Base) (t : Tables) where
       rw z (ownerless-rows b (t .counts) (t .objects) (countAt t 5) 0 ∙ omega arith)
 
   -- an object that exists has a row, and its row has an owner
-  exists-row : (o : ℕ) → Exists (objectsOf b t) o → (o < countAt t 5) × (ownerAt (t .counts) o ≢ 0)
-  exists-row o h = (go (ltb o (countAt t 5)) refl, λ e. Option·none-ne-some (h .0) (sym (object-free t b o e) ∙ h .1))
+  exists-row : (o : ℕ) → Exists (objectsOf b t) o → (o < countAt t 5) × (0 < ownerAt (t .counts) o)
+  exists-row o h = used-row (t .counts) o (go (isUsed (t .counts) o) refl)
     where
-      go : (u : Bool) → ltb o (countAt t 5) ≡ u → o < countAt t 5
-      go true e = ltb-true o (countAt t 5) e
-      go false e = absurd (Option·none-ne-some (h .0) (sym (object-past t b o (ltb-false o (countAt t 5) e)) ∙ h .1))
+      go : (u : Bool) → isUsed (t .counts) o ≡ u → isUsed (t .counts) o ≡ true
+      go true e = e
+      go false e = absurd (Option·none-ne-some (h .0) (sym (used-none b t o e) ∙ h .1))
 
   -- where every row below is in use, the search may begin there
   pub unused-on : (from : ℕ) → ((o : ℕ) → o < from → Exists (objectsOf b t) o) → unusedFrom (t .counts) from ≡ unused (objectsOf b t)
@@ -99,7 +131,7 @@ module _ (b : Base) (t : Tables) where
           let l : from ≤ countAt t 5 = few from h in
           let z : countAt t 5 - 0 ≡ from + (countAt t 5 - from) = omega arith in
           let y : 0 + from ≡ from = omega arith in
-          rw z ((ownerless-past (t .counts) from (countAt t 5 - from) 0 (λ i g. (let x : 0 + i ≡ i = omega arith in rw x (exists-row i (h i g) .1)))) ∙ rw y)
+          rw z ((ownerless-past (t .counts) from (countAt t 5 - from) 0 (λ i g. (let x : 0 + i ≡ i = omega arith in rw x (λ e. omega (arith, exists-row i (h i g) .1, e))))) ∙ rw y)
 
 -- a count other than the objects' doesn't matter
 

@@ -24,6 +24,7 @@ ghost use Rattle.definition.specs.Machine.{entryFrame};
 ghost use Rattle.definition.specs.Tables.{valueOf, valueAt, putCells, operandAt, putOperand, localAt, putLocal, fieldAt, putField, putHead, putFrame, putObject, frameBase};
 ghost use Rattle.layout.specs.Cells.{moved};
 ghost use Rattle.frames.specs.Initial.{initialOf, initialObject, putEmpty};
+pub use owners::is_used;
 pub use owners::owner;
 pub use owners::unused;
 pub use owners::write_owner;

@@ -6,7 +6,7 @@ ghost use Prim.Native.Nat.{_+_};
 ghost use lib.ListN.{set};
 ghost use Rattle.definition.specs.Numbers.{ownersCell};
 ghost use Rattle.definition.specs.Tables.{ownerAt};
-ghost use Rattle.frames.specs.Unused.{unusedFrom};
+ghost use Rattle.frames.specs.Unused.{isUsed, unusedFrom};
 
 // The owner of row o.
 pub fn owner(counts: &[u16], o: u32) -> u16
@@ -20,6 +20,17 @@ pub fn write_owner(counts: &mut [u16], o: u32, owner: u16)
     ensures { λ _. ⌜ now (counts .exit) ≡ set (now (counts .entry)) (ownersCell + o) owner ⌝ }
 {
     cells::put16(counts, OWNERS_CELL + cells::wide32(o), owner);
+}
+
+// Whether number o is used: below the object count, in a row with an owner.
+pub fn is_used(counts: &[u16], o: u32) -> bool
+    ensures { λ r. ⌜ r ≡ isUsed (now (counts .entry)) o ⌝ }
+{
+    if o < cells::from16(cells::at16(counts, COUNT_OBJECTS)) {
+        owner(counts, o) != 0
+    } else {
+        false
+    }
 }
 
 // The lowest row from that one on that is free or past the object count.

@@ -1,6 +1,7 @@
 -- What a step is going to do, as a plan of numbers, and what a plan means in rows. A plan speaks of the frame of a task whose row begins at cell b and goes
 -- on at point q; fs are the frames below it. An instruction's function answers a plan whose meaning is what the machine does.
 use mathlib.Core.Path.{_≡_, refl}
+use mathlib.Core.Bool.{true}
 use mathlib.Core.Option.{none, some}
 use mathlib.Core.List.{List, [], _∷_}
 use Prim.Native.Nat.{ℕ, suc, _+_, _-_, _<_, _≤_}
@@ -13,11 +14,11 @@ use Rattle.definition.specs.Instructions.{pick, Decoded}
 use Rattle.definition.specs.declared.Refusal.the-variants.{Word}
 use Rattle.definition.specs.Answers.{Result, refused, ok, _>>=_, take?}
 use Rattle.definition.specs.Machine.{Value, intValue, objectValue, Objects, Frame, existing, made, changed, newObject, entryFrame, Progress, give, execute}
-use Rattle.definition.specs.Tables.{Tables, valueOf, operandAt, localAt, frame, frameOf, frameBase, frameIn, sizeOf, usedFields, objectAt, ownerAt}
+use Rattle.definition.specs.Tables.{Tables, valueOf, operandAt, localAt, frame, frameOf, frameBase, frameIn, sizeOf, usedFields, objectAt}
 use Rattle.layout.specs.Cells.{frameWith, withField}
 use Rattle.frames.specs.declared.Cell.{Cell}
 use Rattle.frames.specs.declared.Entry.{Entry}
-use Rattle.frames.specs.Unused.{unusedFrom}
+use Rattle.frames.specs.Unused.{isUsed, unusedFrom}
 pub use Rattle.instructions.specs.declared.Plan.{Plan}
 pub use Rattle.instructions.specs.declared.Plan.the-variants.{Refuse, Keep, Above, Local, Give, Finish, Field, Enter, Make}
 
@@ -67,7 +68,7 @@ Fit B t k m (Above d v) = d < 16
 Fit B t k m (Local d j v) = j < 8
 Fit B t k m (Give v) = (0 < m) × (getD (t .frames) (frameBase k (m - 1) + 3) 0 < 16)
 Fit B t k m (Finish v) = m ≡ 0
-Fit B t k m (Field d o j v) = (o < getD (t .counts) 5 0) × (0 < ownerAt (t .counts) o) × (j < usedFields B (objectAt B (t .objects) o .class))
+Fit B t k m (Field d o j v) = (isUsed (t .counts) o ≡ true) × (j < usedFields B (objectAt B (t .objects) o .class))
 Fit B t k m (Enter d e) = suc m < 32
 Fit B t k m (Make d c o) = (d < 16) × (o ≡ unusedFrom (t .counts) 0) × (o < 256) × (sizeOf B c ≤ 16)
 
