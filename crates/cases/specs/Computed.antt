@@ -9,7 +9,8 @@ use lib.ListN.{length}
 use lib.Dec.{eqb}
 use Rattle.definition.specs.Lists.{every, all, any, doubled, indexOf, isSome, isNone}
 use Rattle.definition.specs.Maybe as Maybe
-use Rattle.definition.specs.Requests.{sameRequest, has, fires, rest, grow, reach, leads}
+use Rattle.definition.specs.Chains.{has, fires, rest, grow, reachFrom, reach, leads}
+use Rattle.definition.specs.Requests.{sameRequest}
 use Rattle.definition.specs.Answers.{endsIn, Shown, shown, details, stepDetails, refusalDetails, signed, number, numberOfStep, numberOf, _>>=_, need, take?}
 use Rattle.definition.specs.Superclasses.{seek, nearest, below}
 use Rattle.definition.specs.Classes.{find, lower, superOf, loaderOf, ownSlots, slotsIn, slots, slotIs, hasField, sameSignature, alike, methodsOf, hasMethod, selected, isNamed}
@@ -74,7 +75,7 @@ pub record Computed : Type 0 where
   pub example : scriptRows (Script.linesOf input) bootRows ≡ output
 
 pub computed : Computed
-unfolding rowsBefore rowsAfter answeredRows size accepted input output scriptRows endsIn isSome signed shown number numberOfStep numberOf refusalDetails stepDetails details _>>=_ need take? defineRows recordRows startRows dropRows answerOf stepTask stepOn stepRows turnOf turn find lower superOf loaderOf ownSlots slotsIn slots slotIs hasField sameSignature alike methodsOf hasMethod selected tieEdges subtypeEdges edges pairAgrees rowAgrees agreesOver agrees tieIs newTie newTies signatureTies agreesAfter post byte short name count fieldsIn signatureIn methodsIn ends sameField sameMethod readFile pick opcodeOf inlineLength shortAt extend instructionOf sizedAs decode every all any doubled indexOf isNone subtypeIs newSubtypes overrideTie overrideTies hides define recorded started existing initialValue newObject pop! int! reference! kind! room! object! now under! give execute step Maybe._>>=_ Maybe.need sameRequest has fires rest grow reach leads seek nearest below fileAt classAt typeOfName meetClass meetInt meets pop isNamed effect returns verify typesAt notesOf settle onRows runRows performRows performAllRows two method fileOf plain fileF taker coded lifts pushes ready tied12 tied123 table Script.digit Script.digits Script.decimal Script.upTo Script.int Script.hexDigit Script.hexPairs Script.file Script.grow Script.fields Script.command Script.commandOf Script.readLine Script.printed Script.printedInt Script.printedLine Script.linesOf ofKind! compute meetKind returnKind notesOfMethod
+unfolding rowsBefore rowsAfter answeredRows size accepted input output scriptRows endsIn isSome signed shown number numberOfStep numberOf refusalDetails stepDetails details _>>=_ need take? defineRows recordRows startRows dropRows answerOf stepTask stepOn stepRows turnOf turn find lower superOf loaderOf ownSlots slotsIn slots slotIs hasField sameSignature alike methodsOf hasMethod selected tieEdges subtypeEdges edges pairAgrees rowAgrees agreesOver agrees tieIs newTie newTies signatureTies agreesAfter post byte short name count fieldsIn signatureIn methodsIn ends sameField sameMethod readFile pick opcodeOf inlineLength shortAt extend instructionOf sizedAs decode every all any doubled indexOf isNone subtypeIs newSubtypes overrideTie overrideTies hides define recorded started existing initialValue newObject pop! int! reference! kind! room! object! now under! give execute step Maybe._>>=_ Maybe.need sameRequest has fires rest grow reachFrom reach leads seek nearest below fileAt classAt typeOfName meetClass meetInt meets pop isNamed effect returns verify typesAt notesOf settle onRows runRows performRows performAllRows two method fileOf plain fileF taker coded lifts pushes ready tied12 tied123 table Script.digit Script.digits Script.decimal Script.upTo Script.int Script.hexDigit Script.hexPairs Script.file Script.grow Script.fields Script.command Script.commandOf Script.readLine Script.printed Script.printedInt Script.printedLine Script.linesOf ofKind! compute meetKind returnKind notesOfMethod
 computed = record {
   answers = refl;
   prepared = refl;

@@ -12,11 +12,12 @@ use lib.ListN.{getD}
 use lib.Dec.{eqb}
 use borrow.Author.Tests.{eqb-true, eq-eqb}
 use Rattle.definition.specs.Lists.{rows, all}
-use Rattle.definition.specs.Requests.{Request, at, Edge, Chain, stay, hop, has, leads, reach}
+use Rattle.definition.specs.Chains.{Edge, Chain, stay, hop, has, leads, reach}
+use Rattle.definition.specs.Requests.{Request, at, sameRequest}
 use Rattle.definition.specs.Classes.{Entry, find}
 use Rattle.definition.specs.Constraints.{Subtype, tieEdges, subtypeEdges, pairAgrees, rowAgrees, agreesOver}
 use Rattle.definition.specs.Tables.{entryAt, tieAt, subtypeAt}
-use Rattle.laws.specs.Chains.{leads-chain, chain-leads, chain-join, chain-more}
+use Rattle.laws.specs.Chains.{requests, leads-chain, chain-leads, chain-join, chain-more}
 use Rattle.layout.specs.Tests.{same-test}
 use Rattle.constraints.specs.Nodes.{requestOf, requestIn, AllNumbered, First, NodesOf, ClassesOf}
 use Rattle.constraints.specs.Groups.{Tied, same, node, tie, back, on, GroupsOf}
@@ -69,13 +70,13 @@ module _ (cache : List ℕ) (n : ℕ) (ties : List ℕ) (tied : ℕ) (subtypes :
   abbrev Joint : ℕ → ℕ → Type 0
   Joint = Tied nodes places ones tied
 
-  abbrev theTies : List Edge
+  abbrev theTies : List (Edge Request)
   theTies = tieEdges (rows (tieAt ties) tied 0)
 
-  abbrev theSubtypes : List Edge
+  abbrev theSubtypes : List (Edge Request)
   theSubtypes = subtypeEdges (rows (subtypeAt subtypes) noted 0)
 
-  abbrev theLinks : List Edge
+  abbrev theLinks : List (Edge Request)
   theLinks = linksOf groups n noted
 
   -- the names of the constraints' places
@@ -114,7 +115,7 @@ module _ (cache : List ℕ) (n : ℕ) (ties : List ℕ) (tied : ℕ) (subtypes :
   name-tied p q h k e =
       on (node h refl) (back (node k (first-unique (number-eq (getD numbers p 0) (getD numbers q 0) e) (isNode p h) (isNode q k))))
 
-  tie-places : (d : Edge) → List·Memᴰ d theTies → Carried named Joint places d
+  tie-places : (d : Edge Request) → List·Memᴰ d theTies → Carried named Joint places d
   tie-places d m = go (of-tie (rows (tieAt ties) tied 0) d m)
     where
       way : (i : ℕ) → i < tied → (d ≡ forward (tieAt ties i)) ⊎ (d ≡ turned (tieAt ties i)) → Carried named Joint places d
@@ -123,8 +124,8 @@ module _ (cache : List ℕ) (n : ℕ) (ties : List ℕ) (tied : ℕ) (subtypes :
         end = ones + tied + i;
         startFits = omega arith;
         endFits = omega arith;
-        from = ap (λ (x : Edge). x .from) e ∙ sym (one-at i h);
-        to = ap (λ (x : Edge). x .to) e ∙ sym (two-at i h);
+        from = ap (λ (x : Edge Request). x .from) e ∙ sym (one-at i h);
+        to = ap (λ (x : Edge Request). x .to) e ∙ sym (two-at i h);
         related = tie i h refl refl;
       }
       way i h (inr e) = record {
@@ -132,8 +133,8 @@ module _ (cache : List ℕ) (n : ℕ) (ties : List ℕ) (tied : ℕ) (subtypes :
         end = ones + i;
         startFits = omega arith;
         endFits = omega arith;
-        from = ap (λ (x : Edge). x .from) e ∙ sym (two-at i h);
-        to = ap (λ (x : Edge). x .to) e ∙ sym (one-at i h);
+        from = ap (λ (x : Edge Request). x .from) e ∙ sym (two-at i h);
+        to = ap (λ (x : Edge Request). x .to) e ∙ sym (one-at i h);
         related = back (tie i h refl refl);
       }
 
@@ -143,12 +144,12 @@ module _ (cache : List ℕ) (n : ℕ) (ties : List ℕ) (tied : ℕ) (subtypes :
   group-tied : (p q : ℕ) → p < places → q < places → getD groups p 0 ≡ getD groups q 0 → Joint p q
   group-tied p q h k e = on (isGroup .sound p h) (rw (sym e) at (back (isGroup .sound q k)))
 
-  tied-same : (a b : ℕ) → a < places → b < places → leads theTies (named a) (named b) ≡ eqb (getD groups a 0) (getD groups b 0)
+  tied-same : (a b : ℕ) → a < places → b < places → leads sameRequest theTies (named a) (named b) ≡ eqb (getD groups a 0) (getD groups b 0)
   tied-same a b h k =
-      same-test (leads theTies (named a) (named b)) (eqb (getD groups a 0) (getD groups b 0))
+      same-test (leads sameRequest theTies (named a) (named b)) (eqb (getD groups a 0) (getD groups b 0))
       (λ q. eq-eqb (getD groups a 0) (getD groups b 0)
-      (isGroup .all a b h k (carried named Joint places theTies name-tied (λ p q r. on) tie-places a b h k (leads-chain theTies (named a) (named b) q))))
-      (λ q. chain-leads theTies (named a) (named b) (tied-chains (group-tied a b h k (eqb-true (getD groups a 0) (getD groups b 0) q)) .0))
+      (isGroup .all a b h k (carried named Joint places theTies name-tied (λ p q r. on) tie-places a b h k (leads-chain requests theTies (named a) (named b) q))))
+      (λ q. chain-leads requests theTies (named a) (named b) (tied-chains (group-tied a b h k (eqb-true (getD groups a 0) (getD groups b 0) q)) .0))
 
   -- links are the subtype constraints between groups
 
@@ -162,7 +163,7 @@ module _ (cache : List ℕ) (n : ℕ) (ties : List ℕ) (tied : ℕ) (subtypes :
   unfolding linksOf linkOf startOf endOf
   link-of i h = hop (stay refl) (in-rows (linkOf groups n noted) noted 0 i (omega arith) (omega arith))
 
-  any-link : (d : Edge) → List·Memᴰ d (theTies ++ theSubtypes) → Carried named Onward places d
+  any-link : (d : Edge Request) → List·Memᴰ d (theTies ++ theSubtypes) → Carried named Onward places d
   any-link d m = elim (List·Memᴰ·append-cases theTies m) [ inl a ↦ one (tie-places d a) | inr b ↦ two (of-subtype (rows (subtypeAt subtypes) noted 0) d b) ]
     where
       one : Carried named Joint places d → Carried named Onward places d
@@ -182,8 +183,8 @@ module _ (cache : List ℕ) (n : ℕ) (ties : List ℕ) (tied : ℕ) (subtypes :
         end = n + noted + i;
         startFits = omega arith;
         endFits = omega arith;
-        from = ap (λ (x : Edge). x .from) e ∙ sym (low-at i h);
-        to = ap (λ (x : Edge). x .to) e ∙ sym (high-at i h);
+        from = ap (λ (x : Edge Request). x .from) e ∙ sym (low-at i h);
+        to = ap (λ (x : Edge Request). x .to) e ∙ sym (high-at i h);
         related = link-of i h;
       }
 
@@ -198,7 +199,7 @@ module _ (cache : List ℕ) (n : ℕ) (ties : List ℕ) (tied : ℕ) (subtypes :
   group-leading p q h k e =
       chain-more (λ d m. Memᴰ·append-left theSubtypes m) (tied-chains (group-tied p q h k (ap (λ (r : Request). r .name) e)) .0)
 
-  link-back : (d : Edge) → List·Memᴰ d theLinks → Carried grouped Leading places d
+  link-back : (d : Edge Request) → List·Memᴰ d theLinks → Carried grouped Leading places d
   unfolding linksOf linkOf startOf endOf
   link-back d m =
       let p = rows-in (linkOf groups n noted) noted 0 d m in
@@ -208,22 +209,22 @@ module _ (cache : List ℕ) (n : ℕ) (ties : List ℕ) (tied : ℕ) (subtypes :
         end = n + noted + p .number;
         startFits = omega arith;
         endFits = omega arith;
-        from = ap (λ (x : Edge). x .from) (p .is);
-        to = ap (λ (x : Edge). x .to) (p .is);
+        from = ap (λ (x : Edge Request). x .from) (p .is);
+        to = ap (λ (x : Edge Request). x .to) (p .is);
         related = hop (stay refl) (Memᴰ·append-right theTies (edge-at (low-at (p .number) h) (high-at (p .number) h)
             (upward-in (in-rows (subtypeAt subtypes) noted 0 (p .number) (omega arith) (omega arith)))));
       }
 
   led-same : (a b : ℕ) → a < places → b < places
-      → leads (theTies ++ theSubtypes) (named a) (named b) ≡ leadsOn groups n noted (getD groups a 0) (getD groups b 0)
+      → leads sameRequest (theTies ++ theSubtypes) (named a) (named b) ≡ leadsOn groups n noted (getD groups a 0) (getD groups b 0)
   unfolding leadsOn
   led-same a b h k =
-      same-test (leads (theTies ++ theSubtypes) (named a) (named b)) (leads theLinks (grouped a) (grouped b))
-      (λ q. chain-leads theLinks (grouped a) (grouped b)
+      same-test (leads sameRequest (theTies ++ theSubtypes) (named a) (named b)) (leads sameRequest theLinks (grouped a) (grouped b))
+      (λ q. chain-leads requests theLinks (grouped a) (grouped b)
       (carried named Onward places (theTies ++ theSubtypes) (λ p r i j e. tied-onward p r i j (name-tied p r i j e)) (λ p q r. chain-join) any-link a b h k
-      (leads-chain (theTies ++ theSubtypes) (named a) (named b) q)))
-      (λ q. chain-leads (theTies ++ theSubtypes) (named a) (named b)
-      (carried grouped Leading places theLinks group-leading (λ p q r. chain-join) link-back a b h k (leads-chain theLinks (grouped a) (grouped b) q)))
+      (leads-chain requests (theTies ++ theSubtypes) (named a) (named b) q)))
+      (λ q. chain-leads requests (theTies ++ theSubtypes) (named a) (named b)
+      (carried grouped Leading places theLinks group-leading (λ p q r. chain-join) link-back a b h k (leads-chain requests theLinks (grouped a) (grouped b) q)))
 
   -- what a cached request means
 
@@ -247,8 +248,8 @@ module _ (cache : List ℕ) (n : ℕ) (ties : List ℕ) (tied : ℕ) (subtypes :
 
   -- agreement
 
-  row-same : (E : List Edge) (f : ℕ → ℕ → Bool) → ((a b : ℕ) → a < places → b < places → leads E (named a) (named b) ≡ f a b)
-      → (a b : ℕ) → a < n → b < n → has (entryAt cache b .request) (reach E (entryAt cache a .request)) ≡ f a b
+  row-same : (E : List (Edge Request)) (f : ℕ → ℕ → Bool) → ((a b : ℕ) → a < places → b < places → leads sameRequest E (named a) (named b) ≡ f a b)
+      → (a b : ℕ) → a < n → b < n → has sameRequest (entryAt cache b .request) (reach sameRequest E (entryAt cache a .request)) ≡ f a b
   unfolding leads
   row-same E f e a b h k = rw (cached-at a h, cached-at b k) at (e a b (omega arith) (omega arith))
 
@@ -257,13 +258,13 @@ module _ (cache : List ℕ) (n : ℕ) (ties : List ℕ) (tied : ℕ) (subtypes :
     theCache = rows (entryAt cache) n 0
 
     pair-same : (a b : ℕ) → a < n → b < n
-        → pairAgrees sup theCache (getD classes a 0) (reach theTies (entryAt cache a .request))
-        (reach (theTies ++ theSubtypes) (entryAt cache a .request)) (entryAt cache b .request)
+        → pairAgrees sup theCache (getD classes a 0) (reach sameRequest theTies (entryAt cache a .request))
+        (reach sameRequest (theTies ++ theSubtypes) (entryAt cache a .request)) (entryAt cache b .request)
         ≡ pairOn sup groups classes n noted a b
     unfolding pairAgrees pairOn pairIs
     pair-same a b h k =
         rw (found b k, pairAgrees)
-        (ap (λ (t : Bool). pairIs sup t (has (entryAt cache b .request) (reach (theTies ++ theSubtypes) (entryAt cache a .request)))
+        (ap (λ (t : Bool). pairIs sup t (has sameRequest (entryAt cache b .request) (reach sameRequest (theTies ++ theSubtypes) (entryAt cache a .request)))
         (getD classes a 0) (getD classes b 0))
         (row-same theTies (λ p q. eqb (getD groups p 0) (getD groups q 0)) tied-same a b h k)
         ∙ ap (λ (t : Bool). pairIs sup (eqb (getD groups a 0) (getD groups b 0)) t (getD classes a 0) (getD classes b 0))
@@ -276,8 +277,8 @@ module _ (cache : List ℕ) (n : ℕ) (ties : List ℕ) (tied : ℕ) (subtypes :
     class-same a h =
         rw (found a h, rowAgrees)
         (all-same
-        (λ f. pairAgrees sup theCache (getD classes a 0) (reach theTies (entryAt cache a .request))
-        (reach (theTies ++ theSubtypes) (entryAt cache a .request)) (f .request))
+        (λ f. pairAgrees sup theCache (getD classes a 0) (reach sameRequest theTies (entryAt cache a .request))
+        (reach sameRequest (theTies ++ theSubtypes) (entryAt cache a .request)) (f .request))
         (entryAt cache) (pairOn sup groups classes n noted a) (λ i. i) n 0 (λ b _ k. pair-same a b h (omega arith)))
 
     pub agree-same : agreesOver sup theCache theTies (theTies ++ theSubtypes) ≡ agreeOn sup groups classes n noted

@@ -8,25 +8,26 @@ use Prim.Native.Nat.{ℕ, zero, suc, _+_, _<_, _≤_}
 use native.Mathlib.Nat.{eq-or-lt-of-le}
 use native.Mathlib.Omega.{arith}
 use Rattle.definition.specs.Lists.{rows}
-use Rattle.definition.specs.Requests.{Request, at, Edge, sameRequest}
+use Rattle.definition.specs.Chains.{Edge}
+use Rattle.definition.specs.Requests.{Request, at, sameRequest}
 use Rattle.definition.specs.Classes.{find}
 use Rattle.definition.specs.Constraints.{Tie, Subtype, tieEdges, subtypeEdges}
 use Rattle.definition.specs.Tables.{entryAt}
-use Rattle.laws.specs.Chains.{same-eq, same-refl}
+use Rattle.laws.specs.Chains.{requests}
 
-abbrev pub edge : Request → Request → Edge
+abbrev pub edge : Request → Request → Edge Request
 edge a b = record { from = a; to = b }
 
-pub edge-at : {E : List Edge} {a b c d : Request} → a ≡ c → b ≡ d → List·Memᴰ (edge c d) E → List·Memᴰ (edge a b) E
+pub edge-at : {E : List (Edge Request)} {a b c d : Request} → a ≡ c → b ≡ d → List·Memᴰ (edge c d) E → List·Memᴰ (edge a b) E
 edge-at p q m = rw (p, q) m
 
-abbrev pub forward : Tie → Edge
+abbrev pub forward : Tie → Edge Request
 forward t = record { from = at (t .one) (t .name); to = at (t .two) (t .name) }
 
-abbrev pub turned : Tie → Edge
+abbrev pub turned : Tie → Edge Request
 turned t = record { from = at (t .two) (t .name); to = at (t .one) (t .name) }
 
-abbrev pub upward : Subtype → Edge
+abbrev pub upward : Subtype → Edge Request
 upward s = record { from = at (s .loader) (s .low); to = at (s .loader) (s .high) }
 
 pub forward-in : {ts : List Tie} {t : Tie} → List·Memᴰ t ts → List·Memᴰ (forward t) (tieEdges ts)
@@ -44,12 +45,12 @@ unfolding subtypeEdges
 upward-in (List·Memᴰ·head e) = List·Memᴰ·head (ap (λ (x : Subtype). upward x) e)
 upward-in (List·Memᴰ·tail m) = List·Memᴰ·tail (upward-in m)
 
-pub record OfTie (ts : List Tie) (e : Edge) : Type 0 where
+pub record OfTie (ts : List Tie) (e : Edge Request) : Type 0 where
   pub tie : Tie
   pub there : List·Memᴰ tie ts
   pub way : (e ≡ forward tie) ⊎ (e ≡ turned tie)
 
-pub of-tie : (ts : List Tie) (e : Edge) → List·Memᴰ e (tieEdges ts) → OfTie ts e
+pub of-tie : (ts : List Tie) (e : Edge Request) → List·Memᴰ e (tieEdges ts) → OfTie ts e
 unfolding tieEdges
 of-tie [] e m = absurd (List·Memᴰ·not-nil m)
 of-tie (t ∷ ts) e (List·Memᴰ·head q) = record { tie = t; there = List·Memᴰ·head refl; way = inl q }
@@ -57,12 +58,12 @@ of-tie (t ∷ ts) e (List·Memᴰ·tail (List·Memᴰ·head q)) = record { tie =
 of-tie (t ∷ ts) e (List·Memᴰ·tail (List·Memᴰ·tail m)) =
     let r = of-tie ts e m in record { tie = r .tie; there = List·Memᴰ·tail (r .there); way = r .way }
 
-pub record OfSubtype (ss : List Subtype) (e : Edge) : Type 0 where
+pub record OfSubtype (ss : List Subtype) (e : Edge Request) : Type 0 where
   pub subtype : Subtype
   pub there : List·Memᴰ subtype ss
   pub is : e ≡ upward subtype
 
-pub of-subtype : (ss : List Subtype) (e : Edge) → List·Memᴰ e (subtypeEdges ss) → OfSubtype ss e
+pub of-subtype : (ss : List Subtype) (e : Edge Request) → List·Memᴰ e (subtypeEdges ss) → OfSubtype ss e
 unfolding subtypeEdges
 of-subtype [] e m = absurd (List·Memᴰ·not-nil m)
 of-subtype (s ∷ ss) e (List·Memᴰ·head q) = record { subtype = s; there = List·Memᴰ·head refl; is = q }
@@ -74,7 +75,7 @@ pub not-same : (a b : Request) → (a ≡ b → ⊥) → sameRequest a b ≡ fal
 not-same a b h = go (sameRequest a b) refl
   where
     go : (t : Bool) → sameRequest a b ≡ t → t ≡ false
-    go true e = absurd (h (same-eq a b e))
+    go true e = absurd (h (requests .same-eq a b e))
     go false e = refl
 
 pub find-at : (t : List ℕ) (r : Request) (k i j : ℕ) → i ≤ j → j < i + k → entryAt t j .request ≡ r
@@ -84,7 +85,7 @@ find-at t r zero i j l h e f = absurd (omega arith)
 find-at t r (suc k) i j l h e f = go (eq-or-lt-of-le l) (λ m. find-at t r k (suc i) j m (omega arith) e (λ x o q. f x (omega arith) q))
   where
     here : i ≡ j → sameRequest (entryAt t i .request) r ≡ true
-    here q = rw (q, e) (same-refl r)
+    here q = rw (q, e) (requests .same-refl r)
 
     go : (i ≡ j) ⊎ (i < j) → (i < j → find (rows (entryAt t) k (suc i)) r ≡ some (entryAt t j .class))
         → find (entryAt t i ∷ rows (entryAt t) k (suc i)) r ≡ some (entryAt t j .class)

@@ -11,10 +11,11 @@ use lib.ListN.{length, getD, replicate, length-replicate}
 use lib.Dec.{eqb, ltb}
 use borrow.Author.Tests.{eqb-true, eq-eqb, ne-eqb, ltb-true, ltb-false, not-true, not-false}
 use Rattle.definition.specs.Lists.{rows, all}
-use Rattle.definition.specs.Requests.{Request, at, Edge, Chain, stay, hop, leads}
+use Rattle.definition.specs.Chains.{Edge, Chain, stay, hop, leads}
+use Rattle.definition.specs.Requests.{Request, at, sameRequest}
 use Rattle.definition.specs.Superclasses.{Below, Falls, below, same}
 use Rattle.laws.specs.Agreement.{all-at, all-of}
-use Rattle.laws.specs.Chains.{leads-chain, chain-leads}
+use Rattle.laws.specs.Chains.{requests, leads-chain, chain-leads}
 use Rattle.laws.specs.Upward.{below-true, true-below, below-trans}
 use Rattle.constraints.specs.Groups.{Rooted}
 use Rattle.constraints.specs.Joining.{Joined}
@@ -144,11 +145,11 @@ module _ (sup : ℕ → Option ℕ) (falls : Falls sup) (groups classes : List �
     link-in x z m =
         let p = rows-in (linkOf groups n noted) noted 0 (edge (at 0 x) z) m in (
           endOf groups n noted (p .number),
-          ap (λ (k : Edge). k .to) (p .is),
+          ap (λ (k : Edge Request). k .to) (p .is),
           record {
             number = p .number;
             fits = omega (arith, p .high);
-            start = sym (ap (λ (k : Edge). k .from .name) (p .is));
+            start = sym (ap (λ (k : Edge Request). k .from .name) (p .is));
             end = refl;
           },
         )
@@ -178,11 +179,11 @@ module _ (sup : ℕ → Option ℕ) (falls : Falls sup) (groups classes : List �
         end = let r = led-own o c in let e : b ≡ r .0 = ap (λ (k : Request). k .name) (r .1) in rw (sym e) at (r .2)
 
         go : (t : Bool) → eqb (group a) (group b) ≡ t
-            → (elim t as (λ _. Bool) [ true ↦ eqb (class a) (class b) | false ↦ elim (leads (linksOf groups n noted) (at 0 (group a)) (at 0 (group b))) as (λ _. Bool) [ true ↦ below sup (class a) (class b) | false ↦ true ] ]) ≡ false
+            → (elim t as (λ _. Bool) [ true ↦ eqb (class a) (class b) | false ↦ elim (leads sameRequest (linksOf groups n noted) (at 0 (group a)) (at 0 (group b))) as (λ _. Bool) [ true ↦ below sup (class a) (class b) | false ↦ true ] ]) ≡ false
         go true q =
             let e : a ≡ b = sym o ∙ eqb-true (group a) (group b) q ∙ end in
             absurd (false≢true (sym h ∙ true-below sup falls (class a) (class b) (same (ap (λ (x : ℕ). class x) e))))
-        go false q = rw (o, end, chain-leads (linksOf groups n noted) (at 0 a) (at 0 b) c) h
+        go false q = rw (o, end, chain-leads requests (linksOf groups n noted) (at 0 a) (at 0 b) c) h
 
     pub not-agreed : (a b : ℕ) → a < n → b < n → group a ≡ a → Led groups n noted a b → below sup (class a) (class b) ≡ false
         → false ≡ agreeOn sup groups classes n noted
@@ -264,7 +265,7 @@ module _ (sup : ℕ → Option ℕ) (falls : Falls sup) (groups classes : List �
 
       pair-agrees : (a b : ℕ) → a < n → b < n → pairOn sup groups classes n noted a b ≡ true
       unfolding pairOn pairIs leadsOn
-      pair-agrees a b f g = go (eqb (group a) (group b)) refl (leads (linksOf groups n noted) (at 0 (group a)) (at 0 (group b))) refl
+      pair-agrees a b f g = go (eqb (group a) (group b)) refl (leads sameRequest (linksOf groups n noted) (at 0 (group a)) (at 0 (group b))) refl
         where
           low : (p : ℕ) → p < n → group p < n
           low p h = omega (arith, rooted .low p (omega arith))
@@ -272,13 +273,13 @@ module _ (sup : ℕ → Option ℕ) (falls : Falls sup) (groups classes : List �
           own : (p : ℕ) → p < n → group (group p) ≡ group p
           own p h = rooted .top p (omega arith)
 
-          go : (t : Bool) → eqb (group a) (group b) ≡ t → (l : Bool) → leads (linksOf groups n noted) (at 0 (group a)) (at 0 (group b)) ≡ l
+          go : (t : Bool) → eqb (group a) (group b) ≡ t → (l : Bool) → leads sameRequest (linksOf groups n noted) (at 0 (group a)) (at 0 (group b)) ≡ l
               → (elim t as (λ _. Bool) [ true ↦ eqb (class a) (class b) | false ↦ elim l as (λ _. Bool) [ true ↦ below sup (class a) (class b) | false ↦ true ] ]) ≡ true
           go true q l r = eq-eqb (class a) (class b)
               (sym (classed a f) ∙ ap (λ (x : ℕ). class x) (eqb-true (group a) (group b) q) ∙ classed b g)
           go false q true r = true-below sup falls (class a) (class b) (rw (classed a f, classed b g) at
               (led-fits (group a) (group b) (low a f) (low b g) (own a f)
-              (leads-chain (linksOf groups n noted) (at 0 (group a)) (at 0 (group b)) r)))
+              (leads-chain requests (linksOf groups n noted) (at 0 (group a)) (at 0 (group b)) r)))
           go false q false r = refl
 
       pub all-agree : agreeOn sup groups classes n noted ≡ true

@@ -3,10 +3,11 @@
 use mathlib.Core.Path.{_≡_, refl, sym, _∙_}
 use mathlib.Core.List.{List, List·Memᴰ}
 use Prim.Native.Nat.{ℕ, _<_}
-use Rattle.definition.specs.Requests.{Request, Edge, Chain, stay, hop}
+use Rattle.definition.specs.Chains.{Edge, Chain, stay, hop}
+use Rattle.definition.specs.Requests.{Request}
 
 -- the places of an edge's ends
-pub record Carried (U : ℕ → Request) (R : ℕ → ℕ → Type 0) (n : ℕ) (e : Edge) : Type 0 where
+pub record Carried (U : ℕ → Request) (R : ℕ → ℕ → Type 0) (n : ℕ) (e : Edge Request) : Type 0 where
   pub start : ℕ
   pub end : ℕ
   pub startFits : start < n
@@ -22,8 +23,8 @@ pub record Reached (U : ℕ → Request) (R : ℕ → ℕ → Type 0) (n a : ℕ
   pub is : y ≡ U place
   pub related : R a place
 
-module _ (U : ℕ → Request) (R : ℕ → ℕ → Type 0) (n : ℕ) (E : List Edge) (same : (p q : ℕ) → p < n → q < n → U p ≡ U q → R p q)
-    (on : (p q r : ℕ) → R p q → R q r → R p r) (edge : (e : Edge) → List·Memᴰ e E → Carried U R n e) where
+module _ (U : ℕ → Request) (R : ℕ → ℕ → Type 0) (n : ℕ) (E : List (Edge Request)) (same : (p q : ℕ) → p < n → q < n → U p ≡ U q → R p q)
+    (on : (p q r : ℕ) → R p q → R q r → R p r) (edge : (e : Edge Request) → List·Memᴰ e E → Carried U R n e) where
   carry : (a : ℕ) → a < n → {x y : Request} → x ≡ U a → Chain E x y → Reached U R n a y
   carry a h {x} {y} p (stay e) = record { place = a; fits = h; is = sym e ∙ p; related = same a a h h refl }
   carry a h {x} {y} p (hop {b} c m) =

@@ -8,7 +8,8 @@ use native.Mathlib.Nat.{eq-or-lt-of-le}
 use native.Mathlib.Omega.{arith}
 use lib.ListN.{length, getD, set, length-set}
 use lib.Seq.{getD-set-same, getD-set-other}
-use Rattle.definition.specs.Requests.{at, stay, hop}
+use Rattle.definition.specs.Chains.{stay, hop}
+use Rattle.definition.specs.Requests.{at}
 use Rattle.constraints.specs.Joining.{Last}
 use Rattle.constraints.specs.Search.{startOf, endOf, linkOf, linksOf, Led, Link, Marked, Stamped, Queued, Grown, Visited, Expanded, Searched}
 use Rattle.constraints.proofs.Rows.{Order, less, equal, more, order, in-rows}

@@ -7,7 +7,8 @@ use lib.ListN.{getD}
 use lib.Dec.{leb}
 use Rattle.definition.specs.Numbers.{cacheLimit, tieLimit, subtypeLimit}
 use Rattle.definition.specs.Lists.{rows}
-use Rattle.definition.specs.Requests.{Edge}
+use Rattle.definition.specs.Chains.{Edge}
+use Rattle.definition.specs.Requests.{Request}
 use Rattle.definition.specs.Classes.{Entry, lower}
 use Rattle.definition.specs.Constraints.{tieEdges, subtypeEdges, agreesOver}
 use Rattle.definition.specs.Tables.{entryAt, tieAt, subtypeAt}
@@ -25,11 +26,11 @@ abbrev pub entriesIn : List ℕ → ℕ → List Entry
 entriesIn t n = rows (entryAt t) (atMost cacheLimit n) 0
 
 -- the edges of the first ties
-abbrev pub tiesIn : List ℕ → ℕ → List Edge
+abbrev pub tiesIn : List ℕ → ℕ → List (Edge Request)
 tiesIn t n = tieEdges (rows (tieAt t) (atMost tieLimit n) 0)
 
 -- the edges of the first subtype constraints
-abbrev pub subtypesIn : List ℕ → ℕ → List Edge
+abbrev pub subtypesIn : List ℕ → ℕ → List (Edge Request)
 subtypesIn t n = subtypeEdges (rows (subtypeAt t) (atMost subtypeLimit n) 0)
 
 -- the store of these tables agrees

@@ -8,7 +8,8 @@ use Prim.Native.Nat.{ℕ, suc, _+_, _<_, _≤_}
 use lib.ListN.{length, getD}
 use lib.Dec.{eqb}
 use Rattle.definition.specs.Lists.{rows}
-use Rattle.definition.specs.Requests.{at, Edge, Chain, leads}
+use Rattle.definition.specs.Chains.{Edge, Chain, leads}
+use Rattle.definition.specs.Requests.{Request, at, sameRequest}
 use Rattle.constraints.specs.Nodes.{placeLimit}
 
 -- Links
@@ -19,10 +20,10 @@ startOf groups cached e = getD groups (cached + e) 0
 unfoldable pub endOf : List ℕ → ℕ → ℕ → ℕ → ℕ
 endOf groups cached noted e = getD groups (cached + noted + e) 0
 
-unfoldable pub linkOf : List ℕ → ℕ → ℕ → ℕ → Edge
+unfoldable pub linkOf : List ℕ → ℕ → ℕ → ℕ → Edge Request
 linkOf groups cached noted e = record { from = at 0 (startOf groups cached e); to = at 0 (endOf groups cached noted e) }
 
-unfoldable pub linksOf : List ℕ → ℕ → ℕ → List Edge
+unfoldable pub linksOf : List ℕ → ℕ → ℕ → List (Edge Request)
 linksOf groups cached noted = rows (linkOf groups cached noted) noted 0
 
 -- a chain of links goes from group a to group b
@@ -30,7 +31,7 @@ abbrev pub Led : List ℕ → ℕ → ℕ → ℕ → ℕ → Type 0
 Led groups cached noted a b = Chain (linksOf groups cached noted) (at 0 a) (at 0 b)
 
 unfoldable pub leadsOn : List ℕ → ℕ → ℕ → ℕ → ℕ → Bool
-leadsOn groups cached noted a b = leads (linksOf groups cached noted) (at 0 a) (at 0 b)
+leadsOn groups cached noted a b = leads sameRequest (linksOf groups cached noted) (at 0 a) (at 0 b)
 
 -- a link from x to y
 pub record Link (groups : List ℕ) (cached noted x y : ℕ) : Type 0 where

@@ -8,7 +8,8 @@ use lib.ListN.{length}
 use lib.Dec.{eqb, leb}
 use Rattle.definition.specs.Numbers.{wordClash, wordFull, nameInt, tieLimit}
 use Rattle.definition.specs.Lists.{all, any}
-use Rattle.definition.specs.Requests.{Request, at, Edge, Chain, has, reach}
+use Rattle.definition.specs.Chains.{Edge, Chain, has, reach}
+use Rattle.definition.specs.Requests.{Request, at, sameRequest}
 use Rattle.definition.specs.Superclasses.{Below, below}
 use Rattle.definition.specs.Classes.{Base, Signature, signatureTypes, Entry, find, superOf}
 use Rattle.definition.specs.Answers.{Word, Result, ok, _>>=_, need}
@@ -32,18 +33,18 @@ pub record World : Type 0 where
 
 -- Constraints as edges: a tie either way, a subtype constraint upward
 
-unfoldable pub tieEdges : List Tie → List Edge
+unfoldable pub tieEdges : List Tie → List (Edge Request)
 tieEdges [] = []
 tieEdges (t ∷ ts) =
     record { from = at (t .one) (t .name); to = at (t .two) (t .name) }
     ∷ record { from = at (t .two) (t .name); to = at (t .one) (t .name) }
     ∷ tieEdges ts
 
-unfoldable pub subtypeEdges : List Subtype → List Edge
+unfoldable pub subtypeEdges : List Subtype → List (Edge Request)
 subtypeEdges [] = []
 subtypeEdges (s ∷ ss) = record { from = at (s .loader) (s .low); to = at (s .loader) (s .high) } ∷ subtypeEdges ss
 
-unfoldable pub edges : World → List Edge
+unfoldable pub edges : World → List (Edge Request)
 edges w = tieEdges (w .ties) ++ subtypeEdges (w .subtypes)
 
 -- Agreement: tied loaded requests mean one class, and whenever loaded a leads to loaded b, a's class is b's or below
@@ -56,21 +57,21 @@ pub record Agrees (w : World) : Type 0 where
 unfoldable pub pairAgrees : (ℕ → Option ℕ) → List Entry → ℕ → List Request → List Request → Request → Bool
 pairAgrees sup cache c T L b = elim (find cache b) [
   | none ↦ true
-  | some d ↦ elim (has b T) [
+  | some d ↦ elim (has sameRequest b T) [
     | true ↦ eqb c d
-    | false ↦ elim (has b L) [ true ↦ below sup c d | false ↦ true ]
+    | false ↦ elim (has sameRequest b L) [ true ↦ below sup c d | false ↦ true ]
   ]
 ]
 
 -- a with every cached request
-unfoldable pub rowAgrees : (ℕ → Option ℕ) → List Entry → List Edge → List Edge → Request → Bool
+unfoldable pub rowAgrees : (ℕ → Option ℕ) → List Entry → List (Edge Request) → List (Edge Request) → Request → Bool
 rowAgrees sup cache ts es a = elim (find cache a) [
   | none ↦ true
-  | some c ↦ let T = reach ts a in let L = reach es a in all (λ f. pairAgrees sup cache c T L (f .request)) cache
+  | some c ↦ let T = reach sameRequest ts a in let L = reach sameRequest es a in all (λ f. pairAgrees sup cache c T L (f .request)) cache
 ]
 
 -- every pair of cached requests, where `sup` gives direct superclasses
-unfoldable pub agreesOver : (ℕ → Option ℕ) → List Entry → List Edge → List Edge → Bool
+unfoldable pub agreesOver : (ℕ → Option ℕ) → List Entry → List (Edge Request) → List (Edge Request) → Bool
 agreesOver sup cache ts es = all (λ e. rowAgrees sup cache ts es (e .request)) cache
 
 unfoldable pub agrees : World → Bool

@@ -7,12 +7,13 @@ use Prim.Native.Nat.{ℕ, zero, suc, _<_}
 use lib.ListN.{getElem?}
 use lib.Dec.{eqb, ltb}
 use borrow.Author.Tests.{eqb-true, eq-eqb, ltb-true, lt-ltb}
+use Rattle.definition.specs.Chains.{Chain, Edge, has, leads, reach}
 use Rattle.definition.specs.Classes.{Base, Class, Entry, find, lower, superOf}
 use Rattle.definition.specs.Constraints.{Agrees, World, agrees, edges, pairAgrees, rowAgrees, tieEdges, agreesOver}
 use Rattle.definition.specs.Lists.{all}
-use Rattle.definition.specs.Requests.{Chain, Edge, Request, at, has, leads, reach, sameRequest}
+use Rattle.definition.specs.Requests.{Request, at, sameRequest}
 use Rattle.definition.specs.Superclasses.{Below, Falls, below, same}
-use Rattle.laws.specs.Chains.{chain-leads, leads-chain, same-eq}
+use Rattle.laws.specs.Chains.{chain-leads, leads-chain, requests}
 use Rattle.laws.specs.Upward.{below-true, true-below}
 
 pub all-at : {A : Type 0} (f : A → Bool) {xs : List A} {x : A} → all f xs ≡ true → List·Memᴰ x xs → f x ≡ true
@@ -40,7 +41,7 @@ find-row (e ∷ es) a c h = go (sameRequest (e .request) a) refl h (find-row es 
   where
     go : (t : Bool) → sameRequest (e .request) a ≡ t → (elim t as (λ _. Option ℕ) [ true ↦ some (e .class) | false ↦ find es a ]) ≡ some c
         → (find es a ≡ some c → (e : Entry) × List·Memᴰ e es × (e .request ≡ a) × (e .class ≡ c)) → (d : Entry) × List·Memᴰ d (e ∷ es) × (d .request ≡ a) × (d .class ≡ c)
-    go true q r f = (e, List·Memᴰ·head refl, same-eq (e .request) a q, Option·some-injective (e .class) c r)
+    go true q r f = (e, List·Memᴰ·head refl, requests .same-eq (e .request) a q, Option·some-injective (e .class) c r)
     go false q r f = let g = f r in (g .0, List·Memᴰ·tail (g .1), g .2, g .3)
 
 pub find-more : (es fs : List Entry) (a : Request) (c : ℕ) → find es a ≡ some c → find (es ++ fs) a ≡ some c
@@ -97,29 +98,29 @@ row-at : (w : World) (a : Request) (c : ℕ) → agrees w ≡ true → find (w .
 unfolding agrees agreesOver
 row-at w a c h p = let r = find-row (w .base .cache) a c p in rw (r .2) at (all-at (λ e. rowAgrees (superOf (w .base)) (w .base .cache) (tieEdges (w .ties)) (edges w) (e .request)) h (r .1))
 
-pair-at : (w : World) (ts es : List Edge) (a b : Request) (c d : ℕ) → rowAgrees (superOf (w .base)) (w .base .cache) ts es a ≡ true → find (w .base .cache) a ≡ some c → find (w .base .cache) b ≡ some d
-    → pairAgrees (superOf (w .base)) (w .base .cache) c (reach ts a) (reach es a) b ≡ true
+pair-at : (w : World) (ts es : List (Edge Request)) (a b : Request) (c d : ℕ) → rowAgrees (superOf (w .base)) (w .base .cache) ts es a ≡ true → find (w .base .cache) a ≡ some c → find (w .base .cache) b ≡ some d
+    → pairAgrees (superOf (w .base)) (w .base .cache) c (reach sameRequest ts a) (reach sameRequest es a) b ≡ true
 unfolding rowAgrees reach
 pair-at w ts es a b c d h p q =
     let r = find-row (w .base .cache) b d q in
-    let k : all (λ f. pairAgrees (superOf (w .base)) (w .base .cache) c (reach ts a) (reach es a) (f .request)) (w .base .cache) ≡ true = rw (p, rowAgrees) at h in
-    rw (r .2) at (all-at (λ f. pairAgrees (superOf (w .base)) (w .base .cache) c (reach ts a) (reach es a) (f .request)) k (r .1))
+    let k : all (λ f. pairAgrees (superOf (w .base)) (w .base .cache) c (reach sameRequest ts a) (reach sameRequest es a) (f .request)) (w .base .cache) ≡ true = rw (p, rowAgrees) at h in
+    rw (r .2) at (all-at (λ f. pairAgrees (superOf (w .base)) (w .base .cache) c (reach sameRequest ts a) (reach sameRequest es a) (f .request)) k (r .1))
 
 pub agrees-true : (w : World) → agrees w ≡ true → Agrees w
 unfolding pairAgrees leads reach
 agrees-true w h = record { tied = tied′; led = led′ }
   where
-    ts : List Edge
+    ts : List (Edge Request)
     ts = tieEdges (w .ties)
 
-    es : List Edge
+    es : List (Edge Request)
     es = edges w
 
     tied′ : {a b : Request} {c d : ℕ} → find (w .base .cache) a ≡ some c → find (w .base .cache) b ≡ some d → Chain ts a b → c ≡ d
-    tied′ {a} {b} {c} {d} p q k = eqb-true c d (rw (q, chain-leads ts a b k, pairAgrees) at (pair-at w ts es a b c d (row-at w a c h p) p q))
+    tied′ {a} {b} {c} {d} p q k = eqb-true c d (rw (q, chain-leads requests ts a b k, pairAgrees) at (pair-at w ts es a b c d (row-at w a c h p) p q))
 
     led′ : {a b : Request} {c d : ℕ} → find (w .base .cache) a ≡ some c → find (w .base .cache) b ≡ some d → Chain es a b → Below (superOf (w .base)) c d
-    led′ {a} {b} {c} {d} p q k = go (has b (reach ts a)) (has b (reach es a)) (chain-leads es a b k) (rw (q, pairAgrees) at (pair-at w ts es a b c d (row-at w a c h p) p q))
+    led′ {a} {b} {c} {d} p q k = go (has sameRequest b (reach sameRequest ts a)) (has sameRequest b (reach sameRequest es a)) (chain-leads requests es a b k) (rw (q, pairAgrees) at (pair-at w ts es a b c d (row-at w a c h p) p q))
       where
         go : (t s : Bool) → s ≡ true → (elim t as (λ _. Bool) [ true ↦ eqb c d | false ↦ elim s as (λ _. Bool) [ true ↦ below (superOf (w .base)) c d | false ↦ true ] ]) ≡ true → Below (superOf (w .base)) c d
         go true s e r = same (eqb-true c d r)
@@ -130,27 +131,27 @@ pub true-agrees : (w : World) → Agrees w → agrees w ≡ true
 unfolding agrees agreesOver rowAgrees pairAgrees leads reach
 true-agrees w g = all-of (λ e. rowAgrees (superOf (w .base)) (w .base .cache) ts es (e .request)) (w .base .cache) (λ e _. row (e .request) (find (w .base .cache) (e .request)) refl)
   where
-    ts : List Edge
+    ts : List (Edge Request)
     ts = tieEdges (w .ties)
 
-    es : List Edge
+    es : List (Edge Request)
     es = edges w
 
-    lead : (a b : Request) (c d : ℕ) → find (w .base .cache) a ≡ some c → find (w .base .cache) b ≡ some d → (t : Bool) → leads es a b ≡ t
+    lead : (a b : Request) (c d : ℕ) → find (w .base .cache) a ≡ some c → find (w .base .cache) b ≡ some d → (t : Bool) → leads sameRequest es a b ≡ t
         → (elim t as (λ _. Bool) [ true ↦ below (superOf (w .base)) c d | false ↦ true ]) ≡ true
-    lead a b c d p q true l = true-below (superOf (w .base)) (super-falls (w .base)) c d (g .led p q (leads-chain es a b l))
+    lead a b c d p q true l = true-below (superOf (w .base)) (super-falls (w .base)) c d (g .led p q (leads-chain requests es a b l))
     lead a b c d p q false l = refl
 
-    tie : (a b : Request) (c d : ℕ) → find (w .base .cache) a ≡ some c → find (w .base .cache) b ≡ some d → (t : Bool) → leads ts a b ≡ t
-        → (elim t as (λ _. Bool) [ true ↦ eqb c d | false ↦ elim (has b (reach es a)) as (λ _. Bool) [ true ↦ below (superOf (w .base)) c d | false ↦ true ] ]) ≡ true
-    tie a b c d p q true l = eq-eqb c d (g .tied p q (leads-chain ts a b l))
-    tie a b c d p q false l = lead a b c d p q (leads es a b) refl
+    tie : (a b : Request) (c d : ℕ) → find (w .base .cache) a ≡ some c → find (w .base .cache) b ≡ some d → (t : Bool) → leads sameRequest ts a b ≡ t
+        → (elim t as (λ _. Bool) [ true ↦ eqb c d | false ↦ elim (has sameRequest b (reach sameRequest es a)) as (λ _. Bool) [ true ↦ below (superOf (w .base)) c d | false ↦ true ] ]) ≡ true
+    tie a b c d p q true l = eq-eqb c d (g .tied p q (leads-chain requests ts a b l))
+    tie a b c d p q false l = lead a b c d p q (leads sameRequest es a b) refl
 
     pair : (a b : Request) (c : ℕ) → find (w .base .cache) a ≡ some c → (o : Option ℕ) → find (w .base .cache) b ≡ o
-        → (elim o as (λ _. Bool) [ none ↦ true | some d ↦ elim (has b (reach ts a)) as (λ _. Bool) [ true ↦ eqb c d | false ↦ elim (has b (reach es a)) as (λ _. Bool) [ true ↦ below (superOf (w .base)) c d | false ↦ true ] ] ]) ≡ true
+        → (elim o as (λ _. Bool) [ none ↦ true | some d ↦ elim (has sameRequest b (reach sameRequest ts a)) as (λ _. Bool) [ true ↦ eqb c d | false ↦ elim (has sameRequest b (reach sameRequest es a)) as (λ _. Bool) [ true ↦ below (superOf (w .base)) c d | false ↦ true ] ] ]) ≡ true
     pair a b c p none q = refl
-    pair a b c p (some d) q = tie a b c d p q (leads ts a b) refl
+    pair a b c p (some d) q = tie a b c d p q (leads sameRequest ts a b) refl
 
-    row : (a : Request) (o : Option ℕ) → find (w .base .cache) a ≡ o → (elim o as (λ _. Bool) [ none ↦ true | some c ↦ all (λ f. pairAgrees (superOf (w .base)) (w .base .cache) c (reach ts a) (reach es a) (f .request)) (w .base .cache) ]) ≡ true
+    row : (a : Request) (o : Option ℕ) → find (w .base .cache) a ≡ o → (elim o as (λ _. Bool) [ none ↦ true | some c ↦ all (λ f. pairAgrees (superOf (w .base)) (w .base .cache) c (reach sameRequest ts a) (reach sameRequest es a) (f .request)) (w .base .cache) ]) ≡ true
     row a none p = refl
-    row a (some c) p = all-of (λ f. pairAgrees (superOf (w .base)) (w .base .cache) c (reach ts a) (reach es a) (f .request)) (w .base .cache) (λ f _. pair a (f .request) c p (find (w .base .cache) (f .request)) refl)
+    row a (some c) p = all-of (λ f. pairAgrees (superOf (w .base)) (w .base .cache) c (reach sameRequest ts a) (reach sameRequest es a) (f .request)) (w .base .cache) (λ f _. pair a (f .request) c p (find (w .base .cache) (f .request)) refl)

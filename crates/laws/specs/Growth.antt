@@ -8,7 +8,8 @@ use native.Mathlib.Omega.{arith}
 use lib.ListN.{length, getElem?}
 use Rattle.definition.specs.Classes.{Class, find, superOf}
 use Rattle.definition.specs.Constraints.{Subtype, Tie, World, edges, subtypeEdges, tieEdges}
-use Rattle.definition.specs.Requests.{Edge, Request, at}
+use Rattle.definition.specs.Chains.{Edge}
+use Rattle.definition.specs.Requests.{Request, at}
 use Rattle.laws.specs.Agreement.{find-more, is-super, nth-more, super-is}
 use Rattle.definition.specs.Loading.{withClass, withEntry}
 
@@ -16,14 +17,14 @@ use Rattle.definition.specs.Loading.{withClass, withEntry}
 pub record Grows (v w : World) : Type 0 where
   pub classes : (c : ℕ) (k : Class) → getElem? (v .base .classes) c ≡ some k → getElem? (w .base .classes) c ≡ some k
   pub cache : (r : Request) (c : ℕ) → find (v .base .cache) r ≡ some c → find (w .base .cache) r ≡ some c
-  pub ties : (e : Edge) → List·Memᴰ e (tieEdges (v .ties)) → List·Memᴰ e (tieEdges (w .ties))
-  pub subtypes : (e : Edge) → List·Memᴰ e (subtypeEdges (v .subtypes)) → List·Memᴰ e (subtypeEdges (w .subtypes))
+  pub ties : (e : Edge Request) → List·Memᴰ e (tieEdges (v .ties)) → List·Memᴰ e (tieEdges (w .ties))
+  pub subtypes : (e : Edge Request) → List·Memᴰ e (subtypeEdges (v .subtypes)) → List·Memᴰ e (subtypeEdges (w .subtypes))
 
 pub grows-super : {v w : World} → Grows v w → (c p : ℕ) → superOf (v .base) c ≡ some p → superOf (w .base) c ≡ some p
 grows-super {v} {w} g c p h = let s = super-is (v .base) c p h in
     is-super (w .base) c p (record { theClass = s .theClass; isClass = g .classes c (s .theClass) (s .isClass); cached = g .cache (at (s .theClass .loader) (s .theClass .super)) p (s .cached); less = s .less })
 
-pub grows-edges : {v w : World} → Grows v w → (e : Edge) → List·Memᴰ e (edges v) → List·Memᴰ e (edges w)
+pub grows-edges : {v w : World} → Grows v w → (e : Edge Request) → List·Memᴰ e (edges v) → List·Memᴰ e (edges w)
 unfolding edges
 grows-edges {v} {w} g e m = elim (List·Memᴰ·append-cases (tieEdges (v .ties)) m)
     [ inl p ↦ Memᴰ·append-left (subtypeEdges (w .subtypes)) (g .ties e p) | inr p ↦ Memᴰ·append-right (tieEdges (w .ties)) (g .subtypes e p) ]

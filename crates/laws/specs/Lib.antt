@@ -11,6 +11,7 @@ pub mod Members
 pub mod Sized
 pub mod Walk
 pub mod Objects
+pub mod Sweeps
 pub mod Stable
 pub mod Refusals
 pub mod Causes

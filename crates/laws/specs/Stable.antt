@@ -16,7 +16,7 @@ use Rattle.definition.specs.Maybe.{_>>=_}
 use Rattle.definition.specs.Requests.{Request, at, sameRequest}
 use Rattle.definition.specs.Superclasses.{below, nearest, seek}
 use Rattle.laws.specs.Agreement.{super-falls, super-is}
-use Rattle.laws.specs.Chains.{same-refl}
+use Rattle.laws.specs.Chains.{requests}
 use Rattle.laws.specs.Growth.{Grows, grows-super}
 use Rattle.laws.specs.Upward.{nearest-below}
 
@@ -28,7 +28,7 @@ pub record Rooted (b : Base) : Type 0 where
 -- the cache with one more row
 pub find-last : (es : List Entry) (e : Entry) → find es (e .request) ≡ none → find (es ++ (e ∷ [])) (e .request) ≡ some (e .class)
 unfolding find
-find-last [] e h = rw (same-refl (e .request), find) refl
+find-last [] e h = rw (requests .same-refl (e .request), find) refl
 find-last (d ∷ es) e h = go (sameRequest (d .request) (e .request)) h (find-last es e)
   where
     go : (t : Bool) → _≡_ {A = Option ℕ} (elim t as (λ _. Option ℕ) [ true ↦ some (d .class) | false ↦ find es (e .request) ]) none → (find es (e .request) ≡ none → find (es ++ (e ∷ [])) (e .request) ≡ some (e .class))

@@ -6,7 +6,8 @@ use mathlib.Core.List.{List, _∷_, List·Memᴰ, List·Memᴰ·head, List·Mem�
 use Prim.Native.Nat.{ℕ}
 use Rattle.definition.specs.Classes.{find, superOf}
 use Rattle.definition.specs.Constraints.{Agrees, Tie, World, edges, subtypeEdges, tieEdges}
-use Rattle.definition.specs.Requests.{Chain, Edge, Request, at, stay}
+use Rattle.definition.specs.Chains.{Chain, Edge, stay}
+use Rattle.definition.specs.Requests.{Request, at}
 use Rattle.definition.specs.Superclasses.{Below, Falls, nearest, same, up}
 use Rattle.laws.specs.Agreement.{super-falls}
 use Rattle.laws.specs.Chains.{chain-join, chain-more, chain-turn, turned}
@@ -39,7 +40,7 @@ grows-fits g f = record { via = f .via; class = f .class; cached = g .cache (f .
 abbrev pub Tied : World → Request → Request → Type 0
 Tied w a b = Chain (tieEdges (w .ties)) a b
 
-pub tie-turned : (ts : List Tie) (e : Edge) → List·Memᴰ e (tieEdges ts) → List·Memᴰ (turned e) (tieEdges ts)
+pub tie-turned : (ts : List Tie) (e : Edge Request) → List·Memᴰ e (tieEdges ts) → List·Memᴰ (turned e) (tieEdges ts)
 unfolding tieEdges
 tie-turned (t ∷ ts) e (List·Memᴰ·head q) = List·Memᴰ·tail (List·Memᴰ·head (ap turned q))
 tie-turned (t ∷ ts) e (List·Memᴰ·tail (List·Memᴰ·head q)) = List·Memᴰ·head (ap turned q)

@@ -11,7 +11,8 @@ use Rattle.definition.specs.declared.Signature.{Signature}
 use Rattle.definition.specs.Classes.{Class, Slot, loaderOf, slots, superOf, Selected}
 use Rattle.definition.specs.Constraints.{Agrees, Tie, World, posted, tieEdges}
 use Rattle.definition.specs.Machine.{Object, Progress, Value, entryFrame, initialValue, intValue, nullValue}
-use Rattle.definition.specs.Requests.{Edge}
+use Rattle.definition.specs.Chains.{Edge}
+use Rattle.definition.specs.Requests.{Request}
 use Rattle.definition.specs.Verifier.{VerifierType, typeClass, typeInt, typeOfName, entryTypes}
 use Rattle.laws.specs.Chains.{chain-more}
 use Rattle.laws.specs.Options.{each-more, nth-snoc, set-nth, each-more-in}
@@ -26,7 +27,7 @@ use Rattle.safety.specs.Conform.{fits-own}
 use Rattle.laws.specs.Walk.{entry}
 use Rattle.laws.specs.Members.{MethodAt}
 
-pub ties-more : (w : World) (us : List Tie) (e : Edge) → List·Memᴰ e (tieEdges (w .ties)) → List·Memᴰ e (tieEdges (w .ties ++ us))
+pub ties-more : (w : World) (us : List Tie) (e : Edge Request) → List·Memᴰ e (tieEdges (w .ties)) → List·Memᴰ e (tieEdges (w .ties ++ us))
 ties-more w us e m = rw (tie-edges-more (w .ties) us) (Memᴰ·append-left (tieEdges us) m)
 
 pub grows-posted : (w : World) (us : List Tie) → Grows w (posted w us)

@@ -13,7 +13,8 @@ use Rattle.definition.specs.Classes.{Base, Class, Entry, Method, alike, find, h
 use Rattle.definition.specs.Constraints.{Agrees, Subtype, Tie, World, subtypeEdges, tieEdges, signatureTies}
 use Rattle.definition.specs.Lists.{any}
 use Rattle.definition.specs.Loading.{newSubtypes, overrideTie, overrideTies, subtypeIs, subtypeOf, withClass, withEntry}
-use Rattle.definition.specs.Requests.{Chain, Request, at}
+use Rattle.definition.specs.Chains.{Chain}
+use Rattle.definition.specs.Requests.{Request, at}
 use Rattle.definition.specs.Superclasses.{nearest}
 use Rattle.definition.specs.Verifier.{Note, notesOf, notesOfMethod}
 use Rattle.definition.specs.declared.Instruction.the-variants.{New}

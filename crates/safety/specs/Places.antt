@@ -10,7 +10,8 @@ use borrow.Author.Tests.{eqb-true, eqb-false, ne-eqb}
 use Rattle.definition.specs.Constraints.{Agrees, Tie, World, agreesAfter, edges, newTie, newTies, posted, subtypeEdges, tieEdges, tieIs}
 use Rattle.definition.specs.Lists.{any}
 use Rattle.definition.specs.Machine.{Object, Value, intValue, nullValue, objectValue, emptyValue, unlistedValue}
-use Rattle.definition.specs.Requests.{Chain, Edge, at, hop, stay}
+use Rattle.definition.specs.Chains.{Chain, Edge, hop, stay}
+use Rattle.definition.specs.Requests.{Request, at}
 use Rattle.definition.specs.Verifier.{Note, VerifierType, meetClass, meetInt, meets, typeClass, typeInt, typeNull, typeOfName}
 use Rattle.laws.specs.Agreement.{agrees-true}
 use Rattle.laws.specs.Chains.{chain-more}
@@ -23,7 +24,7 @@ use Rattle.safety.specs.Valid.{Conforms}
 abbrev pub Noted : World → ℕ → List Note → Type 0
 Noted w l ns = (n : Note) → List·Memᴰ n ns → List·Memᴰ (record { from = at l (n .low); to = at l (n .high) }) (subtypeEdges (w .subtypes))
 
-note-edge : (w : World) (e : Edge) → List·Memᴰ e (subtypeEdges (w .subtypes)) → List·Memᴰ e (edges w)
+note-edge : (w : World) (e : Edge Request) → List·Memᴰ e (subtypeEdges (w .subtypes)) → List·Memᴰ e (edges w)
 unfolding edges
 note-edge w e m = Memᴰ·append-right (tieEdges (w .ties)) m
 

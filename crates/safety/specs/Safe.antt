@@ -9,12 +9,13 @@ use lib.ListN.{length, getElem?}
 use lib.Dec.{eqb, ltb}
 use Rattle.definition.specs.declared.Signature.{Signature}
 use Rattle.definition.specs.Answers.{Result, _>>=_, need, ok, refused}
+use Rattle.definition.specs.Chains.{fires, grow, has, rest, reach, reachFrom}
 use Rattle.definition.specs.Classes.{Class, Entry, find, loaderOf, slots, superOf, Selected, startSignature}
 use Rattle.definition.specs.Constraints.{World, agrees, edges, pairAgrees, rowAgrees, subtypeEdges, tieEdges, agreesOver}
 use Rattle.definition.specs.Lists.{all}
 use Rattle.definition.specs.Loading.{define, recorded, started, withEntry}
 use Rattle.definition.specs.Machine.{Frame, Object, Progress, entryFrame, initialValue, intValue, newObject}
-use Rattle.definition.specs.Requests.{at, fires, grow, has, rest, sameRequest, reach}
+use Rattle.definition.specs.Requests.{at, sameRequest}
 use Rattle.definition.specs.declared.Refusal.the-variants.{Word}
 use Rattle.laws.specs.Agreement.{agrees-true, find-row, super-is}
 use Rattle.laws.specs.Options.{nth-last}
@@ -31,7 +32,7 @@ use Rattle.laws.specs.Objects.{numbered-same}
 use Rattle.laws.specs.Members.{selected-at, SelectedAt}
 
 boot-agrees : agrees (booted .world) ≡ true
-unfolding agrees agreesOver reach all rowAgrees pairAgrees find edges tieEdges subtypeEdges has grow fires rest sameRequest
+unfolding agrees agreesOver reach reachFrom all rowAgrees pairAgrees find edges tieEdges subtypeEdges has grow fires rest sameRequest
 boot-agrees = refl
 
 boot-own : find (booted .world .base .cache) (at 0 2) ≡ some 0

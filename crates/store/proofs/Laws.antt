@@ -8,12 +8,12 @@ use native.Mathlib.Omega.{arith}
 use lib.ListN.{length, getD, set}
 use lib.Seq.{getD-set-same, getD-set-other}
 use lib.Dec.{eqb, leb, ltb}
-use borrow.Author.Tests.{ne-eqb, le-ltb, le-leb, lt-leb, leb-true, eqb-true, eqb-false}
+use borrow.Author.Tests.{ne-eqb, lt-ltb, le-ltb, le-leb, lt-leb, leb-true, eqb-true, eqb-false}
 use Rattle.definition.specs.Lists.{every, all, isSome, rows, stack}
 use Rattle.definition.specs.Instructions.{pick}
 use Rattle.definition.specs.Classes.{Base, superOf}
-use Rattle.definition.specs.Machine.{Value, emptyValue, intValue, nullValue, objectValue, unlistedValue}
-use Rattle.definition.specs.Tables.{ClassRow, sizeOf, valueOf, classRowAt, usedFields, objectAt, localAt, operandAt, frameOf, frameAt}
+use Rattle.definition.specs.Machine.{Value, emptyValue, intValue, nullValue, objectValue, unlistedValue, Object}
+use Rattle.definition.specs.Tables.{ClassRow, sizeOf, valueOf, classRowAt, usedFields, objectAt, ownedBy, ownerAt, objectRowAt, localAt, operandAt, frameOf, frameAt}
 use Rattle.definition.specs.Broken.{isObject}
 use Rattle.laws.specs.Agreement.{super-falls}
 use Rattle.layout.specs.Tests.{every-true}
@@ -25,56 +25,67 @@ use Rattle.resolution.specs.Slots.{size-none, size-some, own-size}
 use Rattle.resolution.specs.Unbroken.{part-none}
 use Rattle.store.specs.declared.Fields.{Fields}
 use Rattle.store.specs.declared.Fields.the-variants.{Count, Unfit}
-use Rattle.store.specs.Checks.{fileFits, sourcesFit, linked, linkedSize, Sized, objectSized, valueIn, localIn, objectIn, frameFit}
+use Rattle.store.specs.Checks.{fileFits, sourcesFit, linked, linkedSize, Sized, sizedObject, objectSized, exists, valueIn, localIn, objectIn, frameFit}
 use Rattle.store.specs.Same.{sources-first}
+
+-- Whether an object exists
+
+module _ (n : List ℕ) (m o : ℕ) where
+  pub exists-past : m ≤ o → exists n m o ≡ false
+  unfolding exists
+  exists-past l = every-fails _ _ (le-ltb o m l)
+
+  pub exists-owned : o < m → exists n m o ≡ ltb 0 (ownerAt n o)
+  unfolding exists
+  exists-owned l = every-first _ _ (lt-ltb o m l) ∙ every-last _
 
 -- A value's cells
 
-null-value : (m k b : ℕ) (t : Bool) → valueIn m (pick t nullValue (unlistedValue k b)) ≡ t
+null-value : (X : ℕ → Bool) (k b : ℕ) (t : Bool) → valueIn X (pick t nullValue (unlistedValue k b)) ≡ t
 unfolding valueIn pick
-null-value m k b true = refl
-null-value m k b false = refl
+null-value X k b true = refl
+null-value X k b false = refl
 
-empty-value : (m k b : ℕ) (t : Bool) → localIn m (pick t emptyValue (unlistedValue k b)) ≡ t
+empty-value : (X : ℕ → Bool) (k b : ℕ) (t : Bool) → localIn X (pick t emptyValue (unlistedValue k b)) ≡ t
 unfolding localIn pick
-empty-value m k b true = refl
-empty-value m k b false = refl
+empty-value X k b true = refl
+empty-value X k b false = refl
 
-module _ (m k b : ℕ) where
-  pub int-fits : k ≡ 1 → valueIn m (valueOf k b) ≡ true
+module _ (X : ℕ → Bool) (k b : ℕ) where
+  pub int-fits : k ≡ 1 → valueIn X (valueOf k b) ≡ true
   unfolding valueIn valueOf pick
   int-fits e = rw e
 
-  pub object-fits : k ≡ 3 → valueIn m (valueOf k b) ≡ ltb b m
+  pub object-fits : k ≡ 3 → valueIn X (valueOf k b) ≡ X b
   unfolding valueIn valueOf pick
   object-fits e = rw e
 
-  pub null-fits : k ≡ 2 → valueIn m (valueOf k b) ≡ eqb b 0
+  pub null-fits : k ≡ 2 → valueIn X (valueOf k b) ≡ eqb b 0
   unfolding valueOf pick
-  null-fits e = rw e (null-value m 2 b (eqb b 0))
+  null-fits e = rw e (null-value X 2 b (eqb b 0))
 
-  pub empty-fits : k ≡ 0 → localIn m (valueOf k b) ≡ eqb b 0
+  pub empty-fits : k ≡ 0 → localIn X (valueOf k b) ≡ eqb b 0
   unfolding valueOf pick
-  empty-fits e = rw e (empty-value m 0 b (eqb b 0))
+  empty-fits e = rw e (empty-value X 0 b (eqb b 0))
 
-  pub none-fits : (k ≡ 1 → ⊥) → (k ≡ 3 → ⊥) → (k ≡ 2 → ⊥) → valueIn m (valueOf k b) ≡ false
+  pub none-fits : (k ≡ 1 → ⊥) → (k ≡ 3 → ⊥) → (k ≡ 2 → ⊥) → valueIn X (valueOf k b) ≡ false
   unfolding valueIn valueOf pick
   none-fits x y z = rw (ne-eqb k 1 x, ne-eqb k 3 y, ne-eqb k 2 z) (go (eqb b 0) (eqb k 0))
     where
-      go : (t u : Bool) → valueIn m (pick t (pick u emptyValue (unlistedValue k b)) (unlistedValue k b)) ≡ false
+      go : (t u : Bool) → valueIn X (pick t (pick u emptyValue (unlistedValue k b)) (unlistedValue k b)) ≡ false
       go true true = refl
       go true false = refl
       go false u = refl
 
 -- a local whose kind is not 0 is as a field
-pub local-value : (m k b : ℕ) → (k ≡ 0 → ⊥) → localIn m (valueOf k b) ≡ valueIn m (valueOf k b)
+pub local-value : (X : ℕ → Bool) (k b : ℕ) → (k ≡ 0 → ⊥) → localIn X (valueOf k b) ≡ valueIn X (valueOf k b)
 unfolding valueIn localIn valueOf pick
-local-value m k b x = rw (ne-eqb k 0 x) (go (eqb k 1) (eqb k 3) (eqb b 0) (eqb k 2))
+local-value X k b x = rw (ne-eqb k 0 x) (go (eqb k 1) (eqb k 3) (eqb b 0) (eqb k 2))
   where
     value : Bool → Bool → Bool → Bool → Value
     value s t u v = pick s (intValue b) (pick t (objectValue b) (pick u (pick v nullValue (unlistedValue k b)) (unlistedValue k b)))
 
-    go : (s t u v : Bool) → localIn m (value s t u v) ≡ valueIn m (value s t u v)
+    go : (s t u v : Bool) → localIn X (value s t u v) ≡ valueIn X (value s t u v)
     go true t u v = refl
     go false true u v = refl
     go false false true true = refl
@@ -142,6 +153,32 @@ pub linked-small : (b : Base) (c : ℕ) → linked b c ≡ true → sizeOf b c �
 unfolding linked
 linked-small b c h = leb-true (sizeOf b c) 16 (every-true _ h .1 .0)
 
+-- A row of objects: free, of no task, of no class, or its fields are to be tested
+
+module _ (n : ℕ) (X : ℕ → Bool) where
+  pub row-free : (w : ℕ) (x : Object) → w ≡ 0 → objectIn n X (ownedBy w x) ≡ true
+  unfolding objectIn ownedBy
+  row-free w x e = rw e
+
+  pub task-past : (w : ℕ) (x : Object) → 2 < w → objectIn n X (ownedBy w x) ≡ false
+  unfolding objectIn ownedBy
+  task-past zero x l = absurd (omega arith)
+  task-past (suc k) x l = every-fails _ _ (le-ltb k 2 (omega arith))
+
+  pub class-past : (w : ℕ) (x : Object) → 0 < w → n ≤ x .class → objectIn n X (ownedBy w x) ≡ false
+  unfolding objectIn ownedBy
+  class-past zero x h l = absurd (omega arith)
+  class-past (suc k) x h l = second (ltb k 2)
+    where
+      second : (t : Bool) → every (t ∷ ltb (x .class) n ∷ all (valueIn X) (x .values) ∷ []) ≡ false
+      second true = every-first _ _ refl ∙ every-fails _ _ (le-ltb (x .class) n l)
+      second false = every-fails _ _ refl
+
+  pub row-fields : (w : ℕ) (x : Object) → 0 < w → w ≤ 2 → x .class < n → objectIn n X (ownedBy w x) ≡ all (valueIn X) (x .values)
+  unfolding objectIn ownedBy
+  row-fields zero x h k l = absurd (omega arith)
+  row-fields (suc w) x h k l = every-first _ _ (lt-ltb w 2 (omega arith)) ∙ (every-first _ _ (lt-ltb (x .class) n l) ∙ every-last _)
+
 -- A table of sizes, of which the first is 0; one more; and what it says of objects
 
 module _ (b : Base) where
@@ -157,17 +194,21 @@ module _ (b : Base) where
       go true q = let z = eqb-true c n q in rw z (getD-set-same s n v 0 l ∙ e, k)
       go false q = let z = eqb-false c n q in let m = h c (omega arith) in (getD-set-other s n c v 0 z ∙ m .0, m .1)
 
-  module _ (n m : ℕ) (sizes t : List ℕ) (sized : Sized b n sizes) where
+  module _ (n : ℕ) (X : ℕ → Bool) (sizes counts t : List ℕ) (sized : Sized b n sizes) where
     -- an object whose class is there
-    same-object : (o : ℕ) → getD t (o * 33) 0 < n → objectSized sizes t o ≡ objectAt b t o
-    unfolding objectSized objectAt usedFields pick
+    same-object : (o : ℕ) → getD t (o * 33) 0 < n → sizedObject sizes t o ≡ objectAt b t o
+    unfolding objectAt usedFields pick
     same-object o l = let s = sized (getD t (o * 33) 0) l in rw (s .0, le-leb (sizeOf b (getD t (o * 33) 0)) 16 (s .1), pick)
 
-    same-fits : (o : ℕ) → objectIn n m (objectSized sizes t o) ≡ objectIn n m (objectAt b t o)
-    unfolding objectIn objectSized objectAt
-    same-fits o = either (getD t (o * 33) 0) n (λ l. ap (objectIn n m) (same-object o l)) (λ l. let e = le-ltb (getD t (o * 33) 0) n l in every-fails _ _ e ∙ sym (every-fails _ _ e))
+    same-fits : (o : ℕ) → objectIn n X (objectSized sizes counts t o) ≡ objectIn n X (objectRowAt b counts t o)
+    unfolding objectSized objectRowAt
+    same-fits o = either (getD t (o * 33) 0) n (λ l. ap (λ (x : Object). objectIn n X (ownedBy (ownerAt counts o) x)) (same-object o l)) (λ l. go (ownerAt counts o) l)
+      where
+        go : (w : ℕ) → n ≤ getD t (o * 33) 0 → objectIn n X (ownedBy w (sizedObject sizes t o)) ≡ objectIn n X (ownedBy w (objectAt b t o))
+        go zero l = unfold ownedBy in refl
+        go (suc k) l = class-past n X (suc k) (sizedObject sizes t o) (omega arith) l ∙ sym (class-past n X (suc k) (objectAt b t o) (omega arith) (unfold objectAt in l))
 
-    pub sized-objects : (k i : ℕ) → all (objectIn n m) (rows (objectSized sizes t) k i) ≡ all (objectIn n m) (rows (objectAt b t) k i)
+    pub sized-objects : (k i : ℕ) → all (objectIn n X) (rows (objectSized sizes counts t) k i) ≡ all (objectIn n X) (rows (objectRowAt b counts t) k i)
     unfolding rows all
     sized-objects zero i = refl
     sized-objects (suc k) i = let e = sized-objects k (suc i) in λ j. elim (same-fits i j) as (λ _. Bool) [ true ↦ e j | false ↦ false ]
@@ -202,8 +243,8 @@ module _ (counts classes kept cache : List ℕ) where
 
 -- Frames
 
-pub frame-tests : (t : List ℕ) (b n m : ℕ)
-    → frameFit n m (frameAt t b)
-    ≡ every (ltb (getD t b 0) n ∷ leb (getD t (b + 3) 0) 16 ∷ all (valueIn m) (stack (operandAt t b) (getD t (b + 3) 0)) ∷ all (localIn m) (rows (localAt t b) 8 0) ∷ [])
+pub frame-tests : (t : List ℕ) (b n : ℕ) (X : ℕ → Bool)
+    → frameFit n X (frameAt t b)
+    ≡ every (ltb (getD t b 0) n ∷ leb (getD t (b + 3) 0) 16 ∷ all (valueIn X) (stack (operandAt t b) (getD t (b + 3) 0)) ∷ all (localIn X) (rows (localAt t b) 8 0) ∷ [])
 unfolding frameFit frameAt frameOf
-frame-tests t b n m = rw (stack-length (operandAt t b) (getD t (b + 3) 0))
+frame-tests t b n X = rw (stack-length (operandAt t b) (getD t (b + 3) 0))

@@ -8,9 +8,9 @@ use lib.Dec.{leb, ltb}
 use mathlib.Core.Path.{_≡_}
 use Rattle.definition.specs.Lists.{every, all, isSome, rows, stack}
 use Rattle.definition.specs.Classes.{Base, superOf}
-use Rattle.definition.specs.Machine.{Value, emptyValue, intValue, nullValue, objectValue, unlistedValue, Object, Frame}
+use Rattle.definition.specs.Machine.{Value, emptyValue, intValue, nullValue, objectValue, unlistedValue, Object, ObjectRow, free, owned, Frame}
 use Rattle.definition.specs.File.{readFile}
-use Rattle.definition.specs.Tables.{Tables, shaped, ClassRow, classRowAt, entryAt, tieAt, subtypeAt, fieldAt, objectAt, frameIn, sizeOf}
+use Rattle.definition.specs.Tables.{Tables, shaped, ClassRow, classRowAt, entryAt, tieAt, subtypeAt, fieldAt, ownedBy, ownerAt, objectRowAt, frameIn, sizeOf}
 use Rattle.definition.specs.Broken.{within, isObject, entryFits, tieFits, subtypeFits}
 use Rattle.classfile.specs.Reading.{partOf}
 use Rattle.resolution.specs.Quick.{quickOf}
@@ -45,31 +45,39 @@ linkedSize b c = elim (linked b c) [ true ↦ Count (sizeOf b c) | false ↦ Unf
 abbrev pub Sized : Base → ℕ → List ℕ → Type 0
 Sized b n sizes = (c : ℕ) → c < n → (getD sizes c 0 ≡ sizeOf b c) × (sizeOf b c ≤ 16)
 
--- an object whose class's size stands in such a table
-unfoldable pub objectSized : List ℕ → List ℕ → ℕ → Object
-objectSized sizes t o = record { class = getD t (o * 33) 0; values = rows (fieldAt t o) (getD sizes (getD t (o * 33) 0) 0) 0 }
+-- a row of objects, where the size of the object's class stands in such a table
+abbrev pub sizedObject : List ℕ → List ℕ → ℕ → Object
+sizedObject sizes t o = record { class = getD t (o * 33) 0; values = rows (fieldAt t o) (getD sizes (getD t (o * 33) 0) 0) 0 }
 
--- Values, where there are m objects; objects and frames, where there are n classes
+unfoldable pub objectSized : List ℕ → List ℕ → List ℕ → ℕ → ObjectRow
+objectSized sizes counts t o = ownedBy (ownerAt counts o) (sizedObject sizes t o)
 
-unfoldable pub valueIn : ℕ → Value → Bool
-valueIn m emptyValue = false
-valueIn m (intValue n) = true
-valueIn m nullValue = true
-valueIn m (objectValue o) = ltb o m
-valueIn m (unlistedValue k b) = false
+-- Values, where X says which objects exist; objects and frames, where there are n classes
 
-unfoldable pub localIn : ℕ → Value → Bool
-localIn m emptyValue = true
-localIn m (intValue n) = true
-localIn m nullValue = true
-localIn m (objectValue o) = ltb o m
-localIn m (unlistedValue k b) = false
+-- object o exists if its row is one of the first m, and owned
+unfoldable pub exists : List ℕ → ℕ → ℕ → Bool
+exists counts m o = every (ltb o m ∷ ltb 0 (ownerAt counts o) ∷ [])
 
-unfoldable pub objectIn : ℕ → ℕ → Object → Bool
-objectIn n m o = every (ltb (o .class) n ∷ all (valueIn m) (o .values) ∷ [])
+unfoldable pub valueIn : (ℕ → Bool) → Value → Bool
+valueIn X emptyValue = false
+valueIn X (intValue n) = true
+valueIn X nullValue = true
+valueIn X (objectValue o) = X o
+valueIn X (unlistedValue k b) = false
 
-unfoldable pub frameFit : ℕ → ℕ → Frame → Bool
-frameFit n m f = every (ltb (f .class) n ∷ leb (length (f .operands)) 16 ∷ all (valueIn m) (f .operands) ∷ all (localIn m) (f .locals) ∷ [])
+unfoldable pub localIn : (ℕ → Bool) → Value → Bool
+localIn X emptyValue = true
+localIn X (intValue n) = true
+localIn X nullValue = true
+localIn X (objectValue o) = X o
+localIn X (unlistedValue k b) = false
+
+unfoldable pub objectIn : ℕ → (ℕ → Bool) → ObjectRow → Bool
+objectIn n X free = true
+objectIn n X (owned k o) = every (ltb k 2 ∷ ltb (o .class) n ∷ all (valueIn X) (o .values) ∷ [])
+
+unfoldable pub frameFit : ℕ → (ℕ → Bool) → Frame → Bool
+frameFit n X f = every (ltb (f .class) n ∷ leb (length (f .operands)) 16 ∷ all (valueIn X) (f .operands) ∷ all (localIn X) (f .locals) ∷ [])
 
 -- The rows of a store
 
@@ -81,10 +89,10 @@ rowsFit counts cache ties subtypes = every
     ∷ [])
 
 unfoldable pub objectsFit : Base → List ℕ → List ℕ → Bool
-objectsFit b counts objects = all (objectIn (getD counts 0 0) (getD counts 5 0)) (rows (objectAt b objects) (getD counts 5 0) 0)
+objectsFit b counts objects = all (objectIn (getD counts 0 0) (exists counts (getD counts 5 0))) (rows (objectRowAt b counts objects) (getD counts 5 0) 0)
 
 unfoldable pub framesFit : List ℕ → List ℕ → ℕ → Bool
-framesFit counts frames k = all (frameFit (getD counts 0 0) (getD counts 5 0)) (stack (frameIn frames k) (getD counts (6 + k) 0))
+framesFit counts frames k = all (frameFit (getD counts 0 0) (exists counts (getD counts 5 0))) (stack (frameIn frames k) (getD counts (6 + k) 0))
 
 -- superclasses and sizes, and all values of objects and frames
 unfoldable pub valuesFit : Base → List ℕ → List ℕ → List ℕ → Bool

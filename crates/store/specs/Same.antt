@@ -6,26 +6,28 @@ use mathlib.Core.List.{List}
 use Prim.Native.Nat.{ℕ, zero, suc, _+_, _-_, _<_, _≤_}
 use native.Mathlib.Omega.{arith}
 use lib.ListN.{length, getD}
-use lib.Dec.{ltb}
-use borrow.Author.Tests.{ltb-true, lt-ltb, leb-true, le-leb, eqb-true, eq-eqb}
+use borrow.Author.Tests.{ltb-true, lt-ltb, le-ltb, leb-true, le-leb, eqb-true, eq-eqb}
 use Rattle.definition.specs.Lists.{all, isSome, rows}
 use Rattle.definition.specs.Classes.{Base, superOf}
-use Rattle.definition.specs.Machine.{Value, emptyValue, intValue, nullValue, objectValue, unlistedValue, Object, Frame, existing}
+use Rattle.definition.specs.Machine.{Value, emptyValue, intValue, nullValue, objectValue, unlistedValue, ObjectRow, free, owned, Objects, Frame, existing}
 use Rattle.definition.specs.File.{readFile}
-use Rattle.definition.specs.Tables.{Tables, shaped, ClassRow, sizeOf, classRowAt, objectAt, classRowsOf, keptOf, cacheOf, viewBase, objectsOf, framesOf, viewOver, view}
+use Rattle.definition.specs.Tables.{Tables, shaped, ClassRow, sizeOf, classRowAt, ownerAt, classRowsOf, keptOf, cacheOf, viewBase, objectsOf, framesOf, viewOver, view}
 use Rattle.definition.specs.Broken.{within, isObject, entryFits, valueFits, localFits, objectFits, frameFits, sound, whole, broken}
 use Rattle.layout.specs.Tests.{From, every-true, true-every, all-all, all-test, is-some, some-is, same-test}
 use Rattle.layout.specs.Places.{rows-length, all-rows, rows-all}
-use Rattle.layout.specs.Whole.{First, ClassSound, Classes, fits-classes, classes-fit, existing-some, some-existing}
+use Rattle.layout.specs.Whole.{First, ClassSound, Classes, fits-classes, classes-fit}
+use Rattle.layout.specs.View.{object-there, object-past, object-free}
 use Rattle.layout.specs.Unbroken.{within-true}
 use Rattle.layout.specs.ReadBack.{shaped-true}
 use Rattle.classfile.specs.Reading.{quickFile, partOf}
 use Rattle.classfile.specs.Laws.{reads-some}
 use Rattle.classfile.specs.Searches.{file-part}
+use Rattle.classfile.specs.Lists.{every-first, every-fails}
+use Rattle.resolution.specs.Quick.{either}
 use Rattle.resolution.specs.Unbroken.{Sources, part-same, part-within, part-reads, quick-view, row-first, row-other}
-use Rattle.store.specs.Checks.{fileFits, sourcesFit, linked, linksFit, number, valueIn, localIn, objectIn, frameFit, rowsFit, objectsFit, framesFit, valuesFit, checks}
+use Rattle.store.specs.Checks.{fileFits, sourcesFit, linked, linksFit, number, exists, valueIn, localIn, objectIn, frameFit, rowsFit, objectsFit, framesFit, valuesFit, checks}
 
--- Values: an object exists exactly if its number is below the number of objects
+-- Values: an object exists exactly if its row has been used and has an owner
 
 all-same : {A : Type 0} (f g : A → Bool) → ((x : A) → f x ≡ g x) → (xs : List A) → all f xs ≡ all g xs
 all-same f g e xs =
@@ -33,32 +35,31 @@ all-same f g e xs =
     (λ h. all-test g (λ x. f x ≡ true) (λ x k. sym (e x) ∙ k) xs (all-all f (λ x. f x ≡ true) (λ x k. k) xs h))
     (λ h. all-test f (λ x. g x ≡ true) (λ x k. e x ∙ k) xs (all-all g (λ x. g x ≡ true) (λ x k. k) xs h))
 
-existing-same : (os : List Object) (o : ℕ) → isSome (existing os o) ≡ ltb o (length os)
-existing-same os o = same-test _ _ (λ h. lt-ltb o (length os) (some-existing os o h)) (λ h. existing-some os o (ltb-true o (length os) h))
+module _ (os : Objects) (X : ℕ → Bool) (same : (o : ℕ) → isSome (existing os o) ≡ X o) where
+  value-same : (v : Value) → valueFits os v ≡ valueIn X v
+  unfolding valueFits valueIn
+  value-same emptyValue = refl
+  value-same (intValue n) = refl
+  value-same nullValue = refl
+  value-same (objectValue o) = same o
+  value-same (unlistedValue k b) = refl
 
-value-same : (os : List Object) (v : Value) → valueFits os v ≡ valueIn (length os) v
-unfolding valueFits valueIn
-value-same os emptyValue = refl
-value-same os (intValue n) = refl
-value-same os nullValue = refl
-value-same os (objectValue o) = existing-same os o
-value-same os (unlistedValue k b) = refl
+  local-same : (v : Value) → localFits os v ≡ localIn X v
+  unfolding localFits localIn
+  local-same emptyValue = refl
+  local-same (intValue n) = refl
+  local-same nullValue = refl
+  local-same (objectValue o) = same o
+  local-same (unlistedValue k b) = refl
 
-local-same : (os : List Object) (v : Value) → localFits os v ≡ localIn (length os) v
-unfolding localFits localIn
-local-same os emptyValue = refl
-local-same os (intValue n) = refl
-local-same os nullValue = refl
-local-same os (objectValue o) = existing-same os o
-local-same os (unlistedValue k b) = refl
+  object-same : (n : ℕ) (x : ObjectRow) → objectFits n os x ≡ objectIn n X x
+  unfolding objectFits objectIn
+  object-same n free = refl
+  object-same n (owned k o) = rw (all-same (valueFits os) (valueIn X) value-same (o .values))
 
-object-same : (n : ℕ) (os : List Object) (o : Object) → objectFits n os o ≡ objectIn n (length os) o
-unfolding objectFits objectIn
-object-same n os o = rw (all-same (valueFits os) (valueIn (length os)) (value-same os) (o .values))
-
-frame-same : (n : ℕ) (os : List Object) (f : Frame) → frameFits n os f ≡ frameFit n (length os) f
-unfolding frameFits frameFit
-frame-same n os f = rw (all-same (valueFits os) (valueIn (length os)) (value-same os) (f .operands), all-same (localFits os) (localIn (length os)) (local-same os) (f .locals))
+  frame-same : (n : ℕ) (f : Frame) → frameFits n os f ≡ frameFit n X f
+  unfolding frameFits frameFit
+  frame-same n f = rw (all-same (valueFits os) (valueIn X) value-same (f .operands), all-same (localFits os) (localIn X) local-same (f .locals))
 
 -- The rows of tables
 
@@ -66,21 +67,30 @@ module _ (t : Tables) where
   classes-number : length (classRowsOf t) ≡ getD (t .counts) 0 0
   classes-number = rows-length (classRowAt (t .classes)) (getD (t .counts) 0 0) 0
 
-  objects-number : (b : Base) → length (objectsOf b t) ≡ getD (t .counts) 5 0
-  unfolding objectsOf
-  objects-number b = rows-length (objectAt b (t .objects)) (getD (t .counts) 5 0) 0
+  abbrev X : ℕ → Bool
+  X = exists (t .counts) (getD (t .counts) 5 0)
+
+  exists-same : (b : Base) (o : ℕ) → isSome (existing (objectsOf b t) o) ≡ X o
+  unfolding exists isSome
+  exists-same b o =
+      either o (getD (t .counts) 5 0)
+      (λ l.
+      either 0 (ownerAt (t .counts) o)
+      (λ k. some-is _ _ (object-there t b o l k) ∙ sym (true-every _ (lt-ltb _ _ l, (lt-ltb _ _ k, tt))))
+      (λ k. ap isSome (object-free t b o (omega arith)) ∙ sym (every-first _ _ (lt-ltb _ _ l) ∙ every-fails _ _ (le-ltb _ _ k))))
+      (λ l. ap isSome (object-past t b o l) ∙ sym (every-fails _ _ (le-ltb _ _ l)))
 
   objects-same : (b : Base) → all (objectFits (length (classRowsOf t)) (objectsOf b t)) (objectsOf b t) ≡ objectsFit b (t .counts) (t .objects)
   unfolding objectsFit objectsOf
   objects-same b =
-      all-same _ _ (object-same (length (classRowsOf t)) (objectsOf b t)) (objectsOf b t)
-      ∙ (λ i. all (objectIn (classes-number i) (objects-number b i)) (objectsOf b t))
+      all-same _ _ (object-same (objectsOf b t) X (exists-same b) (length (classRowsOf t))) (objectsOf b t)
+      ∙ (λ i. all (objectIn (classes-number i) X) (objectsOf b t))
 
   frames-same : (b : Base) (k : ℕ) → all (frameFits (length (classRowsOf t)) (objectsOf b t)) (framesOf t k) ≡ framesFit (t .counts) (t .frames) k
   unfolding framesFit framesOf
   frames-same b k =
-      all-same _ _ (frame-same (length (classRowsOf t)) (objectsOf b t)) (framesOf t k)
-      ∙ (λ i. all (frameFit (classes-number i) (objects-number b i)) (framesOf t k))
+      all-same _ _ (frame-same (objectsOf b t) X (exists-same b) (length (classRowsOf t))) (framesOf t k)
+      ∙ (λ i. all (frameFit (classes-number i) X) (framesOf t k))
 
 -- A test of each of the rows but the first
 

@@ -9,12 +9,12 @@ use lib.ListN.{length, getElem?, length-append, length-map}
 use lib.Dec.{leb}
 use borrow.Author.Tests.{leb-true, ltb-true}
 use Rattle.definition.specs.Answers.{ok}
-use Rattle.definition.specs.Calls.{Given, addEntry, addFile, bootRows, defineRows, dropRows, recordRows, startRows, stepOn, stepRows, stepTask, RowCall, rowDefine, rowRecord, rowStart, rowDrop, onRowCall}
+use Rattle.definition.specs.Calls.{Given, addEntry, addFile, bootRows, defineRows, dropRows, recordRows, startRows, sweepRows, stepOn, stepRows, stepTask, RowCall, rowDefine, rowRecord, rowStart, rowDrop, rowSweep, onRowCall}
 use Rattle.definition.specs.Classes.{Base, Class, Entry, find, ownSlots, slots, superOf}
 use Rattle.definition.specs.Constraints.{Subtype, Tie, World}
 use Rattle.definition.specs.File.{File, classOf, readFile}
 use Rattle.definition.specs.Loading.{define, recorded, withClass, withEntry}
-use Rattle.definition.specs.Machine.{Frame}
+use Rattle.definition.specs.Machine.{Exists, Frame}
 use Rattle.definition.specs.Requests.{at}
 use Rattle.definition.specs.Tables.{ClassRow, Rows, baseOf, classAt, fileAt, sizeOf, worldOf, framesIn}
 use Rattle.laws.specs.Agreement.{find-more, is-super}
@@ -24,10 +24,11 @@ use Rattle.laws.specs.Results.{need-ok, take-ok}
 use Rattle.laws.specs.Slots.{slots-up}
 use Rattle.laws.specs.Stable.{own-is}
 use Rattle.layout.specs.Tests.{All, all-both}
-use Rattle.layout.specs.Whole.{Between, Classes, Framed, Listed, ObjectSound, Whole}
+use Rattle.layout.specs.Whole.{Between, Classes, Framed, Listed, RowSound, Whole}
 use Rattle.unbroken.specs.Steps.{class-found, step-moves}
 use Rattle.laws.specs.Wrapped.{Ok, ok-at, then}
 use Rattle.unbroken.specs.Accepted.{recorded-is, defined-is}
+use Rattle.unbroken.specs.Swept.{objects-whole}
 use Rattle.unbroken.specs.WholeRows.{cls-loader, W, N, ready, frames-whole, whole-progressed, start-moves, same-size, grown-class, grown-objects, grown-frames, grown-cache, grown-classes, classes-last, file-more, file-last, kept-same, map-last, overs-between, subs-loader}
 
 -- Loads
@@ -127,7 +128,7 @@ module _ (r : Rows) (w : Whole r) where
         cache = all-both (Listed (length (r .classes ++ (row ∷ [])))) (r .cache) (new ∷ []) (grown-cache r w _ bigger) (record { loader = a; class = omega (arith, length-append (r .classes) (row ∷ []), many) }, tt);
         ties = all-both Between (r .ties) us (w .ties) bu;
         subtypes = all-both (λ (s : Subtype). s .loader < 16) (r .subtypes) ss (w .subtypes) ks;
-        objects = subst (λ (b : Base). All (ObjectSound b (length (r .classes ++ (row ∷ []))) (length (r .objects))) (r .objects)) (sym base-is) (grown-objects r w Y grew (r .kept ++ bs) (file-more (r .kept) bs) _ bigger);
+        objects = subst (λ (b : Base). All (RowSound b (length (r .classes ++ (row ∷ []))) (Exists (r .objects))) (r .objects)) (sym base-is) (grown-objects r w Y grew (r .kept ++ bs) (file-more (r .kept) bs) _ bigger);
         quote = grown-frames r w _ bigger (r .quote) (w .quote);
         report = grown-frames r w _ bigger (r .report) (w .report);
       }
@@ -165,30 +166,36 @@ module _ (r : Rows) (w : Whole r) where
 
   start-whole : (k l n m v : ℕ) → Ok (startRows k l n m v r) Stays
   unfolding startRows
-  start-whole k l n m v = then Stays _ _ (λ _ _. then Stays _ _ (λ o e. whole-progressed r w k o (ok-at _ _ (start-moves r w l n m v (framesIn k r)) o e)))
+  start-whole k l n m v = then Stays _ _ (λ _ a. then Stays _ _ (λ o e. whole-progressed r w k o (ok-at _ _ (start-moves r w k l n m v (framesIn k r) (ltb-true k 2 (need-ok _ _ a))) o e)))
 
-  task-whole : (k : ℕ) (f : Frame) (fs : List Frame) → All (Framed (N r w) (length (r .objects))) (f ∷ fs) → length (f ∷ fs) ≤ 32 → Ok (stepTask k (worldOf r) f fs r) Stays
+  task-whole : (k : ℕ) → k < 2 → (f : Frame) (fs : List Frame) → All (Framed (N r w) (Exists (r .objects))) (f ∷ fs) → length (f ∷ fs) ≤ 32 → Ok (stepTask k (worldOf r) f fs r) Stays
   unfolding stepTask
-  task-whole k f fs a c = then Stays _ _ (λ o e. whole-progressed r w k o (ok-at _ _ (step-moves (W r w) (N r w) (r .objects) (ready r w) f fs a c) o e))
+  task-whole k two f fs a c = then Stays _ _ (λ o e. whole-progressed r w k o (ok-at _ _ (step-moves (W r w) (N r w) (r .objects) (ready r w) k two f fs a c) o e))
 
   pub step-whole : Ok (stepRows r) Stays
   unfolding stepRows
   step-whole = go (r .quote) (r .report) (w .quote) (w .report) (w .limits .quote) (w .limits .report)
     where
-      go : (q p : List Frame) → All (Framed (N r w) (length (r .objects))) q → All (Framed (N r w) (length (r .objects))) p → length q ≤ 32 → length p ≤ 32 → Ok (stepOn q p (worldOf r) r) Stays
-      go (f ∷ fs) p a b c d = unfold stepOn in task-whole 0 f fs a c
-      go [] (f ∷ fs) a b c d = unfold stepOn in task-whole 1 f fs b d
+      go : (q p : List Frame) → All (Framed (N r w) (Exists (r .objects))) q → All (Framed (N r w) (Exists (r .objects))) p → length q ≤ 32 → length p ≤ 32 → Ok (stepOn q p (worldOf r) r) Stays
+      go (f ∷ fs) p a b c d = unfold stepOn in task-whole 0 (omega arith) f fs a c
+      go [] (f ∷ fs) a b c d = unfold stepOn in task-whole 1 (omega arith) f fs b d
       go [] [] a b c d = unfold stepOn in w
 
   drop-whole : (k : ℕ) → Ok (dropRows k r) Stays
   unfolding dropRows
   drop-whole k = then Stays _ _ (λ _ _. frames-whole r w k [] (omega arith) tt)
 
+  -- what is swept is reached by no frame and no field of an object that stays
+  sweep-whole : Ok (sweepRows r) Stays
+  unfolding sweepRows
+  sweep-whole = objects-whole r w
+
   pub rows-whole : (c : RowCall) → Ok (onRowCall c r) Stays
   rows-whole (rowDefine l bs) = define-whole l bs
   rows-whole (rowRecord l n c) = record-whole l n c
   rows-whole (rowStart k l n m v) = start-whole k l n m v
   rows-whole (rowDrop k) = drop-whole k
+  rows-whole rowSweep = sweep-whole
 
 pub boot-whole : Whole bootRows
 boot-whole = record {

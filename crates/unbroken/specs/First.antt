@@ -14,12 +14,12 @@ use Rattle.definition.specs.declared.Refusal.the-variants.{Word}
 use Rattle.definition.specs.declared.Answer.{Answer}
 use Rattle.definition.specs.declared.Answer.the-variants.{Idle, Ran, Finished, Refused}
 use Rattle.definition.specs.declared.Reply.{Reply}
-use Rattle.definition.specs.declared.Reply.the-variants.{Accepted, Defined, Stepped, RanFor, Denied}
+use Rattle.definition.specs.declared.Reply.the-variants.{Accepted, Defined, Stepped, RanFor, Swept, Denied}
 use Rattle.definition.specs.Answers.{number, numberOfStep, numberOf, Result, refused, ok}
 use Rattle.definition.specs.Machine.{Frame, step}
 use Rattle.definition.specs.Tables.{Tables, shaped, Rows, worldOf, view, put}
 use Rattle.definition.specs.Broken.{broken}
-use Rattle.definition.specs.Calls.{Given, bootRows, stepTask, stepOn, stepRows, Done, done, carried, wrap, boot, stepTables, runFrom, run, Call, callBoot, callStep, callRun, perform, onRowCall, callRows}
+use Rattle.definition.specs.Calls.{Given, bootRows, stepTask, stepOn, stepRows, Done, done, carried, wrap, boot, stepTables, runFrom, run, Call, callBoot, callStep, callRun, perform, onRowCall, callRows, turnOf, turn}
 use Rattle.laws.specs.Causes.{Cause, cause, first, frameCauses, rowCauses, causes}
 use Rattle.laws.specs.Refusals.{running}
 use Rattle.laws.specs.Refused.{refusal, rows-taken, step-went, runs-taken}
@@ -79,14 +79,14 @@ applied (c ∷ cs) n h = go (c .applies) h (applied cs n)
 
 -- Steps
 
-step-rows-first : (r : Rows) → Whole r → numberIn (stepRows r) ≡ first (frameCauses (worldOf r) (r .objects) (running (r .quote) (r .report)))
-unfolding stepRows
+step-rows-first : (r : Rows) → Whole r → numberIn (stepRows r) ≡ first (frameCauses (turn r) (worldOf r) (r .objects) (running (r .quote) (r .report)))
+unfolding stepRows turn turnOf
 step-rows-first r w = go (r .quote) (r .report)
   where
-    task : (k : ℕ) (f : Frame) (fs : List Frame) → numberIn (stepTask k (worldOf r) f fs r) ≡ first (frameCauses (worldOf r) (r .objects) (f ∷ fs))
-    task k f fs = unfold stepTask in number-on (step (worldOf r) (r .objects) f fs) _ ∙ step-first (worldOf r) _ (r .objects) (ready r w) f fs
+    task : (k : ℕ) (f : Frame) (fs : List Frame) → numberIn (stepTask k (worldOf r) f fs r) ≡ first (frameCauses k (worldOf r) (r .objects) (f ∷ fs))
+    task k f fs = unfold stepTask in number-on (step k (worldOf r) (r .objects) f fs) _ ∙ step-first k (worldOf r) _ (r .objects) (ready r w) f fs
 
-    go : (q p : List Frame) → numberIn (stepOn q p (worldOf r) r) ≡ first (frameCauses (worldOf r) (r .objects) (running q p))
+    go : (q p : List Frame) → numberIn (stepOn q p (worldOf r) r) ≡ first (frameCauses (turnOf q) (worldOf r) (r .objects) (running q p))
     go (f ∷ fs) p = unfold stepOn in task 0 f fs
     go [] (f ∷ fs) = unfold stepOn in task 1 f fs
     go [] [] = unfold stepOn numberIn first in refl
@@ -101,6 +101,7 @@ zero-number (Stepped Idle) h = refl
 zero-number (Stepped (Ran k)) h = refl
 zero-number (Stepped (Finished k n)) h = refl
 zero-number (Stepped (Refused w)) h = cc
+zero-number (Swept n) h = refl
 zero-number (RanFor k s) h = refl
 zero-number (Denied w) h = cc
 

@@ -1,13 +1,16 @@
--- What lasts: no call but a boot changes a cache entry, a class's row or a kept byte (`loads-last`), nor an object's number and class (`objects-last`).
+-- What lasts: no call but a boot changes a cache entry, a class's row or a kept byte (`loads-last`); no call but a boot and a sweep ends an object or gives it
+-- another class (`objects-last`), and a sweep ends none that is reached (`reached-last`).
 use mathlib.Core.Path.{_≡_}
 use mathlib.Core.Option.{some}
-use mathlib.Core.List.{List, [], _∷_}
+use mathlib.Core.List.{List, [], _∷_, _++_}
 use Prim.Native.Nat.{ℕ}
 use lib.ListN.{getElem?}
 use Rattle.definition.specs.Requests.{Request}
 use Rattle.definition.specs.Classes.{find}
+use Rattle.definition.specs.Machine.{Object, existing}
+use Rattle.definition.specs.Sweeping.{Reached}
 use Rattle.definition.specs.Tables.{Tables, Rows, ClassRow, view}
-use Rattle.definition.specs.Calls.{turn, stepTables, RowCall, rowDefine, rowRecord, rowStart, rowDrop, Call, callBoot, callRows, callStep, callRun, perform, performAll}
+use Rattle.definition.specs.Calls.{turn, stepTables, RowCall, rowDefine, rowRecord, rowStart, rowDrop, rowSweep, Call, callBoot, callRows, callSweep, callStep, callRun, perform, performAll}
 use Rattle.laws.specs.Agreement.{find-more, nth-more}
 use Rattle.laws.specs.Objects.{Numbered, numbered-same, numbered-join}
 use Rattle.laws.specs.Runs.{run-keeps}
@@ -48,12 +51,22 @@ lasts-left (rowDefine l bs) r s a = lasts-appends r s a
 lasts-left (rowRecord l n c) r s a = lasts-appends r s a
 lasts-left (rowStart k l n m v) r s g = lasts-goes k r s g
 lasts-left (rowDrop k) r s g = lasts-goes k r s g
+lasts-left rowSweep r s g = record { cache = λ q c h. rw (g .cache) h; classes = λ c k h. rw (g .classes) h; kept = λ i b h. rw (g .kept) h }
 
-numbered-left : (c : RowCall) (r s : Rows) → LeftBy c r s → Numbered (r .objects) (s .objects)
-numbered-left (rowDefine l bs) r s a = rw (a .objects) (numbered-same (r .objects))
-numbered-left (rowRecord l n c) r s a = rw (a .objects) (numbered-same (r .objects))
-numbered-left (rowStart k l n m v) r s g = g .objects
-numbered-left (rowDrop k) r s g = g .objects
+-- the calls on rows that may free an object
+abbrev pub FreesRows : RowCall → Type 0
+FreesRows (rowDefine l bs) = ⊥
+FreesRows (rowRecord l n c) = ⊥
+FreesRows (rowStart k l n m v) = ⊥
+FreesRows (rowDrop k) = ⊥
+FreesRows rowSweep = Unit {0}
+
+numbered-left : (c : RowCall) → (FreesRows c → ⊥) → (r s : Rows) → LeftBy c r s → Numbered (r .objects) (s .objects)
+numbered-left (rowDefine l bs) h r s a = rw (a .objects) (numbered-same (r .objects))
+numbered-left (rowRecord l n c) h r s a = rw (a .objects) (numbered-same (r .objects))
+numbered-left (rowStart k l n m v) h r s g = g .objects
+numbered-left (rowDrop k) h r s g = g .objects
+numbered-left rowSweep h r s g = absurd (h tt)
 
 abbrev pub IsBoot : Call → Type 0
 IsBoot callBoot = Unit {0}
@@ -66,7 +79,10 @@ abbrev pub Unloads : Call → Type 0
 Unloads c = IsBoot c
 
 abbrev pub Frees : Call → Type 0
-Frees c = IsBoot c
+Frees callBoot = Unit {0}
+Frees (callRows c) = FreesRows c
+Frees callStep = ⊥
+Frees (callRun n) = ⊥
 
 -- the cache never changes an entry, and accepted files are kept
 pub loads-last : (c : Call) → (Unloads c → ⊥) → (t : Tables) → Lasts (view t) (view (perform c t .tables))
@@ -80,13 +96,18 @@ unfolding performAll
 loads-last-all [] h t = lasts-same (view t)
 loads-last-all (c ∷ cs) h t = lasts-join (loads-last c (h .0) t) (loads-last-all cs (h .1) (perform c t .tables))
 
--- an object is never freed or given another class
+-- an object is neither freed nor given another class
 pub objects-last : (c : Call) → (Frees c → ⊥) → (t : Tables) → Numbered (view t .objects) (view (perform c t .tables) .objects)
 objects-last callBoot h t = absurd (h tt)
-objects-last (callRows c) h t = numbered-left c (view t) _ (call-leaves c t)
+objects-last (callRows c) h t = numbered-left c h (view t) _ (call-leaves c t)
 objects-last callStep h t = unfold perform in step-leaves t .objects
 objects-last (callRun n) h t = unfold perform in run-keeps (λ s. Numbered (view t .objects) (view s .objects))
     (λ s l. numbered-join (view t .objects) (view s .objects) (view (stepTables s .tables) .objects) l (step-leaves s .objects)) n t (numbered-same (view t .objects))
+
+-- a sweep ends no object that a frame reaches: it stays as it is, number, class and every field
+pub reached-last : (t : Tables) (o : ℕ) (x : Object) → existing (view t .objects) o ≡ some x → Reached (view t .objects) (view t .quote ++ view t .report) o
+    → existing (view (perform callSweep t .tables) .objects) o ≡ some x
+reached-last t o x e h = call-leaves rowSweep t .reached o x e h
 
 pub objects-last-all : (cs : List Call) → All (λ c. Frees c → ⊥) cs → (t : Tables) → Numbered (view t .objects) (view (performAll cs t .tables) .objects)
 unfolding performAll

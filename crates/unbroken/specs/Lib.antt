@@ -3,6 +3,7 @@ pub mod Steps
 pub mod Progress
 pub mod Accepted
 pub mod WholeRows
+pub mod Swept
 pub mod Calls
 pub mod Refusing
 pub mod RefusingSteps

@@ -1,7 +1,8 @@
 -- What each call leaves, part by part. A load appends to classes, kept files, cache and constraints, and leaves objects and frames as they are. A start, a
--- drop and a step leave classes, kept files, cache, subtype constraints and the other task's frames as they are, and keep each object's number and class.
--- An idle step leaves every table.
+-- drop and a step leave classes, kept files, cache, subtype constraints and the other task's frames as they are, and keep each object's number and class. A
+-- sweep leaves all but objects, and those that are reached. An idle step leaves every table.
 use mathlib.Core.Path.{_≡_, refl, sym, ap, _∙_}
+use mathlib.Core.Option.{some}
 use mathlib.Core.List.{List, [], _∷_, _++_}
 use mathlib.Core.Logic.{_⊎_, inl, inr}
 use Prim.Native.Nat.{ℕ, zero, suc}
@@ -12,11 +13,13 @@ use Rattle.definition.specs.declared.Reply.the-variants.{Denied}
 use Rattle.definition.specs.Answers.{ok}
 use Rattle.definition.specs.Constraints.{World}
 use Rattle.definition.specs.Loading.{started}
-use Rattle.definition.specs.Machine.{Object, Frame, Progress, newObject}
+use Rattle.definition.specs.Machine.{Object, Objects, existing, Frame, Progress, newObject}
+use Rattle.definition.specs.Sweeping.{Reached}
 use Rattle.definition.specs.Tables.{Tables, Rows, ofTask, framesIn, withFrames, worldOf, view, put}
-use Rattle.definition.specs.Calls.{Given, progressed, defineRows, recordRows, startRows, dropRows, stepTask, stepOn, stepRows, turnOf, turn, RowCall, rowDefine, rowRecord, rowStart, rowDrop, onRowCall, callRows, stepTables, perform}
-use Rattle.laws.specs.Objects.{Numbered, numbered-same, numbered-more}
+use Rattle.definition.specs.Calls.{Given, progressed, defineRows, recordRows, startRows, dropRows, sweepRows, stepTask, stepOn, stepRows, turnOf, turn, RowCall, rowDefine, rowRecord, rowStart, rowDrop, rowSweep, onRowCall, callRows, stepTables, perform}
+use Rattle.laws.specs.Objects.{Numbered, numbered-same, numbered-made}
 use Rattle.laws.specs.Results.{ok-inj}
+use Rattle.laws.specs.Sweeps.{sweep-keeps, sweep-left}
 use Rattle.laws.specs.Turns.{idle-empty}
 use Rattle.laws.specs.Wrapped.{wrapped, Ok, ok-at, then}
 use Rattle.layout.specs.View.{put-view}
@@ -121,9 +124,9 @@ goes-dropped k r = record { classes = refl; kept = refl; cache = refl; subtypes 
     others zero = refl
     others (suc k) = refl
 
-started-numbered : (l n m v : ℕ) (w : World) (os : List Object) (fs : List Frame) → Ok (started l n m v w os fs) (λ o. Numbered os (o .objects))
+started-numbered : (k l n m v : ℕ) (w : World) (os : Objects) (fs : List Frame) → Ok (started k l n m v w os fs) (λ o. Numbered os (o .objects))
 unfolding started
-started-numbered l n m v w os fs = then N _ _ (λ _ _. then N _ _ (λ _ _. then N _ _ (λ c _. then N _ _ (λ _ _. then N _ _ (λ _ _. numbered-more os (newObject (w .base) c))))))
+started-numbered k l n m v w os fs = then N _ _ (λ _ _. then N _ _ (λ _ _. then N _ _ (λ c _. then N _ _ (λ _ _. then N _ _ (λ _ _. numbered-made k (newObject (w .base) c) os)))))
   where
     N : Progress → Type 0
     N o = Numbered os (o .objects)
@@ -132,7 +135,7 @@ start-goes : (k l n m v : ℕ) (r : Rows) → Ok (startRows k l n m v r) (λ g. 
 unfolding startRows
 start-goes k l n m v r =
     then G _ _ (λ _ _. then G _ _ (λ o e.
-    goes-progressed k r o (ok-at (λ o. Numbered (r .objects) (o .objects)) _ (started-numbered l n m v (worldOf r) (r .objects) (framesIn k r)) o e)))
+    goes-progressed k r o (ok-at (λ o. Numbered (r .objects) (o .objects)) _ (started-numbered k l n m v (worldOf r) (r .objects) (framesIn k r)) o e)))
   where
     G : Given Reply → Type 0
     G g = Goes k r (g .rows)
@@ -148,12 +151,52 @@ step-goes r = go (r .quote) (r .report)
   where
     task : (k : ℕ) (f : Frame) (fs : List Frame) → Ok (stepTask k (worldOf r) f fs r) (λ g. Goes k r (g .rows))
     task k f fs = unfold stepTask in then (λ (g : Given Answer). Goes k r (g .rows)) _ _ (λ o e.
-        goes-progressed k r o (ok-at (Advances (r .objects) (f ∷ fs)) _ (step-advances (worldOf r) (r .objects) f fs) o e .objects))
+        goes-progressed k r o (ok-at (Advances (r .objects) (f ∷ fs)) _ (step-advances k (worldOf r) (r .objects) f fs) o e .objects))
 
     go : (q p : List Frame) → Ok (stepOn q p (worldOf r) r) (λ g. Goes (turnOf q) r (g .rows))
     go (f ∷ fs) p = unfold stepOn turnOf in task 0 f fs
     go [] (f ∷ fs) = unfold stepOn turnOf in task 1 f fs
     go [] [] = unfold stepOn in goes-same (turnOf []) r
+
+-- A sweep ends objects, none that is reached, and changes nothing else
+
+pub record Sweeps (r s : Rows) : Type 0 where
+  pub classes : s .classes ≡ r .classes
+  pub kept : s .kept ≡ r .kept
+  pub cache : s .cache ≡ r .cache
+  pub ties : s .ties ≡ r .ties
+  pub subtypes : s .subtypes ≡ r .subtypes
+  pub quote : s .quote ≡ r .quote
+  pub report : s .report ≡ r .report
+  pub reached : (o : ℕ) (x : Object) → existing (r .objects) o ≡ some x → Reached (r .objects) (r .quote ++ r .report) o → existing (s .objects) o ≡ some x
+  pub left : (o : ℕ) (x : Object) → existing (s .objects) o ≡ some x → existing (r .objects) o ≡ some x
+
+sweeps-same : (r : Rows) → Sweeps r r
+sweeps-same r = record {
+  classes = refl;
+  kept = refl;
+  cache = refl;
+  ties = refl;
+  subtypes = refl;
+  quote = refl;
+  report = refl;
+  reached = λ o x e _. e;
+  left = λ o x e. e;
+}
+
+sweep-sweeps : (r : Rows) → Ok (sweepRows r) (λ g. Sweeps r (g .rows))
+unfolding sweepRows
+sweep-sweeps r = record {
+  classes = refl;
+  kept = refl;
+  cache = refl;
+  ties = refl;
+  subtypes = refl;
+  quote = refl;
+  report = refl;
+  reached = sweep-keeps (r .objects) (r .quote ++ r .report);
+  left = λ o x e. sweep-left (r .objects) (r .quote ++ r .report) o x e .0;
+}
 
 -- Every call on rows
 
@@ -162,18 +205,21 @@ LeftBy (rowDefine l bs) r s = Appends r s
 LeftBy (rowRecord l n c) r s = Appends r s
 LeftBy (rowStart k l n m v) r s = Goes k r s
 LeftBy (rowDrop k) r s = Goes k r s
+LeftBy rowSweep r s = Sweeps r s
 
 left-same : (c : RowCall) (r : Rows) → LeftBy c r r
 left-same (rowDefine l bs) r = appends-same r
 left-same (rowRecord l n c) r = appends-same r
 left-same (rowStart k l n m v) r = goes-same k r
 left-same (rowDrop k) r = goes-same k r
+left-same rowSweep r = sweeps-same r
 
 pub rows-left : (c : RowCall) (r : Rows) → Ok (onRowCall c r) (λ g. LeftBy c r (g .rows))
 rows-left (rowDefine l bs) r = define-appends l bs r
 rows-left (rowRecord l n c) r = record-appends l n c r
 rows-left (rowStart k l n m v) r = start-goes k l n m v r
 rows-left (rowDrop k) r = drop-goes k r
+rows-left rowSweep r = sweep-sweeps r
 
 -- On tables, whatever they hold
 

@@ -1,5 +1,5 @@
 -- What an accepted instruction leaves: every object keeps its number and class, and unless the task gives a result it has a frame and its frames moved.
-use mathlib.Core.Path.{_≡_, sym, ap}
+use mathlib.Core.Path.{_≡_, refl, sym, ap}
 use mathlib.Core.Option.{Option, none, some}
 use mathlib.Core.List.{List, [], _∷_}
 use Prim.Native.Nat.{ℕ, _+_, _<_}
@@ -11,15 +11,15 @@ use Rattle.definition.specs.Answers.{ok}
 use Rattle.definition.specs.Classes.{Class}
 use Rattle.definition.specs.Constraints.{World}
 use Rattle.definition.specs.Instructions.{Decoded}
-use Rattle.definition.specs.Machine.{Value, Object, Frame, Progress, Now, past, now, give, execute, step}
+use Rattle.definition.specs.Machine.{Value, Objects, Frame, Progress, Now, past, now, give, execute, step}
 use Rattle.laws.specs.Results.{bind-ok, ok-inj, take-ok}
 use Rattle.laws.specs.Sized.{sized}
-use Rattle.laws.specs.Objects.{Numbered, numbered-same, numbered-changed, numbered-more}
+use Rattle.laws.specs.Objects.{Numbered, numbered-same, numbered-changed, numbered-made}
 use Rattle.laws.specs.Wrapped.{Ok, then}
 use Rattle.unbroken.specs.Steps.{object-is}
 
 -- from the objects os and the frames fs
-pub record Advances (os : List Object) (fs : List Frame) (o : Progress) : Type 0 where
+pub record Advances (os : Objects) (fs : List Frame) (o : Progress) : Type 0 where
   pub objects : Numbered os (o .objects)
   pub left : o .result ≡ none → o .frames ≡ [] → ⊥
   pub moved : o .result ≡ none → o .frames ≡ fs → ⊥
@@ -27,9 +27,9 @@ pub record Advances (os : List Object) (fs : List Frame) (o : Progress) : Type 0
 longer : (fs gs : List Frame) → (length fs ≡ length gs → ⊥) → fs ≡ gs → ⊥
 longer fs gs h e = h (ap length e)
 
-module _ (os : List Object) (f : Frame) (fs : List Frame) (i : Decoded) (size : 0 < i .size) where
+module _ (os : Objects) (f : Frame) (fs : List Frame) (i : Decoded) (size : 0 < i .size) where
   -- the frame stands past its instruction
-  goes : (w : World) (qs : List Object) → Numbered os qs → (o l : List Value) → Advances os (f ∷ fs) (record { world = w; objects = qs; frames = past f i o l ∷ fs; result = none })
+  goes : (w : World) (qs : Objects) → Numbered os qs → (o l : List Value) → Advances os (f ∷ fs) (record { world = w; objects = qs; frames = past f i o l ∷ fs; result = none })
   goes w qs n o l = record { objects = n; left = λ _. longer _ _ (λ e. omega arith); moved = λ _ e. stands (ap (λ (gs : List Frame). point gs) e) }
     where
       point : List Frame → ℕ
@@ -48,14 +48,14 @@ module _ (os : List Object) (f : Frame) (fs : List Frame) (i : Decoded) (size : 
       some-none n e = let z : _≡_ {A = ℕ} 0 1 = cc in omega arith
   gives (g ∷ gs) w v = record { objects = numbered-same os; left = λ _. longer _ _ (λ e. omega arith); moved = λ _. longer _ _ (λ e. omega arith) }
 
-  module _ (w : World) (k : Class) where
+  module _ (task : ℕ) (w : World) (k : Class) where
     abbrev Q : Progress → Type 0
     Q = Advances os (f ∷ fs)
 
     on : (o l : List Value) → Advances os (f ∷ fs) (record { world = w; objects = os; frames = past f i o l ∷ fs; result = none })
     on o l = goes w os (numbered-same os) o l
 
-    advances : (j : Instruction) → Ok (execute w os f fs k i j) Q
+    advances : (j : Instruction) → Ok (execute task w os f fs k i j) Q
     unfolding execute
     advances AconstNull = then Q _ _ (λ _ _. on _ _)
     advances (Sipush n) = then Q _ _ (λ _ _. on _ _)
@@ -67,10 +67,10 @@ module _ (os : List Object) (f : Frame) (fs : List Frame) (i : Decoded) (size : 
     advances (Getfield c n t) = then Q _ _ (λ _ _. then Q _ _ (λ _ _. then Q _ _ (λ v _. then Q _ _ (λ _ _. then Q _ _ (λ _ _. then Q _ _ (λ _ _. then Q _ _ (λ _ _.
         goes v os (numbered-same os) _ _)))))))
     advances (Putfield c n t) = then Q _ _ (λ e _. then Q _ _ (λ _ _. then Q _ _ (λ v _. then Q _ _ (λ _ _. then Q _ _ (λ q _. then Q _ _ (λ _ _. then Q _ _ (λ o h. then Q _ _ (λ _ _.
-        goes v _ (numbered-changed os (o .number) (o .object) _ (object-is (w .base) os e (q .top) o h)) _ _))))))))
+        goes v _ (numbered-changed os (o .number) (o .object) (record { class = o .object .class; values = _ }) (object-is (w .base) os e (q .top) o h) refl) _ _))))))))
     advances (Invokevirtual c s) = then Q _ _ (λ _ _. then Q _ _ (λ _ _. then Q _ _ (λ _ _. then Q _ _ (λ _ _. then Q _ _ (λ _ _. then Q _ _ (λ _ _. then Q _ _ (λ _ _. then Q _ _ (λ _ _.
         record { objects = numbered-same os; left = λ _. longer _ _ (λ e. omega arith); moved = λ _. longer _ _ (λ e. omega arith) }))))))))
-    advances (New c) = then Q _ _ (λ _ _. then Q _ _ (λ _ _. goes w _ (numbered-more os _) _ _))
+    advances (New c) = then Q _ _ (λ _ _. then Q _ _ (λ _ _. goes w _ (numbered-made task _ os) _ _))
     advances (Return kind) = then Q _ _ (λ _ _. then Q _ _ (λ p _. then Q _ _ (λ _ _. gives fs w (p .top))))
 
 now-sized : (w : World) (f : Frame) (n : Now) → now w f ≡ ok n → 0 < n .at .size
@@ -81,6 +81,6 @@ now-sized w f n e =
     let c = bind-ok _ _ (b .2) in
     rw (sym (ap (λ (y : Now). y .at) (ok-inj (c .2)))) (sized (a .0 .version) (b .0 .code) (f .point) (c .0) (take-ok _ _ (c .1)))
 
-pub step-advances : (w : World) (os : List Object) (f : Frame) (fs : List Frame) → Ok (step w os f fs) (Advances os (f ∷ fs))
+pub step-advances : (task : ℕ) (w : World) (os : Objects) (f : Frame) (fs : List Frame) → Ok (step task w os f fs) (Advances os (f ∷ fs))
 unfolding step
-step-advances w os f fs = then (Advances os (f ∷ fs)) _ _ (λ n e. advances os f fs (n .at) (now-sized w f n e) w (n .theClass) (n .at .instruction))
+step-advances task w os f fs = then (Advances os (f ∷ fs)) _ _ (λ n e. advances os f fs (n .at) (now-sized w f n e) task w (n .theClass) (n .at .instruction))

@@ -1,6 +1,6 @@
 -- A define, a record, a start and a drop refuse with the first cause that applies.
-use mathlib.Core.Path.{_≡_, refl, sym, _∙_}
-use mathlib.Core.Bool.{Bool, true, false, not, _&&_, _||_}
+use mathlib.Core.Path.{_≡_, refl, sym, _∙_, ap}
+use mathlib.Core.Bool.{Bool, true, false, not, _&&_, _||_, Bool·not-not}
 use mathlib.Core.Option.{Option, none, some}
 use mathlib.Core.List.{List, [], _∷_}
 use Prim.Native.Nat.{ℕ, _+_}
@@ -13,11 +13,12 @@ use Rattle.definition.specs.Answers.{number, wanted, Result, refused, ok, _>>=_
 use Rattle.definition.specs.Classes.{find, selected, startSignature}
 use Rattle.definition.specs.Constraints.{World, agrees}
 use Rattle.definition.specs.Lists.{any, isNone}
+use Rattle.definition.specs.Machine.{roomless}
 use Rattle.definition.specs.Loading.{hides, withEntry, define, recorded, started}
 use Rattle.definition.specs.Verifier.{notesOf}
 use Rattle.definition.specs.File.{File, readFile, classOf}
 use Rattle.definition.specs.Tables.{Rows, worldOf, framesIn}
-use Rattle.definition.specs.Calls.{defineRows, recordRows, startRows, dropRows, RowCall, rowDefine, rowRecord, rowStart, rowDrop, onRowCall}
+use Rattle.definition.specs.Calls.{defineRows, recordRows, startRows, dropRows, sweepRows, RowCall, rowDefine, rowRecord, rowStart, rowDrop, rowSweep, onRowCall}
 use Rattle.definition.specs.Maybe as Maybe
 use Rattle.laws.specs.Causes.{Cause, cause, first, isSomeAnd, definePasses, defineClashes, defineCauses, recordCauses, startCauses, rowCauses}
 
@@ -105,16 +106,16 @@ module _ (r : Rows) where
   record-first l n c = number-on (recorded l n c W) _ ∙ first-need _ (ltb l 16 && leb 2 n) (Word 3) _ (λ _. first-take _ (getElem? (W .base .classes) c) (Word 3) _ (λ k e. rw e
       (first-need _ (eqb (k .name) n) (Word 13) _ (λ _. entry-first l n c (find (r .cache) (at l n)))))) ∙ sym (first-or 3 _ _ _)
 
-  started-first : (k l n m v : ℕ) → numberIn (started l n m v W (r .objects) (framesIn k r)) ≡ first (cause 3 (not (ltb l 16 && leb 2 n && leb 1 m)) ∷ cause 12 (not (leb (length (framesIn k r)) 0))
+  started-first : (k l n m v : ℕ) → numberIn (started k l n m v W (r .objects) (framesIn k r)) ≡ first (cause 3 (not (ltb l 16 && leb 2 n && leb 1 m)) ∷ cause 12 (not (leb (length (framesIn k r)) 0))
       ∷ cause 5 (isNone (find (r .cache) (at l n))) ∷ cause 7 (isSomeAnd (find (r .cache) (at l n)) (λ c. isNone (selected (W .base) (startSignature m) c)))
-      ∷ cause 10 (not (ltb (length (r .objects)) 256)) ∷ [])
+      ∷ cause 10 (roomless k (r .objects)) ∷ [])
   unfolding started number
   started-first k l n m v = first-need _ (ltb l 16 && leb 2 n && leb 1 m) (Word 3) _ (λ _. first-need _ _ (Word 12) _ (λ _. first-take _ (find (r .cache) (at l n)) (wanted (at l n)) _ (λ c q. rw q
-      (first-take _ (selected (W .base) (startSignature m) c) (Word 7) _ (λ _ _. first-need [] _ (Word 10) _ (λ _. number-ok _))))))
+      (first-take _ (selected (W .base) (startSignature m) c) (Word 7) _ (λ _ _. first-need [] (not (roomless k (r .objects))) (Word 10) _ (λ _. number-ok _) ∙ ap (λ (b : Bool). first (cause 10 b ∷ [])) (Bool·not-not (roomless k (r .objects))))))))
 
   start-first : (k l n m v : ℕ) → numberIn (startRows k l n m v r) ≡ first (startCauses k l n m r)
   unfolding startRows startCauses number
-  start-first k l n m v = first-need _ (ltb k 2) (Word 3) _ (λ _. number-on (started l n m v W (r .objects) (framesIn k r)) _ ∙ started-first k l n m v) ∙ sym (first-or 3 _ _ _)
+  start-first k l n m v = first-need _ (ltb k 2) (Word 3) _ (λ _. number-on (started k l n m v W (r .objects) (framesIn k r)) _ ∙ started-first k l n m v) ∙ sym (first-or 3 _ _ _)
 
   drop-first : (k : ℕ) → numberIn (dropRows k r) ≡ first (cause 3 (not (ltb k 2)) ∷ [])
   unfolding dropRows number
@@ -126,3 +127,4 @@ module _ (r : Rows) where
   rows-first (rowRecord l n c) = record-first l n c
   rows-first (rowStart k l n m v) = start-first k l n m v
   rows-first (rowDrop k) = drop-first k
+  rows-first rowSweep = unfold sweepRows first in number-ok _

@@ -22,7 +22,7 @@ use Rattle.definition.specs.Classes.{Class, find, superOf, slots, slotIs, hasFi
 use Rattle.definition.specs.Constraints.{Tie, World, posted, agreesAfter, post}
 use Rattle.definition.specs.Instructions.{Decoded}
 use Rattle.definition.specs.Lists.{indexOf, isSome, isNone}
-use Rattle.definition.specs.Machine.{Value, emptyValue, intValue, nullValue, objectValue, unlistedValue, Object, Frame, Progress, Now, existing, pop!, int!, reference!, ofKind!, kind!, compute, room!, object!, past, entryFrame, now, under!, give, execute, step}
+use Rattle.definition.specs.Machine.{Value, emptyValue, intValue, nullValue, objectValue, unlistedValue, Object, Objects, Exists, changed, Frame, Progress, Now, existing, pop!, int!, reference!, ofKind!, kind!, compute, room!, object!, past, entryFrame, now, under!, give, execute, step}
 use Rattle.definition.specs.Verifier.{pop}
 use Rattle.definition.specs.Maybe as Maybe
 use Rattle.laws.specs.Agreement.{super-falls}
@@ -31,7 +31,7 @@ use Rattle.laws.specs.Members.{FieldPlace, field-place}
 use Rattle.laws.specs.Upward.{nearest-below, below-true, below-trans}
 use Rattle.laws.specs.Causes.{Cause, cause, first, isSomeAnd, anInt, aNull, aReference, aValueOf, ofKind, isEmpty, noRoom, noRoomBelow, receives, selects, fieldTies, methodTies, plainly, accessing, reading, readCauses, frameCauses, instructionCauses}
 use Rattle.layout.specs.Whole.{ObjectSound}
-use Rattle.unbroken.specs.Steps.{Ready, all-nth}
+use Rattle.unbroken.specs.Steps.{Ready, object-at}
 use Rattle.unbroken.specs.WholeRows.{nth-there}
 use Rattle.unbroken.specs.Refusing.{numberIn, first-need, first-take, first-skip, number-ok, number-there}
 
@@ -129,7 +129,7 @@ module _ {B : Type 0} (cs : List Cause) where
 
 -- Ties, and the object behind a receiver
 
-module _ {B : Type 0} (w : World) (os : List Object) where
+module _ {B : Type 0} (w : World) (os : Objects) where
   first-post : (cs : List Cause) (room : Bool) (us : List Tie) (g : World → Result B) → numberIn (g (posted w us)) ≡ first cs
       → numberIn (post w room us >>= g) ≡ first (cause 10 (not (leb (length (w .ties ++ us)) 256 && room)) ∷ cause 9 (not (agreesAfter w us)) ∷ cs)
   unfolding numberIn first post need _>>=_ number
@@ -142,20 +142,20 @@ module _ {B : Type 0} (w : World) (os : List Object) where
 
   -- one more test of the object, which null passes
   first-object : (e : ℕ) (v : Value) (more : Value → Bool) (g : record { number : ℕ; object : Object } → Result B) → more nullValue ≡ true
-      → ((o : ℕ) (b : Object) → getElem? os o ≡ some b → Below (superOf (w .base)) (b .class) e → numberIn (g (record { number = o; object = b })) ≡ first (cause 14 (not (more (objectValue o))) ∷ []))
+      → ((o : ℕ) (b : Object) → existing os o ≡ some b → Below (superOf (w .base)) (b .class) e → numberIn (g (record { number = o; object = b })) ≡ first (cause 14 (not (more (objectValue o))) ∷ []))
       → numberIn (object! (w .base) os e v >>= g) ≡ first (cause 14 (not (receives w os e v)) ∷ cause 14 (not (more v)) ∷ cause 11 (aNull v) ∷ [])
-  unfolding numberIn first object! existing need take? _>>=_ number
+  unfolding numberIn first object! need take? _>>=_ number
   first-object e emptyValue more g n h = refl
   first-object e (intValue x) more g n h = refl
   first-object e nullValue more g n h = rw n refl
-  first-object e (objectValue o) more g n h = go (getElem? os o) refl
+  first-object e (objectValue o) more g n h = go (existing os o) refl
     where
-      tested : (b : Object) → getElem? os o ≡ some b → (t : Bool) → below (superOf (w .base)) (b .class) e ≡ t
+      tested : (b : Object) → existing os o ≡ some b → (t : Bool) → below (superOf (w .base)) (b .class) e ≡ t
           → numberIn ((need t (Word 14) >>= λ _. ok (record { number = o; object = b })) >>= g) ≡ first (cause 14 (not t) ∷ cause 14 (not (more (objectValue o))) ∷ cause 11 false ∷ [])
       tested b q true l = h o b q (below-true (superOf (w .base)) (super-falls (w .base)) (b .class) e l)
       tested b q false l = refl
 
-      go : (x : Option Object) → getElem? os o ≡ x → numberIn ((take? x (Word 14) >>= λ b. need (below (superOf (w .base)) (b .class) e) (Word 14) >>= λ _. ok (record { number = o; object = b })) >>= g)
+      go : (x : Option Object) → existing os o ≡ x → numberIn ((take? x (Word 14) >>= λ b. need (below (superOf (w .base)) (b .class) e) (Word 14) >>= λ _. ok (record { number = o; object = b })) >>= g)
           ≡ first (cause 14 (not (isSomeAnd x (λ b. below (superOf (w .base)) (b .class) e))) ∷ cause 14 (not (more (objectValue o))) ∷ cause 11 false ∷ [])
       go none q = refl
       go (some b) q = tested b q (below (superOf (w .base)) (b .class) e) refl
@@ -163,7 +163,7 @@ module _ {B : Type 0} (w : World) (os : List Object) where
 
 -- One instruction
 
-module _ (w : World) (n : ℕ) (os : List Object) (rd : Ready w n os) (f : Frame) (fs : List Frame) (k : Class) (i : Decoded) where
+module _ (task : ℕ) (w : World) (n : ℕ) (os : Objects) (rd : Ready w n os) (f : Frame) (fs : List Frame) (k : Class) (i : Decoded) where
   -- it names a class and looks upward from it
   first-access : {A B : Type 0} (o : Option ℕ) (looks : ℕ → Option A) (ties : A → List Tie) (room : Bool) (fits : ℕ → Bool) (null : Bool) (r : Request) (g : ℕ → A → World → Result B)
       → ((e : ℕ) (d : A) → looks e ≡ some d → numberIn (g e d (posted w (ties d))) ≡ first (cause 14 (not (fits e)) ∷ cause 11 null ∷ []))
@@ -203,12 +203,12 @@ module _ (w : World) (n : ℕ) (os : List Object) (rd : Ready w n os) (f : Frame
   give-first (x ∷ gs) v = number-ok _ ∙ sym (first-skip 14 [])
 
   -- in an object of class e or below it stands the field that is found upward of e
-  module _ (e d x t : ℕ) (b : Object) (o : ℕ) (q : getElem? os o ≡ some b) (l : Below (superOf (w .base)) (b .class) e) (p : nearest (superOf (w .base)) (hasField (w .base) x t) e ≡ some d) where
+  module _ (e d x t : ℕ) (b : Object) (o : ℕ) (q : existing os o ≡ some b) (l : Below (superOf (w .base)) (b .class) e) (p : nearest (superOf (w .base)) (hasField (w .base) x t) e ≡ some d) where
     place : FieldPlace (w .base) (b .class) d x t
     place = let u = nearest-below (superOf (w .base)) (super-falls (w .base)) (hasField (w .base) x t) e d p in field-place (w .base) (b .class) d x t (u .1) (below-trans l (u .0))
 
     stored : (v : Value) × (getElem? (b .values) (place .place) ≡ some v)
-    stored = nth-there (b .values) (place .place) (omega (arith, nth-lt (slots (w .base) (b .class)) (place .place) (place .slot) (place .isSlot), all-nth (ObjectSound (w .base) n (length os)) os (rd .each) o b q .size))
+    stored = nth-there (b .values) (place .place) (omega (arith, nth-lt (slots (w .base) (b .class)) (place .place) (place .slot) (place .isSlot), object-at (w .base) n (Exists os) os (rd .each) o b q .size))
 
   -- once the ties are posted
   getfield-first : (x t e d : ℕ) → nearest (superOf (w .base)) (hasField (w .base) x t) e ≡ some d → (v : World) → numberIn {A = Progress} (pop! (f .operands) >>= λ p. object! (w .base) os e (p .top) >>= λ o.
@@ -222,7 +222,7 @@ module _ (w : World) (n : ℕ) (os : List Object) (rd : Ready w n os) (f : Frame
 
   putfield-first : (x t e d : ℕ) → nearest (superOf (w .base)) (hasField (w .base) x t) e ≡ some d → (v : World) → numberIn {A = Progress} (pop! (f .operands) >>= λ p. pop! (p .more) >>= λ q. kind! t (p .top) >>= λ _.
       object! (w .base) os e (q .top) >>= λ o. take? (indexOf (slotIs d x t) (slots (w .base) d)) (Word 14) >>= λ j.
-      ok (record { world = v; objects = set os (o .number) (record { class = o .object .class; values = set (o .object .values) j (p .top) }); frames = past f i (q .more) (f .locals) ∷ fs; result = none }))
+      ok (record { world = v; objects = changed os (o .number) (record { class = o .object .class; values = set (o .object .values) j (p .top) }); frames = past f i (q .more) (f .locals) ∷ fs; result = none }))
       ≡ first (cause 14 (not (upper (ofKind t) && lower (receives w os e))) ∷ cause 11 (lower aNull) ∷ [])
   putfield-first x t e d p v =
       first-two (cause 11 (lower aNull) ∷ []) (f .operands) (ofKind t) (receives w os e) _ (λ y u us q. rw q (first-kind _ t y _ (first-object w os e u (λ _. true) _ refl (λ o b h l.
@@ -233,14 +233,13 @@ module _ (w : World) (n : ℕ) (os : List Object) (rd : Ready w n os) (f : Frame
       ok (record { world = v; objects = os; frames = entryFrame (m .class) (m .place) (o .number) (p .top) ∷ past f i (q .more) (f .locals) ∷ fs; result = none }))
       ≡ first (cause 14 (not (upper (ofKind (s .argument)) && lower (λ v. receives w os e v && selects w os s v)))
       ∷ cause 11 (lower aNull) ∷ [])
-  unfolding existing
   invoke-first s e v =
       first-two (cause 11 (lower aNull) ∷ []) (f .operands) (ofKind (s .argument)) (λ v. receives w os e v && selects w os s v) _ (λ y u us q. rw q (first-kind _ (s .argument) y _
       (first-object w os e u (selects w os s) _ refl (λ o b h l. rw h (first-there [] (selected (w .base) s (b .class)) _ (λ _ _. number-ok _)))
       ∙ sym (first-and 14 (receives w os e u) (selects w os s u) (cause 11 (aNull u) ∷ [])))))
       ∙ sym (first-and 14 (upper (ofKind (s .argument))) (lower (λ v. receives w os e v && selects w os s v)) (cause 11 (lower aNull) ∷ []))
 
-  execute-first : (j : Instruction) → numberIn (execute w os f fs k i j) ≡ first (instructionCauses w os f fs k j)
+  execute-first : (j : Instruction) → numberIn (execute task w os f fs k i j) ≡ first (instructionCauses task w os f fs k j)
   unfolding execute instructionCauses room! noRoom number
   execute-first AconstNull = first-need _ (ltb (length (f .operands)) 16) (Word 10) _ (λ _. number-ok _ ∙ sym (first-skip 14 [])) ∙ sym (plain _ _)
   execute-first (Sipush x) = first-need _ (ltb (length (f .operands)) 16) (Word 10) _ (λ _. number-ok _ ∙ sym (first-skip 14 [])) ∙ sym (plain _ _)
@@ -273,10 +272,10 @@ now-reading : (w : World) (f : Frame) → now w f ≡ take? (reading w f) (Word 
 unfolding now reading take?
 now-reading w f = read-join _ _ _ (λ k. read-join _ _ _ (λ m. read-join _ _ _ (λ i. refl)))
 
-pub step-first : (w : World) (n : ℕ) (os : List Object) → Ready w n os → (f : Frame) (fs : List Frame) → numberIn (step w os f fs) ≡ first (frameCauses w os (f ∷ fs))
+pub step-first : (task : ℕ) (w : World) (n : ℕ) (os : Objects) → Ready w n os → (f : Frame) (fs : List Frame) → numberIn (step task w os f fs) ≡ first (frameCauses task w os (f ∷ fs))
 unfolding step
-step-first w n os rd f fs = ap (λ (o : Result Now). numberIn (o >>= λ z. execute w os f fs (z .theClass) (z .at) (z .at .instruction))) (now-reading w f) ∙ go (reading w f)
+step-first task w n os rd f fs = ap (λ (o : Result Now). numberIn (o >>= λ z. execute task w os f fs (z .theClass) (z .at) (z .at .instruction))) (now-reading w f) ∙ go (reading w f)
   where
-    go : (o : Option Now) → numberIn (take? o (Word 14) >>= λ z. execute w os f fs (z .theClass) (z .at) (z .at .instruction)) ≡ first (readCauses w os f fs o)
+    go : (o : Option Now) → numberIn (take? o (Word 14) >>= λ z. execute task w os f fs (z .theClass) (z .at) (z .at .instruction)) ≡ first (readCauses task w os f fs o)
     go none = unfold numberIn first take? _>>=_ number in refl
-    go (some z) = unfold take? _>>=_ in execute-first w n os rd f fs (z .theClass) (z .at) (z .at .instruction) ∙ sym (first-skip 14 (instructionCauses w os f fs (z .theClass) (z .at .instruction)))
+    go (some z) = unfold take? _>>=_ in execute-first task w n os rd f fs (z .theClass) (z .at) (z .at .instruction) ∙ sym (first-skip 14 (instructionCauses task w os f fs (z .theClass) (z .at .instruction)))

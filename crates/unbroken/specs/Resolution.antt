@@ -18,7 +18,7 @@ use Rattle.definition.specs.Classes.{Base, Class, find, superOf, loaderOf, slot
 use Rattle.definition.specs.Constraints.{World}
 use Rattle.definition.specs.Machine.{Frame, Progress}
 use Rattle.definition.specs.Tables.{Tables, Rows, worldOf, view}
-use Rattle.definition.specs.Calls.{Given, progressed, defineRows, recordRows, startRows, dropRows, stepTask, stepOn, stepRows, wrap, stepTables, Call, callBoot, callStep, callRun, perform, performAll, RowCall, rowDefine, rowRecord, rowStart, rowDrop, onRowCall, callRows}
+use Rattle.definition.specs.Calls.{Given, progressed, defineRows, recordRows, startRows, dropRows, sweepRows, stepTask, stepOn, stepRows, wrap, stepTables, Call, callBoot, callStep, callRun, perform, performAll, RowCall, rowDefine, rowRecord, rowStart, rowDrop, rowSweep, onRowCall, callRows}
 use Rattle.laws.specs.Growth.{Grows, grows-class, grows-entry}
 use Rattle.laws.specs.Results.{need-ok, take-ok}
 use Rattle.laws.specs.Runs.{run-keeps}
@@ -106,7 +106,7 @@ module _ (r : Rows) (w : Whole r) where
       entered v (inl z) = subst (λ (z : World). Resolves (W .base) (z .base)) (z .is) (resolves-same (W .base))
       entered v (inr x) = subst (λ (z : World). Resolves (W .base) (z .base)) (x .is) (grown _ (grows-entry W _ c))
 
-  -- a start, a step and a drop change no class and no cache entry
+  -- a start, a step, a drop and a sweep change no class and no cache entry
 
   progress-resolves : (k : ℕ) (o : Progress) → Resolves (W .base) (worldOf (progressed k r o) .base)
   progress-resolves k o = resolves-same (W .base)
@@ -124,6 +124,7 @@ module _ (r : Rows) (w : Whole r) where
   rows-resolve (rowRecord l n c) = record-resolves l n c
   rows-resolve (rowStart k l n m v) = start-resolves k l n m v
   rows-resolve (rowDrop k) = drop-resolves k
+  rows-resolve rowSweep = unfold sweepRows in resolves-same (W .base)
 
   step-resolves : Ok (stepRows r) Q
   unfolding stepRows

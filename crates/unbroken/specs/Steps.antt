@@ -1,20 +1,20 @@
 -- A step keeps counts, numbers and kinds within what a store allows.
 use mathlib.Core.Path.{_≡_, refl, sym, ap, _∙_}
-use mathlib.Core.Bool.{Bool, true, false, _||_}
+use mathlib.Core.Bool.{Bool, true, false, not, _||_}
 use mathlib.Core.Option.{Option, none, some, Option·none-ne-some, Option·some-injective}
 use mathlib.Core.List.{List, [], _∷_, _++_, map}
-use Prim.Native.Nat.{ℕ, zero, suc, _≤_, _<_}
+use Prim.Native.Nat.{ℕ, zero, suc, _+_, _≤_, _<_}
 use native.Mathlib.Omega.{arith}
 use lib.ListN.{length, getElem?, set, length-append, length-set, length-map}
 use lib.Dec.{eqb, leb, ltb}
-use borrow.Author.Tests.{leb-true, ltb-true}
+use borrow.Author.Tests.{leb-true, leb-false, ltb-true, ltb-false, not-true}
 use Rattle.definition.specs.declared.Signature.{Signature}
 use Rattle.definition.specs.Answers.{Result, ok, refused, take?}
 use Rattle.definition.specs.Classes.{Base, Class, Slot, find, loaderOf, slots, Selected, selected, signatureTypes}
 use Rattle.definition.specs.Constraints.{Tie, World, newTie, post, posted, tieIs, newTies, signatureTies}
-use Rattle.definition.specs.Instructions.{Decoded}
+use Rattle.definition.specs.Instructions.{Decoded, pick}
 use Rattle.definition.specs.Lists.{any}
-use Rattle.definition.specs.Machine.{Frame, Now, Object, Progress, Value, entryFrame, execute, give, initialValue, int!, intValue, newObject, now, nullValue, object!, objectValue, ofKind!, past, pop!, reference!, room!, step, under!, emptyValue, unlistedValue, existing}
+use Rattle.definition.specs.Machine.{Frame, Now, Object, ObjectRow, free, owned, Objects, objectHeld, Exists, unused, made, roomless, rewritten, changed, Progress, Value, entryFrame, execute, give, initialValue, int!, intValue, newObject, now, nullValue, object!, objectValue, ofKind!, past, pop!, reference!, room!, step, under!, emptyValue, unlistedValue, existing}
 use Rattle.definition.specs.Requests.{Request, at}
 use Rattle.definition.specs.Verifier.{pop}
 use Rattle.definition.specs.declared.Kind.{Kind}
@@ -23,11 +23,13 @@ use Rattle.definition.specs.declared.Instruction.{Instruction}
 use Rattle.definition.specs.declared.Instruction.the-variants.{AconstNull, Arithmetic, Dup, Getfield, Invokevirtual, Load, New, Pop, Putfield, Return, Sipush, Store}
 use Rattle.definition.specs.declared.Refusal.{Refusal}
 use Rattle.laws.specs.Growth.{nth-lt}
+use Rattle.laws.specs.Objects.{existing-none, existing-tail, made-there, made-exists, changed-exists}
 use Rattle.laws.specs.Results.{bind-ok, need-ok, ok-inj, take-ok}
 use Rattle.laws.specs.Stable.{Rooted}
 use Rattle.laws.specs.Tests.{and-true}
 use Rattle.layout.specs.Tests.{All, all-both, all-more}
-use Rattle.layout.specs.Whole.{Between, Framed, Local, ObjectSound, ValueSound}
+use Rattle.layout.specs.OwnedRows.{rowsWith, made-count, changed-length}
+use Rattle.layout.specs.Whole.{Between, Framed, Local, ObjectSound, RowSound, ValueSound}
 use Rattle.laws.specs.Wrapped.{Ok, then}
 use Rattle.laws.specs.Members.{selected-at}
 
@@ -37,47 +39,47 @@ never w a e = absurd (let z : _≡_ {A = ℕ} 0 1 = cc in omega arith)
 
 -- Values
 
-value-local : (m : ℕ) (v : Value) → ValueSound m v → Local m v
-value-local m emptyValue h = tt
-value-local m (unlistedValue α β) h = absurd h
-value-local m (intValue n) h = tt
-value-local m nullValue h = tt
-value-local m (objectValue o) h = h
+value-local : (X : ℕ → Type 0) (v : Value) → ValueSound X v → Local X v
+value-local X emptyValue h = tt
+value-local X (unlistedValue α β) h = absurd h
+value-local X (intValue n) h = tt
+value-local X nullValue h = tt
+value-local X (objectValue o) h = h
 
-grow-value : (m k : ℕ) → m ≤ k → (v : Value) → ValueSound m v → ValueSound k v
-grow-value m k l emptyValue h = h
-grow-value m k l (unlistedValue α β) h = h
-grow-value m k l (intValue n) h = h
-grow-value m k l nullValue h = h
-grow-value m k l (objectValue o) h = omega arith
+grow-value : (X Y : ℕ → Type 0) → ((o : ℕ) → X o → Y o) → (v : Value) → ValueSound X v → ValueSound Y v
+grow-value X Y l emptyValue h = h
+grow-value X Y l (unlistedValue α β) h = h
+grow-value X Y l (intValue n) h = h
+grow-value X Y l nullValue h = h
+grow-value X Y l (objectValue o) h = l o h
 
-grow-local : (m k : ℕ) → m ≤ k → (v : Value) → Local m v → Local k v
-grow-local m k l emptyValue h = h
-grow-local m k l (unlistedValue α β) h = h
-grow-local m k l (intValue n) h = h
-grow-local m k l nullValue h = h
-grow-local m k l (objectValue o) h = omega arith
+grow-local : (X Y : ℕ → Type 0) → ((o : ℕ) → X o → Y o) → (v : Value) → Local X v → Local Y v
+grow-local X Y l emptyValue h = h
+grow-local X Y l (unlistedValue α β) h = h
+grow-local X Y l (intValue n) h = h
+grow-local X Y l nullValue h = h
+grow-local X Y l (objectValue o) h = l o h
 
-int-value : (m : ℕ) (v : Value) (n : ℕ) → int! v ≡ ok n → ValueSound m v
+int-value : (X : ℕ → Type 0) (v : Value) (n : ℕ) → int! v ≡ ok n → ValueSound X v
 unfolding int!
-int-value m emptyValue n e = never _ _ e
-int-value m (unlistedValue α β) n e = never _ _ e
-int-value m (intValue x) n e = tt
-int-value m nullValue n e = tt
-int-value m (objectValue o) n e = never _ _ e
+int-value X emptyValue n e = never _ _ e
+int-value X (unlistedValue α β) n e = never _ _ e
+int-value X (intValue x) n e = tt
+int-value X nullValue n e = tt
+int-value X (objectValue o) n e = never _ _ e
 
-ref-value : (m : ℕ) (v x : Value) → reference! v ≡ ok x → Local m v → ValueSound m v
+ref-value : (X : ℕ → Type 0) (v x : Value) → reference! v ≡ ok x → Local X v → ValueSound X v
 unfolding reference!
-ref-value m emptyValue x e h = never _ _ e
-ref-value m (unlistedValue α β) x e h = never _ _ e
-ref-value m (intValue n) x e h = tt
-ref-value m nullValue x e h = tt
-ref-value m (objectValue o) x e h = h
+ref-value X emptyValue x e h = never _ _ e
+ref-value X (unlistedValue α β) x e h = never _ _ e
+ref-value X (intValue n) x e h = tt
+ref-value X nullValue x e h = tt
+ref-value X (objectValue o) x e h = h
 
-kind-value : (kind : Kind) (m : ℕ) (v : Value) (u : Unit {0}) → ofKind! kind v ≡ ok u → Local m v → ValueSound m v
+kind-value : (kind : Kind) (X : ℕ → Type 0) (v : Value) (u : Unit {0}) → ofKind! kind v ≡ ok u → Local X v → ValueSound X v
 unfolding ofKind!
-kind-value IntKind m v u e h = let a = bind-ok _ _ e in int-value m v (a .0) (a .1)
-kind-value ReferenceKind m v u e h = let a = bind-ok _ _ e in ref-value m v (a .0) (a .1) h
+kind-value IntKind X v u e h = let a = bind-ok _ _ e in int-value X v (a .0) (a .1)
+kind-value ReferenceKind X v u e h = let a = bind-ok _ _ e in ref-value X v (a .0) (a .1) h
 
 pub all-nth : {A : Type 0} (P : A → Type 0) (xs : List A) → All P xs → (i : ℕ) (x : A) → getElem? xs i ≡ some x → P x
 all-nth P [] h i x e = absurd (Option·none-ne-some x e)
@@ -89,18 +91,18 @@ all-set P [] h i y p = tt
 all-set P (x ∷ xs) h zero y p = (p, h .1)
 all-set P (x ∷ xs) h (suc i) y p = (h .0, all-set P xs (h .1) i y p)
 
-record Popped (m : ℕ) (vs : List Value) (p : record { top : Value; more : List Value }) : Type 0 where
-  top : ValueSound m (p .top)
-  more : All (ValueSound m) (p .more)
+record Popped (X : ℕ → Type 0) (vs : List Value) (p : record { top : Value; more : List Value }) : Type 0 where
+  top : ValueSound X (p .top)
+  more : All (ValueSound X) (p .more)
   less : suc (length (p .more)) ≡ length vs
 
-pop-all : (m : ℕ) (vs : List Value) (p : record { top : Value; more : List Value }) → All (ValueSound m) vs → pop! vs ≡ ok p → Popped m vs p
+pop-all : (X : ℕ → Type 0) (vs : List Value) (p : record { top : Value; more : List Value }) → All (ValueSound X) vs → pop! vs ≡ ok p → Popped X vs p
 unfolding pop! pop take?
-pop-all m [] p h e = never _ _ e
-pop-all m (v ∷ vs) p h e = rw (sym (ok-inj e)) (record { top = h .0; more = h .1; less = refl })
+pop-all X [] p h e = never _ _ e
+pop-all X (v ∷ vs) p h e = rw (sym (ok-inj e)) (record { top = h .0; more = h .1; less = refl })
 
-pub object-is : (b : Base) (os : List Object) (e : ℕ) (v : Value) (p : record { number : ℕ; object : Object }) → object! b os e v ≡ ok p → getElem? os (p .number) ≡ some (p .object)
-unfolding object! existing
+pub object-is : (b : Base) (os : Objects) (e : ℕ) (v : Value) (p : record { number : ℕ; object : Object }) → object! b os e v ≡ ok p → existing os (p .number) ≡ some (p .object)
+unfolding object!
 object-is b os e emptyValue p h = never _ _ h
 object-is b os e (unlistedValue α β) p h = never _ _ h
 object-is b os e (intValue n) p h = never _ _ h
@@ -147,55 +149,99 @@ room-lt vs u e = ltb-true (length vs) 16 (need-ok _ _ e)
 
 -- What a world, its objects and a task's frames are, and what they become
 
-pub record Ready (w : World) (n : ℕ) (os : List Object) : Type 0 where
+pub record Ready (w : World) (n : ℕ) (os : Objects) : Type 0 where
   pub number : length (w .base .classes) ≡ n
   pub rooted : Rooted (w .base)
   pub loaders : (c : ℕ) (k : Class) → getElem? (w .base .classes) c ≡ some k → k .loader < 16
   pub ties : length (w .ties) ≤ 256
   pub between : All Between (w .ties)
   pub objects : length os ≤ 256
-  pub each : All (ObjectSound (w .base) n (length os)) os
+  pub each : All (RowSound (w .base) n (Exists os)) os
 
-pub record Moved (w : World) (n : ℕ) (os : List Object) (o : Progress) : Type 0 where
+pub record Moved (w : World) (n : ℕ) (os : Objects) (o : Progress) : Type 0 where
   pub base : o .world .base ≡ w .base
   pub subtypes : o .world .subtypes ≡ w .subtypes
   pub ties : length (o .world .ties) ≤ 256
   pub between : All Between (o .world .ties)
-  pub more : length os ≤ length (o .objects)
+  pub more : (p : ℕ) → Exists os p → Exists (o .objects) p
   pub objects : length (o .objects) ≤ 256
-  pub each : All (ObjectSound (w .base) n (length (o .objects))) (o .objects)
+  pub each : All (RowSound (w .base) n (Exists (o .objects))) (o .objects)
   pub many : length (o .frames) ≤ 32
-  pub frames : All (Framed n (length (o .objects))) (o .frames)
+  pub frames : All (Framed n (Exists (o .objects))) (o .frames)
 
-pub grow-object : (b : Base) (n m k : ℕ) → m ≤ k → (o : Object) → ObjectSound b n m o → ObjectSound b n k o
-grow-object b n m k l o h = record { class = h .class; size = h .size; values = all-more (grow-value m k l) (o .values) (h .values) }
+pub grow-object : (b : Base) (n : ℕ) (X Y : ℕ → Type 0) → ((o : ℕ) → X o → Y o) → (o : Object) → ObjectSound b n X o → ObjectSound b n Y o
+grow-object b n X Y l o h = record { class = h .class; size = h .size; values = all-more (grow-value X Y l) (o .values) (h .values) }
 
-pub grow-frame : (n m k : ℕ) → m ≤ k → (f : Frame) → Framed n m f → Framed n k f
-grow-frame n m k l f h = record { class = h .class; depth = h .depth; operands = all-more (grow-value m k l) (f .operands) (h .operands); eight = h .eight; locals = all-more (grow-local m k l) (f .locals) (h .locals) }
+pub grow-row : (b : Base) (n : ℕ) (X Y : ℕ → Type 0) → ((o : ℕ) → X o → Y o) → (x : ObjectRow) → RowSound b n X x → RowSound b n Y x
+grow-row b n X Y l free h = tt
+grow-row b n X Y l (owned k o) h = (h .0, grow-object b n X Y l o (h .1))
 
-zeros : (m : ℕ) (ss : List Slot) → All (ValueSound m) (map initialValue ss)
+pub grow-frame : (n : ℕ) (X Y : ℕ → Type 0) → ((o : ℕ) → X o → Y o) → (f : Frame) → Framed n X f → Framed n Y f
+grow-frame n X Y l f h = record { class = h .class; depth = h .depth; operands = all-more (grow-value X Y l) (f .operands) (h .operands); eight = h .eight; locals = all-more (grow-local X Y l) (f .locals) (h .locals) }
+
+zeros : (X : ℕ → Type 0) (ss : List Slot) → All (ValueSound X) (map initialValue ss)
 unfolding initialValue
-zeros m [] = tt
-zeros m (s ∷ ss) = (go (eqb (s .type) 1), zeros m ss)
+zeros X [] = tt
+zeros X (s ∷ ss) = (go (eqb (s .type) 1), zeros X ss)
   where
-    go : (t : Bool) → ValueSound m (elim t as (λ _. Value) [ true ↦ intValue 0 | false ↦ nullValue ])
+    go : (t : Bool) → ValueSound X (elim t as (λ _. Value) [ true ↦ intValue 0 | false ↦ nullValue ])
     go true = tt
     go false = tt
 
-pub fresh-object : (b : Base) (n m c : ℕ) → c < n → ObjectSound b n m (newObject b c)
+pub fresh-object : (b : Base) (n : ℕ) (X : ℕ → Type 0) (c : ℕ) → c < n → ObjectSound b n X (newObject b c)
 unfolding newObject
-fresh-object b n m c l = record { class = l; size = length-map (slots b c) initialValue; values = zeros m (slots b c) }
+fresh-object b n X c l = record { class = l; size = length-map (slots b c) initialValue; values = zeros X (slots b c) }
+
+-- Rows of objects: one that exists, one made, one changed
+
+pub object-at : (b : Base) (n : ℕ) (X : ℕ → Type 0) (os : Objects) → All (RowSound b n X) os → (o : ℕ) (x : Object) → existing os o ≡ some x → ObjectSound b n X x
+object-at b n X [] h o x e = absurd (Option·none-ne-some x (sym (existing-none o) ∙ e))
+object-at b n X (free ∷ os) h zero x e = absurd (Option·none-ne-some x (unfold existing objectHeld in e))
+object-at b n X (owned k y ∷ os) h zero x e = let q : y ≡ x = Option·some-injective y x (unfold existing objectHeld in e) in rw q at (h .0 .1)
+object-at b n X (y ∷ os) h (suc o) x e = object-at b n X os (h .1) o x (sym (existing-tail y os o) ∙ e)
+
+all-made : (b : Base) (n : ℕ) (X : ℕ → Type 0) (k : ℕ) (x : Object) (os : Objects) → k < 2 → ObjectSound b n X x → All (RowSound b n X) os → All (RowSound b n X) (made k x os)
+unfolding made
+all-made b n X k x [] l s h = ((l, s), tt)
+all-made b n X k x (free ∷ os) l s h = ((l, s), h .1)
+all-made b n X k x (owned j y ∷ os) l s h = (h .0, all-made b n X k x os l s (h .1))
+
+all-changed : (b : Base) (n : ℕ) (X : ℕ → Type 0) (os : Objects) (o : ℕ) (x : Object) → ObjectSound b n X x → All (RowSound b n X) os → All (RowSound b n X) (changed os o x)
+unfolding changed
+all-changed b n X os o x s h = go (getElem? os o) refl
+  where
+    put : (y : ObjectRow) → RowSound b n X y → RowSound b n X (rewritten x y)
+    put free p = unfold rewritten in tt
+    put (owned k y) p = unfold rewritten in (p .0, s)
+
+    go : (y : Option ObjectRow) → getElem? os o ≡ y → All (RowSound b n X) (elim y as (λ _. Objects) [ none ↦ os | some z ↦ set os o (rewritten x z) ])
+    go none e = h
+    go (some z) e = all-set (RowSound b n X) os h o (rewritten x z) (put z (all-nth (RowSound b n X) os h o z e))
 
 -- one object more
-pub made-objects : (b : Base) (n : ℕ) (os : List Object) (c : ℕ) → c < n → All (ObjectSound b n (length os)) os → All (ObjectSound b n (length (os ++ (newObject b c ∷ [])))) (os ++ (newObject b c ∷ []))
-made-objects b n os c l h =
-    let e = length-append os (newObject b c ∷ []) in
-    all-both (ObjectSound b n (length (os ++ (newObject b c ∷ [])))) os (newObject b c ∷ []) (all-more (grow-object b n (length os) (length (os ++ (newObject b c ∷ []))) (omega (arith, e))) os h) (fresh-object b n _ c l, tt)
+pub made-objects : (b : Base) (n k : ℕ) (os : Objects) (c : ℕ) → k < 2 → c < n → All (RowSound b n (Exists os)) os
+    → All (RowSound b n (Exists (made k (newObject b c) os))) (made k (newObject b c) os)
+made-objects b n k os c t l h =
+    let x = newObject b c in
+    all-made b n (Exists (made k x os)) k x os t (fresh-object b n _ c l)
+    (all-more (grow-row b n (Exists os) (Exists (made k x os)) (made-exists k x os)) os h)
 
-pub entered-frame : (n m s j o : ℕ) (v : Value) → s < n → o < m → Local m v → Framed n m (entryFrame s j o v)
-entered-frame n m s j o v a b c = record { class = a; depth = omega arith; operands = tt; eight = refl; locals = (b, (c, (tt, (tt, (tt, (tt, (tt, (tt, tt)))))))) }
+-- within the limit, where there is room
+pub made-few : (k : ℕ) (x : Object) (os : Objects) → length os ≤ 256 → not (roomless k os) ≡ true → length (made k x os) ≤ 256
+unfolding roomless rowsWith
+made-few k x os l h = rw (made-count k x os (length os) refl) (go (ltb (unused os) (length os)) refl)
+  where
+    few : unused os < 256
+    few = leb-false 256 (unused os) (not-true (leb 256 (unused os)) h)
 
-module _ (w : World) (n : ℕ) (os : List Object) (rd : Ready w n os) where
+    go : (u : Bool) → ltb (unused os) (length os) ≡ u → pick u (length os) (length os + 1) ≤ 256
+    go true e = unfold pick in l
+    go false e = unfold pick in omega (arith, few, ltb-false (unused os) (length os) e)
+
+pub entered-frame : (n : ℕ) (X : ℕ → Type 0) (s j o : ℕ) (v : Value) → s < n → X o → Local X v → Framed n X (entryFrame s j o v)
+entered-frame n X s j o v a b c = record { class = a; depth = omega arith; operands = tt; eight = refl; locals = (b, (c, (tt, (tt, (tt, (tt, (tt, (tt, tt)))))))) }
+
+module _ (w : World) (n : ℕ) (os : Objects) (rd : Ready w n os) where
   pub class-found : (r : Request) (c : ℕ) → find (w .base .cache) r ≡ some c → c < n
   class-found r c e = let k = rd .rooted .real r c e in omega (arith, nth-lt (w .base .classes) c (k .0) (k .1), rd .number)
 
@@ -204,9 +250,9 @@ module _ (w : World) (n : ℕ) (os : List Object) (rd : Ready w n os) where
       let a = selected-at (w .base) s c m e .there in
       omega (arith, nth-lt (w .base .classes) (m .class) (a .theClass) (a .isClass), rd .number)
 
-  module _ (f : Frame) (fs : List Frame) (k : Class) (i : Decoded) (kl : k .loader < 16) (fr : Framed n (length os) f) (frs : All (Framed n (length os)) fs) (fl : length fs ≤ 31) where
-    abbrev M : ℕ
-    M = length os
+  module _ (task : ℕ) (two : task < 2) (f : Frame) (fs : List Frame) (k : Class) (i : Decoded) (kl : k .loader < 16) (fr : Framed n (Exists os) f) (frs : All (Framed n (Exists os)) fs) (fl : length fs ≤ 31) where
+    abbrev M : ℕ → Type 0
+    M = Exists os
 
     abbrev Q : Progress → Type 0
     Q o = Moved w n os o
@@ -216,7 +262,7 @@ module _ (w : World) (n : ℕ) (os : List Object) (rd : Ready w n os) where
 
     -- nothing but frames changes
     stays : (gs : List Frame) (x : Option ℕ) → length gs ≤ 32 → All (Framed n M) gs → Moved w n os (record { world = w; objects = os; frames = gs; result = x })
-    stays gs x a b = record { base = refl; subtypes = refl; ties = rd .ties; between = rd .between; more = omega arith; objects = rd .objects; each = rd .each; many = a; frames = b }
+    stays gs x a b = record { base = refl; subtypes = refl; ties = rd .ties; between = rd .between; more = λ _ h. h; objects = rd .objects; each = rd .each; many = a; frames = b }
 
     keeps : (o : List Value) → length o ≤ 16 → All (ValueSound M) o → Moved w n os (record { world = w; objects = os; frames = past f i o (f .locals) ∷ fs; result = none })
     keeps o a b = stays _ _ (omega arith) (framed o (f .locals) a b (fr .eight) (fr .locals), frs)
@@ -225,8 +271,8 @@ module _ (w : World) (n : ℕ) (os : List Object) (rd : Ready w n os) where
     stores o j v a b c = stays _ _ (omega arith) (framed o (set (f .locals) j v) a b (length-set (f .locals) j v ∙ fr .eight) (all-set (Local M) (f .locals) (fr .locals) j v (value-local M v c)), frs)
 
     -- ties are posted
-    tied : (room : Bool) (us : List Tie) (v : World) (qs : List Object) (gs : List Frame) → post w room us ≡ ok v → All Between us → M ≤ length qs → length qs ≤ 256 → All (ObjectSound (w .base) n (length qs)) qs
-        → (room ≡ true → length gs ≤ 32) → All (Framed n (length qs)) gs → Moved w n os (record { world = v; objects = qs; frames = gs; result = none })
+    tied : (room : Bool) (us : List Tie) (v : World) (qs : Objects) (gs : List Frame) → post w room us ≡ ok v → All Between us → ((o : ℕ) → M o → Exists qs o) → length qs ≤ 256 → All (RowSound (w .base) n (Exists qs)) qs
+        → (room ≡ true → length gs ≤ 32) → All (Framed n (Exists qs)) gs → Moved w n os (record { world = v; objects = qs; frames = gs; result = none })
     tied room us v qs gs e a b c d g h =
         let p = post-is w room us v e in
         rw (sym (p .0)) (record { base = refl; subtypes = refl; ties = p .1; between = all-both Between (w .ties) us (rd .between) a; more = b; objects = c; each = d; many = g (p .2); frames = h })
@@ -244,7 +290,7 @@ module _ (w : World) (n : ℕ) (os : List Object) (rd : Ready w n os) where
     given more v (g ∷ gs) a l u e h = stays _ _ (omega arith)
         (record { class = a .0 .class; depth = room-lt (g .operands) u e; operands = (h, a .0 .operands); eight = a .0 .eight; locals = a .0 .locals }, a .1)
 
-    each-kept : (j : Instruction) → Ok (execute w os f fs k i j) Q
+    each-kept : (j : Instruction) → Ok (execute task w os f fs k i j) Q
     unfolding execute
     each-kept AconstNull = then Q _ _ (λ u e. keeps (nullValue ∷ f .operands) (room-lt (f .operands) u e) (tt, fr .operands))
     each-kept (Sipush x) = then Q _ _ (λ u e. keeps (intValue x ∷ f .operands) (room-lt (f .operands) u e) (tt, fr .operands))
@@ -257,51 +303,53 @@ module _ (w : World) (n : ℕ) (os : List Object) (rd : Ready w n os) where
         let x = pop-all M (f .operands) p (fr .operands) ep in let y = pop-all M (p .more) q (x .more) eq in keeps (intValue m ∷ q .more) (omega (arith, x .less, y .less, fr .depth)) (tt, y .more))))))
     each-kept (Getfield c x t) = then Q _ _ (λ e _. then Q _ _ (λ d _. then Q _ _ (λ v pv. then Q _ _ (λ p ep. then Q _ _ (λ o eo. then Q _ _ (λ j _. then Q _ _ (λ z ez.
         let q = pop-all M (f .operands) p (fr .operands) ep in
-        let b = all-nth (ObjectSound (w .base) n M) os (rd .each) (o .number) (o .object) (object-is (w .base) os e (p .top) o eo) in
-        tied _ _ v os _ pv (between d t) (omega arith) (rd .objects) (rd .each) (λ _. omega arith)
+        let b = object-at (w .base) n M os (rd .each) (o .number) (o .object) (object-is (w .base) os e (p .top) o eo) in
+        tied _ _ v os _ pv (between d t) (λ _ h. h) (rd .objects) (rd .each) (λ _. omega arith)
         (framed (z ∷ p .more) (f .locals) (omega (arith, q .less, fr .depth)) (all-nth (ValueSound M) (o .object .values) (b .values) j z (take-ok _ _ ez), q .more) (fr .eight) (fr .locals), frs))))))))
     each-kept (Putfield c x t) = then Q _ _ (λ e _. then Q _ _ (λ d _. then Q _ _ (λ v pv. then Q _ _ (λ p ep. then Q _ _ (λ q eq. then Q _ _ (λ _ _. then Q _ _ (λ o eo. then Q _ _ (λ j _.
         let y = pop-all M (f .operands) p (fr .operands) ep in
         let z = pop-all M (p .more) q (y .more) eq in
-        let b = all-nth (ObjectSound (w .base) n M) os (rd .each) (o .number) (o .object) (object-is (w .base) os e (q .top) o eo) in
+        let b = object-at (w .base) n M os (rd .each) (o .number) (o .object) (object-is (w .base) os e (q .top) o eo) in
         let new : Object = record { class = o .object .class; values = set (o .object .values) j (p .top) } in
-        let l : length (set os (o .number) new) ≡ M = length-set os (o .number) new in
-        tied _ _ v _ _ pv (between d t) (omega (arith, l)) (omega (arith, l, rd .objects))
-        (rw l (all-set (ObjectSound (w .base) n M) os (rd .each) (o .number) new (record { class = b .class; size = length-set (o .object .values) j (p .top) ∙ b .size; values = all-set (ValueSound M) (o .object .values) (b .values) j (p .top) (y .top) })))
-        (λ _. omega arith) (rw l (framed (q .more) (f .locals) (omega (arith, y .less, z .less, fr .depth)) (z .more) (fr .eight) (fr .locals), frs))))))))))
+        let qs : Objects = changed os (o .number) new in
+        let more : (p : ℕ) → M p → Exists qs p = changed-exists os (o .number) new in
+        let sound : ObjectSound (w .base) n M new = record { class = b .class; size = length-set (o .object .values) j (p .top) ∙ b .size; values = all-set (ValueSound M) (o .object .values) (b .values) j (p .top) (y .top) } in
+        tied _ _ v qs _ pv (between d t) more (omega (arith, changed-length os (o .number) new, rd .objects))
+        (all-more (grow-row (w .base) n M (Exists qs) more) qs (all-changed (w .base) n M os (o .number) new sound (rd .each)))
+        (λ _. omega arith)
+        (all-more (grow-frame n M (Exists qs) more) (past f i (q .more) (f .locals) ∷ fs) (framed (q .more) (f .locals) (omega (arith, y .less, z .less, fr .depth)) (z .more) (fr .eight) (fr .locals), frs))))))))))
     each-kept (Invokevirtual c s) = then Q _ _ (λ e _. then Q _ _ (λ d _. then Q _ _ (λ v pv. then Q _ _ (λ p ep. then Q _ _ (λ q eq. then Q _ _ (λ _ _. then Q _ _ (λ o eo. then Q _ _ (λ m em.
         let y = pop-all M (f .operands) p (fr .operands) ep in
         let z = pop-all M (p .more) q (y .more) eq in
-        let h = nth-lt os (o .number) (o .object) (object-is (w .base) os e (q .top) o eo) in
-        tied _ _ v os _ pv (betweens (d .class) s) (omega arith) (rd .objects) (rd .each) (λ h. omega (arith, ltb-true (suc (length fs)) 32 h)) (
+        let h : M (o .number) = (o .object, object-is (w .base) os e (q .top) o eo) in
+        tied _ _ v os _ pv (betweens (d .class) s) (λ _ h. h) (rd .objects) (rd .each) (λ h. omega (arith, ltb-true (suc (length fs)) 32 h)) (
           entered-frame n M (m .class) (m .place) (o .number) (p .top) (class-selected s _ m (take-ok _ _ em)) h (value-local M (p .top) (y .top)),
           (framed (q .more) (f .locals) (omega (arith, y .less, z .less, fr .depth)) (z .more) (fr .eight) (fr .locals), frs),
         )))))))))
     each-kept (New c) = then Q _ _ (λ e fe. then Q _ _ (λ _ h.
-        let a = and-true (ltb M 256) (ltb (length (f .operands)) 16) (need-ok _ _ h) in
-        let l = length-append os (newObject (w .base) e ∷ []) in
-        let qs : List Object = os ++ (newObject (w .base) e ∷ []) in
-        let g : M ≤ length qs = omega (arith, l) in
-        let ec = class-found (at (k .loader) c) e (take-ok _ _ fe) in
+        let a = and-true (not (roomless task os)) (ltb (length (f .operands)) 16) (need-ok _ _ h) in
+        let x : Object = newObject (w .base) e in
+        let qs : Objects = made task x os in
+        let g : (p : ℕ) → M p → Exists qs p = made-exists task x os in
         record {
           base = refl;
           subtypes = refl;
           ties = rd .ties;
           between = rd .between;
           more = g;
-          objects = omega (arith, l, ltb-true M 256 (a .0));
-          each = made-objects (w .base) n os e ec (rd .each);
+          objects = made-few task x os (rd .objects) (a .0);
+          each = made-objects (w .base) n task os e two (class-found (at (k .loader) c) e (take-ok _ _ fe)) (rd .each);
           many = omega arith;
           frames = (
-            record { class = fr .class; depth = ltb-true (length (f .operands)) 16 (a .1); operands = (omega (arith, l), all-more (grow-value M (length qs) g) (f .operands) (fr .operands)); eight = fr .eight; locals = all-more (grow-local M (length qs) g) (f .locals) (fr .locals) },
-            all-more (grow-frame n M (length qs) g) fs frs,
+            record { class = fr .class; depth = ltb-true (length (f .operands)) 16 (a .1); operands = ((x, made-there task x os), all-more (grow-value M (Exists qs) g) (f .operands) (fr .operands)); eight = fr .eight; locals = all-more (grow-local M (Exists qs) g) (f .locals) (fr .locals) },
+            all-more (grow-frame n M (Exists qs) g) fs frs,
           );
         }))
     each-kept (Return kind) = then Q _ _ (λ u eu. then Q _ _ (λ p ep. then Q _ _ (λ _ _. let q = pop-all M (f .operands) p (fr .operands) ep in given (p .more) (p .top) fs frs fl u eu (q .top))))
 
-  pub step-moves : (f : Frame) (fs : List Frame) → All (Framed n (length os)) (f ∷ fs) → length (f ∷ fs) ≤ 32 → Ok (step w os f fs) (Moved w n os)
+  pub step-moves : (task : ℕ) → task < 2 → (f : Frame) (fs : List Frame) → All (Framed n (Exists os)) (f ∷ fs) → length (f ∷ fs) ≤ 32 → Ok (step task w os f fs) (Moved w n os)
   unfolding step now
-  step-moves f fs h l = then (Moved w n os) _ _ (λ z ez. each-kept f fs (z .theClass) (z .at) (own z ez) (h .0) (h .1) (omega arith) (z .at .instruction))
+  step-moves task two f fs h l = then (Moved w n os) _ _ (λ z ez. each-kept task two f fs (z .theClass) (z .at) (own z ez) (h .0) (h .1) (omega arith) (z .at .instruction))
     where
       own : (z : Now) → now w f ≡ ok z → z .theClass .loader < 16
       own z e =

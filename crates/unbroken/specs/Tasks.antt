@@ -17,7 +17,7 @@ use Rattle.definition.specs.Constraints.{World}
 use Rattle.definition.specs.Machine.{Frame, Progress, step}
 use Rattle.definition.specs.Tables.{Tables, Rows, worldOf, view, framesIn}
 use Rattle.definition.specs.Broken.{broken}
-use Rattle.definition.specs.Calls.{Given, progressed, defineRows, recordRows, startRows, dropRows, answerOf, stepTask, stepOn, stepRows, Done, done, stepTables, runFrom, run, Call, callBoot, callStep, callRun, perform, RowCall, rowDefine, rowRecord, rowStart, rowDrop, onRowCall, callRows}
+use Rattle.definition.specs.Calls.{Given, progressed, defineRows, recordRows, startRows, dropRows, sweepRows, answerOf, stepTask, stepOn, stepRows, Done, done, stepTables, runFrom, run, Call, callBoot, callStep, callRun, perform, RowCall, rowDefine, rowRecord, rowStart, rowDrop, rowSweep, onRowCall, callRows}
 use Rattle.laws.specs.Results.{bind-ok, need-ok}
 use Rattle.laws.specs.Runs.{runs-end}
 use Rattle.laws.specs.Wrapped.{Ok, ok-at, then}
@@ -34,7 +34,7 @@ same-result k j none e = (refl, cc)
 same-result k j (some n) e = let z : _≡_ {A = ℕ} 0 1 = cc in absurd (omega arith)
 
 task-ok : (k : ℕ) (w : World) (f : Frame) (fs : List Frame) (r : Rows) (g : Given Answer) → stepTask k w f fs r ≡ ok g
-    → (o : Progress) × (step w (r .objects) f fs ≡ ok o) × (ok (record { answer = answerOf k (o .result); rows = progressed k r o }) ≡ ok g)
+    → (o : Progress) × (step k w (r .objects) f fs ≡ ok o) × (ok (record { answer = answerOf k (o .result); rows = progressed k r o }) ≡ ok g)
 unfolding stepTask
 task-ok k w f fs r g e = bind-ok _ _ e
 
@@ -54,7 +54,7 @@ step-kept t h = shown Refused stepRows (Kept t) t step-whole (λ w. (refl, λ k 
         let y : progressed 0 r (a .0) ≡ g .rows = cc (a .2) in (
           ap (λ (z : Rows). z .report) (sym y),
           λ k q n.
-              ok-at (Advances (r .objects) (f ∷ fs)) _ (step-advances (worldOf r) (r .objects) f fs) (a .0) (a .1) .left (same-result 0 k (a .0 .result) (x ∙ q) .0)
+              ok-at (Advances (r .objects) (f ∷ fs)) _ (step-advances 0 (worldOf r) (r .objects) f fs) (a .0) (a .1) .left (same-result 0 k (a .0 .result) (x ∙ q) .0)
               (ap (λ (z : Rows). z .quote) y ∙ n),
         )
 
@@ -75,7 +75,7 @@ ran-moves t k = shown Refused stepRows (λ a z. a ≡ Ran k → framesIn k z ≡
         let y : progressed j r (o .0) ≡ g .rows = cc (o .2) in
         let n = same-result j k (o .0 .result) (x ∙ a) in
         let z : framesIn j (g .rows) ≡ framesIn j r = subst (λ (i : ℕ). framesIn i (g .rows) ≡ framesIn i r) (sym (n .1)) s in
-        ok-at (Advances (r .objects) (f ∷ fs)) _ (step-advances (worldOf r) (r .objects) f fs) (o .0) (o .1) .moved (n .0)
+        ok-at (Advances (r .objects) (f ∷ fs)) _ (step-advances j (worldOf r) (r .objects) f fs) (o .0) (o .1) .moved (n .0)
         (sym (is (o .0)) ∙ ap (framesIn j) y ∙ z ∙ q)
 
     go : (q p : List Frame) → r .quote ≡ q → r .report ≡ p → (g : Given Answer) → stepOn q p (worldOf r) r ≡ ok g → g .answer ≡ Ran k → framesIn k (g .rows) ≡ framesIn k r → ⊥
@@ -106,6 +106,7 @@ MovesReportRows (rowDefine l bs) = ⊥
 MovesReportRows (rowRecord l n c) = ⊥
 MovesReportRows (rowStart k l n m v) = k ≡ 1
 MovesReportRows (rowDrop k) = k ≡ 1
+MovesReportRows rowSweep = ⊥
 
 abbrev pub MovesReport : Call → Type 0
 MovesReport callBoot = Unit {0}
@@ -144,6 +145,7 @@ rows-stay (rowDefine l bs) r h = define-stays l bs r
 rows-stay (rowRecord l n c) r h = record-stays l n c r
 rows-stay (rowStart k l n m v) r h = start-stays k l n m v r h
 rows-stay (rowDrop k) r h = drop-stays k r h
+rows-stay rowSweep r h = unfold sweepRows in refl
 
 pub report-stays : (c : Call) (t : Tables) → (view t .quote ≡ [] → ⊥) → (MovesReport c → ⊥) → view (perform c t .tables) .report ≡ view t .report
 unfolding perform

@@ -23,10 +23,10 @@ use Rattle.definition.specs.Constraints.{World}
 use Rattle.definition.specs.Instructions.{Decoded}
 use Rattle.definition.specs.Loading.{started}
 use Rattle.definition.specs.File.{classOf}
-use Rattle.definition.specs.Machine.{Object, Frame, Progress, Now, now, execute, step}
+use Rattle.definition.specs.Machine.{Objects, Frame, Progress, Now, now, execute, step}
 use Rattle.definition.specs.Tables.{Tables, Rows, worldOf, view, withFrames}
 use Rattle.definition.specs.Broken.{broken}
-use Rattle.definition.specs.Calls.{Given, progressed, defineRows, recordRows, startRows, dropRows, stepTask, stepOn, stepRows, Done, done, carried, wrap, stepTables, run, Call, callBoot, callStep, callRun, perform, performAll, RowCall, rowDefine, rowRecord, rowStart, rowDrop, onRowCall, callRows}
+use Rattle.definition.specs.Calls.{Given, progressed, defineRows, recordRows, startRows, dropRows, sweepRows, stepTask, stepOn, stepRows, Done, done, carried, wrap, stepTables, run, Call, callBoot, callStep, callRun, perform, performAll, RowCall, rowDefine, rowRecord, rowStart, rowDrop, rowSweep, onRowCall, callRows}
 use Rattle.laws.specs.Agreement.{nth-more}
 use Rattle.laws.specs.Refusals.{classIn, running}
 use Rattle.laws.specs.Refused.{step-refused}
@@ -55,6 +55,7 @@ KeepsQuoteRows (rowDefine l bs) = Unit {0}
 KeepsQuoteRows (rowRecord l n c) = Unit {0}
 KeepsQuoteRows (rowStart k l n m v) = Unit {0}
 KeepsQuoteRows (rowDrop k) = k ≡ 0 → ⊥
+KeepsQuoteRows rowSweep = Unit {0}
 
 abbrev pub KeepsQuote : Call → Type 0
 KeepsQuote callBoot = ⊥
@@ -84,8 +85,8 @@ run-same n t w e = run-keeps (λ s. s ≡ t) (λ s q. ap (λ (z : Tables). stepT
 
 -- An instruction that names a class wants it where it isn't cached
 
-module _ (w : World) (os : List Object) (f : Frame) (fs : List Frame) (k : Class) (i : Decoded) (c : ℕ) (m : find (w .base .cache) (at (k .loader) c) ≡ none) where
-  wants : (j : Instruction) → classIn j ≡ some c → execute w os f fs k i j ≡ refused (Wanted (k .loader) c)
+module _ (task : ℕ) (w : World) (os : Objects) (f : Frame) (fs : List Frame) (k : Class) (i : Decoded) (c : ℕ) (m : find (w .base .cache) (at (k .loader) c) ≡ none) where
+  wants : (j : Instruction) → classIn j ≡ some c → execute task w os f fs k i j ≡ refused (Wanted (k .loader) c)
   unfolding execute _>>=_ take?
   wants AconstNull e = absurd (Option·none-ne-some c e)
   wants (Sipush n) e = absurd (Option·none-ne-some c e)
@@ -103,9 +104,9 @@ module _ (w : World) (os : List Object) (f : Frame) (fs : List Frame) (k : Class
 module _ (f : Frame) (fs : List Frame) (l c : ℕ) where
   -- Such a quote's step is refused, and only such a quote's is refused so
 
-  wants-step : (w : World) (os : List Object) (n : Now) → now w f ≡ ok n → classIn (n .at .instruction) ≡ some c → n .theClass .loader ≡ l → find (w .base .cache) (at l c) ≡ none → step w os f fs ≡ refused (Wanted l c)
+  wants-step : (w : World) (os : Objects) (n : Now) → now w f ≡ ok n → classIn (n .at .instruction) ≡ some c → n .theClass .loader ≡ l → find (w .base .cache) (at l c) ≡ none → step 0 w os f fs ≡ refused (Wanted l c)
   unfolding step _>>=_
-  wants-step w os n e i q m = rw e (wants w os f fs (n .theClass) (n .at) c (rw q m) (n .at .instruction) i ∙ ap (λ (x : ℕ). refused (Wanted x c)) q)
+  wants-step w os n e i q m = rw e (wants 0 w os f fs (n .theClass) (n .at) c (rw q m) (n .at .instruction) i ∙ ap (λ (x : ℕ). refused (Wanted x c)) q)
 
   wants-rows : (r : Rows) → QuoteWants f fs l c r → stepRows r ≡ refused (Wanted l c)
   unfolding stepRows stepOn stepTask _>>=_
@@ -142,7 +143,7 @@ module _ (f : Frame) (fs : List Frame) (l c : ℕ) where
   record-waits m n d r h = then Q _ _ (λ v _. still r _ refl (λ k i. i) h)
 
   -- the quote is busy
-  busy : (m n x v : ℕ) (r : Rows) → QuoteWants f fs l c r → (o : Progress) → started m n x v (worldOf r) (r .objects) (r .quote) ≡ ok o → ⊥
+  busy : (m n x v : ℕ) (r : Rows) → QuoteWants f fs l c r → (o : Progress) → started 0 m n x v (worldOf r) (r .objects) (r .quote) ≡ ok o → ⊥
   unfolding started
   busy m n x v r h o e =
       let a = bind-ok _ _ e in
@@ -164,6 +165,7 @@ module _ (f : Frame) (fs : List Frame) (l c : ℕ) where
   rows-wait (rowRecord m n d) b r w h = record-waits m n d r h
   rows-wait (rowStart j m n x v) b r w h = start-waits j m n x v r h
   rows-wait (rowDrop j) b r w h = drop-waits j r b h
+  rows-wait rowSweep b r w h = unfold sweepRows in still r _ refl (λ k i. i) h
 
   abbrev Waits : Rows → Type 0
   Waits s = find (s .cache) (at l c) ≡ none → QuoteWants f fs l c s

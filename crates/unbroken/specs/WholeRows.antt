@@ -18,19 +18,20 @@ use Rattle.definition.specs.Constraints.{Subtype, Tie, World, signatureTies}
 use Rattle.definition.specs.File.{File, classOf, readFile}
 use Rattle.definition.specs.Lists.{any}
 use Rattle.definition.specs.Loading.{newSubtypes, overrideTie, overrideTies, started, subtypeIs, subtypeOf}
-use Rattle.definition.specs.Machine.{Frame, Progress, intValue, newObject}
+use Rattle.definition.specs.Machine.{Frame, Progress, ObjectRow, free, owned, Exists, unused, intValue, newObject}
 use Rattle.definition.specs.Requests.{Request, at}
 use Rattle.definition.specs.Tables.{ClassRow, Rows, classAt, fileAt, sizeOf, worldOf, withTies, withObjects, withFrames}
 use Rattle.definition.specs.Verifier.{Note}
 use Rattle.laws.specs.Agreement.{find-row, super-is}
 use Rattle.laws.specs.Growth.{Grows, grows-super, nth-lt}
+use Rattle.laws.specs.Objects.{made-there, made-exists}
 use Rattle.laws.specs.Options.{bind-some, need-true, some-bind}
 use Rattle.laws.specs.Results.{need-ok, take-ok}
 use Rattle.laws.specs.Stable.{slots-stable}
 use Rattle.layout.specs.Tests.{All, all-both, all-more, from-more}
 use Rattle.layout.specs.ReadBack.{object-class}
-use Rattle.layout.specs.Whole.{Between, ClassSound, Classes, First, Framed, From, Listed, ObjectSound, Whole}
-use Rattle.unbroken.specs.Steps.{Moved, Ready, class-found, class-selected, entered-frame, grow-frame, loader-small, made-objects, news-between}
+use Rattle.layout.specs.Whole.{Between, ClassSound, Classes, First, Framed, From, Listed, RowSound, Whole}
+use Rattle.unbroken.specs.Steps.{Moved, Ready, class-found, class-selected, entered-frame, grow-frame, loader-small, made-few, made-objects, news-between}
 use Rattle.definition.specs.Maybe as Maybe
 use Rattle.laws.specs.Tasks.{of-task}
 use Rattle.laws.specs.Wrapped.{Ok, then}
@@ -109,7 +110,7 @@ module _ (r : Rows) (w : Whole r) where
 
   -- Frames of a task change; ties and objects change; both, as a task goes on
 
-  pub frames-whole : (k : ℕ) (fs : List Frame) → length fs ≤ 32 → All (Framed N (length (r .objects))) fs → Whole (withFrames k fs r)
+  pub frames-whole : (k : ℕ) (fs : List Frame) → length fs ≤ 32 → All (Framed N (Exists (r .objects))) fs → Whole (withFrames k fs r)
   frames-whole k fs a b = record {
     limits = record {
       classes = w .limits .classes;
@@ -126,8 +127,8 @@ module _ (r : Rows) (w : Whole r) where
     ties = w .ties;
     subtypes = w .subtypes;
     objects = w .objects;
-    quote = of-task (All (Framed N (length (r .objects)))) k b (w .quote);
-    report = of-task (All (Framed N (length (r .objects)))) k (w .report) b;
+    quote = of-task (All (Framed N (Exists (r .objects)))) k b (w .quote);
+    report = of-task (All (Framed N (Exists (r .objects)))) k (w .report) b;
   }
 
   heap-whole : (o : Progress) → Moved W N (r .objects) o → Whole (withObjects (o .objects) (withTies (o .world .ties) r))
@@ -147,30 +148,33 @@ module _ (r : Rows) (w : Whole r) where
     ties = m .between;
     subtypes = w .subtypes;
     objects = m .each;
-    quote = all-more (grow-frame N (length (r .objects)) (length (o .objects)) (m .more)) (r .quote) (w .quote);
-    report = all-more (grow-frame N (length (r .objects)) (length (o .objects)) (m .more)) (r .report) (w .report);
+    quote = all-more (grow-frame N (Exists (r .objects)) (Exists (o .objects)) (m .more)) (r .quote) (w .quote);
+    report = all-more (grow-frame N (Exists (r .objects)) (Exists (o .objects)) (m .more)) (r .report) (w .report);
   }
 
   -- the rows' classes and constraints are then those of the progress
   pub world-progressed : (k : ℕ) (o : Progress) → Moved W N (r .objects) o → worldOf (progressed k r o) ≡ o .world
   world-progressed k o m = λ i. record { base = sym (m .base) i; ties = o .world .ties; subtypes = sym (m .subtypes) i }
 
-  pub start-moves : (l n m v : ℕ) (fs : List Frame) → Ok (started l n m v W (r .objects) fs) (Moved W N (r .objects))
+  pub start-moves : (k l n m v : ℕ) (fs : List Frame) → k < 2 → Ok (started k l n m v W (r .objects) fs) (Moved W N (r .objects))
   unfolding started
-  start-moves l n m v fs = then Q _ _ (λ _ _. then Q _ _ (λ _ _. then Q _ _ (λ c fc. then Q _ _ (λ s es. then Q _ _ (λ _ h.
+  start-moves k l n m v fs two = then Q _ _ (λ _ _. then Q _ _ (λ _ _. then Q _ _ (λ c fc. then Q _ _ (λ s es. then Q _ _ (λ _ h.
       let os = r .objects in
-      let e = length-append os (newObject (W .base) c ∷ []) in
+      let x = newObject (W .base) c in
       let lc = class-found W N os ready (at l n) c (take-ok _ _ fc) in
       record {
         base = refl;
         subtypes = refl;
         ties = w .limits .ties;
         between = w .ties;
-        more = omega (arith, e);
-        objects = omega (arith, e, ltb-true (length os) 256 (need-ok _ _ h));
-        each = made-objects (W .base) N os c lc (w .objects);
+        more = made-exists k x os;
+        objects = made-few k x os (w .limits .objects) (need-ok _ _ h);
+        each = made-objects (W .base) N k os c two lc (w .objects);
         many = omega arith;
-        frames = (entered-frame N _ (s .class) (s .place) (length os) (intValue v) (class-selected W N os ready (startSignature m) c s (take-ok _ _ es)) (omega (arith, e)) tt, tt);
+        frames = (
+          entered-frame N _ (s .class) (s .place) (unused os) (intValue v) (class-selected W N os ready (startSignature m) c s (take-ok _ _ es)) (x, made-there k x os) tt,
+          tt,
+        );
       })))))
     where
       Q : Progress → Type 0
@@ -188,10 +192,14 @@ module _ (r : Rows) (w : Whole r) where
         let lt : c < N = omega (arith, nth-lt (W .base .classes) c (s .theClass) (s .isClass), length-map (r .classes) (classAt (r .kept))) in
         record { loader = h .loader; file = h .file; reads = more k (h .file) (h .reads); super = h .super; isSuper = grows-super gr c (h .super) (h .isSuper); size = omega (arith, same-size c lt, h .size) }
 
-    pub grown-objects : (n : ℕ) → N ≤ n → All (ObjectSound (X .base) n (length (r .objects))) (r .objects)
-    grown-objects n l = all-more (λ o h. record { class = omega (arith, h .class); size = h .size ∙ sym (same-size (o .class) (h .class)); values = h .values }) (r .objects) (w .objects)
+    pub grown-objects : (n : ℕ) → N ≤ n → All (RowSound (X .base) n (Exists (r .objects))) (r .objects)
+    grown-objects n l = all-more grown-row (r .objects) (w .objects)
+      where
+        grown-row : (x : ObjectRow) → RowSound (W .base) N (Exists (r .objects)) x → RowSound (X .base) n (Exists (r .objects)) x
+        grown-row free h = tt
+        grown-row (owned k o) h = (h .0, record { class = omega (arith, h .1 .class); size = h .1 .size ∙ sym (same-size (o .class) (h .1 .class)); values = h .1 .values })
 
-  pub grown-frames : (n : ℕ) → N ≤ n → (fs : List Frame) → All (Framed N (length (r .objects))) fs → All (Framed n (length (r .objects))) fs
+  pub grown-frames : (n : ℕ) → N ≤ n → (fs : List Frame) → All (Framed N (Exists (r .objects))) fs → All (Framed n (Exists (r .objects))) fs
   grown-frames n l fs h = all-more (λ f x. record { class = omega (arith, x .class); depth = x .depth; operands = x .operands; eight = x .eight; locals = x .locals }) fs h
 
   pub grown-cache : (n : ℕ) → N ≤ n → All (Listed n) (r .cache)

@@ -4,29 +4,33 @@ use mathlib.Core.Bool.{Bool, true, false}
 use mathlib.Core.Option.{Option, none, some}
 use mathlib.Core.List.{List, [], _∷_, _++_}
 use mathlib.Core.Logic.{inl, inr}
-use Prim.Native.Nat.{ℕ, _<_}
+use Prim.Native.Nat.{ℕ, suc, _<_}
 use native.Mathlib.Omega.{arith}
+use lib.Dec.{eqb}
 use Rattle.definition.specs.declared.Signature.{Signature}
+use Rattle.definition.specs.Chains.{has}
+use Rattle.definition.specs.Instructions.{pick}
 use Rattle.definition.specs.Answers.{ok}
 use Rattle.definition.specs.Lists.{any}
 use Rattle.definition.specs.Classes.{Base, Class, Method, loaderOf, Selected, selected, startSignature}
 use Rattle.definition.specs.Constraints.{Tie, Subtype, World, signatureTies}
 use Rattle.definition.specs.File.{readFile, classOf}
 use Rattle.definition.specs.Verifier.{Note}
-use Rattle.definition.specs.Machine.{Frame, Progress, newObject, intValue}
+use Rattle.definition.specs.Machine.{Frame, Progress, free, Objects, newObject, intValue}
+use Rattle.definition.specs.Sweeping.{sweptFrom}
 use Rattle.definition.specs.Loading.{subtypeIs, subtypeOf, newSubtypes, overrideTie, overrideTies, define, recorded, started}
 use Rattle.definition.specs.Tables.{Rows, worldOf, withTies, withObjects, withFrames, framesIn}
-use Rattle.definition.specs.Calls.{Given, bootRows, progressed, defineRows, recordRows, startRows, dropRows, stepTask, stepOn, stepRows, RowCall, rowDefine, rowRecord, rowStart, rowDrop, onRowCall}
+use Rattle.definition.specs.Calls.{Given, bootRows, progressed, defineRows, recordRows, startRows, dropRows, sweepRows, stepTask, stepOn, stepRows, RowCall, rowDefine, rowRecord, rowStart, rowDrop, rowSweep, onRowCall}
 use Rattle.definition.specs.Widths.{EachBelow, FittingRows}
 use Rattle.laws.specs.Tasks.{of-task}
 use Rattle.laws.specs.Wrapped.{Ok, then}
 use Rattle.layout.specs.Tests.{All, all-both}
 use Rattle.unbroken.specs.Accepted.{recorded-is}
 use Rattle.widths.specs.Below.{below-both}
-use Rattle.widths.specs.Fits.{EntryFits, TieFits, SubtypeFits, ObjectFits, FrameFits, RowsFit}
+use Rattle.widths.specs.Fits.{EntryFits, TieFits, SubtypeFits, ObjectRowFits, FrameFits, RowsFit}
 use Rattle.widths.specs.Files.{MethodFits, ClassFits, file-fits, classes-fit, SignatureFits}
 use Rattle.widths.specs.Notes.{NoteFits, notes-fit}
-use Rattle.widths.specs.Steps.{then-on, take-read, new-fits, entered-fits, ProgressFits, step-fits, signature-ties-fit, selected-fits, PlaceFits}
+use Rattle.widths.specs.Steps.{then-on, take-read, new-fits, made-fits, entered-fits, ProgressFits, step-fits, signature-ties-fit, selected-fits, PlaceFits}
 
 -- Loads
 
@@ -101,6 +105,15 @@ progressed-fits r f k o p = frames-fit (withObjects (o .objects) (withTies (o .w
     moved : RowsFit (withObjects (o .objects) (withTies (o .world .ties) r))
     moved = record { kept = f .kept; cache = f .cache; ties = p .ties; subtypes = f .subtypes; objects = p .objects; quote = f .quote; report = f .report }
 
+swept-fits : (R : List ℕ) (i : ℕ) (os : Objects) → All ObjectRowFits os → All ObjectRowFits (sweptFrom R i os)
+unfolding sweptFrom
+swept-fits R i [] h = tt
+swept-fits R i (x ∷ os) h = (go (has eqb i R), swept-fits R (suc i) os (h .1))
+  where
+    go : (u : Bool) → ObjectRowFits (pick u x free)
+    go true = unfold pick in h .0
+    go false = unfold pick in tt
+
 module _ (r : Rows) (f : RowsFit r) where
   world-fits : WorldFits (worldOf r)
   world-fits = record { cache = f .cache; ties = f .ties; subtypes = f .subtypes }
@@ -136,26 +149,26 @@ module _ (r : Rows) (f : RowsFit r) where
         report = f .report;
       })
 
-  started-fits : (l n m v : ℕ) (fs : List Frame) → v < 4294967296 → Ok (started l n m v (worldOf r) (r .objects) fs) ProgressFits
+  started-fits : (k l n m v : ℕ) (fs : List Frame) → v < 4294967296 → Ok (started k l n m v (worldOf r) (r .objects) fs) ProgressFits
   unfolding started
-  started-fits l n m v fs h =
+  started-fits k l n m v fs h =
       then ProgressFits _ _ (λ _ _. then ProgressFits _ _ (λ _ _. then ProgressFits _ _ (λ c _.
       then-on PlaceFits ProgressFits _ _ (take-read PlaceFits _ _ (selected-fits (worldOf r .base) class-list (startSignature m) c)) (λ s hs.
       then ProgressFits _ _ (λ _ _.
       record {
         ties = f .ties;
-        objects = all-both ObjectFits (r .objects) (newObject (worldOf r .base) c ∷ []) (f .objects) (new-fits (worldOf r .base) c, tt);
+        objects = made-fits k (newObject (worldOf r .base) c) (r .objects) (new-fits (worldOf r .base) c) (f .objects);
         frames = (entered-fits (s .class) (s .place) _ (intValue v) hs h, tt);
       })))))
 
   start-fits : (k l n m v : ℕ) → v < 4294967296 → Ok (startRows k l n m v r) Fit
   unfolding startRows
-  start-fits k l n m v h = then Fit _ _ (λ _ _. then-on ProgressFits Fit _ _ (started-fits l n m v (framesIn k r) h) (λ o p. progressed-fits r f k o p))
+  start-fits k l n m v h = then Fit _ _ (λ _ _. then-on ProgressFits Fit _ _ (started-fits k l n m v (framesIn k r) h) (λ o p. progressed-fits r f k o p))
 
   task-fits : (k : ℕ) (g : Frame) (gs : List Frame) → All FrameFits (g ∷ gs) → Ok (stepTask k (worldOf r) g gs r) Fit
   unfolding stepTask
   task-fits k g gs h =
-      then-on ProgressFits Fit _ _ (step-fits (worldOf r) (r .objects) class-list (f .ties) (f .objects) g gs (h .0) (h .1)) (λ o p. progressed-fits r f k o p)
+      then-on ProgressFits Fit _ _ (step-fits k (worldOf r) (r .objects) class-list (f .ties) (f .objects) g gs (h .0) (h .1)) (λ o p. progressed-fits r f k o p)
 
   pub step-rows-fit : Ok (stepRows r) Fit
   unfolding stepRows
@@ -170,11 +183,24 @@ module _ (r : Rows) (f : RowsFit r) where
   unfolding dropRows
   drop-fits k = then Fit _ _ (λ _ _. frames-fit r f k [] tt)
 
+  sweep-fits : Ok (sweepRows r) Fit
+  unfolding sweepRows
+  sweep-fits = record {
+    kept = f .kept;
+    cache = f .cache;
+    ties = f .ties;
+    subtypes = f .subtypes;
+    objects = swept-fits _ 0 (r .objects) (f .objects);
+    quote = f .quote;
+    report = f .report;
+  }
+
   pub rows-fit : (c : RowCall) → FittingRows c → Ok (onRowCall c r) Fit
   rows-fit (rowDefine l bs) h = define-fits l bs h
   rows-fit (rowRecord l n c) h = record-fits l n c h
   rows-fit (rowStart k l n m v) h = start-fits k l n m v h
   rows-fit (rowDrop k) h = drop-fits k
+  rows-fit rowSweep h = sweep-fits
 
 pub boot-fits : RowsFit bootRows
 boot-fits = record { kept = tt; cache = (omega arith, tt); ties = tt; subtypes = tt; objects = tt; quote = tt; report = tt }

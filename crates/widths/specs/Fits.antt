@@ -4,22 +4,23 @@
 use mathlib.Core.Path.{_≡_}
 use mathlib.Core.Option.{some}
 use mathlib.Core.List.{List, [], _∷_}
-use Prim.Native.Nat.{ℕ, _+_, _*_, _<_, _≤_}
+use Prim.Native.Nat.{ℕ, suc, zero, _+_, _*_, _<_, _≤_}
 use native.Mathlib.Omega.{arith}
 use lib.ListN.{length, getD, set}
 use borrow.Author.Tests.{leb-true}
 use Rattle.definition.specs.Lists.{writeRows, writeStack}
 use Rattle.definition.specs.Classes.{Base, Entry}
 use Rattle.definition.specs.Constraints.{Tie, Subtype}
-use Rattle.definition.specs.Machine.{Value, emptyValue, intValue, nullValue, objectValue, unlistedValue, Object, Frame}
+use Rattle.definition.specs.Machine.{Value, emptyValue, intValue, nullValue, objectValue, unlistedValue, Object, Frame, ObjectRow, free, owned, Exists}
 use Rattle.definition.specs.File.{File}
-use Rattle.definition.specs.Tables.{Tables, ClassRow, Rows, fileAt, worldOf, putThree, putClassRow, entryAt, putEntry, tieAt, putTie, subtypeAt, putSubtype, valueOf, kindOf, bitsOf, valueAt, putValue, fieldAt, putField, usedFields, objectAt, putObject, localAt, putLocal, operandAt, putOperand, frameOf, frameAt, putFrame, frameBase, frameIn, putFrameIn, viewBase, objectsOf, framesOf, viewOver, view, countsOf, put}
+use Rattle.definition.specs.Tables.{Tables, ClassRow, Rows, fileAt, worldOf, putThree, putClassRow, entryAt, putEntry, tieAt, putTie, subtypeAt, putSubtype, valueOf, kindOf, bitsOf, valueAt, putValue, fieldAt, putField, usedFields, objectAt, putObject, localAt, putLocal, operandAt, putOperand, frameOf, frameAt, putFrame, frameBase, frameIn, putFrameIn, viewBase, objectsOf, framesOf, viewOver, view, countsOf, put, ownedBy, ownerOf, ownerAt, putOwner, objectRowAt, putObjectRow}
 use Rattle.definition.specs.Widths.{EachBelow, Widths}
 use Rattle.laws.specs.Options.{bind-some, need-true}
-use Rattle.layout.specs.Tests.{All}
+use Rattle.layout.specs.Tests.{All, all-more}
 use Rattle.layout.specs.Places.{rows-all, stack-all}
 use Rattle.layout.specs.Values.{bits-value}
-use Rattle.layout.specs.Whole.{Local, ValueSound, ObjectSound, Framed, Listed, Between, ClassSound, Classes, Whole}
+use Rattle.laws.specs.Objects.{exists-lt}
+use Rattle.layout.specs.Whole.{Local, ValueSound, RowSound, Framed, Listed, Between, ClassSound, Classes, Whole}
 use Rattle.widths.specs.Below.{all-zip, from-all, below-cell, below-set, below-read, each-all, below-rows, below-stack}
 
 -- an int has 32 bits
@@ -44,6 +45,10 @@ pub record SubtypeFits (s : Subtype) : Type 0 where
 abbrev pub ObjectFits : Object → Type 0
 ObjectFits o = All IntFits (o .values)
 
+abbrev pub ObjectRowFits : ObjectRow → Type 0
+ObjectRowFits free = Unit {0}
+ObjectRowFits (owned k o) = ObjectFits o
+
 pub record FrameFits (f : Frame) : Type 0 where
   pub method : f .method < 4294967296
   pub point : f .point < 4294967296
@@ -55,7 +60,7 @@ pub record RowsFit (r : Rows) : Type 0 where
   pub cache : All EntryFits (r .cache)
   pub ties : All TieFits (r .ties)
   pub subtypes : All SubtypeFits (r .subtypes)
-  pub objects : All ObjectFits (r .objects)
+  pub objects : All ObjectRowFits (r .objects)
   pub quote : All FrameFits (r .quote)
   pub report : All FrameFits (r .report)
 
@@ -81,6 +86,14 @@ module _ (t : List ℕ) (h : EachBelow 4294967296 t) where
   unfolding objectAt fieldAt
   object-read b o = rows-all IntFits (fieldAt t o) (usedFields b (getD t (o * 33) 0)) 0 (λ i _ _. value-read (o * 33 + (1 + 2 * i)))
 
+  object-row-read : (b : Base) (n : List ℕ) (o : ℕ) → ObjectRowFits (objectRowAt b n t o)
+  unfolding objectRowAt
+  object-row-read b n o = go (ownerAt n o)
+    where
+      go : (w : ℕ) → ObjectRowFits (ownedBy w (objectAt b t o))
+      go zero = unfold ownedBy in tt
+      go (suc k) = unfold ownedBy in object-read b o
+
   frame-read : (k i : ℕ) → FrameFits (frameIn t k i)
   unfolding frameIn frameAt frameOf localAt operandAt
   frame-read k i =
@@ -102,7 +115,7 @@ view-fits t w = record {
     low = below-cell 65536 (t .subtypes) (i * 3 + 1) (omega arith) (w .subtypes);
     high = below-cell 65536 (t .subtypes) (i * 3 + 2) (omega arith) (w .subtypes);
   });
-  objects = rows-all ObjectFits (objectAt (viewBase t) (t .objects)) (getD (t .counts) 5 0) 0 (λ o _ _. object-read (t .objects) (w .objects) (viewBase t) o);
+  objects = rows-all ObjectRowFits (objectRowAt (viewBase t) (t .counts) (t .objects)) (getD (t .counts) 5 0) 0 (λ o _ _. object-row-read (t .objects) (w .objects) (viewBase t) (t .counts) o);
   quote = stack-all FrameFits (frameIn (t .frames) 0) (getD (t .counts) 6 0) (λ i _. frame-read (t .frames) (w .frames) 0 i);
   report = stack-all FrameFits (frameIn (t .frames) 1) (getD (t .counts) 7 0) (λ i _. frame-read (t .frames) (w .frames) 1 i);
 }
@@ -147,15 +160,15 @@ pub record CellsFit (v : Value) : Type 0 where
   pub kind : kindOf v < 4294967296
   pub bits : bitsOf v < 4294967296
 
-local-cells : (m : ℕ) → m ≤ 256 → (v : Value) → Local m v → IntFits v → CellsFit v
+local-cells : (X : ℕ → Type 0) → ((o : ℕ) → X o → o < 256) → (v : Value) → Local X v → IntFits v → CellsFit v
 unfolding kindOf bitsOf
 local-cells m l emptyValue h f = record { kind = omega arith; bits = omega arith }
 local-cells m l (intValue n) h f = record { kind = omega arith; bits = f }
 local-cells m l nullValue h f = record { kind = omega arith; bits = omega arith }
-local-cells m l (objectValue o) h f = record { kind = omega arith; bits = omega arith }
+local-cells m l (objectValue o) h f = record { kind = omega arith; bits = omega (arith, l o h) }
 local-cells m l (unlistedValue k b) h f = absurd h
 
-value-cells : (m : ℕ) → m ≤ 256 → (v : Value) → ValueSound m v → IntFits v → CellsFit v
+value-cells : (X : ℕ → Type 0) → ((o : ℕ) → X o → o < 256) → (v : Value) → ValueSound X v → IntFits v → CellsFit v
 value-cells m l emptyValue h f = absurd h
 value-cells m l (intValue n) h f = local-cells m l (intValue n) h f
 value-cells m l nullValue h f = local-cells m l nullValue h f
@@ -176,6 +189,25 @@ unfolding putObject putField
 below-object t o x f h =
     below-rows 4294967296 (putField o) CellsFit (λ s i v. below-value s (o * 33 + (1 + 2 * i)) v) (x .values) 0 (set t (o * 33) (x .class)) (f .values)
     (below-set 4294967296 t (o * 33) (x .class) h (f .class))
+
+abbrev pub ObjectRowCells : ObjectRow → Type 0
+ObjectRowCells free = Unit {0}
+ObjectRowCells (owned k o) = ObjectCells o
+
+below-object-row : (t : List ℕ) (o : ℕ) (x : ObjectRow) → ObjectRowCells x → EachBelow 4294967296 t → EachBelow 4294967296 (putObjectRow t o x)
+unfolding putObjectRow
+below-object-row t o free f h = h
+below-object-row t o (owned k x) f h = below-object t o x f h
+
+-- an owner is a task's number and one
+abbrev OwnerFits : ObjectRow → Type 0
+OwnerFits free = Unit {0}
+OwnerFits (owned k o) = k < 2
+
+below-owner : (n : List ℕ) (o : ℕ) (x : ObjectRow) → OwnerFits x → EachBelow 65536 n → EachBelow 65536 (putOwner n o x)
+unfolding putOwner ownerOf
+below-owner n o free f h = below-set 65536 n (8 + o) 0 h (omega arith)
+below-owner n o (owned k x) f h = below-set 65536 n (8 + o) (suc k) h (omega arith)
 
 -- a frame's cells
 pub record FrameCells (f : Frame) : Type 0 where
@@ -201,26 +233,34 @@ below-frame k t i f c h =
     below-stack 4294967296 (putOperand b) CellsFit (λ s j v. below-value s (b + (20 + 2 * j)) v) (f .operands) (writeRows (putLocal b) (f .locals) 0 t3) (c .operands)
     (below-rows 4294967296 (putLocal b) CellsFit (λ s j v. below-value s (b + (4 + 2 * j)) v) (f .locals) 0 t3 (c .locals) h3)
 
-module _ (n m : ℕ) (few : n ≤ 64) (room : m ≤ 256) where
-  object-cells : (b : Base) (o : Object) → ObjectSound b n m o → ObjectFits o → ObjectCells o
-  object-cells b o s f = record { class = omega (arith, s .class); values = all-zip (ValueSound m) IntFits CellsFit (value-cells m room) (o .values) (s .values) f }
+module _ (n : ℕ) (X : ℕ → Type 0) (few : n ≤ 64) (room : (o : ℕ) → X o → o < 256) where
+  object-cells : (b : Base) (x : ObjectRow) → RowSound b n X x → ObjectRowFits x → ObjectRowCells x
+  object-cells b free s f = tt
+  object-cells b (owned k o) s f = record { class = omega (arith, s .1 .class); values = all-zip (ValueSound X) IntFits CellsFit (value-cells X room) (o .values) (s .1 .values) f }
 
-  frame-cells : (f : Frame) → Framed n m f → FrameFits f → FrameCells f
+  row-owner : (b : Base) (x : ObjectRow) → RowSound b n X x → OwnerFits x
+  row-owner b free s = tt
+  row-owner b (owned k o) s = s .0
+
+  frame-cells : (f : Frame) → Framed n X f → FrameFits f → FrameCells f
   frame-cells f s h = record {
     class = omega (arith, s .class);
     method = h .method;
     point = h .point;
     depth = omega (arith, s .depth);
-    operands = all-zip (ValueSound m) IntFits CellsFit (value-cells m room) (f .operands) (s .operands) (h .operands);
-    locals = all-zip (Local m) IntFits CellsFit (local-cells m room) (f .locals) (s .locals) (h .locals);
+    operands = all-zip (ValueSound X) IntFits CellsFit (value-cells X room) (f .operands) (s .operands) (h .operands);
+    locals = all-zip (Local X) IntFits CellsFit (local-cells X room) (f .locals) (s .locals) (h .locals);
   }
 
 module _ (r : Rows) (s : Whole r) (f : RowsFit r) where
   abbrev N : ℕ
   N = length (r .classes)
 
-  abbrev M : ℕ
-  M = length (r .objects)
+  abbrev M : ℕ → Type 0
+  M = Exists (r .objects)
+
+  room : (o : ℕ) → M o → o < 256
+  room o h = omega (arith, exists-lt (r .objects) o h, s .limits .objects)
 
   counts-cells : All (λ c. c < 65536) (countsOf r)
   unfolding countsOf
@@ -251,13 +291,16 @@ module _ (r : Rows) (s : Whole r) (f : RowsFit r) where
       all-zip (λ e. e .loader < 16) SubtypeFits _ (λ e l x. record { first = omega (arith, l); second = x .low; third = x .high })
       (r .subtypes) (s .subtypes) (f .subtypes)
 
-  objects-cells : All ObjectCells (r .objects)
+  objects-cells : All ObjectRowCells (r .objects)
   objects-cells =
-      all-zip (ObjectSound (worldOf r .base) N M) ObjectFits ObjectCells (object-cells N M (s .limits .classes) (s .limits .objects) (worldOf r .base))
+      all-zip (RowSound (worldOf r .base) N M) ObjectRowFits ObjectRowCells (object-cells N M (s .limits .classes) room (worldOf r .base))
       (r .objects) (s .objects) (f .objects)
 
+  owners-cells : All OwnerFits (r .objects)
+  owners-cells = all-more (row-owner N M (s .limits .classes) room (worldOf r .base)) (r .objects) (s .objects)
+
   frames-cells : (fs : List Frame) → All (Framed N M) fs → All FrameFits fs → All FrameCells fs
-  frames-cells fs a b = all-zip (Framed N M) FrameFits FrameCells (frame-cells N M (s .limits .classes) (s .limits .objects)) fs a b
+  frames-cells fs a b = all-zip (Framed N M) FrameFits FrameCells (frame-cells N M (s .limits .classes) room) fs a b
 
   pub put-widths : (t : Tables) → Widths t → Widths (put r t)
   unfolding put putClassRow putEntry putTie putSubtype
@@ -265,14 +308,15 @@ module _ (r : Rows) (s : Whole r) (f : RowsFit r) where
       let quoted : EachBelow 4294967296 (writeStack (putFrameIn 0) (r .quote) (t .frames)) =
       below-stack 4294967296 (putFrameIn 0) FrameCells (below-frame 0) (r .quote) (t .frames) (frames-cells (r .quote) (s .quote) (f .quote)) (w .frames) in
       record {
-        counts = below-rows 65536 set (λ c. c < 65536) (λ u i c l h. below-set 65536 u i c h l) (countsOf r) 0 (t .counts) counts-cells (w .counts);
+        counts = below-rows 65536 putOwner OwnerFits below-owner (r .objects) 0 (writeRows set (countsOf r) 0 (t .counts)) owners-cells
+            (below-rows 65536 set (λ c. c < 65536) (λ u i c l h. below-set 65536 u i c h l) (countsOf r) 0 (t .counts) counts-cells (w .counts));
         classes = below-threes 65536 (λ k. k .loader) (λ k. k .start) (λ k. k .size) (r .classes) (t .classes)
             (class-rows-fit (worldOf r .base) (r .kept) (r .classes) (s .limits .kept) (s .classes)) (w .classes);
         kept = below-rows 256 set (λ c. c < 256) (λ u i c l h. below-set 256 u i c h l) (r .kept) 0 (t .kept) (each-all 256 (r .kept) (f .kept)) (w .kept);
         cache = below-threes 65536 (λ e. e .request .loader) (λ e. e .request .name) (λ e. e .class) (r .cache) (t .cache) entries-cells (w .cache);
         ties = below-threes 65536 (λ e. e .one) (λ e. e .two) (λ e. e .name) (r .ties) (t .ties) ties-cells (w .ties);
         subtypes = below-threes 65536 (λ e. e .loader) (λ e. e .low) (λ e. e .high) (r .subtypes) (t .subtypes) subtypes-cells (w .subtypes);
-        objects = below-rows 4294967296 putObject ObjectCells below-object (r .objects) 0 (t .objects) objects-cells (w .objects);
+        objects = below-rows 4294967296 putObjectRow ObjectRowCells below-object-row (r .objects) 0 (t .objects) objects-cells (w .objects);
         frames = below-stack 4294967296 (putFrameIn 1) FrameCells (below-frame 1) (r .report) (writeStack (putFrameIn 0) (r .quote) (t .frames))
             (frames-cells (r .report) (s .report) (f .report)) quoted;
       }

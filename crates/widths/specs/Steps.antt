@@ -20,12 +20,12 @@ use Rattle.definition.specs.Classes.{Base, Class, slots, loaderOf, methodsOf, a
 use Rattle.definition.specs.Constraints.{Tie, World, tieIs, newTie, post, newTies, signatureTies}
 use Rattle.definition.specs.Instructions.{Decoded}
 use Rattle.definition.specs.Verifier.{pop}
-use Rattle.definition.specs.Machine.{Value, emptyValue, intValue, nullValue, objectValue, unlistedValue, Object, Frame, existing, initialValue, newObject, entryFrame, pop!, compute, object!, Progress, Now, now, past, give, execute, step}
+use Rattle.definition.specs.Machine.{Value, emptyValue, intValue, nullValue, objectValue, unlistedValue, Object, Frame, existing, initialValue, newObject, entryFrame, pop!, compute, object!, Progress, Now, now, past, give, execute, step, ObjectRow, free, owned, Objects, objectHeld, unused, made, rewritten, changed}
 use Rattle.laws.specs.Wrapped.{Ok, then}
 use Rattle.layout.specs.Tests.{All, all-both}
 use Rattle.unbroken.specs.Steps.{all-set}
 use Rattle.widths.specs.Below.{all-map}
-use Rattle.widths.specs.Fits.{IntFits, TieFits, ObjectFits, FrameFits}
+use Rattle.widths.specs.Fits.{IntFits, TieFits, ObjectFits, FrameFits, ObjectRowFits}
 use Rattle.widths.specs.Files.{Read, read-nth, InstructionFits, DecodedFits, decode-fits, MethodFits, ClassFits, methods-of-fit, SignatureFits, read-past, read-on}
 
 -- Answers in sequence: what holds of an accepted value
@@ -59,13 +59,43 @@ compute-fits Subtract a b = mod-lt (a + 4294967296 - b) (omega arith)
 
 -- Objects
 
-object-fits : (b : Base) (os : List Object) (e : ℕ) (v : Value) → All ObjectFits os → Ok (object! b os e v) (λ o. ObjectFits (o .object))
-unfolding object! existing
+existing-fits : (os : Objects) (o : ℕ) → All ObjectRowFits os → Read (existing os o) ObjectFits
+unfolding existing
+existing-fits os o h = go (getElem? os o) (read-nth ObjectRowFits os o h)
+  where
+    held : (x : ObjectRow) → ObjectRowFits x → Read (objectHeld x) ObjectFits
+    held free f = unfold objectHeld in tt
+    held (owned k x) f = unfold objectHeld in f
+
+    go : (y : Option ObjectRow) → Read y ObjectRowFits → Read (elim y as (λ _. Option Object) [ none ↦ none | some x ↦ objectHeld x ]) ObjectFits
+    go none f = tt
+    go (some x) f = held x f
+
+pub made-fits : (k : ℕ) (x : Object) (os : Objects) → ObjectFits x → All ObjectRowFits os → All ObjectRowFits (made k x os)
+unfolding made
+made-fits k x [] f h = (f, tt)
+made-fits k x (free ∷ os) f h = (f, h .1)
+made-fits k x (owned j y ∷ os) f h = (h .0, made-fits k x os f (h .1))
+
+changed-fits : (os : Objects) (o : ℕ) (x : Object) → ObjectFits x → All ObjectRowFits os → All ObjectRowFits (changed os o x)
+unfolding changed
+changed-fits os o x f h = go (getElem? os o)
+  where
+    put : (y : ObjectRow) → ObjectRowFits (rewritten x y)
+    put free = unfold rewritten in tt
+    put (owned k y) = unfold rewritten in f
+
+    go : (y : Option ObjectRow) → All ObjectRowFits (elim y as (λ _. Objects) [ none ↦ os | some z ↦ set os o (rewritten x z) ])
+    go none = h
+    go (some z) = all-set ObjectRowFits os h o (rewritten x z) (put z)
+
+object-fits : (b : Base) (os : Objects) (e : ℕ) (v : Value) → All ObjectRowFits os → Ok (object! b os e v) (λ o. ObjectFits (o .object))
+unfolding object!
 object-fits b os e emptyValue h = tt
 object-fits b os e (intValue n) h = tt
 object-fits b os e nullValue h = tt
 object-fits b os e (objectValue o) h =
-    then-on ObjectFits Q _ _ (take-read ObjectFits (getElem? os o) _ (read-nth ObjectFits os o h)) (λ k f. then Q _ _ (λ _ _. f))
+    then-on ObjectFits Q _ _ (take-read ObjectFits (existing os o) _ (existing-fits os o h)) (λ k f. then Q _ _ (λ _ _. f))
   where
     Q : record { number : ℕ; object : Object } → Type 0
     Q o = ObjectFits (o .object)
@@ -135,10 +165,10 @@ entered-fits s j o v l h = record { method = l; point = omega arith; operands = 
 
 pub record ProgressFits (o : Progress) : Type 0 where
   pub ties : All TieFits (o .world .ties)
-  pub objects : All ObjectFits (o .objects)
+  pub objects : All ObjectRowFits (o .objects)
   pub frames : All FrameFits (o .frames)
 
-module _ (w : World) (os : List Object) (classes : All ClassFits (w .base .classes)) (ties : All TieFits (w .ties)) (objects : All ObjectFits os) where
+module _ (task : ℕ) (w : World) (os : Objects) (classes : All ClassFits (w .base .classes)) (ties : All TieFits (w .ties)) (objects : All ObjectRowFits os) where
   give-fits : (fs : List Frame) (v : Value) → All FrameFits fs → IntFits v → Ok (give fs w os v) ProgressFits
   unfolding give
   give-fits [] v h k = then ProgressFits _ _ (λ _ _. record { ties = ties; objects = objects; frames = tt })
@@ -179,7 +209,7 @@ module _ (w : World) (os : List Object) (classes : All ClassFits (w .base .class
     two-popped g n =
         then-on Popped Q _ _ (pop-fits (f .operands) (top .operands)) (λ p hp. then-on Popped Q _ (g p) (pop-fits (p .more) (hp .1)) (λ q hq. n p q hp hq))
 
-    execute-fits : (j : Instruction) → InstructionFits j → Ok (execute w os f fs k i j) Q
+    execute-fits : (j : Instruction) → InstructionFits j → Ok (execute task w os f fs k i j) Q
     unfolding execute
     execute-fits AconstNull x = then Q _ _ (λ _ _. pushed nullValue tt)
     execute-fits (Sipush n) x = then Q _ _ (λ _ _. pushed (intValue n) x)
@@ -202,7 +232,7 @@ module _ (w : World) (os : List Object) (classes : All ClassFits (w .base .class
         then-on Held Q _ _ (object-fits (w .base) os e (q .top) objects) (λ o held. then Q _ _ (λ j _.
         record {
           ties = tied;
-          objects = all-set ObjectFits os objects (o .number) _ (all-set IntFits (o .object .values) held j (p .top) (hp .0));
+          objects = changed-fits os (o .number) (record { class = o .object .class; values = set (o .object .values) j (p .top) }) (all-set IntFits (o .object .values) held j (p .top) (hp .0)) objects;
           frames = (moved (q .more) (f .locals) (hq .1) (top .locals), rest);
         })))))))
     execute-fits (Invokevirtual c s) x = then Q _ _ (λ e _. then Q _ _ (λ d _.
@@ -217,8 +247,8 @@ module _ (w : World) (os : List Object) (classes : All ClassFits (w .base .class
     execute-fits (New c) x = then Q _ _ (λ e _. then Q _ _ (λ _ _.
         record {
           ties = ties;
-          objects = all-both ObjectFits os (newObject (w .base) e ∷ []) objects (new-fits (w .base) e, tt);
-          frames = (moved (objectValue (length os) ∷ f .operands) (f .locals) (tt, top .operands) (top .locals), rest);
+          objects = made-fits task (newObject (w .base) e) os (new-fits (w .base) e) objects;
+          frames = (moved (objectValue (unused os) ∷ f .operands) (f .locals) (tt, top .operands) (top .locals), rest);
         }))
     execute-fits (Return kind) x = then Q _ _ (λ _ _. then-on Popped Q _ _ (pop-fits (f .operands) (top .operands)) (λ p h.
         then Q _ _ (λ _ _. give-fits fs (p .top) rest (h .0))))
@@ -236,7 +266,7 @@ module _ (w : World) (os : List Object) (classes : All ClassFits (w .base .class
       then-on D (NowFits f) _ _ (take-read D _ _ (decode-fits (m .code) (hm .code) (k .version) (f .point))) (λ i hi.
       record { instruction = hi .instruction; point = omega (arith, hi .inside, hm .short) })))
 
-  pub step-fits : (f : Frame) (fs : List Frame) → FrameFits f → All FrameFits fs → Ok (step w os f fs) ProgressFits
+  pub step-fits : (f : Frame) (fs : List Frame) → FrameFits f → All FrameFits fs → Ok (step task w os f fs) ProgressFits
   unfolding step
   step-fits f fs top rest =
       then-on (NowFits f) ProgressFits _ _ (now-fits f) (λ n h. execute-fits f fs (n .theClass) (n .at) top rest (h .point) (n .at .instruction) (h .instruction))

@@ -1,26 +1,27 @@
 -- What putting rows leaves: every cell that holds none of them stays as it was, in every table, whatever the rows and the tables are.
 use mathlib.Core.Path.{_≡_, refl, sym, ap, _∙_}
-use mathlib.Core.Option.{some, Option·some-injective}
+use mathlib.Core.Option.{none, some, Option·some-injective, Option·none-ne-some}
 use mathlib.Core.List.{List, [], _∷_}
 use mathlib.Core.Logic.{_⊎_, inl, inr}
 use Prim.Native.Nat.{ℕ, suc, _+_, _-_, _*_, _<_, _≤_}
 use native.Mathlib.Omega.{arith}
 use lib.ListN.{length, getElem?, getD, set, length-set}
 use lib.Seq.{getD-set-other}
-use Rattle.definition.specs.Numbers.{fieldLimit, frameLimit, operandLimit, localCount, rowCells, valueCells, objectCells, fieldsCell, frameCells, methodCell, pointCell, depthCell, localsCell, operandsCell}
+use Rattle.definition.specs.Numbers.{ownersCell, fieldLimit, frameLimit, operandLimit, localCount, rowCells, valueCells, objectCells, fieldsCell, frameCells, methodCell, pointCell, depthCell, localsCell, operandsCell}
 use Rattle.definition.specs.Lists.{writeRows, writeStack}
-use Rattle.definition.specs.Machine.{Object, Frame}
-use Rattle.definition.specs.Tables.{Tables, Rows, putThree, putClassRow, putEntry, putTie, putSubtype, putField, putObject, putLocal, putOperand, putFrame, frameBase, putFrameIn, countsOf, put}
+use Rattle.definition.specs.Machine.{Object, ObjectRow, free, owned, Objects, objectHeld, existing, Exists, Frame}
+use Rattle.definition.specs.Tables.{Tables, Rows, worldOf, putThree, putClassRow, putEntry, putTie, putSubtype, putField, putObject, ownerOf, putOwner, putObjectRow, putLocal, putOperand, putFrame, frameBase, putFrameIn, countsOf, put}
 use Rattle.laws.specs.Growth.{nth-lt}
+use Rattle.laws.specs.Objects.{exists-lt}
 use Rattle.layout.specs.Tests.{All, all-more}
 use Rattle.layout.specs.Places.{writeRows-length, writeStack-length}
 use Rattle.layout.specs.Rows.{class-rows, entry-rows, tie-rows, subtype-rows}
 use Rattle.layout.specs.Values.{putValue-cell}
-use Rattle.layout.specs.ObjectRows.{putObject-length}
+use Rattle.layout.specs.OwnedRows.{putOwner-length, putObjectRow-length}
 use Rattle.layout.specs.FrameRows.{putFrame-length}
 use Rattle.layout.specs.Whole.{Framed, Whole}
 use Rattle.layout.specs.ReadBack.{size-small}
-use Rattle.unbroken.specs.Steps.{all-nth}
+use Rattle.unbroken.specs.Steps.{all-nth, object-at}
 
 -- Cells that a row holds
 
@@ -41,8 +42,9 @@ HeldByFrame b f j = Among b (localsCell + valueCells * length (f .locals)) j ⊎
 abbrev pub HeldByTask : ℕ → List Frame → ℕ → Type 0
 HeldByTask k fs j = (n : ℕ) × (f : Frame) × (getElem? fs n ≡ some f) × HeldByFrame (frameBase k (length fs - suc n)) f j
 
-abbrev pub HeldByObjects : List Object → ℕ → Type 0
-HeldByObjects os j = (o : ℕ) × (x : Object) × (getElem? os o ≡ some x) × HeldByObject o x j
+-- objects that exist; a free row holds nothing
+abbrev pub HeldByObjects : Objects → ℕ → Type 0
+HeldByObjects os j = (o : ℕ) × (x : Object) × (existing os o ≡ some x) × HeldByObject o x j
 
 -- The claim
 
@@ -56,11 +58,11 @@ pub record SameLengths (t u : Tables) : Type 0 where
   pub objects : length (u .objects) ≡ length (t .objects)
   pub frames : length (u .frames) ≡ length (t .frames)
 
--- rows r put into the tables t change no length, and no cell but the eight counts, the cells of so many rows, and the cells that an object or a
--- frame holds
+-- rows r put into the tables t change no length, and no cell but the eight counts, the owners of so many rows of objects, the cells of so many other rows, and
+-- the cells that an object or a frame holds
 pub record Leaves (r : Rows) (t : Tables) : Type 0 where
   pub lengths : SameLengths t (put r t)
-  pub counts : (j : ℕ) → 8 ≤ j → getD (put r t .counts) j 0 ≡ getD (t .counts) j 0
+  pub counts : (j : ℕ) → ownersCell + length (r .objects) ≤ j → getD (put r t .counts) j 0 ≡ getD (t .counts) j 0
   pub classes : (j : ℕ) → length (r .classes) * rowCells ≤ j → getD (put r t .classes) j 0 ≡ getD (t .classes) j 0
   pub kept : (j : ℕ) → length (r .kept) ≤ j → getD (put r t .kept) j 0 ≡ getD (t .kept) j 0
   pub cache : (j : ℕ) → length (r .cache) * rowCells ≤ j → getD (put r t .cache) j 0 ≡ getD (t .cache) j 0
@@ -116,6 +118,20 @@ object-spare s o x j h =
     (set s (o * objectCells) (x .class))
     ∙ getD-set-other s (o * objectCells) j (x .class) 0 (λ e. h (record { from = omega arith; to = omega arith }))
 
+-- a row of objects, and an owner
+
+row-spare : (s : List ℕ) (o : ℕ) (x : ObjectRow) (j : ℕ) → ((k : ℕ) (y : Object) → x ≡ owned k y → HeldByObject o y j → ⊥) → getD (putObjectRow s (0 + o) x) j 0 ≡ getD s j 0
+unfolding putObjectRow
+row-spare s o free j h = refl
+row-spare s o (owned k y) j h = object-spare s (0 + o) y j (λ a. h k y refl (record { from = omega (arith, a .from); to = omega (arith, a .to) }))
+
+held-there : (os : Objects) (o k : ℕ) (y : Object) → getElem? os o ≡ some (owned k y) → existing os o ≡ some y
+unfolding existing objectHeld
+held-there os o k y e = rw (e, existing) refl
+
+owners-spare : (os : Objects) (j : ℕ) (t : List ℕ) → ownersCell + length os ≤ j → getD (writeRows putOwner os 0 t) j 0 ≡ getD t j 0
+owners-spare os j t l = rows-spare putOwner j os 0 (λ n x q s. (unfold putOwner in getD-set-other s (ownersCell + (0 + n)) j (ownerOf x) 0 (λ e. omega (arith, nth-lt os n x q)))) t
+
 -- frames
 
 frame-spare : (s : List ℕ) (b : ℕ) (f : Frame) (j : ℕ) → (HeldByFrame b f j → ⊥) → getD (putFrame s b f) j 0 ≡ getD s j 0
@@ -148,57 +164,60 @@ pub untouched : (r : Rows) (t : Tables) → Leaves r t
 unfolding put countsOf putClassRow putEntry putTie putSubtype putFrameIn
 untouched r t = record {
   lengths = record {
-    counts = writeRows-length set length-set (countsOf r) 0 (t .counts);
+    counts =
+        writeRows-length putOwner putOwner-length (r .objects) 0 (writeRows set (countsOf r) 0 (t .counts))
+        ∙ writeRows-length set length-set (countsOf r) 0 (t .counts);
     classes = writeRows-length putClassRow (class-rows .long) (r .classes) 0 (t .classes);
     kept = writeRows-length set length-set (r .kept) 0 (t .kept);
     cache = writeRows-length putEntry (entry-rows .long) (r .cache) 0 (t .cache);
     ties = writeRows-length putTie (tie-rows .long) (r .ties) 0 (t .ties);
     subtypes = writeRows-length putSubtype (subtype-rows .long) (r .subtypes) 0 (t .subtypes);
-    objects = writeRows-length putObject putObject-length (r .objects) 0 (t .objects);
+    objects = writeRows-length putObjectRow putObjectRow-length (r .objects) 0 (t .objects);
     frames =
         writeStack-length (putFrameIn 1) (λ s i f. putFrame-length s (frameBase 1 i) f) (r .report) (writeStack (putFrameIn 0) (r .quote) (t .frames))
         ∙ writeStack-length (putFrameIn 0) (λ s i f. putFrame-length s (frameBase 0 i) f) (r .quote) (t .frames);
   };
-  counts = λ j l. cells-spare (countsOf r) j (t .counts) l;
+  counts = λ j l. owners-spare (r .objects) j (writeRows set (countsOf r) 0 (t .counts)) l ∙ cells-spare (countsOf r) j (t .counts) (omega arith);
   classes = λ j l. threes-spare (λ k. k .loader) (λ k. k .start) (λ k. k .size) (r .classes) j (t .classes) l;
   kept = λ j l. cells-spare (r .kept) j (t .kept) l;
   cache = λ j l. threes-spare (λ e. e .request .loader) (λ e. e .request .name) (λ e. e .class) (r .cache) j (t .cache) l;
   ties = λ j l. threes-spare (λ e. e .one) (λ e. e .two) (λ e. e .name) (r .ties) j (t .ties) l;
   subtypes = λ j l. threes-spare (λ e. e .loader) (λ e. e .low) (λ e. e .high) (r .subtypes) j (t .subtypes) l;
-  objects = λ j h.
-      rows-spare putObject j (r .objects) 0 (λ o x q s. object-spare s (0 + o) x j (λ a. h (o, x, q, record { from = omega (arith, a .from); to = omega (arith, a .to) })))
-      (t .objects);
+  objects = λ j h. rows-spare putObjectRow j (r .objects) 0 (λ o x q s. row-spare s o x j (λ k y e a. h (o, y, held-there (r .objects) o k y (q ∙ ap some e), a))) (t .objects);
   frames = λ j a b. task-spare 1 (r .report) j b (writeStack (putFrameIn 0) (r .quote) (t .frames)) ∙ task-spare 0 (r .quote) j a (t .frames);
 }
 
--- Row by row, where rows have room for what they hold: a row that holds nothing stays, and so do the cells of a used row past an object's values
--- and past a frame's operands
+-- Row by row, where rows have room for what they hold: a row that holds nothing stays, a free row of objects too, and so do the cells of a used row
+-- past an object's values and past a frame's operands
 
 pub record FrameRoom (f : Frame) : Type 0 where
   pub locals : length (f .locals) ≤ localCount
   pub operands : length (f .operands) ≤ operandLimit
 
 pub record Room (r : Rows) : Type 0 where
-  pub values : All (λ x. length (x .values) ≤ fieldLimit) (r .objects)
+  pub values : (o : ℕ) (x : Object) → existing (r .objects) o ≡ some x → length (x .values) ≤ fieldLimit
   pub many : length (r .quote) ≤ frameLimit
   pub quote : All FrameRoom (r .quote)
   pub report : All FrameRoom (r .report)
 
 pub whole-room : (r : Rows) → Whole r → Room r
 whole-room r w = record {
-  values = all-more (λ x h. omega (arith, h .size, size-small (r .cache) (r .kept) (r .classes) (w .classes) (x .class) (h .class))) (r .objects) (w .objects);
+  values = λ o x e.
+      let h = object-at (worldOf r .base) (length (r .classes)) (Exists (r .objects)) (r .objects) (w .objects) o x e in
+      omega (arith, h .size, size-small (r .cache) (r .kept) (r .classes) (w .classes) (x .class) (h .class));
   many = w .limits .quote;
   quote = all-more framed (r .quote) (w .quote);
   report = all-more framed (r .report) (w .report);
 }
   where
-    framed : (f : Frame) → Framed (length (r .classes)) (length (r .objects)) f → FrameRoom f
+    framed : (f : Frame) → Framed (length (r .classes)) (Exists (r .objects)) f → FrameRoom f
     framed f h = record { locals = omega (arith, h .eight); operands = h .depth }
 
 pub record LeavesRows (r : Rows) (t : Tables) : Type 0 where
   pub objects : (j : ℕ) → length (r .objects) * objectCells ≤ j → getD (put r t .objects) j 0 ≡ getD (t .objects) j 0
-  pub values : (o c : ℕ) (x : Object) → getElem? (r .objects) o ≡ some x → fieldsCell + valueCells * length (x .values) ≤ c → c < objectCells
+  pub values : (o c : ℕ) (x : Object) → existing (r .objects) o ≡ some x → fieldsCell + valueCells * length (x .values) ≤ c → c < objectCells
       → getD (put r t .objects) (o * objectCells + c) 0 ≡ getD (t .objects) (o * objectCells + c) 0
+  pub free : (o c : ℕ) → existing (r .objects) o ≡ none → c < objectCells → getD (put r t .objects) (o * objectCells + c) 0 ≡ getD (t .objects) (o * objectCells + c) 0
   pub quote : (j : ℕ) → length (r .quote) * frameCells ≤ j → j < frameLimit * frameCells → getD (put r t .frames) j 0 ≡ getD (t .frames) j 0
   pub report : (j : ℕ) → frameLimit * frameCells + length (r .report) * frameCells ≤ j → getD (put r t .frames) j 0 ≡ getD (t .frames) j 0
   pub quoteOperands : (n c : ℕ) (f : Frame) → getElem? (r .quote) n ≡ some f → operandsCell + valueCells * length (f .operands) ≤ c → c < frameCells
@@ -245,12 +264,16 @@ past-operands k fs n c f h q l m x =
 pub untouched-rows : (r : Rows) (t : Tables) → Room r → LeavesRows r t
 untouched-rows r t h = record {
   objects = λ j l. all .objects j (λ x.
-      omega (arith, x .3 .to, nth-lt (r .objects) (x .0) (x .1) (x .2), all-nth Few (r .objects) (h .values) (x .0) (x .1) (x .2)));
+      omega (arith, x .3 .to, exists-lt (r .objects) (x .0) (x .1, x .2), h .values (x .0) (x .1) (x .2)));
   values = λ o c x q l m. all .objects (o * objectCells + c) (λ y.
-      let few : length (y .1 .values) ≤ fieldLimit = all-nth Few (r .objects) (h .values) (y .0) (y .1) (y .2) in
+      let few : length (y .1 .values) ≤ fieldLimit = h .values (y .0) (y .1) (y .2) in
       let same : y .0 ≡ o = omega (arith, y .3 .from, y .3 .to) in
       let z : y .1 ≡ x = Option·some-injective (y .1) x (sym (y .2) ∙ rw same q) in
       omega (arith, y .3 .to, ap (λ (g : Object). length (g .values)) z, same));
+  free = λ o c q m. all .objects (o * objectCells + c) (λ y.
+      let few : length (y .1 .values) ≤ fieldLimit = h .values (y .0) (y .1) (y .2) in
+      let same : y .0 ≡ o = omega (arith, y .3 .from, y .3 .to) in
+      Option·none-ne-some (y .1) (sym q ∙ (ap (existing (r .objects)) (sym same) ∙ y .2)));
   quote = λ j l m. all .frames j
       (λ x. let y : InRow 0 (r .quote) j = task-held 0 (r .quote) j (h .quote) x in omega (arith, y .cells .to, y .few, y .less))
       (λ x. let y : InRow 1 (r .report) j = task-held 1 (r .report) j (h .report) x in omega (arith, y .cells .from));
@@ -264,8 +287,5 @@ untouched-rows r t h = record {
       (past-operands 1 (r .report) n c f (h .report) q l m);
 }
   where
-    Few : Object → Type 0
-    Few x = length (x .values) ≤ fieldLimit
-
     all : Leaves r t
     all = untouched r t

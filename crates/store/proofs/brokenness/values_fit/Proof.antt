@@ -14,21 +14,21 @@ returns c = sym (every-fails _ _ (sym (c .before .before .links-fit .ensures .0)
 
 returns-2 : tie.Need-returns-2
 unfolding valuesFit objectsFit
-returns-2 c = sym (every-first _ _ (sym (c .before .before .before .before .before .links-fit .ensures .0) ∙ not-false _ (c .before .before .before .if1 .left)) ∙ (every-fails _ _ (sym (sized-objects _ _ _ _ _ (c .before .before .before .before .before .links-fit .ensures .1 (not-false _ (c .before .before .before .if1 .left))) _ _) ∙ (sym (c .before .objects-fit .ensures) ∙ not-true _ (c .if2 .taken)))))
+returns-2 c = sym (every-first _ _ (sym (c .before .before .before .before .before .links-fit .ensures .0) ∙ not-false _ (c .before .before .before .if1 .left)) ∙ (every-fails _ _ (sym (sized-objects _ _ _ _ _ _ (c .before .before .before .before .before .links-fit .ensures .1 (not-false _ (c .before .before .before .if1 .left))) _ _) ∙ (sym (c .before .objects-fit .ensures) ∙ not-true _ (c .if2 .taken)))))
 
 returns-3 : tie.Need-returns-3
 unfolding valuesFit objectsFit
 returns-3 c =
     let at5 = c .before .before .before .before .before in
     let at7 = at5 .before .before in
-    sym (every-first _ _ (sym (at7 .links-fit .ensures .0) ∙ not-false _ (at5 .if1 .left)) ∙ (every-first _ _ (sym (sized-objects _ _ _ _ _ (at7 .links-fit .ensures .1 (not-false _ (at5 .if1 .left))) _ _) ∙ (sym (c .before .before .before .objects-fit .ensures) ∙ not-false _ (c .before .before .if2 .left))) ∙ (every-fails _ _ (sym (c .before .frames-fit .ensures) ∙ not-true _ (c .if3 .taken)))))
+    sym (every-first _ _ (sym (at7 .links-fit .ensures .0) ∙ not-false _ (at5 .if1 .left)) ∙ (every-first _ _ (sym (sized-objects _ _ _ _ _ _ (at7 .links-fit .ensures .1 (not-false _ (at5 .if1 .left))) _ _) ∙ (sym (c .before .before .before .objects-fit .ensures) ∙ not-false _ (c .before .before .if2 .left))) ∙ (every-fails _ _ (sym (c .before .frames-fit .ensures) ∙ not-true _ (c .if3 .taken)))))
 
 returns-4 : tie.Need-returns-4
 unfolding valuesFit objectsFit
 returns-4 c =
     let at6 = c .before .before .before .before .before .before in
     let at8 = at6 .before .before in
-    c .frames-fit2 .ensures ∙ sym (every-first _ _ (sym (at8 .links-fit .ensures .0) ∙ not-false _ (at6 .if1 .left)) ∙ (every-first _ _ (sym (sized-objects _ _ _ _ _ (at8 .links-fit .ensures .1 (not-false _ (at6 .if1 .left))) _ _) ∙ (sym (c .before .before .before .before .objects-fit .ensures) ∙ not-false _ (c .before .before .before .if2 .left))) ∙ (every-first _ _ (sym (c .before .before .frames-fit .ensures) ∙ not-false _ (c .before .if3 .left)) ∙ (every-last _))))
+    c .frames-fit2 .ensures ∙ sym (every-first _ _ (sym (at8 .links-fit .ensures .0) ∙ not-false _ (at6 .if1 .left)) ∙ (every-first _ _ (sym (sized-objects _ _ _ _ _ _ (at8 .links-fit .ensures .1 (not-false _ (at6 .if1 .left))) _ _) ∙ (sym (c .before .before .before .before .objects-fit .ensures) ∙ not-false _ (c .before .before .before .if2 .left))) ∙ (every-first _ _ (sym (c .before .before .frames-fit .ensures) ∙ not-false _ (c .before .if3 .left)) ∙ (every-last _))))
 
 pub values-fit-spec : {M : Type 1} → statement M
 values-fit-spec = tie.close (tie.spec (λ c. search needs) (λ c κs. search needs) returns (λ c. search needs) (λ c κs. search needs) returns-2 (λ c κs. search needs) returns-3 (λ c κs. search needs) returns-4)

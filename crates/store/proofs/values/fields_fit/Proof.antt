@@ -8,15 +8,15 @@ use borrow.Author.Tests.{not-false, not-true}
 use Rattle.definition.specs.Lists.{all, rows}
 use Rattle.definition.specs.Tables.{fieldAt, valueAt}
 use Rattle.layout.specs.Places.{rows-end, rows-hit, rows-on, rows-start}
-use Rattle.store.specs.Checks.{valueIn}
+use Rattle.store.specs.Checks.{exists, valueIn}
 use Rattle.store.proofs.values.fields_fit.Statement.{statement}
 use Rattle.store.proofs.values.fields_fit.Tie as tie
 
 abbrev Inv-loop : tie.InvT-loop
-Inv-loop objects o size made first i₀ i = (i ≤ size) × (all (valueIn made) (rows (fieldAt objects o) (size - i) i) ≡ all (valueIn made) (rows (fieldAt objects o) size 0))
+Inv-loop counts objects o size made first i₀ i = (i ≤ size) × (all (valueIn (exists counts made)) (rows (fieldAt objects o) (size - i) i) ≡ all (valueIn (exists counts made)) (rows (fieldAt objects o) size 0))
 
 abbrev μ-loop : tie.MeasureT-loop
-μ-loop objects o size made first i₀ i = size - i
+μ-loop counts objects o size made first i₀ i = size - i
 
 loop-holds : tie.Need-loop-holds Inv-loop μ-loop
 loop-holds c = (omega arith, ap (all _) (rows-start _ _))
@@ -24,14 +24,14 @@ loop-holds c = (omega arith, ap (all _) (rows-start _ _))
 returns : tie.Need-returns Inv-loop μ-loop
 unfolding fieldAt valueAt
 returns c =
-    let at9 = c .before .before .before .before .before .before .before .before .before in
-    sym (rows-hit _ (fieldAt (now (at9 .args .objects)) (at9 .args .o)) _ _ (c .before .before .before .before .before .loop-test .taken) (rw (← c .before .before .before .before .before .before .before .wide16 .ensures .0, ← c .before .before .before .before .wide8 .ensures .0, ← c .before .before .before .at32 .ensures, ← c .before .before .at322 .ensures) (sym (c .before .value-fits .ensures) ∙ not-true _ (c .if1 .taken)))) ∙ c .before .before .before .before .before .before .loop .inv .1
+    let at10 = c .before .before .before .before .before .before .before .before .before .before in
+    sym (rows-hit _ (fieldAt (now (at10 .args .objects)) (at10 .args .o)) _ _ (c .before .before .before .before .before .loop-test .taken) (rw (← c .before .before .before .before .before .before .before .wide16 .ensures .0, ← c .before .before .before .before .wide8 .ensures .0, ← c .before .before .before .at32 .ensures, ← c .before .before .at322 .ensures) (sym (c .before .value-fits .ensures) ∙ not-true _ (c .if1 .taken)))) ∙ c .before .before .before .before .before .before .loop .inv .1
 
 loop-again : tie.Need-loop-again Inv-loop μ-loop
 unfolding fieldAt valueAt
 loop-again c =
-    let at9 = c .before .before .before .before .before .before .before .before .before in
-    (omega arith, sym (rows-on _ (fieldAt (now (at9 .args .objects)) (at9 .args .o)) _ _ (c .before .before .before .before .before .loop-test .taken) (rw (← c .before .before .before .before .before .before .before .wide16 .ensures .0, ← c .before .before .before .before .wide8 .ensures .0, ← c .before .before .before .at32 .ensures, ← c .before .before .at322 .ensures) (sym (c .before .value-fits .ensures) ∙ not-false _ (c .if1 .left)))) ∙ c .before .before .before .before .before .before .loop .inv .1)
+    let at10 = c .before .before .before .before .before .before .before .before .before .before in
+    (omega arith, sym (rows-on _ (fieldAt (now (at10 .args .objects)) (at10 .args .o)) _ _ (c .before .before .before .before .before .loop-test .taken) (rw (← c .before .before .before .before .before .before .before .wide16 .ensures .0, ← c .before .before .before .before .wide8 .ensures .0, ← c .before .before .before .at32 .ensures, ← c .before .before .at322 .ensures) (sym (c .before .value-fits .ensures) ∙ not-false _ (c .if1 .left)))) ∙ c .before .before .before .before .before .before .loop .inv .1)
 
 returns-2 : tie.Need-returns-2 Inv-loop μ-loop
 returns-2 c = sym (rows-end _ _ _ _ (c .loop-test .left)) ∙ c .before .loop .inv .1

@@ -7,12 +7,12 @@ use borrow.Author.Tests.{not-false, not-true}
 use Rattle.definition.specs.Lists.{all, stack}
 use Rattle.definition.specs.Tables.{frameIn}
 use Rattle.layout.specs.Places.{stack-end, stack-hit, stack-on}
-use Rattle.store.specs.Checks.{frameFit, framesFit}
+use Rattle.store.specs.Checks.{exists, frameFit, framesFit}
 use Rattle.store.proofs.values.frames_fit.Statement.{statement}
 use Rattle.store.proofs.values.frames_fit.Tie as tie
 
 abbrev Inv-loop : tie.InvT-loop
-Inv-loop counts frames task classes made first i₀ i = all (frameFit classes made) (stack (frameIn frames task) i) ≡ framesFit counts frames task
+Inv-loop counts frames task classes made first i₀ i = all (frameFit classes (exists counts made)) (stack (frameIn frames task) i) ≡ framesFit counts frames task
 
 abbrev μ-loop : tie.MeasureT-loop
 μ-loop counts frames task classes made first i₀ i = i

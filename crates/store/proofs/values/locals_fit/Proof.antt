@@ -8,15 +8,15 @@ use borrow.Author.Tests.{not-false, not-true}
 use Rattle.definition.specs.Lists.{all, rows}
 use Rattle.definition.specs.Tables.{localAt, valueAt}
 use Rattle.layout.specs.Places.{rows-end, rows-hit, rows-on, rows-start}
-use Rattle.store.specs.Checks.{localIn}
+use Rattle.store.specs.Checks.{exists, localIn}
 use Rattle.store.proofs.values.locals_fit.Statement.{statement}
 use Rattle.store.proofs.values.locals_fit.Tie as tie
 
 abbrev Inv-loop : tie.InvT-loop
-Inv-loop frames b made i₀ i = (i ≤ 8) × (all (localIn made) (rows (localAt frames b) (8 - i) i) ≡ all (localIn made) (rows (localAt frames b) 8 0))
+Inv-loop counts frames b made i₀ i = (i ≤ 8) × (all (localIn (exists counts made)) (rows (localAt frames b) (8 - i) i) ≡ all (localIn (exists counts made)) (rows (localAt frames b) 8 0))
 
 abbrev μ-loop : tie.MeasureT-loop
-μ-loop frames b made i₀ i = 8 - i
+μ-loop counts frames b made i₀ i = 8 - i
 
 loop-holds : tie.Need-loop-holds Inv-loop μ-loop
 loop-holds c = (omega arith, ap (all _) (rows-start _ _))
@@ -24,14 +24,14 @@ loop-holds c = (omega arith, ap (all _) (rows-start _ _))
 returns : tie.Need-returns Inv-loop μ-loop
 unfolding localAt valueAt
 returns c =
-    let at9 = c .before .before .before .before .before .before .before .before .before in
-    sym (rows-hit _ (localAt (now (at9 .args .frames)) (at9 .args .b)) _ _ (c .before .before .before .before .before .before .loop-test .taken) (rw (← c .before .before .before .before .before .wide32 .ensures .0, ← c .before .before .before .before .wide8 .ensures .0, ← c .before .before .before .at32 .ensures, ← c .before .before .at322 .ensures) (sym (c .before .local-fits .ensures) ∙ not-true _ (c .if1 .taken)))) ∙ c .before .before .before .before .before .before .before .loop .inv .1
+    let at10 = c .before .before .before .before .before .before .before .before .before .before in
+    sym (rows-hit _ (localAt (now (at10 .args .frames)) (at10 .args .b)) _ _ (c .before .before .before .before .before .before .loop-test .taken) (rw (← c .before .before .before .before .before .wide32 .ensures .0, ← c .before .before .before .before .wide8 .ensures .0, ← c .before .before .before .at32 .ensures, ← c .before .before .at322 .ensures) (sym (c .before .local-fits .ensures) ∙ not-true _ (c .if1 .taken)))) ∙ c .before .before .before .before .before .before .before .loop .inv .1
 
 loop-again : tie.Need-loop-again Inv-loop μ-loop
 unfolding localAt valueAt
 loop-again c =
-    let at9 = c .before .before .before .before .before .before .before .before .before in
-    (omega arith, sym (rows-on _ (localAt (now (at9 .args .frames)) (at9 .args .b)) _ _ (c .before .before .before .before .before .before .loop-test .taken) (rw (← c .before .before .before .before .before .wide32 .ensures .0, ← c .before .before .before .before .wide8 .ensures .0, ← c .before .before .before .at32 .ensures, ← c .before .before .at322 .ensures) (sym (c .before .local-fits .ensures) ∙ not-false _ (c .if1 .left)))) ∙ c .before .before .before .before .before .before .before .loop .inv .1)
+    let at10 = c .before .before .before .before .before .before .before .before .before .before in
+    (omega arith, sym (rows-on _ (localAt (now (at10 .args .frames)) (at10 .args .b)) _ _ (c .before .before .before .before .before .before .loop-test .taken) (rw (← c .before .before .before .before .before .wide32 .ensures .0, ← c .before .before .before .before .wide8 .ensures .0, ← c .before .before .before .at32 .ensures, ← c .before .before .at322 .ensures) (sym (c .before .local-fits .ensures) ∙ not-false _ (c .if1 .left)))) ∙ c .before .before .before .before .before .before .before .loop .inv .1)
 
 returns-2 : tie.Need-returns-2 Inv-loop μ-loop
 returns-2 c = sym (rows-end _ _ _ _ (c .loop-test .left)) ∙ c .before .loop .inv .1

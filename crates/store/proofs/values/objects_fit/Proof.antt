@@ -7,12 +7,12 @@ use borrow.Author.Needs.{needs}
 use borrow.Author.Tests.{not-false, not-true}
 use Rattle.definition.specs.Lists.{all, rows}
 use Rattle.layout.specs.Places.{rows-end, rows-hit, rows-on, rows-start}
-use Rattle.store.specs.Checks.{objectIn, objectSized}
+use Rattle.store.specs.Checks.{exists, objectIn, objectSized}
 use Rattle.store.proofs.values.objects_fit.Statement.{statement}
 use Rattle.store.proofs.values.objects_fit.Tie as tie
 
 abbrev Inv-loop : tie.InvT-loop
-Inv-loop sizes counts objects classes n made o₀ o = (o ≤ n) × (all (objectIn classes made) (rows (objectSized sizes objects) (n - o) o) ≡ all (objectIn (getD counts 0 0) (getD counts 5 0)) (rows (objectSized sizes objects) (getD counts 5 0) 0))
+Inv-loop sizes counts objects classes n made o₀ o = (o ≤ n) × (all (objectIn classes (exists counts made)) (rows (objectSized sizes counts objects) (n - o) o) ≡ all (objectIn (getD counts 0 0) (exists counts (getD counts 5 0))) (rows (objectSized sizes counts objects) (getD counts 5 0) 0))
 
 abbrev μ-loop : tie.MeasureT-loop
 μ-loop sizes counts objects classes n made o₀ o = n - o

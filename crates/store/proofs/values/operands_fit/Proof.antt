@@ -7,15 +7,15 @@ use borrow.Author.Tests.{not-false, not-true}
 use Rattle.definition.specs.Lists.{all, stack}
 use Rattle.definition.specs.Tables.{operandAt, valueAt}
 use Rattle.layout.specs.Places.{stack-end, stack-hit, stack-on}
-use Rattle.store.specs.Checks.{valueIn}
+use Rattle.store.specs.Checks.{exists, valueIn}
 use Rattle.store.proofs.values.operands_fit.Statement.{statement}
 use Rattle.store.proofs.values.operands_fit.Tie as tie
 
 abbrev Inv-loop : tie.InvT-loop
-Inv-loop frames b depth made i₀ i = all (valueIn made) (stack (operandAt frames b) i) ≡ all (valueIn made) (stack (operandAt frames b) depth)
+Inv-loop counts frames b depth made i₀ i = all (valueIn (exists counts made)) (stack (operandAt frames b) i) ≡ all (valueIn (exists counts made)) (stack (operandAt frames b) depth)
 
 abbrev μ-loop : tie.MeasureT-loop
-μ-loop frames b depth made i₀ i = i
+μ-loop counts frames b depth made i₀ i = i
 
 loop-holds : tie.Need-loop-holds Inv-loop μ-loop
 loop-holds c = refl
@@ -23,14 +23,14 @@ loop-holds c = refl
 returns : tie.Need-returns Inv-loop μ-loop
 unfolding operandAt valueAt
 returns c =
-    let at9 = c .before .before .before .before .before .before .before .before .before in
-    sym (stack-hit _ (operandAt (now (at9 .args .frames)) (at9 .args .b)) _ (c .before .before .before .before .before .before .loop-test .taken) (rw (← c .before .before .before .before .before .wide32 .ensures .0, ← c .before .before .before .before .wide322 .ensures .0, ← c .before .before .before .at32 .ensures, ← c .before .before .at322 .ensures) (sym (c .before .value-fits .ensures) ∙ not-true _ (c .if1 .taken)))) ∙ c .before .before .before .before .before .before .before .loop .inv
+    let at10 = c .before .before .before .before .before .before .before .before .before .before in
+    sym (stack-hit _ (operandAt (now (at10 .args .frames)) (at10 .args .b)) _ (c .before .before .before .before .before .before .loop-test .taken) (rw (← c .before .before .before .before .before .wide32 .ensures .0, ← c .before .before .before .before .wide322 .ensures .0, ← c .before .before .before .at32 .ensures, ← c .before .before .at322 .ensures) (sym (c .before .value-fits .ensures) ∙ not-true _ (c .if1 .taken)))) ∙ c .before .before .before .before .before .before .before .loop .inv
 
 loop-again : tie.Need-loop-again Inv-loop μ-loop
 unfolding operandAt valueAt
 loop-again c =
-    let at9 = c .before .before .before .before .before .before .before .before .before in
-    sym (stack-on _ (operandAt (now (at9 .args .frames)) (at9 .args .b)) _ (c .before .before .before .before .before .before .loop-test .taken) (rw (← c .before .before .before .before .before .wide32 .ensures .0, ← c .before .before .before .before .wide322 .ensures .0, ← c .before .before .before .at32 .ensures, ← c .before .before .at322 .ensures) (sym (c .before .value-fits .ensures) ∙ not-false _ (c .if1 .left)))) ∙ c .before .before .before .before .before .before .before .loop .inv
+    let at10 = c .before .before .before .before .before .before .before .before .before .before in
+    sym (stack-on _ (operandAt (now (at10 .args .frames)) (at10 .args .b)) _ (c .before .before .before .before .before .before .loop-test .taken) (rw (← c .before .before .before .before .before .wide32 .ensures .0, ← c .before .before .before .before .wide322 .ensures .0, ← c .before .before .before .at32 .ensures, ← c .before .before .at322 .ensures) (sym (c .before .value-fits .ensures) ∙ not-false _ (c .if1 .left)))) ∙ c .before .before .before .before .before .before .before .loop .inv
 
 returns-2 : tie.Need-returns-2 Inv-loop μ-loop
 returns-2 c = sym (stack-end _ _ _ (omega (arith, c .loop-test .left))) ∙ c .before .loop .inv
