@@ -43,6 +43,23 @@ member-either [] ys m = inr m
 member-either (y ∷ xs) ys (List·Memᴰ·head e) = inl (List·Memᴰ·head e)
 member-either (y ∷ xs) ys (List·Memᴰ·tail m) = elim (member-either xs ys m) [ inl a ↦ inl (List·Memᴰ·tail a) | inr b ↦ inr b ]
 
+-- The roots of both tasks
+
+more-behind : (os ps qs : List ℕ) (o : ℕ) → (List·Memᴰ o ps → List·Memᴰ o qs) → List·Memᴰ o (os ++ ps) → List·Memᴰ o (os ++ qs)
+more-behind [] ps qs o k m = k m
+more-behind (x ∷ os) ps qs o k (List·Memᴰ·head e) = List·Memᴰ·head e
+more-behind (x ∷ os) ps qs o k (List·Memᴰ·tail m) = List·Memᴰ·tail (more-behind os ps qs o k m)
+
+pub roots-left : (qs rs : List Frame) (o : ℕ) → List·Memᴰ o (roots qs) → List·Memᴰ o (roots (qs ++ rs))
+unfolding roots
+roots-left [] rs o m = absurd (List·Memᴰ·not-nil m)
+roots-left (f ∷ qs) rs o m = more-behind (named (f .operands)) _ _ o (more-behind (named (f .locals)) _ _ o (roots-left qs rs o)) m
+
+pub roots-right : (qs rs : List Frame) (o : ℕ) → List·Memᴰ o (roots rs) → List·Memᴰ o (roots (qs ++ rs))
+unfolding roots
+roots-right [] rs o m = m
+roots-right (f ∷ qs) rs o m = member-right (named (f .operands)) _ (member-right (named (f .locals)) _ (roots-right qs rs o m))
+
 abbrev link : ℕ → ℕ → Edge ℕ
 link o p = record { from = o; to = p }
 

@@ -1,5 +1,5 @@
 -- What holds of objects, classes and constraints holds in a later store: ties posted, a field written, an object made, a class or a cache entry added.
-use mathlib.Core.Path.{_≡_, sym}
+use mathlib.Core.Path.{_≡_, refl, sym, subst}
 use mathlib.Core.Bool.{Bool, true, false}
 use mathlib.Core.Option.{some}
 use mathlib.Core.List.{List, [], _∷_, _++_, map, List·Memᴰ, Memᴰ·append-left}
@@ -10,17 +10,17 @@ use lib.Dec.{eqb}
 use Rattle.definition.specs.declared.Signature.{Signature}
 use Rattle.definition.specs.Classes.{Class, Slot, loaderOf, slots, superOf, Selected}
 use Rattle.definition.specs.Constraints.{Agrees, Tie, World, posted, tieEdges}
-use Rattle.definition.specs.Machine.{Object, Progress, Value, entryFrame, initialValue, intValue, nullValue}
+use Rattle.definition.specs.Machine.{Object, Progress, Value, entryFrame, initialValue, intValue, nullValue, Objects, existing, Exists, made, changed}
 use Rattle.definition.specs.Chains.{Edge}
 use Rattle.definition.specs.Requests.{Request}
 use Rattle.definition.specs.Verifier.{VerifierType, typeClass, typeInt, typeOfName, entryTypes}
 use Rattle.laws.specs.Chains.{chain-more}
-use Rattle.laws.specs.Options.{each-more, nth-snoc, set-nth, each-more-in}
+use Rattle.laws.specs.Options.{each-more, each-more-in}
 use Rattle.safety.specs.Valid.{Conforms, Heap, Later, Linked, ObjectSound, Stack, Top, later-conforms}
 use Rattle.definition.specs.Maybe as Maybe
 use Rattle.laws.specs.Growth.{Grows, grows-join, grows-self, tie-edges-more}
 use Rattle.definition.specs.Lists.{Each}
-use Rattle.laws.specs.Objects.{changed, numbered-same, numbered-join, numbered-changed, numbered-more}
+use Rattle.laws.specs.Objects.{made-from, changed-from, numbered-same, numbered-join, numbered-changed, numbered-made}
 use Rattle.laws.specs.Stable.{Rooted, loader-stable, slots-stable, slot-real}
 use Rattle.definition.specs.Superclasses.{Below}
 use Rattle.safety.specs.Conform.{fits-own}
@@ -33,19 +33,19 @@ ties-more w us e m = rw (tie-edges-more (w .ties) us) (Memᴰ·append-left (tieE
 pub grows-posted : (w : World) (us : List Tie) → Grows w (posted w us)
 grows-posted w us = record { classes = λ c k h. h; cache = λ r c h. h; ties = ties-more w us; subtypes = λ e m. m }
 
-pub record Kept (v : World) (os : List Object) (out : Progress) : Type 0 where
+pub record Kept (v : World) (os : Objects) (out : Progress) : Type 0 where
   pub linked : Linked (out .world)
   pub heap : Heap (out .world) (out .objects)
   pub stack : Stack (out .world) (out .objects) (out .frames)
   pub later : Later v os (out .world) (out .objects)
 
-pub later-same : (w : World) (os : List Object) → Later w os w os
+pub later-same : (w : World) (os : Objects) → Later w os w os
 later-same w os = record { grows = grows-self w; objects = numbered-same os }
 
-pub later-posted : (w : World) (os : List Object) (us : List Tie) → Later w os (posted w us) os
+pub later-posted : (w : World) (os : Objects) (us : List Tie) → Later w os (posted w us) os
 later-posted w os us = record { grows = grows-posted w us; objects = numbered-same os }
 
-pub heap-posted : (w : World) (os : List Object) (us : List Tie) → Heap w os → Heap (posted w us) os
+pub heap-posted : (w : World) (os : Objects) (us : List Tie) → Heap w os → Heap (posted w us) os
 heap-posted w os us h o b e = let x = h o b e in record { theClass = x .theClass; isClass = x .isClass; filled = each-more (λ s v. later-conforms (later-posted w os us) (loaderOf (w .base) (s .owner)) (typeOfName (s .type)) v) (slots (w .base) (b .class)) (b .values) (x .filled) }
 
 pub linked-posted : (w : World) (us : List Tie) → Linked w → Agrees (posted w us) → Linked (posted w us)
@@ -58,40 +58,41 @@ linked-posted w us k g = record {
   over = λ g x p y t h s q i z. chain-more (ties-more w us) (k .over g x p y t h s q i z);
 }
 
-pub later-changed : (w : World) (os : List Object) (o : ℕ) (b : Object) (vs : List Value) → getElem? os o ≡ some b → Later w os w (changed os o b vs)
-later-changed w os o b vs h = record { grows = grows-self w; objects = numbered-changed os o b vs h }
+pub later-changed : (w : World) (os : Objects) (o : ℕ) (b : Object) (vs : List Value) → existing os o ≡ some b → Later w os w (changed os o (record { class = b .class; values = vs }))
+later-changed w os o b vs h = record { grows = grows-self w; objects = numbered-changed os o b (record { class = b .class; values = vs }) h refl }
 
-pub later-join : {u v w : World} {os ps qs : List Object} → Later u os v ps → Later v ps w qs → Later u os w qs
+pub later-join : {u v w : World} {os ps qs : Objects} → Later u os v ps → Later v ps w qs → Later u os w qs
 later-join {os} {ps} {qs} y z = record { grows = grows-join (y .grows) (z .grows); objects = numbered-join os ps qs (y .objects) (z .objects) }
 
-pub object-later : {w : World} {os qs : List Object} → Later w os w qs → (b : Object) → ObjectSound w os b → ObjectSound w qs b
+pub object-later : {w : World} {os qs : Objects} → Later w os w qs → (b : Object) → ObjectSound w os b → ObjectSound w qs b
 object-later {w} z b x = record {
   theClass = x .theClass;
   isClass = x .isClass;
   filled = each-more (λ s u. later-conforms z (loaderOf (w .base) (s .owner)) (typeOfName (s .type)) u) (slots (w .base) (b .class)) (b .values) (x .filled);
 }
 
-pub heap-changed : (w : World) (os : List Object) (o : ℕ) (b : Object) (vs : List Value) → getElem? os o ≡ some b → Heap w os
-    → Each (λ s v. Conforms w os (loaderOf (w .base) (s .owner)) (typeOfName (s .type)) v) (slots (w .base) (b .class)) vs → Heap w (changed os o b vs)
-heap-changed w os o b vs h hp ea x y e = go (set-nth os o (record { class = b .class; values = vs }) x y e)
+pub heap-changed : (w : World) (os : Objects) (o : ℕ) (b : Object) (vs : List Value) → existing os o ≡ some b → Heap w os
+    → Each (λ s v. Conforms w os (loaderOf (w .base) (s .owner)) (typeOfName (s .type)) v) (slots (w .base) (b .class)) vs → Heap w (changed os o (record { class = b .class; values = vs }))
+heap-changed w os o b vs h hp ea x y e = go (changed-from os o (record { class = b .class; values = vs }) x y e)
   where
-    z : Later w os w (changed os o b vs)
+    z : Later w os w (changed os o (record { class = b .class; values = vs }))
     z = later-changed w os o b vs h
 
-    go : (getElem? os x ≡ some y) ⊎ ((x ≡ o) × (y ≡ record { class = b .class; values = vs })) → ObjectSound w (changed os o b vs) y
+    go : (existing os x ≡ some y) ⊎ ((x ≡ o) × (record { class = b .class; values = vs } ≡ y) × Exists os o) → ObjectSound w (changed os o (record { class = b .class; values = vs })) y
     go (inl q) = object-later z y (hp x y q)
-    go (inr q) = rw (q .1) (object-later z (record { class = b .class; values = vs }) (record { theClass = hp o b h .theClass; isClass = hp o b h .isClass; filled = ea }))
+    go (inr q) = subst (λ (u : Object). ObjectSound w (changed os o (record { class = b .class; values = vs })) u) (q .1)
+        (object-later z (record { class = b .class; values = vs }) (record { theClass = hp o b h .theClass; isClass = hp o b h .isClass; filled = ea }))
 
 -- one object more
-pub later-more : (w : World) (os : List Object) (b : Object) → Later w os w (os ++ (b ∷ []))
-later-more w os b = record { grows = grows-self w; objects = numbered-more os b }
+pub later-made : (w : World) (k : ℕ) (b : Object) (os : Objects) → Later w os w (made k b os)
+later-made w k b os = record { grows = grows-self w; objects = numbered-made k b os }
 
-pub heap-more : (w : World) (os : List Object) (b : Object) → Heap w os → ObjectSound w os b → Heap w (os ++ (b ∷ []))
-heap-more w os b hp ob x y e = elim (nth-snoc os b x y e)
-    [ inl q ↦ object-later (later-more w os b) y (hp x y q) | inr q ↦ object-later (later-more w os b) y (rw (q .1) ob) ]
+pub heap-made : (w : World) (k : ℕ) (b : Object) (os : Objects) → Heap w os → ObjectSound w os b → Heap w (made k b os)
+heap-made w k b os hp ob x y e = elim (made-from k b os x y e)
+    [ inl q ↦ object-later (later-made w k b os) y (hp x y q) | inr q ↦ object-later (later-made w k b os) y (rw (q .1) at ob) ]
 
 -- a new object holds zeros and nulls
-pub zeros-conform : (w : World) (os : List Object) (ss : List Slot) → Each (λ s v. Conforms w os (loaderOf (w .base) (s .owner)) (typeOfName (s .type)) v) ss (map initialValue ss)
+pub zeros-conform : (w : World) (os : Objects) (ss : List Slot) → Each (λ s v. Conforms w os (loaderOf (w .base) (s .owner)) (typeOfName (s .type)) v) ss (map initialValue ss)
 unfolding initialValue typeOfName
 zeros-conform w os [] = tt
 zeros-conform w os (s ∷ ss) = (go (eqb (s .type) 1), zeros-conform w os ss)
@@ -100,7 +101,7 @@ zeros-conform w os (s ∷ ss) = (go (eqb (s .type) 1), zeros-conform w os ss)
     go true = tt
     go false = tt
 
-pub heap-grows : (v w : World) → Rooted (v .base) → Grows v w → (os : List Object) → Heap v os → Later v os w os → Heap w os
+pub heap-grows : (v w : World) → Rooted (v .base) → Grows v w → (os : Objects) → Heap v os → Later v os w os → Heap w os
 unfolding slots
 heap-grows v w lk gr os hp z o b e =
     let x = hp o b e in
@@ -113,7 +114,7 @@ heap-grows v w lk gr os hp z o b e =
     }
 
 -- a frame that enters a method: its object, of the method's class or below, and its argument
-pub entered-top : (w : World) (os : List Object) → Linked w → (s : Signature) (m : Selected) (ma : MethodAt (w .base) s m) (o : ℕ) (b : Object) → getElem? os o ≡ some b → Below (superOf (w .base)) (b .class) (m .class)
+pub entered-top : (w : World) (os : Objects) → Linked w → (s : Signature) (m : Selected) (ma : MethodAt (w .base) s m) (o : ℕ) (b : Object) → existing os o ≡ some b → Below (superOf (w .base)) (b .class) (m .class)
     → (v : Value) → Conforms w os (loaderOf (w .base) (m .class)) (typeOfName (s .argument)) v → Top w os (entryFrame (m .class) (m .place) o v) (ma .theClass) (ma .method)
 entered-top w os lk s m ma o b th bl v cv =
     let ve = lk .verified (m .class) (m .place) (ma .theClass) (ma .method) (ma .isClass) (ma .isMethod) in

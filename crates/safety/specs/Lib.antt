@@ -9,6 +9,7 @@ pub mod Returns
 pub mod Steps
 pub mod Loads
 pub mod Safe
+pub mod Swept
 pub mod Misplaced
 pub mod Words
 pub mod Safety

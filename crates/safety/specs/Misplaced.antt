@@ -1,5 +1,5 @@
 -- Misplaced values: there are none where the invariant holds.
-use mathlib.Core.Path.{_≡_, refl}
+use mathlib.Core.Path.{_≡_, refl, _∙_}
 use mathlib.Core.Bool.{Bool, true, false}
 use mathlib.Core.Option.{Option, none, some}
 use mathlib.Core.List.{reverse, List, [], _∷_}
@@ -7,7 +7,7 @@ use Prim.Native.Nat.{ℕ, suc, _<_}
 use lib.ListN.{length, getElem?}
 use Rattle.definition.specs.Classes.{Class, Method, find, loaderOf, slots, superOf}
 use Rattle.definition.specs.Constraints.{Agrees, World}
-use Rattle.definition.specs.Machine.{Frame, Object, Value, intValue, nullValue, objectValue, emptyValue, unlistedValue, existing}
+use Rattle.definition.specs.Machine.{Frame, Object, Value, intValue, nullValue, objectValue, emptyValue, unlistedValue, existing, Objects, free, owned, objectHeld}
 use Rattle.definition.specs.Misplaced.{failures, misplacedFields, misplacedInFrame, misplacedInFrames, placed, placedLocal, typesOf, waitingTypes, misplacedIn}
 use Rattle.definition.specs.Requests.{at}
 use Rattle.definition.specs.Superclasses.{below}
@@ -19,6 +19,7 @@ use Rattle.safety.specs.Safe.{Valid}
 use Rattle.safety.specs.Valid.{Conforms, Linked, Local, Stack, Typed, Under}
 use Rattle.laws.specs.Options.{some-bind, each-reverse}
 use Rattle.definition.specs.Tables.{Rows, worldOf}
+use Rattle.laws.specs.Objects.{existing-tail}
 use Rattle.safety.specs.Store.{storeOf}
 use Rattle.definition.specs.Lists.{Each}
 use Rattle.definition.specs.Maybe.{need}
@@ -29,8 +30,8 @@ use lib.Dec.{ltb}
 
 -- What conforms is placed
 
-conforms-placed : (w : World) (os : List Object) → Agrees w → (l : ℕ) (t : VerifierType) (v : Value) → Conforms w os l t v → placed w os l t v ≡ true
-unfolding placed existing
+conforms-placed : (w : World) (os : Objects) → Agrees w → (l : ℕ) (t : VerifierType) (v : Value) → Conforms w os l t v → placed w os l t v ≡ true
+unfolding placed
 conforms-placed w os g l typeInt emptyValue h = absurd h
 conforms-placed w os g l typeInt (unlistedValue α β) h = absurd h
 conforms-placed w os g l typeInt (intValue n) h = refl
@@ -51,7 +52,7 @@ conforms-placed w os g l (typeClass n) (objectValue o) h = rw (h .there, placed)
     go none e = refl
     go (some d) e = true-below (superOf (w .base)) (super-falls (w .base)) (h .object .class) d (fits-below g (h .fits) e)
 
-local-placed : (w : World) (os : List Object) → Agrees w → (l : ℕ) (t : Option VerifierType) (v : Value) → Local w os l t v → placedLocal w os l t v ≡ true
+local-placed : (w : World) (os : Objects) → Agrees w → (l : ℕ) (t : Option VerifierType) (v : Value) → Local w os l t v → placedLocal w os l t v ≡ true
 unfolding placedLocal
 local-placed w os g l none v h = refl
 local-placed w os g l (some t) v h = conforms-placed w os g l t v h
@@ -63,11 +64,12 @@ none-bad R f g [] (y ∷ ys) h = absurd h
 none-bad R f g (x ∷ xs) [] h = absurd h
 none-bad R f g (x ∷ xs) (y ∷ ys) h = rw (g x y (h .0), failures) (none-bad R f g xs ys (h .1))
 
-module _ (w : World) (os : List Object) (lk : Linked w) where
-  objects-placed : (bs : List Object) → ((o : ℕ) (b : Object) → getElem? bs o ≡ some b → Each (λ s v. Conforms w os (loaderOf (w .base) (s .owner)) (typeOfName (s .type)) v) (slots (w .base) (b .class)) (b .values)) → misplacedFields w os bs ≡ 0
+module _ (w : World) (os : Objects) (lk : Linked w) where
+  objects-placed : (bs : Objects) → ((o : ℕ) (b : Object) → existing bs o ≡ some b → Each (λ s v. Conforms w os (loaderOf (w .base) (s .owner)) (typeOfName (s .type)) v) (slots (w .base) (b .class)) (b .values)) → misplacedFields w os bs ≡ 0
   unfolding misplacedFields
   objects-placed [] h = refl
-  objects-placed (b ∷ bs) h = rw (none-bad _ (λ s v. placed w os (loaderOf (w .base) (s .owner)) (typeOfName (s .type)) v) (λ s v c. conforms-placed w os (lk .agreed) _ _ v c) (slots (w .base) (b .class)) (b .values) (h 0 b refl), objects-placed bs (λ o. h (suc o))) refl
+  objects-placed (free ∷ bs) h = objects-placed bs (λ o b e. h (suc o) b (existing-tail free bs o ∙ e))
+  objects-placed (owned k b ∷ bs) h = rw (none-bad _ (λ s v. placed w os (loaderOf (w .base) (s .owner)) (typeOfName (s .type)) v) (λ s v c. conforms-placed w os (lk .agreed) _ _ v c) (slots (w .base) (b .class)) (b .values) (h 0 b (unfold existing objectHeld in refl)), objects-placed bs (λ o c e. h (suc o) c (existing-tail (owned k b) bs o ∙ e))) refl
 
   point-in : (f : Frame) (k : Class) (m : Method) (τ : TypeState) → Typed w f k m τ → f .point < length (m .code)
   point-in f k m τ t =

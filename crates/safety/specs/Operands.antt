@@ -10,7 +10,7 @@ use lib.Dec.{eqb}
 use Rattle.definition.specs.Answers.{Result, _>>=_, ok, take?}
 use Rattle.definition.specs.Classes.{find, hasField, loaderOf, slots, superOf}
 use Rattle.definition.specs.Constraints.{Agrees, Tie, World, post, posted}
-use Rattle.definition.specs.Machine.{Object, Value, compute, int!, intValue, kind!, nullValue, object!, objectValue, ofKind!, pop!, reference!, room!, emptyValue, unlistedValue, existing}
+use Rattle.definition.specs.Machine.{Object, Value, compute, int!, intValue, kind!, nullValue, object!, objectValue, ofKind!, pop!, reference!, room!, emptyValue, unlistedValue, existing, Objects}
 use Rattle.definition.specs.Requests.{at}
 use Rattle.definition.specs.Superclasses.{Below}
 use Rattle.definition.specs.declared.Kind.{Kind}
@@ -43,7 +43,7 @@ each-pop R (x ∷ xs) (v ∷ vs) t us e h =
     let z = Option·some-injective _ _ e in
     (record { top = v; more = vs }, refl, rw (ap (λ (p : record { top : VerifierType; more : List VerifierType }). p .top) z) at (h .0), rw (ap (λ (p : record { top : VerifierType; more : List VerifierType }). p .more) z) at (h .1))
 
-pub int-of : (w : World) (os : List Object) (l : ℕ) (t : VerifierType) (v : Value) {ns : List Note} → meetInt t ≡ some ns → Conforms w os l t v → (n : ℕ) × (int! v ≡ ok n) × Conforms w os l typeInt v
+pub int-of : (w : World) (os : Objects) (l : ℕ) (t : VerifierType) (v : Value) {ns : List Note} → meetInt t ≡ some ns → Conforms w os l t v → (n : ℕ) × (int! v ≡ ok n) × Conforms w os l typeInt v
 unfolding meetInt int!
 int-of w os l typeInt emptyValue e h = absurd h
 int-of w os l typeInt (unlistedValue α β) e h = absurd h
@@ -53,7 +53,7 @@ int-of w os l typeInt (objectValue o) e h = absurd h
 int-of w os l typeNull v {ns} e h = absurd (Option·none-ne-some ns e)
 int-of w os l (typeClass a) v {ns} e h = absurd (Option·none-ne-some ns e)
 
-pub of-kind : (w : World) (os : List Object) (l : ℕ) (kind : Kind) (t : VerifierType) (v : Value) {u : Unit {0}} → meetKind kind t ≡ some u → Conforms w os l t v → ofKind! kind v ≡ ok tt
+pub of-kind : (w : World) (os : Objects) (l : ℕ) (kind : Kind) (t : VerifierType) (v : Value) {u : Unit {0}} → meetKind kind t ≡ some u → Conforms w os l t v → ofKind! kind v ≡ ok tt
 unfolding meetKind ofKind! int! reference! _>>=_
 of-kind w os l IntKind typeInt emptyValue e h = absurd h
 of-kind w os l IntKind typeInt (unlistedValue α β) e h = absurd h
@@ -77,10 +77,10 @@ of-kind w os l ReferenceKind (typeClass a) (objectValue o) e h = refl
 pub flow-is : (o : List VerifierType) (l : List (Option VerifierType)) (n : List Note) (fl : Flow) → flow o l n ≡ some fl → _≡_ {A = Flow} (record { types = record { operands = o; locals = l }; notes = n }) fl
 flow-is o l n fl h = Option·some-injective _ _ (bind-some _ _ h .2)
 
-pub as-int : (w : World) (os : List Object) (l r : ℕ) (v : Value) → r ≡ 1 → Conforms w os l typeInt v → Conforms w os l (typeOfName r) v
+pub as-int : (w : World) (os : Objects) (l r : ℕ) (v : Value) → r ≡ 1 → Conforms w os l typeInt v → Conforms w os l (typeOfName r) v
 as-int w os l r v e h = rw (e, of-int) h
 
-pub kind-of : (w : World) (os : List Object) (l t : ℕ) (v : Value) → Conforms w os l (typeOfName t) v → kind! t v ≡ ok tt
+pub kind-of : (w : World) (os : Objects) (l t : ℕ) (v : Value) → Conforms w os l (typeOfName t) v → kind! t v ≡ ok tt
 unfolding kind! typeOfName meetKind
 kind-of w os l t v h = go (eqb t 1) h
   where
@@ -106,9 +106,9 @@ unfolding post
 wp-post w room us Q g h = wp-need Q _ _ _ (not-word 10 (omega arith)) (λ _. wp-need Q _ _ _ (not-word 9 (omega arith)) (λ e. h (agrees-after w us g e)))
 
 -- the object behind a receiver
-pub wp-object : (w : World) (os : List Object) (l c e : ℕ) (v : Value) (Q : record { number : ℕ; object : Object } → Type 0) → Agrees w → find (w .base .cache) (at l c) ≡ some e → Conforms w os l (typeClass c) v
-    → ((o : ℕ) (b : Object) → getElem? os o ≡ some b → Below (superOf (w .base)) (b .class) e → v ≡ objectValue o → Q (record { number = o; object = b })) → Wp (object! (w .base) os e v) Q
-unfolding object! existing
+pub wp-object : (w : World) (os : Objects) (l c e : ℕ) (v : Value) (Q : record { number : ℕ; object : Object } → Type 0) → Agrees w → find (w .base .cache) (at l c) ≡ some e → Conforms w os l (typeClass c) v
+    → ((o : ℕ) (b : Object) → existing os o ≡ some b → Below (superOf (w .base)) (b .class) e → v ≡ objectValue o → Q (record { number = o; object = b })) → Wp (object! (w .base) os e v) Q
+unfolding object!
 wp-object w os l c e emptyValue Q g f h q = absurd h
 wp-object w os l c e (unlistedValue α β) Q g f h q = absurd h
 wp-object w os l c e (intValue n) Q g f h q = absurd h
@@ -118,13 +118,13 @@ wp-object w os l c e (objectValue o) Q g f h q =
     wp-there Q _ _ _ (h .there) (wp-sure Q _ _ _ (true-below (superOf (w .base)) (super-falls (w .base)) (h .object .class) e b) (q o (h .object) (h .there) b refl))
 
 -- the field that class d declares, in an object of a class below d
-pub record FieldAt (w : World) (os : List Object) (b : Object) (d n t : ℕ) : Type 0 where
+pub record FieldAt (w : World) (os : Objects) (b : Object) (d n t : ℕ) : Type 0 where
   pub field : FieldPlace (w .base) (b .class) d n t
   pub value : Value
   pub there : getElem? (b .values) (field .place) ≡ some value
   pub conforms : Conforms w os (loaderOf (w .base) d) (typeOfName t) value
 
-pub field-at : (w : World) (os : List Object) (b : Object) (d n t : ℕ) → hasField (w .base) n t d ≡ true → Below (superOf (w .base)) (b .class) d → ObjectSound w os b → FieldAt w os b d n t
+pub field-at : (w : World) (os : Objects) (b : Object) (d n t : ℕ) → hasField (w .base) n t d ≡ true → Below (superOf (w .base)) (b .class) d → ObjectSound w os b → FieldAt w os b d n t
 field-at w os b d n t h bl ob =
     let p = field-place (w .base) (b .class) d n t h bl in
     let x = each-at (λ s v. Conforms w os (loaderOf (w .base) (s .owner)) (typeOfName (s .type)) v) (slots (w .base) (b .class)) (b .values) (ob .filled) (p .place) (p .slot) (p .isSlot) in

@@ -9,7 +9,7 @@ use lib.Dec.{eqb}
 use borrow.Author.Tests.{eqb-true, eqb-false, ne-eqb}
 use Rattle.definition.specs.Constraints.{Agrees, Tie, World, agreesAfter, edges, newTie, newTies, posted, subtypeEdges, tieEdges, tieIs}
 use Rattle.definition.specs.Lists.{any}
-use Rattle.definition.specs.Machine.{Object, Value, intValue, nullValue, objectValue, emptyValue, unlistedValue}
+use Rattle.definition.specs.Machine.{Object, Value, intValue, nullValue, objectValue, emptyValue, unlistedValue, Objects}
 use Rattle.definition.specs.Chains.{Chain, Edge, hop, stay}
 use Rattle.definition.specs.Requests.{Request, at}
 use Rattle.definition.specs.Verifier.{Note, VerifierType, meetClass, meetInt, meets, typeClass, typeInt, typeNull, typeOfName}
@@ -28,7 +28,7 @@ note-edge : (w : World) (e : Edge Request) → List·Memᴰ e (subtypeEdges (w .
 unfolding edges
 note-edge w e m = Memᴰ·append-right (tieEdges (w .ties)) m
 
-pub meet-class : (w : World) (os : List Object) (l b : ℕ) (t : VerifierType) (v : Value) (ns : List Note) → meetClass b t ≡ some ns → Noted w l ns → Conforms w os l t v → Conforms w os l (typeClass b) v
+pub meet-class : (w : World) (os : Objects) (l b : ℕ) (t : VerifierType) (v : Value) (ns : List Note) → meetClass b t ≡ some ns → Noted w l ns → Conforms w os l t v → Conforms w os l (typeClass b) v
 unfolding meetClass
 meet-class w os l b typeInt v ns e p h = absurd (Option·none-ne-some ns e)
 meet-class w os l b typeNull emptyValue ns e p h = h
@@ -55,7 +55,7 @@ unfolding typeOfName
 of-class n h = rw (ne-eqb n 1 h, typeOfName) refl
 
 -- a value whose type meets a name
-pub meet-name : (w : World) (os : List Object) (l b : ℕ) (t : VerifierType) (v : Value) (ns : List Note) → meets t b ≡ some ns → Noted w l ns → Conforms w os l t v → Conforms w os l (typeOfName b) v
+pub meet-name : (w : World) (os : Objects) (l b : ℕ) (t : VerifierType) (v : Value) (ns : List Note) → meets t b ≡ some ns → Noted w l ns → Conforms w os l t v → Conforms w os l (typeOfName b) v
 unfolding meets typeOfName meetInt
 meet-name w os l b t v ns e p h = go (eqb b 1) t e h
   where
@@ -66,7 +66,7 @@ meet-name w os l b t v ns e p h = go (eqb b 1) t e h
     go false t r h = meet-class w os l b t v ns r p h
 
 -- ties carry a value over
-pub carry : (w : World) (os : List Object) (l m n : ℕ) (v : Value) → (n ≢ 1 → Tied w (at l n) (at m n)) → Conforms w os l (typeOfName n) v → Conforms w os m (typeOfName n) v
+pub carry : (w : World) (os : Objects) (l m n : ℕ) (v : Value) → (n ≢ 1 → Tied w (at l n) (at m n)) → Conforms w os l (typeOfName n) v → Conforms w os m (typeOfName n) v
 unfolding typeOfName
 carry w os l m n v t h = go (eqb n 1) refl v h
   where

@@ -10,7 +10,7 @@ use Rattle.definition.specs.Answers.{Result, _>>=_}
 use Rattle.definition.specs.Classes.{Class, Method}
 use Rattle.definition.specs.Constraints.{World}
 use Rattle.definition.specs.Instructions.{Decoded}
-use Rattle.definition.specs.Machine.{Frame, Object, Value, execute, give, under! }
+use Rattle.definition.specs.Machine.{Frame, Object, Value, execute, give, under! , Objects}
 use Rattle.definition.specs.Requests.{at}
 use Rattle.definition.specs.Verifier.{Note, meetInt, returns, typeInt, typeOfName}
 use Rattle.definition.specs.declared.Kind.{Kind}
@@ -24,7 +24,7 @@ use Rattle.safety.specs.Operands.{each-pop, int-of, of-kind, wp-room}
 use Rattle.safety.specs.Later.{Kept, later-same}
 
 -- a result is handed to the frame below, or ends the task
-give-kept : (w : World) (os : List Object) (fs : List Frame) (l r : ℕ) (v : Value) → Linked w → Heap w os → Under w os l r fs → Conforms w os l (typeOfName r) v → Wp (give fs w os v) (Kept w os)
+give-kept : (w : World) (os : Objects) (fs : List Frame) (l r : ℕ) (v : Value) → Linked w → Heap w os → Under w os l r fs → Conforms w os l (typeOfName r) v → Wp (give fs w os v) (Kept w os)
 unfolding give
 give-kept w os [] l r v lk hp un cv =
     let n = int-of w os l typeInt v {ns = []} (unfold meetInt in refl) (rw (un, of-int) at cv) in
@@ -51,10 +51,10 @@ unfolding under! _>>=_
 wp-under Q [] f h = h
 wp-under Q (g ∷ gs) f h = wp-room Q (g .operands) f h
 
-module _ (w : World) (os : List Object) (f : Frame) (fs : List Frame) (k : Class) (m : Method)
+module _ (task : ℕ) (w : World) (os : Objects) (f : Frame) (fs : List Frame) (k : Class) (m : Method)
     (lk : Linked w) (hp : Heap w os) (tp : Top w os f k m) (un : Under w os (k .loader) (m .signature .result) fs) where
   module _ (i : Decoded) (made : List Note) (nt : Noted w (k .loader) made) where
-    ret : (kind : Kind) → returns kind (m .signature .result) (tp .τ) ≡ some made → Wp (execute w os f fs k i (Return kind)) (Kept w os)
+    ret : (kind : Kind) → returns kind (m .signature .result) (tp .τ) ≡ some made → Wp (execute task w os f fs k i (Return kind)) (Kept w os)
     unfolding execute returns
     ret kind e =
         let a = bind-some _ _ e in
@@ -64,5 +64,5 @@ module _ (w : World) (os : List Object) (f : Frame) (fs : List Frame) (k : Class
         wp-under (Kept w os) fs _ (wp-known (Kept w os) _ _ (q .1) (wp-known (Kept w os) _ _ (of-kind w os (k .loader) kind (typeOfName (m .signature .result)) (q .0 .top) (a .1) cv)
         (give-kept w os fs (k .loader) (m .signature .result) (q .0 .top) lk hp un cv)))
 
-    pub each-ret : (j : Instruction) (kind : Kind) → j ≡ Return kind → returns kind (m .signature .result) (tp .τ) ≡ some made → Wp (execute w os f fs k i j) (Kept w os)
+    pub each-ret : (j : Instruction) (kind : Kind) → j ≡ Return kind → returns kind (m .signature .result) (tp .τ) ≡ some made → Wp (execute task w os f fs k i j) (Kept w os)
     each-ret j kind is e = rw is (ret kind e)

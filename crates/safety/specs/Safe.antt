@@ -2,7 +2,7 @@
 use mathlib.Core.Path.{_≡_, refl, sym, ap, _∙_}
 use mathlib.Core.Bool.{Bool, true}
 use mathlib.Core.Option.{Option, none, some, Option·none-ne-some, Option·some-injective}
-use mathlib.Core.List.{List, [], _∷_, _++_, map, List·Memᴰ·eq-of-singleton}
+use mathlib.Core.List.{List, [], _∷_, map, List·Memᴰ·eq-of-singleton}
 use Prim.Native.Nat.{ℕ, zero, suc}
 use native.Mathlib.Omega.{arith}
 use lib.ListN.{length, getElem?}
@@ -14,21 +14,20 @@ use Rattle.definition.specs.Classes.{Class, Entry, find, loaderOf, slots, super
 use Rattle.definition.specs.Constraints.{World, agrees, edges, pairAgrees, rowAgrees, subtypeEdges, tieEdges, agreesOver}
 use Rattle.definition.specs.Lists.{all}
 use Rattle.definition.specs.Loading.{define, recorded, started, withEntry}
-use Rattle.definition.specs.Machine.{Frame, Object, Progress, entryFrame, initialValue, intValue, newObject}
+use Rattle.definition.specs.Machine.{Frame, Object, Progress, entryFrame, initialValue, intValue, newObject, Objects, unused, made}
 use Rattle.definition.specs.Requests.{at, sameRequest}
 use Rattle.definition.specs.declared.Refusal.the-variants.{Word}
 use Rattle.laws.specs.Agreement.{agrees-true, find-row, super-is}
-use Rattle.laws.specs.Options.{nth-last}
 use Rattle.laws.specs.Results.{Wp, not-wanted, not-word, wp-need, wp-take}
 use Rattle.laws.specs.Tasks.{of-task}
 use Rattle.laws.specs.Tests.{none-is}
 use Rattle.safety.specs.Store.{Store, booted, inTask, inWorld}
 use Rattle.safety.specs.Loads.{linked-class, linked-entry, ss, us}
 use Rattle.safety.specs.Operands.{as-int}
-use Rattle.safety.specs.Later.{Kept, heap-grows, heap-more, later-more, later-same, zeros-conform, entered-top}
+use Rattle.safety.specs.Later.{Kept, heap-grows, heap-made, later-made, later-same, zeros-conform, entered-top}
 use Rattle.safety.specs.Valid.{Heap, Later, Linked, Stack, later-stack, rooted}
 use Rattle.laws.specs.Growth.{Grows, grows-class, grows-entry}
-use Rattle.laws.specs.Objects.{numbered-same}
+use Rattle.laws.specs.Objects.{existing-none, numbered-same, made-there}
 use Rattle.laws.specs.Members.{selected-at, SelectedAt}
 
 boot-agrees : agrees (booted .world) ≡ true
@@ -75,28 +74,28 @@ record-kept l n c v lk =
     go k ck (some d) = wp-need (Loaded v) _ _ _ (not-word 4 (omega arith)) (λ _. record { linked = lk; grows = later-same v [] .grows })
 
 -- Starts
-pub start-kept : (l n m x : ℕ) (v : World) (os : List Object) (fs : List Frame) → Linked v → Heap v os → Wp (started l n m x v os fs) (Kept v os)
+pub start-kept : (k l n m x : ℕ) (v : World) (os : Objects) (fs : List Frame) → Linked v → Heap v os → Wp (started k l n m x v os fs) (Kept v os)
 unfolding started newObject
-start-kept l n m x v os fs lk hp =
+start-kept k l n m x v os fs lk hp =
     wp-need (Kept v os) _ _ _ (not-word 3 (omega arith)) (λ _. wp-need (Kept v os) _ _ _ (not-word 12 (omega arith)) (λ _. wp-take (Kept v os) _ _ _ (not-wanted _) (λ c fc.
     wp-take (Kept v os) _ _ _ (not-word 7 (omega arith)) (λ s fs.
     wp-need (Kept v os) _ _ _ (not-word 10 (omega arith)) (λ _. begun c s fc (selected-at (v .base) (startSignature m) c s fs))))))
   where
     begun : (c : ℕ) (s : Selected) → find (v .base .cache) (at l n) ≡ some c → SelectedAt (v .base) (startSignature m) c s
-        → Kept v os (record { world = v; objects = os ++ (record { class = c; values = map initialValue (slots (v .base) c) } ∷ []); frames = entryFrame (s .class) (s .place) (length os) (intValue x) ∷ []; result = none })
+        → Kept v os (record { world = v; objects = made k (record { class = c; values = map initialValue (slots (v .base) c) }) os; frames = entryFrame (s .class) (s .place) (unused os) (intValue x) ∷ []; result = none })
     begun c s fc found =
         let b : Object = record { class = c; values = map initialValue (slots (v .base) c) } in
-        let qs = os ++ (b ∷ []) in
+        let qs = made k b os in
         let ma = found .there in
         let r = lk .real (at l n) c fc in
         record {
           linked = lk;
-          later = later-more v os b;
-          heap = heap-more v os b hp (record { theClass = r .0; isClass = r .1; filled = zeros-conform v os (slots (v .base) c) });
+          later = later-made v k b os;
+          heap = heap-made v k b os hp (record { theClass = r .0; isClass = r .1; filled = zeros-conform v os (slots (v .base) c) });
           stack = (
             ma .theClass,
             ma .method,
-            entered-top v qs lk (startSignature m) s ma (length os) b (nth-last os b) (found .above) (intValue x) (as-int v qs (loaderOf (v .base) (s .class)) 1 (intValue x) refl tt),
+            entered-top v qs lk (startSignature m) s ma (unused os) b (made-there k b os) (found .above) (intValue x) (as-int v qs (loaderOf (v .base) (s .class)) 1 (intValue x) refl tt),
             ap (λ (z : Signature). z .result) (ma .isSignature),
           );
         }
@@ -128,7 +127,7 @@ valid-booted = record {
     verified = λ c j k m h e. absurd (Option·none-ne-some m (rw (boot-class c k h .1) at e));
     over = λ g x p y t h s. absurd (boot-top x p s);
   };
-  heap = λ o b e. absurd (Option·none-ne-some b e);
+  heap = λ o b e. absurd (Option·none-ne-some b (sym (existing-none o) ∙ e));
   quote = tt;
   report = tt;
 }

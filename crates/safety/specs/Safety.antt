@@ -3,7 +3,7 @@ use mathlib.Core.Path.{_≡_, refl, sym, ap, _∙_, subst}
 use mathlib.Core.Bool.{Bool, true, false, false≢true, _&&_}
 use mathlib.Core.Option.{Option, none, some, Option·none-ne-some, Option·some-injective}
 use mathlib.Core.List.{List, [], _∷_, _++_}
-use Prim.Native.Nat.{ℕ, zero, suc, _≤_}
+use Prim.Native.Nat.{ℕ, zero, suc, _≤_, _<_}
 use native.Mathlib.Omega.{arith}
 use lib.ListN.{length, getElem?}
 use lib.Dec.{leb}
@@ -17,10 +17,10 @@ use Rattle.definition.specs.declared.Reply.the-variants.{Accepted, Denied}
 use Rattle.definition.specs.Answers.{number, numberOf, endsIn, numberOfStep, Result, refused, ok, _>>=_}
 use Rattle.definition.specs.Constraints.{World, Agrees}
 use Rattle.definition.specs.File.{classOf}
-use Rattle.definition.specs.Machine.{Frame, Progress}
+use Rattle.definition.specs.Machine.{Exists, Frame, Progress}
 use Rattle.definition.specs.Tables.{Tables, shaped, Rows, worldOf, view, put, framesIn, withFrames}
 use Rattle.definition.specs.Broken.{broken}
-use Rattle.definition.specs.Calls.{Given, bootRows, progressed, defineRows, recordRows, startRows, dropRows, answerOf, stepTask, stepOn, stepRows, Done, done, wrap, boot, stepTables, runFrom, run, Call, callBoot, callStep, callRun, perform, performAll, ComesFromBoot, RowCall, rowDefine, rowRecord, rowStart, rowDrop, onRowCall, callRows, afterBoot, afterCall}
+use Rattle.definition.specs.Calls.{Given, bootRows, progressed, defineRows, recordRows, startRows, dropRows, sweepRows, answerOf, stepTask, stepOn, stepRows, Done, done, wrap, boot, stepTables, runFrom, run, Call, callBoot, callStep, callRun, perform, performAll, ComesFromBoot, RowCall, rowDefine, rowRecord, rowStart, rowDrop, rowSweep, onRowCall, callRows, afterBoot, afterCall}
 use Rattle.definition.specs.Misplaced.{misplaced}
 use Rattle.definition.specs.Safety.{Safe}
 use Rattle.laws.specs.Results.{NotStuck, Wp, not-word, ok-inj, wp-need, wp-take}
@@ -40,6 +40,7 @@ use Rattle.safety.specs.Valid.{Stack}
 use Rattle.safety.specs.Later.{Kept}
 use Rattle.safety.specs.Steps.{step-kept}
 use Rattle.safety.specs.Safe.{Valid, Loaded, define-kept, record-kept, start-kept, valid-world, valid-task, valid-booted}
+use Rattle.safety.specs.Swept.{valid-swept}
 use Rattle.safety.specs.Misplaced.{valid-placed}
 use Rattle.safety.specs.Words.{placed-words}
 
@@ -99,28 +100,28 @@ module _ (r : Rows) (w : Whole r) (v : Good r) where
 
   start-good : (k l n m x : ℕ) → Wp (startRows k l n m x r) Q
   unfolding startRows numberOf endsIn
-  start-good k l n m x = wp-need Q _ _ _ (not-word 3 (omega arith)) (λ _.
-      wp-on (Kept (S .world) (S .objects)) Q _ _ (start-kept l n m x (S .world) (S .objects) (framesIn k r) (v .linked) (v .heap)) (λ o e h.
-      (progress-good k o (world-progressed r w k o (ok-at _ _ (start-moves r w l n m x (framesIn k r)) o e)) h, (zero-fine, zero-fine))))
+  start-good k l n m x = wp-need Q _ _ _ (not-word 3 (omega arith)) (λ a.
+      wp-on (Kept (S .world) (S .objects)) Q _ _ (start-kept k l n m x (S .world) (S .objects) (framesIn k r) (v .linked) (v .heap)) (λ o e h.
+      (progress-good k o (world-progressed r w k o (ok-at _ _ (start-moves r w k l n m x (framesIn k r) (ltb-true k 2 a)) o e)) h, (zero-fine, zero-fine))))
 
   fine-answer : (k : ℕ) (o : Option ℕ) → FineStep (answerOf k o)
   unfolding answerOf numberOfStep
   fine-answer k none = zero-fine
   fine-answer k (some n) = zero-fine
 
-  task-good : (k : ℕ) (f : Frame) (fs : List Frame) → Stack (S .world) (S .objects) (f ∷ fs) → All (Framed (length (r .classes)) (length (r .objects))) (f ∷ fs) → length (f ∷ fs) ≤ 32 → Wp (stepTask k (worldOf r) f fs r) R
+  task-good : (k : ℕ) → k < 2 → (f : Frame) (fs : List Frame) → Stack (S .world) (S .objects) (f ∷ fs) → All (Framed (length (r .classes)) (Exists (r .objects))) (f ∷ fs) → length (f ∷ fs) ≤ 32 → Wp (stepTask k (worldOf r) f fs r) R
   unfolding stepTask
-  task-good k f fs x a c = wp-on (Kept (S .world) (S .objects)) R _ _ (step-kept (S .world) (S .objects) f fs (v .linked) (v .heap) x) (λ o e h.
-      (progress-good k o (world-progressed r w k o (ok-at _ _ (step-moves (S .world) (length (r .classes)) (r .objects) (ready r w) f fs a c) o e)) h, fine-answer k (o .result)))
+  task-good k two f fs x a c = wp-on (Kept (S .world) (S .objects)) R _ _ (step-kept k (S .world) (S .objects) f fs (v .linked) (v .heap) x) (λ o e h.
+      (progress-good k o (world-progressed r w k o (ok-at _ _ (step-moves (S .world) (length (r .classes)) (r .objects) (ready r w) k two f fs a c) o e)) h, fine-answer k (o .result)))
 
   step-good : Wp (stepRows r) R
   unfolding stepRows
   step-good = go (r .quote) (r .report) (v .quote) (v .report) (w .quote) (w .report) (w .limits .quote) (w .limits .report)
     where
-      go : (q p : List Frame) → Stack (S .world) (S .objects) q → Stack (S .world) (S .objects) p → All (Framed (length (r .classes)) (length (r .objects))) q → All (Framed (length (r .classes)) (length (r .objects))) p
+      go : (q p : List Frame) → Stack (S .world) (S .objects) q → Stack (S .world) (S .objects) p → All (Framed (length (r .classes)) (Exists (r .objects))) q → All (Framed (length (r .classes)) (Exists (r .objects))) p
           → length q ≤ 32 → length p ≤ 32 → Wp (stepOn q p (worldOf r) r) R
-      go (f ∷ fs) p x y a b c d = unfold stepOn in task-good 0 f fs x a c
-      go [] (f ∷ fs) x y a b c d = unfold stepOn in task-good 1 f fs y b d
+      go (f ∷ fs) p x y a b c d = unfold stepOn in task-good 0 (omega arith) f fs x a c
+      go [] (f ∷ fs) x y a b c d = unfold stepOn in task-good 1 (omega arith) f fs y b d
       go [] [] x y a b c d = unfold stepOn numberOfStep in (v, zero-fine)
 
   dropped-good : (k : ℕ) → Good (withFrames k [] r)
@@ -135,11 +136,16 @@ module _ (r : Rows) (w : Whole r) (v : Good r) where
   unfolding dropRows numberOf endsIn
   drop-good k = wp-need Q _ _ _ (not-word 3 (omega arith)) (λ _. (dropped-good k, (zero-fine, zero-fine)))
 
+  sweep-good : Wp (sweepRows r) Q
+  unfolding sweepRows numberOf endsIn
+  sweep-good = (valid-swept S v, (zero-fine, zero-fine))
+
   rows-good : (c : RowCall) → Wp (onRowCall c r) Q
   rows-good (rowDefine l bs) = define-good l bs
   rows-good (rowRecord l n c) = record-good l n c
   rows-good (rowStart k l n m x) = start-good k l n m x
   rows-good (rowDrop k) = drop-good k
+  rows-good rowSweep = sweep-good
 
 boot-good : Good bootRows
 boot-good = subst Valid (sym same) valid-booted

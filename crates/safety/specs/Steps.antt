@@ -14,7 +14,7 @@ use Rattle.definition.specs.declared.Refusal.the-variants.{Word}
 use Rattle.definition.specs.Classes.{Class, Method, hasField, hasMethod, loaderOf, slots, superOf, Selected, signatureTypes}
 use Rattle.definition.specs.Constraints.{Agrees, Tie, World, newTie, posted, signatureTies}
 use Rattle.definition.specs.Instructions.{Decoded}
-use Rattle.definition.specs.Machine.{Frame, Object, Progress, Value, entryFrame, execute, initialValue, int!, intValue, newObject, now, room!, nullValue, objectValue, past, pop!, reference!, step}
+use Rattle.definition.specs.Machine.{Frame, Object, Progress, Value, entryFrame, execute, initialValue, int!, intValue, newObject, now, room!, nullValue, objectValue, past, pop!, reference!, step, Objects, existing, unused, made, changed}
 use Rattle.definition.specs.Requests.{at}
 use Rattle.definition.specs.Superclasses.{Below, same}
 use Rattle.definition.specs.Verifier.{Flow, Note, VerifierType, effect, flow, meetClass, meetInt, meets, pop, typeClass, typeInt, typeNull, typeOfName, typesIn}
@@ -24,7 +24,7 @@ use Rattle.definition.specs.declared.Instruction.{Instruction}
 use Rattle.definition.specs.declared.Instruction.the-variants.{AconstNull, Arithmetic, Dup, Getfield, Invokevirtual, Load, New, Pop, Putfield, Return, Sipush, Store}
 use Rattle.laws.specs.Agreement.{super-falls}
 use Rattle.laws.specs.Chains.{chain-join, chain-more}
-use Rattle.laws.specs.Options.{bind-some, each-at, each-both, each-more, each-set, nth-last}
+use Rattle.laws.specs.Options.{bind-some, each-at, each-both, each-more, each-set}
 use Rattle.laws.specs.Results.{Wp, not-wanted, not-word, wp-bind, wp-known, wp-need, wp-take, wp-there}
 use Rattle.laws.specs.Upward.{below-trans, nearest-below, nearest-finds}
 use Rattle.safety.specs.Conform.{Tied, fits-own, override, tied-turn}
@@ -33,18 +33,18 @@ use Rattle.laws.specs.Walk.{Known, known, successors}
 use Rattle.safety.specs.Valid.{Conforms, Heap, Later, Linked, Local, Stack, Top, Under, Verified, later-conforms, later-local, later-ops, later-under}
 use Rattle.definition.specs.Lists.{Each}
 use Rattle.laws.specs.Members.{MethodAt, selected-at, SelectedAt, nearest-selected}
-use Rattle.laws.specs.Objects.{changed}
+use Rattle.laws.specs.Objects.{made-there}
 use Rattle.safety.specs.Operands.{Popped, each-pop, int-of, of-kind, wp-compute, flow-is, kind-of, wp-room, wp-post, wp-object, FieldAt, field-at}
-use Rattle.safety.specs.Later.{ties-more, Kept, later-same, later-posted, heap-posted, linked-posted, later-changed, later-join, heap-changed, later-more, heap-more, zeros-conform, entered-top}
+use Rattle.safety.specs.Later.{ties-more, Kept, later-same, later-posted, heap-posted, linked-posted, later-changed, later-join, heap-changed, later-made, heap-made, zeros-conform, entered-top}
 use Rattle.safety.specs.Returns.{each-ret}
 
-module _ (w : World) (os : List Object) (f : Frame) (fs : List Frame) (k : Class) (m : Method)
+module _ (task : ℕ) (w : World) (os : Objects) (f : Frame) (fs : List Frame) (k : Class) (m : Method)
     (lk : Linked w) (hp : Heap w os) (tp : Top w os f k m) (un : Under w os (k .loader) (m .signature .result) fs) where
   module _ (i : Decoded) (fl : Flow)
       (nx : (p : ℕ) → List·Memᴰ p (successors i (f .point)) → typesIn k m p ≡ some (fl .types))
       (nt : Noted w (k .loader) (fl .notes)) where
     -- the frame moves on, in a later store
-    moved : (v : World) (qs : List Object) → Later w os v qs → Linked v → Heap v qs → (ts : List VerifierType) (ls : List (Option VerifierType)) (ns : List Note) → flow ts ls ns ≡ some fl
+    moved : (v : World) (qs : Objects) → Later w os v qs → Linked v → Heap v qs → (ts : List VerifierType) (ls : List (Option VerifierType)) (ns : List Note) → flow ts ls ns ≡ some fl
         → (o l : List Value) → Each (Conforms v qs (k .loader)) ts o → Each (Local v qs (k .loader)) ls l
         → Kept w os (record { world = v; objects = qs; frames = past f i o l ∷ fs; result = none })
     moved v qs z lv hv ts ls ns e o l a b =
@@ -75,16 +75,16 @@ module _ (w : World) (os : List Object) (f : Frame) (fs : List Frame) (k : Class
     Q : Progress → Type 0
     Q = Kept w os
 
-    ex-anull : effect AconstNull (tp .τ) ≡ some fl → Wp (execute w os f fs k i AconstNull) Q
+    ex-anull : effect AconstNull (tp .τ) ≡ some fl → Wp (execute task w os f fs k i AconstNull) Q
     unfolding execute effect Q
     ex-anull e = wp-room (Kept w os) _ _ (stays (typeNull ∷ tp .τ .operands) (tp .τ .locals) [] e (nullValue ∷ f .operands) (f .locals) (tt, tp .operands) (tp .locals))
 
-    ex-ipush : (n : ℕ) → effect (Sipush n) (tp .τ) ≡ some fl → Wp (execute w os f fs k i (Sipush n)) Q
+    ex-ipush : (n : ℕ) → effect (Sipush n) (tp .τ) ≡ some fl → Wp (execute task w os f fs k i (Sipush n)) Q
     unfolding execute effect Q
     ex-ipush n e = wp-room (Kept w os) _ _ (stays (typeInt ∷ tp .τ .operands) (tp .τ .locals) [] e (intValue n ∷ f .operands) (f .locals) (tt, tp .operands) (tp .locals))
 
     -- a local of the kind is pushed
-    ex-load : (kind : Kind) (j : ℕ) → effect (Load kind j) (tp .τ) ≡ some fl → Wp (execute w os f fs k i (Load kind j)) Q
+    ex-load : (kind : Kind) (j : ℕ) → effect (Load kind j) (tp .τ) ≡ some fl → Wp (execute task w os f fs k i (Load kind j)) Q
     unfolding execute effect Q
     ex-load kind j e =
         let a = bind-some _ _ e in
@@ -98,7 +98,7 @@ module _ (w : World) (os : List Object) (f : Frame) (fs : List Frame) (k : Class
     popped {p} e = each-pop (Conforms w os (k .loader)) (tp .τ .operands) (f .operands) (p .top) (p .more) e (tp .operands)
 
     -- an operand of the kind is stored
-    ex-store : (kind : Kind) (j : ℕ) → effect (Store kind j) (tp .τ) ≡ some fl → Wp (execute w os f fs k i (Store kind j)) Q
+    ex-store : (kind : Kind) (j : ℕ) → effect (Store kind j) (tp .τ) ≡ some fl → Wp (execute task w os f fs k i (Store kind j)) Q
     unfolding execute effect Q
     ex-store kind j e =
         let a = bind-some _ _ e in
@@ -110,14 +110,14 @@ module _ (w : World) (os : List Object) (f : Frame) (fs : List Frame) (k : Class
         (stays (a .0 .more) (set (tp .τ .locals) j (some (a .0 .top))) [] (c .2) (q .0 .more) (set (f .locals) j (q .0 .top)) (q .3)
         (each-both (Local w os (k .loader)) (tp .τ .locals) (f .locals) (tp .locals) j (some (a .0 .top)) (q .0 .top) (q .2)))))
 
-    ex-pop : effect Pop (tp .τ) ≡ some fl → Wp (execute w os f fs k i Pop) Q
+    ex-pop : effect Pop (tp .τ) ≡ some fl → Wp (execute task w os f fs k i Pop) Q
     unfolding execute effect Q
     ex-pop e =
         let a = bind-some _ _ e in
         let q = popped (a .1) in
         wp-known (Kept w os) _ _ (q .1) (stays (a .0 .more) (tp .τ .locals) [] (a .2) (q .0 .more) (f .locals) (q .3) (tp .locals))
 
-    ex-dup : effect Dup (tp .τ) ≡ some fl → Wp (execute w os f fs k i Dup) Q
+    ex-dup : effect Dup (tp .τ) ≡ some fl → Wp (execute task w os f fs k i Dup) Q
     unfolding execute effect Q
     ex-dup e =
         let a = bind-some _ _ e in
@@ -125,7 +125,7 @@ module _ (w : World) (os : List Object) (f : Frame) (fs : List Frame) (k : Class
         wp-room (Kept w os) _ _ (wp-known (Kept w os) _ _ (q .1) (stays (a .0 .top ∷ a .0 .top ∷ a .0 .more) (tp .τ .locals) [] (a .2) (q .0 .top ∷ q .0 .top ∷ q .0 .more) (f .locals) (q .2, (q .2, q .3)) (tp .locals)))
 
     -- two ints make one
-    ex-arithmetic : (o : Operator) → effect (Arithmetic o) (tp .τ) ≡ some fl → Wp (execute w os f fs k i (Arithmetic o)) Q
+    ex-arithmetic : (o : Operator) → effect (Arithmetic o) (tp .τ) ≡ some fl → Wp (execute task w os f fs k i (Arithmetic o)) Q
     unfolding execute effect Q
     ex-arithmetic o e =
         let p = bind-some _ _ e in
@@ -145,7 +145,7 @@ module _ (w : World) (os : List Object) (f : Frame) (fs : List Frame) (k : Class
 
     -- the place of a field that class d declares, in an object of a class below d
     do-getf : (c n t : ℕ) {p : record { top : VerifierType; more : List VerifierType }} {ns : List Note} → pop (tp .τ .operands) ≡ some p → meetClass c (p .top) ≡ some ns
-        → flow (typeOfName t ∷ p .more) (tp .τ .locals) ns ≡ some fl → Wp (execute w os f fs k i (Getfield c n t)) Q
+        → flow (typeOfName t ∷ p .more) (tp .τ .locals) ns ≡ some fl → Wp (execute task w os f fs k i (Getfield c n t)) Q
     unfolding execute Q
     do-getf c n t {p} {ns} e₁ e₂ e =
         let q = popped e₁ in
@@ -163,12 +163,12 @@ module _ (w : World) (os : List Object) (f : Frame) (fs : List Frame) (k : Class
         )
         (each-more (later-local (later-posted w os us) (k .loader)) (tp .τ .locals) (f .locals) (tp .locals)))))))))))
 
-    ex-getf : (c n t : ℕ) → effect (Getfield c n t) (tp .τ) ≡ some fl → Wp (execute w os f fs k i (Getfield c n t)) Q
+    ex-getf : (c n t : ℕ) → effect (Getfield c n t) (tp .τ) ≡ some fl → Wp (execute task w os f fs k i (Getfield c n t)) Q
     unfolding effect
     ex-getf c n t e = let a = bind-some _ _ (bind-some _ _ e .2) in let b = bind-some _ _ (a .2) in do-getf c n t (a .1) (b .1) (b .2)
 
     do-putf : (c n t : ℕ) {p q : record { top : VerifierType; more : List VerifierType }} {ns ms : List Note} → pop (tp .τ .operands) ≡ some p → pop (p .more) ≡ some q → meetClass c (q .top) ≡ some ns → meets (p .top) t ≡ some ms
-        → flow (q .more) (tp .τ .locals) (ns ++ ms) ≡ some fl → Wp (execute w os f fs k i (Putfield c n t)) Q
+        → flow (q .more) (tp .τ .locals) (ns ++ ms) ≡ some fl → Wp (execute task w os f fs k i (Putfield c n t)) Q
     unfolding execute Q
     do-putf c n t {p} {q} {ns} {ms} e₁ e₂ e₃ e₄ e =
         let x = popped e₁ in
@@ -184,13 +184,13 @@ module _ (w : World) (os : List Object) (f : Frame) (fs : List Frame) (k : Class
         let fa = field-at w os z d n t (nb .1) (below-trans bl (nb .0)) (hp o z th) in
         wp-there (Kept w os) _ _ _ (fa .field .index) (put us d g (λ h. tie-there (w .ties) (loaderOf (w .base) d) (k .loader) t h) o z th (q .more) (ns ++ ms) e (x .0 .top) (y .0 .more) cv (y .3) fa))))))))))
       where
-        put : (us : List Tie) (d : ℕ) → Agrees (posted w us) → (t ≢ 1 → Tied (posted w us) (at (loaderOf (w .base) d) t) (at (k .loader) t)) → (o : ℕ) (z : Object) → getElem? os o ≡ some z → (ts : List VerifierType) (rs : List Note) → flow ts (tp .τ .locals) rs ≡ some fl → (v : Value) (vs : List Value)
+        put : (us : List Tie) (d : ℕ) → Agrees (posted w us) → (t ≢ 1 → Tied (posted w us) (at (loaderOf (w .base) d) t) (at (k .loader) t)) → (o : ℕ) (z : Object) → existing os o ≡ some z → (ts : List VerifierType) (rs : List Note) → flow ts (tp .τ .locals) rs ≡ some fl → (v : Value) (vs : List Value)
             → Conforms w os (k .loader) (typeOfName t) v → Each (Conforms w os (k .loader)) ts vs → (fa : FieldAt w os z d n t)
-            → Kept w os (record { world = posted w us; objects = changed os o z (set (z .values) (fa .field .place) v); frames = past f i vs (f .locals) ∷ fs; result = none })
+            → Kept w os (record { world = posted w us; objects = changed os o (record { class = z .class; values = set (z .values) (fa .field .place) v }); frames = past f i vs (f .locals) ∷ fs; result = none })
         put us d g ti o z th ts rs fe v vs cv ev fa =
             let u = posted w us in
             let y = later-posted w os us in
-            let qs = changed os o z (set (z .values) (fa .field .place) v) in
+            let qs = changed os o (record { class = z .class; values = set (z .values) (fa .field .place) v }) in
             let hu = heap-posted w os us hp in
             let c′ : Conforms u os (loaderOf (w .base) d) (typeOfName t) v = carry u os (k .loader) (loaderOf (w .base) d) t v (λ h. tied-turn u (ti h)) (later-conforms y (k .loader) (typeOfName t) v cv) in
             let ea = each-set (λ s v. Conforms u os (loaderOf (w .base) (s .owner)) (typeOfName (s .type)) v) (slots (w .base) (z .class)) (z .values) (hu o z th .filled) (fa .field .place) (fa .field .slot) v (fa .field .isSlot) (rw (fa .field .owner, fa .field .type) c′) in
@@ -198,7 +198,7 @@ module _ (w : World) (os : List Object) (f : Frame) (fs : List Frame) (k : Class
             moved u qs x (linked-posted w us lk g) (heap-changed u os o z (set (z .values) (fa .field .place) v) th hu ea) ts (tp .τ .locals) rs fe vs (f .locals)
             (later-ops x (k .loader) ts vs ev) (each-more (later-local x (k .loader)) (tp .τ .locals) (f .locals) (tp .locals))
 
-    ex-putf : (c n t : ℕ) → effect (Putfield c n t) (tp .τ) ≡ some fl → Wp (execute w os f fs k i (Putfield c n t)) Q
+    ex-putf : (c n t : ℕ) → effect (Putfield c n t) (tp .τ) ≡ some fl → Wp (execute task w os f fs k i (Putfield c n t)) Q
     unfolding effect
     ex-putf c n t e =
         let a = bind-some _ _ (bind-some _ _ e .2) in
@@ -207,18 +207,18 @@ module _ (w : World) (os : List Object) (f : Frame) (fs : List Frame) (k : Class
         let y = bind-some _ _ (x .2) in
         do-putf c n t (a .1) (b .1) (x .1) (y .1) (y .2)
 
-    ex-new : (c : ℕ) → effect (New c) (tp .τ) ≡ some fl → Wp (execute w os f fs k i (New c)) Q
+    ex-new : (c : ℕ) → effect (New c) (tp .τ) ≡ some fl → Wp (execute task w os f fs k i (New c)) Q
     unfolding execute effect Q newObject
     ex-new c e = wp-take (Kept w os) _ _ _ (not-wanted _) (λ x fx. wp-need (Kept w os) _ _ _ (not-word 10 (omega arith)) (λ _.
         let b : Object = record { class = x; values = map initialValue (slots (w .base) x) } in
         let r = lk .real (at (k .loader) c) x fx in
-        let z = later-more w os b in
-        moved w (os ++ (b ∷ [])) z lk (heap-more w os b hp (record { theClass = r .0; isClass = r .1; filled = zeros-conform w os (slots (w .base) x) })) (typeClass c ∷ tp .τ .operands) (tp .τ .locals) [] (bind-some _ _ e .2) (objectValue (length os) ∷ f .operands) (f .locals)
-        (record { object = b; there = nth-last os b; fits = fits-own fx (same refl) }, later-ops z (k .loader) (tp .τ .operands) (f .operands) (tp .operands))
+        let z = later-made w task b os in
+        moved w (made task b os) z lk (heap-made w task b os hp (record { theClass = r .0; isClass = r .1; filled = zeros-conform w os (slots (w .base) x) })) (typeClass c ∷ tp .τ .operands) (tp .τ .locals) [] (bind-some _ _ e .2) (objectValue (unused os) ∷ f .operands) (f .locals)
+        (record { object = b; there = made-there task b os; fits = fits-own fx (same refl) }, later-ops z (k .loader) (tp .τ .operands) (f .operands) (tp .operands))
         (each-more (later-local z (k .loader)) (tp .τ .locals) (f .locals) (tp .locals))))
 
     -- a frame is entered, and this one waits
-    enter : (u : World) → Later w os u os → Linked u → Heap u os → (s : Signature) (a : Selected) (ma : MethodAt (u .base) s a) (o : ℕ) (z : Object) → getElem? os o ≡ some z → Below (superOf (u .base)) (z .class) (a .class)
+    enter : (u : World) → Later w os u os → Linked u → Heap u os → (s : Signature) (a : Selected) (ma : MethodAt (u .base) s a) (o : ℕ) (z : Object) → existing os o ≡ some z → Below (superOf (u .base)) (z .class) (a .class)
         → (v : Value) → Conforms u os (loaderOf (u .base) (a .class)) (typeOfName (s .argument)) v → (s .result ≢ 1 → Tied u (at (loaderOf (u .base) (a .class)) (s .result)) (at (k .loader) (s .result)))
         → (ts : List VerifierType) (ns : List Note) → flow (typeOfName (s .result) ∷ ts) (tp .τ .locals) ns ≡ some fl → (vs : List Value) → Each (Conforms w os (k .loader)) ts vs
         → Kept w os (record { world = u; objects = os; frames = entryFrame (a .class) (a .place) o v ∷ past f i vs (f .locals) ∷ fs; result = none })
@@ -250,7 +250,7 @@ module _ (w : World) (os : List Object) (f : Frame) (fs : List Frame) (k : Class
         }
 
     do-call : (c : ℕ) (s : Signature) {p q : record { top : VerifierType; more : List VerifierType }} {ns ms : List Note} → pop (tp .τ .operands) ≡ some p → pop (p .more) ≡ some q → meetClass c (q .top) ≡ some ns → meets (p .top) (s .argument) ≡ some ms
-        → flow (typeOfName (s .result) ∷ q .more) (tp .τ .locals) (ns ++ ms) ≡ some fl → Wp (execute w os f fs k i (Invokevirtual c s)) Q
+        → flow (typeOfName (s .result) ∷ q .more) (tp .τ .locals) (ns ++ ms) ≡ some fl → Wp (execute task w os f fs k i (Invokevirtual c s)) Q
     unfolding execute Q signatureTies
     do-call c s {p} {q} {ns} {ms} e₁ e₂ e₃ e₄ e =
         let x = popped e₁ in
@@ -267,7 +267,7 @@ module _ (w : World) (os : List Object) (f : Frame) (fs : List Frame) (k : Class
         wp-there (Kept w os) _ _ _ (sa .1) (into d b _ g o z th bl (sa .2) sd (x .0 .top) cv (q .more) _ e (y .0 .more) (y .3)))))))))))
       where
         -- d is found from the class named, a selected from the object's own
-        into : (d : Selected) (b : ℕ) (a : Selected) → Agrees (posted w (signatureTies (w .ties) (loaderOf (w .base) (d .class)) (k .loader) s)) → (o : ℕ) (z : Object) → getElem? os o ≡ some z → Below (superOf (w .base)) (z .class) b
+        into : (d : Selected) (b : ℕ) (a : Selected) → Agrees (posted w (signatureTies (w .ties) (loaderOf (w .base) (d .class)) (k .loader) s)) → (o : ℕ) (z : Object) → existing os o ≡ some z → Below (superOf (w .base)) (z .class) b
             → SelectedAt (w .base) s (z .class) a → SelectedAt (w .base) s b d → (v : Value) → Conforms w os (k .loader) (typeOfName (s .argument)) v
             → (ts : List VerifierType) (rs : List Note) → flow (typeOfName (s .result) ∷ ts) (tp .τ .locals) rs ≡ some fl → (vs : List Value) → Each (Conforms w os (k .loader)) ts vs
             → Kept w os (record { world = posted w (signatureTies (w .ties) (loaderOf (w .base) (d .class)) (k .loader) s); objects = os; frames = entryFrame (a .class) (a .place) o v ∷ past f i vs (f .locals) ∷ fs; result = none })
@@ -282,7 +282,7 @@ module _ (w : World) (os : List Object) (f : Frame) (fs : List Frame) (k : Class
             (carry u os (k .loader) (loaderOf (w .base) (a .class)) (s .argument) v (λ h. tied-turn u (tied (s .argument) (List·Memᴰ·head refl) h)) (later-conforms yy (k .loader) (typeOfName (s .argument)) v cv))
             (tied (s .result) (List·Memᴰ·tail (List·Memᴰ·head refl))) ts rs fe vs ev
 
-    ex-call : (c : ℕ) (s : Signature) → effect (Invokevirtual c s) (tp .τ) ≡ some fl → Wp (execute w os f fs k i (Invokevirtual c s)) Q
+    ex-call : (c : ℕ) (s : Signature) → effect (Invokevirtual c s) (tp .τ) ≡ some fl → Wp (execute task w os f fs k i (Invokevirtual c s)) Q
     unfolding effect
     ex-call c s e =
         let a = bind-some _ _ (bind-some _ _ e .2) in
@@ -292,7 +292,7 @@ module _ (w : World) (os : List Object) (f : Frame) (fs : List Frame) (k : Class
         do-call c s (a .1) (b .1) (x .1) (y .1) (y .2)
 
     -- any instruction that is no return
-    each-ins : (j : Instruction) → effect j (tp .τ) ≡ some fl → Wp (execute w os f fs k i j) Q
+    each-ins : (j : Instruction) → effect j (tp .τ) ≡ some fl → Wp (execute task w os f fs k i j) Q
     each-ins AconstNull e = ex-anull e
     each-ins (Sipush n) e = ex-ipush n e
     each-ins (Load kind n) e = ex-load kind n e
@@ -306,7 +306,7 @@ module _ (w : World) (os : List Object) (f : Frame) (fs : List Frame) (k : Class
     each-ins (New c) e = ex-new c e
     each-ins (Return kind) e = absurd (Option·none-ne-some fl (unfold effect in e))
 
-  one : Wp (step w os f fs) (Kept w os)
+  one : Wp (step task w os f fs) (Kept w os)
   unfolding step now Q
   one =
       let t = tp .typed in
@@ -314,12 +314,12 @@ module _ (w : World) (os : List Object) (f : Frame) (fs : List Frame) (k : Class
       let kn = known k m (ve .notes) (ve .passes) (f .point) (tp .τ) (t .types) in
       wp-bind (Kept w os) _ _ (wp-there _ _ _ _ (t .isClass) (wp-there _ _ _ _ (t .isMethod) (wp-there _ _ _ _ (kn .reads) (go ve kn))))
     where
-      go : (ve : Verified w k m) (kn : Known (k .version) (m .code) (m .signature .result) (typesIn k m) (ve .notes) (f .point) (tp .τ)) → Wp (execute w os f fs k (kn .at) (kn .at .instruction)) (Kept w os)
+      go : (ve : Verified w k m) (kn : Known (k .version) (m .code) (m .signature .result) (typesIn k m) (ve .notes) (f .point) (tp .τ)) → Wp (execute task w os f fs k (kn .at) (kn .at .instruction)) (Kept w os)
       go ve kn = elim (kn .way) [
-        | inl a ↦ each-ret w os f fs k m lk hp tp un (kn .at) (a .made) (λ n x. ve .posted n (a .posted n x)) (kn .at .instruction) (a .kind) (a .is) (a .does)
+        | inl a ↦ each-ret task w os f fs k m lk hp tp un (kn .at) (a .made) (λ n x. ve .posted n (a .posted n x)) (kn .at .instruction) (a .kind) (a .is) (a .does)
         | inr a ↦ each-ins (kn .at) (a .flows) (a .next) (λ n x. ve .posted n (a .posted n x)) (kn .at .instruction) (a .does)
       ]
 
 -- Theorem 1 and 3 of the loading paper, for a step
-pub step-kept : (w : World) (os : List Object) (f : Frame) (fs : List Frame) → Linked w → Heap w os → Stack w os (f ∷ fs) → Wp (step w os f fs) (Kept w os)
-step-kept w os f fs lk hp (k, m, tp, un) = one w os f fs k m lk hp tp un
+pub step-kept : (task : ℕ) (w : World) (os : Objects) (f : Frame) (fs : List Frame) → Linked w → Heap w os → Stack w os (f ∷ fs) → Wp (step task w os f fs) (Kept w os)
+step-kept task w os f fs lk hp (k, m, tp, un) = one task w os f fs k m lk hp tp un

@@ -3,13 +3,13 @@ use mathlib.Core.List.{List, [], _∷_}
 use Prim.Native.Nat.{ℕ}
 use Rattle.definition.specs.Requests.{at}
 use Rattle.definition.specs.Constraints.{World}
-use Rattle.definition.specs.Machine.{Object, Frame, Progress}
+use Rattle.definition.specs.Machine.{Object, Frame, Progress, Objects}
 use Rattle.definition.specs.Answers.{Result, refused, ok}
 use Rattle.definition.specs.Tables.{Rows, ofTask, worldOf}
 
 pub record Store : Type 0 where
   pub world : World
-  pub objects : List Object
+  pub objects : Objects
   pub quote : List Frame
   pub report : List Frame
 

@@ -9,7 +9,7 @@ use lib.ListN.{length, getElem?}
 use Rattle.definition.specs.declared.Signature.{Signature}
 use Rattle.definition.specs.Classes.{Class, Method, find, hasMethod, loaderOf, slots, superOf, signatureTypes}
 use Rattle.definition.specs.Constraints.{Agrees, World, posted, subtypeEdges}
-use Rattle.definition.specs.Machine.{Frame, Object, Value, intValue, nullValue, objectValue, emptyValue, unlistedValue}
+use Rattle.definition.specs.Machine.{Frame, Object, Value, intValue, nullValue, objectValue, emptyValue, unlistedValue, Objects, existing}
 use Rattle.definition.specs.Requests.{Request, at}
 use Rattle.definition.specs.Superclasses.{nearest}
 use Rattle.definition.specs.Verifier.{Note, TypeState, VerifierType, typeClass, typeInt, typeNull, typeOfName, typesIn, notesOfMethod}
@@ -21,13 +21,13 @@ use Rattle.laws.specs.Objects.{Numbered}
 use Rattle.laws.specs.Stable.{Rooted}
 use Rattle.definition.specs.Lists.{Each}
 
-pub record Holds (w : World) (os : List Object) (l n o : ℕ) : Type 0 where
+pub record Holds (w : World) (os : Objects) (l n o : ℕ) : Type 0 where
   pub object : Object
-  pub there : getElem? os o ≡ some object
+  pub there : existing os o ≡ some object
   pub fits : Fits w (object .class) (at l n)
 
 -- a value of a type under a loader
-abbrev pub Conforms : World → List Object → ℕ → VerifierType → Value → Type 0
+abbrev pub Conforms : World → Objects → ℕ → VerifierType → Value → Type 0
 Conforms w os l typeInt emptyValue = ⊥
 Conforms w os l typeInt (unlistedValue α β) = ⊥
 Conforms w os l typeInt (intValue n) = Unit {0}
@@ -45,19 +45,19 @@ Conforms w os l (typeClass n) nullValue = Unit {0}
 Conforms w os l (typeClass n) (objectValue o) = Holds w os l n o
 
 -- a value that is a reference refers to an object
-abbrev pub Exists : List Object → Value → Type 0
+abbrev pub Exists : Objects → Value → Type 0
 Exists os emptyValue = Unit {0}
 Exists os (unlistedValue α β) = Unit {0}
 Exists os (intValue n) = Unit {0}
 Exists os nullValue = Unit {0}
-Exists os (objectValue o) = (b : Object) × (getElem? os o ≡ some b)
+Exists os (objectValue o) = (b : Object) × (existing os o ≡ some b)
 
 -- an unset local holds whatever was left there
-abbrev pub Local : World → List Object → ℕ → Option VerifierType → Value → Type 0
+abbrev pub Local : World → Objects → ℕ → Option VerifierType → Value → Type 0
 Local w os l none v = Exists os v
 Local w os l (some t) v = Conforms w os l t v
 
-pub record ObjectSound (w : World) (os : List Object) (b : Object) : Type 0 where
+pub record ObjectSound (w : World) (os : Objects) (b : Object) : Type 0 where
   pub theClass : Class
   pub isClass : getElem? (w .base .classes) (b .class) ≡ some theClass
   pub filled : Each (λ s v. Conforms w os (loaderOf (w .base) (s .owner)) (typeOfName (s .type)) v) (slots (w .base) (b .class)) (b .values)
@@ -80,8 +80,8 @@ pub record Linked (w : World) : Type 0 where
 pub rooted : {w : World} → Linked w → Rooted (w .base)
 rooted lk = record { real = lk .real; supers = lk .supers }
 
-abbrev pub Heap : World → List Object → Type 0
-Heap w os = (o : ℕ) (b : Object) → getElem? os o ≡ some b → ObjectSound w os b
+abbrev pub Heap : World → Objects → Type 0
+Heap w os = (o : ℕ) (b : Object) → existing os o ≡ some b → ObjectSound w os b
 
 -- a frame at a point with types τ
 pub record Typed (w : World) (f : Frame) (k : Class) (m : Method) (τ : TypeState) : Type 0 where
@@ -90,13 +90,13 @@ pub record Typed (w : World) (f : Frame) (k : Class) (m : Method) (τ : TypeStat
   pub types : typesIn k m (f .point) ≡ some τ
 
 -- the frame on top, and a frame that waits for a result of type r
-pub record Top (w : World) (os : List Object) (f : Frame) (k : Class) (m : Method) : Type 0 where
+pub record Top (w : World) (os : Objects) (f : Frame) (k : Class) (m : Method) : Type 0 where
   pub τ : TypeState
   pub typed : Typed w f k m τ
   pub operands : Each (Conforms w os (k .loader)) (τ .operands) (f .operands)
   pub locals : Each (Local w os (k .loader)) (τ .locals) (f .locals)
 
-pub record Waits (w : World) (os : List Object) (f : Frame) (k : Class) (m : Method) (r : ℕ) : Type 0 where
+pub record Waits (w : World) (os : Objects) (f : Frame) (k : Class) (m : Method) (r : ℕ) : Type 0 where
   pub τ : TypeState
   pub others : List VerifierType
   pub typed : Typed w f k m τ
@@ -105,21 +105,21 @@ pub record Waits (w : World) (os : List Object) (f : Frame) (k : Class) (m : Met
   pub locals : Each (Local w os (k .loader)) (τ .locals) (f .locals)
 
 -- the frames under one of loader l and result r
-abbrev pub Under : World → List Object → ℕ → ℕ → List Frame → Type 0
+abbrev pub Under : World → Objects → ℕ → ℕ → List Frame → Type 0
 Under w os l r [] = r ≡ 1
 Under w os l r (g ∷ gs) = (k : Class) × (m : Method) × Waits w os g k m r × (r ≢ 1 → Tied w (at l r) (at (k .loader) r)) × Under w os (k .loader) (m .signature .result) gs
 
-abbrev pub Stack : World → List Object → List Frame → Type 0
+abbrev pub Stack : World → Objects → List Frame → Type 0
 Stack w os [] = Unit {0}
 Stack w os (f ∷ fs) = (k : Class) × (m : Method) × Top w os f k m × Under w os (k .loader) (m .signature .result) fs
 
 -- Later stores
 
-pub record Later (v : World) (os : List Object) (w : World) (qs : List Object) : Type 0 where
+pub record Later (v : World) (os : Objects) (w : World) (qs : Objects) : Type 0 where
   pub grows : Grows v w
   pub objects : Numbered os qs
 
-module _ {v w : World} {os qs : List Object} (z : Later v os w qs) where
+module _ {v w : World} {os qs : Objects} (z : Later v os w qs) where
   pub later-conforms : (l : ℕ) (t : VerifierType) (x : Value) → Conforms v os l t x → Conforms w qs l t x
   later-conforms l typeInt emptyValue h = h
   later-conforms l typeInt (unlistedValue α β) h = h

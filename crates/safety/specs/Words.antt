@@ -1,5 +1,5 @@
 -- No value is counted as misplaced exactly if each field, operand and set local is placed in the words of demand 3.
-use mathlib.Core.Path.{_≡_, refl}
+use mathlib.Core.Path.{_≡_, refl, sym, _∙_}
 use mathlib.Core.Bool.{Bool, true, false, false≢true}
 use mathlib.Core.Option.{Option, none, some, Option·none-ne-some, Option·some-injective}
 use mathlib.Core.List.{List, [], _∷_, reverse, reverse-reverse}
@@ -12,17 +12,18 @@ use Rattle.definition.specs.Superclasses.{Below, below}
 use Rattle.definition.specs.Classes.{find, superOf, loaderOf, slots}
 use Rattle.definition.specs.Constraints.{World}
 use Rattle.definition.specs.Verifier.{VerifierType, typeInt, typeNull, typeClass, typeOfName}
-use Rattle.definition.specs.Machine.{Value, emptyValue, intValue, nullValue, objectValue, unlistedValue, Object, Frame, existing}
+use Rattle.definition.specs.Machine.{Value, emptyValue, intValue, nullValue, objectValue, unlistedValue, Object, Frame, existing, Objects, free, owned, objectHeld}
 use Rattle.definition.specs.Tables.{Rows, worldOf}
 use Rattle.definition.specs.Misplaced.{Placed, placed, PlacedLocal, placedLocal, failures, misplacedFields, FrameTypes, typesOf, misplacedInFrame, misplacedInFrames, misplacedIn, FieldsPlaced, FramePlaced, FramesPlaced, AllPlaced}
 use Rattle.laws.specs.Upward.{below-true, true-below}
 use Rattle.laws.specs.Agreement.{super-falls}
+use Rattle.laws.specs.Objects.{existing-none, existing-tail}
 use Rattle.laws.specs.Options.{each-more, each-reverse}
 use Rattle.safety.specs.Misplaced.{none-bad}
 
 -- The test and the words, for one value
 
-module _ (w : World) (os : List Object) (l : ℕ) where
+module _ (w : World) (os : Objects) (l : ℕ) where
   Loaded : Object → Option ℕ → Bool
   Loaded b x = elim x as (λ _. Bool) [ none ↦ true | some d ↦ below (superOf (w .base)) (b .class) d ]
 
@@ -112,23 +113,27 @@ sum-zero a b h = (omega arith, omega arith)
 
 -- Fields
 
-module _ (w : World) (os : List Object) where
-  fields-words : (bs : List Object) → misplacedFields w os bs ≡ 0 → (o : ℕ) (b : Object) → getElem? bs o ≡ some b → FieldsPlaced w os b
+module _ (w : World) (os : Objects) where
+  fields-words : (bs : Objects) → misplacedFields w os bs ≡ 0 → (o : ℕ) (b : Object) → existing bs o ≡ some b → FieldsPlaced w os b
   unfolding misplacedFields
-  fields-words [] h o b e = absurd (Option·none-ne-some b e)
-  fields-words (c ∷ bs) h zero b e =
-      rw (Option·some-injective c b e) at
+  fields-words [] h o b e = absurd (Option·none-ne-some b (sym (existing-none o) ∙ e))
+  fields-words (free ∷ bs) h zero b e = absurd (Option·none-ne-some b (unfold existing objectHeld in e))
+  fields-words (free ∷ bs) h (suc o) b e = fields-words bs h o b (sym (existing-tail free bs o) ∙ e)
+  fields-words (owned k c ∷ bs) h zero b e =
+      let q : c ≡ b = Option·some-injective c b (unfold existing objectHeld in e) in
+      rw q at
       (failing _ _ (λ s v. placed-is w os (loaderOf (w .base) (s .owner)) (typeOfName (s .type)) v) (slots (w .base) (c .class)) (c .values) (sum-zero _ _ h .0))
-  fields-words (c ∷ bs) h (suc o) b e = fields-words bs (sum-zero _ _ h .1) o b e
+  fields-words (owned k c ∷ bs) h (suc o) b e = fields-words bs (sum-zero _ _ h .1) o b (sym (existing-tail (owned k c) bs o) ∙ e)
 
-  words-fields : (bs : List Object) → ((o : ℕ) (b : Object) → getElem? bs o ≡ some b → FieldsPlaced w os b) → misplacedFields w os bs ≡ 0
+  words-fields : (bs : Objects) → ((o : ℕ) (b : Object) → existing bs o ≡ some b → FieldsPlaced w os b) → misplacedFields w os bs ≡ 0
   unfolding misplacedFields
   words-fields [] h = refl
-  words-fields (c ∷ bs) h =
+  words-fields (free ∷ bs) h = words-fields bs (λ o b e. h (suc o) b (existing-tail free bs o ∙ e))
+  words-fields (owned k c ∷ bs) h =
       rw (
         none-bad _ (λ s v. placed w os (loaderOf (w .base) (s .owner)) (typeOfName (s .type)) v)
-            (λ s v. is-placed w os (loaderOf (w .base) (s .owner)) (typeOfName (s .type)) v) (slots (w .base) (c .class)) (c .values) (h 0 c refl),
-        words-fields bs (λ o. h (suc o)),
+            (λ s v. is-placed w os (loaderOf (w .base) (s .owner)) (typeOfName (s .type)) v) (slots (w .base) (c .class)) (c .values) (h 0 c (unfold existing objectHeld in refl)),
+        words-fields bs (λ o b e. h (suc o) b (existing-tail (owned k c) bs o ∙ e)),
       ) refl
 
   -- Frames
@@ -169,7 +174,7 @@ module _ (w : World) (os : List Object) where
 -- Both ways
 
 pub placed-words : (r : Rows) → misplacedIn r ≡ 0 → AllPlaced r
-unfolding misplacedIn existing
+unfolding misplacedIn
 placed-words r h =
     let a = sum-zero _ _ h in
     let b = sum-zero _ _ (a .0) in
@@ -180,7 +185,7 @@ placed-words r h =
     }
 
 pub words-placed : (r : Rows) → AllPlaced r → misplacedIn r ≡ 0
-unfolding misplacedIn existing
+unfolding misplacedIn
 words-placed r h =
     rw (
       words-fields (worldOf r) (r .objects) (r .objects) (h .fields),

@@ -2,7 +2,7 @@
 use mathlib.Core.Path.{_≡_, refl, sym, _∙_}
 use mathlib.Core.Bool.{Bool, true, false}
 use mathlib.Core.Option.{some}
-use mathlib.Core.List.{List, [], _∷_, _++_, List·Memᴰ, List·Memᴰ·head, List·Memᴰ·tail, List·Memᴰ·not-nil}
+use mathlib.Core.List.{List, [], _∷_, _++_, List·Memᴰ, List·Memᴰ·head, List·Memᴰ·tail}
 use mathlib.Core.Logic.{_⊎_, inl, inr}
 use Prim.Native.Nat.{ℕ, zero, suc, _+_}
 use native.Mathlib.Omega.{arith}
@@ -15,7 +15,7 @@ use Rattle.definition.specs.Machine.{Value, emptyValue, intValue, nullValue, ob
 use Rattle.definition.specs.Sweeping.{named, roots, Reached, reached, sweptFrom}
 use Rattle.definition.specs.Tables.{Rows, worldOf, withObjects}
 use Rattle.laws.specs.Objects.{existing-tail}
-use Rattle.laws.specs.Sweeps.{member-left, member-right, found-reached, names-link, swept-length, swept, sweep-keeps}
+use Rattle.laws.specs.Sweeps.{member-left, member-right, roots-left, roots-right, found-reached, names-link, swept-length, swept, sweep-keeps}
 use Rattle.layout.specs.Tests.{All}
 use Rattle.layout.specs.Whole.{Local, ValueSound, RowSound, Framed, Whole}
 
@@ -73,23 +73,6 @@ module _ (X Y : ℕ → Type 0) where
       row (owned j y) true e s f =
           unfold pick in (s .0, record { class = s .1 .class; size = s .1 .size; values = values-kept (y .values) (s .1 .values) (f y (unfold existing objectHeld in refl) e) })
       row (owned j y) false e s f = unfold pick in tt
-
--- The roots of both tasks
-
-more-behind : (os ps qs : List ℕ) (o : ℕ) → (List·Memᴰ o ps → List·Memᴰ o qs) → List·Memᴰ o (os ++ ps) → List·Memᴰ o (os ++ qs)
-more-behind [] ps qs o k m = k m
-more-behind (x ∷ os) ps qs o k (List·Memᴰ·head e) = List·Memᴰ·head e
-more-behind (x ∷ os) ps qs o k (List·Memᴰ·tail m) = List·Memᴰ·tail (more-behind os ps qs o k m)
-
-roots-left : (qs rs : List Frame) (o : ℕ) → List·Memᴰ o (roots qs) → List·Memᴰ o (roots (qs ++ rs))
-unfolding roots
-roots-left [] rs o m = absurd (List·Memᴰ·not-nil m)
-roots-left (f ∷ qs) rs o m = more-behind (named (f .operands)) _ _ o (more-behind (named (f .locals)) _ _ o (roots-left qs rs o)) m
-
-roots-right : (qs rs : List Frame) (o : ℕ) → List·Memᴰ o (roots rs) → List·Memᴰ o (roots (qs ++ rs))
-unfolding roots
-roots-right [] rs o m = m
-roots-right (f ∷ qs) rs o m = member-right (named (f .operands)) _ (member-right (named (f .locals)) _ (roots-right qs rs o m))
 
 -- The rows
 
