@@ -140,6 +140,10 @@ unfolding ownerless
 ownerless-same N M s zero o = refl
 ownerless-same N M s (suc k) o = λ i. elim (eqb (s o i) 0) as (λ _. ℕ) [ true ↦ o | false ↦ ownerless-same N M s k (suc o) i ]
 
+pub used-set : (N : List ℕ) (j x o : ℕ) → j < 8 → j ≢ 5 → isUsed (set N j x) o ≡ isUsed N o
+unfolding isUsed
+used-set N j x o l n = rw (getD-set-other N j 5 x 0 (λ e. n (sym e)), owners-set N j x l o)
+
 pub unused-set : (N : List ℕ) (j x o : ℕ) → j < 8 → j ≢ 5 → unusedFrom (set N j x) o ≡ unusedFrom N o
 unfolding unusedFrom
 unused-set N j x o l n = rw (getD-set-other N j 5 x 0 (λ e. n (sym e))) (ownerless-same N (set N j x) (owners-set N j x l) (getD N 5 0 - o) o)
