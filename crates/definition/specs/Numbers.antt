@@ -47,6 +47,9 @@ wordMisnamed = 13
 abbrev pub wordStuck : ℕ
 wordStuck = 14
 
+abbrev pub wordUnmapped : ℕ
+wordUnmapped = 15
+
 -- Names: 0 is none; others than these are free
 
 abbrev pub nameInt : ℕ
@@ -104,6 +107,10 @@ runLimit = 65535
 
 abbrev pub versionOne : ℕ
 versionOne = 1
+
+-- the first with branches and maps
+abbrev pub versionTwo : ℕ
+versionTwo = 2
 
 abbrev pub fileLimit : ℕ
 fileLimit = 4096
@@ -240,9 +247,9 @@ abbrev pub allNumbers : List ℕ
 allNumbers =
     wordBroken ∷ wordFile ∷ wordUnknown ∷ wordTaken ∷ wordWanted ∷ wordUnverified
     ∷ wordAbsent ∷ wordHidden ∷ wordClash ∷ wordFull ∷ wordNull ∷ wordBusy
-    ∷ wordMisnamed ∷ wordStuck ∷ nameInt ∷ nameObject ∷ loaderLimit ∷ taskLimit
+    ∷ wordMisnamed ∷ wordStuck ∷ wordUnmapped ∷ nameInt ∷ nameObject ∷ loaderLimit ∷ taskLimit
     ∷ classLimit ∷ keptLimit ∷ cacheLimit ∷ tieLimit ∷ subtypeLimit ∷ objectLimit
-    ∷ fieldLimit ∷ frameLimit ∷ operandLimit ∷ localCount ∷ runLimit ∷ versionOne
+    ∷ fieldLimit ∷ frameLimit ∷ operandLimit ∷ localCount ∷ runLimit ∷ versionOne ∷ versionTwo
     ∷ fileLimit ∷ memberLimit ∷ codeLimit ∷ countClasses ∷ countKept ∷ countCache
     ∷ countTies ∷ countSubtypes ∷ countObjects ∷ countFrames ∷ ownersCell ∷ rowCells ∷ valueCells ∷ noteCells
     ∷ fieldsCell ∷ objectCells ∷ methodCell ∷ pointCell ∷ depthCell ∷ localsCell
