@@ -460,6 +460,76 @@ module _ (version : ℕ) (code : List ℕ) (maps : List Map) (result : ℕ) wher
             let a = after-cases (q + i .size) (e .f) (d .t) i (e .then) in
             inr (record { flows = e .f; does = e .does; posted = λ n m. d .posted n (a .own n m); next = flows i e a })
 
+  -- Types that have P throughout, the entry's, those of maps and those that effects leave, make notes that have N
+
+  module _ (P : TypeState → Type 0) (N : List Note → Type 0) (empty : N []) (join : (a b : List Note) → N a → N b → N (a ++ b))
+      (on : (p : ℕ) (i : Decoded) (s : TypeState) (f : Flow) → decode version code p ≡ some i → P s → effect (i .instruction) s ≡ some f → P (f .types) × N (f .notes))
+      (last : (kind : Kind) (s : TypeState) (a : List Note) → P s → returns kind result s ≡ some a → N a)
+      (at-map : (p : ℕ) (x : Map) → mapAt maps p ≡ some x → P (mapTypes x))
+      (to-map : (p : ℕ) (x : Map) (s : TypeState) (a : List Note) → mapAt maps p ≡ some x → P s → meetMap s x ≡ some a → N a) where
+    abbrev OnwardHas : Onward → Type 0
+    OnwardHas finished = Unit {0}
+    OnwardHas (onto p s) = P s
+
+    abbrev FlowHas : Flow → Type 0
+    FlowHas f = P (f .types) × N (f .notes)
+
+    abbrev TurnHas : Turn → Type 0
+    TurnHas t = N (t .notes) × OnwardHas (t .next)
+
+    into-has : (p : ℕ) (s : TypeState) (f : Flow) → P s → flowInto version code maps result p s ≡ some f → FlowHas f
+    unfolding flowInto
+    into-has p s f h d = go (mapAt maps p) refl d
+      where
+        go : (o : Option Map) → mapAt maps p ≡ o → (elim o as (λ _. Option Flow) [
+          | none ↦ some (record { types = s; notes = [] })
+          | some x ↦ meetMap s x >>= λ ns. some (record { types = mapTypes x; notes = ns })
+        ]) ≡ some f → FlowHas f
+        go none e r = subst FlowHas (Option·some-injective _ _ r) (h, empty)
+        go (some x) e r = let b = bind-some _ _ r in subst FlowHas (Option·some-injective _ _ (b .2)) (at-map p x e, to-map p x s (b .0) e h (b .1))
+
+    target-has : (o : Option ℕ) (s : TypeState) (ts : List Note) → P s → flowToTarget version code maps result o s ≡ some ts → N ts
+    unfolding flowToTarget
+    target-has none s ts h d = subst N (Option·some-injective _ _ d) empty
+    target-has (some p) s ts h d = let a = bind-some _ _ d in to-map p (a .0) s ts (a .1) h (a .2)
+
+    start-has : (p : ℕ) (o : Onward) → startAt version code maps result p ≡ some o → OnwardHas o
+    unfolding startAt
+    start-has p o d = go (eqb p (length code)) d
+      where
+        go : (b : Bool) → (elim b as (λ _. Option Onward) [ true ↦ some finished | false ↦ mapAt maps p >>= λ m. some (onto p (mapTypes m)) ]) ≡ some o → OnwardHas o
+        go true r = subst OnwardHas (Option·some-injective _ _ r) tt
+        go false r = let a = bind-some _ _ r in subst OnwardHas (Option·some-injective _ _ (a .2)) (at-map p (a .0) (a .1))
+
+    after-has : (i : Instruction) (p : ℕ) (f : Flow) (t : Turn) → FlowHas f → after version code maps result i p f ≡ some t → TurnHas t
+    unfolding after
+    after-has i p f t h d = let a = bind-some _ _ d in go (a .0) (target-has (target i) (f .types) (a .0) (h .0) (a .1)) (goesOn i) (a .2)
+      where
+        go : (ts : List Note) → N ts → (b : Bool) → (elim b as (λ _. Option Turn) [
+          | true ↦ flowInto version code maps result p (f .types) >>= λ g. some (record { notes = f .notes ++ (ts ++ g .notes); next = onto p (g .types) })
+          | false ↦ startAt version code maps result p >>= λ o. some (record { notes = f .notes ++ ts; next = o })
+        ]) ≡ some t → TurnHas t
+        go ts n true r =
+            let a = bind-some _ _ r in
+            let g = into-has p (f .types) (a .0) (h .0) (a .1) in
+            subst TurnHas (Option·some-injective _ _ (a .2)) (join (f .notes) (ts ++ a .0 .notes) (h .1) (join ts (a .0 .notes) n (g .1)), g .0)
+        go ts n false r = let a = bind-some _ _ r in subst TurnHas (Option·some-injective _ _ (a .2)) (join (f .notes) ts (h .1) n, start-has p (a .0) (a .1))
+
+    turn-has : (p : ℕ) (s : TypeState) (t : Turn) → P s → Turns p s t → TurnHas t
+    turn-has p s t h d = let a = turn-cases p s t d in elim (a .2) [
+      | inl r ↦ (last (r .kind) s (t .notes) h (r .does), start-has (p + a .0 .size) (t .next) (r .then))
+      | inr e ↦ after-has (a .0 .instruction) (p + a .0 .size) (e .f) t (on p (a .0) s (e .f) (a .1) h (e .does)) (e .then)
+    ]
+
+    verify-has : (k p : ℕ) (left : List Map) (s : TypeState) (ns : List Note) → P s → Notes k p left s ≡ some ns → N ns
+    verify-has zero p left s ns h v = absurd (Option·none-ne-some ns (unfold verify in v))
+    verify-has (suc k) p left s ns h v = let w = went k p left s ns v in go w (turn-has p s (w .t) h (w .does)) (w .way) (λ r more u rest. verify-has k r more u rest)
+      where
+        go : (w : Went k p left s ns) → TurnHas (w .t) → Stops (w .more) (w .t) ns ⊎ Continues k (w .more) (w .t) ns
+            → ((r : ℕ) (more : List Map) (u : TypeState) (rest : List Note) → P u → Notes k r more u ≡ some rest → N rest) → N ns
+        go w x (inl c) ih = subst N (c .all) (x .0)
+        go w x (inr c) ih = subst N (c .all) (join (w .t .notes) (c .rest) (x .0) (ih (c .r) (w .more) (c .u) (c .rest) (subst OnwardHas (c .onward) (x .1)) (c .then)))
+
   standing : (s : TypeState) (f : Flow) → flowInto version code maps result 0 s ≡ some f → Standing 0 maps (f .types)
   standing s f h = record { left-there = λ q l. refl; mapped = λ m e. into-mapped 0 s f h m e }
 
@@ -508,6 +578,19 @@ module _ (k : Class) (m : Method) (ns : List Note) (v : notesOfMethod k m ≡ so
         posted = λ n x. rw (w .all) at (Memᴰ·append-right (w .f .notes) (t .posted n x));
         next = λ r u e. w .types r ∙ t .next r u e;
       })
+
+  -- types that have P throughout make notes that have N
+  pub notes-have : (P : TypeState → Type 0) (N : List Note → Type 0) → N [] → ((a b : List Note) → N a → N b → N (a ++ b))
+      → ((p : ℕ) (i : Decoded) (s : TypeState) (f : Flow) → decode (k .version) (m .code) p ≡ some i → P s → effect (i .instruction) s ≡ some f → P (f .types) × N (f .notes))
+      → ((kind : Kind) (s : TypeState) (a : List Note) → P s → returns kind (m .signature .result) s ≡ some a → N a)
+      → ((p : ℕ) (x : Map) → mapAt (m .maps) p ≡ some x → P (mapTypes x))
+      → ((p : ℕ) (x : Map) (s : TypeState) (a : List Note) → mapAt (m .maps) p ≡ some x → P s → meetMap s x ≡ some a → N a)
+      → P (entryTypes k m) → N ns
+  notes-have P N empty join on last at-map to-map h =
+      let w = verified k m ns v in
+      let e = into-has (k .version) (m .code) (m .maps) (m .signature .result) P N empty join on last at-map to-map 0 (entryTypes k m) (w .f) h (w .enters) in
+      subst N (w .all) (join (w .f .notes) (w .rest) (e .1)
+      (verify-has (k .version) (m .code) (m .maps) (m .signature .result) P N empty join on last at-map to-map (length (m .code)) 0 (m .maps) (w .f .types) (w .rest) (e .0) (w .walks)))
 
 -- of its class a method's notes depend on the version and the name alone
 pub notes-by-name : (j k : Class) (m : Method) → j .version ≡ k .version → j .name ≡ k .name → notesOfMethod j m ≡ notesOfMethod k m
