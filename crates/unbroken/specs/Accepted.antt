@@ -71,17 +71,18 @@ defined-is room k w v e =
     let d = bind-ok _ _ (c .2) in
     let f = bind-ok _ _ (d .2) in
     let g = bind-ok _ _ (f .2) in
-    let p = every-true _ (need-ok _ _ (f .1)) in
+    let h = bind-ok _ _ (g .2) in
+    let p = every-true _ (need-ok _ _ (g .1)) in
     record {
-      super = c .0;
-      cached = take-ok _ _ (c .1);
-      notes = a .0;
-      fresh = none-is _ (need-ok _ _ (b .1));
+      super = d .0;
+      cached = take-ok _ _ (d .1);
+      notes = b .0;
+      fresh = none-is _ (need-ok _ _ (c .1));
       kept = p .0;
       classes = ltb-true _ _ (p .1 .0);
       cache = ltb-true _ _ (p .1 .1 .0);
       ties = leb-true _ _ (p .1 .1 .1 .0);
       subtypes = leb-true _ _ (p .1 .1 .1 .1 .0);
       size = leb-true _ _ (p .1 .1 .1 .1 .1 .0);
-      is = ok-inj (g .2);
+      is = ok-inj (h .2);
     }
