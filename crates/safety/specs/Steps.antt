@@ -246,7 +246,7 @@ module _ (task : ℕ) (w : World) (os : Objects) (f : Frame) (fs : List Frame) (
     enter u y lu hu s a ma o z th bl v cv tr ts ns e vs ev =
         let q = flow-is (typeOfName (s .result) ∷ ts) (tp .τ .locals) ns fl e in
         let at = later-lands y nx in
-        let sp = each-cons (Flows u (k .loader)) (typeOfName (s .result)) ts (at .τ .operands) 
+        let sp = each-cons (Flows u (k .loader)) (typeOfName (s .result)) ts (at .τ .operands)
         (subst (λ (x : Flow). Each (Flows u (k .loader)) (x .types .operands) (at .τ .operands)) (sym q) (at .reaches .operands)) in
         record {
           linked = lu;
