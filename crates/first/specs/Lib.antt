@@ -1,5 +1,8 @@
 -- The first document's machine, kept, and what today's machine has in common with it. Machine, Tables, Broken and Calls hold its own text where a later paper
 -- changed it, so far paper 1, since which a row of objects may be free; Same holds the statements, the files between them their proofs.
+pub mod Files
+pub mod Verifier
+pub mod SameFiles
 pub mod Machine
 pub mod Tables
 pub mod Broken
