@@ -68,7 +68,7 @@ need-eq true u e f g k = rw e (k refl)
 need-eq false u e f g k = rw e refl
 
 -- what holds of what was read, if it was read
-abbrev Holds : {A : Type 0} → Option A → (A → Type 0) → Type 0
+abbrev pub Holds : {A : Type 0} → Option A → (A → Type 0) → Type 0
 Holds none Q = Unit {0}
 Holds (some a) Q = Q a
 
@@ -177,9 +177,9 @@ PlainCode (OpBranch c) = ⊥
 PlainCode OpUnknown = Unit {0}
 
 -- it goes on to the next point alone, if it is no return
-record Straight (i : Instruction) : Type 0 where
-  nowhere : target i ≡ none
-  on : returnKind i ≡ none → goesOn i ≡ true
+pub record Straight (i : Instruction) : Type 0 where
+  pub nowhere : target i ≡ none
+  pub on : returnKind i ≡ none → goesOn i ≡ true
 
 pick-plain : (t : Bool) (a b : Opcode) → PlainCode a → PlainCode b → PlainCode (pick t a b)
 unfolding pick
@@ -209,7 +209,7 @@ instruction-straight s i (OpReturn k) h = record { nowhere = refl; on = λ e. ab
 instruction-straight s i (OpBranch c) h = absurd h
 instruction-straight s i OpUnknown h = tt
 
-decode-straight : (code : List ℕ) (p : ℕ) → Holds (firstDecode code p) (λ i. Straight (i .instruction))
+pub decode-straight : (code : List ℕ) (p : ℕ) → Holds (firstDecode code p) (λ i. Straight (i .instruction))
 unfolding firstDecode
 decode-straight code p = go (leb (p + suc (inlineLength o)) (length code)) (instructionOf code (p + 1) o) (instruction-straight code (p + 1) o (opcode-plain (getD code p 0)))
   where
