@@ -18,7 +18,7 @@ use Rattle.layout.specs.Tests.{every-true}
 use Rattle.first.specs.Tables.{FirstTables, firstCountsLength, firstShaped, FirstRows, firstRowsOf, firstObjectsOf, firstViewOver, firstViewBase, firstView}
 use Rattle.first.specs.Broken.{firstSound, firstWhole, firstBroken}
 use Rattle.first.specs.SameObjects.{SameObjects, noObjects, sameObject}
-use Rattle.first.specs.SameBases.{laterRow, Early, early, same-classes}
+use Rattle.first.specs.SameBases.{laterRow, Early, early, same-classes, fits-early}
 use Rattle.first.specs.SameRows.{SameRows, EarlyRows, same-sound}
 
 -- an owner cell that says a task, whichever
@@ -60,6 +60,11 @@ EarlyTables u = Early (keptOf u) (classRowsOf u)
 pub keeps-none : (u : FirstTables) → keepsLater u ≡ false → EarlyTables u
 unfolding keepsLater
 keeps-none u h = early (keptOf u) (classRowsOf u) h
+
+-- tables that the first document doesn't call broken keep none
+pub unbroken-keeps-none : (u : FirstTables) → firstBroken u ≡ false → EarlyTables u
+unfolding firstBroken firstWhole firstSound firstView firstViewOver
+unbroken-keeps-none u h = fits-early (firstViewBase u) (keptOf u) (classRowsOf u) (every-true _ (every-true _ (not-false _ h) .1 .1 .0) .0)
 
 -- The published lengths
 

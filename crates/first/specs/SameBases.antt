@@ -6,6 +6,7 @@ use mathlib.Core.List.{List, [], _∷_, map}
 use Prim.Native.Nat.{ℕ, zero, suc, _+_}
 use lib.ListN.{length, take, drop, getElem?}
 use lib.Dec.{leb, ltb}
+use borrow.Author.Tests.{eqb-true}
 use Rattle.definition.specs.declared.Refusal.{Refusal}
 use Rattle.definition.specs.declared.Refusal.the-variants.{Word}
 use Rattle.definition.specs.Numbers.{wordStuck, loaderLimit, fieldLimit}
@@ -21,12 +22,12 @@ use Rattle.definition.specs.Tables.{ClassRow, fileAt, classAt, sizeOf}
 use Rattle.definition.specs.Broken.{isObject, classFits, classesFit}
 use Rattle.laws.specs.Options.{bind-some}
 use Rattle.laws.specs.Results.{bind-ok, ok-inj, take-ok}
-use Rattle.layout.specs.Tests.{All}
+use Rattle.layout.specs.Tests.{All, every-true, is-some}
 use Rattle.first.specs.Files.{firstDecode}
 use Rattle.first.specs.Machine.{firstNow}
 use Rattle.first.specs.Tables.{firstFileAt, firstClassAt}
 use Rattle.first.specs.Broken.{firstClassFits, firstClassesFit}
-use Rattle.first.specs.SameFiles.{laterFile, Old, Straight, same-read, read-old, same-decode, decode-straight, Holds, holds-at}
+use Rattle.first.specs.SameFiles.{laterFile, Old, Straight, same-read, read-early, read-old, same-decode, decode-straight, Holds, holds-at}
 
 -- the row's bytes begin with version 2
 unfoldable pub laterRow : List ℕ → ClassRow → Bool
@@ -85,6 +86,35 @@ pub same-classes-fit : (b : Base) (bs : List ℕ) (ks : List ClassRow) → Early
 unfolding firstClassesFit classesFit
 same-classes-fit b bs [] h = refl
 same-classes-fit b bs (k ∷ ks) h = λ i. every (isObject k ∷ same-from b bs 1 ks (h .1) i ∷ [])
+
+-- and what the first document's test passes is of version 1
+
+row-early : (bs : List ℕ) (k : ClassRow) → isSome (firstFileAt bs k) ≡ true → laterRow bs k ≡ false
+unfolding firstFileAt laterRow
+row-early bs k h = let f = is-some _ h in let a = bind-some _ _ (f .1) in read-early (take (k .size) (drop (k .start) bs)) (f .0) (a .2)
+
+class-early : (b : Base) (bs : List ℕ) (c : ℕ) (k : ClassRow) → firstClassFits b bs c k ≡ true → laterRow bs k ≡ false
+unfolding firstClassFits
+class-early b bs c k e = row-early bs k (every-true _ e .1 .0)
+
+from-early : (b : Base) (bs : List ℕ) (c : ℕ) (ks : List ClassRow) → allFrom (firstClassFits b bs) c ks ≡ true → Early bs ks
+unfolding allFrom
+from-early b bs c [] h = tt
+from-early b bs c (k ∷ ks) h = go (firstClassFits b bs c k) refl h (from-early b bs (suc c) ks)
+  where
+    go : (t : Bool) → firstClassFits b bs c k ≡ t → (elim t as (λ _. Bool) [ true ↦ allFrom (firstClassFits b bs) (suc c) ks | false ↦ false ]) ≡ true
+        → (allFrom (firstClassFits b bs) (suc c) ks ≡ true → Early bs ks) → Early bs (k ∷ ks)
+    go true e q ih = (class-early b bs c k e, ih q)
+    go false e q ih = absurd (false≢true q)
+
+object-early : (bs : List ℕ) (k : ClassRow) → isObject k ≡ true → laterRow bs k ≡ false
+unfolding isObject laterRow laterFile
+object-early bs k h = rw (eqb-true (k .size) 0 (every-true _ h .1 .1 .0)) refl
+
+pub fits-early : (b : Base) (bs : List ℕ) (ks : List ClassRow) → firstClassesFit b bs ks ≡ true → Early bs ks
+unfolding firstClassesFit
+fits-early b bs [] h = tt
+fits-early b bs (k ∷ ks) h = let p = every-true _ h in (object-early bs k (p .0), from-early b bs 1 ks (p .1 .0))
 
 -- The instruction at a frame's point
 

@@ -23,7 +23,7 @@ use Rattle.definition.specs.File.{File, Got, byte, mapsIn, methodsIn, readFile,
 use Rattle.definition.specs.Instructions.{pick, opcodeOf, inlineLength, instructionOf, Decoded, sizedAs, decode}
 use Rattle.definition.specs.Verifier.{Flow, Note, Onward, Turn, TypeState, after, effect, entryTypes, finished, flowInto, flowToTarget, goesOn, mapAt, mapTypes, mapsPast, notesOf, notesOfMethod, onto, returnKind, returns, startAt, target, turn, unmapped, unmappedFrom, verify}
 use Rattle.definition.specs.Loading.{define}
-use Rattle.laws.specs.Options.{bind-some}
+use Rattle.laws.specs.Options.{bind-some, need-true}
 use Rattle.layout.specs.Tests.{All}
 use Rattle.first.specs.Files.{firstMethodsIn, firstReadFile, firstOpcodeOf, firstDecode}
 use Rattle.first.specs.Verifier.{firstVerify, firstNotesOfMethod, firstNotesOf, firstDefine}
@@ -122,6 +122,17 @@ unfolding firstReadFile readFile
 same-read bs h = bind-same _ _ _ (λ _. bind-in _ _ _ (λ v q. need-eq (eqb (v .value) versionOne) _ (tested (v .value) (eqb (v .value) versionOne) refl (not-two bs v h q)) _ _ (λ e.
     bind-same _ _ _ (λ n. bind-same _ _ _ (λ _. bind-same _ _ _ (λ c. bind-same _ _ _ (λ s. bind-same _ _ _ (λ k. bind-same _ _ _ (λ fs. bind-same _ _ _ (λ (j : Got ℕ).
     bind-eq _ _ (same-methods (j .value) (j .more) ∙ ap (λ (y : ℕ). methodsIn y (j .value) (j .more)) (sym (eqb-true (v .value) versionOne e))) _ _ (λ ms. refl)))))))))))
+
+-- what the first document reads as a file is of version 1
+pub read-early : (bs : List ℕ) (f : File) → firstReadFile bs ≡ some f → laterFile bs ≡ false
+unfolding firstReadFile laterFile byte
+read-early [] f e = refl
+read-early (b ∷ bs) f e =
+    let a = bind-some _ _ e in
+    let v = bind-some _ _ (a .2) in
+    let n = bind-some _ _ (v .2) in
+    let z : b ≡ v .0 .value = ap (λ (g : Got ℕ). g .value) (Option·some-injective _ _ (v .1)) in
+    rw (z ∙ eqb-true (v .0 .value) versionOne (need-true _ (n .1))) refl
 
 methods-old : (k : ℕ) (bs : List ℕ) → Holds (firstMethodsIn k bs) (λ g. All NoMaps (g .value))
 unfolding firstMethodsIn
