@@ -53,16 +53,16 @@ CallBringsNone (firstCallRows c) = BringsNone c
 CallBringsNone firstCallStep = Unit {0}
 CallBringsNone (firstCallRun n) = Unit {0}
 
-same-call : (c : FirstCall) → CallBringsNone c → (u : FirstTables) (t : Tables) → Carries u t → EarlyTables u → Alike (firstPerform c u) (perform (today c) t)
-unfolding firstPerform perform
-same-call firstCallBoot b u t h x = let d = same-boot u t h in record { answer = d .answer; tables = d .tables }
-same-call (firstCallRows c) b u t h x = let d = same-rows-call c b u t h x in record { answer = d .answer; tables = d .tables }
-same-call firstCallStep b u t h x = let d = same-step-tables u t h x in record { answer = ap Stepped (d .answer); tables = d .tables }
-same-call (firstCallRun n) b u t h x = let d = same-run n u t h x in record { answer = d .answer; tables = d .tables }
-
 boot-call : (u : FirstTables) (t : Tables) → Carries u t → Alike (firstPerform firstCallBoot u) (perform callBoot t)
 unfolding firstPerform perform
 boot-call u t h = let d = same-boot u t h in record { answer = d .answer; tables = d .tables }
+
+same-call : (c : FirstCall) → CallBringsNone c → (u : FirstTables) (t : Tables) → Carries u t → EarlyTables u → Alike (firstPerform c u) (perform (today c) t)
+unfolding firstPerform perform
+same-call firstCallBoot b u t h x = boot-call u t h
+same-call (firstCallRows c) b u t h x = let d = same-rows-call c b u t h x in record { answer = d .answer; tables = d .tables }
+same-call firstCallStep b u t h x = let d = same-step-tables u t h x in record { answer = ap Stepped (d .answer); tables = d .tables }
+same-call (firstCallRun n) b u t h x = let d = same-run n u t h x in record { answer = d .answer; tables = d .tables }
 
 brings : (c : FirstRowCall) → BringsLater c ⊎ BringsNone c
 brings (firstRowDefine l bs) = go (laterFile bs)

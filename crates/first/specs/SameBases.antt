@@ -1,5 +1,5 @@
 -- Classes whose files are of version 1 are read the same by both machines, and none of their instructions branches.
-use mathlib.Core.Path.{_≡_, refl, sym, ap, _∙_}
+use mathlib.Core.Path.{_≡_, refl, sym, ap}
 use mathlib.Core.Bool.{Bool, true, false, false≢true}
 use mathlib.Core.Option.{Option, none, some, Option·none-ne-some, Option·some-injective}
 use mathlib.Core.List.{List, [], _∷_, map}
@@ -15,8 +15,8 @@ use Rattle.definition.specs.Answers.{Result, ok, _>>=_, take?}
 use Rattle.definition.specs.Maybe as Maybe
 use Rattle.definition.specs.Classes.{Base, Class, superOf}
 use Rattle.definition.specs.Constraints.{World}
-use Rattle.definition.specs.File.{File, classOf, objectClass, readFile}
-use Rattle.definition.specs.Instructions.{Decoded, decode}
+use Rattle.definition.specs.File.{File, classOf, objectClass}
+use Rattle.definition.specs.Instructions.{Decoded}
 use Rattle.definition.specs.Machine.{Frame, Now, now}
 use Rattle.definition.specs.Tables.{ClassRow, fileAt, classAt, sizeOf}
 use Rattle.definition.specs.Broken.{isObject, classFits, classesFit}
@@ -27,7 +27,7 @@ use Rattle.first.specs.Files.{firstDecode}
 use Rattle.first.specs.Machine.{firstNow}
 use Rattle.first.specs.Tables.{firstFileAt, firstClassAt}
 use Rattle.first.specs.Broken.{firstClassFits, firstClassesFit}
-use Rattle.first.specs.SameFiles.{laterFile, Old, Straight, same-read, read-early, read-old, same-decode, decode-straight, Holds, holds-at}
+use Rattle.first.specs.SameFiles.{laterFile, Old, Straight, same-read, read-early, read-old, same-decode, decode-straight, holds-at}
 
 -- the row's bytes begin with version 2
 unfoldable pub laterRow : List ℕ → ClassRow → Bool

@@ -20,7 +20,7 @@ use Rattle.definition.specs.Tables.{Tables, ClassRow, Rows, classRowAt, putClas
 use Rattle.laws.specs.Wrapped.{Ok, then}
 use Rattle.layout.specs.Places.{rows-getD}
 use Rattle.layout.specs.Rows.{rows-back, cell-rows}
-use Rattle.layout.specs.Fills.{Fills, classes-fill, kept-fill}
+use Rattle.layout.specs.Fills.{classes-fill, kept-fill}
 use Rattle.definition.specs.Calls.{Given, bootRows, Done, done, carried, wrap, boot, stepRows, stepTables, goOn, runFrom, run, onRowCall}
 use Rattle.first.specs.Tables.{FirstTables, firstCountsLength, FirstRows, firstWorldOf, firstViewOver, firstView, firstCountsOf, firstPut}
 use Rattle.first.specs.Broken.{firstBroken}

@@ -1,18 +1,17 @@
 -- Files of version 1 are read, verified and defined as they were. A file of a later version begins with a 2.
-use mathlib.Core.Path.{_≡_, refl, sym, ap, _∙_, subst}
-use mathlib.Core.Bool.{Bool, true, false, false≢true, not, _&&_}
+use mathlib.Core.Path.{_≡_, refl, sym, ap, _∙_}
+use mathlib.Core.Bool.{Bool, true, false, _&&_}
 use mathlib.Core.Option.{Option, none, some, Option·none-ne-some, Option·some-injective}
 use mathlib.Core.List.{List, [], _∷_, _++_, append-nil}
 use Prim.Native.Nat.{ℕ, zero, suc, _+_}
 use native.Mathlib.Omega.{arith}
-use lib.ListN.{length, take, drop, getD}
+use lib.ListN.{length, drop, getD}
 use lib.Dec.{eqb, leb}
-use borrow.Author.Tests.{eqb-true, eqb-false, eq-eqb, ne-eqb, leb-true, leb-false, le-leb, lt-leb}
+use borrow.Author.Tests.{eqb-true, eqb-false, leb-true}
 use Rattle.definition.specs.declared.Kind.{Kind}
 use Rattle.definition.specs.declared.Opcode.{Opcode}
 use Rattle.definition.specs.declared.Opcode.the-variants.{OpAconstNull, OpSipush, OpLoad, OpStore, OpPop, OpDup, OpArithmetic, OpGetfield, OpPutfield, OpInvokevirtual, OpNew, OpReturn, OpBranch, OpUnknown}
 use Rattle.definition.specs.declared.Instruction.{Instruction}
-use Rattle.definition.specs.declared.Instruction.the-variants.{AconstNull, Sipush, Load, Store, Pop, Dup, Arithmetic, Getfield, Putfield, Invokevirtual, New, Return, Branch}
 use Rattle.definition.specs.Numbers.{versionOne, versionTwo}
 use Rattle.definition.specs.Lists.{any}
 use Rattle.definition.specs.Maybe.{_>>=_, need}
@@ -21,7 +20,7 @@ use Rattle.definition.specs.Classes.{Class, Map, Method}
 use Rattle.definition.specs.Constraints.{World}
 use Rattle.definition.specs.File.{File, Got, byte, mapsIn, methodsIn, readFile, classOf}
 use Rattle.definition.specs.Instructions.{pick, opcodeOf, inlineLength, instructionOf, Decoded, sizedAs, decode}
-use Rattle.definition.specs.Verifier.{Flow, Note, Onward, Turn, TypeState, after, effect, entryTypes, finished, flowInto, flowToTarget, goesOn, mapAt, mapTypes, mapsPast, notesOf, notesOfMethod, onto, returnKind, returns, startAt, target, turn, unmapped, unmappedFrom, verify}
+use Rattle.definition.specs.Verifier.{Flow, Note, Onward, Turn, TypeState, after, effect, entryTypes, finished, flowInto, flowToTarget, goesOn, mapAt, mapTypes, mapsPast, notesOf, notesOfMethod, onto, returnKind, returns, startAt, target, turn, unmapped, verify}
 use Rattle.definition.specs.Loading.{define}
 use Rattle.laws.specs.Options.{bind-some, need-true}
 use Rattle.layout.specs.Tests.{All}

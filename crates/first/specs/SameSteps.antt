@@ -1,6 +1,6 @@
 -- One instruction, and a start, of both machines on the same objects: the same refusal, or the same constraints, frames and result, with the same objects again.
 use mathlib.Core.Path.{_≡_, refl, sym}
-use mathlib.Core.Option.{Option, none, some, Option·none-ne-some}
+use mathlib.Core.Option.{some, Option·none-ne-some}
 use mathlib.Core.List.{List, [], _∷_}
 use Prim.Native.Nat.{ℕ, _<_}
 use lib.ListN.{getElem?}

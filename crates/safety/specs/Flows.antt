@@ -2,8 +2,8 @@
 use mathlib.Core.Path.{_≡_, refl, sym, ap}
 use mathlib.Core.Bool.{Bool, true, false}
 use mathlib.Core.Option.{Option, none, some, Option·none-ne-some, Option·some-injective}
-use mathlib.Core.List.{List, [], _∷_, _++_, map, reverse, reverse-reverse, List·Memᴰ, Memᴰ·append-left, Memᴰ·append-right}
-use mathlib.Core.Logic.{_⊎_, inl, inr}
+use mathlib.Core.List.{List, [], _∷_, _++_, map, reverse, reverse-reverse, Memᴰ·append-left, Memᴰ·append-right}
+use mathlib.Core.Logic.{inl, inr}
 use Prim.Native.Nat.{ℕ}
 use lib.Dec.{eqb}
 use Rattle.definition.specs.Classes.{Class, Map, Method}
@@ -15,7 +15,7 @@ use Rattle.definition.specs.Verifier.{Flow, Note, TypeState, VerifierType, type
 use Rattle.laws.specs.Options.{bind-some, each-more, each-reverse}
 use Rattle.laws.specs.Walk.{Into}
 use Rattle.safety.specs.Places.{meet-name}
-use Rattle.safety.specs.Valid.{Conforms, Exists, Later, Local, Noted, Met, Flows, FlowsLocal, Verified, later-flows}
+use Rattle.safety.specs.Valid.{Conforms, Exists, Later, Local, Noted, Flows, FlowsLocal, Verified, later-flows}
 
 -- Values
 

@@ -16,7 +16,7 @@ use Rattle.definition.specs.Requests.{Request}
 use Rattle.definition.specs.Verifier.{VerifierType, typeClass, typeInt, typeOfName, entryTypes}
 use Rattle.laws.specs.Chains.{chain-more}
 use Rattle.laws.specs.Options.{each-more, each-more-in}
-use Rattle.safety.specs.Flows.{Lands, lands, operands-flow, locals-flow}
+use Rattle.safety.specs.Flows.{lands, operands-flow, locals-flow}
 use Rattle.safety.specs.Valid.{Conforms, Heap, Later, Linked, Local, ObjectSound, Stack, Top, later-conforms}
 use Rattle.definition.specs.Maybe as Maybe
 use Rattle.laws.specs.Growth.{Grows, grows-join, grows-self, tie-edges-more}

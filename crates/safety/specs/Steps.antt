@@ -33,7 +33,7 @@ use Rattle.safety.specs.Conform.{Tied, fits-own, override, tied-turn}
 use Rattle.safety.specs.Places.{carry, meet-class, meet-name, tie-there, ties-there}
 use Rattle.laws.specs.Walk.{Known, known, successors}
 use Rattle.safety.specs.Flows.{Lands, lands, later-lands, operands-flow, locals-flow}
-use Rattle.safety.specs.Valid.{Conforms, Flows, Heap, Later, Linked, Local, Noted, Stack, Top, Under, Verified, later-conforms, later-flows, later-local, later-ops, later-under}
+use Rattle.safety.specs.Valid.{Conforms, Flows, Heap, Later, Linked, Local, Noted, Stack, Top, Under, Verified, later-conforms, later-local, later-ops, later-under}
 use Rattle.definition.specs.Lists.{Each, toList}
 use Rattle.laws.specs.Members.{MethodAt, selected-at, SelectedAt, nearest-selected}
 use Rattle.laws.specs.Objects.{made-there}

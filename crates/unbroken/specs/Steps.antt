@@ -14,7 +14,7 @@ use Rattle.definition.specs.Classes.{Base, Class, Slot, find, loaderOf, slots, 
 use Rattle.definition.specs.Constraints.{Tie, World, newTie, post, posted, tieIs, newTies, signatureTies}
 use Rattle.definition.specs.Instructions.{Decoded, pick}
 use Rattle.definition.specs.Lists.{any}
-use Rattle.definition.specs.Machine.{Frame, Now, Object, ObjectRow, free, owned, Objects, objectHeld, Exists, unused, made, roomless, rewritten, changed, Progress, Value, entryFrame, execute, give, initialValue, int!, intValue, jumps, moved, newObject, now, nullValue, object!, objectValue, ofKind!, past, pop!, reference!, room!, step, under!, emptyValue, unlistedValue, existing}
+use Rattle.definition.specs.Machine.{Frame, Now, Object, ObjectRow, free, owned, Objects, objectHeld, Exists, unused, made, roomless, rewritten, changed, Progress, Value, entryFrame, execute, give, initialValue, int!, intValue, jumps, newObject, now, nullValue, object!, objectValue, ofKind!, past, pop!, reference!, room!, step, under!, emptyValue, unlistedValue, existing}
 use Rattle.definition.specs.Requests.{Request, at}
 use Rattle.definition.specs.Verifier.{pop}
 use Rattle.definition.specs.declared.Kind.{Kind}
