@@ -120,6 +120,7 @@ fn act(
             free,
         )),
         Instruction::Return(k) => plain(instructions::give_back(frames, top, k)),
+        Instruction::Branch(c, p) => plain(instructions::branch(frames, top, c, p)),
     }
 }
 
