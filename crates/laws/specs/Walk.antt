@@ -570,7 +570,7 @@ module _ (k : Class) (m : Method) (ns : List Note) (v : notesOfMethod k m ≡ so
       let w = verified k m ns v in
       let st = standing (k .version) (m .code) (m .maps) (m .signature .result) (entryTypes k m) (w .f) (w .enters) in
       let mapped : (p : ℕ) (x : Map) → mapAt (m .maps) p ≡ some x → typesIn k m p ≡ some (mapTypes x) =
-          λ p x e. w .types p ∙ visited (k .version) (m .code) (m .maps) (m .signature .result) (length (m .code)) 0 (m .maps) (w .f .types) (w .rest) (w .walks) st p x e in
+      λ p x e. w .types p ∙ visited (k .version) (m .code) (m .maps) (m .signature .result) (length (m .code)) 0 (m .maps) (w .f .types) (w .rest) (w .walks) st p x e in
       let t = turns (k .version) (m .code) (m .maps) (m .signature .result) (length (m .code)) 0 (m .maps) (w .f .types) (w .rest) q τ (w .walks) (sym (w .types q) ∙ h) in
       known-of (k .version) (m .code) (m .maps) (m .signature .result) (typesIn k m) ns mapped q τ (record {
         t = t .t;
