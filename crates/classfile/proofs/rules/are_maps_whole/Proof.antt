@@ -1,10 +1,12 @@
 -- Before map i is tested, its place and the least offset it may have are known, and the test of the maps from i on says what the test of all says.
 use Prim.Native.Nat.{_+_, _-_, _*_, _≤_}
 use mathlib.Core.Path.{_≡_, sym, ap, _∙_}
+use mathlib.Core.List.{[]}
 use native.Mathlib.Omega.{arith}
 use borrow.Author.Tests.{le-leb, lt-leb, not-true, not-false}
 use Rattle.definition.specs.Lists.{every, rows}
 use Rattle.layout.specs.Places.{rows-start}
+use Rattle.layout.specs.Tests.{true-every}
 use Rattle.classfile.proofs.Laws.{map-next, least-next}
 use Rattle.classfile.specs.Lists.{every-more, every-not, every-end, every-first, every-fails}
 use Rattle.classfile.specs.Reading.{mapCount, mapPlace}
@@ -55,11 +57,11 @@ loop-again c =
     )
 
 returns-3 : tie.Need-returns-3 Inv-loop μ-loop
-unfolding wholeMaps every
+unfolding wholeMaps
 returns-3 c =
     let at = c .before .loop in
     let one = le-leb _ _ (c .before .before .before .if1 .left) in
-    sym (every-first _ _ one ∙ every-first _ _ (sym (at .inv .4) ∙ every-end _ _ _ (c .loop-test .left)))
+    sym (every-first _ _ one ∙ every-first _ _ (sym (at .inv .4) ∙ every-end _ _ _ (c .loop-test .left)) ∙ true-every [] tt)
 
 pub are-maps-whole-spec : {M : Type 1} → statement M
 are-maps-whole-spec = tie.close (tie.spec Inv-loop μ-loop returns (λ c κs. search needs) loop-holds (λ c κs. search needs) returns-2 (λ c κs. search needs) (λ c κs. search needs) (λ c. search needs) (λ c κs. search needs) (λ c. search needs) (λ c. search needs) (λ c. search needs) loop-again returns-3)
