@@ -85,13 +85,13 @@ module _ (version : ℕ) (code : List ℕ) (maps : List Map) (result p : ℕ) (w
     pub lacks : (k : ℕ) → 0 < k → lacking maps p wants (d .instruction) ≡ true → unmappedFrom version code maps result k p wants ≡ true
     unfolding unmappedFrom lacking
     lacks zero h l = absurd (omega arith)
-    lacks (suc k) h l = rw (unmappedFrom, e) (either-true _ _ _ l)
+    lacks (suc k) h l = rw (unmappedFrom, e) (either-true (wants && isNone (mapAt maps p)) (any (λ q. isNone (mapAt maps q)) (toList (target (d .instruction)))) (unmappedFrom version code maps result k (p + d .size) (not (goesOn (d .instruction)))) l)
 
     pub lacks-not : (k : ℕ) → 0 < k → lacking maps p wants (d .instruction) ≡ false
         → unmappedFrom version code maps result k p wants ≡ unmappedFrom version code maps result (k - 1) (p + d .size) (not (goesOn (d .instruction)))
     unfolding unmappedFrom lacking
     lacks-not zero h l = absurd (omega arith)
-    lacks-not (suc k) h l = let n : suc k - 1 ≡ k = omega arith in rw (unmappedFrom, e, n) (either-false _ _ _ l)
+    lacks-not (suc k) h l = let n : suc k - 1 ≡ k = omega arith in rw (unmappedFrom, e, n) (either-false (wants && isNone (mapAt maps p)) (any (λ q. isNone (mapAt maps q)) (toList (target (d .instruction)))) (unmappedFrom version code maps result k (p + d .size) (not (goesOn (d .instruction)))) l)
 
 pub any-one : {A : Type 0} (f : A → Bool) (a : A) (b : Bool) → b ≡ f a → b ≡ any f (a ∷ [])
 unfolding any

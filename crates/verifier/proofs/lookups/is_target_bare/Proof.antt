@@ -10,7 +10,7 @@ use Rattle.verifier.proofs.lookups.is_target_bare.Tie as tie
 returns : tie.Need-returns
 unfolding targetOf toList
 returns c =
-    let t = sym (c .before .before .before .before .before .target-of .ensures) ∙ ap targetOf (c .before .before .t .given .1) in
+    let t = sym (c .before .before .before .before .before .target-of .ensures) ∙ ap targetOf (c .before .before .before .t .given .1) in
     rw t (any-one _ _ _ (rw (c .before .wide16 .ensures .0) at (c .is-bare .ensures)))
 
 returns-2 : tie.Need-returns-2

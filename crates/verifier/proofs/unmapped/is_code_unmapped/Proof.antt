@@ -1,10 +1,9 @@
 -- What the code from point p on lacks is what all of it lacks.
-use Prim.Native.Nat.{ℕ, _≤_}
+use Prim.Native.Nat.{ℕ}
 use mathlib.Core.Bool.{false}
 use mathlib.Core.Path.{_≡_, refl, sym, ap, _∙_}
 use native.Mathlib.Omega.{arith}
 use lib.ListN.{length}
-use denote.Ref.{now}
 use Rattle.definition.specs.Verifier.{unmappedFrom}
 use Rattle.classfile.specs.Reading.{mapsOf}
 use Rattle.verifier.specs.Decoding.{decodedOf}
@@ -26,16 +25,26 @@ loop-holds : tie.Need-loop-holds Inv-loop μ-loop
 loop-holds c result = refl
 
 returns : tie.Need-returns Inv-loop μ-loop
-returns c = ?
+unfolding decodedOf
+returns c result =
+    sym (unread _ _ _ result _ _ _ (c .before .before .before .loop-test .taken) (decode-is _ _ (c .before .before .decode .ensures) ∙ ap decodedOf (c .enum-told .given .1)))
+    ∙ c .before .before .before .before .loop .inv result
 
 returns-2 : tie.Need-returns-2 Inv-loop μ-loop
-returns-2 c = ?
+returns-2 c result =
+    let read = decode-at _ _ _ _ (c .before .before .before .before .before .decode .ensures) _ _ (c .before .before .before .i .given .1) in
+    sym (lacks _ _ _ result _ _ _ read _ (c .before .before .before .before .before .before .loop-test .taken) (sym (c .before .is-lacking .ensures) ∙ c .if1 .taken))
+    ∙ c .before .before .before .before .before .before .before .loop .inv result
 
 add-p : tie.Need-add-p Inv-loop μ-loop
-add-p c = ?
+add-p c = omega (arith, at-within _ _ _ _ (c .before .before .before .before .before .before .decode .ensures) _ _ (c .before .before .before .before .i .given .1))
 
 loop-again : tie.Need-loop-again Inv-loop μ-loop
-loop-again c = ?
+loop-again c result =
+    let read = decode-at _ _ _ _ (c .before .before .before .before .before .before .decode .ensures) _ _ (c .before .before .before .before .i .given .1) in
+    rw (c .goes-on .ensures)
+    (sym (lacks-not _ _ _ result _ _ _ read _ (c .before .before .before .before .before .before .before .loop-test .taken) (sym (c .before .before .is-lacking .ensures) ∙ c .before .if1 .left))
+    ∙ c .before .before .before .before .before .before .before .before .loop .inv result)
 
 returns-3 : tie.Need-returns-3 Inv-loop μ-loop
 returns-3 c result = sym (out-of-code _ _ _ result _ _ _ (c .loop-test .left)) ∙ c .before .loop .inv result
