@@ -34,7 +34,8 @@ use Rattle.frames.specs.declared.Entry.{Entry}
 use Rattle.instructions.specs.declared.Plan.{Plan}
 use Rattle.instructions.specs.declared.Plan.the-variants.{Refuse, Keep, Jump, Above, Local, Give, Finish, Field, Enter, Make}
 
--- what the machine makes of a plan of task k, which has m frames below its top frame, where the ties us are posted and the frame goes on at point q
+-- what the machine makes of a plan of task k, which has m frames below its top frame, where the ties us are posted and the frame goes on at point q, unless
+-- the plan jumps
 unfoldable pub planned : Base → Tables → ℕ → ℕ → ℕ → List Tie → Plan → Done Answer
 planned B t k m q us p =
     carried Refused t
@@ -222,7 +223,7 @@ pub written-new : (B : Base) (c o n : ℕ) (O P ts us : List ℕ) → n ≡ size
 written-new B c o n O P ts us e f l h = h ∙ rw (e, f, typed-object B c ts l)
 
 -- What carrying a plan out leaves: the answer, the counts, the objects and the frames. The top frame of task k is in row m, which begins at cell b, and
--- goes on at point q
+-- goes on at point q, unless the plan jumps
 
 abbrev pub Left : Base → List ℕ → List ℕ → List ℕ → ℕ → ℕ → ℕ → ℕ → Plan → Answer → List ℕ → List ℕ → List ℕ → Type 0
 Left B N O F k m b q (Refuse r) a C P G = (a ≡ Refused r) × (C ≡ N) × (P ≡ O) × (G ≡ F)

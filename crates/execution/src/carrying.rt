@@ -151,7 +151,7 @@ fn make(
     take_row(counts, o, task);
 }
 
-// A plan carried out: the top frame of a task goes on at point q, unless the plan says where.
+// A plan carried out: the top frame of a task goes on at point q, unless the plan jumps.
 pub(crate) fn carry_out(
     counts: &mut [u16],
     classes: &[u16],

@@ -124,7 +124,7 @@ fn act(
     }
 }
 
-// What a step chooses: ties, a plan, and the point at which the frame goes on.
+// What a step chooses: ties, a plan, and the point at which the frame goes on unless it jumps.
 pub struct Choice {
     pub posting: Posting,
     pub plan: Plan,

@@ -1,5 +1,5 @@
 -- What a step is going to do, as a plan of numbers, and what a plan means in rows. A plan speaks of the frame of a task whose row begins at cell b and goes
--- on at point q; fs are the frames below it. An instruction's function answers a plan whose meaning is what the machine does.
+-- on at point q, unless the plan jumps; fs are the frames below it. An instruction's function answers a plan whose meaning is what the machine does.
 use mathlib.Core.Path.{_≡_, refl}
 use mathlib.Core.Bool.{Bool, true, false}
 use mathlib.Core.Option.{none, some}
