@@ -3,6 +3,7 @@ pub mod DecodingLaws
 pub mod TypeLaws
 pub mod EffectLaws
 pub mod TurnLaws
+pub mod LookupLaws
 pub mod NoteLaws
 pub mod TraceLaws
 pub mod CountLaws

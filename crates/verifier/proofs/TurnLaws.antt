@@ -184,7 +184,7 @@ module _ (version : ℕ) (code : List ℕ) (p : ℕ) (r : Reading) (e : r ≡ re
   turned-none result s h = rw (decode-is (decode version code p) r e, h)
 
   module _ (i : Instruction) (n : ℕ) (h : r ≡ At i n) where
-    decode-at : decode version code p ≡ some (record { instruction = i; size = n })
+    pub decode-at : decode version code p ≡ some (record { instruction = i; size = n })
     unfolding decodedOf
     decode-at = decode-is (decode version code p) r e ∙ rw h
 

@@ -1,6 +1,8 @@
 // Decoding of instructions, and the verifier.
 mod decoding; // decoding.rt: opcode bytes, and the instruction at a point
 mod types; // types.rt: the verifier's types as numbers, and its state at a point
+mod lookups; // lookups.rt: the map at a point, and where an instruction goes on
+mod unmapped; // unmapped.rt: a method that lacks a map
 mod effects; // effects.rt: what each instruction does to the state
 mod turns; // turns.rt: one turn of the walk over the code
 mod methods; // methods.rt: the walk over a method, and the table of notes
@@ -13,3 +15,4 @@ pub use decoding::inline_length;
 pub use decoding::opcode_of;
 pub use methods::Verified;
 pub use methods::verify_method;
+pub use unmapped::is_unmapped;

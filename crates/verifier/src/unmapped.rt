@@ -1,0 +1,44 @@
+// A method that lacks a map: at a target, or after a goto or return.
+use crate::decoding::Reading;
+use crate::decoding::decode;
+use crate::lookups::goes_on;
+use crate::lookups::is_lacking;
+use definition::numbers::VERSION_TWO;
+ghost use mathlib.Core.Path.{_≡_};
+ghost use mathlib.Core.Bool.{_&&_, false};
+ghost use Prim.Native.Nat.{ℕ};
+ghost use lib.ListN.{length};
+ghost use lib.Dec.{leb};
+ghost use Rattle.definition.specs.Verifier.{unmappedFrom};
+ghost use Rattle.classfile.specs.Reading.{mapsOf};
+
+// The code is read up to the first instruction that can't be.
+fn is_code_unmapped(version: u8, code: &[u8], maps: &[u8]) -> bool
+    ensures { λ r. ⌜ ((result : ℕ) → r ≡ unmappedFrom version (now (code .entry)) (mapsOf (now (maps .entry))) result (length (now (code .entry))) 0 false) ⌝ }
+{
+    let mut left = code.len();
+    let mut p: usize = 0;
+    let mut wants = false;
+    while 0 < left {
+        let Reading::At(i, size) = decode(version, code, p) else {
+            return false;
+        };
+        if is_lacking(maps, p, wants, i) {
+            return true;
+        }
+        wants = !goes_on(i);
+        p += size;
+        left -= 1;
+    }
+    false
+}
+
+// Version 1 has no maps, and lacks none.
+pub fn is_unmapped(version: u8, code: &[u8], maps: &[u8]) -> bool
+    ensures { λ r. ⌜ ((result : ℕ) → r ≡ (leb 2 version && unmappedFrom version (now (code .entry)) (mapsOf (now (maps .entry))) result (length (now (code .entry))) 0 false)) ⌝ }
+{
+    if version < VERSION_TWO {
+        return false;
+    }
+    is_code_unmapped(version, code, maps)
+}
