@@ -1,11 +1,16 @@
 // What flows into a map: each local and operand against the map's type.
 use crate::effects::Meeting;
 use crate::effects::meet_name;
+use crate::types::LOCALS;
+use crate::types::OPERANDS;
 use crate::types::UNSET;
 use crate::types::type_of_name;
 ghost use mathlib.Core.Path.{_≡_};
-ghost use Rattle.definition.specs.Verifier.{localType, meetLocal};
-ghost use Rattle.verifier.specs.Types.{localOf};
+ghost use Rattle.definition.specs.Verifier.{localType, meetLocal, typeOfName};
+ghost use mathlib.Core.List.{map};
+ghost use Prim.Native.Nat.{ℕ, _+_, _<_};
+ghost use Rattle.classfile.specs.Reading.{typeAt, mapOf};
+ghost use Rattle.verifier.specs.Types.{localOf, localsOf, operandAt};
 ghost use Rattle.verifier.specs.Effects.{notesIn};
 
 // The type that a map gives a local: 0 is unset.
@@ -26,4 +31,40 @@ pub(crate) fn meet_local(t: u32, n: u16) -> Meeting
         return Meeting::Unmet;
     }
     meet_name(t, n)
+}
+
+// The type of local i in the map that begins at that place.
+fn mapped_local(maps: &[u8], place: u32, i: u8) -> u32
+    ensures { λ r. ⌜ localOf r ≡ localType (typeAt (now (maps .entry)) (place + 2) i) ⌝ }
+{
+    local_type(classfile::map_local(maps, place, i))
+}
+
+pub(crate) fn mapped_locals(maps: &[u8], place: u32) -> [u32; LOCALS]
+    ensures { λ r. ⌜ localsOf r ≡ map localType (mapOf (now (maps .entry)) place .locals) ⌝ }
+{
+    let a = mapped_local(maps, place, 0);
+    let b = mapped_local(maps, place, 1);
+    let c = mapped_local(maps, place, 2);
+    let d = mapped_local(maps, place, 3);
+    let e = mapped_local(maps, place, 4);
+    let f = mapped_local(maps, place, 5);
+    let g = mapped_local(maps, place, 6);
+    let h = mapped_local(maps, place, 7);
+    [a, b, c, d, e, f, g, h]
+}
+
+// The types of sixteen operands, from the lowest, whether or not the map has so many.
+pub(crate) fn mapped_operands(maps: &[u8], place: u32) -> [u32; OPERANDS]
+    ensures { λ r. ⌜ ((j : ℕ) → j < 16 → operandAt r j ≡ typeOfName (typeAt (now (maps .entry)) (place + 19) j)) ⌝ }
+{
+    let mut operands = [0; OPERANDS];
+    let mut i: u8 = 0;
+    while i < 16 {
+        let t = type_of_name(classfile::map_operand(maps, place, i));
+        let at = cells::wide8(i);
+        operands[at] = t;
+        i += 1;
+    }
+    operands
 }
