@@ -3,14 +3,15 @@ use crate::effects::Meeting;
 use crate::effects::meet_name;
 use crate::types::LOCALS;
 use crate::types::OPERANDS;
+use crate::types::Types;
 use crate::types::UNSET;
 use crate::types::type_of_name;
 ghost use mathlib.Core.Path.{_≡_};
-ghost use Rattle.definition.specs.Verifier.{localType, meetLocal, typeOfName};
+ghost use Rattle.definition.specs.Verifier.{localType, mapTypes, meetLocal, typeOfName};
 ghost use mathlib.Core.List.{map};
-ghost use Prim.Native.Nat.{ℕ, _+_, _<_};
-ghost use Rattle.classfile.specs.Reading.{typeAt, mapOf};
-ghost use Rattle.verifier.specs.Types.{localOf, localsOf, operandAt};
+ghost use Prim.Native.Nat.{ℕ, _+_, _<_, _≤_};
+ghost use Rattle.classfile.specs.Reading.{mapDepth, typeAt, mapOf};
+ghost use Rattle.verifier.specs.Types.{localOf, localsOf, operandAt, typesOf};
 ghost use Rattle.verifier.specs.Effects.{notesIn};
 
 // The type that a map gives a local: 0 is unset.
@@ -67,4 +68,19 @@ pub(crate) fn mapped_operands(maps: &[u8], place: u32) -> [u32; OPERANDS]
         i += 1;
     }
     operands
+}
+
+// The types that a map of at most 16 operands gives its point.
+pub(crate) fn mapped_types(maps: &[u8], place: u32) -> Types
+    requires { ⌜ mapDepth (now maps) place ≤ 16 ⌝ }
+    ensures { λ r. ⌜ typesOf r ≡ mapTypes (mapOf (now (maps .entry)) place) ⌝ }
+{
+    let operands = mapped_operands(maps, place);
+    let locals = mapped_locals(maps, place);
+    let depth = cells::wide8(classfile::map_depth(maps, place));
+    Types {
+        operands,
+        depth,
+        locals,
+    }
 }
