@@ -7,11 +7,11 @@ use crate::types::Types;
 use crate::types::UNSET;
 use crate::types::type_of_name;
 ghost use mathlib.Core.Path.{_≡_};
-ghost use Rattle.definition.specs.Verifier.{localType, mapTypes, meetLocal, typeOfName};
+ghost use Rattle.definition.specs.Verifier.{localType, mapTypes, meetLocal, meets, typeOfName};
 ghost use mathlib.Core.List.{map};
 ghost use Prim.Native.Nat.{ℕ, _+_, _<_, _≤_};
 ghost use Rattle.classfile.specs.Reading.{mapDepth, typeAt, mapOf};
-ghost use Rattle.verifier.specs.Types.{localOf, localsOf, operandAt, typesOf};
+ghost use Rattle.verifier.specs.Types.{localOf, localAt, localsOf, operandAt, typesOf};
 ghost use Rattle.verifier.specs.Effects.{notesIn};
 
 // The type that a map gives a local: 0 is unset.
@@ -83,4 +83,24 @@ pub(crate) fn mapped_types(maps: &[u8], place: u32) -> Types
         depth,
         locals,
     }
+}
+
+// Local i against the map that begins at that place.
+pub(crate) fn meet_mapped_local(maps: &[u8], place: u32, types: Types, i: u8) -> Meeting
+    requires { ⌜ i < 8 ⌝ }
+    ensures { λ r. ⌜ notesIn r ≡ meetLocal (localAt (types .locals) i) (typeAt (now (maps .entry)) (place + 2) i) ⌝ }
+{
+    let at = cells::wide8(i);
+    let t = types.locals[at];
+    meet_local(t, classfile::map_local(maps, place, i))
+}
+
+// Operand i, from the lowest, against the map that begins at that place.
+pub(crate) fn meet_mapped_operand(maps: &[u8], place: u32, types: Types, i: u8) -> Meeting
+    requires { ⌜ i < 16 ⌝ }
+    ensures { λ r. ⌜ notesIn r ≡ meets (operandAt (types .operands) i) (typeAt (now (maps .entry)) (place + 19) i) ⌝ }
+{
+    let at = cells::wide8(i);
+    let t = types.operands[at];
+    meet_name(t, classfile::map_operand(maps, place, i))
 }

@@ -55,7 +55,11 @@ fn is_numbered_unmapped(bytes: &[u8], j: u8) -> bool
         return false;
     };
     let version = classfile::version(bytes);
-    is_unmapped(version, classfile::code(bytes, place), classfile::method_maps(bytes, place))
+    is_unmapped(
+        version,
+        classfile::code(bytes, place),
+        classfile::method_maps(bytes, place),
+    )
 }
 
 // Whether a method of a class file is unmapped. The file's own rules are for others to check.
