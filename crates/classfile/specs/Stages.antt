@@ -253,7 +253,7 @@ module _ (bs : List ℕ) where
   maps-some p e =
       let ms = drop (codeEnd bs p) bs in
       let o : Outcome (mapsIn (fileVersion bs) (drop (codeEnd bs p) bs)) (WholeMaps (mapBytes bs p)) (got bs (mapsOf (mapBytes bs p)) (nextPlace bs p)) =
-        rw (e, mapsIn, pick, ← drop-drop (mapPlace ms (mapCount ms)) (codeEnd bs p) bs) (maps-counted ms) in
+      rw (e, mapsIn, pick, ← drop-drop (mapPlace ms (mapCount ms)) (codeEnd bs p) bs) (maps-counted ms) in
       meant (λ w d. w) (λ f. f e) o
 
   maps-none : (p : ℕ) → leb 2 (fileVersion bs) ≡ false

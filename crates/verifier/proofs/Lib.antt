@@ -4,6 +4,7 @@ pub mod TypeLaws
 pub mod EffectLaws
 pub mod TurnLaws
 pub mod LookupLaws
+pub mod FlowLaws
 pub mod NoteLaws
 pub mod TraceLaws
 pub mod CountLaws

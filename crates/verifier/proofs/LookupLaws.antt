@@ -7,7 +7,8 @@ use mathlib.Core.List.{List, [], _∷_}
 use Prim.Native.Nat.{ℕ, zero, suc, _+_, _-_, _*_, _≤_, _<_}
 use native.Mathlib.Omega.{arith}
 use native.Mathlib.Numerals.{add-one}
-use lib.Dec.{eqb}
+use lib.ListN.{length}
+use lib.Dec.{eqb, leb}
 use borrow.Author.Tests.{eq-eqb, ne-eqb}
 use Rattle.definition.specs.Instructions.{Decoded, decode, pick}
 use Rattle.definition.specs.declared.Instruction.{Instruction}
@@ -15,8 +16,8 @@ use Rattle.definition.specs.Lists.{any, isNone, toList, rows}
 use Rattle.definition.specs.Classes.{Map}
 use Rattle.definition.specs.Verifier.{mapAt, target, goesOn, unmappedFrom}
 use Rattle.layout.specs.Places.{rows-step, rows-none, rows-start}
-use Rattle.classfile.specs.Reading.{mapCount, mapDepth, mapEnd, mapOf, mapPlace, mapNumbered, mapsOf}
-use Rattle.verifier.specs.Lookups.{mapThere, lacking}
+use Rattle.classfile.specs.Reading.{fileVersion, mapCount, mapDepth, mapEnd, mapOf, mapPlace, mapNumbered, mapsOf, codeAt, mapBytes, methodAt, methodIn}
+use Rattle.verifier.specs.Lookups.{mapThere, lacking, unmappedIn}
 
 -- the place after map i, which begins at p and takes d bytes
 pub map-next : (ms : List ℕ) (i p d : ℕ) → p ≡ mapPlace ms i → d ≡ 19 + 2 * mapDepth ms p → p + d ≡ mapPlace ms (i + 1)
@@ -105,3 +106,10 @@ pub out-of-code : (version : ℕ) (code : List ℕ) (maps : List Map) (result k 
 unfolding unmappedFrom
 out-of-code version code maps result zero p wants h = refl
 out-of-code version code maps result (suc k) p wants h = absurd (omega arith)
+
+-- a method of a file, whose record begins at p
+pub unmapped-found :
+    (bs : List ℕ) (j p version : ℕ) (code maps : List ℕ) (r : Bool) → methodAt bs p ≡ methodIn bs j → version ≡ fileVersion bs → code ≡ codeAt bs p → maps ≡ mapBytes bs p →
+    ((result : ℕ) → r ≡ (leb 2 version && unmappedFrom version code (mapsOf maps) result (length code) 0 false)) → r ≡ unmappedIn (fileVersion bs) (methodIn bs j)
+unfolding unmappedIn methodAt
+unmapped-found bs j p version code maps r e v c m f = rw (← e) (rw (v, c, m) at (f (methodAt bs p .signature .result)))

@@ -3,12 +3,13 @@ use mathlib.Core.Bool.{Bool, true, false, _&&_, _||_}
 use mathlib.Core.Option.{Option, none, some}
 use mathlib.Core.List.{List}
 use Prim.Native.Nat.{ℕ}
-use lib.Dec.{eqb}
+use lib.ListN.{length}
+use lib.Dec.{eqb, leb}
 use Rattle.definition.specs.declared.Instruction.{Instruction}
 use Rattle.definition.specs.Instructions.{pick}
 use Rattle.definition.specs.Lists.{any, isNone, toList}
-use Rattle.definition.specs.Classes.{Map}
-use Rattle.definition.specs.Verifier.{mapAt, target}
+use Rattle.definition.specs.Classes.{Map, Method}
+use Rattle.definition.specs.Verifier.{mapAt, target, unmappedFrom}
 use Rattle.classfile.specs.Reading.{mapOf}
 use Rattle.verifier.specs.declared.lookups.Target.{Target}
 use Rattle.verifier.specs.declared.lookups.Target.the-variants.{To, Nowhere}
@@ -24,3 +25,7 @@ targetOf (To q) = some q
 -- point p lacks a map that it wants, or the target does
 unfoldable pub lacking : List Map → ℕ → Bool → Instruction → Bool
 lacking maps p wants i = (wants && isNone (mapAt maps p)) || any (λ q. isNone (mapAt maps q)) (toList (target i))
+
+-- a method of a class of that version is unmapped; `unmapped` of the definition says it of the class
+unfoldable pub unmappedIn : ℕ → Method → Bool
+unmappedIn version m = leb 2 version && unmappedFrom version (m .code) (m .maps) (m .signature .result) (length (m .code)) 0 false

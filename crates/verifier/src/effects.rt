@@ -73,7 +73,7 @@ fn meet_int(t: u32) -> Meeting
 }
 
 // A type where name b is demanded.
-fn meet_name(t: u32, b: u16) -> Meeting
+pub(crate) fn meet_name(t: u32, b: u16) -> Meeting
     ensures { λ r. ⌜ notesIn r ≡ meets (typeOf t) b ⌝ }
 {
     if b == 1 {

@@ -4,6 +4,7 @@ mod types; // types.rt: the verifier's types as numbers, and its state at a poin
 mod lookups; // lookups.rt: the map at a point, and where an instruction goes on
 mod unmapped; // unmapped.rt: a method that lacks a map
 mod effects; // effects.rt: what each instruction does to the state
+mod flows; // flows.rt: what flows into a map
 mod turns; // turns.rt: one turn of the walk over the code
 mod methods; // methods.rt: the walk over a method, and the table of notes
 mod classes; // classes.rt: all methods of a class file
@@ -15,4 +16,5 @@ pub use decoding::inline_length;
 pub use decoding::opcode_of;
 pub use methods::Verified;
 pub use methods::verify_method;
+pub use unmapped::is_class_unmapped;
 pub use unmapped::is_unmapped;

@@ -3,14 +3,17 @@ use crate::decoding::Reading;
 use crate::decoding::decode;
 use crate::lookups::goes_on;
 use crate::lookups::is_lacking;
+use classfile::MethodFound;
 use definition::numbers::VERSION_TWO;
 ghost use mathlib.Core.Path.{_≡_};
 ghost use mathlib.Core.Bool.{_&&_, false};
-ghost use Prim.Native.Nat.{ℕ};
+ghost use Prim.Native.Nat.{ℕ, _<_};
 ghost use lib.ListN.{length};
 ghost use lib.Dec.{leb};
 ghost use Rattle.definition.specs.Verifier.{unmappedFrom};
-ghost use Rattle.classfile.specs.Reading.{mapsOf};
+ghost use Rattle.definition.specs.Lists.{any};
+ghost use Rattle.classfile.specs.Reading.{mapsOf, fileVersion, methodCount, methodIn, quickMethods};
+ghost use Rattle.verifier.specs.Lookups.{unmappedIn};
 
 // The code is read up to the first instruction that can't be.
 fn is_code_unmapped(version: u8, code: &[u8], maps: &[u8]) -> bool
@@ -41,4 +44,35 @@ pub fn is_unmapped(version: u8, code: &[u8], maps: &[u8]) -> bool
         return false;
     }
     is_code_unmapped(version, code, maps)
+}
+
+// Method j of the file.
+fn is_numbered_unmapped(bytes: &[u8], j: u8) -> bool
+    requires { ⌜ j < methodCount (now bytes) ⌝ }
+    ensures { λ r. ⌜ r ≡ unmappedIn (fileVersion (now (bytes .entry))) (methodIn (now (bytes .entry)) j) ⌝ }
+{
+    let MethodFound::At(_, place) = classfile::method_place(bytes, j) else {
+        return false;
+    };
+    let version = classfile::version(bytes);
+    is_unmapped(
+        version,
+        classfile::code(bytes, place),
+        classfile::method_maps(bytes, place),
+    )
+}
+
+// Whether a method of a class file is unmapped. The file's own rules are for others to check.
+pub fn is_class_unmapped(bytes: &[u8]) -> bool
+    ensures { λ r. ⌜ r ≡ any (unmappedIn (fileVersion (now (bytes .entry)))) (quickMethods (now (bytes .entry))) ⌝ }
+{
+    let n = classfile::method_count(bytes);
+    let mut j: u8 = 0;
+    while j < n {
+        if is_numbered_unmapped(bytes, j) {
+            return true;
+        }
+        j += 1;
+    }
+    false
 }
