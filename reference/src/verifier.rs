@@ -1,10 +1,9 @@
-//! The verifier: a type for each operand and local at each point, the notes 'a below b', and why and where it rejects.
-
-use std::cell::RefCell;
+//! The verifier: a type for each operand and local at each point, the notes 'a below b', and why and where it rejects. Before it, from
+//! version 2 on, the check for targets and instructions without a map.
 
 use crate::answer::word;
 use crate::code::{decode, op, Instruction};
-use crate::file::{File, Method};
+use crate::file::{File, Map, Method, MAPPED, MOST_CODE};
 use crate::store::{INT, LOCALS, OPERANDS};
 
 #[derive(Clone, Copy, Debug, PartialEq, Eq)]
@@ -22,6 +21,15 @@ impl Type {
             Type::Int
         } else {
             Type::Class(name)
+        }
+    }
+
+    /// The type of a map's local, where 0 is unset.
+    fn mapped(name: u16) -> Type {
+        if name == 0 {
+            Type::Unset
+        } else {
+            Type::named(name)
         }
     }
 
@@ -51,7 +59,26 @@ pub enum Why {
     /// areturn where the result is an int.
     ResultIsInt,
     EndsWithoutReturn,
+    /// Of version 1.
     GoesOnAfterReturn,
+    /// A jump to this offset, where there is no map.
+    TargetUnmapped(usize),
+    /// The instruction behind a goto or return has no map.
+    NextUnmapped,
+    /// A map at this offset, where no instruction starts.
+    MapInside(usize),
+    /// A map at this offset, and the code ends before it.
+    MapBehind(usize),
+    /// What flows into the map at this offset doesn't fit it.
+    Flow(usize, Misfit),
+}
+
+/// Why something doesn't fit a map: its place, what stands there, what the map demands.
+#[derive(Clone, Copy, Debug, PartialEq, Eq)]
+pub enum Misfit {
+    OperandCount(usize, usize),
+    Local(usize, Type, Type),
+    Operand(usize, Type, Type),
 }
 
 /// The verifier rejects: which method, which point, why.
@@ -71,11 +98,19 @@ pub struct Types {
 }
 
 impl Types {
-    fn at_point_0(own_name: u16, argument: u16) -> Types {
+    pub fn at_point_0(own_name: u16, argument: u16) -> Types {
         let mut locals = [Type::Unset; LOCALS];
         locals[0] = Type::Class(own_name);
         locals[1] = Type::named(argument);
         Types { operands: [Type::Unset; OPERANDS], count: 0, locals }
+    }
+
+    /// The types that a map says.
+    pub fn of_map(map: Map) -> Types {
+        let mut types = Types { operands: [Type::Unset; OPERANDS], count: map.operand_count(), locals: [Type::Unset; LOCALS] };
+        types.locals.iter_mut().zip(map.locals()).for_each(|(local, of)| *local = Type::mapped(of));
+        types.operands.iter_mut().zip(map.operands()).for_each(|(operand, of)| *operand = Type::named(of));
+        types
     }
 
     /// From the lowest.
@@ -146,7 +181,7 @@ fn inline_names_fit(instruction: Instruction) -> Result<(), Why> {
 }
 
 /// What an instruction does to the types. `result` is the method's result type.
-fn follow(
+pub fn follow(
     types: &mut Types,
     instruction: Instruction,
     result: u16,
@@ -211,52 +246,192 @@ fn follow(
             ensure(result != INT, Why::ResultIsInt)?;
             meet(types.pop_reference()?, result, note)
         }
+        Instruction::Ifeq(_) => types.pop_int(),
+        Instruction::IfIcmplt(_) => {
+            types.pop_int()?;
+            types.pop_int()
+        }
+        Instruction::Goto(_) => Ok(()),
     }
-}
-
-fn is_return(instruction: Instruction) -> bool {
-    matches!(instruction, Instruction::Ireturn | Instruction::Areturn)
 }
 
 /// The instruction at a point within the code, and the next point.
-fn read(code: &[u8], point: usize) -> Result<(Instruction, usize), Why> {
-    decode(code, point).ok_or_else(|| match op::form(code[point]) {
-        Some(_) => Why::CutOff(code[point]),
-        None => Why::UnknownOpcode(code[point]),
+fn read(method: Method, point: usize) -> Result<(Instruction, usize), Why> {
+    let opcode = method.code[point];
+    decode(method.version, method.code, point).ok_or(match op::of(method.version).contains(&opcode) {
+        true => Why::CutOff(opcode),
+        false => Why::UnknownOpcode(opcode),
     })
 }
 
-/// Goes through a method's points; `see` receives each with its types before its notes are made.
-fn verify_method(
-    own_name: u16,
-    method: Method,
-    see: &mut impl FnMut(usize, &Types),
-    note: &mut impl FnMut(u16, u16),
-) -> Result<(), Rejected> {
-    let mut types = Types::at_point_0(own_name, method.argument);
-    let mut point = 0;
-    while point < method.code.len() {
-        see(point, &types);
-        let rejected = |why: Why| Rejected { method: method.place, point, why };
-        let (instruction, next) = read(method.code, point).map_err(rejected)?;
-        follow(&mut types, instruction, method.result, note).map_err(rejected)?;
-        let last = next == method.code.len();
-        match (is_return(instruction), last) {
-            (true, false) => return Err(rejected(Why::GoesOnAfterReturn)),
-            (false, true) => return Err(rejected(Why::EndsWithoutReturn)),
-            _ => point = next,
+/// The maps of a method, found by their offset without a search.
+struct Mapped<'a> {
+    maps: Vec<Map<'a>>,
+    /// For each offset within the longest code, 1 more than the place of its map; 0 if it has none.
+    places: [u8; MOST_CODE],
+}
+
+impl<'a> Mapped<'a> {
+    fn new(method: Method<'a>) -> Mapped<'a> {
+        let mut mapped = Mapped { maps: method.maps().collect(), places: [0; MOST_CODE] };
+        for (map, place) in mapped.maps.iter().zip(1..=u8::MAX) {
+            if let Some(at) = mapped.places.get_mut(map.offset()) {
+                *at = place;
+            }
         }
+        mapped
+    }
+
+    fn at(&self, offset: usize) -> Option<Map<'a>> {
+        let place = match self.places.get(offset) {
+            Some(&place) => usize::from(place).checked_sub(1)?,
+            None => self.maps.binary_search_by_key(&offset, Map::offset).ok()?,
+        };
+        Some(self.maps[place])
+    }
+}
+
+/// Does what flows into a map fit it? Locals come before operands, those from the lowest.
+pub fn flow(types: &Types, map: Map, note: &mut impl FnMut(u16, u16)) -> Result<(), Why> {
+    let misfit = |misfit: Misfit| Why::Flow(map.offset(), misfit);
+    let (there, demanded) = (types.count, map.operand_count());
+    ensure(there == demanded, misfit(Misfit::OperandCount(there, demanded)))?;
+    for (local, (&stands, of)) in types.locals.iter().zip(map.locals()).enumerate().filter(|(_, (_, of))| *of != 0) {
+        meet(stands, of, note).map_err(|_| misfit(Misfit::Local(local, stands, Type::named(of))))?;
+    }
+    for (operand, (&stands, of)) in types.operands().iter().zip(map.operands()).enumerate() {
+        meet(stands, of, note).map_err(|_| misfit(Misfit::Operand(operand, stands, Type::named(of))))?;
     }
     Ok(())
+}
+
+/// A walk over a method's points in the code's order. It ends at the end of the code or at the first rejection.
+struct Walk<'a> {
+    method: Method<'a>,
+    mapped: Mapped<'a>,
+    /// How many maps the walk has stood at.
+    stood: usize,
+    point: usize,
+    types: Types,
+}
+
+impl<'a> Walk<'a> {
+    /// Stands at point 0, with what flows there from entry.
+    fn begin(own_name: u16, method: Method<'a>, note: &mut impl FnMut(u16, u16)) -> Result<Walk<'a>, Rejected> {
+        let types = Types::at_point_0(own_name, method.argument);
+        let mut walk = Walk { method, mapped: Mapped::new(method), stood: 0, point: 0, types };
+        let entered = walk.enter(0, note).and_then(|()| walk.stand(0));
+        entered.map_err(|why| walk.rejected(why))?;
+        Ok(walk)
+    }
+
+    fn is_over(&self) -> bool {
+        self.point == self.method.code.len()
+    }
+
+    fn rejected(&self, why: Why) -> Rejected {
+        Rejected { method: self.method.place, point: self.point, why }
+    }
+
+    /// What flows into this point must fit its map, if it has one, whose types are the point's then.
+    fn enter(&mut self, point: usize, note: &mut impl FnMut(u16, u16)) -> Result<(), Why> {
+        if let Some(map) = self.mapped.at(point) {
+            flow(&self.types, map, note)?;
+            self.types = Types::of_map(map);
+        }
+        Ok(())
+    }
+
+    /// No map may have been passed over on the way to this point, and at the end of the code none may be left.
+    fn stand(&mut self, point: usize) -> Result<(), Why> {
+        let Some(offset) = self.mapped.maps.get(self.stood).map(Map::offset) else {
+            return Ok(());
+        };
+        ensure(offset >= point, Why::MapInside(offset))?;
+        ensure(point < self.method.code.len(), Why::MapBehind(offset))?;
+        self.stood += usize::from(offset == point);
+        Ok(())
+    }
+
+    /// Goes from a point within the code to the next, or to the end of the code.
+    fn step(&mut self, note: &mut impl FnMut(u16, u16)) -> Result<(), Rejected> {
+        self.point = self.next(note).map_err(|why| self.rejected(why))?;
+        Ok(())
+    }
+
+    /// The next point, with its types, once the instruction's own effect, the flow to its target and that to the next point are fine.
+    fn next(&mut self, note: &mut impl FnMut(u16, u16)) -> Result<usize, Why> {
+        let (instruction, next) = read(self.method, self.point)?;
+        follow(&mut self.types, instruction, self.method.result, note)?;
+        if let Some(target) = instruction.target() {
+            let map = self.mapped.at(target).ok_or(Why::TargetUnmapped(target))?;
+            flow(&self.types, map, note)?;
+        }
+        let ends = next == self.method.code.len();
+        match (instruction.ends_path(), ends) {
+            (true, true) => {}
+            (true, false) => self.types = self.after_end_of_path(next)?,
+            (false, true) => return Err(Why::EndsWithoutReturn),
+            (false, false) => self.enter(next, note)?,
+        }
+        self.stand(next)?;
+        Ok(next)
+    }
+
+    /// The types at a point that nothing flows into from the one before.
+    fn after_end_of_path(&self, next: usize) -> Result<Types, Why> {
+        ensure(self.method.version >= MAPPED, Why::GoesOnAfterReturn)?;
+        read(self.method, next)?;
+        self.mapped.at(next).map(Types::of_map).ok_or(Why::NextUnmapped)
+    }
 }
 
 /// Verifies the methods in order; `note` receives each requirement 'a below b'.
 pub fn verify(file: File, note: &mut impl FnMut(u16, u16)) -> Result<(), Rejected> {
     let own_name = file.name();
-    file.methods().try_for_each(|method| verify_method(own_name, method, &mut |_, _| (), note))
+    file.methods().try_for_each(|method| {
+        let mut walk = Walk::begin(own_name, method, note)?;
+        while !walk.is_over() {
+            walk.step(note)?;
+        }
+        Ok(())
+    })
 }
 
-/// A point that the verifier comes to: the types there, and the notes that its instruction makes.
+/// The first target, or instruction behind a goto or return, without a map, of a file from version 2 on. Each method is read before its
+/// first instruction that can't be read.
+pub fn unmapped(file: File) -> Option<Rejected> {
+    file.methods().filter(|method| method.version >= MAPPED).find_map(|method| {
+        let (point, why) = unmapped_point(method)?;
+        Some(Rejected { method: method.place, point, why })
+    })
+}
+
+fn unmapped_point(method: Method) -> Option<(usize, Why)> {
+    let mapped = Mapped::new(method);
+    let mut point = 0;
+    while let Some((instruction, next)) = decode(method.version, method.code, point) {
+        if let Some(target) = instruction.target().filter(|&target| mapped.at(target).is_none()) {
+            return Some((point, Why::TargetUnmapped(target)));
+        }
+        let goes_on = decode(method.version, method.code, next).is_some();
+        if instruction.ends_path() && goes_on && mapped.at(next).is_none() {
+            return Some((point, Why::NextUnmapped));
+        }
+        point = next;
+    }
+    None
+}
+
+/// Why define refuses a file that reads: word 15 for want of a map, or 6 by the verifier, and where.
+pub fn refused(file: File, note: &mut impl FnMut(u16, u16)) -> Result<(), (u8, Rejected)> {
+    if let Some(unmapped) = unmapped(file) {
+        return Err((word::UNMAPPED, unmapped));
+    }
+    verify(file, note).map_err(|rejected| (word::UNVERIFIED, rejected))
+}
+
+/// A point that the verifier comes to: the types there, and the notes that its instruction makes, those from entry before them.
 #[derive(Clone, Debug)]
 pub struct Seen {
     pub point: usize,
@@ -266,39 +441,35 @@ pub struct Seen {
 
 /// The points of a method that the verifier comes to, and where it rejects the method, if it does.
 pub fn seen(own_name: u16, method: Method) -> (Vec<Seen>, Option<Rejected>) {
-    let points: RefCell<Vec<Seen>> = RefCell::default();
-    let mut see = |point: usize, types: &Types| {
-        points.borrow_mut().push(Seen { point, types: types.clone(), notes: Vec::new() });
+    let (mut points, mut notes) = (Vec::new(), Vec::new());
+    let mut walk = match Walk::begin(own_name, method, &mut |lower, higher| notes.push((lower, higher))) {
+        Ok(walk) => walk,
+        Err(rejected) => return (points, Some(rejected)),
     };
-    let mut note = |lower: u16, higher: u16| {
-        points.borrow_mut().iter_mut().last().into_iter().for_each(|seen| seen.notes.push((lower, higher)));
-    };
-    let rejected = verify_method(own_name, method, &mut see, &mut note).err();
-    (points.into_inner(), rejected)
+    while !walk.is_over() {
+        let (point, types) = (walk.point, walk.types.clone());
+        let stepped = walk.step(&mut |lower, higher| notes.push((lower, higher)));
+        points.push(Seen { point, types, notes: std::mem::take(&mut notes) });
+        if let Err(rejected) = stepped {
+            return (points, Some(rejected));
+        }
+    }
+    (points, None)
 }
 
 /// The types at a point, if it is an instruction's start that the verifier comes to.
 pub fn types_at(own_name: u16, method: Method, point: usize) -> Option<Types> {
-    let mut types = Types::at_point_0(own_name, method.argument);
-    let mut here = 0;
-    while here < point {
-        let (instruction, next) = decode(method.code, here)?;
-        follow(&mut types, instruction, method.result, &mut |_, _| ()).ok()?;
-        if is_return(instruction) {
-            return None;
-        }
-        here = next;
+    let mut walk = Walk::begin(own_name, method, &mut |_, _| ()).ok()?;
+    while walk.point < point && !walk.is_over() {
+        walk.step(&mut |_, _| ()).ok()?;
     }
-    (here == point && point < method.code.len()).then_some(types)
+    (walk.point == point && !walk.is_over()).then_some(walk.types)
 }
 
-/// The publishers' desk: 0 for a file that define could take, 2 by the file rules, 6 by the verifier.
+/// The publishers' desk: 0 for a file that define could take, 2 by the file rules, 15 for want of a map, 6 by the verifier.
 pub fn check(bytes: &[u8]) -> u8 {
     let Some(file) = File::read(bytes) else {
         return word::FILE;
     };
-    match verify(file, &mut |_, _| ()) {
-        Ok(()) => 0,
-        Err(_) => word::UNVERIFIED,
-    }
+    refused(file, &mut |_, _| ()).map_or_else(|(word, _)| word, |()| 0)
 }

@@ -57,7 +57,7 @@ pub fn tall_tree() -> Store {
     for level in 6..11 {
         let code = inner(TREE, ROOT + level + 1);
         let made = Code::new().object(TREE).astore(2);
-        let code = if level == 6 { Code { bytes: [made.bytes, code.bytes].concat() } } else { code };
+        let code = if level == 6 { Code::of([made.bytes, code.bytes].concat()) } else { code };
         lower = lower.main(ROOT + level, &code);
     }
     started(&[lower.main(ROOT + 11, &leaf(Code::new())), upper], UPPER)
@@ -177,7 +177,7 @@ pub enum Repeated {
 
 /// A method that repeats these instructions.
 fn fifty_times(part: Code) -> Code {
-    Code { bytes: part.bytes.repeat(50) }.end(INT)
+    Code::of(part.bytes.repeat(50)).end(INT)
 }
 
 /// Every table full: 64 classes of 16 fields below each other, all bytes, entries, constraints, objects and frames, 15 operands in each

@@ -89,7 +89,7 @@ fn unreadable() -> Vec<Stuck> {
         ("point at the end".into(), frame(cell::POINT, 2), STUCK),
         ("point past the code".into(), frame(cell::POINT, u32::MAX), STUCK),
     ];
-    for opcode in (0..=255).filter(|opcode| !op::ALL.contains(opcode)) {
+    for opcode in (0..=255).filter(|opcode| !op::of(1).contains(opcode)) {
         all.push((format!("unknown opcode {opcode:02X}"), holding(&Code::new().plain(opcode), &[SEVEN, SEVEN]), STUCK));
     }
     let inline = [
