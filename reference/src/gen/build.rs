@@ -158,6 +158,11 @@ impl Code {
         self
     }
 
+    /// These maps, whatever their offsets, in place of others.
+    pub fn with_maps(self, maps: &[MapDraft]) -> Code {
+        Code { maps: maps.to_vec(), ..self }
+    }
+
     /// A label and a map.
     pub fn point(self, label: u16, locals: &[u16], operands: &[u16]) -> Code {
         self.label(label).map(locals, operands)

@@ -14,6 +14,8 @@ pub mod jumps;
 pub mod large;
 pub mod limits;
 pub mod list;
+pub mod loops;
+pub mod mapped;
 pub mod objects;
 pub mod plain;
 pub mod reach;
