@@ -24,6 +24,7 @@ pub mod scripts;
 pub mod spoils;
 pub mod stuck;
 pub mod swept;
+pub mod unverified;
 pub mod walk;
 
 use crate::answer::Reply;
