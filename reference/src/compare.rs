@@ -213,7 +213,10 @@ impl Comparison {
         let held = [large::Held::Upward, large::Held::Downward, large::Held::ByFrames, large::Held::Nothing];
         let swept = held.map(|held| (large::objects(held), Call::Sweep));
         let made = [false, true].map(|freed| (large::making(freed), run.clone()));
-        for (at, (store, call)) in calls.iter().chain(&swept).chain(&made).enumerate() {
+        let looping = [large::Round::Ints, large::Round::Field].map(|round| (large::looping(round), run.clone()));
+        let empty = Trial::ready([1]).store;
+        let long = large::long_files().map(|(_, file)| (empty.clone(), Call::Define { loader: 1, file }));
+        for (at, (store, call)) in calls.iter().chain(&swept).chain(&made).chain(&looping).chain(&long).enumerate() {
             self.call(store, call, CELLS, &format!("large store {at}"));
         }
     }

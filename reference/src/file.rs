@@ -40,8 +40,9 @@ pub struct Method<'a> {
     pub argument: u16,
     pub result: u16,
     pub code: &'a [u8],
-    /// The bytes behind the code, which begin with the maps.
-    behind: &'a [u8],
+    /// The file's bytes, and where in them the code ends and the maps begin.
+    bytes: &'a [u8],
+    end: usize,
 }
 
 /// A map, the paper's word for a stack map frame of the JVMS: the types at a point of a method's code. It is a part of the file's bytes.
@@ -140,11 +141,21 @@ impl<'a> Method<'a> {
 
     /// Methods of version 1 have none.
     pub fn maps(&self) -> Maps<'a> {
-        match self.behind.split_first() {
-            Some((&left, bytes)) if self.version >= MAPPED => Maps { bytes, left },
-            _ => Maps { bytes: &[], left: 0 },
-        }
+        maps(self.version, &self.bytes[self.end..])
     }
+}
+
+/// The maps at the front of the bytes behind a method's code.
+fn maps(version: u8, behind: &[u8]) -> Maps<'_> {
+    match behind.split_first() {
+        Some((&left, bytes)) if version >= MAPPED => Maps { bytes, left },
+        _ => Maps { bytes: &[], left: 0 },
+    }
+}
+
+/// How many bytes the maps have, with their count.
+fn maps_length(version: u8, behind: &[u8]) -> usize {
+    usize::from(version >= MAPPED) + maps(version, behind).map(|map| map.bytes.len()).sum::<usize>()
 }
 
 fn pair(bytes: &[u8], at: usize) -> u16 {
@@ -210,7 +221,7 @@ impl<'a> File<'a> {
     }
 
     pub fn methods(&self) -> Methods<'a> {
-        Methods { bytes: self.bytes, at: self.methods_at() + 1, before: None, place: 0, count: self.method_count() }
+        Methods { bytes: self.bytes, at: self.methods_at() + 1, place: 0, count: self.method_count() }
     }
 
     /// The method at this place of the file.
@@ -243,9 +254,8 @@ impl<'a> File<'a> {
 #[derive(Clone)]
 pub struct Methods<'a> {
     bytes: &'a [u8],
+    /// Where the first method begins, or the code of the one before ends: its maps are passed over only if there is need.
     at: usize,
-    /// The maps of the method before, which are passed over only if a method behind it is asked for.
-    before: Option<Maps<'a>>,
     place: usize,
     count: usize,
 }
@@ -257,9 +267,11 @@ impl<'a> Iterator for Methods<'a> {
         if self.place == self.count {
             return None;
         }
-        let maps: usize = self.before.take().into_iter().flatten().map(|map| map.bytes.len()).sum();
-        let (bytes, at) = (self.bytes, self.at + maps);
-        let version = bytes[0];
+        let (bytes, version) = (self.bytes, self.bytes[0]);
+        if version >= MAPPED && self.place > 0 {
+            self.at += maps_length(version, &bytes[self.at..]);
+        }
+        let at = self.at;
         let start = at + METHOD_HEAD;
         let end = start + usize::from(pair(bytes, at + 6));
         let method = Method {
@@ -269,10 +281,10 @@ impl<'a> Iterator for Methods<'a> {
             argument: pair(bytes, at + 2),
             result: pair(bytes, at + 4),
             code: &bytes[start..end],
-            behind: &bytes[end..],
+            bytes,
+            end,
         };
-        self.at = end + usize::from(version >= MAPPED);
-        self.before = Some(method.maps());
+        self.at = end;
         self.place += 1;
         Some(method)
     }
@@ -360,10 +372,8 @@ impl<'a> Sketch<'a> {
             };
             let start = at + METHOD_HEAD;
             at = bytes.len().min(start + usize::from(length));
-            let (code, behind) = bytes[start..].split_at(at - start);
-            let method = Method { place, version: bytes[0], name, argument, result, code, behind };
-            at += usize::from(method.version >= MAPPED) + method.maps().map(|map| map.bytes.len()).sum::<usize>();
-            sketch.methods.push(method);
+            sketch.methods.push(Method { place, version: bytes[0], name, argument, result, code: &bytes[start..at], bytes, end: at });
+            at += maps_length(bytes[0], &bytes[at..]);
         }
         sketch
     }

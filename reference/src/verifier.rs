@@ -3,7 +3,7 @@
 
 use crate::answer::word;
 use crate::code::{decode, op, Instruction};
-use crate::file::{File, Map, Method, MAPPED, MOST_CODE};
+use crate::file::{File, Map, Method, MAPPED};
 use crate::store::{INT, LOCALS, OPERANDS};
 
 #[derive(Clone, Copy, Debug, PartialEq, Eq)]
@@ -267,13 +267,15 @@ fn read(method: Method, point: usize) -> Result<(Instruction, usize), Why> {
 /// The maps of a method, found by their offset without a search.
 struct Mapped<'a> {
     maps: Vec<Map<'a>>,
-    /// For each offset within the longest code, 1 more than the place of its map; 0 if it has none.
-    places: [u8; MOST_CODE],
+    /// For each offset within the code of a method with maps, 1 more than the place of its map; 0 if it has none.
+    places: Vec<u8>,
 }
 
 impl<'a> Mapped<'a> {
     fn new(method: Method<'a>) -> Mapped<'a> {
-        let mut mapped = Mapped { maps: method.maps().collect(), places: [0; MOST_CODE] };
+        let maps: Vec<Map> = method.maps().collect();
+        let length = if maps.is_empty() { 0 } else { method.code.len() };
+        let mut mapped = Mapped { maps, places: vec![0; length] };
         for (map, place) in mapped.maps.iter().zip(1..=u8::MAX) {
             if let Some(at) = mapped.places.get_mut(map.offset()) {
                 *at = place;
