@@ -129,9 +129,11 @@ impl Types {
         Ok(self.operands[self.count])
     }
 
-    fn pop_int(&mut self) -> Result<(), Why> {
-        let of = self.pop()?;
-        ensure(of == Type::Int, Why::NoInt(of))
+    fn pop_ints(&mut self, count: usize) -> Result<(), Why> {
+        (0..count).try_for_each(|_| {
+            let of = self.pop()?;
+            ensure(of == Type::Int, Why::NoInt(of))
+        })
     }
 
     fn pop_reference(&mut self) -> Result<Type, Why> {
@@ -144,10 +146,23 @@ impl Types {
         self.locals.get_mut(usize::from(number)).ok_or(Why::NoLocal(number))
     }
 
-    fn set_local(&mut self, number: u8) -> Result<Type, Why> {
+    fn load(&mut self, number: u8, fits: impl Fn(Type) -> Result<(), Why>) -> Result<(), Why> {
         let of = *self.local(number)?;
         ensure(of != Type::Unset, Why::UnsetLocal(number))?;
-        Ok(of)
+        fits(of)?;
+        self.push(of)
+    }
+
+    fn store(&mut self, number: u8, of: Type) -> Result<(), Why> {
+        *self.local(number)? = of;
+        Ok(())
+    }
+
+    /// Takes a value of this type, and below it a receiver of this class; the receiver's note comes first.
+    fn receive(&mut self, class: u16, value: u16, note: &mut impl FnMut(u16, u16)) -> Result<(), Why> {
+        let stands = self.pop()?;
+        meet(self.pop_reference()?, class, note)?;
+        meet(stands, value, note)
     }
 }
 
@@ -191,66 +206,34 @@ pub fn follow(
     match instruction {
         Instruction::AconstNull => types.push(Type::Null),
         Instruction::Sipush(_) => types.push(Type::Int),
-        Instruction::Iload(n) => {
-            let of = types.set_local(n)?;
-            ensure(of == Type::Int, Why::NoInt(of))?;
-            types.push(of)
-        }
-        Instruction::Aload(n) => {
-            let of = types.set_local(n)?;
-            ensure(of.is_reference(), Why::NoReference(of))?;
-            types.push(of)
-        }
-        Instruction::Istore(n) => {
-            types.pop_int()?;
-            *types.local(n)? = Type::Int;
-            Ok(())
-        }
-        Instruction::Astore(n) => {
-            let of = types.pop_reference()?;
-            *types.local(n)? = of;
-            Ok(())
-        }
+        Instruction::Iload(n) => types.load(n, |of| ensure(of == Type::Int, Why::NoInt(of))),
+        Instruction::Aload(n) => types.load(n, |of| ensure(of.is_reference(), Why::NoReference(of))),
+        Instruction::Istore(n) => types.pop_ints(1).and_then(|()| types.store(n, Type::Int)),
+        Instruction::Astore(n) => types.pop_reference().and_then(|of| types.store(n, of)),
         Instruction::Pop => types.pop().map(|_| ()),
         Instruction::Dup => {
             let of = types.pop()?;
             types.push(of)?;
             types.push(of)
         }
-        Instruction::Iadd | Instruction::Isub => {
-            types.pop_int()?;
-            types.pop_int()?;
-            types.push(Type::Int)
-        }
+        Instruction::Iadd | Instruction::Isub => types.pop_ints(2).and_then(|()| types.push(Type::Int)),
         Instruction::Getfield(at) => {
             meet(types.pop_reference()?, at.class, note)?;
             types.push(Type::named(at.of))
         }
-        Instruction::Putfield(at) => {
-            let value = types.pop()?;
-            meet(types.pop_reference()?, at.class, note)?;
-            meet(value, at.of, note)
-        }
+        Instruction::Putfield(at) => types.receive(at.class, at.of, note),
         Instruction::Invokevirtual(at) => {
-            let value = types.pop()?;
-            meet(types.pop_reference()?, at.class, note)?;
-            meet(value, at.argument, note)?;
+            types.receive(at.class, at.argument, note)?;
             types.push(Type::named(at.result))
         }
         Instruction::New(class) => types.push(Type::Class(class)),
-        Instruction::Ireturn => {
-            ensure(result == INT, Why::ResultIsNoInt(result))?;
-            types.pop_int()
-        }
+        Instruction::Ireturn => ensure(result == INT, Why::ResultIsNoInt(result)).and_then(|()| types.pop_ints(1)),
         Instruction::Areturn => {
             ensure(result != INT, Why::ResultIsInt)?;
             meet(types.pop_reference()?, result, note)
         }
-        Instruction::Ifeq(_) => types.pop_int(),
-        Instruction::IfIcmplt(_) => {
-            types.pop_int()?;
-            types.pop_int()
-        }
+        Instruction::Ifeq(_) => types.pop_ints(1),
+        Instruction::IfIcmplt(_) => types.pop_ints(2),
         Instruction::Goto(_) => Ok(()),
     }
 }

@@ -42,7 +42,9 @@ pub const FAULTS: [Fault; 17] = [
     ("a-jump-out-of-the-code-is-stuck", |call, store| {
         refusing(call, store, |jump, method| jump.is_taken() && jump.instruction.target() >= Some(method.code.len()))
     }),
-    ("jumps-run-in-version-one", |call, store| stepping(call, store, |store, classes| run_in_version_1(store).unwrap_or_else(|| take_step(store, classes)))),
+    ("jumps-run-in-version-one", |call, store| {
+        stepping(call, store, |store, classes| run_in_version_1(store).unwrap_or_else(|| take_step(store, classes)))
+    }),
     ("an-unset-local-is-emptied", |call, store| {
         stepping(call, store, |store, classes| {
             let answer = take_step(store, classes);
