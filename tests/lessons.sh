@@ -58,10 +58,11 @@ lessons() {
     [ "$count" -gt 17 ] || fail "there are only $count lessons"
 }
 
-# A text through the assembler, and its files listed and assembled again.
+# Texts through the assembler, and their files listed and assembled again.
 assembler() {
     local file
     ./box asm examples/spoofed-discount.lesson "$work/one" >/dev/null
+    ./box asm examples/instalments.lesson "$work/one" >/dev/null
     for file in "$work"/one/*.class; do
         ./box list "$file" >"$work/listing"
         ./box asm "$work/listing" "$work/two" >/dev/null

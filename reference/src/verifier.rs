@@ -363,11 +363,15 @@ impl<'a> Walk<'a> {
         Ok(next)
     }
 
-    /// The types at a point that nothing flows into from the one before.
-    fn after_end_of_path(&self, next: usize) -> Result<Types, Why> {
+    /// The types at a point that nothing flows into from the one before: its map's. Without one it is rejected, for itself if it can't be read.
+    fn after_end_of_path(&mut self, next: usize) -> Result<Types, Why> {
         ensure(self.method.version >= MAPPED, Why::GoesOnAfterReturn)?;
-        read(self.method, next)?;
-        self.mapped.at(next).map(Types::of_map).ok_or(Why::NextUnmapped)
+        if let Some(map) = self.mapped.at(next) {
+            return Ok(Types::of_map(map));
+        }
+        let unread = read(self.method, next).err();
+        self.point = if unread.is_some() { next } else { self.point };
+        Err(unread.unwrap_or(Why::NextUnmapped))
     }
 }
 

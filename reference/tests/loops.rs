@@ -200,6 +200,9 @@ fn types_end_where_the_walk_is_rejected() {
     assert_eq!([0, 2, 6].map(|point| at(&inside, point)), [0, 0, 1]);
     let behind = c().null().pop().end(INT).with_maps(&off(400));
     assert_eq!([0, 2].map(|point| at(&behind, point)), [0, 0]);
+    // A point with a map has its types though it can't be read; without one it has none.
+    assert_eq!([0, 4].map(|point| at(&c().end(INT).map(&[], &[]).plain(0xFF), point)), [0, 0]);
+    assert_eq!([0, 4].map(|point| at(&c().end(INT).plain(0xFF), point)), [0, 1]);
     // Dead code has its map's types.
     assert_eq!([0, 4].map(|point| at(&c().end(INT).map(&[], &[]).end(INT), point)), [0, 0]);
 }

@@ -74,7 +74,7 @@ fn places_and_reasons_of_maps() {
         (c().end(INT).with_maps(&at(2)), 0, Why::MapInside(2)),
         (c().end(INT).with_maps(&at(9)), 3, Why::MapBehind(9)),
         (c().point(1, &[10, INT], &[]).iload(1).ifeq(1), 2, Why::EndsWithoutReturn),
-        (c().end(INT).plain(0xFF), 3, Why::UnknownOpcode(0xFF)),
+        (c().end(INT).plain(0xFF), 4, Why::UnknownOpcode(0xFF)),
     ];
     for (code, point, why) in cases {
         let bytes = Draft::mapped(10).main(20, &code).file();
