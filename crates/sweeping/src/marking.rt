@@ -13,12 +13,12 @@ use definition::numbers::OPERANDS_CELL;
 use definition::numbers::VALUE_CELLS;
 ghost use mathlib.Core.Path.{_≡_};
 ghost use mathlib.Core.List.{_++_};
-ghost use Prim.Native.Nat.{_+_, _*_, _<_, _≤_};
-ghost use Rattle.definition.specs.Numbers.{valueCells, objectLimit, intRange};
+ghost use Prim.Native.Nat.{_*_, _<_, _≤_};
+ghost use Rattle.definition.specs.Numbers.{objectLimit, intRange};
 ghost use Rattle.definition.specs.Lists.{rows, stack};
 ghost use Rattle.definition.specs.Sweeping.{named};
-ghost use Rattle.definition.specs.Tables.{valueOf, valueAt, operandAt, frameAt};
-ghost use Rattle.sweeping.specs.Marking.{Work, work, mark, markAll, markValue, fieldNames, follow, rootsOf, marked};
+ghost use Rattle.definition.specs.Tables.{valueOf, operandAt, frameAt};
+ghost use Rattle.sweeping.specs.Marking.{Work, work, mark, markAll, markValue, valueFrom, fieldNames, follow, rootsOf, marked};
 
 // The rows of a task, and the cells of a row of frames.
 const TASK_ROWS: u32 = FRAME_LIMIT as u32;
@@ -60,7 +60,7 @@ fn mark_values(
     count: u8,
 ) -> u16
     requires { ⌜ first < 64 * intRange ⌝ }
-    ensures { λ r. ⌜ work (now (marks .exit)) (now (list .exit)) r ≡ markAll (work (now (marks .entry)) (now (list .entry)) n) (named (rows (λ i. valueAt (now (table .entry)) (first + valueCells * i)) count 0)) ⌝ }
+    ensures { λ r. ⌜ work (now (marks .exit)) (now (list .exit)) r ≡ markAll (work (now (marks .entry)) (now (list .entry)) n) (named (rows (valueFrom (now (table .entry)) first) count 0)) ⌝ }
 {
     let mut size = n;
     let mut i: u8 = 0;

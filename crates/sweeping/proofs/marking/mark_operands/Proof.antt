@@ -1,0 +1,38 @@
+-- The operands below place i still are to be marked, and then as many are marked as from the last pushed on.
+use mathlib.Core.Path.{_∙_, _≡_, refl, sym}
+use native.Mathlib.Omega.{arith}
+use lib.ListN.{length}
+use denote.Ref.{now}
+use borrow.Author.Needs.{needs}
+use Rattle.definition.specs.Lists.{stack}
+use Rattle.definition.specs.Sweeping.{named}
+use Rattle.definition.specs.Tables.{operandAt, valueAt}
+use Rattle.sweeping.specs.Marking.{work, markAll}
+use Rattle.sweeping.proofs.Laws.{stack-turn, stack-end}
+use Rattle.sweeping.proofs.marking.mark_operands.Statement.{statement}
+use Rattle.sweeping.proofs.marking.mark_operands.Tie as tie
+
+abbrev Inv-loop : tie.InvT-loop
+Inv-loop marks₀ list₀ n frames b depth size₀ i₀ marks list size i = (markAll (work marks list size) (named (stack (operandAt frames b) i)) ≡ markAll (work marks₀ list₀ n) (named (stack (operandAt frames b) depth))) × (length marks ≡ length marks₀) × (length list ≡ length list₀)
+
+abbrev μ-loop : tie.MeasureT-loop
+μ-loop marks₀ list₀ n frames b depth size₀ i₀ marks list size i = i
+
+loop-holds : tie.Need-loop-holds Inv-loop μ-loop
+loop-holds c = (refl, refl, refl)
+
+loop-again : tie.Need-loop-again Inv-loop μ-loop
+unfolding operandAt valueAt
+loop-again c =
+    let at4 = c .before .before .before .before in
+    let at6 = at4 .before .before in
+    let at9 = at6 .before .before .before in
+    let at12 = at9 .before .before .before in
+    let at16 = at12 .before .before .before .before in
+    (stack-turn (operandAt (now (at16 .args .frames)) (at16 .args .b)) _ _ _ (at4 .mark-value .ensures) _ (at9 .before .before .loop-test .taken) (rw (at6 .at32 .ensures, at4 .before .at322 .ensures, at9 .before .wide32 .ensures .0, at9 .wide322 .ensures .0)) ∙ at12 .loop .inv .0, at4 .mark-value .kept .0 ∙ at12 .loop .inv .1, at4 .mark-value .kept .1 .0 ∙ at12 .loop .inv .2)
+
+returns : tie.Need-returns Inv-loop μ-loop
+returns c = sym (stack-end _ _ _ (c .loop-test .left)) ∙ c .before .loop .inv .0
+
+pub mark-operands-spec : {M : Type 1} → statement M
+mark-operands-spec = tie.close (tie.spec Inv-loop μ-loop loop-holds (λ c κs. search needs) (λ c. search needs) (λ c κs. search needs) (λ c. search needs) (λ c. search needs) (λ c. search needs) (λ c κs. search needs) (λ c. search needs) (λ c κs. search needs) (λ c κs. search needs) (λ c. search needs) (λ c. search needs) loop-again (λ c. search needs) (λ c. search needs) returns)
