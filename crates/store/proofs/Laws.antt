@@ -195,15 +195,15 @@ module _ (b : Base) where
       go true q = let z = eqb-true c n q in rw z (getD-set-same s n v 0 l ∙ e, k)
       go false q = let z = eqb-false c n q in let m = h c (omega arith) in (getD-set-other s n c v 0 z ∙ m .0, m .1)
 
-  module _ (n : ℕ) (X : ℕ → Bool) (sizes counts t : List ℕ) (sized : Sized b n sizes) where
-    -- an object whose class is there
-    same-object : (o : ℕ) → getD t (o * 33) 0 < n → sizedObject sizes t o ≡ objectAt b t o
-    unfolding objectAt usedFields pick
-    same-object o l = let s = sized (getD t (o * 33) 0) l in rw (s .0, le-leb (sizeOf b (getD t (o * 33) 0)) 16 (s .1), pick)
+  -- an object whose class is there
+  pub same-object : (n : ℕ) (sizes t : List ℕ) → Sized b n sizes → (o : ℕ) → getD t (o * 33) 0 < n → sizedObject sizes t o ≡ objectAt b t o
+  unfolding objectAt usedFields pick
+  same-object n sizes t sized o l = let s = sized (getD t (o * 33) 0) l in rw (s .0, le-leb (sizeOf b (getD t (o * 33) 0)) 16 (s .1), pick)
 
+  module _ (n : ℕ) (X : ℕ → Bool) (sizes counts t : List ℕ) (sized : Sized b n sizes) where
     same-fits : (o : ℕ) → objectIn n X (objectSized sizes counts t o) ≡ objectIn n X (objectRowAt b counts t o)
     unfolding objectSized objectRowAt
-    same-fits o = either (getD t (o * 33) 0) n (λ l. ap (λ (x : Object). objectIn n X (ownedBy (ownerAt counts o) x)) (same-object o l)) (λ l. go (ownerAt counts o) l)
+    same-fits o = either (getD t (o * 33) 0) n (λ l. ap (λ (x : Object). objectIn n X (ownedBy (ownerAt counts o) x)) (same-object n sizes t sized o l)) (λ l. go (ownerAt counts o) l)
       where
         go : (w : ℕ) → n ≤ getD t (o * 33) 0 → objectIn n X (ownedBy w (sizedObject sizes t o)) ≡ objectIn n X (ownedBy w (objectAt b t o))
         go zero l = unfold ownedBy in refl

@@ -5,7 +5,7 @@ use mathlib.Core.List.{List, [], _∷_, _++_, append-assoc}
 use Prim.Native.Nat.{ℕ, zero, suc, _+_, _*_, _-_, _<_, _≤_}
 use native.Mathlib.Numerals.{add-one}
 use native.Mathlib.Omega.{arith}
-use lib.ListN.{getD, set}
+use lib.ListN.{replicate, getD, set}
 use lib.Dec.{eqb, ltb}
 use borrow.Author.Tests.{eq-eqb, ne-eqb, lt-ltb, le-ltb, ltb-true}
 use Rattle.definition.specs.Lists.{every, rows, stack}
@@ -14,7 +14,7 @@ use Rattle.definition.specs.Machine.{Value, emptyValue, intValue, nullValue, ob
 use Rattle.definition.specs.Sweeping.{named, roots}
 use Rattle.definition.specs.Tables.{valueOf, fieldAt, localAt, operandAt, frameOf, frameAt, ownerAt}
 use Rattle.layout.specs.Places.{rows-start, rows-step, rows-none, rows-cong, stack-top}
-use Rattle.sweeping.specs.Marking.{Work, work, added, mark, markAll, markValue, valueFrom, fieldNames, follow, dead, freed, freeRows}
+use Rattle.sweeping.specs.Marking.{Work, work, added, mark, markAll, markValue, valueFrom, fieldNames, follow, rootsOf, marked, dead, freed, freeRows}
 
 -- An object: marked before, no room, or marked now
 
@@ -159,6 +159,12 @@ module _ (names : ℕ → List ℕ) (w : Work) where
   unfolding follow
   follow-end zero i l = refl
   follow-end (suc k) i l = rw (le-ltb i (w .size) l, follow)
+
+pub marked-by : (sizes counts objects frames marks : List ℕ) (u v w : Work) → u ≡ markAll (work marks (replicate 256 0) 0) (rootsOf counts frames 0)
+    → v ≡ markAll u (rootsOf counts frames 1) → w ≡ follow (fieldNames sizes objects) 256 0 v → w .marks ≡ marked sizes counts objects frames marks .marks
+unfolding marked
+marked-by sizes counts objects frames marks u v w e f g =
+    ap (λ (z : Work). z .marks) (g ∙ ap (follow (fieldNames sizes objects) 256 0) (f ∙ ap (λ (z : Work). markAll z (rootsOf counts frames 1)) e))
 
 -- Freeing: a row that is free, one in use, and a turn for each
 
