@@ -1,4 +1,4 @@
-/* The tariff class machine for programs in C: seven calls on a store that the program owns. docs/HOST.md tells how to build and link.
+/* The tariff class machine for programs in C: eight calls on a store that the program owns. docs/HOST.md tells how to build and link.
 
    A store is eight tables (docs/STORE.md). Every call is lent all eight, each as a pointer and its number of cells, then takes its
    own arguments, then a table for the answer. It returns 0 if it is accepted, else the number of its refusal. A refused call changes
@@ -18,7 +18,7 @@ extern "C" {
 
 /* How many cells each table has. */
 enum {
-    TARIFF_COUNTS = 8,
+    TARIFF_COUNTS = 264,
     TARIFF_CLASSES = 192,
     TARIFF_KEPT = 16384,
     TARIFF_CACHE = 768,
@@ -29,7 +29,7 @@ enum {
     TARIFF_ANSWER = 6
 };
 
-/* A store in one piece, 68,496 bytes. A program may as well keep its tables apart. */
+/* A store in one piece, 69,008 bytes. A program may as well keep its tables apart. */
 struct tariff_store {
     uint16_t counts[TARIFF_COUNTS];
     uint16_t classes[TARIFF_CLASSES];
@@ -63,7 +63,8 @@ enum tariff_kind {
     TARIFF_DEFINED = 1,     /* define; one: the number of the new class */
     TARIFF_STEPPED = 2,     /* step, refused or not; one: enum tariff_done; two: the task; three: of a task that finished, its int */
     TARIFF_RAN_FOR = 3,     /* run; the word and the details are those of its last step */
-    TARIFF_DENIED = 4       /* any call but step, refused */
+    TARIFF_DENIED = 4,      /* any call but step, refused */
+    TARIFF_SWEPT = 5        /* sweep; one: how many objects it freed */
 };
 
 /* What a step did. */
@@ -87,7 +88,7 @@ enum tariff_word {
     TARIFF_ABSENT = 7,      /* no such field or method upward */
     TARIFF_HIDDEN = 8,      /* define: a field name that a superclass has */
     TARIFF_CLASH = 9,       /* the call adds a cache entry or constraint, and the new store wouldn't agree */
-    TARIFF_FULL = 10,       /* a limit would be passed */
+    TARIFF_FULL = 10,       /* a limit would be passed; of objects, 256 in use */
     TARIFF_NULL = 11,       /* receiver null */
     TARIFF_BUSY = 12,       /* start on a task with frames */
     TARIFF_MISNAMED = 13,   /* record: the class has another name */
@@ -119,7 +120,8 @@ uint8_t tariff_record(uint16_t *counts, size_t counts_length, const uint16_t *cl
                       uint32_t *answer, size_t answer_length);
 
 /* start: the task gets a new object of the class of that name under that loader, and a first frame in its method (int to int) of that
-   name, called with that object and `value`, the 32 bits of an int. Nothing runs yet. Refusals: 1 3 12 5 7 10. */
+   name, called with that object and `value`, the 32 bits of an int. Nothing runs yet. The object takes the lowest unused number, as one
+   that a step makes does. Refusals: 1 3 12 5 7 10. */
 uint8_t tariff_start(uint16_t *counts, size_t counts_length, const uint16_t *classes, size_t classes_length,
                      const uint8_t *kept, size_t kept_length, const uint16_t *cache, size_t cache_length,
                      const uint16_t *ties, size_t ties_length, const uint16_t *subtypes, size_t subtypes_length,
@@ -151,6 +153,14 @@ uint8_t tariff_drop(uint16_t *counts, size_t counts_length, const uint16_t *clas
                     const uint32_t *objects, size_t objects_length, const uint32_t *frames, size_t frames_length,
                     uint32_t task,
                     uint32_t *answer, size_t answer_length);
+
+/* sweep: frees every object that no frame of either task reaches through operands, locals and fields. Answers how many. Those reached keep
+   number, class and fields. Refusal: 1. */
+uint8_t tariff_sweep(uint16_t *counts, size_t counts_length, const uint16_t *classes, size_t classes_length,
+                     const uint8_t *kept, size_t kept_length, const uint16_t *cache, size_t cache_length,
+                     const uint16_t *ties, size_t ties_length, const uint16_t *subtypes, size_t subtypes_length,
+                     const uint32_t *objects, size_t objects_length, const uint32_t *frames, size_t frames_length,
+                     uint32_t *answer, size_t answer_length);
 
 #ifdef __cplusplus
 }

@@ -1,5 +1,5 @@
-/* The seven calls from C: tables of wrong lengths, damaged stores, every word of refusal, numbers at their limits, answer tables of every
-   length, a run beside its steps; and the desk beside define. */
+/* The eight calls from C: tables of wrong lengths, damaged stores, every word of refusal, numbers at their limits, answer tables of every
+   length, a run beside its steps, objects freed and their numbers used again; and the desk beside define. */
 #define _GNU_SOURCE
 #include "host.h"
 
@@ -23,12 +23,19 @@ static void quoting(size_t size, const uint8_t *code)
 static struct call each(int name)
 {
     struct call calls[CALLS] = {
-        boot(), define(1, 11, 2, 0, 1, IDENTITY), record(2, 10, 1), start(TARIFF_REPORT, 1, 10, 20, 9), step(), run(65535), drop(TARIFF_QUOTE),
+        boot(),
+        define(1, 11, 2, 0, 1, IDENTITY),
+        record(2, 10, 1),
+        start(TARIFF_REPORT, 1, 10, 20, 9),
+        step(),
+        run(65535),
+        drop(TARIFF_QUOTE),
+        sweep(),
     };
     return calls[name];
 }
 
-/* Of tables full of ones boot writes the counts and the two rows of Object, and nothing else. */
+/* Of tables full of ones boot writes the eight counts and the two rows of Object, and nothing else: no owner. */
 static void booting(void)
 {
     for (int i = 0; i < TABLES; i++)
@@ -39,7 +46,7 @@ static void booting(void)
     accepts("boot", boot());
     keep(&after);
     put_back(&first);
-    for (size_t i = 0; i < TARIFF_COUNTS; i++)
+    for (size_t i = 0; i < OWNERS; i++)
         set(0, i, i == 0 || i == 2 ? 1 : 0);
     for (size_t i = 0; i < 3; i++) {
         set(1, i, 0);
@@ -78,6 +85,7 @@ static void damage(void)
     static const struct { int table; size_t cell; uint32_t value; } harm[] = {
         {COUNTS, 0, 65}, {COUNTS, 0, 65535}, {COUNTS, 0, 1}, {COUNTS, 1, 16385}, {COUNTS, 1, 23}, {COUNTS, 2, 257}, {COUNTS, 2, 1},
         {COUNTS, 3, 257}, {COUNTS, 4, 257}, {COUNTS, 5, 257}, {COUNTS, 5, 0}, {COUNTS, 6, 33}, {COUNTS, 7, 33}, {COUNTS, 7, 65535},
+        {COUNTS, OWNERS, 0}, {COUNTS, OWNERS, 3}, {COUNTS, OWNERS, 256}, {COUNTS, OWNERS, 65535},
         {CLASSES, 0, 1}, {CLASSES, 1, 1}, {CLASSES, 2, 1}, {CLASSES, 3, 16}, {CLASSES, 4, 1}, {CLASSES, 4, 65535}, {CLASSES, 5, 23},
         {CLASSES, 5, 65535}, {KEPT, 0, 2}, {KEPT, 4, 1}, {KEPT, 7, 9}, {CACHE, 0, 16}, {CACHE, 2, 2}, {CACHE, 5, 1}, {CACHE, 14, 65535},
         {OBJECTS, 0, 2}, {OBJECTS, 0, 4294967295}, {OBJECTS, 1, 0}, {OBJECTS, 1, 4}, {FRAMES, 0, 2}, {FRAMES, 0, 4294967295},
@@ -204,6 +212,80 @@ static void tie_by_a_step(void)
     refuses("and again", step(), TARIFF_CLASH);
 }
 
+/* The owner of an object. */
+static unsigned owner(size_t object) { return ((uint16_t *)table[0])[OWNERS + object]; }
+
+/* Makes an object and lets it go, twice, and returns its int. */
+#define TWO_OBJECTS CODE(0xBB, 0, 10, 0x57, 0xBB, 0, 10, 0x57, 0x15, 1, 0xAC)
+
+/* What frames reach stays, with its cells; what they don't is freed, and its number is the next. */
+static void sweeping(void)
+{
+    quoting(TWO_OBJECTS);
+    frees("the quote's own object is held", 0);
+    runs("a second object", TARIFF_QUOTE);
+    frees("an operand holds it", 0);
+    runs("it is let go", TARIFF_QUOTE);
+    keep(&first);
+    frees("nothing holds it", 1);
+    keep(&after);
+    put_back(&first);
+    set(0, OWNERS + 1, 0);
+    check("a sweep writes the owner alone", same(&after));
+    frees("nothing is left to free", 0);
+    check("and then nothing", same(&after));
+    accepts("a report", start(TARIFF_REPORT, 1, 10, 20, 8));
+    check("it takes the lowest unused number", owner(1) == 2 && ((uint32_t *)table[7])[32 * 52 + 5] == 1);
+    runs("the quote makes another", TARIFF_QUOTE);
+    check("which takes the next", owner(2) == 1 && ((uint16_t *)table[0])[5] == 3);
+    accepts("the quote dropped", drop(TARIFF_QUOTE));
+    frees("what it held", 2);
+    expect("the report goes on", run(9), 0, SIX(TARIFF_RAN_FOR, 0, TARIFF_FINISHED, TARIFF_REPORT, 8, 5));
+    frees("the rest", 3);
+    check("all are free", owner(0) + owner(1) + owner(2) == 0);
+
+    quoting(IDENTITY);
+    accepts("dropped", drop(TARIFF_QUOTE));
+    for (int n = 1; n < 256; n++) {
+        accepts("an object", start(TARIFF_REPORT, 1, 10, 20, 7));
+        accepts("a drop", drop(TARIFF_REPORT));
+    }
+    refuses("256 in use", start(TARIFF_REPORT, 1, 10, 20, 7), TARIFF_FULL);
+    set(0, OWNERS + 77, 0);
+    accepts("255 in use", start(TARIFF_REPORT, 1, 10, 20, 7));
+    refuses("256 again", start(TARIFF_QUOTE, 1, 10, 20, 7), TARIFF_FULL);
+    check("the free one was taken", owner(77) == 2 && ((uint32_t *)table[7])[32 * 52 + 5] == 77);
+    frees("all but the report's", 255);
+    accepts("room", start(TARIFF_QUOTE, 1, 10, 20, 7));
+    check("from the lowest", owner(0) == 1 && owner(1) == 0 && owner(77) == 2);
+}
+
+/* Cells of free rows, and owners past the object count, are nobody's. */
+static void free_rows(void)
+{
+    quoting(TWO_OBJECTS);
+    expect("two objects made and let go", run(4), 0, SIX(TARIFF_RAN_FOR, 0, TARIFF_RAN, TARIFF_QUOTE, 0, 4));
+    frees("both", 2);
+    for (size_t cell = 33; cell < 3 * 33; cell++)
+        set(6, cell, 4294967295);
+    for (size_t row = 3; row < 256; row++)
+        set(0, OWNERS + row, 65535);
+    keep(&first);
+    for (int name = 0; name < CALLS; name++) {
+        struct call c = each(name);
+        put_back(&first);
+        check("cells that are nobody's", performed(&c) == 0);
+    }
+    put_back(&first);
+    set(7, 4 + 2 * 7, 3);
+    set(7, 5 + 2 * 7, 2);
+    for (int name = 1; name < CALLS; name++)
+        refuses("a freed object in a local that is unset", each(name), TARIFF_BROKEN);
+    set(7, 5 + 2 * 7, 0);
+    accepts("one in use there", drop(TARIFF_REPORT));
+    frees("which it holds", 0);
+}
+
 static void limits(void)
 {
     static const uint32_t loaders[] = {16, 255, 256, 65536, 65537, 2147483648, 4294967295};
@@ -292,7 +374,7 @@ static void answer_tables(void)
 
 int main(void)
 {
-    static const char *const names[] = {"boot", "define", "record", "start", "step", "run", "drop", "check"};
+    static const char *const names[] = {"boot", "define", "record", "start", "step", "run", "drop", "sweep", "check"};
     make_tables();
     booting();
     wrong_lengths();
@@ -300,6 +382,8 @@ int main(void)
     loading_words();
     task_words();
     tie_by_a_step();
+    sweeping();
+    free_rows();
     limits();
     runs_and_steps();
     answer_tables();

@@ -8,7 +8,7 @@
 #include "desk.h"
 #include "tariff.h"
 
-_Static_assert(sizeof(struct tariff_store) == 68496, "a store's bytes, as published");
+_Static_assert(sizeof(struct tariff_store) == 69008, "a store's bytes, as published");
 
 static int checked = 0;
 static int wrong = 0;
@@ -25,6 +25,9 @@ static void check(const char *what, int good)
 /* The eight tables and the answer's, each lent from the very end of memory that may be used. */
 
 enum { TABLES = 8, ANSWER = 8, PAGE = 4096 };
+
+/* Where the objects' owners stand among the counts. */
+enum { OWNERS = 8 };
 
 static const size_t width[] = {2, 2, 1, 2, 2, 2, 4, 4, 4};
 static const size_t cells[] = {TARIFF_COUNTS, TARIFF_CLASSES, TARIFF_KEPT,   TARIFF_CACHE, TARIFF_TIES,
@@ -105,7 +108,7 @@ static void make_tables(void)
 /* Calls */
 
 /* The calls on a store, and the desk's check, which takes none. */
-enum { BOOT, DEFINE, RECORD, START, STEP, RUN, DROP, CALLS, CHECK = CALLS, MEASURED };
+enum { BOOT, DEFINE, RECORD, START, STEP, RUN, DROP, SWEEP, CALLS, CHECK = CALLS, MEASURED };
 
 struct call {
     int name;
@@ -118,6 +121,7 @@ static struct call boot(void) { return (struct call){.name = BOOT}; }
 static struct call step(void) { return (struct call){.name = STEP}; }
 static struct call run(uint32_t n) { return (struct call){.name = RUN, .one = n}; }
 static struct call drop(uint32_t task) { return (struct call){.name = DROP, .one = task}; }
+static struct call sweep(void) { return (struct call){.name = SWEEP}; }
 
 static struct call record(uint32_t loader, uint32_t name, uint32_t number)
 {
@@ -184,6 +188,7 @@ static uint8_t perform(const struct call *c)
     case START: return tariff_start(LENT, c->one, c->two, (uint16_t)c->three, (uint16_t)c->four, c->five, LEND(ANSWER));
     case STEP: return tariff_step(LENT, LEND(ANSWER));
     case RUN: return tariff_run(LENT, c->one, LEND(ANSWER));
+    case SWEEP: return tariff_sweep(LENT, LEND(ANSWER));
     case CHECK: return tariff_check(c->file, c->size);
     default: return tariff_drop(LENT, c->one, LEND(ANSWER));
     }
@@ -258,6 +263,8 @@ static void wants(const char *what, struct call c, uint32_t loader, uint32_t nam
 {
     expect(what, c, TARIFF_WANTED, SIX(TARIFF_DENIED, TARIFF_WANTED, loader, name, 0, 0));
 }
+
+static void frees(const char *what, uint32_t objects) { expect(what, sweep(), 0, SIX(TARIFF_SWEPT, 0, objects, 0, 0, 0)); }
 
 static void runs(const char *what, uint32_t task) { expect(what, step(), 0, SIX(TARIFF_STEPPED, 0, TARIFF_RAN, task, 0, 0)); }
 

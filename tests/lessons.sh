@@ -1,6 +1,6 @@
 #!/usr/bin/env bash
-# The writer's tool: its own tests, the course's lessons on the proved machine, each mistake's lesson on a machine that makes it, what
-# ./box says of mistakes in a text, and any bytes for a minute.
+# The writer's tool: its own tests, the course's lessons on the proved machine, each mistake's lesson on a machine that makes it, the lesson
+# on dead objects on machines that free or count them wrongly, what ./box says of mistakes in a text, and any bytes for a minute.
 #
 #   tests/lessons.sh                   all of it
 #   tests/lessons.sh --write-errors    writes what ./box says to tools/tests/errors, to be read before it is committed
@@ -55,7 +55,7 @@ lessons() {
             grep -q "^R 1 2 0 .*loader 1 records Object as 0: recorded$" "$work/out" || fail "${lesson%.lesson}.box isn't in words"
         fi
     done
-    [ "$count" -gt 13 ] || fail "there are only $count lessons"
+    [ "$count" -gt 14 ] || fail "there are only $count lessons"
 }
 
 # A text through the assembler, and its files listed and assembled again.
@@ -96,23 +96,26 @@ usage() {
 # The mirror stands in for the libraries: right, it passes; with a learner's mistake, that mistake's lesson fails.
 mistakes() {
     local mirror=$PWD/reference/target/mirror/release writer=$tools/mirror/release/writer lesson fault number tried
-    # the names of the mirror's faults that are each mistake
+    # the names of the mirror's faults that are each mistake; the sixth is dead objects
     local faults=(desk "checks-only-constraints-on-the-request|joins-only-direct-ties" superclass-under-the-asking-loader
-        "([a-z]+-)?posts-and-then-refuses" overriding-ties-nothing compares-by-name)
+        "([a-z]+-)?posts-and-then-refuses" overriding-ties-nothing compares-by-name
+        "sweep-(forgets-locals|forgets-the-report|frees-[a-z]+|tells-[a-z-]+)|freed-objects-count-for-full")
     (cd reference && cargo build --offline --release --quiet -p mirror --target-dir target/mirror)
     TARIFF_LIB=$mirror TARIFF_LINK=dylib=tariff cargo build --manifest-path tools/Cargo.toml --offline --release --quiet --features host --target-dir "$tools/mirror"
     export LD_LIBRARY_PATH=$mirror
     for lesson in examples/*.lesson; do
         "$writer" play "$lesson" >/dev/null 2>&1 || fail "$lesson fails on the second implementation"
     done
-    for number in 1 2 3 4 5; do
+    for number in 1 2 3 4 5 6; do
         tried=0
+        lesson=examples/dead-objects.lesson
+        [ "$number" -eq 6 ] || lesson=$(echo examples/mistake-"$number"-*.lesson)
         for fault in $(grep -oE "^    \\(\"(${faults[$number]})\"" reference/mirror/src/faults.rs | tr -d '( "'); do
             tried=$((tried + 1))
-            MIRROR_FAULT=$fault "$writer" play examples/mistake-"$number"-*.lesson >"$work/out" 2>&1 && fail "mistake $number passes on the machine $fault"
-            grep -q "^NO" "$work/out" || { cat "$work/out"; fail "mistake $number on the machine $fault"; }
+            MIRROR_FAULT=$fault "$writer" play "$lesson" >"$work/out" 2>&1 && fail "$lesson passes on the machine $fault"
+            grep -q "^NO" "$work/out" || { cat "$work/out"; fail "$lesson on the machine $fault"; }
         done
-        [ "$tried" -gt 0 ] || fail "no machine makes mistake $number"
+        [ "$tried" -gt 0 ] || fail "no machine fails $lesson"
     done
     MIRROR_FAULT=desk-skips-the-verifier "$writer" check tools/tests/errors/unverified.check >"$work/out" 2>&1 && fail "a wrong desk is believed"
     grep -q "the desk says 0 and the second implementation 6" "$work/out" || fail "a wrong desk isn't named"

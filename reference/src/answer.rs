@@ -62,6 +62,8 @@ pub enum Reply {
     Stepped(Answer),
     /// The count of steps that ran, and the last answer.
     RanFor(u16, Answer),
+    /// The number of objects that were freed.
+    Swept(u16),
     Denied(Refusal),
 }
 

@@ -1,8 +1,8 @@
 //! Word 1: are the tables a store at all?
 
 use crate::classes::Classes;
-use crate::store::{cell, count, frame_base, Store, Value};
-use crate::store::{FRAME_ROW, LENGTHS, LIMITS, LOADERS, LOCALS, OBJECT_ROW, OPERANDS, TASKS};
+use crate::store::{cell, frame_base, Store, Value};
+use crate::store::{FRAME_ROW, FREE, LENGTHS, LIMITS, LOADERS, LOCALS, OBJECT_ROW, OPERANDS, TASKS};
 
 /// Do the tables have the published lengths? All that boot checks.
 pub fn lengths_fit(store: &Store) -> bool {
@@ -32,23 +32,29 @@ fn rows_fit(store: &Store, classes: &Classes) -> bool {
         && store.subtype_rows().all(|[loader, _, _]| loader < LOADERS)
 }
 
-fn is_value(store: &Store, cells: &[u32], at: usize) -> bool {
+fn is_value(owners: &[u16], cells: &[u32], at: usize) -> bool {
     match Value::read(cells, at) {
         Some(Value::Int(_)) | Some(Value::Null) => true,
-        Some(Value::Object(object)) => object < u32::from(store.counts[count::OBJECTS]),
+        Some(Value::Object(object)) => owners.get(object as usize).is_some_and(|&owner| owner != FREE),
         Some(Value::Empty) | None => false,
     }
 }
 
-fn is_local(store: &Store, cells: &[u32], at: usize) -> bool {
-    Value::read(cells, at) == Some(Value::Empty) || is_value(store, cells, at)
+fn is_local(owners: &[u16], cells: &[u32], at: usize) -> bool {
+    Value::read(cells, at) == Some(Value::Empty) || is_value(owners, cells, at)
 }
 
+/// Nothing is asked of a free row's class and fields.
 fn objects_fit(store: &Store, classes: &Classes) -> bool {
-    let used = store.count(count::OBJECTS);
-    store.objects.chunks_exact(OBJECT_ROW).take(used).all(|row| {
+    let owners = store.owners();
+    let object_fits = |row: &[u32]| {
         classes.has(row[0])
-            && (0..classes.field_count(row[0] as u16)).all(|field| is_value(store, row, 1 + 2 * field))
+            && (0..classes.field_count(row[0] as u16)).all(|field| is_value(owners, row, 1 + 2 * field))
+    };
+    owners.iter().zip(store.objects.chunks_exact(OBJECT_ROW)).all(|(&owner, row)| match owner {
+        FREE => true,
+        1..=TASKS => object_fits(row),
+        _ => false,
     })
 }
 
@@ -56,15 +62,15 @@ fn frames_fit(store: &Store, classes: &Classes) -> bool {
     (0..usize::from(TASKS)).all(|task| {
         (0..store.frame_count(task)).all(|depth| {
             let base = frame_base(task, depth);
-            frame_fits(store, classes, &store.frames[base..base + FRAME_ROW])
+            frame_fits(store.owners(), classes, &store.frames[base..base + FRAME_ROW])
         })
     })
 }
 
-fn frame_fits(store: &Store, classes: &Classes, frame: &[u32]) -> bool {
+fn frame_fits(owners: &[u16], classes: &Classes, frame: &[u32]) -> bool {
     let operands = frame[cell::OPERANDS] as usize;
     classes.has(frame[cell::CLASS])
         && operands <= OPERANDS
-        && (0..LOCALS).all(|local| is_local(store, frame, cell::LOCAL_0 + 2 * local))
-        && (0..operands).all(|operand| is_value(store, frame, cell::OPERAND_0 + 2 * operand))
+        && (0..LOCALS).all(|local| is_local(owners, frame, cell::LOCAL_0 + 2 * local))
+        && (0..operands).all(|operand| is_value(owners, frame, cell::OPERAND_0 + 2 * operand))
 }

@@ -76,7 +76,7 @@ impl Classes {
     }
 
     /// Where a class's own fields begin in its objects.
-    fn first_own_field(&self, class: u16) -> usize {
+    pub fn first_own_field(&self, class: u16) -> usize {
         self.field_count(u16::from(self.supers[usize::from(class)]))
     }
 

@@ -11,13 +11,15 @@ use crate::broken::unbroken;
 use crate::gen::chains::chains;
 use crate::gen::codes::{rejected, taken};
 use crate::gen::damage::{damaged, probes, SHAPES};
+use crate::gen::cells::each_cell;
 use crate::gen::files::file;
+use crate::gen::graphs::graphs;
 use crate::gen::limits::LIMITS;
 use crate::gen::list::list;
 use crate::gen::rng::Rng;
 use crate::gen::stuck::stuck;
-use crate::gen::sweep::sweep;
-use crate::gen::{cases, large, Call, Trial};
+use crate::gen::swept::swept;
+use crate::gen::{cases, large, Call, Trial, CALLS};
 use crate::host::{self, expected, CELLS};
 use crate::placed::misplaced;
 use crate::store::{Store, LENGTHS};
@@ -35,7 +37,7 @@ pub struct Comparison {
     /// Calls on other stores.
     pub damaged: Tally,
     /// Calls on tables of a wrong length, by call.
-    pub misshapen: [u64; 7],
+    pub misshapen: [u64; CALLS.len()],
     /// Damaged stores that have each of `SHAPES`.
     pub shapes: [u64; SHAPES.len()],
     /// Calls that followed the boot of a damaged store.
@@ -105,7 +107,7 @@ impl Comparison {
             let before = ours.clone();
             let reply = both(&mut ours, &mut theirs, call, CELLS, &label);
             sound(&theirs, reply, &label);
-            self.booted.count(&before, call, reply);
+            self.booted.count(&before, call, reply, &ours);
         }
     }
 
@@ -113,7 +115,7 @@ impl Comparison {
     fn call(&mut self, before: &Store, call: &Call, cells: usize, label: &str) -> Store {
         let (mut ours, mut theirs) = (before.clone(), before.clone());
         let reply = both(&mut ours, &mut theirs, call, cells, label);
-        self.damaged.count(before, call, reply);
+        self.damaged.count(before, call, reply, &ours);
         self.misshapen[call.kind()] += u64::from(before.lengths() != LENGTHS);
         ours
     }
@@ -131,6 +133,7 @@ impl Comparison {
         }
         if seed % STORES == 0 {
             self.reboot(&store, &list(seed, 40), &format!("damage {seed}, booted"));
+            self.reboot(&store, &graphs(seed, 10), &format!("damage {seed}, booted for objects"));
         }
     }
 
@@ -166,6 +169,7 @@ impl Comparison {
         self.seeds += 1;
         self.play(&list(seed, 120), &format!("list {seed}"));
         self.play(&chains(seed, 30), &format!("chains {seed}"));
+        self.play(&graphs(seed, 50), &format!("graphs {seed}"));
         (STORES * seed..STORES * (seed + 1)).for_each(|seed| self.damage(seed));
         let store = cases::whole();
         (FILES * seed..FILES * (seed + 1)).for_each(|seed| self.file(&store, file(seed), &format!("file {seed}")));
@@ -173,7 +177,7 @@ impl Comparison {
 
     /// What needs no seed.
     fn fixed(&mut self) {
-        for (at, trial) in cases::cases().iter().enumerate() {
+        for (at, trial) in cases::cases().iter().chain(&swept()).enumerate() {
             self.play(trial, &format!("case {at}"));
         }
         for seed in 0..4 {
@@ -201,24 +205,28 @@ impl Comparison {
             (chain, large::chain_record()), (grid, large::grid_record()), (usual.clone(), large::usual_define()),
             (usual, large::usual_record()), (large::posting(), Call::Step),
         ];
-        for (at, (store, call)) in calls.iter().enumerate() {
+        let held = [large::Held::Upward, large::Held::Downward, large::Held::ByFrames, large::Held::Nothing];
+        let swept = held.map(|held| (large::objects(held), Call::Sweep));
+        let made = [false, true].map(|freed| (large::making(freed), run.clone()));
+        for (at, (store, call)) in calls.iter().chain(&swept).chain(&made).enumerate() {
             self.call(store, call, CELLS, &format!("large store {at}"));
         }
     }
 
     /// Every cell of a store changed alone.
-    fn sweep(&mut self) {
+    fn cells(&mut self) {
         let record = Call::Record { loader: 3, name: 11, class: 2 };
-        sweep(&cases::whole(), |store, label| {
+        each_cell(&cases::whole(), |store, label| {
             self.call(store, &Call::Step, CELLS, label);
             self.call(store, &record, CELLS, label);
+            self.call(store, &Call::Sweep, CELLS, label);
         });
     }
 
     fn add(&mut self, other: &Comparison) {
         self.booted.add(&other.booted);
         self.damaged.add(&other.damaged);
-        (0..7).for_each(|call| self.misshapen[call] += other.misshapen[call]);
+        (0..CALLS.len()).for_each(|call| self.misshapen[call] += other.misshapen[call]);
         (0..7).for_each(|number| self.desk[number] += other.desk[number]);
         (0..SHAPES.len()).for_each(|shape| self.shapes[shape] += other.shapes[shape]);
         self.rebooted += other.rebooted;
@@ -241,6 +249,9 @@ impl Comparison {
         demand(booted == ENDS_FROM_A_BOOT, format!("runs from a boot ended with {booted:?}"));
         demand(damaged.contains(&14) && !damaged.contains(&1), format!("runs on damaged stores ended with {damaged:?}"));
         demand(self.booted.idle_opcodes().is_empty(), format!("never ran: {:?}", self.booted.idle_opcodes()));
+        for (tally, what) in [(&self.booted, "from a boot"), (&self.damaged, "on damaged stores")] {
+            demand(tally.unswept().is_empty(), format!("sweeps {what} never had {:?}", tally.unswept()));
+        }
         demand(self.misshapen.iter().all(|&calls| calls > 0), format!("calls on misshapen tables: {:?}", self.misshapen));
         for ((what, _), &stores) in SHAPES.iter().zip(&self.shapes) {
             demand(stores > 0, format!("no damaged store has {what}"));
@@ -273,7 +284,7 @@ pub fn all(seeds: u64, time: Duration) -> Comparison {
             let seed = next.fetch_add(1, Ordering::Relaxed);
             match seed {
                 0 => own.fixed(),
-                1 => own.sweep(),
+                1 => own.cells(),
                 _ if seed - 2 < seeds || clock.elapsed() < time => own.seed(seed - 2),
                 _ => return own,
             }

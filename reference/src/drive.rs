@@ -37,6 +37,7 @@ fn call(row: &[u32], files: &[u8]) -> Option<Call> {
         4 => Call::Step,
         5 => Call::Run { n: row[1] },
         6 => Call::Drop { task: row[1] },
+        7 => Call::Sweep,
         _ => return None,
     })
 }

@@ -30,6 +30,7 @@ pub struct Told {
 /// | 2 | a step's: idle, ran, finished | 0, 1, 2 | task | int | 0 |
 /// | 3 | a run's | as of its last step | the same | the same | steps that ran |
 /// | 4 | denied | 0 | 0 | 0 | 0 |
+/// | 5 | swept | objects freed | 0 | 0 | 0 |
 ///
 /// Where a class is wanted, one is the loader, two the name, three the task at its turn if a step wants it. The number in the cells is the
 /// refusal's, a run's that of its last step; the number returned is 0 for every run that was made. `turn` is the task whose turn it was
@@ -42,6 +43,7 @@ pub fn expected(reply: Reply, turn: u32) -> Told {
         Reply::Stepped(answer) => stepped(2, answer, turn, 0),
         Reply::RanFor(ran, answer) => stepped(3, answer, turn, ran.into()),
         Reply::Denied(refusal) => refused(4, refusal, 0, 0),
+        Reply::Swept(freed) => [5, 0, freed.into(), 0, 0, 0],
     };
     Told { number, cells }
 }
@@ -95,6 +97,7 @@ mod library {
         tariff_step();
         tariff_run(n: u32);
         tariff_drop(task: u32);
+        tariff_sweep();
     }
 
     /// Calls a function with the tables of a store, these arguments and an answer table.
@@ -131,6 +134,7 @@ mod library {
                 Call::Step => lend!(tariff_step, store, answer),
                 Call::Run { n } => lend!(tariff_run, store, answer, n),
                 Call::Drop { task } => lend!(tariff_drop, store, answer, task),
+                Call::Sweep => lend!(tariff_sweep, store, answer),
             }
         }
     }

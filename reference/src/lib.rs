@@ -1,4 +1,4 @@
-//! The tariff class machine, written a second time: boot, define, record, start, step, run and drop
+//! The tariff class machine, written a second time: boot, define, record, start, step, run, drop and sweep
 //! over the eight lent tables that docs/STORE.md publishes, the desk's check, boxscript and drivelist.
 //!
 //! It shares no code with the proved machine. The two are compared call by call and cell by cell.
@@ -19,6 +19,7 @@ pub mod placed;
 pub mod script;
 pub mod step;
 pub mod store;
+pub mod sweep;
 pub mod tally;
 pub mod task;
 pub mod verifier;
@@ -29,5 +30,6 @@ pub use load::{boot, define, record};
 pub use placed::misplaced;
 pub use step::step;
 pub use store::Store;
+pub use sweep::sweep;
 pub use task::{drop_task, run, start};
 pub use verifier::check;

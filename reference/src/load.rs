@@ -12,7 +12,7 @@ pub fn boot(store: &mut Store) -> Reply {
     if !lengths_fit(store) {
         return denied(word::BROKEN);
     }
-    store.counts.copy_from_slice(&[1, 0, 1, 0, 0, 0, 0, 0]);
+    store.counts[..count::OWNERS].copy_from_slice(&[1, 0, 1, 0, 0, 0, 0, 0]);
     store.classes[..ROW].copy_from_slice(&[0, 0, 0]);
     store.cache[..ROW].copy_from_slice(&[0, OBJECT, 0]);
     Reply::Accepted

@@ -2,7 +2,7 @@
 
 use crate::broken::unbroken;
 use crate::classes::Classes;
-use crate::store::{cell, count, frame_base, Store, Value, FRAME_ROW, OBJECT_ROW, TASKS};
+use crate::store::{cell, frame_base, Store, Value, FRAME_ROW, OBJECT_ROW, TASKS};
 use crate::verifier::{types_at, Type, Types};
 
 /// The count of misplaced values. Tables that are no store have none to count: they give the largest number.
@@ -10,7 +10,7 @@ pub fn misplaced(store: &Store) -> usize {
     let Some(classes) = unbroken(store) else {
         return usize::MAX;
     };
-    let fields: usize = (0..store.count(count::OBJECTS)).map(|object| in_fields(store, &classes, object)).sum();
+    let fields: usize = store.objects_in_use().map(|object| in_fields(store, &classes, object as usize)).sum();
     let frames: usize = (0..usize::from(TASKS)).map(|task| in_frames(store, &classes, task)).sum();
     fields + frames
 }

@@ -80,7 +80,7 @@ fn half(byte: u8) -> Option<u8> {
 /// The refusal number and the three details of an answer. `task` is the step's task.
 fn details(reply: Reply, task: u8) -> [i64; 4] {
     match reply {
-        Reply::Accepted | Reply::Stepped(Answer::Idle) | Reply::RanFor(..) => [0, 0, 0, 0],
+        Reply::Accepted | Reply::Stepped(Answer::Idle) | Reply::RanFor(..) | Reply::Swept(_) => [0, 0, 0, 0],
         Reply::Defined(class) => [0, i64::from(class), 0, 0],
         Reply::Stepped(Answer::Ran(task)) => [0, 1, i64::from(task), 0],
         Reply::Stepped(Answer::Finished(task, bits)) => [0, 2, i64::from(task), i64::from(bits as i32)],

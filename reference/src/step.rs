@@ -244,10 +244,10 @@ impl Turn<'_> {
 
     fn new_object(&mut self, name: u16) -> Result<Answer, Refusal> {
         let class = self.named_class(name)?;
-        if self.operands >= OPERANDS || self.store.is_full(count::OBJECTS) {
+        if self.operands >= OPERANDS {
             return Err(FULL);
         }
-        let object = make_object(self.store, self.classes, class);
+        let object = make_object(self.store, self.classes, class, self.task).ok_or(FULL)?;
         self.settle(0, Some(object))
     }
 

@@ -12,17 +12,24 @@ pub mod count {
     pub const OBJECTS: usize = 5;
     /// Frames of the quote; those of the report are the next cell.
     pub const FRAMES: usize = 6;
+    /// The owner of object row 0; those of the other rows follow.
+    pub const OWNERS: usize = 8;
 }
 
 /// The limit of each count.
 pub const LIMITS: [u16; 8] = [64, 16_384, 256, 256, 256, 256, 32, 32];
 /// The length of each table, in the order of `Store`.
-pub const LENGTHS: [usize; 8] = [8, 192, 16_384, 768, 768, 768, 8_448, 3_328];
+pub const LENGTHS: [usize; 8] = [264, 192, 16_384, 768, 768, 768, 8_448, 3_328];
 /// The tables' names, and the largest number that a cell holds.
 pub const TABLES: [(&str, u32); 8] = [
     ("counts", 0xFFFF), ("classes", 0xFFFF), ("kept", 0xFF), ("cache", 0xFFFF), ("ties", 0xFFFF), ("subtypes", 0xFFFF),
     ("objects", u32::MAX), ("frames", u32::MAX),
 ];
+
+/// The most objects in use.
+pub const MOST_OBJECTS: usize = LIMITS[count::OBJECTS] as usize;
+/// The owner of a free object row. An object's is 1 more than the task that made it.
+pub const FREE: u16 = 0;
 
 pub const LOADERS: u16 = 16;
 pub const TASKS: u16 = 2;
@@ -180,8 +187,42 @@ impl Store {
         usize::from(self.counts[which])
     }
 
+    /// Is the count at its limit? Whether there is room for an object is said by `unused_object`.
     pub fn is_full(&self, which: usize) -> bool {
         self.counts[which] >= LIMITS[which]
+    }
+
+    /// The owners of the object rows that have been used.
+    pub fn owners(&self) -> &[u16] {
+        &self.counts[count::OWNERS..][..self.count(count::OBJECTS)]
+    }
+
+    pub fn owners_mut(&mut self) -> &mut [u16] {
+        let used = self.count(count::OBJECTS);
+        &mut self.counts[count::OWNERS..][..used]
+    }
+
+    /// The numbers of the objects that exist.
+    pub fn objects_in_use(&self) -> impl Iterator<Item = u32> + '_ {
+        self.owners().iter().zip(0..).filter(|(&owner, _)| owner != FREE).map(|(_, object)| object)
+    }
+
+    /// The lowest unused number; nothing if all are in use.
+    pub fn unused_object(&self) -> Option<u32> {
+        // By parts, each of which is looked at in a few instructions.
+        const PART: usize = 32;
+        let owners = self.owners();
+        let full = owners.chunks(PART).take_while(|part| !part.contains(&FREE)).count();
+        let (used, rest) = owners.split_at((full * PART).min(owners.len()));
+        let object = used.len() + rest.iter().take_while(|&&owner| owner != FREE).count();
+        (object < MOST_OBJECTS).then_some(object as u32)
+    }
+
+    /// Says that a row is an object that the task made.
+    pub fn own_object(&mut self, object: u32, task: usize) {
+        self.counts[count::OWNERS + object as usize] = 1 + task as u16;
+        let used = &mut self.counts[count::OBJECTS];
+        *used = (*used).max(object as u16 + 1);
     }
 
     pub fn cache_rows(&self) -> impl Iterator<Item = [u16; 3]> + '_ {

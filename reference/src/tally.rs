@@ -1,15 +1,16 @@
-//! How often each word was given to each call, and how often each opcode ran.
+//! How often each word was given to each call, how often each opcode ran, and what sweeps met.
 
 use std::fmt;
 
 use crate::answer::{word, Answer, Reply};
 use crate::code::op;
+use crate::gen::reach::{reached, Without, LEFT_OUT};
 use crate::gen::{Call, CALLS};
 use crate::step::{instruction_of, take_step};
-use crate::store::{cell, frame_base, Store};
+use crate::store::{cell, frame_base, Store, FREE};
 
 /// The words that a call is given on lists from a boot; 0 is accepted.
-pub const FROM_A_BOOT: [(&str, &[usize]); 7] = [
+pub const FROM_A_BOOT: [(&str, &[usize]); 8] = [
     ("boot", &[0]),
     ("define", &[0, 2, 3, 4, 5, 6, 8, 9, 10]),
     ("record", &[0, 3, 4, 9, 10, 13]),
@@ -17,10 +18,11 @@ pub const FROM_A_BOOT: [(&str, &[usize]); 7] = [
     ("step", &[0, 5, 7, 9, 10, 11]),
     ("run", &[0, 3]),
     ("drop", &[0, 3]),
+    ("sweep", &[0]),
 ];
 
 /// The words that only damage brings.
-pub const ONLY_DAMAGE: [(&str, &[usize]); 7] = [
+pub const ONLY_DAMAGE: [(&str, &[usize]); 8] = [
     ("boot", &[1]),
     ("define", &[1]),
     ("record", &[1]),
@@ -28,6 +30,7 @@ pub const ONLY_DAMAGE: [(&str, &[usize]); 7] = [
     ("step", &[1, 14]),
     ("run", &[1]),
     ("drop", &[1]),
+    ("sweep", &[1]),
 ];
 
 /// How runs end on lists from a boot; damage brings word 14 too.
@@ -36,7 +39,7 @@ pub const ENDS_FROM_A_BOOT: [usize; 8] = [5, 7, 9, 10, 11, IDLE, RAN, FINISHED];
 #[derive(Clone)]
 pub struct Tally {
     /// By call and refusal number; 0 is accepted.
-    pub words: [[u64; 15]; 7],
+    pub words: [[u64; 15]; CALLS.len()],
     /// The last answers of runs by refusal number, and then idle, ran, finished.
     pub run_ends: [u64; 18],
     /// The same of steps.
@@ -44,11 +47,25 @@ pub struct Tally {
     pub opcodes: [u64; 256],
     /// Runs of a thousand steps and more.
     pub long_runs: u64,
+    /// Sweeps that would have freed more with each of `LEFT_OUT`.
+    pub held: [u64; LEFT_OUT.len()],
+    /// Objects that sweeps freed, and those that later got a freed number.
+    pub freed: u64,
+    pub reused: u64,
 }
 
 impl Default for Tally {
     fn default() -> Tally {
-        Tally { words: [[0; 15]; 7], run_ends: [0; 18], steps: [0; 18], opcodes: [0; 256], long_runs: 0 }
+        Tally {
+            words: [[0; 15]; CALLS.len()],
+            run_ends: [0; 18],
+            steps: [0; 18],
+            opcodes: [0; 256],
+            long_runs: 0,
+            held: [0; LEFT_OUT.len()],
+            freed: 0,
+            reused: 0,
+        }
     }
 }
 
@@ -76,23 +93,42 @@ fn opcode(store: &Store) -> Option<u8> {
 }
 
 impl Tally {
-    /// Counts a call on the store as it was before.
-    pub fn count(&mut self, before: &Store, call: &Call, reply: Reply) {
+    /// Counts a call on the store as it was before and is after it.
+    pub fn count(&mut self, before: &Store, call: &Call, reply: Reply, after: &Store) {
         let number = reply.refusal().map_or(0, |refusal| usize::from(refusal.number()));
         self.words[call.kind()][number] += 1;
         match reply {
             Reply::Stepped(answer) => {
                 self.steps[ending(answer)] += 1;
                 self.count_opcodes(before, u16::from(ran(answer)));
+                self.count_reused(before, after);
             }
             Reply::RanFor(steps, answer) => {
                 self.run_ends[ending(answer)] += 1;
                 self.long_runs += u64::from(steps >= 1_000);
                 let finished = u16::from(matches!(answer, Answer::Finished(..)));
                 self.count_opcodes(before, steps.saturating_add(finished).min(200));
+                self.count_reused(before, after);
             }
+            Reply::Swept(freed) => {
+                self.freed += u64::from(freed);
+                let all = reached(before, Without::Nothing);
+                for (held, (_, without)) in self.held.iter_mut().zip(LEFT_OUT) {
+                    *held += u64::from(reached(before, without) != all);
+                }
+            }
+            Reply::Accepted if matches!(call, Call::Start { .. }) => self.count_reused(before, after),
             _ => {}
         }
+    }
+
+    /// Counts the objects that were made in free rows below the object count.
+    fn count_reused(&mut self, before: &Store, after: &Store) {
+        if crate::broken(before) {
+            return;
+        }
+        let owners = before.owners().iter().zip(after.owners());
+        self.reused += owners.filter(|(&then, &now)| then == FREE && now != FREE).count() as u64;
     }
 
     /// Runs a copy of the store again for the opcodes of its first steps.
@@ -113,13 +149,16 @@ impl Tally {
     }
 
     pub fn add(&mut self, other: &Tally) {
-        for call in 0..7 {
+        for call in 0..CALLS.len() {
             (0..15).for_each(|number| self.words[call][number] += other.words[call][number]);
         }
         (0..18).for_each(|end| self.run_ends[end] += other.run_ends[end]);
         (0..18).for_each(|end| self.steps[end] += other.steps[end]);
         (0..256).for_each(|opcode| self.opcodes[opcode] += other.opcodes[opcode]);
         self.long_runs += other.long_runs;
+        (0..LEFT_OUT.len()).for_each(|what| self.held[what] += other.held[what]);
+        self.freed += other.freed;
+        self.reused += other.reused;
     }
 
     /// The words given to a call, by number; 0 is accepted.
@@ -131,6 +170,13 @@ impl Tally {
     /// The ends of runs that occurred.
     pub fn ended(&self) -> Vec<usize> {
         (0..18).filter(|&end| self.run_ends[end] > 0).collect()
+    }
+
+    /// What held no object by itself at any sweep, and whether nothing was freed or made in a freed row.
+    pub fn unswept(&self) -> Vec<&'static str> {
+        let idle = LEFT_OUT.iter().zip(self.held).filter(|(_, held)| *held == 0).map(|((what, _), _)| *what);
+        let never = [("freed", self.freed), ("reused", self.reused)].into_iter().filter(|(_, objects)| *objects == 0);
+        idle.chain(never.map(|(what, _)| what)).collect()
     }
 
     /// The opcodes that never ran.
@@ -156,11 +202,15 @@ impl fmt::Display for Tally {
             writeln!(f, "{:>11}", if number == 0 { 0 } else { self.run_ends[number] })?;
         }
         for (at, name) in [(IDLE, "idle"), (RAN, "ran"), (FINISHED, "finished")] {
-            writeln!(f, "   {name:<11}{:>45}{:>29}", self.steps[at], self.run_ends[at])?;
+            writeln!(f, "   {name:<11}{:>45}{:>38}", self.steps[at], self.run_ends[at])?;
         }
         for (opcode, name) in op::ALL.iter().zip(op::NAMES) {
             writeln!(f, "   {opcode:02X} {name:<14}{:>9}", self.opcodes[usize::from(*opcode)])?;
         }
+        for ((what, _), held) in LEFT_OUT.iter().zip(self.held) {
+            writeln!(f, "   sweeps that need {what:<23}{held:>6}")?;
+        }
+        writeln!(f, "   objects freed{:>33}\n   objects in freed rows{:>25}", self.freed, self.reused)?;
         writeln!(f, "   runs of 1,000 steps and more{:>18}", self.long_runs)
     }
 }

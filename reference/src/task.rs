@@ -9,16 +9,16 @@ use crate::store::{count, Store, Value, INT, LOADERS, OBJECT_ROW, TASKS};
 /// The most steps of a run.
 const MOST_STEPS: u32 = 65_535;
 
-/// Makes an object with all fields 0 or null; the caller has seen that there is room.
-pub fn make_object(store: &mut Store, classes: &Classes, class: u16) -> Value {
-    let object = u32::from(store.counts[count::OBJECTS]);
+/// Makes an object for a task, with all fields 0 or null, of the lowest unused number; nothing if there is none.
+pub fn make_object(store: &mut Store, classes: &Classes, class: u16, task: usize) -> Option<Value> {
+    let object = store.unused_object()?;
     let types = classes.field_types(store, class);
     store.objects[object as usize * OBJECT_ROW] = u32::from(class);
     for (field, (_, of)) in types.iter().enumerate() {
         Value::first(of).write(&mut store.objects, Store::field_cell(object, field));
     }
-    store.counts[count::OBJECTS] += 1;
-    Value::Object(object)
+    store.own_object(object, task);
+    Some(Value::Object(object))
 }
 
 pub fn start(store: &mut Store, task: u32, loader: u32, name: u16, method: u16, int: u32) -> Reply {
@@ -39,10 +39,9 @@ pub fn start(store: &mut Store, task: u32, loader: u32, name: u16, method: u16, 
         return denied(word::ABSENT);
     };
     let place = selected.place;
-    if store.is_full(count::OBJECTS) {
+    let Some(this) = make_object(store, &classes, class, task) else {
         return denied(word::FULL);
-    }
-    let this = make_object(store, &classes, class);
+    };
     store.enter(task, owner, place, this, Value::Int(int));
     Reply::Accepted
 }

@@ -7,7 +7,7 @@ use reference::store::{Store, INT, LIMITS};
 
 fn check(expected: bool, what: &str, change: impl FnOnce(&mut Store)) {
     let mut store = whole();
-    assert_eq!(store.counts[2..], [7, 1, 1, 3, 2, 1]);
+    assert_eq!(store.counts[2..12], [7, 1, 1, 3, 2, 1, 1, 2, 1, 0]);
     assert!(!broken(&store), "the store is whole");
     change(&mut store);
     assert_eq!(broken(&store), expected, "{what}");
@@ -36,7 +36,11 @@ fn counts() {
     check(false, "subtypes at the limit", |s| s.counts[4] = 256);
     check(false, "kept at the limit", |s| s.counts[1] = 16_384);
     check(false, "cache at the limit", |s| s.counts[2] = 256);
-    check(false, "objects of Object", |s| s.counts[5] = 256);
+    check(false, "free objects", |s| s.counts[5] = 256);
+    check(false, "objects of Object", |s| {
+        s.counts[5] = 256;
+        s.owners_mut()[3..].fill(1);
+    });
     check(false, "frames of Object", |s| s.counts[7] = 32);
     check(true, "classes at the limit, without files", |s| s.counts[0] = 64);
     check(true, "no classes, but objects", |s| s.counts[0] = 0);
@@ -121,9 +125,53 @@ fn rows() {
         s.subtypes[3..].fill(u16::MAX);
         s.classes[12..].fill(u16::MAX);
         s.objects[99..].fill(u32::MAX);
+        s.counts[11..].fill(u16::MAX);
         s.frames[2 * 52..32 * 52].fill(u32::MAX);
         s.frames[33 * 52..].fill(u32::MAX);
     });
+}
+
+#[test]
+fn owners() {
+    for owner in [3, 4, 256, 257, u16::MAX] {
+        check(true, "no owner", |s| s.counts[8] = owner);
+        check(true, "no owner of the last object", |s| s.counts[10] = owner);
+        check(false, "past the objects", |s| s.counts[11] = owner);
+        check(false, "the last row's", |s| s.counts[263] = owner);
+    }
+    check(false, "the other task's", |s| s.counts[8..11].copy_from_slice(&[2, 1, 2]));
+    check(true, "the quote's object is free", |s| s.counts[8] = 0);
+    check(true, "the report's object is free", |s| s.counts[9] = 0);
+    check(true, "the top frame's object is free", |s| s.counts[10] = 0);
+}
+
+/// The store with a free row 3 below the count and cells that no object has.
+fn with_free_row(s: &mut Store) {
+    s.counts[5] = 5;
+    s.counts[8 + 4] = 1;
+    s.objects[4 * 33..5 * 33].fill(0);
+    s.objects[3 * 33..4 * 33].fill(u32::MAX);
+}
+
+#[test]
+fn free_rows() {
+    check(false, "a free row's class and fields", with_free_row);
+    let named = |change: fn(&mut Store)| {
+        move |s: &mut Store| {
+            with_free_row(s);
+            change(s);
+        }
+    };
+    check(true, "a free row in a field", named(|s| s.objects[3..5].copy_from_slice(&[3, 3])));
+    check(false, "the object behind it in a field", named(|s| s.objects[3..5].copy_from_slice(&[3, 4])));
+    check(false, "a free row past the fields", named(|s| s.objects[5..7].copy_from_slice(&[3, 3])));
+    check(true, "a free row in an unset local", named(|s| s.frames[18..20].copy_from_slice(&[3, 3])));
+    check(false, "the object behind it in an unset local", named(|s| s.frames[18..20].copy_from_slice(&[3, 4])));
+    check(false, "a free row past the operands", named(|s| s.frames[20..22].copy_from_slice(&[3, 3])));
+    check(true, "a free row in an operand of a frame that waits", named(|s| {
+        s.frames[3] = 1;
+        s.frames[20..22].copy_from_slice(&[3, 3]);
+    }));
 }
 
 #[test]

@@ -2,18 +2,18 @@
 
 use reference::answer::{Answer, Reply};
 use reference::gen::cases::whole;
+use reference::gen::cells::each_cell;
 use reference::gen::damage::{damaged, probes, SHAPES};
 use reference::gen::stuck::stuck;
-use reference::gen::sweep::sweep;
 use reference::gen::Call;
 use reference::store::{Store, LENGTHS};
 use reference::tally::{Tally, ONLY_DAMAGE};
 use reference::{broken, misplaced, Refusal};
 
-const SEEDS: u64 = 6_000;
+const SEEDS: u64 = 10_000;
 
 /// The words of each call on damaged stores that this test meets; 0 is accepted.
-const ON_DAMAGE: [(&str, &[usize]); 7] = [
+const ON_DAMAGE: [(&str, &[usize]); 8] = [
     ("boot", &[0]),
     ("define", &[0, 4, 5, 6, 8, 9, 10]),
     ("record", &[0, 3, 4, 9, 10, 13]),
@@ -21,6 +21,7 @@ const ON_DAMAGE: [(&str, &[usize]); 7] = [
     ("step", &[0, 5, 7, 9, 10, 11]),
     ("run", &[0, 3]),
     ("drop", &[0, 3]),
+    ("sweep", &[0]),
 ];
 
 fn try_call(before: &Store, call: &Call, label: &str, tally: &mut Tally) -> Store {
@@ -37,7 +38,7 @@ fn try_call(before: &Store, call: &Call, label: &str, tally: &mut Tally) -> Stor
     if !broken_before {
         assert!(!broken(&store), "{label}: {call:?} broke the store");
     }
-    tally.count(before, call, reply);
+    tally.count(before, call, reply, &store);
     store
 }
 
@@ -72,18 +73,19 @@ fn damaged_stores() {
     }
     assert!(tally.long_runs > 20, "{} runs of 1,000 steps and more", tally.long_runs);
     assert!(tally.run_ends[14] > 0 && whole > 1_000 && misplacing > 100);
+    assert_eq!(tally.unswept(), Vec::<&str>::new(), "what sweeps never had");
 }
 
 #[test]
 fn one_cell_at_a_time() {
     let mut tally = Tally::default();
-    let calls = [Call::Step, Call::Record { loader: 3, name: 11, class: 2 }];
-    sweep(&whole(), |store, label| {
+    let calls = [Call::Step, Call::Record { loader: 3, name: 11, class: 2 }, Call::Sweep];
+    each_cell(&whole(), |store, label| {
         for call in &calls {
             try_call(store, call, label, &mut tally);
         }
     });
-    println!("a sweep\n{tally}");
+    println!("every cell\n{tally}");
     assert!(tally.words[4][0] > 1_000 && tally.words[4][1] > 1_000 && tally.words[4][14] > 20);
 }
 

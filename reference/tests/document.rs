@@ -122,10 +122,10 @@ fn boot_writes_counts_class_0_and_cache_row_0() {
     let mut store = garbage();
     let before = store.clone();
     assert_eq!(reference::boot(&mut store), Reply::Accepted);
-    assert_eq!(store.counts, [1, 0, 1, 0, 0, 0, 0, 0]);
+    assert_eq!(store.counts[..8], [1, 0, 1, 0, 0, 0, 0, 0]);
     assert_eq!(store.classes[..3], [0, 0, 0]);
     assert_eq!(store.cache[..3], [0, 2, 0]);
-    store.counts.copy_from_slice(&before.counts);
+    store.counts[..8].copy_from_slice(&before.counts[..8]);
     store.classes[..3].copy_from_slice(&before.classes[..3]);
     store.cache[..3].copy_from_slice(&before.cache[..3]);
     assert_eq!(store, before);
@@ -173,5 +173,5 @@ fn cells_of_a_call_and_its_return() {
     assert_eq!(trial.store.frames[report + 3], 1);
     assert_eq!(trial.store.frames[report + 20..report + 22], [1, -14i32 as u32]);
     assert_eq!(trial.step(), Reply::Stepped(Answer::Finished(1, -14i32 as u32)));
-    assert_eq!(trial.store.counts, [2, trial.store.counts[1], 3, 0, 0, 1, 0, 0]);
+    assert_eq!(trial.store.counts[..10], [2, trial.store.counts[1], 3, 0, 0, 1, 0, 0, 2, 0xAAAA]);
 }

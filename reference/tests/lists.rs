@@ -4,9 +4,11 @@ use reference::agree::{agrees, Added};
 use reference::answer::{word, Answer, Refusal, Reply};
 use reference::broken::unbroken;
 use reference::gen::chains::chains;
+use reference::gen::graphs::graphs;
 use reference::gen::limits::LIMITS;
 use reference::gen::list::list;
 use reference::gen::rng::Rng;
+use reference::gen::swept::swept;
 use reference::gen::{cases, Call, Trial};
 use reference::store::Store;
 use reference::tally::{Tally, ENDS_FROM_A_BOOT, FROM_A_BOOT};
@@ -28,7 +30,7 @@ fn watch(trial: &Trial, label: &str, tally: &mut Tally) {
             as_steps(&before, n, reply, &store, label);
         }
         sound(&store, reply, &format!("{label}, call {at}"));
-        tally.count(&before, call, reply);
+        tally.count(&before, call, reply, &store);
     }
 }
 
@@ -110,10 +112,14 @@ fn random_lists() {
         watch(&trial, &format!("list {seed}"), &mut tally);
         amid_noise(seed, &trial);
         watch(&chains(seed, 30), &format!("chains {seed}"), &mut tally);
+        let trial = graphs(seed, 50);
+        watch(&trial, &format!("graphs {seed}"), &mut tally);
+        amid_noise(seed, &trial);
     }
-    println!("{SEEDS} random lists, and as many about constraints\n{tally}");
-    for trial in cases::cases() {
-        watch(&trial, "a case", &mut tally);
+    println!("{SEEDS} random lists, as many about constraints, and as many about objects\n{tally}");
+    assert_eq!(tally.unswept(), Vec::<&str>::new(), "what sweeps never had");
+    for trial in cases::cases().iter().chain(&swept()) {
+        watch(trial, "a case", &mut tally);
     }
     for (name, limit) in LIMITS {
         watch(&limit(&mut Rng::new(1)), name, &mut tally);
@@ -156,6 +162,9 @@ fn limits_are_at_their_counts() {
     assert_eq!(counts("define: subtype constraints")[4], 256);
     assert_eq!(counts("start: objects")[5], 256);
     assert_eq!(counts("step: objects")[5], 256);
+    for name in ["start: objects, after a sweep", "step: objects, after a sweep"] {
+        assert!(counts(name)[8..].iter().all(|&owner| owner != 0), "{name}");
+    }
     let frames = counts("step: frames");
     assert_eq!(frames[6].max(frames[7]), 32);
 }

@@ -18,7 +18,7 @@ fn whole() -> Store {
     trial.define(1, &Draft::new(12));
     trial.start(0, 1, 10, MAIN, 1);
     trial.run(9);
-    assert_eq!(trial.store.counts[5..], [3, 2, 0]);
+    assert_eq!(trial.store.counts[5..8], [3, 2, 0]);
     trial.store
 }
 
@@ -59,6 +59,19 @@ fn fields() {
         let base = frame_base(0, 1) + cell::OPERANDS;
         store.frames[base - 1] = 0;
         store.frames[base] = 0;
+    });
+}
+
+#[test]
+fn free_rows() {
+    let null_for_an_int = |store: &mut Store| {
+        store.objects[33] = 1;
+        (0..3).for_each(|place| field(1, place, Value::Null)(store));
+    };
+    check(1, "an object's field", null_for_an_int);
+    check(0, "a free row's", |store| {
+        null_for_an_int(store);
+        store.counts[8 + 1] = 0;
     });
 }
 

@@ -17,6 +17,7 @@ pub struct Expected {
 pub enum Wish {
     Accepted,
     Class(u32),
+    Freed(Option<u32>),
     Idle,
     Ran(Option<u32>),
     Finished(Option<u32>, Option<u32>),
@@ -25,7 +26,7 @@ pub enum Wish {
 }
 
 /// Answers besides the words of refusal.
-const ANSWERS: [&str; 6] = ["accepted", "class", "idle", "ran", "finished", "wanted"];
+const ANSWERS: [&str; 7] = ["accepted", "class", "freed", "idle", "ran", "finished", "wanted"];
 
 impl Expected {
     /// `expect ANSWER [after STEPS]`, at its first word.
@@ -43,6 +44,7 @@ impl Expected {
         let meets = match self.wish {
             Wish::Accepted => told.number == 0,
             Wish::Class(class) => kind == 1 && told.number == 0 && one == class,
+            Wish::Freed(objects) => kind == 5 && told.number == 0 && is_or_any(objects, one),
             Wish::Idle => is_step && one == 0,
             Wish::Ran(task) => is_step && one == 1 && is_or_any(task, two),
             Wish::Finished(task, int) => is_step && one == 2 && is_or_any(task, two) && is_or_any(int, three),
@@ -65,6 +67,7 @@ impl Wish {
         match answer {
             "accepted" => Ok(Wish::Accepted),
             "class" => Ok(Wish::Class(at.any_number("a class number")?)),
+            "freed" => Ok(Wish::Freed(if at.has_number() { Some(at.any_number("how many objects")?) } else { None })),
             "idle" => Ok(Wish::Idle),
             "ran" => Ok(Wish::Ran(at.task())),
             "finished" => {

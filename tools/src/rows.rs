@@ -15,8 +15,15 @@ use crate::words::task;
 /// A used row: which it is, and what it says.
 #[derive(Clone, Debug, PartialEq, Eq)]
 struct Row {
-    which: String,
+    kind: String,
+    number: usize,
     says: String,
+}
+
+impl Row {
+    fn is(&self, other: &Row) -> bool {
+        self.kind == other.kind && self.number == other.number
+    }
 }
 
 /// What changed, a line a row: + new, ~ changed, - gone. Of tables that are no store, the cells that changed.
@@ -38,14 +45,19 @@ pub fn changes(before: &Store, after: &Store, names: &Names) -> Vec<String> {
 fn row_changes(before: &[Row], after: &[Row]) -> Vec<String> {
     let mut lines = Vec::new();
     for row in after {
-        match before.iter().find(|other| other.which == row.which) {
-            None => lines.push(format!("+ {}: {}", row.which, row.says)),
-            Some(other) if other != row => lines.push(format!("~ {}: {}", row.which, row.says)),
-            Some(_) => {}
-        }
+        let sign = match before.iter().find(|other| other.is(row)) {
+            None => '+',
+            Some(other) if other != row => '~',
+            Some(_) => continue,
+        };
+        lines.push(format!("{sign} {} {}: {}", row.kind, row.number, row.says));
     }
-    let gone = before.iter().filter(|row| !after.iter().any(|other| other.which == row.which));
-    lines.extend(gone.map(|row| format!("- {}", row.which)));
+    let gone: Vec<&Row> = before.iter().filter(|row| !after.iter().any(|other| other.is(row))).collect();
+    let following = |a: &&Row, b: &&Row| a.kind == b.kind && a.number + 1 == b.number;
+    lines.extend(gone.chunk_by(following).map(|rows| match rows {
+        [first, .., last] => format!("- {} {} to {}", first.kind, first.number, last.number),
+        _ => format!("- {} {}", rows[0].kind, rows[0].number),
+    }));
     lines
 }
 
@@ -62,26 +74,26 @@ fn cell_changes(before: &Store, after: &Store) -> Vec<String> {
 /// All used rows of a store that isn't broken.
 fn rows(store: &Store, classes: &Classes, names: &Names) -> Vec<Row> {
     let mut rows = Vec::new();
-    let mut add = |which: String, says: String| rows.push(Row { which, says });
+    let mut add = |kind: &str, number: usize, says: String| rows.push(Row { kind: kind.into(), number, says });
     for class in 0..store.counts[count::CLASSES] {
-        add(format!("class {class}"), class_says(store, class, names));
+        add("class", class.into(), class_says(store, class, names));
     }
     for (place, [loader, name, class]) in store.cache_rows().enumerate() {
-        add(format!("cache {place}"), format!("loader {loader} means class {class} by {}", names.class(name)));
+        add("cache", place, format!("loader {loader} means class {class} by {}", names.class(name)));
     }
     for (place, [one, other, name]) in store.tie_rows().enumerate() {
-        add(format!("tie {place}"), format!("{} is one class under loaders {one} and {other}", names.class(name)));
+        add("tie", place, format!("{} is one class under loaders {one} and {other}", names.class(name)));
     }
     for (place, [loader, lower, higher]) in store.subtype_rows().enumerate() {
         let says = format!("under loader {loader}, {} is below {}", names.class(lower), names.class(higher));
-        add(format!("subtype constraint {place}"), says);
+        add("subtype constraint", place, says);
     }
-    for object in 0..store.counts[count::OBJECTS] {
-        add(format!("object {object}"), object_says(store, classes, object.into(), names));
+    for object in store.objects_in_use() {
+        add("object", object as usize, object_says(store, classes, object, names));
     }
     for task_number in 0..usize::from(TASKS) {
         for depth in 0..store.frame_count(task_number) {
-            add(format!("{} frame {depth}", task(task_number as u32)), frame_says(store, task_number, depth, names));
+            add(&format!("{} frame", task(task_number as u32)), depth, frame_says(store, task_number, depth, names));
         }
     }
     rows
@@ -123,7 +135,8 @@ fn object_says(store: &Store, classes: &Classes, object: u32, names: &Names) -> 
             fields.push(format!("{} = {}", names.member(field.name), value(&store.objects, at)));
         }
     }
-    let name = format!("{} (class {class})", names.class(store.name_of(class)));
+    let owner = task(u32::from(store.owners()[object as usize]) - 1);
+    let name = format!("{} (class {class}) of the {owner}", names.class(store.name_of(class)));
     if fields.is_empty() {
         name
     } else {

@@ -43,6 +43,7 @@ pub fn call(call: &Call, names: &Names) -> String {
         Call::Step => "step".into(),
         Call::Run { n } => format!("run {n}"),
         Call::Drop { task: number } => format!("drop {}", task(number)),
+        Call::Sweep => "sweep".into(),
     }
 }
 
@@ -81,6 +82,7 @@ pub fn answer(call: &Call, told: &Told, names: &Names, ran: Option<&str>) -> Str
         }
         _ if told.number != 0 => refused(told.number.into(), [one, two], names),
         (_, Call::Define { .. }) => format!("defined: class {one}"),
+        (_, Call::Sweep) => format!("freed {}", counted(one as usize, "object")),
         (_, Call::Boot) => "booted".into(),
         (_, Call::Record { .. }) => "recorded".into(),
         (_, Call::Start { .. }) => "started".into(),

@@ -18,7 +18,7 @@ use writer::script;
 use writer::source::Source;
 
 /// Pieces that make sense somewhere.
-const WORDS: [&str; 30] = [
+const WORDS: [&str; 32] = [
     "name ",
     "class ",
     "extends ",
@@ -42,6 +42,8 @@ const WORDS: [&str; 30] = [
     "damage kept 3 0\n",
     "run 65535\n",
     "step\n",
+    "sweep\n",
+    "damage counts 9 1\n",
     "quote ",
     "-2147483649 ",
     "4294967296 ",

@@ -4,7 +4,7 @@ use mathlib.Core.Path.{_≡_}
 use mathlib.Core.Bool.{Bool, true}
 use mathlib.Core.List.{List, _∷_, _++_}
 use mathlib.Core.Option.{Option, none, some}
-use Prim.Native.Nat.{ℕ, suc, _+_, _<_, _≤_}
+use Prim.Native.Nat.{ℕ, suc, _+_, _≤_}
 use lib.ListN.{length, getElem?, set}
 use lib.Dec.{ltb}
 use Rattle.definition.specs.declared.Signature.{Signature}
@@ -16,9 +16,9 @@ use Rattle.definition.specs.declared.Instruction.{Instruction}
 use Rattle.definition.specs.Instructions.{Decoded}
 use Rattle.definition.specs.declared.Refusal.the-variants.{Word}
 use Rattle.definition.specs.Answers.{Result, refused, ok, _>>=_, take?}
-use Rattle.definition.specs.Machine.{Object, Frame, pop!, kind!, object!, entryFrame, past, Progress, execute}
+use Rattle.definition.specs.Machine.{Objects, Frame, changed, pop!, kind!, object!, entryFrame, past, Progress, execute}
 use Rattle.definition.specs.Tables.{Tables, tables, valueOf, objectAt, frameOf, tiesOf, subtypesOf, objectsOf}
-use Rattle.layout.specs.View.{countAt}
+use Rattle.frames.specs.Unused.{isUsed}
 use Rattle.instructions.specs.Plans.{decoded, meaning, Fit}
 use Rattle.resolution.specs.Quick.{quickBase}
 use Rattle.access.specs.Declarers.{declaringLoader}
@@ -35,11 +35,11 @@ worldIn B t = record { base = B; ties = tiesOf t; subtypes = subtypesOf t }
 abbrev pub tiesOn : List Tie → ℕ → ℕ → ℕ → ℕ → List Tie
 tiesOn ts one two first second = let us = newTie ts one two first in us ++ newTie (ts ++ us) one two second
 
-module _ (w : World) (os : List Object) (fs : List Frame) (F : List ℕ) (b q : ℕ) where
+module _ (task : ℕ) (w : World) (os : Objects) (fs : List Frame) (F : List ℕ) (b q : ℕ) where
   -- an answer's meaning, where ties on two names are posted between the loader of the class that was found and `two`
   unfoldable pub accessed : Bool → ℕ → ℕ → ℕ → Access → Result Progress
   accessed room two first second (Unresolved r) = refused r
-  accessed room two first second (Resolved one p) = post w room (tiesOn (w .ties) one two first second) >>= λ w′. meaning w′ os fs F b q p
+  accessed room two first second (Resolved one p) = post w room (tiesOn (w .ties) one two first second) >>= λ w′. meaning task w′ os fs F b q p
 
 -- a plan that was found has room
 abbrev pub AccessFits : Base → Tables → ℕ → ℕ → Access → Type 0
@@ -51,13 +51,13 @@ abbrev pub named : Access → Option ℕ
 named (Unresolved r) = none
 named (Resolved one p) = some one
 
--- The answer r is right for the instruction i of a frame with d operands and a class of that loader, whatever constraints, frames below, class, point
+-- The answer r is right for the instruction i of a frame with d operands and a class of that loader, whatever constraints, task, frames below, class, point
 -- and size there are: N L K E O F are the counts, classes, kept bytes, cache, objects and frames
 pub record Accessing (N L K E O F : List ℕ) (b d loader : ℕ) (room : List Frame → Bool) (first second : ℕ) (i : Instruction) (r : Access) : Type 0 where
-  pub says : (I S : List ℕ) (fs : List Frame) (k : Class) (p n : ℕ) → k .loader ≡ loader
+  pub says : (I S : List ℕ) (task : ℕ) (fs : List Frame) (k : Class) (p n : ℕ) → k .loader ≡ loader
       → (let B = quickBase N L K E in let t = tables N L K E I S O F in
-      accessed (worldIn B t) (objectsOf B t) fs F b (p + n) (room fs) loader first second r
-      ≡ execute (worldIn B t) (objectsOf B t) (frameOf F b p d) fs k (decoded i n) i)
+      accessed task (worldIn B t) (objectsOf B t) fs F b (p + n) (room fs) loader first second r
+      ≡ execute task (worldIn B t) (objectsOf B t) (frameOf F b p d) fs k (decoded i n) i)
   pub fits : d ≤ 16 → (I S : List ℕ) (k : ℕ) (fs : List Frame) → room fs ≡ true → AccessFits (quickBase N L K E) (tables N L K E I S O F) k (length fs) r
   pub declared : named r ≡ declaringLoader (quickBase N L K E) loader i
 
@@ -70,7 +70,7 @@ frameRoom fs = ltb (suc (length fs)) 32
 
 -- What is left of an instruction once its ties are posted, in the world w
 
-module _ (B : Base) (os : List Object) (f : Frame) (fs : List Frame) (i : Decoded) (e : ℕ) where
+module _ (B : Base) (os : Objects) (f : Frame) (fs : List Frame) (i : Decoded) (e : ℕ) where
   -- getfield of field n of type t, which class s declares
   unfoldable pub readField : ℕ → ℕ → ℕ → World → Result Progress
   readField s n t w =
@@ -85,7 +85,7 @@ module _ (B : Base) (os : List Object) (f : Frame) (fs : List Frame) (i : Decode
       take? (indexOf (slotIs s n t) (slots B s)) (Word 14) >>= λ j.
       ok (record {
         world = w;
-        objects = set os (o .number) (record { class = o .object .class; values = set (o .object .values) j (p .top) });
+        objects = changed os (o .number) (record { class = o .object .class; values = set (o .object .values) j (p .top) });
         frames = past f i (q .more) (f .locals) ∷ fs;
         result = none;
       })
@@ -103,5 +103,5 @@ abbrev pub Received : Base → Tables → ℕ → ℕ → ℕ → Receiver → T
 Received B t e kind bits (Wrong w) = object! B (objectsOf B t) e (valueOf kind bits) ≡ refused (Word w)
 Received B t e kind bits (Right o) =
     (object! B (objectsOf B t) e (valueOf kind bits) ≡ ok (record { number = o; object = objectAt B (t .objects) o }))
-    × (o < countAt t 5)
+    × (isUsed (t .counts) o ≡ true)
     × (below (superOf B) (objectAt B (t .objects) o .class) e ≡ true)

@@ -3,3 +3,4 @@ pub mod Declarers
 pub mod Accesses
 pub mod Members
 pub mod Remainders
+pub mod Makings

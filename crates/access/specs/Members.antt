@@ -1,36 +1,34 @@
 -- Laws of fields and methods that were looked up: where a field stands in an object, what a receiver is, and the instructions case by case.
 use mathlib.Core.Path.{_≡_, refl, sym, ap, _∙_}
-use mathlib.Core.Bool.{Bool, true, false, _||_, _&&_}
+use mathlib.Core.Bool.{Bool, true, false, _||_}
 use mathlib.Core.Option.{Option, none, some, Option·none-ne-some, Option·some-injective}
 use mathlib.Core.List.{List, [], _∷_, _++_, append-nil}
 use mathlib.Core.Logic.{_≢_}
 use Prim.Native.Nat.{ℕ, suc, _+_, _<_, _≤_}
 use lib.ListN.{length, getElem?, getD}
-use lib.Dec.{eqb, ltb, leb}
-use borrow.Author.Tests.{eqb-true, ne-eqb, lt-ltb, ltb-true}
+use lib.Dec.{eqb, leb}
+use borrow.Author.Tests.{eqb-true, ne-eqb, ltb-true}
 use Rattle.definition.specs.declared.Signature.{Signature}
 use Rattle.definition.specs.Lists.{any, indexOf, rows}
 use Rattle.definition.specs.Requests.{at}
 use Rattle.definition.specs.Superclasses.{Below, nearest, below}
 use Rattle.definition.specs.Classes.{Base, Class, find, superOf, loaderOf, slots, slotIs, hasField, Selected, selected}
 use Rattle.definition.specs.Constraints.{Tie, World, tieIs, newTie, post, signatureTies}
-use Rattle.definition.specs.declared.Instruction.the-variants.{Getfield, Putfield, Invokevirtual, New}
+use Rattle.definition.specs.declared.Instruction.the-variants.{Getfield, Putfield, Invokevirtual}
 use Rattle.definition.specs.declared.Instruction.{Instruction}
 use Rattle.definition.specs.Instructions.{Decoded, pick}
 use Rattle.definition.specs.declared.Refusal.{Refusal}
 use Rattle.definition.specs.declared.Refusal.the-variants.{Word, Wanted}
 use Rattle.definition.specs.Answers.{Result, refused, ok, _>>=_, need, take?}
-use Rattle.definition.specs.Machine.{emptyValue, intValue, nullValue, unlistedValue, Object, Frame, object!, Progress, execute}
-use Rattle.definition.specs.Tables.{Tables, tables, entryAt, valueOf, objectAt, usedFields, sizeOf, operandAt, frameOf, objectsOf, tiesOf}
+use Rattle.definition.specs.Machine.{emptyValue, intValue, nullValue, unlistedValue, Objects, Frame, object!, Progress, execute}
+use Rattle.definition.specs.Tables.{Tables, tables, entryAt, valueOf, objectAt, usedFields, sizeOf, frameOf, objectsOf, tiesOf}
 use Rattle.laws.specs.Agreement.{super-falls}
 use Rattle.laws.specs.Upward.{nearest-below, below-true, below-trans}
 use Rattle.laws.specs.Slots.{slots-below}
 use Rattle.laws.specs.Members.{signature-ties}
 use Rattle.laws.specs.Growth.{nth-lt}
-use Rattle.layout.specs.Places.{stack-length}
-use Rattle.layout.specs.View.{countAt, objects-fill, object-there, object-past}
+use Rattle.frames.specs.Unused.{isUsed, used-there, used-none}
 use Rattle.instructions.specs.declared.Plan.{Plan}
-use Rattle.instructions.specs.declared.Plan.the-variants.{Refuse, Make}
 use Rattle.instructions.specs.Plans.{decoded, meaning, Fit}
 use Rattle.resolution.specs.declared.Found.{Found}
 use Rattle.resolution.specs.declared.Found.the-variants.{At, Absent}
@@ -63,11 +61,11 @@ pub ties-int : (ts : List Tie) (l m n : ℕ) → tiesOn ts l m n 1 ≡ newTie ts
 ties-int ts l m n = rw (int-untied (ts ++ newTie ts l m n) l m) (append-nil (newTie ts l m n))
 
 -- what was found means its ties posted and the rest of the instruction
-resolved : (w : World) (os : List Object) (fs : List Frame) (F : List ℕ) (b q : ℕ) (room : Bool) (one two first second : ℕ) (p : Plan) (us : List Tie) (rest : World → Result Progress)
-    → tiesOn (w .ties) one two first second ≡ us → ((z : World) → meaning z os fs F b q p ≡ rest z)
-    → accessed w os fs F b q room two first second (Resolved one p) ≡ (post w room us >>= rest)
+resolved : (task : ℕ) (w : World) (os : Objects) (fs : List Frame) (F : List ℕ) (b q : ℕ) (room : Bool) (one two first second : ℕ) (p : Plan) (us : List Tie) (rest : World → Result Progress)
+    → tiesOn (w .ties) one two first second ≡ us → ((z : World) → meaning task z os fs F b q p ≡ rest z)
+    → accessed task w os fs F b q room two first second (Resolved one p) ≡ (post w room us >>= rest)
 unfolding accessed
-resolved w os fs F b q room one two first second p us rest e h = (λ i. post w room (e i) >>= λ z. h z i)
+resolved task w os fs F b q room one two first second p us rest e h = (λ i. post w room (e i) >>= λ z. h z i)
 
 -- Where a field stands in an object
 
@@ -109,7 +107,7 @@ field-used B c e s n t j h g i few = go (leb (sizeOf B c) 16) refl
 unfoldable pub noObject : ℕ → ℕ → ℕ
 noObject k b = pick (eqb k 2) (pick (eqb b 0) 11 14) 14
 
-module _ (B : Base) (os : List Object) (e k b : ℕ) where
+module _ (B : Base) (os : Objects) (e k b : ℕ) where
   pub object-word : k ≢ 3 → object! B os e (valueOf k b) ≡ refused (Word (noObject k b))
   unfolding object! valueOf pick noObject
   object-word h = rw (ne-eqb k 3 h) (two (eqb k 2) refl)
@@ -137,75 +135,65 @@ module _ (B : Base) (os : List Object) (e k b : ℕ) where
       two false q = rw q (int (eqb k 1))
 
 module _ (B : Base) (t : Tables) (e k o : ℕ) (is : k ≡ 3) where
-  pub object-missing : countAt t 5 ≤ o → object! B (objectsOf B t) e (valueOf k o) ≡ refused (Word 14)
+  pub object-missing : isUsed (t .counts) o ≡ false → object! B (objectsOf B t) e (valueOf k o) ≡ refused (Word 14)
   unfolding object! valueOf pick take? _>>=_
-  object-missing l = rw (is, object-past t B o l)
+  object-missing l = rw (is, used-none B t o l)
 
-  pub object-above : o < countAt t 5 → below (superOf B) (objectAt B (t .objects) o .class) e ≡ false → object! B (objectsOf B t) e (valueOf k o) ≡ refused (Word 14)
+  pub object-above : isUsed (t .counts) o ≡ true → below (superOf B) (objectAt B (t .objects) o .class) e ≡ false → object! B (objectsOf B t) e (valueOf k o) ≡ refused (Word 14)
   unfolding object! valueOf pick take? _>>=_ need
-  object-above l h = rw (is, object-there t B o l, h)
+  object-above l h = rw (is, used-there B t o l, h)
 
-  pub object-right : o < countAt t 5 → below (superOf B) (objectAt B (t .objects) o .class) e ≡ true
+  pub object-right : isUsed (t .counts) o ≡ true → below (superOf B) (objectAt B (t .objects) o .class) e ≡ true
       → object! B (objectsOf B t) e (valueOf k o) ≡ ok (record { number = o; object = objectAt B (t .objects) o })
   unfolding object! valueOf pick take? _>>=_ need
-  object-right l h = rw (is, object-there t B o l, h)
+  object-right l h = rw (is, used-there B t o l, h)
 
 -- The instructions, case by case
 
-module _ (w : World) (os : List Object) (f : Frame) (fs : List Frame) (k : Class) (i : Decoded) (c n t : ℕ) where
-  pub getfield-wanted : find (w .base .cache) (at (k .loader) c) ≡ none → execute w os f fs k i (Getfield c n t) ≡ refused (Wanted (k .loader) c)
+module _ (task : ℕ) (w : World) (os : Objects) (f : Frame) (fs : List Frame) (k : Class) (i : Decoded) (c n t : ℕ) where
+  pub getfield-wanted : find (w .base .cache) (at (k .loader) c) ≡ none → execute task w os f fs k i (Getfield c n t) ≡ refused (Wanted (k .loader) c)
   unfolding execute take? _>>=_
   getfield-wanted h = rw h
 
-  pub putfield-wanted : find (w .base .cache) (at (k .loader) c) ≡ none → execute w os f fs k i (Putfield c n t) ≡ refused (Wanted (k .loader) c)
+  pub putfield-wanted : find (w .base .cache) (at (k .loader) c) ≡ none → execute task w os f fs k i (Putfield c n t) ≡ refused (Wanted (k .loader) c)
   unfolding execute take? _>>=_
   putfield-wanted h = rw h
 
   module _ (e : ℕ) (there : find (w .base .cache) (at (k .loader) c) ≡ some e) where
-    pub getfield-absent : nearest (superOf (w .base)) (hasField (w .base) n t) e ≡ none → execute w os f fs k i (Getfield c n t) ≡ refused (Word 7)
+    pub getfield-absent : nearest (superOf (w .base)) (hasField (w .base) n t) e ≡ none → execute task w os f fs k i (Getfield c n t) ≡ refused (Word 7)
     unfolding execute take? _>>=_
     getfield-absent h = rw (there, h)
 
-    pub putfield-absent : nearest (superOf (w .base)) (hasField (w .base) n t) e ≡ none → execute w os f fs k i (Putfield c n t) ≡ refused (Word 7)
+    pub putfield-absent : nearest (superOf (w .base)) (hasField (w .base) n t) e ≡ none → execute task w os f fs k i (Putfield c n t) ≡ refused (Word 7)
     unfolding execute take? _>>=_
     putfield-absent h = rw (there, h)
 
     module _ (s : ℕ) (found : nearest (superOf (w .base)) (hasField (w .base) n t) e ≡ some s) where
-      pub getfield-found : execute w os f fs k i (Getfield c n t)
+      pub getfield-found : execute task w os f fs k i (Getfield c n t)
           ≡ (post w true (newTie (w .ties) (loaderOf (w .base) s) (k .loader) t) >>= readField (w .base) os f fs i e s n t)
       unfolding execute take? _>>=_ readField
       getfield-found = rw (there, found)
 
-      pub putfield-found : execute w os f fs k i (Putfield c n t)
+      pub putfield-found : execute task w os f fs k i (Putfield c n t)
           ≡ (post w true (newTie (w .ties) (loaderOf (w .base) s) (k .loader) t) >>= writeField (w .base) os f fs i e s n t)
       unfolding execute take? _>>=_ writeField
       putfield-found = rw (there, found)
 
-module _ (w : World) (os : List Object) (f : Frame) (fs : List Frame) (k : Class) (i : Decoded) (c : ℕ) (s : Signature) where
-  pub invoke-wanted : find (w .base .cache) (at (k .loader) c) ≡ none → execute w os f fs k i (Invokevirtual c s) ≡ refused (Wanted (k .loader) c)
+module _ (task : ℕ) (w : World) (os : Objects) (f : Frame) (fs : List Frame) (k : Class) (i : Decoded) (c : ℕ) (s : Signature) where
+  pub invoke-wanted : find (w .base .cache) (at (k .loader) c) ≡ none → execute task w os f fs k i (Invokevirtual c s) ≡ refused (Wanted (k .loader) c)
   unfolding execute take? _>>=_
   invoke-wanted h = rw h
 
   module _ (e : ℕ) (there : find (w .base .cache) (at (k .loader) c) ≡ some e) where
-    pub invoke-absent : selected (w .base) s e ≡ none → execute w os f fs k i (Invokevirtual c s) ≡ refused (Word 7)
+    pub invoke-absent : selected (w .base) s e ≡ none → execute task w os f fs k i (Invokevirtual c s) ≡ refused (Word 7)
     unfolding execute take? _>>=_
     invoke-absent h = rw (there, h)
 
     pub invoke-found : (m : Selected) → selected (w .base) s e ≡ some m
-        → execute w os f fs k i (Invokevirtual c s)
+        → execute task w os f fs k i (Invokevirtual c s)
         ≡ (post w (frameRoom fs) (signatureTies (w .ties) (loaderOf (w .base) (m .class)) (k .loader) s) >>= callMethod (w .base) os f fs i e s)
     unfolding execute take? _>>=_ callMethod
     invoke-found m found = rw (there, found)
-
-module _ (w : World) (os : List Object) (f : Frame) (fs : List Frame) (k : Class) (i : Decoded) (c : ℕ) where
-  pub new-wanted : find (w .base .cache) (at (k .loader) c) ≡ none → execute w os f fs k i (New c) ≡ refused (Wanted (k .loader) c)
-  unfolding execute take? _>>=_
-  new-wanted h = rw h
-
-  pub new-full : (e : ℕ) → find (w .base .cache) (at (k .loader) c) ≡ some e → (ltb (length os) 256 && ltb (length (f .operands)) 16) ≡ false
-      → execute w os f fs k i (New c) ≡ refused (Word 10)
-  unfolding execute take? _>>=_ need
-  new-full e there h = rw (there, h)
 
 -- What is left once the ties are posted: a plan that means it; `limit` is what it asks of the number of frames below
 
@@ -215,10 +203,10 @@ unlimited m = Unit {0}
 abbrev pub framesLeft : ℕ → Type 0
 framesLeft m = suc m < 32
 
-pub record Rest (N L K E O F : List ℕ) (b d : ℕ) (limit : ℕ → Type 0) (rest : Base → List Object → Frame → List Frame → Decoded → World → Result Progress) (r : Plan) : Type 0 where
-  pub says : (I S : List ℕ) (fs : List Frame) (w : World) (p : ℕ) (i : Decoded)
+pub record Rest (N L K E O F : List ℕ) (b d : ℕ) (limit : ℕ → Type 0) (rest : Base → Objects → Frame → List Frame → Decoded → World → Result Progress) (r : Plan) : Type 0 where
+  pub says : (I S : List ℕ) (task : ℕ) (fs : List Frame) (w : World) (p : ℕ) (i : Decoded)
       → (let B = quickBase N L K E in let os = objectsOf B (tables N L K E I S O F) in
-      meaning w os fs F b (p + i .size) r ≡ rest B os (frameOf F b p d) fs i w)
+      meaning task w os fs F b (p + i .size) r ≡ rest B os (frameOf F b p d) fs i w)
   pub fits : d ≤ 16 → (I S : List ℕ) (k m : ℕ) → limit m → Fit (quickBase N L K E) (tables N L K E I S O F) k m r
 
 module _ (N L K E O F : List ℕ) (b d loader c : ℕ) where
@@ -227,56 +215,56 @@ module _ (N L K E O F : List ℕ) (b d loader c : ℕ) where
 
   -- nothing was found: every constraint and frame gives the same refusal
   pub unresolved : (room : List Frame → Bool) (x y : ℕ) (i : Instruction) (r : Refusal)
-      → ((I S : List ℕ) (fs : List Frame) (k : Class) (p n : ℕ) → k .loader ≡ loader
-      → (let t = tables N L K E I S O F in execute (worldIn B t) (objectsOf B t) (frameOf F b p d) fs k (decoded i n) i ≡ refused r))
+      → ((I S : List ℕ) (task : ℕ) (fs : List Frame) (k : Class) (p n : ℕ) → k .loader ≡ loader
+      → (let t = tables N L K E I S O F in execute task (worldIn B t) (objectsOf B t) (frameOf F b p d) fs k (decoded i n) i ≡ refused r))
       → declaringLoader B loader i ≡ none
       → Accessing N L K E O F b d loader room x y i (Unresolved r)
   unfolding accessed
-  unresolved room x y i r h o = record { says = λ I S fs k p n e. sym (h I S fs k p n e); fits = λ few I S k gs l. tt; declared = sym o }
+  unresolved room x y i r h o = record { says = λ I S task fs k p n e. sym (h I S task fs k p n e); fits = λ few I S k gs l. tt; declared = sym o }
 
   module _ (missing : find (B .cache) (at loader c) ≡ none) where
     pub getfield-uncached : (n t : ℕ) → Accessing N L K E O F b d loader always t 1 (Getfield c n t) (Unresolved (Wanted loader c))
-    getfield-uncached n t = unresolved always t 1 (Getfield c n t) (Wanted loader c) (λ I S fs k p m z.
-        rw (← z) (getfield-wanted (worldIn B (tables N L K E I S O F)) (objectsOf B (tables N L K E I S O F)) (frameOf F b p d) fs k (decoded (Getfield c n t) m) c n t (rw z missing)))
+    getfield-uncached n t = unresolved always t 1 (Getfield c n t) (Wanted loader c) (λ I S task fs k p m z.
+        rw (← z) (getfield-wanted task (worldIn B (tables N L K E I S O F)) (objectsOf B (tables N L K E I S O F)) (frameOf F b p d) fs k (decoded (Getfield c n t) m) c n t (rw z missing)))
         (loader-missing B loader c (nearest (superOf B) (hasField B n t)) missing)
 
     pub putfield-uncached : (n t : ℕ) → Accessing N L K E O F b d loader always t 1 (Putfield c n t) (Unresolved (Wanted loader c))
-    putfield-uncached n t = unresolved always t 1 (Putfield c n t) (Wanted loader c) (λ I S fs k p m z.
-        rw (← z) (putfield-wanted (worldIn B (tables N L K E I S O F)) (objectsOf B (tables N L K E I S O F)) (frameOf F b p d) fs k (decoded (Putfield c n t) m) c n t (rw z missing)))
+    putfield-uncached n t = unresolved always t 1 (Putfield c n t) (Wanted loader c) (λ I S task fs k p m z.
+        rw (← z) (putfield-wanted task (worldIn B (tables N L K E I S O F)) (objectsOf B (tables N L K E I S O F)) (frameOf F b p d) fs k (decoded (Putfield c n t) m) c n t (rw z missing)))
         (loader-missing B loader c (nearest (superOf B) (hasField B n t)) missing)
 
     pub invoke-uncached : (s : Signature) → Accessing N L K E O F b d loader frameRoom (s .argument) (s .result) (Invokevirtual c s) (Unresolved (Wanted loader c))
-    invoke-uncached s = unresolved frameRoom (s .argument) (s .result) (Invokevirtual c s) (Wanted loader c) (λ I S fs k p m z.
-        rw (← z) (invoke-wanted (worldIn B (tables N L K E I S O F)) (objectsOf B (tables N L K E I S O F)) (frameOf F b p d) fs k (decoded (Invokevirtual c s) m) c s (rw z missing)))
+    invoke-uncached s = unresolved frameRoom (s .argument) (s .result) (Invokevirtual c s) (Wanted loader c) (λ I S task fs k p m z.
+        rw (← z) (invoke-wanted task (worldIn B (tables N L K E I S O F)) (objectsOf B (tables N L K E I S O F)) (frameOf F b p d) fs k (decoded (Invokevirtual c s) m) c s (rw z missing)))
         (loader-missing B loader c (selectedClass B s) missing)
 
   module _ (e : ℕ) (there : find (B .cache) (at loader c) ≡ some e) where
     pub getfield-undeclared : (n t : ℕ) → nearest (superOf B) (hasField B n t) e ≡ none → Accessing N L K E O F b d loader always t 1 (Getfield c n t) (Unresolved (Word 7))
-    getfield-undeclared n t h = unresolved always t 1 (Getfield c n t) (Word 7) (λ I S fs k p m z.
-        getfield-absent (worldIn B (tables N L K E I S O F)) (objectsOf B (tables N L K E I S O F)) (frameOf F b p d) fs k (decoded (Getfield c n t) m) c n t e (rw z there) h)
+    getfield-undeclared n t h = unresolved always t 1 (Getfield c n t) (Word 7) (λ I S task fs k p m z.
+        getfield-absent task (worldIn B (tables N L K E I S O F)) (objectsOf B (tables N L K E I S O F)) (frameOf F b p d) fs k (decoded (Getfield c n t) m) c n t e (rw z there) h)
         (loader-absent B loader c (nearest (superOf B) (hasField B n t)) e there h)
 
     pub putfield-undeclared : (n t : ℕ) → nearest (superOf B) (hasField B n t) e ≡ none → Accessing N L K E O F b d loader always t 1 (Putfield c n t) (Unresolved (Word 7))
-    putfield-undeclared n t h = unresolved always t 1 (Putfield c n t) (Word 7) (λ I S fs k p m z.
-        putfield-absent (worldIn B (tables N L K E I S O F)) (objectsOf B (tables N L K E I S O F)) (frameOf F b p d) fs k (decoded (Putfield c n t) m) c n t e (rw z there) h)
+    putfield-undeclared n t h = unresolved always t 1 (Putfield c n t) (Word 7) (λ I S task fs k p m z.
+        putfield-absent task (worldIn B (tables N L K E I S O F)) (objectsOf B (tables N L K E I S O F)) (frameOf F b p d) fs k (decoded (Putfield c n t) m) c n t e (rw z there) h)
         (loader-absent B loader c (nearest (superOf B) (hasField B n t)) e there h)
 
     pub invoke-undeclared : (s : Signature) → selected B s e ≡ none
         → Accessing N L K E O F b d loader frameRoom (s .argument) (s .result) (Invokevirtual c s) (Unresolved (Word 7))
-    invoke-undeclared s h = unresolved frameRoom (s .argument) (s .result) (Invokevirtual c s) (Word 7) (λ I S fs k p m z.
-        invoke-absent (worldIn B (tables N L K E I S O F)) (objectsOf B (tables N L K E I S O F)) (frameOf F b p d) fs k (decoded (Invokevirtual c s) m) c s e (rw z there) h)
+    invoke-undeclared s h = unresolved frameRoom (s .argument) (s .result) (Invokevirtual c s) (Word 7) (λ I S task fs k p m z.
+        invoke-absent task (worldIn B (tables N L K E I S O F)) (objectsOf B (tables N L K E I S O F)) (frameOf F b p d) fs k (decoded (Invokevirtual c s) m) c s e (rw z there) h)
         (loader-absent B loader c (selectedClass B s) e there (class-absent B s e h))
 
   module _ (e : ℕ) (there : find (B .cache) (at loader c) ≡ some e) (s one : ℕ) (declares : one ≡ loaderOf B s) (p : Plan) where
     pub getfield-right : (n t : ℕ) → nearest (superOf B) (hasField B n t) e ≡ some s → Rest N L K E O F b d unlimited (λ B os f fs i. readField B os f fs i e s n t) p
         → Accessing N L K E O F b d loader always t 1 (Getfield c n t) (Resolved one p)
     getfield-right n t found q = record {
-      says = λ I S fs k x y z.
+      says = λ I S task fs k x y z.
           let T : Tables = tables N L K E I S O F in
-          resolved (worldIn B T) (objectsOf B T) fs F b (x + y) true one loader t 1 p (newTie (tiesOf T) one loader t)
+          resolved task (worldIn B T) (objectsOf B T) fs F b (x + y) true one loader t 1 p (newTie (tiesOf T) one loader t)
           (readField B (objectsOf B T) (frameOf F b x d) fs (decoded (Getfield c n t) y) e s n t) (ties-int (tiesOf T) one loader t)
-          (λ w. q .says I S fs w x (decoded (Getfield c n t) y))
-          ∙ rw (declares, ← z) (sym (getfield-found (worldIn B T) (objectsOf B T) (frameOf F b x d) fs k (decoded (Getfield c n t) y) c n t e (rw z there) s found));
+          (λ w. q .says I S task fs w x (decoded (Getfield c n t) y))
+          ∙ rw (declares, ← z) (sym (getfield-found task (worldIn B T) (objectsOf B T) (frameOf F b x d) fs k (decoded (Getfield c n t) y) c n t e (rw z there) s found));
       fits = λ few I S k gs l. q .fits few I S k (length gs) tt;
       declared = ap some declares ∙ sym (loader-there B loader c (nearest (superOf B) (hasField B n t)) e there s found);
     }
@@ -284,12 +272,12 @@ module _ (N L K E O F : List ℕ) (b d loader c : ℕ) where
     pub putfield-right : (n t : ℕ) → nearest (superOf B) (hasField B n t) e ≡ some s → Rest N L K E O F b d unlimited (λ B os f fs i. writeField B os f fs i e s n t) p
         → Accessing N L K E O F b d loader always t 1 (Putfield c n t) (Resolved one p)
     putfield-right n t found q = record {
-      says = λ I S fs k x y z.
+      says = λ I S task fs k x y z.
           let T : Tables = tables N L K E I S O F in
-          resolved (worldIn B T) (objectsOf B T) fs F b (x + y) true one loader t 1 p (newTie (tiesOf T) one loader t)
+          resolved task (worldIn B T) (objectsOf B T) fs F b (x + y) true one loader t 1 p (newTie (tiesOf T) one loader t)
           (writeField B (objectsOf B T) (frameOf F b x d) fs (decoded (Putfield c n t) y) e s n t) (ties-int (tiesOf T) one loader t)
-          (λ w. q .says I S fs w x (decoded (Putfield c n t) y))
-          ∙ rw (declares, ← z) (sym (putfield-found (worldIn B T) (objectsOf B T) (frameOf F b x d) fs k (decoded (Putfield c n t) y) c n t e (rw z there) s found));
+          (λ w. q .says I S task fs w x (decoded (Putfield c n t) y))
+          ∙ rw (declares, ← z) (sym (putfield-found task (worldIn B T) (objectsOf B T) (frameOf F b x d) fs k (decoded (Putfield c n t) y) c n t e (rw z there) s found));
       fits = λ few I S k gs l. q .fits few I S k (length gs) tt;
       declared = ap some declares ∙ sym (loader-there B loader c (nearest (superOf B) (hasField B n t)) e there s found);
     }
@@ -297,59 +285,13 @@ module _ (N L K E O F : List ℕ) (b d loader c : ℕ) where
     pub invoke-right : (g : Signature) (j : ℕ) → selected B g e ≡ some (record { class = s; place = j }) → Rest N L K E O F b d framesLeft (λ B os f fs i. callMethod B os f fs i e g) p
         → Accessing N L K E O F b d loader frameRoom (g .argument) (g .result) (Invokevirtual c g) (Resolved one p)
     invoke-right g j found q = record {
-      says = λ I S fs k x y z.
+      says = λ I S task fs k x y z.
           let T : Tables = tables N L K E I S O F in
-          resolved (worldIn B T) (objectsOf B T) fs F b (x + y) (frameRoom fs) one loader (g .argument) (g .result) p (signatureTies (tiesOf T) one loader g)
+          resolved task (worldIn B T) (objectsOf B T) fs F b (x + y) (frameRoom fs) one loader (g .argument) (g .result) p (signatureTies (tiesOf T) one loader g)
           (callMethod B (objectsOf B T) (frameOf F b x d) fs (decoded (Invokevirtual c g) y) e g) (sym (signature-ties (tiesOf T) one loader g))
-          (λ w. q .says I S fs w x (decoded (Invokevirtual c g) y))
+          (λ w. q .says I S task fs w x (decoded (Invokevirtual c g) y))
           ∙ rw (declares, ← z)
-          (sym (invoke-found (worldIn B T) (objectsOf B T) (frameOf F b x d) fs k (decoded (Invokevirtual c g) y) c g e (rw z there) _ found));
+          (sym (invoke-found task (worldIn B T) (objectsOf B T) (frameOf F b x d) fs k (decoded (Invokevirtual c g) y) c g e (rw z there) _ found));
       fits = λ few I S k gs l. q .fits few I S k (length gs) (ltb-true (suc (length gs)) 32 l);
       declared = ap some declares ∙ sym (loader-there B loader c (selectedClass B g) e there s (class-there B g e s j found));
-    }
-
--- new: a plan alone, since it posts no tie
-pub record Making (N L K E O F : List ℕ) (b d loader c : ℕ) (r : Plan) : Type 0 where
-  pub says : (I S : List ℕ) (fs : List Frame) (k : Class) (p n : ℕ) → k .loader ≡ loader
-      → (let B = quickBase N L K E in let t = tables N L K E I S O F in
-      meaning (worldIn B t) (objectsOf B t) fs F b (p + n) r ≡ execute (worldIn B t) (objectsOf B t) (frameOf F b p d) fs k (decoded (New c) n) (New c))
-  -- where the class that is cached has no more fields than a row has room for
-  pub fits : ((e : ℕ) → find (quickBase N L K E .cache) (at loader c) ≡ some e → sizeOf (quickBase N L K E) e ≤ 16)
-      → (I S : List ℕ) (k m : ℕ) → Fit (quickBase N L K E) (tables N L K E I S O F) k m r
-
-module _ (N L K E O F : List ℕ) (b d loader c : ℕ) where
-  abbrev base : Base
-  base = quickBase N L K E
-
-  pub new-uncached : find (base .cache) (at loader c) ≡ none → Making N L K E O F b d loader c (Refuse (Wanted loader c))
-  unfolding meaning
-  new-uncached h = record {
-    says = λ I S fs k p n e.
-        let T : Tables = tables N L K E I S O F in
-        rw (← e) (sym (new-wanted (worldIn base T) (objectsOf base T) (frameOf F b p d) fs k (decoded (New c) n) c (rw e h)));
-    fits = λ sizes I S k m. tt;
-  }
-
-  module _ (e : ℕ) (there : find (base .cache) (at loader c) ≡ some e) where
-    room : (t : Tables) (p : ℕ) → (ltb (length (objectsOf base t)) 256 && ltb (length (frameOf F b p d .operands)) 16) ≡ (ltb (countAt t 5) 256 && ltb d 16)
-    unfolding frameOf
-    room t p = rw (objects-fill t base .count, stack-length (operandAt F b) d)
-
-    pub new-no-room : (ltb (getD N 5 0) 256 && ltb d 16) ≡ false → Making N L K E O F b d loader c (Refuse (Word 10))
-    unfolding meaning
-    new-no-room h = record {
-      says = λ I S fs k p n q.
-          let T : Tables = tables N L K E I S O F in
-          sym (new-full (worldIn base T) (objectsOf base T) (frameOf F b p d) fs k (decoded (New c) n) c e (rw q there) (room T p ∙ h));
-      fits = λ sizes I S k m. tt;
-    }
-
-    pub new-made : getD N 5 0 < 256 → d < 16 → Making N L K E O F b d loader c (Make d e)
-    unfolding meaning execute take? _>>=_ need frameOf
-    new-made few low = record {
-      says = λ I S fs k p n q.
-          let T : Tables = tables N L K E I S O F in
-          let h : (ltb (length (objectsOf base T)) 256 && ltb (length (frameOf F b p d .operands)) 16) ≡ true = room T p ∙ rw (lt-ltb (getD N 5 0) 256 few, lt-ltb d 16 low) in
-          rw (q, there, h);
-      fits = λ sizes I S k m. (low, few, sizes e there);
     }

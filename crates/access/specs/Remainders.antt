@@ -6,7 +6,6 @@ use mathlib.Core.List.{List, []}
 use mathlib.Core.Logic.{_≢_}
 use Prim.Native.Nat.{ℕ, _-_, _<_, _≤_}
 use native.Mathlib.Omega.{arith}
-use lib.ListN.{getD}
 use Rattle.definition.specs.declared.Signature.{Signature}
 use Rattle.definition.specs.Lists.{indexOf}
 use Rattle.definition.specs.Superclasses.{nearest, below}
@@ -16,8 +15,8 @@ use Rattle.definition.specs.Answers.{refused, ok, _>>=_, take?}
 use Rattle.definition.specs.Machine.{object! }
 use Rattle.definition.specs.Tables.{Tables, tables, valueOf, objectAt, fieldAt, operandAt, usedFields, frameOf, objectsOf}
 use Rattle.layout.specs.Cells.{used-few, object-field-past}
-use Rattle.layout.specs.Places.{set-there}
-use Rattle.layout.specs.View.{object-there}
+use Rattle.laws.specs.Objects.{changed-same}
+use Rattle.frames.specs.Unused.{isUsed, used-there}
 use Rattle.instructions.specs.declared.Plan.{Plan}
 use Rattle.instructions.specs.declared.Plan.the-variants.{Refuse, Keep, Above, Field, Enter}
 use Rattle.instructions.specs.Plans.{meaning}
@@ -41,7 +40,7 @@ module _ (N L K E O F : List ℕ) (b d e : ℕ) where
     right : (o : ℕ) → r ≡ Right o → (I S : List ℕ) → object! B (objectsOf B (T I S)) e (operandAt F b x) ≡ ok (record { number = o; object = objectAt B O o })
     right o q I S = rw (← reads) ((rw q at (receives I S F)) .0)
 
-    there : (o : ℕ) → r ≡ Right o → o < getD N 5 0
+    there : (o : ℕ) → r ≡ Right o → isUsed N o ≡ true
     there o q = (rw q at (receives [] [] [])) .1
 
     under : (o : ℕ) → r ≡ Right o → below (superOf B) (objectAt B O o .class) e ≡ true
@@ -54,14 +53,14 @@ module _ (N L K E O F : List ℕ) (b d e : ℕ) where
 
     pub read-none : d ≡ 0 → Read (Refuse (Word 14))
     unfolding readField meaning frameOf _>>=_
-    read-none h = record { says = λ I S fs w p i. rw (pop-none (operandAt F b) d h); fits = λ few I S k m l. tt }
+    read-none h = record { says = λ I S task fs w p i. rw (pop-none (operandAt F b) d h); fits = λ few I S k m l. tt }
 
     module _ (deep : d ≢ 0) (kind bits : ℕ) (reads : valueOf kind bits ≡ operandAt F b (d - 1)) (r : Receiver)
         (receives : (I S G : List ℕ) → Received B (tables N L K E I S O G) e kind bits r) where
       pub read-wrong : (w : ℕ) → r ≡ Wrong w → Read (Refuse (Word w))
       unfolding readField meaning frameOf _>>=_
       read-wrong w q = record {
-        says = λ I S fs z p i. rw (pop-some (operandAt F b) d deep, wrong kind bits (d - 1) reads r receives w q I S);
+        says = λ I S task fs z p i. rw (pop-some (operandAt F b) d deep, wrong kind bits (d - 1) reads r receives w q I S);
         fits = λ few I S k m l. tt;
       }
 
@@ -69,14 +68,14 @@ module _ (N L K E O F : List ℕ) (b d e : ℕ) where
         pub read-absent : indexOf (slotIs s n t) (slots B s) ≡ none → Read (Refuse (Word 14))
         unfolding readField meaning frameOf _>>=_ take?
         read-absent h = record {
-          says = λ I S fs z p i. rw (pop-some (operandAt F b) d deep, right kind bits (d - 1) reads r receives o is I S, h);
+          says = λ I S task fs z p i. rw (pop-some (operandAt F b) d deep, right kind bits (d - 1) reads r receives o is I S, h);
           fits = λ few I S k m l. tt;
         }
 
         pub read-past : (j : ℕ) → indexOf (slotIs s n t) (slots B s) ≡ some j → 16 ≤ j → Read (Refuse (Word 14))
         unfolding readField meaning frameOf _>>=_ take? objectAt
         read-past j h l = record {
-          says = λ I S fs z p i.
+          says = λ I S task fs z p i.
               rw (
                 pop-some (operandAt F b) d deep,
                 right kind bits (d - 1) reads r receives o is I S,
@@ -90,7 +89,7 @@ module _ (N L K E O F : List ℕ) (b d e : ℕ) where
             → Read (Above (d - 1) (record { kind = x; bits = y }))
         unfolding readField meaning frameOf _>>=_ take? objectAt
         read-at j x y g h l v = record {
-          says = λ I S fs z p i.
+          says = λ I S task fs z p i.
               rw (
                 pop-some (operandAt F b) d deep,
                 right kind bits (d - 1) reads r receives o is I S,
@@ -112,7 +111,7 @@ module _ (N L K E O F : List ℕ) (b d e : ℕ) where
       pub write-unkind : d - 1 ≢ 0 → isKind t kind bits ≡ false → Written (Refuse (Word 14))
       unfolding writeField meaning frameOf _>>=_
       write-unkind two h = record {
-        says = λ I S fs w p i. rw (pop-some (operandAt F b) d deep, pop-some (operandAt F b) (d - 1) two, ← value, kind-not kind bits t h);
+        says = λ I S task fs w p i. rw (pop-some (operandAt F b) d deep, pop-some (operandAt F b) (d - 1) two, ← value, kind-not kind bits t h);
         fits = λ few I S k m l. tt;
       }
 
@@ -121,7 +120,7 @@ module _ (N L K E O F : List ℕ) (b d e : ℕ) where
         pub write-wrong : (w : ℕ) → r ≡ Wrong w → Written (Refuse (Word w))
         unfolding writeField meaning frameOf _>>=_
         write-wrong w q = record {
-          says = λ I S fs z p i.
+          says = λ I S task fs z p i.
               rw (
                 pop-some (operandAt F b) d deep,
                 pop-some (operandAt F b) (d - 1) two,
@@ -136,7 +135,7 @@ module _ (N L K E O F : List ℕ) (b d e : ℕ) where
           pub write-absent : indexOf (slotIs s n t) (slots B s) ≡ none → Written (Refuse (Word 14))
           unfolding writeField meaning frameOf _>>=_ take?
           write-absent h = record {
-            says = λ I S fs z p i.
+            says = λ I S task fs z p i.
                 rw (
                   pop-some (operandAt F b) d deep,
                   pop-some (operandAt F b) (d - 1) two,
@@ -152,7 +151,7 @@ module _ (N L K E O F : List ℕ) (b d e : ℕ) where
           pub write-past : (j : ℕ) → indexOf (slotIs s n t) (slots B s) ≡ some j → 16 ≤ j → Written (Keep (d - 1 - 1))
           unfolding writeField meaning frameOf _>>=_ take? objectsOf
           write-past j h l = record {
-            says = λ I S fs z p i.
+            says = λ I S task fs z p i.
                 rw (
                   pop-some (operandAt F b) d deep,
                   pop-some (operandAt F b) (d - 1) two,
@@ -161,7 +160,7 @@ module _ (N L K E O F : List ℕ) (b d e : ℕ) where
                   right x y (d - 1 - 1) reads r receives o is I S,
                   h,
                   object-field-past B O o j (valueOf kind bits) (omega (arith, used-few B (objectAt B O o .class))),
-                  set-there (objectAt B O) (getD N 5 0) o,
+                  changed-same (objectsOf B (T I S)) o (objectAt B O o) (used-there B (T I S) o (there x y (d - 1 - 1) reads r receives o is)),
                 );
             fits = λ few I S k m l. tt;
           }
@@ -170,7 +169,7 @@ module _ (N L K E O F : List ℕ) (b d e : ℕ) where
               → Written (Field (d - 1 - 1) o j (record { kind = kind; bits = bits }))
           unfolding writeField meaning frameOf _>>=_ take?
           write-at j g h l = record {
-            says = λ I S fs z p i.
+            says = λ I S task fs z p i.
                 rw (
                   pop-some (operandAt F b) d deep,
                   pop-some (operandAt F b) (d - 1) two,
@@ -178,7 +177,7 @@ module _ (N L K E O F : List ℕ) (b d e : ℕ) where
                   kind-is kind bits t fit,
                   right x y (d - 1 - 1) reads r receives o is I S,
                   h,
-                  object-there (T I S) B o (there x y (d - 1 - 1) reads r receives o is),
+                  used-there B (T I S) o (there x y (d - 1 - 1) reads r receives o is),
                 );
             fits = λ few I S k m a.
                 (there x y (d - 1 - 1) reads r receives o is, field-used B (objectAt B O o .class) e s n t j (under x y (d - 1 - 1) reads r receives o is) g h l);
@@ -192,7 +191,7 @@ module _ (N L K E O F : List ℕ) (b d e : ℕ) where
     pub call-unkind : d - 1 ≢ 0 → isKind (g .argument) kind bits ≡ false → Called (Refuse (Word 14))
     unfolding callMethod meaning frameOf _>>=_
     call-unkind two h = record {
-      says = λ I S fs w p i. rw (pop-some (operandAt F b) d deep, pop-some (operandAt F b) (d - 1) two, ← value, kind-not kind bits (g .argument) h);
+      says = λ I S task fs w p i. rw (pop-some (operandAt F b) d deep, pop-some (operandAt F b) (d - 1) two, ← value, kind-not kind bits (g .argument) h);
       fits = λ few I S k m l. tt;
     }
 
@@ -201,7 +200,7 @@ module _ (N L K E O F : List ℕ) (b d e : ℕ) where
       pub call-wrong : (w : ℕ) → r ≡ Wrong w → Called (Refuse (Word w))
       unfolding callMethod meaning frameOf _>>=_
       call-wrong w q = record {
-        says = λ I S fs z p i.
+        says = λ I S task fs z p i.
             rw (
               pop-some (operandAt F b) d deep,
               pop-some (operandAt F b) (d - 1) two,
@@ -216,7 +215,7 @@ module _ (N L K E O F : List ℕ) (b d e : ℕ) where
         pub call-unselected : selected B g (objectAt B O o .class) ≡ none → Called (Refuse (Word 14))
         unfolding callMethod meaning frameOf _>>=_ take?
         call-unselected h = record {
-          says = λ I S fs z p i.
+          says = λ I S task fs z p i.
               rw (
                 pop-some (operandAt F b) d deep,
                 pop-some (operandAt F b) (d - 1) two,
@@ -231,7 +230,7 @@ module _ (N L K E O F : List ℕ) (b d e : ℕ) where
         pub call-at : (a : Selected) → selected B g (objectAt B O o .class) ≡ some a → Called (Enter (d - 1 - 1) (record { class = a .class; method = a .place; object = o; argument = record { kind = kind; bits = bits } }))
         unfolding callMethod meaning frameOf _>>=_ take?
         call-at a h = record {
-          says = λ I S fs z p i.
+          says = λ I S task fs z p i.
               rw (
                 pop-some (operandAt F b) d deep,
                 pop-some (operandAt F b) (d - 1) two,
@@ -247,17 +246,17 @@ module _ (N L K E O F : List ℕ) (b d e : ℕ) where
   module _ (s n t : ℕ) where
     pub write-none : d ≡ 0 → Rest N L K E O F b d unlimited (λ B os f fs i. writeField B os f fs i e s n t) (Refuse (Word 14))
     unfolding writeField meaning frameOf _>>=_
-    write-none h = record { says = λ I S fs w p i. rw (pop-none (operandAt F b) d h); fits = λ few I S k m l. tt }
+    write-none h = record { says = λ I S task fs w p i. rw (pop-none (operandAt F b) d h); fits = λ few I S k m l. tt }
 
     pub write-one : d ≢ 0 → d - 1 ≡ 0 → Rest N L K E O F b d unlimited (λ B os f fs i. writeField B os f fs i e s n t) (Refuse (Word 14))
     unfolding writeField meaning frameOf _>>=_
-    write-one deep h = record { says = λ I S fs w p i. rw (pop-some (operandAt F b) d deep, pop-none (operandAt F b) (d - 1) h); fits = λ few I S k m l. tt }
+    write-one deep h = record { says = λ I S task fs w p i. rw (pop-some (operandAt F b) d deep, pop-none (operandAt F b) (d - 1) h); fits = λ few I S k m l. tt }
 
   module _ (g : Signature) where
     pub call-none : d ≡ 0 → Rest N L K E O F b d framesLeft (λ B os f fs i. callMethod B os f fs i e g) (Refuse (Word 14))
     unfolding callMethod meaning frameOf _>>=_
-    call-none h = record { says = λ I S fs w p i. rw (pop-none (operandAt F b) d h); fits = λ few I S k m l. tt }
+    call-none h = record { says = λ I S task fs w p i. rw (pop-none (operandAt F b) d h); fits = λ few I S k m l. tt }
 
     pub call-one : d ≢ 0 → d - 1 ≡ 0 → Rest N L K E O F b d framesLeft (λ B os f fs i. callMethod B os f fs i e g) (Refuse (Word 14))
     unfolding callMethod meaning frameOf _>>=_
-    call-one deep h = record { says = λ I S fs w p i. rw (pop-some (operandAt F b) d deep, pop-none (operandAt F b) (d - 1) h); fits = λ few I S k m l. tt }
+    call-one deep h = record { says = λ I S task fs w p i. rw (pop-some (operandAt F b) d deep, pop-none (operandAt F b) (d - 1) h); fits = λ few I S k m l. tt }

@@ -1,7 +1,6 @@
 // new: the class is looked up under the frame class's loader; the class's name stands inline.
-ghost use Rattle.access.specs.Members.{Making};
+ghost use Rattle.access.specs.Makings.{Making};
 use definition::Refusal;
-use definition::numbers::COUNT_OBJECTS;
 use definition::numbers::OBJECT_LIMIT;
 use definition::numbers::OPERAND_LIMIT;
 use definition::numbers::WORD_FULL;
@@ -9,6 +8,7 @@ use frames::Top;
 use instructions::Plan;
 use resolution::Found;
 
+// The object gets the number `free`. The plan means the instruction where that is the lowest unused, which isn't looked for here.
 pub fn new_object(
     counts: &[u16],
     classes: &[u16],
@@ -18,17 +18,18 @@ pub fn new_object(
     frames: &[u32],
     top: Top,
     class: u16,
+    free: u16,
 ) -> Plan
-    ensures { λ r. ⌜ Making (now (counts .entry)) (now (classes .entry)) (now (kept .entry)) (now (cache .entry)) (now (objects .entry)) (now (frames .entry)) (top .base) (top .depth) (top .loader) class r ⌝ }
+    ensures { λ r. ⌜ Making (now (counts .entry)) (now (classes .entry)) (now (kept .entry)) (now (cache .entry)) (now (objects .entry)) (now (frames .entry)) (top .base) (top .depth) (top .loader) class free r ⌝ }
 {
     let Found::At(e) = resolution::find(counts, cache, cells::from8(top.loader), class) else {
         return Plan::Refuse(Refusal::Wanted(top.loader, class));
     };
-    if OBJECT_LIMIT <= cells::at16(counts, COUNT_OBJECTS) {
+    if OBJECT_LIMIT <= free {
         return instructions::refuse(WORD_FULL);
     }
     if OPERAND_LIMIT <= top.depth {
         return instructions::refuse(WORD_FULL);
     }
-    Plan::Make(top.depth, e)
+    Plan::Make(top.depth, e, free)
 }

@@ -1,6 +1,5 @@
 // A receiver: an object that exists, of a class or below it.
 use crate::Receiver;
-use definition::numbers::COUNT_OBJECTS;
 use definition::numbers::KIND_NULL;
 use definition::numbers::KIND_OBJECT;
 use definition::numbers::WORD_NULL;
@@ -41,7 +40,7 @@ pub(crate) fn received(
         return Receiver::Wrong(no_object(v));
     }
     let o = v.bits;
-    if cells::from16(cells::at16(counts, COUNT_OBJECTS)) <= o {
+    if !frames::is_used(counts, o) {
         return Receiver::Wrong(WORD_STUCK);
     }
     if !resolution::is_below(

@@ -14,6 +14,7 @@ pub enum Call {
     Step,
     Run(u32),
     Drop(u32),
+    Sweep,
 }
 
 // The call is made. Only a define reads the file.
@@ -113,6 +114,16 @@ pub fn perform(
             objects,
             frames,
             task,
+        ),
+        Call::Sweep => sweeping::sweep(
+            counts,
+            classes,
+            kept,
+            cache,
+            ties,
+            subtypes,
+            objects,
+            frames,
         ),
     }
 }

@@ -6,7 +6,7 @@ use Prim.Native.Nat.{ℕ, _+_, _*_, _<_}
 use lib.ListN.{length, getD}
 use Rattle.definition.specs.Lists.{writeRows}
 use Rattle.definition.specs.declared.Reply.{Reply}
-use Rattle.definition.specs.declared.Reply.the-variants.{Accepted, Defined, Stepped, RanFor, Denied}
+use Rattle.definition.specs.declared.Reply.the-variants.{Accepted, Defined, Stepped, RanFor, Swept, Denied}
 use Rattle.definition.specs.Answers.{numberOf, endsIn, countOf}
 use Rattle.definition.specs.Tables.{Tables, putThree}
 use Rattle.definition.specs.Calls.{done, Call, boot, performAll}
@@ -24,6 +24,7 @@ isAccepted (Defined c) = false
 isAccepted (Stepped a) = false
 isAccepted (RanFor n a) = false
 isAccepted (Denied r) = false
+isAccepted (Swept n) = false
 
 pub record Driven : Type 0 where
   pub outcome : Outcome

@@ -5,7 +5,7 @@ use Prim.Native.Nat.{ℕ, zero, suc, _+_, _*_, _/_}
 use lib.ListN.{length, getD}
 use lib.Dec.{eqb, leb}
 use Rattle.definition.specs.Instructions.{pick}
-use Rattle.definition.specs.Calls.{Call, callBoot, callDefine, callRecord, callStart, callStep, callRun, callDrop}
+use Rattle.definition.specs.Calls.{Call, callBoot, callDefine, callRecord, callStart, callStep, callRun, callDrop, callSweep}
 use Rattle.classfile.specs.Reading.{partOf}
 
 -- cells of a row of the list, and of an answer's row
@@ -37,7 +37,8 @@ callIn cells files i =
     (pick (eqb k 3) (pick (leb (n 3) 65535) (pick (leb (n 4) 65535) (some (callStart (n 1) (n 2) (n 3) (n 4) (n 5))) none) none)
     (pick (eqb k 4) (some callStep)
     (pick (eqb k 5) (some (callRun (n 1)))
-    (pick (eqb k 6) (some (callDrop (n 1))) none))))))
+    (pick (eqb k 6) (some (callDrop (n 1)))
+    (pick (eqb k 7) (some callSweep) none)))))))
 
 -- the calls of k rows from row i on, up to the first that has none
 unfoldable pub callsFrom : (ℕ → Option Call) → ℕ → ℕ → List Call

@@ -9,7 +9,7 @@ use lib.ListN.{length, getD, length-append}
 use lib.Seq.{take-append-seam, drop-append-seam, getD-append-add}
 use borrow.Author.Tests.{le-leb}
 use Rattle.definition.specs.Instructions.{pick}
-use Rattle.definition.specs.Calls.{rowDefine, rowRecord, rowStart, rowDrop, Call, callBoot, callRows, callDefine, callStep, callRun}
+use Rattle.definition.specs.Calls.{rowDefine, rowRecord, rowStart, rowDrop, rowSweep, Call, callBoot, callRows, callDefine, callStep, callRun}
 use Rattle.layout.specs.Tests.{All}
 use Rattle.classfile.specs.Searches.{part-there}
 use Rattle.driver.specs.Encoded.{kindIn, cellIn, fileIn, callIn, callsFrom, callsIn}
@@ -23,6 +23,7 @@ fileOf (callRows (rowStart k l n m v)) = []
 fileOf callStep = []
 fileOf (callRun n) = []
 fileOf (callRows (rowDrop k)) = []
+fileOf (callRows rowSweep) = []
 
 unfoldable pub rowOf : Call → ℕ → List ℕ
 rowOf callBoot s = 0 ∷ 0 ∷ 0 ∷ 0 ∷ 0 ∷ 0 ∷ []
@@ -32,6 +33,7 @@ rowOf (callRows (rowStart k l n m v)) s = 3 ∷ k ∷ l ∷ n ∷ m ∷ v ∷ []
 rowOf callStep s = 4 ∷ 0 ∷ 0 ∷ 0 ∷ 0 ∷ 0 ∷ []
 rowOf (callRun n) s = 5 ∷ n ∷ 0 ∷ 0 ∷ 0 ∷ 0 ∷ []
 rowOf (callRows (rowDrop k)) s = 6 ∷ k ∷ 0 ∷ 0 ∷ 0 ∷ 0 ∷ []
+rowOf (callRows rowSweep) s = 7 ∷ 0 ∷ 0 ∷ 0 ∷ 0 ∷ 0 ∷ []
 
 -- files one behind another, and the rows, the first file beginning at byte s
 unfoldable pub filesOf : List Call → List ℕ
@@ -50,6 +52,7 @@ Named (callRows (rowStart k l n m v)) = (n ≤ 65535) × (m ≤ 65535)
 Named callStep = Unit {0}
 Named (callRun n) = Unit {0}
 Named (callRows (rowDrop k)) = Unit {0}
+Named (callRows rowSweep) = Unit {0}
 
 -- a row behind i others
 module _ (xs : List ℕ) (i : ℕ) (behind : length xs ≡ i * 6) where
@@ -95,6 +98,7 @@ module _ (xs : List ℕ) (i : ℕ) (behind : length xs ≡ i * 6) where
   row-read (callRows (rowDrop k)) h fs rest more =
       let ys : List ℕ = 6 ∷ k ∷ 0 ∷ 0 ∷ 0 ∷ 0 ∷ rest in
       rw (kind-at ys, cell-at ys 1)
+  row-read (callRows rowSweep) h fs rest more = rw (kind-at (7 ∷ 0 ∷ 0 ∷ 0 ∷ 0 ∷ 0 ∷ rest))
 
 row-length : (c : Call) (s : ℕ) → length (rowOf c s) ≡ 6
 unfolding rowOf
@@ -105,6 +109,7 @@ row-length (callRows (rowStart k l n m v)) s = refl
 row-length callStep s = refl
 row-length (callRun n) s = refl
 row-length (callRows (rowDrop k)) s = refl
+row-length (callRows rowSweep) s = refl
 
 cells-length : (cs : List Call) (s : ℕ) → length (cellsOf cs s) ≡ length cs * 6
 unfolding cellsOf

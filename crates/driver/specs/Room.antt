@@ -3,7 +3,7 @@ use mathlib.Core.List.{List, [], _∷_}
 use Prim.Native.Nat.{ℕ, _+_, _<_}
 use native.Mathlib.Omega.{arith}
 use lib.ListN.{length, length-append}
-use Rattle.definition.specs.Calls.{rowDefine, rowRecord, rowStart, rowDrop, Call, callBoot, callRows, callStep, callRun}
+use Rattle.definition.specs.Calls.{rowDefine, rowRecord, rowStart, rowDrop, rowSweep, Call, callBoot, callRows, callStep, callRun}
 use Rattle.definition.specs.Widths.{EachBelow, Fitting}
 use Rattle.layout.specs.Tests.{All}
 use Rattle.widths.specs.Below.{below-both}
@@ -18,6 +18,7 @@ Narrow (callRows (rowStart k l n m v)) = (k < 4294967296) × (l < 4294967296) ×
 Narrow callStep = Unit {0}
 Narrow (callRun n) = n < 4294967296
 Narrow (callRows (rowDrop k)) = k < 4294967296
+Narrow (callRows rowSweep) = Unit {0}
 
 row-fits : (c : Call) (s : ℕ) → Narrow c → s + length (fileOf c) < 4294967296 → EachBelow 4294967296 (rowOf c s)
 unfolding rowOf fileOf
@@ -28,6 +29,7 @@ row-fits (callRows (rowStart k l m j v)) s n h = (omega arith, (n .0, (n .1, (n 
 row-fits callStep s n h = (omega arith, (omega arith, (omega arith, (omega arith, (omega arith, (omega arith, tt))))))
 row-fits (callRun m) s n h = (omega arith, (n, (omega arith, (omega arith, (omega arith, (omega arith, tt))))))
 row-fits (callRows (rowDrop k)) s n h = (omega arith, (n, (omega arith, (omega arith, (omega arith, (omega arith, tt))))))
+row-fits (callRows rowSweep) s n h = (omega arith, (omega arith, (omega arith, (omega arith, (omega arith, (omega arith, tt))))))
 
 cells-fit : (cs : List Call) (s : ℕ) → All Narrow cs → s + length (filesOf cs) < 4294967296 → EachBelow 4294967296 (cellsOf cs s)
 unfolding cellsOf filesOf
@@ -49,6 +51,7 @@ file-fits (callRows (rowStart k l n m v)) f = tt
 file-fits callStep f = tt
 file-fits (callRun n) f = tt
 file-fits (callRows (rowDrop k)) f = tt
+file-fits (callRows rowSweep) f = tt
 
 -- the files' bytes
 pub files-fit : (cs : List Call) → All Fitting cs → EachBelow 256 (filesOf cs)

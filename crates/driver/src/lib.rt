@@ -89,6 +89,7 @@ fn tell(reply: Reply) -> Told
         Reply::Stepped(a) => Told::new(step_number(a), 0, 0),
         Reply::RanFor(count, a) => Told::new(0, step_number(a), cells::from16(count)),
         Reply::Denied(refusal) => Told::new(refusal_number(refusal), 0, 0),
+        Reply::Swept(_) => Told::new(0, 0, 0),
     }
 }
 
@@ -114,6 +115,7 @@ fn is_accepted(reply: Reply) -> bool
         Reply::Stepped(_) => false,
         Reply::RanFor(_, _) => false,
         Reply::Denied(_) => false,
+        Reply::Swept(_) => false,
     }
 }
 
@@ -176,6 +178,7 @@ fn read_row(list: &[u32], files: &[u8], i: usize) -> Row
         4 => Row::Readable(Call::Step),
         5 => Row::Readable(Call::Run(first)),
         6 => Row::Readable(Call::Drop(first)),
+        7 => Row::Readable(Call::Sweep),
         _ => Row::Unreadable,
     }
 }

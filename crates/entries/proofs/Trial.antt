@@ -10,6 +10,7 @@ use lib.ListN.{length, getD, set, getElem?, List·getD-eq-default, length-append
 use lib.Seq.{getD-set-same, getD-set-other}
 use lib.Dec.{eqb, ltb}
 use borrow.Author.Tests.{lt-ltb, ltb-true, ltb-false, eqb-true, eqb-false}
+use Rattle.definition.specs.Numbers.{countsLength}
 use Rattle.definition.specs.Lists.{rows, writeRows}
 use Rattle.definition.specs.Requests.{at}
 use Rattle.definition.specs.Classes.{Base, Class, Entry, superOf, find, lower}
@@ -35,7 +36,7 @@ unfolding putEntry
 entries-more t n l m c h = ap (λ (k : ℕ). rows (entryAt (putThree t n l m c)) k 0) (add-one n) ∙ rows-after-last entry-rows t n (entry l m c) h
 
 -- the base that the copies give
-pub trial-base : (counts classes kept cache : List ℕ) (l m c : ℕ) → length counts ≡ 8 → suc (getD counts 2 0) * 3 ≤ length cache
+pub trial-base : (counts classes kept cache : List ℕ) (l m c : ℕ) → length counts ≡ countsLength → suc (getD counts 2 0) * 3 ≤ length cache
     → quickBase (set counts 2 (getD counts 2 0 + 1)) classes kept (putThree cache (getD counts 2 0) l m c)
     ≡ record { classes = quickBase counts classes kept cache .classes; cache = quickBase counts classes kept cache .cache ++ (entry l m c ∷ []) }
 unfolding quickBase
@@ -120,7 +121,7 @@ supers-more ks es k p t long less e s c = go (eqb c (length ks)) refl
 -- A store with one more entry: the copies hold it, and the test of agreement is the definition's
 
 module _ (counts classes kept cache : List ℕ) (ready : Searchable counts classes kept cache) (room : getD counts 2 0 < 256)
-    (l m c : ℕ) (zeros blank counted trial : List ℕ) (nl : length zeros ≡ 8) (el : length blank ≡ 768) (tried : Entered counts cache l m c zeros blank counted trial) where
+    (l m c : ℕ) (zeros blank counted trial : List ℕ) (nl : length zeros ≡ countsLength) (el : length blank ≡ 768) (tried : Entered counts cache l m c zeros blank counted trial) where
   abbrev b : Base
   b = quickBase counts classes kept cache
 

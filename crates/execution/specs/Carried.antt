@@ -1,6 +1,7 @@
--- What carrying a plan out writes: the ties that are posted, a field or an object's row, cells of the task's frames, and their counts. Nothing is asked of
--- the tables but that task k has m frames below its top frame.
+-- What carrying a plan out writes: the ties that are posted, a field or an object's row with its owner, cells of the task's frames, and their counts. Nothing is
+-- asked of the tables but that task k has m frames below its top frame.
 use mathlib.Core.Path.{_≡_, refl, sym, ap, _∙_}
+use mathlib.Core.Bool.{true}
 use mathlib.Core.Option.{Option, none, some}
 use mathlib.Core.List.{List, [], _∷_, map}
 use Prim.Native.Nat.{ℕ, suc, _+_, _-_, _<_, _≤_}
@@ -14,13 +15,15 @@ use Rattle.definition.specs.Answers.{_>>=_, take?}
 use Rattle.definition.specs.Lists.{rows, writeRows, stack}
 use Rattle.definition.specs.Classes.{Base, Slot, slots}
 use Rattle.definition.specs.Constraints.{Tie, posted}
-use Rattle.definition.specs.Machine.{Value, objectValue, Object, Frame, newObject, entryFrame, Progress, give, initialValue}
+use Rattle.definition.specs.Machine.{Value, objectValue, Objects, Frame, unused, made, newObject, entryFrame, Progress, give, initialValue}
 use Rattle.definition.specs.Tables.{Tables, tables, putTie, valueOf, objectAt, putObject, putField, sizeOf, usedFields, putOperand, putLocal, frameOf, putFrame, frameBase, frameIn, objectsOf, viewOver, put}
 use Rattle.definition.specs.Calls.{given, progressed, answerOf, Done, done, carried}
 use Rattle.layout.specs.Places.{rows-map, stack-top}
 use Rattle.layout.specs.Cells.{rows-back, cell-rows, moved}
-use Rattle.layout.specs.View.{countAt, Fills, FillsTask, objects-fill, object-made, object-set, object-there, progress-writes, none-left, top-kept, top-above, top-local, top-given, top-entered}
+use Rattle.layout.specs.OwnedRows.{rowsWith}
+use Rattle.layout.specs.View.{countAt, FillsObjects, FillsTask, objects-fill, object-made, object-set, progress-writes, none-left, top-kept, top-above, top-local, top-given, top-entered}
 use Rattle.frames.specs.Initial.{initialOf, initialObject, initial-value}
+use Rattle.frames.specs.Unused.{isUsed, unusedFrom, used-row, used-there, unused-is, used-set, unused-set}
 use Rattle.resolution.specs.Quick.{quickBase}
 use Rattle.resolution.specs.Slots.{slotType}
 use Rattle.access.specs.Accesses.{worldIn}
@@ -35,7 +38,7 @@ use Rattle.instructions.specs.declared.Plan.the-variants.{Refuse, Keep, Above, 
 unfoldable pub planned : Base → Tables → ℕ → ℕ → ℕ → List Tie → Plan → Done Answer
 planned B t k m q us p =
     carried Refused t
-    (meaning (posted (worldIn B t) us) (objectsOf B t) (stack (frameIn (t .frames) k) m) (t .frames) (frameBase k m) q p
+    (meaning k (posted (worldIn B t) us) (objectsOf B t) (stack (frameIn (t .frames) k) m) (t .frames) (frameBase k m) q p
     >>= λ o. given (answerOf k (o .result)) (progressed k (viewOver B t) o))
 
 -- what carrying out asks: task k has m frames below its top frame, whose row begins at cell b; ties and plan have room
@@ -57,14 +60,14 @@ module _ (B : Base) (t : Tables) (k m q : ℕ) (us : List Tie) (two : k < 2) whe
   abbrev ties : List ℕ
   ties = writeRows putTie us (countAt t 3) (t .ties)
 
-  abbrev leaves : List Object → List Frame → Option ℕ → Progress
+  abbrev leaves : Objects → List Frame → Option ℕ → Progress
   leaves os fs x = record { world = posted (worldIn B t) us; objects = os; frames = fs; result = x }
 
   -- objects as many as before
-  same-objects : (os : List Object) (fs : List Frame) (x : Option ℕ) (n : ℕ) (o u : List ℕ) → Fills putObject os (t .objects) (countAt t 5) o → FillsTask k fs t n u
+  same-objects : (os : Objects) (fs : List Frame) (x : Option ℕ) (n : ℕ) (o u : List ℕ) → FillsObjects os (t .counts) (t .objects) (countAt t 5) (λ d. d) o → FillsTask k fs t n u
       → put (progressed k (viewOver B t) (leaves os fs x)) t ≡ tables (set counts (6 + k) n) (t .classes) (t .kept) (t .cache) ties (t .subtypes) o u
   same-objects os fs x n o u g h =
-      progress-writes B t k (leaves os fs x) us (countAt t 5) n o u two refl g h
+      progress-writes B t k (leaves os fs x) us (countAt t 5) n (λ d. d) o u two refl g h
       ∙ ap (λ z. tables (set z (6 + k) n) (t .classes) (t .kept) (t .cache) ties (t .subtypes) o u) five
     where
       five : set counts 5 (countAt t 5) ≡ counts
@@ -74,7 +77,7 @@ module _ (B : Base) (t : Tables) (k m q : ℕ) (us : List Tie) (two : k < 2) whe
   frame-count : (n : ℕ) → countAt t (6 + k) ≡ n → set counts (6 + k) n ≡ counts
   frame-count n e = rw (← e, ← getD-set-other (t .counts) 3 (6 + k) (countAt t 3 + length us) 0 (λ z. omega arith)) (set-getD counts (6 + k) 0)
 
-  top-frame : (os : List Object) (fs : List Frame) (o u : List ℕ) → countAt t (6 + k) ≡ suc m → Fills putObject os (t .objects) (countAt t 5) o → FillsTask k fs t (suc m) u
+  top-frame : (os : Objects) (fs : List Frame) (o u : List ℕ) → countAt t (6 + k) ≡ suc m → FillsObjects os (t .counts) (t .objects) (countAt t 5) (λ d. d) o → FillsTask k fs t (suc m) u
       → put (progressed k (viewOver B t) (leaves os fs none)) t ≡ tables counts (t .classes) (t .kept) (t .cache) ties (t .subtypes) o u
   top-frame os fs o u e g h =
       same-objects os fs none (suc m) o u g h ∙ ap (λ z. tables z (t .classes) (t .kept) (t .cache) ties (t .subtypes) o u) (frame-count (suc m) e)
@@ -125,10 +128,11 @@ module _ (B : Base) (N L K E I S O F : List ℕ) (k m b q : ℕ) (us : List Tie)
       → done (Ran k) (tables C L K E J S P G) ≡ plans
   unfolding planned meaning _>>=_ carried answerOf take?
   out-field d o i v G P e g h =
-      let f : (o < getD N 5 0) × (i < usedFields B (objectAt B O o .class)) = rw e at (r .fits) in
-      rw (e, c, j, g, h, r .row, object-there before B o (f .0))
+      let f : (isUsed N o ≡ true) × (i < usedFields B (objectAt B O o .class)) = rw e at (r .fits) in
+      let l = used-row N o (f .0) in
+      rw (e, c, j, g, h, r .row, used-there B before o (f .0))
       (ap (done (Ran k)) (sym (top-frame B before k m q us (r .two) _ _ (putField o O i (valueOf (v .kind) (v .bits))) (moved F (frameBase k m) q d) (r .count)
-      (object-set before B o i (valueOf (v .kind) (v .bits)) (f .0) (f .1)) (top-kept before k m (r .low) q d))))
+      (object-set before B o i (valueOf (v .kind) (v .bits)) (l .0) (l .1) (f .1)) (top-kept before k m (r .low) q d))))
 
   pub out-enter : (d : ℕ) (x : Entry) (D G : List ℕ) → p ≡ Enter d x → D ≡ set C (6 + k) (m + 2)
       → G ≡ putFrame (moved F b q d) (frameBase k (m + 1)) (entryFrame (x .class) (x .method) (x .object) (valueOf (x .argument .kind) (x .argument .bits))) → done (Ran k) (tables D L K E J S O G) ≡ plans
@@ -142,24 +146,30 @@ module _ (B : Base) (N L K E I S O F : List ℕ) (k m b q : ℕ) (us : List Tie)
       (putFrame (moved F (frameBase k m) q d) (frameBase k (suc m)) (entryFrame (x .class) (x .method) (x .object) (valueOf (x .argument .kind) (x .argument .bits)))) (objects-fill before B)
       (top-entered before k m (r .low) q d (entryFrame (x .class) (x .method) (x .object) (valueOf (x .argument .kind) (x .argument .bits))) h (omega arith) (omega arith)))))
 
-  pub out-make : (d s n : ℕ) (D G P : List ℕ) → p ≡ Make d s → n ≡ getD N 5 0 → D ≡ set C 5 (n + 1) → G ≡ putOperand b (moved F b q (d + 1)) d (objectValue n)
-      → P ≡ putObject O n (newObject B s) → done (Ran k) (tables D L K E J S P G) ≡ plans
+  -- the count n of objects rises only if row o is the next
+  pub out-make : (d s o n : ℕ) (D G P : List ℕ) → p ≡ Make d s o → n ≡ getD N 5 0 → D ≡ set (set C 5 (rowsWith o n)) (8 + o) (suc k)
+      → G ≡ putOperand b (moved F b q (d + 1)) d (objectValue o) → P ≡ putObject O o (newObject B s) → done (Ran k) (tables D L K E J S P G) ≡ plans
   unfolding planned meaning _>>=_ carried answerOf
-  out-make d s n D G P e a f g h =
-      let w : (d < 16) × (getD N 5 0 < 256) × (sizeOf B s ≤ 16) = rw e at (r .fits) in
-      rw (e, f, g, h, a, c, j, r .row, objects-fill before B .count)
+  out-make d s o n D G P e a f g h =
+      let w : (d < 16) × (o ≡ unusedFrom N 0) × (o < 256) × (sizeOf B s ≤ 16) = rw e at (r .fits) in
+      rw (e, f, g, h, a, c, j, r .row)
       (ap (done (Ran k)) (sym (
-      progress-writes B before k (leaves B before k m q us (r .two) _ _ none) us (getD N 5 0 + 1) (suc m) (putObject O (getD N 5 0) (newObject B s))
-      (putOperand (frameBase k m) (moved F (frameBase k m) q (d + 1)) d (objectValue (getD N 5 0))) (r .two) refl (object-made before B (newObject B s))
-      (top-above before k m (r .low) q d (objectValue (getD N 5 0)) (w .0))
-      ∙ ap (λ z. tables z L K E (writeRows putTie us (getD N 3 0) I) S (putObject O (getD N 5 0) (newObject B s)) (putOperand (frameBase k m) (moved F (frameBase k m) q (d + 1)) d (objectValue (getD N 5 0)))) frames)))
+      progress-writes B before k (leaves B before k m q us (r .two) _ _ none) us (rowsWith o (getD N 5 0)) (suc m) (λ x. set x (8 + o) (suc k)) (putObject O o (newObject B s))
+      (putOperand (frameBase k m) (moved F (frameBase k m) q (d + 1)) d (objectValue o)) (r .two) refl (fills (w .1 ∙ unused-is B before))
+      (top-above before k m (r .low) q d (objectValue o) (w .0))
+      ∙ ap (λ z. tables (set z (8 + o) (suc k)) L K E (writeRows putTie us (getD N 3 0) I) S (putObject O o (newObject B s)) (putOperand (frameBase k m) (moved F (frameBase k m) q (d + 1)) d (objectValue o)))
+      (frames (rowsWith o (getD N 5 0))))))
     where
-      frames : set (set (set N 3 (getD N 3 0 + length us)) 5 (getD N 5 0 + 1)) (6 + k) (suc m) ≡ set (set N 3 (getD N 3 0 + length us)) 5 (getD N 5 0 + 1)
-      frames =
+      fills : o ≡ unused (objectsOf B before)
+          → FillsObjects (made k (newObject B s) (objectsOf B before)) N O (rowsWith o (getD N 5 0)) (λ x. set x (8 + o) (suc k)) (putObject O o (newObject B s))
+      fills u = rw u (object-made before B k (newObject B s))
+
+      frames : (x : ℕ) → set (set (set N 3 (getD N 3 0 + length us)) 5 x) (6 + k) (suc m) ≡ set (set N 3 (getD N 3 0 + length us)) 5 x
+      frames x =
           let A : List ℕ = set N 3 (getD N 3 0 + length us) in
-          let z : getD (set A 5 (getD N 5 0 + 1)) (6 + k) 0 ≡ suc m =
-          getD-set-other A 5 (6 + k) (getD N 5 0 + 1) 0 (λ e. omega arith) ∙ (getD-set-other N 3 (6 + k) (getD N 3 0 + length us) 0 (λ e. omega arith) ∙ r .count) in
-          rw (← z) (set-getD (set A 5 (getD N 5 0 + 1)) (6 + k) 0)
+          let z : getD (set A 5 x) (6 + k) 0 ≡ suc m =
+          getD-set-other A 5 (6 + k) x 0 (λ e. omega arith) ∙ (getD-set-other N 3 (6 + k) (getD N 3 0 + length us) 0 (λ e. omega arith) ∙ r .count) in
+          rw (← z) (set-getD (set A 5 x) (6 + k) 0)
 
   pub out-finish : (v : ℕ) (D : List ℕ) → p ≡ Finish v → D ≡ set C (6 + k) 0 → done (Finished k v) (tables D L K E J S O F) ≡ plans
   unfolding planned meaning _>>=_ carried answerOf
@@ -219,9 +229,9 @@ Left B N O F k m b q (Finish v) a C P G = (a ≡ Finished k v) × (C ≡ set N (
 Left B N O F k m b q (Field d o i v) a C P G = (a ≡ Ran k) × (C ≡ N) × (P ≡ putField o O i (valueOf (v .kind) (v .bits))) × (G ≡ moved F b q d)
 Left B N O F k m b q (Enter d e) a C P G =
     (a ≡ Ran k) × (C ≡ set N (6 + k) (m + 2)) × (P ≡ O) × (G ≡ putFrame (moved F b q d) (frameBase k (m + 1)) (entryFrame (e .class) (e .method) (e .object) (valueOf (e .argument .kind) (e .argument .bits))))
-Left B N O F k m b q (Make d s) a C P G =
-    (a ≡ Ran k) × (C ≡ set N 5 (getD N 5 0 + 1)) × (P ≡ putObject O (getD N 5 0) (newObject B s))
-    × (G ≡ putOperand b (moved F b q (d + 1)) d (objectValue (getD N 5 0)))
+Left B N O F k m b q (Make d s o) a C P G =
+    (a ≡ Ran k) × (C ≡ set (set N 5 (rowsWith o (getD N 5 0))) (8 + o) (suc k)) × (P ≡ putObject O o (newObject B s))
+    × (G ≡ putOperand b (moved F b q (d + 1)) d (objectValue o))
 
 -- Where the ties us were posted first, C and J are the counts and the ties
 
@@ -244,9 +254,9 @@ module _ (N L K E I S O F : List ℕ) (k m b : ℕ) (us : List Tie) (p : Plan) (
       go (Local d i v) h = h
       go (Give v) h = h
       go (Finish v) h = h
-      go (Field d o i v) h = rw (posted-base, posted-number) h
+      go (Field d o i v) h = rw (posted-base, c, used-set N 3 (getD N 3 0 + length us) o (omega arith) (λ e. omega arith)) h
       go (Enter d e) h = h
-      go (Make d s) h = rw (posted-base, posted-number) h
+      go (Make d s o) h = rw (posted-base, c, unused-set N 3 (getD N 3 0 + length us) 0 (omega arith) (λ e. omega arith)) h
 
   -- what is left is what the machine makes of the plan
   pub left-planned : (J : List ℕ) → J ≡ writeRows putTie us (getD N 3 0) I → (q : ℕ) (a : Answer) (D P G : List ℕ) → Left (quickBase C L K E) C O F k m b q p a D P G
@@ -266,6 +276,6 @@ module _ (N L K E I S O F : List ℕ) (k m b : ℕ) (us : List Tie) (p : Plan) (
       go (Field d o i v) r h = rw (h .0, h .1) (out-field (quickBase N L K E) N L K E I S O F k m b q us (Field d o i v) r C J c j d o i v G P refl (h .3) (h .2))
       go (Enter d e) r h =
           rw (h .0, h .2) (out-enter (quickBase N L K E) N L K E I S O F k m b q us (Enter d e) r C J c j d e D G refl (h .1) (h .3))
-      go (Make d s) r h =
+      go (Make d s o) r h =
           rw (h .0)
-          (out-make (quickBase N L K E) N L K E I S O F k m b q us (Make d s) r C J c j d s (getD C 5 0) D G P refl posted-number (h .1) (h .3) (rw posted-base at (h .2)))
+          (out-make (quickBase N L K E) N L K E I S O F k m b q us (Make d s o) r C J c j d s o (getD C 5 0) D G P refl posted-number (h .1) (h .3) (rw posted-base at (h .2)))

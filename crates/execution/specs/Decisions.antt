@@ -19,10 +19,11 @@ use Rattle.definition.specs.declared.Instruction.the-variants.{New}
 use Rattle.definition.specs.declared.Refusal.{Refusal}
 use Rattle.definition.specs.declared.Refusal.the-variants.{Word}
 use Rattle.definition.specs.Answers.{Result, refused, ok, _>>=_, need}
-use Rattle.definition.specs.Machine.{Object, Frame, execute}
+use Rattle.definition.specs.Machine.{Objects, Frame, execute}
 use Rattle.definition.specs.Tables.{Tables, tables, tieAt, tiesOf, sizeOf, frameOf, frameIn, objectsOf}
 use Rattle.layout.specs.Places.{rows-length, stack-length}
 use Rattle.layout.specs.Unbroken.{Counts}
+use Rattle.frames.specs.Unused.{unusedFrom}
 use Rattle.instructions.specs.declared.Plan.{Plan}
 use Rattle.instructions.specs.declared.Plan.the-variants.{Refuse, Keep, Above, Local, Give, Finish, Field, Enter, Make}
 use Rattle.instructions.specs.Plans.{decoded, meaning, Fit, FrameOnly, Returning}
@@ -31,7 +32,7 @@ use Rattle.access.specs.declared.Access.{Access}
 use Rattle.access.specs.declared.Access.the-variants.{Unresolved, Resolved}
 use Rattle.access.specs.Declarers.{declaring-some}
 use Rattle.access.specs.Accesses.{worldIn, tiesOn, accessed, Accessing, frameRoom}
-use Rattle.access.specs.Members.{Making}
+use Rattle.access.specs.Makings.{Making}
 use Rattle.posting.specs.declared.Posting.{Posting}
 use Rattle.posting.specs.declared.Posting.the-variants.{Nothing}
 use Rattle.posting.specs.Postings.{toPost, Quiet, quietly, quietly-quiet, quietly-means, quietly-few}
@@ -91,9 +92,9 @@ bare N L K E I S = worldIn (quickBase N L K E) (tables N L K E I S [] [])
 -- A plan whose ties may be posted, or the refusal that comes before it
 
 pub record Settled (N L K E I S : List ℕ) (room : Bool) (us : List Tie) (plan : Plan) (x : Posting) (p : Plan) : Type 0 where
-  pub says : (O F : List ℕ) (os : List Object) (fs : List Frame) (G : List ℕ) (b q : ℕ)
+  pub says : (O F : List ℕ) (task : ℕ) (os : Objects) (fs : List Frame) (G : List ℕ) (b q : ℕ)
       → (let w = worldIn (quickBase N L K E) (tables N L K E I S O F) in
-      meaning (posted w (toPost x)) os fs G b q p ≡ (post w room us >>= λ z. meaning z os fs G b q plan))
+      meaning task (posted w (toPost x)) os fs G b q p ≡ (post w room us >>= λ z. meaning task z os fs G b q plan))
   pub ties : getD N 3 0 + length (toPost x) ≤ 256
   pub quiet : Quiet (toPost x) p
   pub either : ((p ≡ plan) × (room ≡ true)) ⊎ ((r : Refusal) × (p ≡ Refuse r))
@@ -101,13 +102,13 @@ pub record Settled (N L K E I S : List ℕ) (room : Bool) (us : List Tie) (plan 
 module _ (N L K E I S : List ℕ) (room : Bool) (us : List Tie) (plan : Plan) (low : getD N 3 0 ≤ 256) where
   pub settled-refused : (r : Refusal) → post (bare N L K E I S) room us ≡ refused r → Settled N L K E I S room us plan Nothing (Refuse r)
   unfolding meaning toPost _>>=_
-  settled-refused r h = record { says = λ O F os fs G b q. rw h; ties = omega arith; quiet = refl; either = inr (r, refl) }
+  settled-refused r h = record { says = λ O F task os fs G b q. rw h; ties = omega arith; quiet = refl; either = inr (r, refl) }
 
   pub settled-posted : (x : Posting) → toPost x ≡ us → getD N 3 0 + length us ≤ 256 → room ≡ true → post (bare N L K E I S) room us ≡ ok (posted (bare N L K E I S) us)
       → Settled N L K E I S room us plan (quietly x plan) plan
   unfolding _>>=_
   settled-posted x e l y h = record {
-    says = λ O F os fs G b q. quietly-means (bare N L K E I S) os fs G b q x plan ∙ (ap (λ (z : List Tie). meaning (posted (bare N L K E I S) z) os fs G b q plan) e ∙ rw h);
+    says = λ O F task os fs G b q. quietly-means task (bare N L K E I S) os fs G b q x plan ∙ (ap (λ (z : List Tie). meaning task (posted (bare N L K E I S) z) os fs G b q plan) e ∙ rw h);
     ties = omega (arith, quietly-few x plan, ap length e);
     quiet = quietly-quiet x plan;
     either = inl (refl, y);
@@ -148,8 +149,8 @@ module _ (N L K E I S : List ℕ) (plan : Plan) (low : getD N 3 0 ≤ 256) (us :
 pub record Acted (N L K E I S O F : List ℕ) (k m b d loader : ℕ) (i : Instruction) (x : Posting) (p : Plan) : Type 0 where
   pub says : (c : Class) (y n : ℕ) → c .loader ≡ loader
       → (let B = quickBase N L K E in let t = tables N L K E I S O F in
-      meaning (posted (worldIn B t) (toPost x)) (objectsOf B t) (stack (frameIn F k) m) F b (y + n) p
-      ≡ execute (worldIn B t) (objectsOf B t) (frameOf F b y d) (stack (frameIn F k) m) c (decoded i n) i)
+      meaning k (posted (worldIn B t) (toPost x)) (objectsOf B t) (stack (frameIn F k) m) F b (y + n) p
+      ≡ execute k (worldIn B t) (objectsOf B t) (frameOf F b y d) (stack (frameIn F k) m) c (decoded i n) i)
   pub ties : getD N 3 0 + length (toPost x) ≤ 256
   pub quiet : Quiet (toPost x) p
   pub fits : d ≤ 16 → Fit (quickBase N L K E) (tables N L K E I S O F) k m p
@@ -166,7 +167,7 @@ nothing-quiet (Give v) = tt
 nothing-quiet (Finish v) = tt
 nothing-quiet (Field d o j v) = tt
 nothing-quiet (Enter d e) = tt
-nothing-quiet (Make d c) = tt
+nothing-quiet (Make d c o) = tt
 
 module _ (N L K E I S O F : List ℕ) (k m b d loader : ℕ) (i : Instruction) (p : Plan) (low : getD N 3 0 ≤ 256) where
   abbrev B : Base
@@ -180,8 +181,8 @@ module _ (N L K E I S O F : List ℕ) (k m b d loader : ℕ) (i : Instruction) (
   unfolding toPost
   acted-frame h = record {
     says = λ c y n e.
-        h .says (posted (worldIn B T) []) (objectsOf B T) (stack (frameIn F k) m) c y n
-        ∙ ap (λ (w : World). execute w (objectsOf B T) (frameOf F b y d) (stack (frameIn F k) m) c (decoded i n) i) (posted-none (worldIn B T));
+        h .says k (posted (worldIn B T) []) (objectsOf B T) (stack (frameIn F k) m) c y n
+        ∙ ap (λ (w : World). execute k w (objectsOf B T) (frameOf F b y d) (stack (frameIn F k) m) c (decoded i n) i) (posted-none (worldIn B T));
     ties = omega arith;
     quiet = nothing-quiet p;
     fits = λ few. h .fits few B T k m;
@@ -192,23 +193,23 @@ module _ (N L K E I S O F : List ℕ) (k m b d loader : ℕ) (i : Instruction) (
   acted-return h = record {
     says = λ c y n e.
         h .says (posted (worldIn B T) []) (objectsOf B T) c y n
-        ∙ ap (λ (w : World). execute w (objectsOf B T) (frameOf F b y d) (stack (frameIn F k) m) c (decoded i n) i) (posted-none (worldIn B T));
+        ∙ ap (λ (w : World). execute k w (objectsOf B T) (frameOf F b y d) (stack (frameIn F k) m) c (decoded i n) i) (posted-none (worldIn B T));
     ties = omega arith;
     quiet = nothing-quiet p;
     fits = λ few. h .fits B T refl;
   }
 
-  -- new: a class that is cached has no more fields than a row has room for
-  pub acted-make : (c : ℕ) → i ≡ New c → Making N L K E O F b d loader c p → ((e : ℕ) → find (B .cache) (at loader c) ≡ some e → sizeOf B e ≤ 16)
+  -- new, where o is the lowest number unused: a class that is cached has no more fields than a row has room for
+  pub acted-make : (c o : ℕ) → i ≡ New c → o ≡ unusedFrom N 0 → Making N L K E O F b d loader c o p → ((e : ℕ) → find (B .cache) (at loader c) ≡ some e → sizeOf B e ≤ 16)
       → Acted N L K E I S O F k m b d loader i Nothing p
   unfolding toPost
-  acted-make c q h sizes = record {
+  acted-make c o q u h sizes = record {
     says = λ a y n e.
-        ap (λ (w : World). meaning w (objectsOf B T) (stack (frameIn F k) m) F b (y + n) p) (posted-none (worldIn B T))
-        ∙ rw q (h .says I S (stack (frameIn F k) m) a y n e);
+        ap (λ (w : World). meaning k w (objectsOf B T) (stack (frameIn F k) m) F b (y + n) p) (posted-none (worldIn B T))
+        ∙ rw q (h .says u I S k (stack (frameIn F k) m) a y n e);
     ties = omega arith;
     quiet = nothing-quiet p;
-    fits = λ few. h .fits sizes I S k m;
+    fits = λ few. h .fits u sizes I S k m;
   }
 
 -- An access: what is missing is refused; what was found is settled with its ties
@@ -217,7 +218,7 @@ module _ (N L K E I S O F : List ℕ) (k m b d loader : ℕ) (i : Instruction) (
   pub acted-unresolved : (r : Refusal) → Accessing N L K E O F b d loader room first second i (Unresolved r) → Acted N L K E I S O F k m b d loader i Nothing (Refuse r)
   unfolding toPost accessed meaning
   acted-unresolved r h = record {
-    says = λ c y n e. h .says I S (stack (frameIn F k) m) c y n e;
+    says = λ c y n e. h .says I S k (stack (frameIn F k) m) c y n e;
     ties = omega arith;
     quiet = refl;
     fits = λ few. tt;
@@ -229,8 +230,8 @@ module _ (N L K E I S O F : List ℕ) (k m b d loader : ℕ) (i : Instruction) (
   unfolding accessed
   acted-resolved one plan p x z h q s = record {
     says = λ c y n e.
-        s .says O F (objectsOf (quickBase N L K E) (tables N L K E I S O F)) (stack (frameIn F k) m) F b (y + n)
-        ∙ rw q (h .says I S (stack (frameIn F k) m) c y n e);
+        s .says O F k (objectsOf (quickBase N L K E) (tables N L K E I S O F)) (stack (frameIn F k) m) F b (y + n)
+        ∙ rw q (h .says I S k (stack (frameIn F k) m) c y n e);
     ties = s .ties;
     quiet = s .quiet;
     fits = λ few. chosen few (s .either);

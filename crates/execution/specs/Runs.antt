@@ -11,10 +11,14 @@ use Rattle.definition.specs.declared.Answer.the-variants.{Idle, Ran, Finished, 
 use Rattle.definition.specs.declared.Reply.{Reply}
 use Rattle.definition.specs.declared.Reply.the-variants.{RanFor, Denied}
 use Rattle.definition.specs.declared.Refusal.the-variants.{Word}
-use Rattle.definition.specs.Tables.{Tables}
+use Rattle.definition.specs.Machine.{Objects, unused}
+use Rattle.definition.specs.Tables.{Tables, viewBase, objectsOf, viewOver, view}
 use Rattle.definition.specs.Broken.{broken}
 use Rattle.definition.specs.Calls.{Done, done, stepTables, goOn, runFrom, run}
+use Rattle.laws.specs.Objects.{unused-lowest, Numbered, numbered-exists}
 use Rattle.unbroken.specs.Unbroken.{step-unbroken}
+use Rattle.unbroken.specs.Parts.{step-leaves}
+use Rattle.frames.specs.Unused.{unusedFrom, unused-is, unused-on}
 
 -- a run goes on after this answer
 abbrev pub goesOn : Answer → Bool
@@ -52,6 +56,15 @@ module _ (n k : ℕ) (a b : Answer) (t u : Tables) (steps : done b u ≡ stepTab
   -- a store that is not broken stays so
   pub still-whole : broken t ≡ false → broken u ≡ false
   still-whole h = rw (← ap (λ (d : Done Answer). d .tables) steps) at (step-unbroken t h)
+
+  -- a step frees no row: those below the lowest unused stay in use, and the next is sought from there on
+  pub next-unused : unusedFrom (u .counts) (unusedFrom (t .counts) 0) ≡ unusedFrom (u .counts) 0
+  unfolding view viewOver
+  next-unused =
+      let os : Objects = objectsOf (viewBase t) t in
+      let lasts : Numbered os (objectsOf (viewBase u) u) = rw (← ap (λ (d : Done Answer). d .tables) steps) at (step-leaves t .objects) in
+      rw (unused-is (viewBase t) t)
+      (unused-on (viewBase u) u (unused os) (λ o l. numbered-exists os (objectsOf (viewBase u) u) lasts o (unused-lowest os o l)) ∙ sym (unused-is (viewBase u) u))
 
 pub run-ends : (n k : ℕ) (a : Answer) (t : Tables) → n ≤ k → done (RanFor k a) t ≡ runFrom stepTables (n - k) k a t
 unfolding runFrom

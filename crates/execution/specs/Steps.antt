@@ -16,7 +16,7 @@ use Rattle.definition.specs.declared.Instruction.{Instruction}
 use Rattle.definition.specs.Instructions.{Decoded, opcodeOf, inlineLength, sizedAs, instructionOf, decode}
 use Rattle.definition.specs.declared.Refusal.the-variants.{Word}
 use Rattle.definition.specs.Answers.{Result, refused, ok, _>>=_, take?}
-use Rattle.definition.specs.Machine.{Object, Frame, Progress, Now, now, execute, step}
+use Rattle.definition.specs.Machine.{Objects, Frame, Progress, Now, now, execute, step}
 use Rattle.definition.specs.Tables.{Tables, tables, classRowAt, sizeOf, operandAt, frameOf, frameAt, frameBase, frameIn, classRowsOf, keptOf, cacheOf, viewBase, objectsOf, framesOf, viewOver, view}
 use Rattle.definition.specs.Broken.{broken}
 use Rattle.layout.specs.Places.{rows-at, rows-past, stack-length}
@@ -51,14 +51,14 @@ decode-nothing : (v p : ℕ) → decode v [] p ≡ none
 unfolding decode
 decode-nothing v p = rw (lt-leb (p + suc (inlineLength (opcodeOf v 0))) 0 (omega arith), decode)
 
-module _ (w : World) (os : List Object) (f : Frame) (fs : List Frame) where
+module _ (task : ℕ) (w : World) (os : Objects) (f : Frame) (fs : List Frame) where
   -- no instruction can be read
-  pub step-unreadable : decode (versionOf (w .base) (f .class)) (codeOf (w .base) f) (f .point) ≡ none → step w os f fs ≡ refused (Word 14)
+  pub step-unreadable : decode (versionOf (w .base) (f .class)) (codeOf (w .base) f) (f .point) ≡ none → step task w os f fs ≡ refused (Word 14)
   unfolding step now take? _>>=_ codeOf codeIn methodsOf versionOf
   step-unreadable h = class (getElem? (w .base .classes) (f .class)) h
     where
       finish : Now → Result Progress
-      finish n = execute w os f fs (n .theClass) (n .at) (n .at .instruction)
+      finish n = execute task w os f fs (n .theClass) (n .at) (n .at .instruction)
 
       method : (k : Class) (o : Option Method) → decode (k .version) (elim o as (λ _. List ℕ) [ none ↦ [] | some m ↦ m .code ]) (f .point) ≡ none
           → ((take? o (Word 14) >>= λ m. take? (decode (k .version) (m .code) (f .point)) (Word 14) >>= λ i. ok (record { theClass = k; method = m; at = i })) >>= finish) ≡ refused (Word 14)
@@ -74,16 +74,16 @@ module _ (w : World) (os : List Object) (f : Frame) (fs : List Frame) where
 
   -- the instruction that is read, of a class with the frame class's loader
   pub step-readable : (i : Decoded) → decode (versionOf (w .base) (f .class)) (codeOf (w .base) f) (f .point) ≡ some i
-      → (k : Class) × (k .loader ≡ loaderOf (w .base) (f .class)) × (step w os f fs ≡ execute w os f fs k i (i .instruction))
+      → (k : Class) × (k .loader ≡ loaderOf (w .base) (f .class)) × (step task w os f fs ≡ execute task w os f fs k i (i .instruction))
   unfolding step now take? _>>=_ codeOf codeIn methodsOf versionOf loaderOf
   step-readable i h = class (getElem? (w .base .classes) (f .class)) h
     where
       finish : Now → Result Progress
-      finish n = execute w os f fs (n .theClass) (n .at) (n .at .instruction)
+      finish n = execute task w os f fs (n .theClass) (n .at) (n .at .instruction)
 
       method : (k : Class) (o : Option Method) → decode (k .version) (elim o as (λ _. List ℕ) [ none ↦ [] | some m ↦ m .code ]) (f .point) ≡ some i
           → ((take? o (Word 14) >>= λ m. take? (decode (k .version) (m .code) (f .point)) (Word 14) >>= λ i. ok (record { theClass = k; method = m; at = i })) >>= finish)
-          ≡ execute w os f fs k i (i .instruction)
+          ≡ execute task w os f fs k i (i .instruction)
       method k none e = absurd (Option·none-ne-some i (sym (decode-nothing (k .version) (f .point)) ∙ e))
       method k (some m) e = rw e
 
@@ -91,7 +91,7 @@ module _ (w : World) (os : List Object) (f : Frame) (fs : List Frame) where
           → decode (elim o as (λ _. ℕ) [ none ↦ 0 | some k ↦ k .version ]) (elim (getElem? {A = Method} (elim o as (λ _. List Method) [ none ↦ [] | some k ↦ k .methods ]) (f .method)) as (λ _. List ℕ) [ none ↦ [] | some m ↦ m .code ]) (f .point) ≡ some i
           → (k : Class) × (k .loader ≡ (elim o as (λ _. ℕ) [ none ↦ 0 | some k ↦ k .loader ]))
           × (((take? o (Word 14) >>= λ k. take? (getElem? (k .methods) (f .method)) (Word 14) >>= λ m.
-          take? (decode (k .version) (m .code) (f .point)) (Word 14) >>= λ i. ok (record { theClass = k; method = m; at = i })) >>= finish) ≡ execute w os f fs k i (i .instruction))
+          take? (decode (k .version) (m .code) (f .point)) (Word 14) >>= λ i. ok (record { theClass = k; method = m; at = i })) >>= finish) ≡ execute task w os f fs k i (i .instruction))
       class none e = absurd (Option·none-ne-some i (sym (decode-nothing 0 (f .point)) ∙ e))
       class (some k) e = (k, refl, method k (getElem? (k .methods) (f .method)) e)
 
@@ -146,8 +146,8 @@ module _ (t : Tables) (h : broken t ≡ false) where
     pub depth-few : getD (t .frames) (frameBase k m + 3) 0 ≤ 16
     depth-few = go k two (frames-top t k m count)
       where
-        few : (k n o : ℕ) → Frames n o (frameIn (t .frames) k m) → getD (t .frames) (frameBase k m + 3) 0 ≤ 16
-        few k n o f = unfold frameIn frameAt frameOf in rw (stack-length (operandAt (t .frames) (frameBase k m)) (getD (t .frames) (frameBase k m + 3) 0)) at (f .depth)
+        few : (k n : ℕ) (X : ℕ → Type 0) → Frames n X (frameIn (t .frames) k m) → getD (t .frames) (frameBase k m + 3) 0 ≤ 16
+        few k n X f = unfold frameIn frameAt frameOf in rw (stack-length (operandAt (t .frames) (frameBase k m)) (getD (t .frames) (frameBase k m + 3) 0)) at (f .depth)
 
         go : (k : ℕ) → k < 2 → framesOf t k ≡ frameIn (t .frames) k m ∷ stack (frameIn (t .frames) k) m → getD (t .frames) (frameBase k m + 3) 0 ≤ 16
         go zero l e = unfold view viewOver in few 0 _ _ ((rw e at (facts .sounds .quote)) .0)
@@ -238,8 +238,8 @@ IsTop N L F t = (t .base ≡ frameBase (t .task) (t .row)) × (t .depth ≡ getD
 
 pub record Chosen (N L K E I S O F : List ℕ) (k m b : ℕ) (x : Posting) (p : Plan) (q : ℕ) : Type 0 where
   pub says : (let B = quickBase N L K E in let t = tables N L K E I S O F in
-      meaning (posted (worldIn B t) (toPost x)) (objectsOf B t) (stack (frameIn F k) m) F (frameBase k m) q p
-      ≡ step (worldIn B t) (objectsOf B t) (frameIn F k m) (stack (frameIn F k) m))
+      meaning k (posted (worldIn B t) (toPost x)) (objectsOf B t) (stack (frameIn F k) m) F (frameBase k m) q p
+      ≡ step k (worldIn B t) (objectsOf B t) (frameIn F k m) (stack (frameIn F k) m))
   pub ready : Ready (quickBase N L K E) (tables N L K E I S O F) k m b (toPost x) p
 
 module _ (N L K E I S O F : List ℕ) (whole : broken (tables N L K E I S O F) ≡ false) (k m b : ℕ) (two : k < 2) (count : getD N (6 + k) 0 ≡ suc m) (row : b ≡ frameBase k m) where
@@ -270,7 +270,7 @@ module _ (N L K E I S O F : List ℕ) (whole : broken (tables N L K E I S O F) �
     pub chosen-unreadable : (q : ℕ) → decode v code p ≡ none → Chosen N L K E I S O F k m b Nothing (Refuse (Word 14)) q
     unfolding meaning toPost
     chosen-unreadable q h = record {
-      says = sym (step-unreadable (worldIn B T) (objectsOf B T) (frameIn F k m) (stack (frameIn F k) m) (here ∙ h));
+      says = sym (step-unreadable k (worldIn B T) (objectsOf B T) (frameIn F k m) (stack (frameIn F k) m) (here ∙ h));
       ready = ready Nothing (Refuse (Word 14)) (omega (arith, usable T whole .counts .ties)) refl tt;
     }
 
@@ -281,7 +281,7 @@ module _ (N L K E I S O F : List ℕ) (whole : broken (tables N L K E I S O F) �
     pub chosen : (i : Instruction) (n d loader : ℕ) (x : Posting) (r : Plan) → decode v code p ≡ some (decoded i n) → d ≡ getD F (b + 3) 0 → loader ≡ loaderIn N L c
         → Acted N L K E I S O F k m b d loader i x r → Chosen N L K E I S O F k m b x r (p + n)
     chosen i n d loader x r h e l a =
-        let s = step-readable (worldIn B T) (objectsOf B T) (frameIn F k m) (stack (frameIn F k) m) (decoded i n) (here ∙ h) in
+        let s = step-readable k (worldIn B T) (objectsOf B T) (frameIn F k m) (stack (frameIn F k) m) (decoded i n) (here ∙ h) in
         record {
           says = rw (← row) (a .says (s .0) p n (s .1 ∙ loads) ∙ (framed (s .0) ∙ sym (s .2)));
           ready = ready x r (a .ties) (a .quiet) (a .fits (rw (e, row) (depth-few T whole k m two count)));
@@ -290,6 +290,6 @@ module _ (N L K E I S O F : List ℕ) (whole : broken (tables N L K E I S O F) �
         loads : loaderOf B (frameIn F k m .class) ≡ loader
         loads = unfold frameIn frameAt frameOf in rw (l, class, row) (loader-quick N L K E (getD F (frameBase k m) 0))
 
-        framed : (a : Class) → execute (worldIn B T) (objectsOf B T) (frameOf F b p d) (stack (frameIn F k) m) a (decoded i n) i
-            ≡ execute (worldIn B T) (objectsOf B T) (frameIn F k m) (stack (frameIn F k) m) a (decoded i n) i
+        framed : (a : Class) → execute k (worldIn B T) (objectsOf B T) (frameOf F b p d) (stack (frameIn F k) m) a (decoded i n) i
+            ≡ execute k (worldIn B T) (objectsOf B T) (frameIn F k m) (stack (frameIn F k) m) a (decoded i n) i
         framed a = unfold frameIn frameAt in rw (point, e, row)

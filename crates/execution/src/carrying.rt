@@ -11,13 +11,14 @@ use instructions::Plan;
 use posting::Posting;
 ghost use mathlib.Core.Path.{_≡_};
 ghost use mathlib.Core.List.{[]};
-ghost use Prim.Native.Nat.{_+_, _-_, _<_, _≤_};
+ghost use Prim.Native.Nat.{suc, _+_, _-_, _<_, _≤_};
 ghost use lib.ListN.{length, getD, set};
-ghost use Rattle.definition.specs.Numbers.{tieLimit, objectLimit, fieldLimit, frameLimit, operandLimit, countTies, countObjects, countFrames, depthCell};
+ghost use Rattle.definition.specs.Numbers.{tieLimit, objectLimit, fieldLimit, frameLimit, operandLimit, countTies, countObjects, countFrames, ownersCell, depthCell};
 ghost use Rattle.definition.specs.Lists.{writeRows};
 ghost use Rattle.definition.specs.Machine.{objectValue, newObject, entryFrame};
 ghost use Rattle.definition.specs.Tables.{tables, putTie, valueOf, sizeOf, putObject, putOperand, putLocal, putFrame, frameBase};
 ghost use Rattle.layout.specs.Cells.{moved};
+ghost use Rattle.layout.specs.OwnedRows.{rowsWith};
 ghost use Rattle.resolution.specs.Quick.{quickBase};
 ghost use Rattle.instructions.specs.Plans.{Fit};
 ghost use Rattle.posting.specs.Postings.{toPost};
@@ -98,7 +99,25 @@ pub(crate) fn write_new(
     frames::write_object(objects, o, c, &types, n as u8);
 }
 
-// An object of class c made, with the next number, which is pushed.
+// How many rows of objects there are, of n before, where row o is taken.
+fn rows_with(o: u16, n: u16) -> u16
+    requires { ⌜ o < objectLimit ⌝ }
+    ensures { λ r. ⌜ r ≡ rowsWith o n ⌝ }
+{
+    if o < n { n } else { n + 1 }
+}
+
+// Row o of objects taken by a task: the object count, which rises only if the row is the next, and the row's owner.
+pub(crate) fn take_row(counts: &mut [u16], o: u16, task: u8)
+    requires { ⌜ o < objectLimit ⌝ }
+    ensures { λ _. ⌜ now (counts .exit) ≡ set (set (now (counts .entry)) countObjects (rowsWith o (getD (now (counts .entry)) countObjects 0))) (ownersCell + o) (suc task) ⌝ }
+{
+    let n = cells::at16(counts, COUNT_OBJECTS);
+    cells::put16(counts, COUNT_OBJECTS, rows_with(o, n));
+    frames::write_owner(counts, cells::from16(o), cells::from8(task) + 1);
+}
+
+// An object of class c made by a task, with the number o, which is pushed.
 fn make(
     counts: &mut [u16],
     classes: &[u16],
@@ -106,18 +125,19 @@ fn make(
     cache: &[u16],
     objects: &mut [u32],
     frames: &mut [u32],
+    task: u8,
     b: u32,
     q: u32,
     d: u32,
     c: u32,
+    o: u16,
 )
-    requires { ⌜ (d < operandLimit) × (getD (now counts) countObjects 0 < objectLimit) × (sizeOf (quickBase (now counts) (now classes) (now kept) (now cache)) c ≤ fieldLimit) ⌝ }
-    ensures counted { λ _. ⌜ now (counts .exit) ≡ set (now (counts .entry)) countObjects (getD (now (counts .entry)) countObjects 0 + 1) ⌝ }
-    ensures made { λ _. ⌜ now (objects .exit) ≡ putObject (now (objects .entry)) (getD (now (counts .entry)) countObjects 0) (newObject (quickBase (now (counts .entry)) (now (classes .entry)) (now (kept .entry)) (now (cache .entry))) c) ⌝ }
-    ensures pushed { λ _. ⌜ now (frames .exit) ≡ putOperand b (moved (now (frames .entry)) b q (d + 1)) d (objectValue (getD (now (counts .entry)) countObjects 0)) ⌝ }
+    requires { ⌜ (d < operandLimit) × (o < objectLimit) × (sizeOf (quickBase (now counts) (now classes) (now kept) (now cache)) c ≤ fieldLimit) ⌝ }
+    ensures counted { λ _. ⌜ now (counts .exit) ≡ set (set (now (counts .entry)) countObjects (rowsWith o (getD (now (counts .entry)) countObjects 0))) (ownersCell + o) (suc task) ⌝ }
+    ensures made { λ _. ⌜ now (objects .exit) ≡ putObject (now (objects .entry)) o (newObject (quickBase (now (counts .entry)) (now (classes .entry)) (now (kept .entry)) (now (cache .entry))) c) ⌝ }
+    ensures pushed { λ _. ⌜ now (frames .exit) ≡ putOperand b (moved (now (frames .entry)) b q (d + 1)) d (objectValue o) ⌝ }
 {
-    let n = cells::at16(counts, COUNT_OBJECTS);
-    write_new(counts, classes, kept, cache, objects, cells::from16(n), c);
+    write_new(counts, classes, kept, cache, objects, cells::from16(o), c);
     push(
         frames,
         b,
@@ -125,10 +145,10 @@ fn make(
         d,
         Cell {
             kind: KIND_OBJECT,
-            bits: cells::from16(n),
+            bits: cells::from16(o),
         },
     );
-    cells::put16(counts, COUNT_OBJECTS, n + 1);
+    take_row(counts, o, task);
 }
 
 // A plan carried out: the top frame of a task goes on at point q.
@@ -177,7 +197,7 @@ pub(crate) fn carry_out(
             enter(counts, frames, top, q, d, e);
             Answer::Ran(top.task)
         }
-        Plan::Make(d, c) => {
+        Plan::Make(d, c, o) => {
             make(
                 counts,
                 classes,
@@ -185,10 +205,12 @@ pub(crate) fn carry_out(
                 cache,
                 objects,
                 frames,
+                top.task,
                 top.base,
                 q,
                 d,
                 c,
+                o,
             );
             Answer::Ran(top.task)
         }

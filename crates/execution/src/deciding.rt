@@ -17,11 +17,12 @@ ghost use lib.ListN.{getD};
 ghost use Rattle.definition.specs.Numbers.{taskLimit, frameLimit, loaderLimit, countFrames};
 ghost use Rattle.definition.specs.Tables.{tables};
 ghost use Rattle.definition.specs.Broken.{broken};
+ghost use Rattle.frames.specs.Unused.{unusedFrom};
 ghost use Rattle.resolution.specs.Quick.{loaderIn};
 ghost use Rattle.execution.specs.Steps.{IsTop, Chosen};
 ghost use Rattle.execution.specs.Decisions.{Usable, Acted};
 
-// The decision on an instruction of the top frame of a task.
+// The decision on an instruction of the top frame of a task; `free` is the lowest number unused.
 fn act(
     counts: &[u16],
     classes: &[u16],
@@ -33,8 +34,9 @@ fn act(
     frames: &[u32],
     top: Top,
     i: Instruction,
+    free: u16,
 ) -> Decision
-    requires { ⌜ Usable (now counts) (now classes) (now kept) (now cache) (now ties) × (top .row < frameLimit) ⌝ }
+    requires { ⌜ Usable (now counts) (now classes) (now kept) (now cache) (now ties) × (top .row < frameLimit) × (free ≡ unusedFrom (now counts) 0) ⌝ }
     ensures { λ r. ⌜ Acted (now (counts .entry)) (now (classes .entry)) (now (kept .entry)) (now (cache .entry)) (now (ties .entry)) (now (subtypes .entry)) (now (objects .entry)) (now (frames .entry)) (top .task) (top .row) (top .base) (top .depth) (top .loader) i (r .posting) (r .plan) ⌝ }
 {
     match i {
@@ -115,6 +117,7 @@ fn act(
             frames,
             top,
             class,
+            free,
         )),
         Instruction::Return(k) => plain(instructions::give_back(frames, top, k)),
     }
@@ -143,7 +146,7 @@ pub(crate) fn top_frame(counts: &[u16], classes: &[u16], frames: &[u32], task: u
     }
 }
 
-// The choice for the top frame of a task.
+// The choice for the top frame of a task; `free` is the lowest number unused.
 pub(crate) fn choose(
     counts: &[u16],
     classes: &[u16],
@@ -154,8 +157,9 @@ pub(crate) fn choose(
     objects: &[u32],
     frames: &[u32],
     top: Top,
+    free: u16,
 ) -> Choice
-    requires { ⌜ (broken (tables (now counts) (now classes) (now kept) (now cache) (now ties) (now subtypes) (now objects) (now frames)) ≡ false) × (top .task < taskLimit) × (getD (now counts) (countFrames + top .task) 0 ≡ suc (top .row)) × IsTop (now counts) (now classes) (now frames) top ⌝ }
+    requires { ⌜ (broken (tables (now counts) (now classes) (now kept) (now cache) (now ties) (now subtypes) (now objects) (now frames)) ≡ false) × (top .task < taskLimit) × (getD (now counts) (countFrames + top .task) 0 ≡ suc (top .row)) × IsTop (now counts) (now classes) (now frames) top × (free ≡ unusedFrom (now counts) 0) ⌝ }
     ensures { λ r. ⌜ Chosen (now (counts .entry)) (now (classes .entry)) (now (kept .entry)) (now (cache .entry)) (now (ties .entry)) (now (subtypes .entry)) (now (objects .entry)) (now (frames .entry)) (top .task) (top .row) (top .base) (r .posting) (r .plan) (r .next) ⌝ }
 {
     let c = frames::frame_class(frames, top.base);
@@ -181,6 +185,7 @@ pub(crate) fn choose(
         frames,
         top,
         i,
+        free,
     );
     let posting = r.posting;
     let plan = r.plan;

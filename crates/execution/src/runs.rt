@@ -23,7 +23,8 @@ fn is_ran(a: Answer) -> bool
     }
 }
 
-// Up to n steps of a store that is not broken: a step leaves it so, and it isn't tested again.
+// Up to n steps of a store that is not broken: a step leaves it so, and it isn't tested again. Nor does a step free a row: the lowest number unused is sought from
+// where it was.
 fn steps(
     counts: &mut [u16],
     classes: &[u16],
@@ -40,6 +41,7 @@ fn steps(
 {
     let mut k: u16 = 0;
     let mut last = Answer::Idle;
+    let mut free = frames::unused(counts, 0);
     while k < n {
         let a = step_unbroken(
             counts,
@@ -50,10 +52,12 @@ fn steps(
             subtypes,
             objects,
             frames,
+            free,
         );
         if !is_ran(a) {
             return Reply::RanFor(k, a);
         }
+        free = frames::unused(counts, free);
         last = a;
         k += 1;
     }

@@ -1,20 +1,21 @@
 // The start of a task.
+use crate::carrying::take_row;
 use crate::carrying::write_new;
 use definition::Refusal;
 use definition::Reply;
-use definition::numbers::COUNT_OBJECTS;
 use definition::numbers::KIND_INT;
 use definition::numbers::WORD_BROKEN;
 use frames::Cell;
 use frames::Entry;
 use opening::Opening;
 ghost use mathlib.Core.Path.{_≡_};
-ghost use Prim.Native.Nat.{_+_, _<_, _≤_};
+ghost use Prim.Native.Nat.{suc, _+_, _<_, _≤_};
 ghost use lib.ListN.{getD, set};
-ghost use Rattle.definition.specs.Numbers.{objectLimit, fieldLimit, countObjects, countFrames};
+ghost use Rattle.definition.specs.Numbers.{objectLimit, fieldLimit, countObjects, countFrames, ownersCell};
 ghost use Rattle.definition.specs.Machine.{intValue, newObject, entryFrame};
 ghost use Rattle.definition.specs.Tables.{tables, sizeOf, putObject, putFrame, frameBase};
 ghost use Rattle.definition.specs.Calls.{done, callStart, perform};
+ghost use Rattle.layout.specs.OwnedRows.{rowsWith};
 ghost use Rattle.resolution.specs.Quick.{quickBase};
 ghost use Rattle.execution.specs.Starts.{Opens};
 
@@ -50,7 +51,7 @@ fn decide_start(
     opening::decide(counts, classes, kept, cache, task, loader, name, method)
 }
 
-// A task begun: a new object of class c, and a first frame in method j of class s with that object and an int.
+// A task begun: a new object of class c with the number o, and a first frame in method j of class s with that object and an int.
 fn begin(
     counts: &mut [u16],
     classes: &[u16],
@@ -62,29 +63,29 @@ fn begin(
     c: u32,
     s: u32,
     j: u32,
+    o: u16,
     value: u32,
 )
-    requires { ⌜ (getD (now counts) countObjects 0 < objectLimit) × (sizeOf (quickBase (now counts) (now classes) (now kept) (now cache)) c ≤ fieldLimit) ⌝ }
-    ensures counted { λ _. ⌜ now (counts .exit) ≡ set (set (now (counts .entry)) countObjects (getD (now (counts .entry)) countObjects 0 + 1)) (countFrames + task) 1 ⌝ }
-    ensures made { λ _. ⌜ now (objects .exit) ≡ putObject (now (objects .entry)) (getD (now (counts .entry)) countObjects 0) (newObject (quickBase (now (counts .entry)) (now (classes .entry)) (now (kept .entry)) (now (cache .entry))) c) ⌝ }
-    ensures entered { λ _. ⌜ now (frames .exit) ≡ putFrame (now (frames .entry)) (frameBase task 0) (entryFrame s j (getD (now (counts .entry)) countObjects 0) (intValue value)) ⌝ }
+    requires { ⌜ (o < objectLimit) × (sizeOf (quickBase (now counts) (now classes) (now kept) (now cache)) c ≤ fieldLimit) ⌝ }
+    ensures counted { λ _. ⌜ now (counts .exit) ≡ set (set (set (now (counts .entry)) countObjects (rowsWith o (getD (now (counts .entry)) countObjects 0))) (ownersCell + o) (suc task)) (countFrames + task) 1 ⌝ }
+    ensures made { λ _. ⌜ now (objects .exit) ≡ putObject (now (objects .entry)) o (newObject (quickBase (now (counts .entry)) (now (classes .entry)) (now (kept .entry)) (now (cache .entry))) c) ⌝ }
+    ensures entered { λ _. ⌜ now (frames .exit) ≡ putFrame (now (frames .entry)) (frameBase task 0) (entryFrame s j o (intValue value)) ⌝ }
 {
-    let n = cells::at16(counts, COUNT_OBJECTS);
-    write_new(counts, classes, kept, cache, objects, cells::from16(n), c);
+    write_new(counts, classes, kept, cache, objects, cells::from16(o), c);
     frames::write_entry(
         frames,
         frames::row(task, 0),
         Entry {
             class: s,
             method: j,
-            object: cells::from16(n),
+            object: cells::from16(o),
             argument: Cell {
                 kind: KIND_INT,
                 bits: value,
             },
         },
     );
-    cells::put16(counts, COUNT_OBJECTS, n + 1);
+    take_row(counts, o, task);
     tasks::write_frame_count(counts, task, 1);
 }
 
@@ -122,7 +123,7 @@ pub fn start(
     );
     match r {
         Opening::Deny(w) => Reply::Denied(w),
-        Opening::First(c, s, j) => {
+        Opening::First(c, s, j, o) => {
             begin(
                 counts,
                 classes,
@@ -134,6 +135,7 @@ pub fn start(
                 c,
                 s,
                 j,
+                o,
                 value,
             );
             Reply::Accepted

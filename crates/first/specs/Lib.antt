@@ -1,3 +1,14 @@
--- The first document's machine, kept, and what today's machine has in common with it.
+-- The first document's machine, kept, and what today's machine has in common with it. Machine, Tables, Broken and Calls hold its own text where a later paper
+-- changed it, so far paper 1, since which a row of objects may be free; Same holds the statements, the files between them their proofs.
 pub mod Machine
+pub mod Tables
+pub mod Broken
+pub mod Calls
+pub mod SameObjects
+pub mod Likewise
+pub mod SameSteps
+pub mod SameRows
+pub mod Carries
+pub mod Written
+pub mod SameCalls
 pub mod Same

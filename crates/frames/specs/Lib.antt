@@ -1,2 +1,3 @@
--- What rows of new frames and objects hold.
+-- What rows of new frames and objects hold, and which row of objects is the lowest unused.
 pub mod Initial
+pub mod Unused

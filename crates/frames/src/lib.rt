@@ -1,4 +1,6 @@
 // Cells of frames and objects, read and written totally. A frame's row begins at cell b; a value is a kind and 32 bits.
+mod owners; // owners.rt: owners of object rows
+
 use definition::numbers::DEPTH_CELL;
 use definition::numbers::FIELDS_CELL;
 use definition::numbers::FRAME_CELLS;
@@ -22,6 +24,10 @@ ghost use Rattle.definition.specs.Machine.{entryFrame};
 ghost use Rattle.definition.specs.Tables.{valueOf, valueAt, putCells, operandAt, putOperand, localAt, putLocal, fieldAt, putField, putHead, putFrame, putObject, frameBase};
 ghost use Rattle.layout.specs.Cells.{moved};
 ghost use Rattle.frames.specs.Initial.{initialOf, initialObject, putEmpty};
+pub use owners::is_used;
+pub use owners::owner;
+pub use owners::unused;
+pub use owners::write_owner;
 
 // The rows of a task, and the cells of a row of frames.
 const TASK_ROWS: u32 = FRAME_LIMIT as u32;

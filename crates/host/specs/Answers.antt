@@ -10,7 +10,7 @@ use Rattle.definition.specs.declared.Refusal.the-variants.{Wanted, Word}
 use Rattle.definition.specs.declared.Answer.{Answer}
 use Rattle.definition.specs.declared.Answer.the-variants.{Idle, Ran, Finished, Refused}
 use Rattle.definition.specs.declared.Reply.{Reply}
-use Rattle.definition.specs.declared.Reply.the-variants.{Accepted, Defined, Stepped, RanFor, Denied}
+use Rattle.definition.specs.declared.Reply.the-variants.{Accepted, Defined, Stepped, RanFor, Swept, Denied}
 use Rattle.definition.specs.Tables.{Tables, view}
 use Rattle.definition.specs.Calls.{Call, callStep, callRun, Done, done, turn, stepTables, ofStep, run, perform}
 use Rattle.layout.specs.Cells.{cells-sets}
@@ -22,6 +22,7 @@ kindOf (Defined c) = 1
 kindOf (Stepped a) = 2
 kindOf (RanFor n a) = 3
 kindOf (Denied r) = 4
+kindOf (Swept n) = 5
 
 -- kind, refusal's number, three details, steps that ran
 unfoldable pub answerCells : ℕ → Reply → List ℕ
@@ -60,6 +61,7 @@ numberGiven (Defined c) k = k
 numberGiven (Stepped a) k = k
 numberGiven (RanFor n a) k = 0
 numberGiven (Denied r) k = k
+numberGiven (Swept n) k = k
 
 pub reply-number : (k : ℕ) (r : Reply) → numberGiven r (details k r .refusal) ≡ numberOf r
 unfolding numberGiven details numberOf
@@ -68,6 +70,7 @@ reply-number k (Defined c) = refl
 reply-number k (Stepped a) = step-number k a
 reply-number k (RanFor n a) = refl
 reply-number k (Denied r) = refusal-number 0 r
+reply-number k (Swept n) = refl
 
 -- six cells written one after another
 pub cells-written : (a b c d e f : ℕ) (t : List ℕ)

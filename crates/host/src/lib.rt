@@ -4,10 +4,10 @@ use definition::Reply;
 ghost use mathlib.Core.Path.{_≡_};
 ghost use Rattle.definition.specs.Answers.{countOf};
 ghost use Rattle.definition.specs.Tables.{tables};
-ghost use Rattle.definition.specs.Calls.{callBoot, callDefine, callRecord, callStart, callStep, callRun, callDrop};
+ghost use Rattle.definition.specs.Calls.{callBoot, callDefine, callRecord, callStart, callStep, callRun, callDrop, callSweep};
 ghost use Rattle.host.specs.Answers.{kindOf, numberGiven, Reported, Called};
 
-// 0 accepted, 1 defined, 2 stepped, 3 ran, 4 denied.
+// 0 accepted, 1 defined, 2 stepped, 3 ran, 4 denied, 5 swept.
 fn kind_of(reply: Reply) -> u32
     ensures { λ r. ⌜ r ≡ kindOf reply ⌝ }
 {
@@ -17,6 +17,7 @@ fn kind_of(reply: Reply) -> u32
         Reply::Stepped(_) => 2,
         Reply::RanFor(_, _) => 3,
         Reply::Denied(_) => 4,
+        Reply::Swept(_) => 5,
     }
 }
 
@@ -29,6 +30,7 @@ fn count_of(reply: Reply) -> u32
         Reply::Stepped(_) => 0,
         Reply::RanFor(count, _) => cells::from16(count),
         Reply::Denied(_) => 0,
+        Reply::Swept(_) => 0,
     }
 }
 
@@ -42,6 +44,7 @@ fn number_of(reply: Reply, refusal: u8) -> u8
         Reply::Stepped(_) => refusal,
         Reply::RanFor(_, _) => 0,
         Reply::Denied(_) => refusal,
+        Reply::Swept(_) => refusal,
     }
 }
 
@@ -283,6 +286,35 @@ pub extern "C" fn tariff_drop(
         objects,
         frames,
         task,
+    );
+    report(answer, turn, reply)
+}
+
+// sweep: every object that no frame reaches is freed.
+#[no_mangle]
+pub extern "C" fn tariff_sweep(
+    counts: &mut [u16],
+    classes: &[u16],
+    kept: &[u8],
+    cache: &[u16],
+    ties: &[u16],
+    subtypes: &[u16],
+    objects: &[u32],
+    frames: &[u32],
+    answer: &mut [u32],
+) -> u8
+    ensures { λ r. ⌜ Called callSweep (tables (now (counts .entry)) (now (classes .entry)) (now (kept .entry)) (now (cache .entry)) (now (ties .entry)) (now (subtypes .entry)) (now (objects .entry)) (now (frames .entry))) (tables (now (counts .exit)) (now (classes .entry)) (now (kept .entry)) (now (cache .entry)) (now (ties .entry)) (now (subtypes .entry)) (now (objects .entry)) (now (frames .entry))) (now (answer .entry)) (now (answer .exit)) r ⌝ }
+{
+    let turn = tasks::turn(counts);
+    let reply = sweeping::sweep(
+        counts,
+        classes,
+        kept,
+        cache,
+        ties,
+        subtypes,
+        objects,
+        frames,
     );
     report(answer, turn, reply)
 }

@@ -1,10 +1,11 @@
--- What a step is going to do, as a plan of numbers, and what a plan means in rows. A plan speaks of the frame whose row begins at cell b and goes
+-- What a step is going to do, as a plan of numbers, and what a plan means in rows. A plan speaks of the frame of a task whose row begins at cell b and goes
 -- on at point q; fs are the frames below it. An instruction's function answers a plan whose meaning is what the machine does.
 use mathlib.Core.Path.{_≡_, refl}
+use mathlib.Core.Bool.{true}
 use mathlib.Core.Option.{none, some}
-use mathlib.Core.List.{List, [], _∷_, _++_}
+use mathlib.Core.List.{List, [], _∷_}
 use Prim.Native.Nat.{ℕ, suc, _+_, _-_, _<_, _≤_}
-use lib.ListN.{length, getD, set}
+use lib.ListN.{getD, set}
 use Rattle.definition.specs.Lists.{rows, stack}
 use Rattle.definition.specs.Classes.{Base, Class}
 use Rattle.definition.specs.Constraints.{World}
@@ -12,11 +13,12 @@ use Rattle.definition.specs.declared.Instruction.{Instruction}
 use Rattle.definition.specs.Instructions.{pick, Decoded}
 use Rattle.definition.specs.declared.Refusal.the-variants.{Word}
 use Rattle.definition.specs.Answers.{Result, refused, ok, _>>=_, take?}
-use Rattle.definition.specs.Machine.{Value, intValue, objectValue, Object, Frame, existing, newObject, entryFrame, Progress, give, execute}
+use Rattle.definition.specs.Machine.{Value, intValue, objectValue, Objects, Frame, existing, made, changed, newObject, entryFrame, Progress, give, execute}
 use Rattle.definition.specs.Tables.{Tables, valueOf, operandAt, localAt, frame, frameOf, frameBase, frameIn, sizeOf, usedFields, objectAt}
 use Rattle.layout.specs.Cells.{frameWith, withField}
 use Rattle.frames.specs.declared.Cell.{Cell}
 use Rattle.frames.specs.declared.Entry.{Entry}
+use Rattle.frames.specs.Unused.{isUsed, unusedFrom}
 pub use Rattle.instructions.specs.declared.Plan.{Plan}
 pub use Rattle.instructions.specs.declared.Plan.the-variants.{Refuse, Keep, Above, Local, Give, Finish, Field, Enter, Make}
 
@@ -31,8 +33,8 @@ withAbove F b q d v = frameWith F b q (v ∷ stack (operandAt F b) d) (rows (loc
 abbrev pub withLocal : List ℕ → ℕ → ℕ → ℕ → ℕ → Value → Frame
 withLocal F b q d j v = frameWith F b q (stack (operandAt F b) d) (set (rows (localAt F b) 8 0) j v)
 
-module _ (w : World) (os : List Object) (fs : List Frame) (F : List ℕ) (b q : ℕ) where
-  abbrev leaves : List Object → List Frame → Result Progress
+module _ (task : ℕ) (w : World) (os : Objects) (fs : List Frame) (F : List ℕ) (b q : ℕ) where
+  abbrev leaves : Objects → List Frame → Result Progress
   leaves xs gs = ok (record { world = w; objects = xs; frames = gs; result = none })
 
   unfoldable pub meaning : Plan → Result Progress
@@ -42,23 +44,23 @@ module _ (w : World) (os : List Object) (fs : List Frame) (F : List ℕ) (b q : 
   meaning (Local d j v) = leaves os (withLocal F b q d j (valueOf (v .kind) (v .bits)) ∷ fs)
   meaning (Give v) = give fs w os (valueOf (v .kind) (v .bits))
   meaning (Finish v) = ok (record { world = w; objects = os; frames = []; result = some v })
-  meaning (Field d o j v) = take? (existing os o) (Word 14) >>= λ x. leaves (set os o (withField x j (valueOf (v .kind) (v .bits)))) (frameOf F b q d ∷ fs)
+  meaning (Field d o j v) = take? (existing os o) (Word 14) >>= λ x. leaves (changed os o (withField x j (valueOf (v .kind) (v .bits)))) (frameOf F b q d ∷ fs)
   meaning (Enter d e) = leaves os (entryFrame (e .class) (e .method) (e .object) (valueOf (e .argument .kind) (e .argument .bits)) ∷ frameOf F b q d ∷ fs)
-  meaning (Make d c) = leaves (os ++ (newObject (w .base) c ∷ [])) (withAbove F b q d (objectValue (length os)) ∷ fs)
+  meaning (Make d c o) = leaves (made task (newObject (w .base) c) os) (withAbove F b q d (objectValue o) ∷ fs)
 
 -- What becomes of a computed int: it stands above d operands, unless the operator refuses
 unfoldable pub computed : ℕ → Result ℕ → Plan
 computed d (refused w) = Refuse w
 computed d (ok n) = Above d (record { kind = 1; bits = n })
 
-pub computed-means : (w : World) (os : List Object) (fs : List Frame) (F : List ℕ) (b q d : ℕ) (r : Result ℕ)
-    → meaning w os fs F b q (computed d r) ≡ (r >>= λ n. ok (record { world = w; objects = os; frames = withAbove F b q d (intValue n) ∷ fs; result = none }))
+pub computed-means : (task : ℕ) (w : World) (os : Objects) (fs : List Frame) (F : List ℕ) (b q d : ℕ) (r : Result ℕ)
+    → meaning task w os fs F b q (computed d r) ≡ (r >>= λ n. ok (record { world = w; objects = os; frames = withAbove F b q d (intValue n) ∷ fs; result = none }))
 unfolding meaning computed valueOf pick _>>=_
-computed-means w os fs F b q d (refused x) = refl
-computed-means w os fs F b q d (ok n) = refl
+computed-means task w os fs F b q d (refused x) = refl
+computed-means task w os fs F b q d (ok n) = refl
 
 -- What carrying a plan out asks, where task k of the tables has m frames below its top frame and B gives the classes' fields: operands, locals,
--- fields, frames and objects that it writes have room
+-- fields, frames and objects that it writes have room, an object that it changes exists, and one that it makes gets the lowest number unused
 abbrev pub Fit : Base → Tables → ℕ → ℕ → Plan → Type 0
 Fit B t k m (Refuse r) = Unit {0}
 Fit B t k m (Keep d) = Unit {0}
@@ -66,25 +68,25 @@ Fit B t k m (Above d v) = d < 16
 Fit B t k m (Local d j v) = j < 8
 Fit B t k m (Give v) = (0 < m) × (getD (t .frames) (frameBase k (m - 1) + 3) 0 < 16)
 Fit B t k m (Finish v) = m ≡ 0
-Fit B t k m (Field d o j v) = (o < getD (t .counts) 5 0) × (j < usedFields B (objectAt B (t .objects) o .class))
+Fit B t k m (Field d o j v) = (isUsed (t .counts) o ≡ true) × (j < usedFields B (objectAt B (t .objects) o .class))
 Fit B t k m (Enter d e) = suc m < 32
-Fit B t k m (Make d c) = (d < 16) × (getD (t .counts) 5 0 < 256) × (sizeOf B c ≤ 16)
+Fit B t k m (Make d c o) = (d < 16) × (o ≡ unusedFrom (t .counts) 0) × (o < 256) × (sizeOf B c ≤ 16)
 
 pub computed-fits : (B : Base) (t : Tables) (k m d : ℕ) (r : Result ℕ) → d < 16 → Fit B t k m (computed d r)
 unfolding computed
 computed-fits B t k m d (refused w) h = tt
 computed-fits B t k m d (ok n) h = h
 
--- The plan r is right for the instruction i of a frame with d operands, whatever world, objects, frames below, class, point and size there are
+-- The plan r is right for the instruction i of a frame with d operands, whatever task, world, objects, frames below, class, point and size there are
 
 pub record FrameOnly (F : List ℕ) (b d : ℕ) (i : Instruction) (r : Plan) : Type 0 where
-  pub says : (w : World) (os : List Object) (fs : List Frame) (k : Class) (p n : ℕ)
-      → meaning w os fs F b (p + n) r ≡ execute w os (frameOf F b p d) fs k (decoded i n) i
+  pub says : (task : ℕ) (w : World) (os : Objects) (fs : List Frame) (k : Class) (p n : ℕ)
+      → meaning task w os fs F b (p + n) r ≡ execute task w os (frameOf F b p d) fs k (decoded i n) i
   pub fits : d ≤ 16 → (B : Base) (t : Tables) (k m : ℕ) → Fit B t k m r
 
 -- and of a return, where the frames below are the m lowest of task k
 
 pub record Returning (F : List ℕ) (k m b d : ℕ) (i : Instruction) (r : Plan) : Type 0 where
-  pub says : (w : World) (os : List Object) (c : Class) (p n : ℕ)
-      → meaning w os (stack (frameIn F k) m) F b (p + n) r ≡ execute w os (frameOf F b p d) (stack (frameIn F k) m) c (decoded i n) i
+  pub says : (w : World) (os : Objects) (c : Class) (p n : ℕ)
+      → meaning k w os (stack (frameIn F k) m) F b (p + n) r ≡ execute k w os (frameOf F b p d) (stack (frameIn F k) m) c (decoded i n) i
   pub fits : (B : Base) (t : Tables) → t .frames ≡ F → Fit B t k m r

@@ -39,8 +39,8 @@ pub enum Plan {
     Field(u32, u32, u8, Cell),
     // d operands stay; a frame is entered.
     Enter(u32, Entry),
-    // d operands stay; an object of a class is made, and stands above them.
-    Make(u32, u32),
+    // d operands stay; an object of a class is made, with a number, and stands above them.
+    Make(u32, u32, u16),
 }
 
 // A refusal by its word.

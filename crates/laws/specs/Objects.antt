@@ -109,7 +109,7 @@ made-exists k x os o h = (h .0, made-keeps k x os o (h .0) (h .1))
 
 -- An object changed: where it exists it becomes the new one, and every other number means what it meant
 
-changed-tail : (y : ObjectRow) (os : Objects) (o : ℕ) (x : Object) → changed (y ∷ os) (suc o) x ≡ y ∷ changed os o x
+pub changed-tail : (y : ObjectRow) (os : Objects) (o : ℕ) (x : Object) → changed (y ∷ os) (suc o) x ≡ y ∷ changed os o x
 unfolding changed
 changed-tail y os o x = go (getElem? os o)
   where
@@ -134,6 +134,14 @@ changed-there [] o b x e = absurd (Option·none-ne-some b (sym (existing-none o)
 changed-there (free ∷ os) zero b x e = absurd (Option·none-ne-some b (unfold existing objectHeld in e))
 changed-there (owned k y ∷ os) zero b x e = unfold changed existing rewritten objectHeld in refl
 changed-there (y ∷ os) (suc o) b x e = changed-next y os o x o ∙ changed-there os o b x (sym (existing-tail y os o) ∙ e)
+
+-- to what it was: nothing changes
+pub changed-same : (os : Objects) (o : ℕ) (x : Object) → existing os o ≡ some x → changed os o x ≡ os
+changed-same [] o x e = unfold changed in refl
+changed-same (free ∷ os) zero x e = absurd (Option·none-ne-some x (unfold existing objectHeld in e))
+changed-same (owned k y ∷ os) zero x e =
+    unfold changed rewritten in ap (λ (z : Object). owned k z ∷ os) (sym (Option·some-injective y x (unfold existing objectHeld in e)))
+changed-same (y ∷ os) (suc o) x e = changed-tail y os o x ∙ ap (λ (z : Objects). y ∷ z) (changed-same os o x (sym (existing-tail y os o) ∙ e))
 
 pub changed-keeps : (os : Objects) (o : ℕ) (x : Object) (p : ℕ) (b : Object) → existing os p ≡ some b
     → (existing (changed os o x) p ≡ some b) ⊎ ((p ≡ o) × (existing (changed os o x) p ≡ some x))

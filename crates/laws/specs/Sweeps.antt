@@ -37,7 +37,7 @@ pub member-right : {A : Type 0} {x : A} (xs ys : List A) → List·Memᴰ x ys �
 member-right [] ys m = m
 member-right (y ∷ xs) ys m = List·Memᴰ·tail (member-right xs ys m)
 
-member-either : {A : Type 0} {x : A} (xs ys : List A) → List·Memᴰ x (xs ++ ys) → List·Memᴰ x xs ⊎ List·Memᴰ x ys
+pub member-either : {A : Type 0} {x : A} (xs ys : List A) → List·Memᴰ x (xs ++ ys) → List·Memᴰ x xs ⊎ List·Memᴰ x ys
 member-either [] ys m = inr m
 member-either (y ∷ xs) ys (List·Memᴰ·head e) = inl (List·Memᴰ·head e)
 member-either (y ∷ xs) ys (List·Memᴰ·tail m) = elim (member-either xs ys m) [ inl a ↦ inl (List·Memᴰ·tail a) | inr b ↦ inr b ]

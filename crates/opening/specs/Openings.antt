@@ -1,8 +1,8 @@
--- What is decided on a start: a refusal, or an object's class and the first frame's method.
-use mathlib.Core.Path.{_≡_, refl}
+-- What is decided on a start: a refusal, or an object's class and number and the first frame's method.
+use mathlib.Core.Path.{_≡_, refl, _∙_}
 use mathlib.Core.Bool.{Bool, true, false, false≢true, _&&_}
 use mathlib.Core.Option.{none, some}
-use mathlib.Core.List.{List, [], _∷_, _++_}
+use mathlib.Core.List.{List, [], _∷_}
 use mathlib.Core.Logic.{_≢_}
 use Prim.Native.Nat.{ℕ, zero, suc, _+_, _<_, _≤_}
 use native.Mathlib.Omega.{arith}
@@ -14,34 +14,36 @@ use Rattle.definition.specs.Classes.{Base, find, selected, startSignature}
 use Rattle.definition.specs.Constraints.{World}
 use Rattle.definition.specs.declared.Refusal.the-variants.{Wanted, Word}
 use Rattle.definition.specs.Answers.{Result, refused, ok, _>>=_, need, take?}
-use Rattle.definition.specs.Machine.{intValue, Object, newObject, entryFrame, Progress}
+use Rattle.definition.specs.Machine.{intValue, Objects, unused, made, newObject, entryFrame, Progress}
 use Rattle.definition.specs.Loading.{started}
 use Rattle.definition.specs.Tables.{Tables, tables, frameIn, objectsOf, framesOf, viewOver, framesIn}
 use Rattle.layout.specs.Places.{stack-length}
-use Rattle.layout.specs.View.{countAt, objects-fill}
+use Rattle.layout.specs.View.{countAt}
+use Rattle.frames.specs.Unused.{unusedFrom, unused-is}
 use Rattle.resolution.specs.Quick.{quickBase}
 use Rattle.access.specs.Accesses.{worldIn}
+use Rattle.access.specs.Makings.{room-left}
 pub use Rattle.opening.specs.declared.Opening.{Opening}
 pub use Rattle.opening.specs.declared.Opening.the-variants.{Deny, First}
 
--- an answer's meaning: a refusal, or an object of class c and a first frame in method j of class s
-unfoldable pub openedAs : World → List Object → ℕ → Opening → Result Progress
-openedAs w os v (Deny r) = refused r
-openedAs w os v (First c s j) =
-    ok (record { world = w; objects = os ++ (newObject (w .base) c ∷ []); frames = entryFrame s j (length os) (intValue v) ∷ []; result = none })
+-- an answer's meaning for task k: a refusal, or an object of class c with number o and a first frame in method j of class s
+unfoldable pub openedAs : ℕ → World → Objects → ℕ → Opening → Result Progress
+openedAs k w os v (Deny r) = refused r
+openedAs k w os v (First c s j o) =
+    ok (record { world = w; objects = made k (newObject (w .base) c) os; frames = entryFrame s j o (intValue v) ∷ []; result = none })
 
--- what carrying it out asks
+-- what carrying it out asks: the number is the lowest unused
 abbrev pub OpeningFits : List ℕ → Base → ℕ → ℕ → ℕ → Opening → Type 0
 OpeningFits N B k l n (Deny r) = Unit {0}
-OpeningFits N B k l n (First c s j) = (k < 2) × (getD N 5 0 < 256) × (find (B .cache) (at l n) ≡ some c)
+OpeningFits N B k l n (First c s j o) = (k < 2) × (o ≡ unusedFrom N 0) × (o < 256) × (find (B .cache) (at l n) ≡ some c)
 
 -- The answer r is right for a start of task k in method m of class n under loader l, whatever constraints, objects and frames there are
 
 pub record Opened (N L K E : List ℕ) (k l n m : ℕ) (r : Opening) : Type 0 where
   pub says : (I S O F : List ℕ) (v : ℕ)
       → (let B = quickBase N L K E in let t = tables N L K E I S O F in
-      openedAs (worldIn B t) (objectsOf B t) v r
-      ≡ (need (ltb k 2) (Word 3) >>= λ _. started l n m v (worldIn B t) (objectsOf B t) (framesIn k (viewOver B t))))
+      openedAs k (worldIn B t) (objectsOf B t) v r
+      ≡ (need (ltb k 2) (Word 3) >>= λ _. started k l n m v (worldIn B t) (objectsOf B t) (framesIn k (viewOver B t))))
   pub fits : OpeningFits N (quickBase N L K E) k l n r
 
 -- how many frames a task has
@@ -85,39 +87,44 @@ module _ (N L K E : List ℕ) (k l n m : ℕ) where
           open-absent h = record { says = λ I S O F v. rw (lt-ltb k 2 two, known, frames-count B (tables N L K E I S O F) k two, free, there, h); fits = tt }
 
           module _ (s j : ℕ) (selects : selected B (startSignature m) c ≡ some (record { class = s; place = j })) where
-            pub open-full : 256 ≤ getD N 5 0 → Opened N L K E k l n m (Deny (Word 10))
-            unfolding openedAs need _>>=_ take? started
-            open-full h = record {
-              says = λ I S O F v.
-                  rw (
-                    lt-ltb k 2 two,
-                    known,
-                    frames-count B (tables N L K E I S O F) k two,
-                    free,
-                    there,
-                    selects,
-                    objects-fill (tables N L K E I S O F) B .count,
-                    le-ltb (getD N 5 0) 256 h,
-                  );
-              fits = tt;
-            }
+            module _ (o : ℕ) (lowest : o ≡ unusedFrom N 0) where
+              is-unused : (I S O F : List ℕ) → o ≡ unused (objectsOf B (tables N L K E I S O F))
+              is-unused I S O F = lowest ∙ unused-is B (tables N L K E I S O F)
 
-            pub open-first : getD N 5 0 < 256 → Opened N L K E k l n m (First c s j)
-            unfolding openedAs need _>>=_ take? started
-            open-first h = record {
-              says = λ I S O F v.
-                  rw (
-                    lt-ltb k 2 two,
-                    known,
-                    frames-count B (tables N L K E I S O F) k two,
-                    free,
-                    there,
-                    selects,
-                    objects-fill (tables N L K E I S O F) B .count,
-                    lt-ltb (getD N 5 0) 256 h,
-                  );
-              fits = (two, h, there);
-            }
+              pub open-full : 256 ≤ o → Opened N L K E k l n m (Deny (Word 10))
+              unfolding openedAs need _>>=_ take? started
+              open-full h = record {
+                says = λ I S O F v.
+                    rw (
+                      lt-ltb k 2 two,
+                      known,
+                      frames-count B (tables N L K E I S O F) k two,
+                      free,
+                      there,
+                      selects,
+                      room-left k (objectsOf B (tables N L K E I S O F)) o (is-unused I S O F),
+                      le-ltb o 256 h,
+                    );
+                fits = tt;
+              }
+
+              pub open-first : o < 256 → Opened N L K E k l n m (First c s j o)
+              unfolding openedAs need _>>=_ take? started
+              open-first h = record {
+                says = λ I S O F v.
+                    rw (
+                      lt-ltb k 2 two,
+                      known,
+                      frames-count B (tables N L K E I S O F) k two,
+                      free,
+                      there,
+                      selects,
+                      room-left k (objectsOf B (tables N L K E I S O F)) o (is-unused I S O F),
+                      lt-ltb o 256 h,
+                      ← is-unused I S O F,
+                    );
+                fits = (two, lowest, h, there);
+              }
 
 -- a loader that is there
 pub known-loader : (l n m : ℕ) → (ltb l 16 && leb 2 n && leb 1 m) ≡ true → l < 16

@@ -7,7 +7,6 @@ ghost use Rattle.definition.specs.Numbers.{nameObject, loaderLimit};
 ghost use Rattle.definition.specs.Classes.{startSignature};
 use definition::Refusal;
 use definition::Signature;
-use definition::numbers::COUNT_OBJECTS;
 use definition::numbers::LOADER_LIMIT;
 use definition::numbers::NAME_INT;
 use definition::numbers::NAME_OBJECT;
@@ -20,10 +19,10 @@ use definition::numbers::WORD_UNKNOWN;
 use resolution::Found;
 use resolution::Selection;
 
-// A refusal; or an object's class, and the class and the place of the first frame's method.
+// A refusal; or an object's class, the class and the place of the first frame's method, and the object's number.
 pub enum Opening {
     Deny(Refusal),
-    First(u32, u32, u32),
+    First(u32, u32, u32, u16),
 }
 
 // The loader, class name and method name that a start may speak of.
@@ -85,8 +84,9 @@ pub fn decide(
     ) else {
         return Opening::Deny(Refusal::Word(WORD_ABSENT));
     };
-    if OBJECT_LIMIT <= cells::at16(counts, COUNT_OBJECTS) {
+    let free = frames::unused(counts, 0);
+    if OBJECT_LIMIT <= free {
         return Opening::Deny(Refusal::Word(WORD_FULL));
     }
-    Opening::First(c, s, j)
+    Opening::First(c, s, j, free)
 }

@@ -10,7 +10,7 @@ use lib.Dec.{eqb}
 use borrow.Author.Tests.{eq-eqb, ne-eqb, not-true, not-false}
 use Rattle.definition.specs.Lists.{any}
 use Rattle.definition.specs.Constraints.{Tie, World, posted, tieIs, newTie}
-use Rattle.definition.specs.Machine.{Object, Frame}
+use Rattle.definition.specs.Machine.{Objects, Frame}
 use Rattle.definition.specs.Tables.{tie}
 use Rattle.instructions.specs.declared.Plan.{Plan}
 use Rattle.instructions.specs.declared.Plan.the-variants.{Refuse, Keep, Above, Local, Give, Finish, Field, Enter, Make}
@@ -117,7 +117,7 @@ Quiet us (Give v) = Unit {0}
 Quiet us (Finish v) = Unit {0}
 Quiet us (Field d o j v) = Unit {0}
 Quiet us (Enter d e) = Unit {0}
-Quiet us (Make d c) = Unit {0}
+Quiet us (Make d c o) = Unit {0}
 
 abbrev pub quietly : Posting → Plan → Posting
 quietly x (Refuse r) = Nothing
@@ -128,7 +128,7 @@ quietly x (Give v) = x
 quietly x (Finish v) = x
 quietly x (Field d o j v) = x
 quietly x (Enter d e) = x
-quietly x (Make d c) = x
+quietly x (Make d c o) = x
 
 pub quietly-quiet : (x : Posting) (p : Plan) → Quiet (toPost (quietly x p)) p
 unfolding toPost
@@ -140,20 +140,20 @@ quietly-quiet x (Give v) = tt
 quietly-quiet x (Finish v) = tt
 quietly-quiet x (Field d o j v) = tt
 quietly-quiet x (Enter d e) = tt
-quietly-quiet x (Make d c) = tt
+quietly-quiet x (Make d c o) = tt
 
-pub quietly-means : (w : World) (os : List Object) (fs : List Frame) (F : List ℕ) (b q : ℕ) (x : Posting) (p : Plan)
-    → meaning (posted w (toPost (quietly x p))) os fs F b q p ≡ meaning (posted w (toPost x)) os fs F b q p
+pub quietly-means : (task : ℕ) (w : World) (os : Objects) (fs : List Frame) (F : List ℕ) (b q : ℕ) (x : Posting) (p : Plan)
+    → meaning task (posted w (toPost (quietly x p))) os fs F b q p ≡ meaning task (posted w (toPost x)) os fs F b q p
 unfolding meaning
-quietly-means w os fs F b q x (Refuse r) = refl
-quietly-means w os fs F b q x (Keep d) = refl
-quietly-means w os fs F b q x (Above d v) = refl
-quietly-means w os fs F b q x (Local d j v) = refl
-quietly-means w os fs F b q x (Give v) = refl
-quietly-means w os fs F b q x (Finish v) = refl
-quietly-means w os fs F b q x (Field d o j v) = refl
-quietly-means w os fs F b q x (Enter d e) = refl
-quietly-means w os fs F b q x (Make d c) = refl
+quietly-means task w os fs F b q x (Refuse r) = refl
+quietly-means task w os fs F b q x (Keep d) = refl
+quietly-means task w os fs F b q x (Above d v) = refl
+quietly-means task w os fs F b q x (Local d j v) = refl
+quietly-means task w os fs F b q x (Give v) = refl
+quietly-means task w os fs F b q x (Finish v) = refl
+quietly-means task w os fs F b q x (Field d o j v) = refl
+quietly-means task w os fs F b q x (Enter d e) = refl
+quietly-means task w os fs F b q x (Make d c o) = refl
 
 pub quietly-few : (x : Posting) (p : Plan) → length (toPost (quietly x p)) ≤ length (toPost x)
 unfolding toPost
@@ -165,4 +165,4 @@ quietly-few x (Give v) = omega arith
 quietly-few x (Finish v) = omega arith
 quietly-few x (Field d o j v) = omega arith
 quietly-few x (Enter d e) = omega arith
-quietly-few x (Make d c) = omega arith
+quietly-few x (Make d c o) = omega arith

@@ -95,6 +95,6 @@ pub fn quiet(posting: Posting, plan: Plan) -> Posting
         Plan::Finish(_) => posting,
         Plan::Field(_, _, _, _) => posting,
         Plan::Enter(_, _) => posting,
-        Plan::Make(_, _) => posting,
+        Plan::Make(_, _, _) => posting,
     }
 }

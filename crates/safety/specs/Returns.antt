@@ -10,7 +10,7 @@ use Rattle.definition.specs.Answers.{Result, _>>=_}
 use Rattle.definition.specs.Classes.{Class, Method}
 use Rattle.definition.specs.Constraints.{World}
 use Rattle.definition.specs.Instructions.{Decoded}
-use Rattle.definition.specs.Machine.{Frame, Object, Value, execute, give, under! , Objects}
+use Rattle.definition.specs.Machine.{Frame, Object, Value, execute, give, under!, Objects}
 use Rattle.definition.specs.Requests.{at}
 use Rattle.definition.specs.Verifier.{Note, meetInt, returns, typeInt, typeOfName}
 use Rattle.definition.specs.declared.Kind.{Kind}

@@ -5,12 +5,12 @@ use mathlib.Core.List.{List}
 use Prim.Native.Nat.{ℕ}
 use lib.ListN.{length, set}
 use Rattle.definition.specs.Lists.{writeRows}
-use Rattle.definition.specs.Calls.{rowDefine, rowRecord, rowStart, rowDrop, Call, callBoot, callRows, callStep, callRun}
+use Rattle.definition.specs.Calls.{rowDefine, rowRecord, rowStart, rowDrop, rowSweep, Call, callBoot, callRows, callStep, callRun}
 use Rattle.definition.specs.Script.{Line}
 pub use Rattle.script.specs.declared.Command.{Command}
 pub use Rattle.script.specs.declared.Command.the-variants.{Record, Define, Start, Step, Drop, Unreadable}
 
--- a define says its file's length; no line asks for a boot or a run
+-- a define says its file's length; no line asks for a boot, a run or a sweep
 unfoldable pub commandOf : Call → Command
 commandOf callBoot = Unreadable
 commandOf (callRows (rowDefine l bs)) = Define l (length bs)
@@ -19,6 +19,7 @@ commandOf (callRows (rowStart k l n m i)) = Start k l n m i
 commandOf callStep = Step
 commandOf (callRun n) = Unreadable
 commandOf (callRows (rowDrop k)) = Drop k
+commandOf (callRows rowSweep) = Unreadable
 
 unfoldable pub said : Option Line → Command
 said none = Unreadable
@@ -33,6 +34,7 @@ fileOnto (callRows (rowStart k l n m i)) t = t
 fileOnto callStep t = t
 fileOnto (callRun n) t = t
 fileOnto (callRows (rowDrop k)) t = t
+fileOnto (callRows rowSweep) t = t
 
 unfoldable pub decoded : Option Line → List ℕ → List ℕ
 decoded none t = t

@@ -10,7 +10,7 @@ use lib.Dec.{eqb, ltb}
 use borrow.Author.Tests.{eqb-true, eqb-false, ltb-true, ltb-false}
 use Rattle.definition.specs.Maybe.{_>>=_, need}
 use Rattle.definition.specs.Lists.{isSome}
-use Rattle.definition.specs.Calls.{rowDefine, rowRecord, rowStart, rowDrop, Call, callBoot, callRows, callDefine, callRecord, callStart, callStep, callRun, callDrop}
+use Rattle.definition.specs.Calls.{rowDefine, rowRecord, rowStart, rowDrop, rowSweep, Call, callBoot, callRows, callDefine, callRecord, callStart, callStep, callRun, callDrop}
 use Rattle.definition.specs.Script.{Line, line, short, int, file, fields, command, readLine}
 use Rattle.script.specs.Parts.{Head, Field, NoField, headOf}
 use Rattle.script.specs.Files.{quickPairs, pairs-length, file-quick}
@@ -26,6 +26,7 @@ Asked n (callRows (rowStart k l m j i)) = Unit {0}
 Asked n callStep = Unit {0}
 Asked n (callRun k) = ⊥
 Asked n (callRows (rowDrop k)) = Unit {0}
+Asked n (callRows rowSweep) = ⊥
 
 pub record Facts (b n : ℕ) (l : Line) : Type 0 where
   pub letter : l .letter ≡ b

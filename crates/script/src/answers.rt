@@ -72,5 +72,11 @@ pub fn details_of(turn: u8, reply: Reply) -> Details
         Reply::Stepped(answer) => step_details(turn, answer),
         Reply::RanFor(_, answer) => step_details(turn, answer),
         Reply::Denied(refusal) => refusal_details(0, refusal),
+        Reply::Swept(freed) => Details {
+            refusal: 0,
+            one: cells::from16(freed),
+            two: 0,
+            three: 0,
+        },
     }
 }

@@ -10,6 +10,7 @@ pub mod RefusingSteps
 pub mod First
 pub mod Desk
 pub mod Unbroken
+pub mod Sweeping
 pub mod OnRows
 pub mod Record
 pub mod Loaded

@@ -6,13 +6,15 @@ use reference::answer::{denied, word};
 use reference::broken::unbroken;
 use reference::classes::Classes;
 use reference::code::Instruction;
+use reference::gen::reach::{reached, Without};
 use reference::gen::Call;
 use reference::step::{instruction_of, take_step};
-use reference::store::{cell, count, frame_base, FIELDS, LIMITS};
+use reference::store::{cell, count, frame_base, FIELDS, FREE, LIMITS};
 use reference::{step, Answer, Refusal, Reply, Store};
 
 use crate::judged::{agrees, Judge};
 use crate::made::{post, write};
+use crate::swept;
 
 /// The name of the fault and the calls that have it.
 type Fault = (&'static str, fn(&Call, &mut Store) -> Option<Reply>);
@@ -21,8 +23,8 @@ type Fault = (&'static str, fn(&Call, &mut Store) -> Option<Reply>);
 const DESK: &str = "desk-skips-the-verifier";
 
 /// Each takes over the calls that it answers wrongly. First the machines that document 01 bars, with a table that is called full where one
-/// row, byte or field is left for each that has a limit, then what learners do.
-const FAULTS: [Fault; 26] = [
+/// row, byte or field is left for each that has a limit, then what learners do, and last what they do about dead objects.
+const FAULTS: [Fault; 44] = [
     ("run-does-one-step", |call, store| match *call {
         Call::Run { n } => match (call.apply(&mut store.clone()), step(store)) {
             (Reply::RanFor(..), answer @ Answer::Ran(_)) => Some(Reply::RanFor(n as u16, answer)),
@@ -113,10 +115,38 @@ const FAULTS: [Fault; 26] = [
         }
         Some(reply)
     }),
+    ("boot-clears-the-owners", |call, store| {
+        let reply = call.apply(store);
+        if (call, reply) == (&Call::Boot, Reply::Accepted) {
+            store.counts[count::OWNERS..].fill(FREE);
+        }
+        Some(reply)
+    }),
+    ("sweep-forgets-locals", |call, store| swept::without(call, store, Without::Locals)),
+    ("sweep-forgets-operands", |call, store| swept::without(call, store, Without::Operands)),
+    ("sweep-forgets-frames-that-wait", |call, store| swept::without(call, store, Without::LowerFrames)),
+    ("sweep-forgets-the-report", |call, store| swept::without(call, store, Without::Report)),
+    ("sweep-follows-one-link", |call, store| swept::without(call, store, Without::FarLinks)),
+    ("sweep-forgets-inherited-fields", |call, store| swept::without(call, store, Without::InheritedFields)),
+    ("sweep-frees-all", |call, store| swept::keeping(call, store, |_| Default::default())),
+    ("sweep-frees-nothing", |call, store| swept::keeping(call, store, |store| store.objects_in_use().collect())),
+    ("sweep-tells-how-many-are-reached", |call, store| {
+        swept::swept(call, store, |before, _, freed| *freed = reached(before, Without::Nothing).len() as u16)
+    }),
+    ("sweep-tells-how-many-are-free", |call, store| {
+        swept::swept(call, store, |_, store, freed| *freed = swept::free(store).count() as u16)
+    }),
+    ("sweep-lowers-the-count", |call, store| swept::swept(call, store, |_, store, _| swept::lower_the_count(store))),
+    ("sweep-clears-the-rows", |call, store| swept::swept(call, store, |_, store, _| swept::clear_free_rows(store))),
+    ("numbers-are-never-used-again", |call, store| swept::never_again(call, store, swept::is_room)),
+    ("freed-objects-count-for-full", |call, store| swept::never_again(call, store, |used| !swept::is_room(used))),
+    ("all-objects-are-the-quotes", swept::all_are_the_quotes),
+    ("free-rows-are-looked-at", swept::checks_free_rows),
+    ("a-freed-number-may-be-named", swept::takes_freed_numbers),
 ];
 
 /// A step, or a run of such steps, on a store that isn't broken.
-fn stepping(call: &Call, store: &mut Store, step: impl Fn(&mut Store, &Classes) -> Answer) -> Option<Reply> {
+pub fn stepping(call: &Call, store: &mut Store, step: impl Fn(&mut Store, &Classes) -> Answer) -> Option<Reply> {
     let classes = unbroken(store)?;
     match *call {
         Call::Step => Some(Reply::Stepped(step(store, &classes))),

@@ -7,7 +7,8 @@
 use std::time::{Duration, Instant};
 
 use reference::gen::large::{
-    chain, chain_define, chain_record, full, grid, grid_record, posting, tall_tree, tree, usual, usual_define, usual_record, Repeated,
+    chain, chain_define, chain_record, full, grid, grid_record, making, objects, posting, tall_tree, tree, usual, usual_define,
+    usual_record, Held, Repeated,
 };
 use reference::gen::{Call, Trial};
 use reference::host::{self, CELLS};
@@ -56,7 +57,7 @@ struct Case {
     call: Call,
     /// How often a round makes the call, if that is fixed; else as often as fits a quarter of a millisecond, at least once.
     times: Option<usize>,
-    /// Does the call go on from the store that it left? Otherwise the counts are set back before the next: rows past them are free.
+    /// Does the call go on from the store that it left? Otherwise counts and owners are set back before the next: rows past them are free.
     goes_on: bool,
     /// By what the time of one call is divided.
     units: f64,
@@ -129,7 +130,12 @@ fn figure(nanoseconds: f64) -> String {
 }
 
 fn runs() -> Vec<Case> {
-    vec![Case::run("tree", tree()), Case::run("tall tree", tall_tree())]
+    vec![
+        Case::run("tree", tree()),
+        Case::run("tall tree", tall_tree()),
+        Case::run("254 objects in new rows", making(false)),
+        Case::run("254 objects in freed rows", making(true)),
+    ]
 }
 
 fn steps() -> Vec<Case> {
@@ -155,6 +161,19 @@ fn loads() -> Vec<Case> {
     ]
 }
 
+/// A sweep of 256 objects, and beside it a step on the same store, which looks at the store and pushes a null or takes it off, or is idle.
+fn sweeps() -> Vec<Case> {
+    let stores = [
+        ("one chain upward", Held::Upward), ("one chain downward", Held::Downward), ("all reached from frames", Held::ByFrames),
+        ("none reached", Held::Nothing),
+    ];
+    let both = |(name, held): (&str, Held)| {
+        let store = objects(held);
+        [Case::new(format!("sweep, {name}"), store.clone(), Call::Sweep), Case::steps(&format!("step, {name}"), store)]
+    };
+    stores.into_iter().flat_map(both).collect()
+}
+
 /// How the cost grows: entries after the call, and ties, with as many subtype constraints.
 fn growth() -> Vec<Case> {
     let mut all = Vec::new();
@@ -175,8 +194,8 @@ fn bytes() -> usize {
 
 fn profile(side: &str, name: &str) {
     let (_, side) = SIDES.iter().find(|(label, _)| *label == side).expect("verified or second");
-    let all = runs().into_iter().chain(steps()).chain(loads()).chain(growth());
-    let case = all.into_iter().find(|case| case.name.starts_with(name)).expect("a name of a case");
+    let mut all = tables().into_iter().flat_map(|(_, cases)| cases);
+    let case = all.find(|case| case.name.starts_with(name)).expect("a name of a case");
     let mut store = case.store.clone();
     let times = case.times.unwrap_or(20);
     let (clock, mut rounds) = (Instant::now(), 0);
@@ -187,12 +206,20 @@ fn profile(side: &str, name: &str) {
     println!("{}: {} calls", case.name, rounds * times);
 }
 
+/// Every table with its cases.
+fn tables() -> [(&'static str, Vec<Case>); 5] {
+    [
+        ("run", runs()), ("step", steps()), ("sweep of 256 objects", sweeps()), ("record and define", loads()),
+        ("record, one chain", growth()),
+    ]
+}
+
 fn main() {
     let arguments: Vec<String> = std::env::args().skip(1).collect();
     if let [side, name] = &arguments[..] {
         return profile(side, name);
     }
-    let mut tables = [("run", runs()), ("step", steps()), ("record and define", loads()), ("record, one chain", growth())];
+    let mut tables = tables();
     for _ in 0..5 {
         tables.iter_mut().flat_map(|(_, cases)| cases).for_each(Case::pass);
     }

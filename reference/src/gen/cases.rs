@@ -187,7 +187,9 @@ pub fn cases() -> Vec<Trial> {
                 trial.step();
             }
             trial.run(100);
+            trial.sweep();
             trial.drop_task(0);
+            trial.sweep();
             trial.step();
             all.push(trial);
         }

@@ -109,5 +109,6 @@ impl Chains {
         self.trial.start(0, other, name + 5_000, MAIN, 0);
         self.trial.run(9);
         self.trial.drop_task(0);
+        self.trial.sweep();
     }
 }

@@ -3,30 +3,38 @@
 use super::blueprint::Blueprint;
 use super::build::{Code, Draft};
 use super::cases::{self, MAIN};
+use super::graphs::graphs;
 use super::large;
 use super::list::busy_list;
+use super::objects::{all_in_use, an_owner, free_rows, links, many_objects, unused_number};
 use super::rng::Rng;
 use super::Call;
 use crate::file::File;
-use crate::store::{cell, count, frame_base, Store, FIELDS, FRAME_ROW, INT, LIMITS, OBJECT, OBJECT_ROW, ROW};
+use crate::store::{cell, count, frame_base, Store, FIELDS, FRAME_ROW, INT, LENGTHS, LIMITS, OBJECT, OBJECT_ROW, ROW, TASKS};
 
 /// Kinds of damage, each a way to change a good store.
-const KINDS: [fn(&mut Rng, &mut Store); 22] = [
+const KINDS: [fn(&mut Rng, &mut Store); 27] = [
     any_cells, a_count, uniform_table, wrong_length, second_cache_row, overlapping_files, superclass_not_lower,
     code_bytes, kept_byte, top_frame, operand_count, a_value, constraints, full_frames, uniform_store, file_place,
-    nested_file, full_rows, many_fields, repeated_field, many_classes, report_past_its_code,
+    nested_file, full_rows, many_fields, repeated_field, many_classes, report_past_its_code, an_owner, free_rows,
+    unused_number, links, many_objects,
 ];
 
 /// What a damaged store may have, and the test for it.
 pub type Shape = (&'static str, fn(&Store) -> bool);
 
 /// What damaged stores must have among them.
-pub const SHAPES: [Shape; 5] = [
+pub const SHAPES: [Shape; 10] = [
     ("a class of more than 16 fields", |store| classes(store).iter().any(|&class| field_names(store, class).len() > FIELDS)),
     ("a field's name repeated below", has_repeated_field),
     ("19 and more classes", |store| store.counts.first() >= Some(&19) && is_whole(store)),
     ("a report's frame past its code, and a quote", has_report_past_its_code),
     ("a value in field 3 or above", has_high_value),
+    ("an owner above 2", |store| looked_at(store) && store.owners().iter().any(|&owner| owner > TASKS)),
+    ("a free row below an object", |store| is_whole(store) && store.objects_in_use().zip(0..).any(|(object, place)| object > place)),
+    ("a free row with any cells", |store| is_whole(store) && crate::broken(&all_in_use(store, false))),
+    ("a value that names a free row", |store| looked_at(store) && crate::broken(store) && is_whole(&all_in_use(store, true))),
+    ("256 objects in use", |store| is_whole(store) && store.unused_object().is_none()),
 ];
 
 /// A store from a boot with some damage, from one change to three.
@@ -45,6 +53,9 @@ fn good(seed: u64, rng: &mut Rng) -> Store {
     if rng.percent(3) {
         // Thousands of steps are left.
         return if rng.percent(80) { large::tree() } else { large::tall_tree() };
+    }
+    if rng.percent(20) {
+        return graphs(seed, rng.within(5, 60)).store;
     }
     if rng.percent(80) {
         return busy_list(seed, rng.within(20, 90)).store;
@@ -71,11 +82,13 @@ pub fn probes(seed: u64, store: &Store) -> Vec<Call> {
         Call::Define { loader: loader.into(), file: Draft::new(rng.within(2, 30) as u16).file() },
         Call::Record { loader: other, name: name.into(), class: class.into() },
         Call::Record { loader: rng.below(17) as u32, name: rng.below(16) as u32, class: rng.below(9) as u32 },
+        Call::Sweep,
         Call::Start { task: rng.below(2) as u32, loader: loader.into(), name, method: 20, int },
         Call::Start { task: rng.below(3) as u32, loader: other, name: rng.below(16) as u16, method: 20, int },
         Call::Step,
         Call::Run { n: if rng.percent(40) { rng.word().into() } else { rng.within(0, 40) as u32 } },
         Call::Drop { task: rng.below(3) as u32 },
+        Call::Sweep,
     ]
 }
 
@@ -87,7 +100,7 @@ fn some_entry(rng: &mut Rng, store: &Store) -> [u16; 3] {
 }
 
 /// A number that is small, near an edge, or anything.
-fn number(rng: &mut Rng) -> u32 {
+pub fn number(rng: &mut Rng) -> u32 {
     match rng.below(5) {
         0 => rng.draw() as u32,
         1 => rng.pick(&[u32::MAX, 0x7FFF_FFFF, 0xFFFF, 0x1_0000, 255, 256, 257]),
@@ -174,9 +187,10 @@ fn uniform_table(rng: &mut Rng, store: &mut Store) {
 fn uniform_store(rng: &mut Rng, store: &mut Store) {
     let bits = rng.pick(&[0, u32::MAX]);
     (0..8).for_each(|which| fill(store, which, bits));
-    if rng.percent(50) && store.counts.len() == 8 {
-        let counts: Vec<u16> = LIMITS.iter().map(|&limit| rng.below(usize::from(limit) + 1) as u16).collect();
-        store.counts.copy_from_slice(&counts);
+    if rng.percent(50) && store.counts.len() == LENGTHS[0] {
+        for (count, limit) in store.counts.iter_mut().zip(LIMITS) {
+            *count = rng.below(usize::from(limit) + 1) as u16;
+        }
     }
 }
 
@@ -205,7 +219,7 @@ fn wrong_length(rng: &mut Rng, store: &mut Store) {
 }
 
 /// Are the tables such that rows can be damaged with care?
-fn is_whole(store: &Store) -> bool {
+pub fn is_whole(store: &Store) -> bool {
     !crate::broken(store)
 }
 
@@ -420,10 +434,14 @@ fn full_frames(rng: &mut Rng, store: &mut Store) {
     store.counts[count::FRAMES + task] = store.counts[count::FRAMES + task].max(frames as u16);
 }
 
+/// Are lengths and counts such that rows can be looked at?
+pub fn looked_at(store: &Store) -> bool {
+    store.lengths() == LENGTHS && store.counts.iter().zip(LIMITS).all(|(&count, limit)| count <= limit)
+}
+
 /// The classes but Object of a store, whatever is damaged; none if they can't be looked at.
 fn classes(store: &Store) -> Vec<u16> {
-    let looked_at = store.lengths() == crate::store::LENGTHS && store.counts.iter().zip(LIMITS).all(|(&count, limit)| count <= limit);
-    if looked_at { (1..store.counts[0]).collect() } else { Vec::new() }
+    if looked_at(store) { (1..store.counts[0]).collect() } else { Vec::new() }
 }
 
 /// The names of a class's fields, its own first and then those upward, as long as superclasses have lower numbers.
@@ -449,7 +467,7 @@ fn has_repeated_field(store: &Store) -> bool {
 }
 
 fn has_report_past_its_code(store: &Store) -> bool {
-    let both = store.counts.get(count::FRAMES..).is_some_and(|counts| counts.iter().all(|&frames| frames > 0));
+    let both = store.counts.get(count::FRAMES..count::OWNERS).is_some_and(|counts| counts.iter().all(|&frames| frames > 0));
     let past = || store.frames[frame_base(1, store.frame_count(1) - 1) + cell::POINT] >= 512;
     both && is_whole(store) && past()
 }
@@ -463,7 +481,7 @@ fn has_high_value(store: &Store) -> bool {
         let fields = classes.field_count(store.object_class(object));
         (3..fields).any(|field| ![[1, 0], [2, 0]].contains(&[0, 1].map(|i| store.objects[Store::field_cell(object, field) + i])))
     };
-    (0..u32::from(store.counts[count::OBJECTS])).any(high)
+    store.objects_in_use().any(high)
 }
 
 /// Adds a class that no define has looked at, of a loader that knows its superclass. Nothing if there is no room.
@@ -483,11 +501,12 @@ fn unused_name(store: &Store) -> u16 {
     50_000 + store.counts[count::CLASSES]
 }
 
-/// The frames of a task that starts in a method of this class, if it has room for its object.
-fn start_in(rng: &mut Rng, store: &mut Store, loader: u16, name: u16) {
-    let task = rng.below(2);
-    store.counts[count::FRAMES..].fill(0);
+/// The frames of a task that starts in a method of this class, if it has room for its object, and then the object.
+fn start_in(rng: &mut Rng, store: &mut Store, loader: u16, name: u16) -> Option<u32> {
+    let (task, object) = (rng.below(2), store.unused_object());
+    store.counts[count::FRAMES..count::OWNERS].fill(0);
     crate::start(store, task as u32, loader.into(), name, MAIN, 7);
+    object
 }
 
 /// Three classes below each other with 16 fields or more; if it isn't more, a task that uses the last of them, and values there.
@@ -512,8 +531,9 @@ fn many_fields(rng: &mut Rng, store: &mut Store) {
     if last > 0 {
         return;
     }
-    start_in(rng, store, 0, superclass);
-    let object = u32::from(store.counts[count::OBJECTS]).saturating_sub(1);
+    let Some(object) = start_in(rng, store, 0, superclass) else {
+        return;
+    };
     for field in 3..FIELDS {
         let value = rng.pick(&[[1, 5], [1, u32::MAX], [1, 0], [2, 0], [3, object]]);
         let value = if rng.percent(97) { [1, value[1]] } else { value };

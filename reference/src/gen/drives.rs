@@ -2,10 +2,12 @@
 
 use super::build::Draft;
 use super::cases;
+use super::graphs::graphs;
 use super::list::list;
 use super::rng::Rng;
 use super::Call;
 use crate::drive::{ANSWERS, HEAD, INPUT, LIST, ROW};
+use crate::store::LENGTHS;
 
 /// Rows, and the bytes of the files that stand behind them.
 struct Encoded {
@@ -36,6 +38,7 @@ impl Encoded {
             Call::Step => [4, 0, 0, 0, 0, 0],
             Call::Run { n } => [5, n, 0, 0, 0, 0],
             Call::Drop { task } => [6, task, 0, 0, 0, 0],
+            Call::Sweep => [7, 0, 0, 0, 0, 0],
         };
         self.rows.push(row);
     }
@@ -53,7 +56,7 @@ impl Encoded {
 /// A row that has no call: no kind, a file past the input's end, a name or a method that isn't 16 bits.
 fn no_call(rng: &mut Rng) -> [u32; ROW] {
     match rng.below(5) {
-        0 => [7 + rng.below(3) as u32, 1, 2, 0, 0, 0],
+        0 => [8 + rng.below(3) as u32, 1, 2, 0, 0, 0],
         1 => [u32::MAX, 0, 0, 0, 0, 0],
         2 => [1, 1, rng.pick(&[0, 12, u32::MAX]), rng.pick(&[65_537, u32::MAX]), 0, 0],
         3 => [3, 0, 1, 0x1_000A, 20, 7],
@@ -71,22 +74,26 @@ pub fn fixed() -> Vec<u8> {
     trial.start(1, 1, 11, 21, -1);
     trial.start(1, 2, 10, 22, -1);
     trial.drop_task(0);
+    trial.sweep();
     trial.drop_task(2);
+    trial.start(0, 2, 10, 22, 5);
     trial.run(100);
+    trial.sweep();
     trial.run(0);
     trial.define(1, &Draft::new(12));
     trial.call(Call::Boot);
     trial.step();
     let mut encoded = Encoded::new(&trial.calls, 2);
-    encoded.rows.push([7, 0, 0, 0, 0, 0]);
+    encoded.rows.push([8, 0, 0, 0, 0, 0]);
     encoded.rows.push([0; ROW]);
-    encoded.input(8, ROW * encoded.rows.len(), ANSWERS as u32)
+    encoded.input(LENGTHS[0] as u32, ROW * encoded.rows.len(), ANSWERS as u32)
 }
 
 /// The input of a seed. One in eight has counts of a wrong length, every third or so a row that has no call, some a short table of answers.
 pub fn drive(seed: u64) -> Vec<u8> {
     let mut rng = Rng::new(seed ^ 0x64_72_69_76);
-    let mut calls = list(seed, rng.within(5, 90)).calls;
+    let length = rng.within(5, 90);
+    let mut calls = if rng.percent(70) { list(seed, length).calls } else { graphs(seed, length).calls };
     let room = |calls: &[Call]| Encoded::new(calls, 1).files.len() + 4 * (HEAD + LIST) <= INPUT;
     while calls.len() >= LIST / ROW || !room(&calls) {
         calls.pop();
@@ -97,7 +104,8 @@ pub fn drive(seed: u64) -> Vec<u8> {
         let at = rng.below(calls.len() + 1);
         encoded.rows.insert(at, no_call(&mut rng));
     }
-    let counts = if rng.percent(12) { rng.below(8) as u32 } else { rng.pick(&[8, 8, 9, u32::MAX]) };
+    let whole = LENGTHS[0] as u32;
+    let counts = if rng.percent(12) { rng.below(LENGTHS[0]) as u32 } else { rng.pick(&[whole, whole, whole + 1, u32::MAX]) };
     let answers = if rng.percent(30) { rng.below(ANSWERS) as u32 } else { rng.pick(&[ANSWERS as u32, u32::MAX]) };
     let cells = ROW * encoded.rows.len();
     let less = if rng.percent(10) { rng.below(cells) } else { 0 };

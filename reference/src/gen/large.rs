@@ -1,10 +1,10 @@
-//! Stores to measure on: call trees, chains of constraints, a usual store, a full one. None is broken; all agree.
+//! Stores to measure on: call trees, chains of constraints, a usual store, a full one, stores full of objects. None is broken; all agree.
 
 use super::build::{Code, Draft};
 use super::files::of_length;
 use super::{Call, Trial};
 use crate::broken::unbroken;
-use crate::store::{cell, count, frame_base, Store, Value, INT, OPERANDS};
+use crate::store::{cell, count, frame_base, Store, Value, INT, MOST_OBJECTS, OPERANDS};
 use crate::task::make_object;
 
 /// The class of the trees, and of the upper half of the tall one.
@@ -12,6 +12,8 @@ const TREE: u16 = 10;
 const UPPER: u16 = 11;
 const TOTAL: u16 = 5;
 const ROOT: u16 = 20;
+/// The field by which objects are linked.
+const NEXT: u16 = 6;
 
 /// The first name of the chains, the names of the grid.
 const CHAIN: u16 = 3_000;
@@ -173,6 +175,11 @@ pub enum Repeated {
     AloadGetfieldPop,
 }
 
+/// A method that repeats these instructions.
+fn fifty_times(part: Code) -> Code {
+    Code { bytes: part.bytes.repeat(50) }.end(INT)
+}
+
 /// Every table full: 64 classes of 16 fields below each other, all bytes, entries, constraints, objects and frames, 15 operands in each
 /// frame. The quote can run 100 steps.
 pub fn full(repeated: Repeated) -> Store {
@@ -182,8 +189,7 @@ pub fn full(repeated: Repeated) -> Store {
         Repeated::AloadGetfieldPop => Code::new().aload(0).getfield(11, 37, INT).pop(),
     };
     let fields = |draft: Draft, first: u16| (0..8).fold(draft, |draft, i| draft.field(first + i, INT));
-    let code = Code { bytes: part.bytes.repeat(50) }.end(INT);
-    trial.define(0, &fields(Draft::new(11), 30).main(ROOT, &code));
+    trial.define(0, &fields(Draft::new(11), 30).main(ROOT, &fifty_times(part)));
     trial.define(0, &fields(Draft::new(12), 40).under(11));
     let mut store = trial.store;
     for class in 3..64 {
@@ -201,9 +207,7 @@ pub fn full(repeated: Repeated) -> Store {
         }
     }
     let classes = unbroken(&store).expect("a store");
-    while !store.is_full(count::OBJECTS) {
-        make_object(&mut store, &classes, 63);
-    }
+    while make_object(&mut store, &classes, 63, 0).is_some() {}
     for task in 0..2 {
         (0..32).for_each(|depth| fill_frame(&mut store, task, depth));
     }
@@ -220,6 +224,67 @@ fn fill_frame(store: &mut Store, task: usize, depth: usize) {
     for local in 2..8 {
         Value::Object(local).write(&mut store.frames, base + cell::LOCAL_0 + 2 * local as usize);
     }
+}
+
+/// What reaches the objects of a store with 256 of them.
+#[derive(Clone, Copy, Debug, PartialEq, Eq)]
+pub enum Held {
+    /// Each is held by a field of the one before, and the first by the quote.
+    Upward,
+    /// Each is held by a field of the one behind, and the last by the quote.
+    Downward,
+    /// The quote's 32 frames hold eight each, in locals and operands.
+    ByFrames,
+    /// No task has a frame.
+    Nothing,
+}
+
+/// 256 objects of a class with one field. The quote, if it has a frame, can run 100 steps, which change only that.
+pub fn objects(held: Held) -> Store {
+    let code = fifty_times(Code::new().null().pop());
+    let mut store = started(&[Draft::new(TREE).field(NEXT, TREE).main(ROOT, &code)], TREE);
+    let classes = unbroken(&store).expect("a store");
+    while make_object(&mut store, &classes, 1, 0).is_some() {}
+    let last = MOST_OBJECTS as u32 - 1;
+    let mut link = |from: u32, to: u32| Value::Object(to).write(&mut store.objects, Store::field_cell(from, 0));
+    match held {
+        Held::Upward => (0..last).for_each(|object| link(object, object + 1)),
+        Held::Downward => {
+            (0..last).for_each(|object| link(object + 1, object));
+            Value::Object(last).write(&mut store.frames, cell::LOCAL_0);
+        }
+        Held::ByFrames => (0..32).for_each(|depth| hold_eight(&mut store, depth)),
+        Held::Nothing => store.counts[count::FRAMES] = 0,
+    }
+    store
+}
+
+/// The quote's frame at this depth holds eight objects of its own: six locals, two operands.
+fn hold_eight(store: &mut Store, depth: usize) {
+    let first = 8 * depth as u32;
+    if depth > 0 {
+        store.enter(0, 1, 0, Value::Object(first), Value::Int(7));
+    }
+    let base = frame_base(0, depth);
+    store.frames[base + cell::OPERANDS] = 2;
+    for place in 0..8 {
+        // The operands stand behind the locals.
+        Value::Object(first + place as u32).write(&mut store.frames, base + cell::LOCAL_0 + 2 * (2 + place));
+    }
+}
+
+/// The quote before 254 objects that it makes and lets go, in rows that were never used or, if `freed`, in rows that a sweep has freed.
+pub fn making(freed: bool) -> Store {
+    let many = (0..127).fold(Code::new(), |code, _| code.object(TREE).pop());
+    let twice = Code::new().aload(0).iload(1).invoke(TREE, ROOT + 1, INT, INT).aload(0).iload(1).invoke(TREE, ROOT + 1, INT, INT);
+    let draft = Draft::new(TREE).field(NEXT, TREE).field(TOTAL, INT).main(ROOT, &twice.iadd().ireturn());
+    let mut store = started(&[draft.main(ROOT + 1, &many.iload(1).ireturn())], TREE);
+    if freed {
+        let classes = unbroken(&store).expect("a store");
+        while make_object(&mut store, &classes, 1, 0).is_some() {}
+        crate::sweep(&mut store);
+    }
+    store
 }
 
 #[cfg(test)]
@@ -272,8 +337,28 @@ mod tests {
         for repeated in [Repeated::NullPop, Repeated::AloadGetfieldPop] {
             let mut store = full(repeated);
             sound(&store, "full");
-            assert_eq!(store.counts, crate::store::LIMITS);
+            assert_eq!(store.counts[..count::OWNERS], crate::store::LIMITS);
+            assert_eq!(store.unused_object(), None);
             assert_eq!(crate::run(&mut store, 100), Reply::RanFor(100, Answer::Ran(0)));
+        }
+    }
+
+    #[test]
+    fn objects_are_held_and_made() {
+        for (held, freed) in [(Held::Upward, 0), (Held::Downward, 0), (Held::ByFrames, 0), (Held::Nothing, 256)] {
+            let mut store = objects(held);
+            sound(&store, "objects");
+            assert_eq!(store.objects_in_use().count(), 256);
+            let steps = if held == Held::Nothing { (0, Answer::Idle) } else { (100, Answer::Ran(0)) };
+            assert_eq!(crate::run(&mut store.clone(), 100), Reply::RanFor(steps.0, steps.1));
+            assert_eq!(crate::sweep(&mut store), Reply::Swept(freed), "{held:?}");
+        }
+        for freed in [false, true] {
+            let mut store = making(freed);
+            sound(&store, "making");
+            assert_eq!(store.counts[count::OBJECTS], if freed { 256 } else { 1 });
+            assert!(matches!(crate::run(&mut store, 65_535), Reply::RanFor(_, Answer::Finished(0, 6))));
+            assert_eq!(store.unused_object(), Some(255));
         }
     }
 }

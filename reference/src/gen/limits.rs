@@ -8,7 +8,7 @@ use crate::store::INT;
 
 pub type Limit = (&'static str, fn(&mut Rng) -> Trial);
 
-pub const LIMITS: [Limit; 13] = [
+pub const LIMITS: [Limit; 15] = [
     ("define: classes", classes),
     ("define: kept bytes", kept_bytes),
     ("define: cache entries", cache_by_define),
@@ -19,6 +19,8 @@ pub const LIMITS: [Limit; 13] = [
     ("record: cache entries", cache_by_record),
     ("start: objects", objects_by_start),
     ("step: objects", objects_by_new),
+    ("start: objects, after a sweep", objects_swept_by_start),
+    ("step: objects, after a sweep", objects_swept_by_new),
     ("step: frames", frames),
     ("step: a tie", tie_by_field),
     ("step: two ties with room for one", ties_by_invoke),
@@ -164,28 +166,68 @@ fn fields(rng: &mut Rng) -> Trial {
     trial
 }
 
-fn objects_by_start(rng: &mut Rng) -> Trial {
+/// So many starts of one of the tasks, each dropped.
+fn start_and_drop(rng: &mut Rng, trial: &mut Trial, tasks: &[u16], times: usize) {
+    for _ in 0..times {
+        let task = rng.pick(tasks);
+        trial.start(task, 1, 10, MAIN, times as i32);
+        trial.drop_task(task);
+    }
+}
+
+fn starting() -> Trial {
     let mut trial = Trial::ready([1]);
     trial.define(1, &Draft::new(10).field(30, INT).field(31, 10).main(MAIN, &Code::new().iload(1).ireturn()));
-    for i in 0..257 {
-        let task = rng.below(2) as u16;
-        trial.start(task, 1, 10, MAIN, i);
-        if i < 256 {
-            trial.drop_task(task);
-        }
-    }
     trial
 }
 
-fn objects_by_new(_: &mut Rng) -> Trial {
+fn objects_by_start(rng: &mut Rng) -> Trial {
+    let mut trial = starting();
+    start_and_drop(rng, &mut trial, &[0, 1], 256);
+    trial.start(rng.below(2) as u16, 1, 10, MAIN, 0);
+    trial
+}
+
+/// All rows have been used, and all but one are free; 255 more starts fill them.
+fn objects_swept_by_start(rng: &mut Rng) -> Trial {
+    let (mut trial, kept) = (starting(), rng.below(256));
+    start_and_drop(rng, &mut trial, &[0, 1], kept);
+    trial.start(1, 1, 10, MAIN, 0);
+    start_and_drop(rng, &mut trial, &[0], 255 - kept);
+    trial.sweep();
+    start_and_drop(rng, &mut trial, &[0], 255);
+    trial.start(0, 1, 10, MAIN, 0);
+    trial
+}
+
+/// 64 objects a run and one for the start, four times.
+fn making() -> Trial {
     let mut trial = Trial::ready([1]);
-    // 64 objects a run and one for the start.
     let code = (0..64).fold(Code::new(), |code, _| code.object(10).pop());
     trial.define(1, &Draft::new(10).field(30, 10).main(MAIN, &code.end(INT)));
+    make_until_full(&mut trial);
+    trial
+}
+
+fn make_until_full(trial: &mut Trial) {
     for _ in 0..4 {
         trial.start(0, 1, 10, MAIN, 0);
         trial.run(500);
     }
+}
+
+fn objects_by_new(_: &mut Rng) -> Trial {
+    let mut trial = making();
+    trial.step();
+    trial
+}
+
+/// The quote that had no room goes on after a sweep, which leaves its own object alone, and then the rows are filled again.
+fn objects_swept_by_new(_: &mut Rng) -> Trial {
+    let mut trial = making();
+    trial.sweep();
+    trial.run(500);
+    make_until_full(&mut trial);
     trial.step();
     trial
 }

@@ -46,7 +46,7 @@ impl Lister {
 
     fn next(&mut self) {
         let idle = self.trial.store.turn().is_none();
-        let weights = if idle { [6, 2, 24, 2, 1, 1, 3] } else { [5, 2, 3, 26, 14, 1, 3] };
+        let weights = if idle { [6, 2, 24, 2, 1, 1, 2, 3] } else { [5, 2, 3, 26, 14, 1, 3, 3] };
         match self.rng.weighted(&weights) {
             0 => self.load_something(),
             1 => self.record_something(),
@@ -57,6 +57,7 @@ impl Lister {
                 let task = self.task();
                 self.trial.drop_task(task);
             }
+            6 => drop(self.trial.sweep()),
             _ => self.stray(),
         }
     }

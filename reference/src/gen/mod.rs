@@ -3,23 +3,27 @@
 pub mod blueprint;
 pub mod build;
 pub mod cases;
+pub mod cells;
 pub mod chains;
 pub mod codes;
 pub mod damage;
 pub mod drives;
 pub mod files;
+pub mod graphs;
 pub mod large;
 pub mod limits;
 pub mod list;
+pub mod objects;
+pub mod reach;
 pub mod rng;
 pub mod scripts;
 pub mod stuck;
-pub mod sweep;
+pub mod swept;
 pub mod walk;
 
 use crate::answer::Reply;
 use crate::store::Store;
-use crate::{boot, define, drop_task, record, run, start, step};
+use crate::{boot, define, drop_task, record, run, start, step, sweep};
 
 /// One call with its arguments.
 #[derive(Clone, Debug, PartialEq, Eq)]
@@ -31,9 +35,10 @@ pub enum Call {
     Step,
     Run { n: u32 },
     Drop { task: u32 },
+    Sweep,
 }
 
-pub const CALLS: [&str; 7] = ["boot", "define", "record", "start", "step", "run", "drop"];
+pub const CALLS: [&str; 8] = ["boot", "define", "record", "start", "step", "run", "drop", "sweep"];
 
 impl Call {
     /// The call's place in `CALLS`.
@@ -46,6 +51,7 @@ impl Call {
             Call::Step => 4,
             Call::Run { .. } => 5,
             Call::Drop { .. } => 6,
+            Call::Sweep => 7,
         }
     }
 
@@ -59,6 +65,7 @@ impl Call {
             Call::Step => Reply::Stepped(step(store)),
             Call::Run { n } => run(store, n),
             Call::Drop { task } => drop_task(store, task),
+            Call::Sweep => sweep(store),
         }
     }
 }
@@ -117,5 +124,9 @@ impl Trial {
 
     pub fn drop_task(&mut self, task: u16) -> Reply {
         self.call(Call::Drop { task: task.into() })
+    }
+
+    pub fn sweep(&mut self) -> Reply {
+        self.call(Call::Sweep)
     }
 }

@@ -32,8 +32,9 @@ pub fn holding(code: &Code, operands: &[Value]) -> Store {
         store.add_cached([1, name, class]);
     }
     let classes = crate::broken::unbroken(&store).expect("a store");
-    make_object(&mut store, &classes, 1);
-    make_object(&mut store, &classes, 2);
+    for class in 1..3 {
+        make_object(&mut store, &classes, class, 0).expect("room");
+    }
     store.enter(0, 1, 0, TEN, SEVEN);
     put(&mut store, 0, operands);
     store

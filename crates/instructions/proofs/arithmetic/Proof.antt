@@ -11,21 +11,21 @@ use Rattle.instructions.proofs.arithmetic.Tie as tie
 
 returns : tie.Need-returns
 unfolding meaning execute _>>=_ frameOf
-returns c = record { says = λ w os fs k p n. rw (c .refuse .ensures, pop-none _ _ (c .before .if1 .taken)); fits = λ few B t k m. rw (c .refuse .ensures) tt }
+returns c = record { says = λ task w os fs k p n. rw (c .refuse .ensures, pop-none _ _ (c .before .if1 .taken)); fits = λ few B t k m. rw (c .refuse .ensures) tt }
 
 returns-2 : tie.Need-returns-2
 unfolding meaning execute _>>=_ frameOf
-returns-2 c = record { says = λ w os fs k p n. rw (c .refuse2 .ensures, pop-some _ _ (c .before .before .if1 .left), pop-none _ _ (c .before .if2 .taken)); fits = λ few B t k m. rw (c .refuse2 .ensures) tt }
+returns-2 c = record { says = λ task w os fs k p n. rw (c .refuse2 .ensures, pop-some _ _ (c .before .before .if1 .left), pop-none _ _ (c .before .if2 .taken)); fits = λ few B t k m. rw (c .refuse2 .ensures) tt }
 
 returns-3 : tie.Need-returns-3
 unfolding meaning execute _>>=_ frameOf
-returns-3 c = record { says = λ w os fs k p n. rw (c .refuse3 .ensures, pop-some _ _ (c .before .before .before .before .before .if1 .left), pop-some _ _ (c .before .before .before .before .if2 .left), ← c .before .before .before .operand .ensures, int-not _ _ (c .before .if3 .taken)); fits = λ few B t k m. rw (c .refuse3 .ensures) tt }
+returns-3 c = record { says = λ task w os fs k p n. rw (c .refuse3 .ensures, pop-some _ _ (c .before .before .before .before .before .if1 .left), pop-some _ _ (c .before .before .before .before .if2 .left), ← c .before .before .before .operand .ensures, int-not _ _ (c .before .if3 .taken)); fits = λ few B t k m. rw (c .refuse3 .ensures) tt }
 
 returns-4 : tie.Need-returns-4
 unfolding meaning execute _>>=_ frameOf
 returns-4 c =
     let at8 = c .before .before .before .before .before .before .before .before in
-    record { says = λ w os fs k p n. rw (c .refuse4 .ensures, pop-some _ _ (at8 .if1 .left), pop-some _ _ (c .before .before .before .before .before .before .before .if2 .left), ← c .before .before .before .before .before .before .operand .ensures, int-is _ _ (c .before .before .before .before .if3 .left), ← c .before .before .before .operand2 .ensures, int-not _ _ (c .before .if4 .taken)); fits = λ few B t k m. rw (c .refuse4 .ensures) tt }
+    record { says = λ task w os fs k p n. rw (c .refuse4 .ensures, pop-some _ _ (at8 .if1 .left), pop-some _ _ (c .before .before .before .before .before .before .before .if2 .left), ← c .before .before .before .before .before .before .operand .ensures, int-is _ _ (c .before .before .before .before .if3 .left), ← c .before .before .before .operand2 .ensures, int-not _ _ (c .before .if4 .taken)); fits = λ few B t k m. rw (c .refuse4 .ensures) tt }
 
 returns-5 : tie.Need-returns-5
 unfolding execute _>>=_ frameOf
@@ -34,9 +34,9 @@ returns-5 c =
     let at6 = at3 .before .before .before in
     let at8 = at6 .before .before in
     record {
-      says = λ w os fs k p n. rw (
+      says = λ task w os fs k p n. rw (
         c .compute .ensures,
-        computed-means w os fs _ _ _ _ _,
+        computed-means task w os fs _ _ _ _ _,
         pop-some _ _ (at8 .if1 .left),
         pop-some _ _ (at6 .before .if2 .left),
         ← at6 .operand .ensures,

@@ -13,19 +13,19 @@ use Rattle.instructions.proofs.load.Tie as tie
 
 returns : tie.Need-returns
 unfolding meaning execute _>>=_ frameOf
-returns c = record { says = λ w os fs k p n. rw (c .refuse .ensures, room-full _ _ (c .before .if1 .taken)); fits = λ few B t k m. rw (c .refuse .ensures) tt }
+returns c = record { says = λ task w os fs k p n. rw (c .refuse .ensures, room-full _ _ (c .before .if1 .taken)); fits = λ few B t k m. rw (c .refuse .ensures) tt }
 
 returns-2 : tie.Need-returns-2
 unfolding meaning execute _>>=_ frameOf
-returns-2 c = record { says = λ w os fs k p n. rw (c .refuse2 .ensures, room-free _ _ (c .before .before .if1 .left), take-past _ _ _ _ (c .before .if2 .taken)); fits = λ few B t k m. rw (c .refuse2 .ensures) tt }
+returns-2 c = record { says = λ task w os fs k p n. rw (c .refuse2 .ensures, room-free _ _ (c .before .before .if1 .left), take-past _ _ _ _ (c .before .if2 .taken)); fits = λ few B t k m. rw (c .refuse2 .ensures) tt }
 
 returns-3 : tie.Need-returns-3
 unfolding meaning execute _>>=_ frameOf
-returns-3 c = record { says = λ w os fs k p n. rw (c .refuse3 .ensures, room-free _ _ (c .before .before .before .before .before .if1 .left), take-at _ _ _ _ (c .before .before .before .before .if2 .left), ← c .before .before .before .local .ensures, of-not _ _ _ (sym (c .before .before .is-of-kind .ensures) ∙ not-true _ (c .before .if3 .taken))); fits = λ few B t k m. rw (c .refuse3 .ensures) tt }
+returns-3 c = record { says = λ task w os fs k p n. rw (c .refuse3 .ensures, room-free _ _ (c .before .before .before .before .before .if1 .left), take-at _ _ _ _ (c .before .before .before .before .if2 .left), ← c .before .before .before .local .ensures, of-not _ _ _ (sym (c .before .before .is-of-kind .ensures) ∙ not-true _ (c .before .if3 .taken))); fits = λ few B t k m. rw (c .refuse3 .ensures) tt }
 
 returns-4 : tie.Need-returns-4
 unfolding meaning execute _>>=_ frameOf
-returns-4 c = record { says = λ w os fs k p n. rw (room-free _ _ (c .before .before .before .before .if1 .left), take-at _ _ _ _ (c .before .before .before .if2 .left), ← c .before .before .local .ensures, of-is _ _ _ (sym (c .before .is-of-kind .ensures) ∙ not-false _ (c .if3 .left))); fits = λ few B t k m. omega arith }
+returns-4 c = record { says = λ task w os fs k p n. rw (room-free _ _ (c .before .before .before .before .if1 .left), take-at _ _ _ _ (c .before .before .before .if2 .left), ← c .before .before .local .ensures, of-is _ _ _ (sym (c .before .is-of-kind .ensures) ∙ not-false _ (c .if3 .left))); fits = λ few B t k m. omega arith }
 
 pub load-spec : {M : Type 1} → statement M
 load-spec =

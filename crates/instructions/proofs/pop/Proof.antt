@@ -10,11 +10,11 @@ use Rattle.instructions.proofs.pop.Tie as tie
 
 returns : tie.Need-returns
 unfolding meaning execute _>>=_ frameOf
-returns c = λ F b. record { says = λ w os fs k p n. rw (c .refuse .ensures, pop-none _ _ (c .before .if1 .taken)); fits = λ few B t k m. rw (c .refuse .ensures) tt }
+returns c = λ F b. record { says = λ task w os fs k p n. rw (c .refuse .ensures, pop-none _ _ (c .before .if1 .taken)); fits = λ few B t k m. rw (c .refuse .ensures) tt }
 
 returns-2 : tie.Need-returns-2
 unfolding meaning execute _>>=_ frameOf
-returns-2 c = λ F b. record { says = λ w os fs k p n. rw (pop-some _ _ (c .if1 .left)); fits = λ few B t k m. tt }
+returns-2 c = λ F b. record { says = λ task w os fs k p n. rw (pop-some _ _ (c .if1 .left)); fits = λ few B t k m. tt }
 
 pub pop-spec : {M : Type 1} → statement M
 pop-spec = tie.close (tie.spec (λ c κs. search needs) returns (λ c. search needs) returns-2)

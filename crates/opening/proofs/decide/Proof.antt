@@ -21,8 +21,8 @@ returns-3 c = open-busy _ _ _ _ _ _ _ _ (c .before .before .before .before .if1 
 cast-find : tie.Need-cast-find
 cast-find c = omega (arith, known-loader (c .before .before .before .before .before .before .before .before .before .args .loader) (c .before .before .before .before .before .before .before .before .before .args .name) (c .before .before .before .before .before .before .before .before .before .args .method) (sym (c .before .before .before .are-known .ensures) ∙ not-false _ (c .before .before .if2 .left)))
 
-cast-t20 : tie.Need-cast-t20
-cast-t20 c =
+cast-t21 : tie.Need-cast-t21
+cast-t21 c =
     let at12 = c .before .before .before .before .before .before .before .before .before .before .before .before in
     omega (arith, known-loader (at12 .args .loader) (at12 .args .name) (at12 .args .method) (sym (c .before .before .before .before .before .before .are-known .ensures) ∙ not-false _ (c .before .before .before .before .before .if2 .left)))
 
@@ -52,7 +52,7 @@ returns-6 c =
     let at15 = at14 .before in
     let answer = rw (c .before .before .before .before .before .before .start-signature .ensures) at (c .before .before .before .before .before .select-method .ensures) in
     let x = selection-at _ _ _ (sym answer ∙ c .before .before .before .s .given .1) in
-    open-full _ _ _ _ _ _ _ _ (at15 .if1 .left) (sym (at14 .are-known .ensures) ∙ not-false _ (at13 .if2 .left)) (rw (at11 .if3 .left) at (sym (at12 .frame-count .ensures))) _ (cached _ _ _ _ _ _ _ _ (at10 .find .ensures) refl _ (at8 .c .given .1)) _ _ x (rw (c .before .at16 .ensures) at (c .if4 .taken))
+    open-full _ _ _ _ _ _ _ _ (at15 .if1 .left) (sym (at14 .are-known .ensures) ∙ not-false _ (at13 .if2 .left)) (rw (at11 .if3 .left) at (sym (at12 .frame-count .ensures))) _ (cached _ _ _ _ _ _ _ _ (at10 .find .ensures) refl _ (at8 .c .given .1)) _ _ x _ (c .before .unused .ensures) (c .if4 .taken)
 
 returns-7 : tie.Need-returns-7
 returns-7 c =
@@ -65,7 +65,7 @@ returns-7 c =
     let at15 = at14 .before in
     let answer = rw (c .before .before .before .before .before .before .start-signature .ensures) at (c .before .before .before .before .before .select-method .ensures) in
     let x = selection-at _ _ _ (sym answer ∙ c .before .before .before .s .given .1) in
-    open-first _ _ _ _ _ _ _ _ (at15 .if1 .left) (sym (at14 .are-known .ensures) ∙ not-false _ (at13 .if2 .left)) (rw (at11 .if3 .left) at (sym (at12 .frame-count .ensures))) _ (cached _ _ _ _ _ _ _ _ (at10 .find .ensures) refl _ (at8 .c .given .1)) _ _ x (rw (c .before .at16 .ensures) at (c .if4 .left))
+    open-first _ _ _ _ _ _ _ _ (at15 .if1 .left) (sym (at14 .are-known .ensures) ∙ not-false _ (at13 .if2 .left)) (rw (at11 .if3 .left) at (sym (at12 .frame-count .ensures))) _ (cached _ _ _ _ _ _ _ _ (at10 .find .ensures) refl _ (at8 .c .given .1)) _ _ x _ (c .before .unused .ensures) (c .if4 .left)
 
 pub decide-spec : {M : Type 1} → statement M
 decide-spec =
@@ -81,7 +81,7 @@ decide-spec =
     (λ c κs. search needs)
     (λ c. search needs)
     (λ c. search needs)
-    cast-t20
+    cast-t21
     returns-4
     (λ c κs. search needs)
     (λ c κs. search needs)

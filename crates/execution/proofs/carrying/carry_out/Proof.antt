@@ -14,7 +14,7 @@ enter-requires : tie.Need-enter-requires
 enter-requires c κs = c .before .before .before .before .before .before .before .before .before .before .before .pre .0
 
 make-requires : tie.Need-make-requires
-make-requires c κs = rw (c .before .before .before .before .plan9 .given .1) at (c .before .before .before .before .before .before .before .before .before .before .before .before .pre .1)
+make-requires c κs = let f = rw (c .before .before .before .before .plan9 .given .1) at (c .before .before .before .before .before .before .before .before .before .before .before .before .pre .1) in (f .0, f .2, f .3)
 
 returns : tie.Need-returns
 returns c = rw (c .before .plan .given .1) (refl, refl, refl, refl)

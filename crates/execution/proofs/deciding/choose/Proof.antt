@@ -25,9 +25,9 @@ act-requires c κs =
     let subtypes = now (at18 .args .subtypes) in
     let objects = now (at18 .args .objects) in
     let frames = now (at18 .args .frames) in
-    (usable (tables counts classes kept cache ties subtypes objects frames) (at18 .pre .0), row-low (tables counts classes kept cache ties subtypes objects frames) (at18 .pre .0) _ _ (at18 .pre .1) (at18 .pre .2))
+    (usable (tables counts classes kept cache ties subtypes objects frames) (at18 .pre .0), row-low (tables counts classes kept cache ties subtypes objects frames) (at18 .pre .0) _ _ (at18 .pre .1) (at18 .pre .2), at18 .pre .4)
 
-add-next : tie.Need-add-t24
+add-next : tie.Need-add-t25
 add-next c =
     let at8 = c .before .before .before .before .before .before .before .before in
     let at9 = at8 .before in
@@ -36,7 +36,7 @@ add-next c =
     let at20 = at11 .before .before .before .before .before .before .before .before .before in
     omega (arith, c .wide322 .ensures .0, next-fits _ _ _ _ _ _ _ _ (at20 .pre .0) _ _ _ (at20 .pre .1) (at20 .pre .2) (at20 .pre .3 .0) _ _ _ _ _ (at11 .frame-class .ensures) (at9 .frame-method .ensures) (at10 .point .ensures) (at8 .method-code .ensures) (c .before .before .before .before .before .before .before .version-of .ensures) _ _ (rw (c .before .before .before .before .before .before .wide32 .ensures .0) at (read-at _ _ (c .before .before .before .before .before .decode .ensures) _ _ (c .before .before .before .i .given .1))))
 
-cast-next : tie.Need-cast-t25
+cast-next : tie.Need-cast-t26
 cast-next c =
     let at8 = c .before .before .before .before .before .before .before .before in
     let at9 = at8 .before in

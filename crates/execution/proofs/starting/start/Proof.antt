@@ -7,10 +7,10 @@ use Rattle.execution.proofs.starting.start.Statement.{statement}
 use Rattle.execution.proofs.starting.start.Tie as tie
 
 cast-begin : tie.Need-cast-begin
-cast-begin c = omega (arith, begin-ready _ _ _ _ _ _ _ _ (rw (c .before .before .before .before .r2 .given .1) at (c .before .before .before .before .before .before .decide-start .ensures)) .0)
+cast-begin c = omega (arith, begin-ready _ _ _ _ _ _ _ _ _ (rw (c .before .before .before .before .r2 .given .1) at (c .before .before .before .before .before .before .decide-start .ensures)) .0)
 
 begin-requires : tie.Need-begin-requires
-begin-requires c κs = let f = begin-ready _ _ _ _ _ _ _ _ (rw (c .before .before .before .before .r2 .given .1) at (c .before .before .before .before .before .before .decide-start .ensures)) in (f .1, f .2)
+begin-requires c κs = let f = begin-ready _ _ _ _ _ _ _ _ _ (rw (c .before .before .before .before .r2 .given .1) at (c .before .before .before .before .before .before .decide-start .ensures)) in (f .1, f .2)
 
 returns : tie.Need-returns
 returns c = (rw (c .before .r .given .1) at (c .before .before .before .decide-start .ensures)) (c .before .before .before .before .before .before .before .before .before .before .before .before .before .before .before .args .value)
@@ -20,7 +20,7 @@ returns-2 c =
     let at6 = c .before .before .before .before .before .before in
     let at11 = at6 .before .before .before .before .before in
     let at13 = at11 .before .before in
-    let f = (rw (at11 .r2 .given .1) at (at13 .decide-start .ensures)) in start-first _ _ _ _ _ _ _ _ (f .0) _ _ _ _ _ _ (f .1) _ _ _ _ _ _ refl (at6 .begin .ensures .0) (at6 .begin .ensures .1 .0) (at6 .begin .ensures .1 .1)
+    let f = (rw (at11 .r2 .given .1) at (at13 .decide-start .ensures)) in start-first _ _ _ _ _ _ _ _ (f .0) _ _ _ _ _ _ (f .1) _ _ _ _ _ _ _ refl (at6 .begin .ensures .0) (at6 .begin .ensures .1 .0) (at6 .begin .ensures .1 .1)
 
 pub start-spec : {M : Type 1} → statement M
 start-spec =

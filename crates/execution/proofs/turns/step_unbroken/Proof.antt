@@ -1,4 +1,5 @@
 -- Nobody's turn is idle; else what was chosen is carried out, and that is the step of the task whose turn it is.
+use mathlib.Core.Path.{_∙_}
 use denote.Ref.{now}
 use Rattle.tasks.specs.Turns.{turn-two}
 use Rattle.execution.specs.Carried.{still-ready}
@@ -12,7 +13,7 @@ use Rattle.execution.proofs.turns.step_unbroken.Statement.{statement}
 use Rattle.execution.proofs.turns.step_unbroken.Tie as tie
 
 returns : tie.Need-returns
-returns c = turn-idle _ _ _ _ _ _ _ _ (c .before .before .before .before .before .before .before .before .before .before .before .before .before .pre) _ _ (c .before .before .before .turn .ensures) (c .before .frame-count .ensures) (c .if1 .taken)
+returns c = turn-idle _ _ _ _ _ _ _ _ (c .before .before .before .before .before .before .before .before .before .before .before .before .before .pre .0) _ _ (c .before .before .before .turn .ensures) (c .before .frame-count .ensures) (c .if1 .taken)
 
 top-frame-requires : tie.Need-top-frame-requires
 top-frame-requires c κs =
@@ -21,14 +22,14 @@ top-frame-requires c κs =
     let classes = now (at15 .args .classes) in
     let kept = now (at15 .args .kept) in
     let cache = now (at15 .args .cache) in
-    λ x. rw (← loader-quick counts classes kept cache x) (usable (tables counts classes kept cache (now (at15 .args .ties)) (now (at15 .args .subtypes)) (now (at15 .args .objects)) (now (at15 .args .frames))) (at15 .pre) .loaders x)
+    λ x. rw (← loader-quick counts classes kept cache x) (usable (tables counts classes kept cache (now (at15 .args .ties)) (now (at15 .args .subtypes)) (now (at15 .args .objects)) (now (at15 .args .frames))) (at15 .pre .0) .loaders x)
 
 choose-requires : tie.Need-choose-requires
 choose-requires c κs =
     let at8 = c .before .before .before .before .before .before .before .before in
     let at10 = at8 .before .before in
     let at20 = at10 .before .before .before .before .before .before .before .before .before .before in
-    (at20 .pre, rw (c .before .before .before .before .top-frame .ensures .0, at10 .turn .ensures) (turn-two (now (at20 .args .counts))), rw (c .before .before .before .before .top-frame .ensures .0, c .before .before .before .before .top-frame .ensures .1) (turn-count _ _ _ _ _ _ _ _ (at20 .pre) _ _ (at10 .turn .ensures) (at8 .frame-count .ensures) (c .before .before .before .before .before .before .before .if1 .left)), c .before .before .before .before .top-frame .ensures .2)
+    (at20 .pre .0, rw (c .before .before .before .before .top-frame .ensures .0, at10 .turn .ensures) (turn-two (now (at20 .args .counts))), rw (c .before .before .before .before .top-frame .ensures .0, c .before .before .before .before .top-frame .ensures .1) (turn-count _ _ _ _ _ _ _ _ (at20 .pre .0) _ _ (at10 .turn .ensures) (at8 .frame-count .ensures) (c .before .before .before .before .before .before .before .if1 .left)), c .before .before .before .before .top-frame .ensures .2, at20 .pre .1 (λ e. c .before .before .before .before .before .before .before .if1 .left (at8 .frame-count .ensures ∙ rw (at10 .turn .ensures) e)))
 
 post-ties-requires : tie.Need-post-ties-requires
 post-ties-requires c κs = c .before .before .choose .ensures .ready .ties
@@ -45,7 +46,7 @@ returns-2 c =
     let at26 = at25 .before in
     let at28 = at26 .before .before in
     let at38 = at28 .before .before .before .before .before .before .before .before .before .before in
-    top-carried _ _ _ _ _ _ _ _ (at38 .pre) _ _ (at28 .turn .ensures) (at26 .frame-count .ensures) (at25 .if1 .left) _ _ (at22 .top-frame .ensures .0) (at22 .top-frame .ensures .1) _ _ _ _ (at17 .choose .ensures) _ _ (at14 .post-ties .ensures .0) (at14 .post-ties .ensures .1) _ _ _ _ (c .before .before .before .before .before .before .carry-out .ensures)
+    top-carried _ _ _ _ _ _ _ _ (at38 .pre .0) _ _ (at28 .turn .ensures) (at26 .frame-count .ensures) (at25 .if1 .left) _ _ (at22 .top-frame .ensures .0) (at22 .top-frame .ensures .1) _ _ _ _ (at17 .choose .ensures) _ _ (at14 .post-ties .ensures .0) (at14 .post-ties .ensures .1) _ _ _ _ (c .before .before .before .before .before .before .carry-out .ensures)
 
 pub step-unbroken-spec : {M : Type 1} → statement M
 step-unbroken-spec =

@@ -24,9 +24,13 @@ returns-5 : tie.Need-returns-5
 unfolding details
 returns-5 c = rw (c .before .before .reply4 .given .1) (c .refusal-details .ensures)
 
+returns-6 : tie.Need-returns-6
+unfolding details
+returns-6 c = rw (c .before .before .reply5 .given .1, c .from162 .ensures .0)
+
 pub details-of-spec : {M : Type 1} → statement M
 details-of-spec =
     tie.close
     (tie.spec (λ c. search needs) (λ c. search needs) (λ c κs. search needs) (λ c κs. search needs) (λ c. search needs)
-    (λ c κs. search needs) (λ c. search needs) (λ c κs. search needs) (λ c. search needs) (λ c κs. search needs) returns
-    returns-2 returns-3 returns-4 returns-5)
+    (λ c κs. search needs) (λ c. search needs) (λ c κs. search needs) (λ c. search needs) (λ c κs. search needs)
+    (λ c. search needs) (λ c κs. search needs) returns returns-2 returns-3 returns-4 returns-5 returns-6)

@@ -1,6 +1,6 @@
-//! A sweep over a store: every used cell, and some that aren't, changed alone to each of a few values.
+//! Every used cell of a store, and some that aren't, changed alone to each of a few values.
 
-use crate::store::{count, Store, FRAME_ROW, OBJECT_ROW, ROW};
+use crate::store::{count, Store, FRAME_ROW, LENGTHS, OBJECT_ROW, ROW};
 
 /// The values a cell is changed to, besides its neighbours.
 const WORDS: [u16; 9] = [0, 1, 2, 3, 15, 16, 17, 256, u16::MAX];
@@ -12,7 +12,7 @@ fn ranges(store: &Store) -> [Vec<usize>; 8] {
     let report = 32 * FRAME_ROW;
     let quote = 0..(store.frame_count(0) + 1) * FRAME_ROW;
     [
-        (0..8).collect(),
+        (0..=count::OWNERS + store.count(count::OBJECTS)).chain([LENGTHS[0] - 1]).collect(),
         rows(count::CLASSES, ROW),
         (0..store.count(count::KEPT) + 2).collect(),
         rows(count::CACHE, ROW),
@@ -23,8 +23,8 @@ fn ranges(store: &Store) -> [Vec<usize>; 8] {
     ]
 }
 
-/// Calls `each` with every store of the sweep. The store has the published lengths.
-pub fn sweep(store: &Store, mut each: impl FnMut(&Store, &str)) {
+/// Calls `each` with every store that comes about. The store has the published lengths.
+pub fn each_cell(store: &Store, mut each: impl FnMut(&Store, &str)) {
     let mut changed = store.clone();
     for (table, cells) in ranges(store).into_iter().enumerate() {
         for cell in cells {

@@ -1,0 +1,52 @@
+-- Word 1, 'broken', of the first document: the tests that speak of objects, and what stands on them.
+use mathlib.Core.Bool.{Bool, true, false, not}
+use mathlib.Core.List.{List, [], _∷_}
+use Prim.Native.Nat.{ℕ}
+use lib.ListN.{length}
+use lib.Dec.{leb, ltb}
+use Rattle.definition.specs.Numbers.{operandLimit}
+use Rattle.definition.specs.Lists.{every, all, isSome}
+use Rattle.definition.specs.Machine.{Value, emptyValue, intValue, nullValue, objectValue, unlistedValue, Object, Frame}
+use Rattle.definition.specs.Tables.{baseOf}
+use Rattle.definition.specs.Broken.{within, classesFit, entryFits, tieFits, subtypeFits}
+use Rattle.first.specs.Machine.{firstExisting}
+use Rattle.first.specs.Tables.{FirstTables, firstShaped, FirstRows, firstView}
+
+-- a value's kind is listed, for a field or operand and for a local, which alone may be empty
+unfoldable pub firstValueFits : List Object → Value → Bool
+firstValueFits os emptyValue = false
+firstValueFits os (intValue n) = true
+firstValueFits os nullValue = true
+firstValueFits os (objectValue o) = isSome (firstExisting os o)
+firstValueFits os (unlistedValue k b) = false
+
+unfoldable pub firstLocalFits : List Object → Value → Bool
+firstLocalFits os emptyValue = true
+firstLocalFits os (intValue n) = true
+firstLocalFits os nullValue = true
+firstLocalFits os (objectValue o) = isSome (firstExisting os o)
+firstLocalFits os (unlistedValue k b) = false
+
+unfoldable pub firstObjectFits : ℕ → List Object → Object → Bool
+firstObjectFits n os o = every (ltb (o .class) n ∷ all (firstValueFits os) (o .values) ∷ [])
+
+unfoldable pub firstFrameFits : ℕ → List Object → Frame → Bool
+firstFrameFits n os f = every
+    (ltb (f .class) n ∷ leb (length (f .operands)) operandLimit ∷ all (firstValueFits os) (f .operands) ∷ all (firstLocalFits os) (f .locals) ∷ [])
+
+unfoldable pub firstSound : FirstRows → Bool
+firstSound r = every
+    (classesFit (baseOf (r .classes) (r .kept) (r .cache)) (r .kept) (r .classes)
+    ∷ all (entryFits (length (r .classes))) (r .cache)
+    ∷ all tieFits (r .ties)
+    ∷ all subtypeFits (r .subtypes)
+    ∷ all (firstObjectFits (length (r .classes)) (r .objects)) (r .objects)
+    ∷ all (firstFrameFits (length (r .classes)) (r .objects)) (r .quote)
+    ∷ all (firstFrameFits (length (r .classes)) (r .objects)) (r .report)
+    ∷ [])
+
+unfoldable pub firstWhole : FirstTables → Bool
+firstWhole t = every (firstShaped t ∷ within (t .counts) ∷ firstSound (firstView t) ∷ [])
+
+unfoldable pub firstBroken : FirstTables → Bool
+firstBroken t = not (firstWhole t)

@@ -1,0 +1,168 @@
+-- Today's tables that carry the first document's: what that is, and that then both are broken or both hold the same rows.
+use mathlib.Core.Path.{_≡_, refl, sym, ap, _∙_}
+use mathlib.Core.Bool.{Bool, true, false, not}
+use mathlib.Core.List.{List, [], _∷_, _++_}
+use Prim.Native.Nat.{ℕ, zero, suc, _+_, _<_, _≤_}
+use native.Mathlib.Omega.{arith}
+use lib.ListN.{length, getD, replicate, length-replicate, getD-replicate, length-append, List·getD-append}
+use lib.Seq.{getD-append-add}
+use lib.Dec.{eqb, leb}
+use borrow.Author.Tests.{eqb-true, eqb-false, eq-eqb, ne-eqb, leb-true, not-false}
+use Rattle.definition.specs.Numbers.{taskLimit, classLimit, keptLimit, cacheLimit, tieLimit, subtypeLimit, objectLimit, frameLimit, countClasses, countKept, countCache, countTies, countSubtypes, countObjects, countFrames, ownersCell, countsLength, classesLength, keptLength, cacheLength, tiesLength, subtypesLength, objectsLength, framesLength}
+use Rattle.definition.specs.Lists.{every, rows, stack}
+use Rattle.definition.specs.Classes.{Base}
+use Rattle.definition.specs.Tables.{Tables, tables, shaped, baseOf, classRowAt, entryAt, tieAt, subtypeAt, objectAt, ownedBy, ownerAt, objectRowAt, frameIn, viewBase, objectsOf, framesOf, viewOver, view}
+use Rattle.definition.specs.Broken.{within, whole, broken}
+use Rattle.layout.specs.Tests.{every-true}
+use Rattle.first.specs.Tables.{FirstTables, firstCountsLength, firstShaped, firstRowsOf, firstObjectsOf, firstViewOver, firstView}
+use Rattle.first.specs.Broken.{firstSound, firstWhole, firstBroken}
+use Rattle.first.specs.SameObjects.{SameObjects, noObjects, sameObject}
+use Rattle.first.specs.SameRows.{SameRows, same-sound}
+
+-- an owner cell that says a task, whichever
+abbrev pub IsOwner : ℕ → Type 0
+IsOwner w = (k : ℕ) × (k < taskLimit) × (w ≡ suc k)
+
+-- today's tables, but for the counts
+abbrev pub withCounts : List ℕ → Tables → FirstTables
+withCounts n t = tables n (t .classes) (t .kept) (t .cache) (t .ties) (t .subtypes) (t .objects) (t .frames)
+
+-- Today's tables t say what the first document's tables u say
+pub record Carries (u : FirstTables) (t : Tables) : Type 0 where
+  -- behind the counts of u stands an owner for each of the 256 rows of objects
+  pub owners : List ℕ
+  pub counts : t .counts ≡ u .counts ++ owners
+  pub all : length owners ≡ objectLimit
+  -- that of an object of u is a task, whichever; what an unused row's cell says doesn't matter
+  pub tasks : (o : ℕ) → o < getD (u .counts) countObjects 0 → o < objectLimit → IsOwner (getD owners o 0)
+  -- the other seven tables are the same
+  pub rest : u ≡ withCounts (u .counts) t
+
+-- every tables of the first document are carried: by those in which task k owns every row
+pub carrying : (k : ℕ) → k < taskLimit → (u : FirstTables) → Carries u (withCounts (u .counts ++ replicate objectLimit (suc k)) u)
+carrying k two u = record {
+  owners = replicate objectLimit (suc k);
+  counts = refl;
+  all = length-replicate objectLimit (suc k);
+  tasks = λ o _ l. (k, two, getD-replicate objectLimit o (suc k) 0 l);
+  rest = refl;
+}
+
+-- The published lengths
+
+same-length : (n : ℕ) → eqb n firstCountsLength ≡ eqb (n + objectLimit) countsLength
+same-length n = go (eqb n firstCountsLength) refl
+  where
+    go : (b : Bool) → eqb n firstCountsLength ≡ b → b ≡ eqb (n + objectLimit) countsLength
+    go true e = sym (eq-eqb (n + objectLimit) countsLength (ap (λ (z : ℕ). z + objectLimit) (eqb-true n firstCountsLength e)))
+    go false e = sym (ne-eqb (n + objectLimit) countsLength (λ q. eqb-false n firstCountsLength e (omega arith)))
+
+pub same-shaped : (u : FirstTables) (t : Tables) → Carries u t → firstShaped u ≡ shaped t
+unfolding firstShaped shaped
+same-shaped u t h =
+    let n : length (t .counts) ≡ length (u .counts) + objectLimit = ap length (h .counts) ∙ (length-append (u .counts) (h .owners) ∙ ap (λ (z : ℕ). length (u .counts) + z) (h .all)) in
+    let e : eqb (length (u .counts)) firstCountsLength ≡ eqb (length (t .counts)) countsLength = same-length (length (u .counts)) ∙ ap (λ (z : ℕ). eqb z countsLength) (sym n) in
+    λ i. every
+    (e i
+    ∷ eqb (length (h .rest i .classes)) classesLength
+    ∷ eqb (length (h .rest i .kept)) keptLength
+    ∷ eqb (length (h .rest i .cache)) cacheLength
+    ∷ eqb (length (h .rest i .ties)) tiesLength
+    ∷ eqb (length (h .rest i .subtypes)) subtypesLength
+    ∷ eqb (length (h .rest i .objects)) objectsLength
+    ∷ eqb (length (h .rest i .frames)) framesLength
+    ∷ [])
+
+-- Reading. The eight counts are where they were.
+
+-- rows whose owners are tasks hold the same objects
+same-read : (b : Base) (n t : List ℕ) (k i : ℕ) → ((m : ℕ) → i ≤ m → m < i + k → IsOwner (ownerAt n m)) → SameObjects (rows (objectAt b t) k i) (rows (objectRowAt b n t) k i)
+unfolding rows objectRowAt ownedBy
+same-read b n t zero i h = noObjects
+same-read b n t (suc k) i h =
+    let w = h i (omega arith) (omega arith) in
+    rw (w .2) (sameObject (w .1) (same-read b n t k (suc i) (λ m a l. h m (omega arith) (omega arith))))
+
+module _ (u : FirstTables) (t : Tables) (h : Carries u t) (eight : length (u .counts) ≡ firstCountsLength) where
+  same-cell : (j : ℕ) → j < firstCountsLength → getD (u .counts) j 0 ≡ getD (t .counts) j 0
+  same-cell j l = sym (ap (λ (z : List ℕ). getD z j 0) (h .counts) ∙ List·getD-append (u .counts) (h .owners) 0 j (omega arith))
+
+  same-owner : (o : ℕ) → ownerAt (t .counts) o ≡ getD (h .owners) o 0
+  unfolding ownerAt
+  same-owner o = ap (λ (z : List ℕ). getD z (ownersCell + o) 0) (h .counts) ∙ (rw eight at (getD-append-add (u .counts) (h .owners) o 0))
+
+  same-within : within (u .counts) ≡ within (t .counts)
+  unfolding within
+  same-within = λ i. every
+      (leb (same-cell countClasses (omega arith) i) classLimit
+      ∷ leb (same-cell countKept (omega arith) i) keptLimit
+      ∷ leb (same-cell countCache (omega arith) i) cacheLimit
+      ∷ leb (same-cell countTies (omega arith) i) tieLimit
+      ∷ leb (same-cell countSubtypes (omega arith) i) subtypeLimit
+      ∷ leb (same-cell countObjects (omega arith) i) objectLimit
+      ∷ leb (same-cell countFrames (omega arith) i) frameLimit
+      ∷ leb (same-cell (countFrames + 1) (omega arith) i) frameLimit
+      ∷ [])
+
+  same-base : viewBase u ≡ viewBase t
+  same-base = λ i. baseOf
+      (rows (classRowAt (h .rest i .classes)) (same-cell countClasses (omega arith) i) 0)
+      (rows (λ j. getD (h .rest i .kept) j 0) (same-cell countKept (omega arith) i) 0)
+      (rows (entryAt (h .rest i .cache)) (same-cell countCache (omega arith) i) 0)
+
+  same-objects : getD (u .counts) countObjects 0 ≤ objectLimit → SameObjects (firstObjectsOf (viewBase u) u) (objectsOf (viewBase t) t)
+  unfolding firstObjectsOf objectsOf
+  same-objects few =
+      let e : rows (objectAt (viewBase u) (u .objects)) (getD (u .counts) countObjects 0) 0 ≡ rows (objectAt (viewBase t) (t .objects)) (getD (t .counts) countObjects 0) 0 =
+      λ i. rows (objectAt (same-base i) (h .rest i .objects)) (same-cell countObjects (omega arith) i) 0 in
+      rw e (same-read (viewBase t) (t .counts) (t .objects) (getD (t .counts) countObjects 0) 0
+      (λ m _ l. rw (same-owner m) (h .tasks m (omega (arith, same-cell countObjects (omega arith))) (omega (arith, same-cell countObjects (omega arith))))))
+
+  pub same-view : getD (u .counts) countObjects 0 ≤ objectLimit → SameRows (firstView u) (view t)
+  unfolding firstView firstViewOver view viewOver framesOf
+  same-view few = record {
+    rest = λ i. firstRowsOf
+        (rows (classRowAt (h .rest i .classes)) (same-cell countClasses (omega arith) i) 0)
+        (rows (λ j. getD (h .rest i .kept) j 0) (same-cell countKept (omega arith) i) 0)
+        (rows (entryAt (h .rest i .cache)) (same-cell countCache (omega arith) i) 0)
+        (rows (tieAt (h .rest i .ties)) (same-cell countTies (omega arith) i) 0)
+        (rows (subtypeAt (h .rest i .subtypes)) (same-cell countSubtypes (omega arith) i) 0)
+        (firstObjectsOf (viewBase u) u)
+        (stack (frameIn (h .rest i .frames) 0) (same-cell countFrames (omega arith) i))
+        (stack (frameIn (h .rest i .frames) 1) (same-cell (countFrames + 1) (omega arith) i));
+    objects = same-objects few;
+  }
+
+-- 'Broken'
+
+-- tests in sequence: the second is asked only where the first passed
+in-turn : (a b : Bool) (xs ys : List Bool) → a ≡ b → (a ≡ true → every xs ≡ every ys) → every (a ∷ xs) ≡ every (b ∷ ys)
+unfolding every
+in-turn true b xs ys e k = rw (← e) (k refl)
+in-turn false b xs ys e k = rw (← e) refl
+
+module _ (u : FirstTables) (t : Tables) (h : Carries u t) where
+  pub eight-counts : firstShaped u ≡ true → length (u .counts) ≡ firstCountsLength
+  unfolding firstShaped
+  eight-counts s = eqb-true _ _ (every-true _ s .0)
+
+  -- of the first document's lengths, and counts within the limits: both hold the same rows
+  same-rows : firstShaped u ≡ true → within (u .counts) ≡ true → SameRows (firstView u) (view t)
+  unfolding within
+  same-rows s w = same-view u t h (eight-counts s) (leb-true _ _ (every-true _ w .1 .1 .1 .1 .1 .0))
+
+  pub same-broken : firstBroken u ≡ broken t
+  unfolding firstBroken broken firstWhole whole
+  same-broken = ap not
+      (in-turn _ _ _ _ (same-shaped u t h) (λ s. in-turn _ _ _ _ (same-within u t h (eight-counts s)) (λ w.
+      let r = same-rows s w in
+      ap (λ (z : Bool). every (z ∷ [])) (ap firstSound (r .rest) ∙ same-sound (firstView u .objects) (view t) (r .objects)))))
+
+  -- a store that isn't broken
+  pub record SameStore : Type 0 where
+    pub eight : length (u .counts) ≡ firstCountsLength
+    pub rows : SameRows (firstView u) (view t)
+
+  pub same-store : firstBroken u ≡ false → SameStore
+  unfolding firstBroken firstWhole
+  same-store e = let p = every-true _ (not-false _ e) in record { eight = eight-counts (p .0); rows = same-rows (p .0) (p .1 .0) }

@@ -1,0 +1,126 @@
+-- The same rows in both machines: the same objects, and every other part equal. They are sound together, and a call on them gives the same answer and leaves
+-- the same rows again.
+use mathlib.Core.Path.{_≡_, refl, ap, _∙_}
+use mathlib.Core.Bool.{Bool, true, false}
+use mathlib.Core.List.{List, [], _∷_}
+use Prim.Native.Nat.{ℕ, _<_}
+use native.Mathlib.Omega.{arith}
+use lib.ListN.{length}
+use lib.Dec.{leb, ltb}
+use borrow.Author.Tests.{ltb-true, lt-ltb}
+use Rattle.definition.specs.Numbers.{taskLimit, operandLimit}
+use Rattle.definition.specs.Lists.{every, all, isSome}
+use Rattle.definition.specs.Machine.{Value, emptyValue, intValue, nullValue, objectValue, unlistedValue, Object, owned, Objects, Frame, Progress}
+use Rattle.definition.specs.Tables.{Rows, worldOf, framesIn}
+use Rattle.definition.specs.Broken.{classesFit, entryFits, tieFits, subtypeFits, valueFits, localFits, objectFits, frameFits, sound}
+use Rattle.definition.specs.Calls.{Given, progressed, answerOf, defineRows, recordRows, startRows, dropRows, stepTask, stepOn, stepRows, RowCall, rowDefine, rowRecord, rowStart, rowDrop, onRowCall}
+use Rattle.first.specs.Machine.{FirstProgress}
+use Rattle.first.specs.Tables.{FirstRows, firstRowsOf}
+use Rattle.first.specs.Broken.{firstValueFits, firstLocalFits, firstObjectFits, firstFrameFits, firstSound}
+use Rattle.first.specs.Calls.{FirstGiven, firstProgressed, firstDefineRows, firstRecordRows, firstStartRows, firstDropRows, firstStepTask, firstStepOn, firstStepRows, FirstRowCall, firstRowDefine, firstRowRecord, firstRowStart, firstRowDrop, firstOnRowCall}
+use Rattle.first.specs.SameObjects.{SameObjects, noObjects, sameObject, same-existing}
+use Rattle.first.specs.Likewise.{Likewise, both, after, passed}
+use Rattle.first.specs.SameSteps.{SameProgress, same-step, same-started}
+
+-- today's rows, but for the objects
+abbrev pub plain : List Object → Rows → FirstRows
+plain os q = firstRowsOf (q .classes) (q .kept) (q .cache) (q .ties) (q .subtypes) os (q .quote) (q .report)
+
+pub record SameRows (r : FirstRows) (q : Rows) : Type 0 where
+  pub rest : r ≡ plain (r .objects) q
+  pub objects : SameObjects (r .objects) (q .objects)
+
+-- Sound rows
+
+module _ (os : List Object) (qs : Objects) (h : SameObjects os qs) where
+  same-value : (v : Value) → firstValueFits os v ≡ valueFits qs v
+  unfolding firstValueFits valueFits
+  same-value emptyValue = refl
+  same-value (intValue n) = refl
+  same-value nullValue = refl
+  same-value (objectValue o) = ap isSome (same-existing os qs h o)
+  same-value (unlistedValue k b) = refl
+
+  same-local : (v : Value) → firstLocalFits os v ≡ localFits qs v
+  unfolding firstLocalFits localFits
+  same-local emptyValue = refl
+  same-local (intValue n) = refl
+  same-local nullValue = refl
+  same-local (objectValue o) = ap isSome (same-existing os qs h o)
+  same-local (unlistedValue k b) = refl
+
+  -- an owner that is a task passes its test
+  same-object : (n k : ℕ) (x : Object) → k < taskLimit → firstObjectFits n os x ≡ objectFits n qs (owned k x)
+  unfolding firstObjectFits objectFits
+  same-object n k x l =
+      (λ i. every (ltb (x .class) n ∷ all (λ v. same-value v i) (x .values) ∷ []))
+      ∙ rw (lt-ltb k taskLimit l) (unfold every in refl)
+
+  same-objects : (n : ℕ) (ps : List Object) (rs : Objects) → SameObjects ps rs → all (firstObjectFits n os) ps ≡ all (objectFits n qs) rs
+  unfolding all
+  same-objects n ps rs noObjects = refl
+  same-objects n ps rs (sameObject {k = k} {x = x} {os = ps′} {qs = rs′} l g) =
+      λ i. elim (same-object n k x l i) as (λ _. Bool) [ true ↦ same-objects n ps′ rs′ g i | false ↦ false ]
+
+  same-frame : (n : ℕ) (f : Frame) → firstFrameFits n os f ≡ frameFits n qs f
+  unfolding firstFrameFits frameFits
+  same-frame n f =
+      λ i. every
+      (ltb (f .class) n ∷ leb (length (f .operands)) operandLimit ∷ all (λ v. same-value v i) (f .operands) ∷ all (λ v. same-local v i) (f .locals) ∷ [])
+
+pub same-sound : (os : List Object) (q : Rows) → SameObjects os (q .objects) → firstSound (plain os q) ≡ sound q
+unfolding firstSound sound
+same-sound os q h =
+    λ i. every
+    (classesFit (worldOf q .base) (q .kept) (q .classes)
+    ∷ all (entryFits (length (q .classes))) (q .cache)
+    ∷ all tieFits (q .ties)
+    ∷ all subtypeFits (q .subtypes)
+    ∷ same-objects os (q .objects) h (length (q .classes)) os (q .objects) h i
+    ∷ all (λ f. same-frame os (q .objects) h (length (q .classes)) f i) (q .quote)
+    ∷ all (λ f. same-frame os (q .objects) h (length (q .classes)) f i) (q .report)
+    ∷ [])
+
+-- Calls
+
+pub record SameGiven {A : Type 0} (g : FirstGiven A) (h : Given A) : Type 0 where
+  pub answer : g .answer ≡ h .answer
+  pub rows : SameRows (g .rows) (h .rows)
+
+-- a call of the first document, asked of today's machine
+abbrev pub todayRow : FirstRowCall → RowCall
+todayRow (firstRowDefine l bs) = rowDefine l bs
+todayRow (firstRowRecord l n c) = rowRecord l n c
+todayRow (firstRowStart k l n m v) = rowStart k l n m v
+todayRow (firstRowDrop k) = rowDrop k
+
+module _ (os : List Object) (q : Rows) (h : SameObjects os (q .objects)) where
+  -- a task's progress
+  same-progressed : (k : ℕ) (p : FirstProgress) (o : Progress) → SameProgress p o → SameRows (firstProgressed k (plain os q) p) (progressed k q o)
+  same-progressed k p o g = record { rest = ap (firstProgressed k (plain os q)) (g .rest); objects = g .objects }
+
+  pub same-row-call : (c : FirstRowCall) → Likewise SameGiven (firstOnRowCall c (plain os q)) (onRowCall (todayRow c) q)
+  unfolding firstDefineRows defineRows firstRecordRows recordRows firstStartRows startRows firstDropRows dropRows
+  same-row-call (firstRowDefine l bs) =
+      after SameGiven _ _ refl _ _ (λ _. after SameGiven _ _ refl _ _ (λ f. after SameGiven _ _ refl _ _ (λ w. record { answer = refl; rows = record { rest = refl; objects = h } })))
+  same-row-call (firstRowRecord l n c) = after SameGiven _ _ refl _ _ (λ w. record { answer = refl; rows = record { rest = refl; objects = h } })
+  same-row-call (firstRowStart k l n m v) =
+      passed SameGiven _ _ _ _ (λ t. both SameProgress SameGiven _ _ _ _ (same-started os (q .objects) h k (ltb-true k taskLimit t) (worldOf q) l n m v (framesIn k q))
+      (λ p o g. record { answer = refl; rows = same-progressed k p o g }))
+  same-row-call (firstRowDrop k) = after SameGiven _ _ refl _ _ (λ _. record { answer = refl; rows = record { rest = refl; objects = h } })
+
+  same-task : (k : ℕ) → k < taskLimit → (f : Frame) (fs : List Frame)
+      → Likewise SameGiven (firstStepTask k (worldOf q) f fs (plain os q)) (stepTask k (worldOf q) f fs q)
+  unfolding firstStepTask stepTask
+  same-task k t f fs =
+      both SameProgress SameGiven _ _ _ _ (same-step os (q .objects) h k t (worldOf q) f fs)
+      (λ p o g. record { answer = ap (λ (z : FirstProgress). answerOf k (z .result)) (g .rest); rows = same-progressed k p o g })
+
+  pub same-step-rows : Likewise SameGiven (firstStepRows (plain os q)) (stepRows q)
+  unfolding firstStepRows stepRows
+  same-step-rows = go (q .quote) (q .report)
+    where
+      go : (fs gs : List Frame) → Likewise SameGiven (firstStepOn fs gs (worldOf q) (plain os q)) (stepOn fs gs (worldOf q) q)
+      go (f ∷ fs) gs = unfold firstStepOn stepOn in same-task 0 (omega arith) f fs
+      go [] (f ∷ fs) = unfold firstStepOn stepOn in same-task 1 (omega arith) f fs
+      go [] [] = unfold firstStepOn stepOn in record { answer = refl; rows = record { rest = refl; objects = h } }
