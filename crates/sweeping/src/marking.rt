@@ -172,13 +172,7 @@ fn mark_fields(
 }
 
 // The work list, from its first object to the last that is put on it.
-fn follow_fields(
-    marks: &mut [u8],
-    list: &mut [u32],
-    n: u16,
-    sizes: &[u8],
-    objects: &[u32],
-) -> u16
+fn follow_fields(marks: &mut [u8], list: &mut [u32], n: u16, sizes: &[u8], objects: &[u32]) -> u16
     requires { ⌜ n ≤ objectLimit ⌝ }
     ensures { λ r. ⌜ work (now (marks .exit)) (now (list .exit)) r ≡ follow (fieldNames (now (sizes .entry)) (now (objects .entry))) objectLimit 0 (work (now (marks .entry)) (now (list .entry)) n) ⌝ }
 {
