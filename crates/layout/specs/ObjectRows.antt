@@ -141,12 +141,3 @@ module _ (b : Base) where
   -- a field that isn't there: nothing
   pub object-field-past : (t : List ℕ) (o j : ℕ) (v : Value) → usedFields b (objectAt b t o .class) ≤ j → withField (objectAt b t o) j v ≡ objectAt b t o
   object-field-past t o j v l = rw (set-out (objectAt b t o .values) j v (rw (object-size t o) l))
-
-  -- The objects of a table: one field of one set, an object made
-
-  pub objects-field : (t : List ℕ) (n o j : ℕ) (v : Value) → o < n → j < usedFields b (objectAt b t o .class)
-      → writeRows putObject (set (rows (objectAt b t) n 0) o (withField (objectAt b t o) j v)) 0 t ≡ putField o t j v
-  objects-field t n o j v l h = writeRows-replace putObject (objectAt b) (object-same b) object-below t n o (withField (objectAt b t o) j v) l ∙ object-field t o j v h
-
-  pub objects-made : (t : List ℕ) (n : ℕ) (x : Object) → writeRows putObject (rows (objectAt b t) n 0 ++ (x ∷ [])) 0 t ≡ putObject t n x
-  objects-made t n x = writeRows-last putObject (objectAt b) (object-same b) object-below t n x
