@@ -126,8 +126,9 @@ fn is_readable(
     rows_fit(counts, cache, ties, subtypes)
 }
 
-// Whether the tables are broken.
-pub fn is_broken(
+// Whether the tables are broken. If not, `sizes` has the sizes of all classes.
+fn test(
+    sizes: &mut [u8],
     counts: &[u16],
     classes: &[u16],
     kept: &[u8],
@@ -137,7 +138,8 @@ pub fn is_broken(
     objects: &[u32],
     frames: &[u32],
 ) -> bool
-    ensures { λ r. ⌜ r ≡ broken (tables (now (counts .entry)) (now (classes .entry)) (now (kept .entry)) (now (cache .entry)) (now (ties .entry)) (now (subtypes .entry)) (now (objects .entry)) (now (frames .entry))) ⌝ }
+    requires { ⌜ length (now sizes) ≡ classLimit ⌝ }
+    ensures { λ r. ⌜ Tested (tables (now (counts .entry)) (now (classes .entry)) (now (kept .entry)) (now (cache .entry)) (now (ties .entry)) (now (subtypes .entry)) (now (objects .entry)) (now (frames .entry))) r (now (sizes .exit)) ⌝ }
 {
     if !is_readable(
         counts,
@@ -151,8 +153,34 @@ pub fn is_broken(
     ) {
         return true;
     }
+    !values_fit(sizes, counts, classes, kept, cache, objects, frames)
+}
+
+// Whether the tables are broken.
+pub fn is_broken(
+    counts: &[u16],
+    classes: &[u16],
+    kept: &[u8],
+    cache: &[u16],
+    ties: &[u16],
+    subtypes: &[u16],
+    objects: &[u32],
+    frames: &[u32],
+) -> bool
+    ensures { λ r. ⌜ r ≡ broken (tables (now (counts .entry)) (now (classes .entry)) (now (kept .entry)) (now (cache .entry)) (now (ties .entry)) (now (subtypes .entry)) (now (objects .entry)) (now (frames .entry))) ⌝ }
+{
     let mut sizes = [0u8; CLASS_LIMIT as usize];
-    !values_fit(&mut sizes, counts, classes, kept, cache, objects, frames)
+    test(
+        &mut sizes,
+        counts,
+        classes,
+        kept,
+        cache,
+        ties,
+        subtypes,
+        objects,
+        frames,
+    )
 }
 
 // The same, with the number of fields of each class, if the tables are not broken.
@@ -169,7 +197,8 @@ pub fn class_sizes(
     ensures { λ r. ⌜ Tested (tables (now (counts .entry)) (now (classes .entry)) (now (kept .entry)) (now (cache .entry)) (now (ties .entry)) (now (subtypes .entry)) (now (objects .entry)) (now (frames .entry))) (r .broken) (r .fields) ⌝ }
 {
     let mut sizes = [0u8; CLASS_LIMIT as usize];
-    if !is_readable(
+    let broken = test(
+        &mut sizes,
         counts,
         classes,
         kept,
@@ -178,15 +207,9 @@ pub fn class_sizes(
         subtypes,
         objects,
         frames,
-    ) {
-        return Sizes {
-            broken: true,
-            fields: sizes,
-        };
-    }
-    let fit = values_fit(&mut sizes, counts, classes, kept, cache, objects, frames);
+    );
     Sizes {
-        broken: !fit,
+        broken,
         fields: sizes,
     }
 }

@@ -1,7 +1,7 @@
 -- Rows freed one after the other leave the owners that a sweep puts, and are as many as it answers.
 use mathlib.Core.Path.{_≡_, refl, sym, ap, _∙_}
 use mathlib.Core.Bool.{Bool, true, false, not}
-use mathlib.Core.List.{List, [], _∷_}
+use mathlib.Core.List.{List, _∷_}
 use Prim.Native.Nat.{ℕ, zero, suc, _+_, _<_, _≤_}
 use native.Mathlib.Omega.{arith}
 use lib.ListN.{getD, set}
@@ -16,7 +16,7 @@ use Rattle.definition.specs.Sweeping.{sweptFrom, freedFrom}
 use Rattle.definition.specs.Tables.{objectAt, ownerOf, ownerAt, putOwner, objectRowAt}
 use Rattle.layout.specs.Places.{writeRows-first}
 use Rattle.layout.specs.OwnedRows.{owner-is}
-use Rattle.sweeping.specs.Marking.{dead, Freed, freed, freeRows}
+use Rattle.sweeping.specs.Marking.{dead, freed, freeRows}
 use Rattle.sweeping.proofs.Laws.{dead-free, dead-used}
 
 -- writes of owners commute, and one as it stands changes nothing

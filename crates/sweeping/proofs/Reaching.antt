@@ -3,29 +3,26 @@
 use mathlib.Core.Path.{_≡_, refl, sym, ap, subst, _∙_}
 use mathlib.Core.Bool.{Bool, true, false, not}
 use mathlib.Core.Option.{some}
-use mathlib.Core.List.{List, [], _∷_, _++_, List·Memᴰ, List·Memᴰ·head, List·Memᴰ·tail}
+use mathlib.Core.List.{List, [], _∷_, List·Memᴰ, List·Memᴰ·head, List·Memᴰ·tail}
 use Prim.Native.Nat.{ℕ, zero, suc, _+_, _<_, _≤_}
 use native.Mathlib.Omega.{arith}
 use lib.ListN.{length, replicate, getD, set, length-set}
 use lib.Seq.{getD-set-same, getD-set-other}
 use lib.Dec.{eqb, ltb}
-use borrow.Author.Tests.{eqb-true, eqb-false, ne-eqb, eq-eqb, ltb-true, ltb-false}
+use borrow.Author.Tests.{eqb-true, eqb-false, ne-eqb, ltb-true, ltb-false}
 use Rattle.definition.specs.Chains.{Chain, stay, hop, has}
 use Rattle.definition.specs.Machine.{Object, Objects, existing, Exists, Frame}
 use Rattle.definition.specs.Sweeping.{named, roots, links, Reached, reached}
 use Rattle.laws.specs.Objects.{exists-lt}
 use Rattle.laws.specs.Sweeps.{found-reached, reached-found, link-names, names-link}
 use Rattle.layout.specs.Tests.{All, all-more}
+use Rattle.unbroken.specs.WholeRows.{all-mem}
 use Rattle.sweeping.specs.Marking.{Work, work, added, mark, markAll, follow}
-use Rattle.sweeping.proofs.Laws.{mark-again, mark-new, follow-end}
+use Rattle.sweeping.proofs.Laws.{mark-again, mark-new}
 
--- Members of a list of which each holds something
+-- What holds of each member holds of each of the list
 
-all-member : {A : Type 0} (P : A → Type 0) (xs : List A) → All P xs → (x : A) → List·Memᴰ x xs → P x
-all-member P (y ∷ xs) h x (List·Memᴰ·head e) = subst P (sym e) (h .0)
-all-member P (y ∷ xs) h x (List·Memᴰ·tail m) = all-member P xs (h .1) x m
-
-pub member-all : {A : Type 0} (P : A → Type 0) (xs : List A) → ((x : A) → List·Memᴰ x xs → P x) → All P xs
+member-all : {A : Type 0} (P : A → Type 0) (xs : List A) → ((x : A) → List·Memᴰ x xs → P x) → All P xs
 member-all P [] h = tt
 member-all P (x ∷ xs) h = (h x (List·Memᴰ·head refl), member-all P xs (λ y m. h y (List·Memᴰ·tail m)))
 
@@ -218,7 +215,7 @@ module _ (os : Objects) (fs : List Frame) (few : length os ≤ 256) (names : ℕ
   good-few o g = omega (arith, exists-lt os o (g .1))
 
   good-roots : All Good (roots fs)
-  good-roots = member-all Good (roots fs) (λ o m. (record { root = o; isRoot = m; chain = stay refl }, all-member (Exists os) (roots fs) rooted o m))
+  good-roots = member-all Good (roots fs) (λ o m. (record { root = o; isRoot = m; chain = stay refl }, all-mem (Exists os) rooted m))
 
   good-next : (o : ℕ) → Good o → All Good (names o)
   good-next o g =
@@ -227,7 +224,7 @@ module _ (os : Objects) (fs : List Frame) (few : length os ≤ 256) (names : ℕ
       let e = g .1 .1 in
       rw (reads o x e) (member-all Good (named (x .values)) (λ p m. (
         record { root = r .root; isRoot = r .isRoot; chain = hop (r .chain) (names-link os o x p e m) },
-        all-member (Exists os) (named (x .values)) (fielded o x e) p m,
+        all-mem (Exists os) (fielded o x e) m,
       )))
 
   abbrev begun : Work
@@ -255,10 +252,10 @@ module _ (os : Objects) (fs : List Frame) (few : length os ≤ 256) (names : ℕ
       let k = all-done .kept .listed c (chained a c h m) in
       let here : All (Marked ended) (names c) = rw (k .2) at (all-done .closed (k .0) (k .1)) in
       let there : All (Marked ended) (named (n .0 .values)) = rw (reads c (n .0) (n .1)) at here in
-      all-member (Marked ended) (named (n .0 .values)) there b (n .2)
+      all-mem (Marked ended) there (n .2)
 
   complete : (o : ℕ) → Reached os fs o → Marked ended o
-  complete o r = chained (r .root) o (r .chain) (all-done .later .marks (r .root) (all-member (Marked begun) (roots fs) (roots-give .2) (r .root) (r .isRoot)))
+  complete o r = chained (r .root) o (r .chain) (all-done .later .marks (r .root) (all-mem (Marked begun) (roots-give .2) (r .isRoot)))
 
   pub marked-reached : (o : ℕ) → eqb (getD (ended .marks) o 0) 0 ≡ not (has eqb o (reached os fs))
   marked-reached o = go (has eqb o (reached os fs)) refl

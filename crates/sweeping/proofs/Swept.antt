@@ -1,7 +1,7 @@
 -- The call: a broken store is refused; of another, what is marked is what frames reach, so that what is freed is what the definition frees.
 use mathlib.Core.Path.{_≡_, refl, sym, ap, subst, _∙_}
 use mathlib.Core.Bool.{Bool, true, false, not}
-use mathlib.Core.Option.{Option, none, some, Option·none-ne-some, Option·some-injective}
+use mathlib.Core.Option.{some, Option·none-ne-some, Option·some-injective}
 use mathlib.Core.List.{List, [], _∷_, _++_, append-assoc}
 use Prim.Native.Nat.{ℕ, zero, suc, _+_, _*_, _<_, _≤_}
 use native.Mathlib.Omega.{arith}
@@ -10,13 +10,12 @@ use lib.Dec.{eqb, ltb}
 use borrow.Author.Tests.{ltb-true, ltb-false}
 use Rattle.definition.specs.declared.Refusal.the-variants.{Word}
 use Rattle.definition.specs.declared.Reply.the-variants.{Swept, Denied}
-use Rattle.definition.specs.Answers.{_>>=_}
 use Rattle.definition.specs.Chains.{has}
 use Rattle.definition.specs.Classes.{Base}
-use Rattle.definition.specs.Lists.{rows, writeRows}
+use Rattle.definition.specs.Lists.{writeRows}
 use Rattle.definition.specs.Machine.{Value, emptyValue, intValue, nullValue, objectValue, unlistedValue, Object, Objects, existing, Exists, Frame}
 use Rattle.definition.specs.Sweeping.{named, roots, reached, sweptFrom, freedFrom}
-use Rattle.definition.specs.Tables.{Tables, tables, objectAt, ownerAt, putOwner, objectRowAt, classRowAt, classRowsOf, viewBase, objectsOf, framesOf, viewOver, view}
+use Rattle.definition.specs.Tables.{Tables, tables, objectAt, ownerAt, putOwner, classRowAt, classRowsOf, viewBase, objectsOf, framesOf, viewOver, view}
 use Rattle.definition.specs.Broken.{broken}
 use Rattle.definition.specs.Calls.{done, sweepRows, carried, callSweep, perform}
 use Rattle.laws.specs.Wrapped.{wrap-broken, wrap-carried}
@@ -26,7 +25,7 @@ use Rattle.layout.specs.Whole.{Local, ValueSound, ObjectSound, Framed, Whole}
 use Rattle.layout.specs.View.{sweep-writes, object-there, object-past, object-free}
 use Rattle.layout.specs.Unbroken.{broken-false}
 use Rattle.unbroken.specs.Steps.{object-at}
-use Rattle.store.specs.Checks.{Sized, sizedObject}
+use Rattle.store.specs.Checks.{Sized}
 use Rattle.store.proofs.Laws.{same-object}
 use Rattle.sweeping.specs.Marking.{Work, work, markAll, fieldNames, follow, rootsOf, marked, Freed, freed, freeRows}
 use Rattle.sweeping.proofs.Laws.{mark-both}

@@ -1,7 +1,7 @@
 -- A sweep as the code does it: objects are marked and put on a work list, first those that frames name, then those that the objects on the list name in their
 -- fields; objects in use without a mark are freed. What is marked so is what frames reach (proofs/Reaching).
 use mathlib.Core.Bool.{Bool, true, false}
-use mathlib.Core.List.{List, [], _∷_, _++_}
+use mathlib.Core.List.{List, [], _∷_}
 use Prim.Native.Nat.{ℕ, zero, suc, _+_, _*_}
 use lib.ListN.{replicate, getD, set}
 use lib.Dec.{eqb, ltb}

@@ -18,7 +18,7 @@ ghost use Rattle.definition.specs.Numbers.{objectLimit, intRange};
 ghost use Rattle.definition.specs.Lists.{rows, stack};
 ghost use Rattle.definition.specs.Sweeping.{named};
 ghost use Rattle.definition.specs.Tables.{valueOf, operandAt, frameAt};
-ghost use Rattle.sweeping.specs.Marking.{Work, work, mark, markAll, markValue, valueFrom, fieldNames, follow, rootsOf, marked};
+ghost use Rattle.sweeping.specs.Marking.{work, mark, markAll, markValue, valueFrom, fieldNames, follow, rootsOf, marked};
 
 // The rows of a task, and the cells of a row of frames.
 const TASK_ROWS: u32 = FRAME_LIMIT as u32;

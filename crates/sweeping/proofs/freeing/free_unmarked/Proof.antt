@@ -4,7 +4,6 @@ use mathlib.Core.Logic.{⊎-elim}
 use Prim.Native.Nat.{_-_, _≤_}
 use native.Mathlib.Omega.{arith}
 use lib.ListN.{length, getD}
-use denote.Ref.{now}
 use borrow.Author.Needs.{needs}
 use Rattle.sweeping.specs.Marking.{freeRows}
 use Rattle.sweeping.proofs.Laws.{free-start, free-turn, keep-turn, free-end}

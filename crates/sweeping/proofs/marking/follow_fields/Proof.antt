@@ -3,7 +3,6 @@ use mathlib.Core.Path.{_∙_, _≡_, refl, sym}
 use Prim.Native.Nat.{_-_, _≤_}
 use native.Mathlib.Omega.{arith}
 use lib.ListN.{length}
-use denote.Ref.{now}
 use borrow.Author.Needs.{needs}
 use Rattle.sweeping.specs.Marking.{work, fieldNames, follow}
 use Rattle.sweeping.proofs.Laws.{few-kept, follow-turn, follow-end}

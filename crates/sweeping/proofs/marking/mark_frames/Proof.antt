@@ -1,6 +1,5 @@
 -- The frames below row i still are to be marked, and then as many are marked as from the top on.
 use mathlib.Core.Path.{_∙_, _≡_, refl, sym}
-use native.Mathlib.Omega.{arith}
 use lib.ListN.{length}
 use denote.Ref.{now}
 use borrow.Author.Needs.{needs}
