@@ -1,4 +1,4 @@
--- An object's row: a class and values. It keeps the law of rows (`object-rows`).
+-- An object's row: a class and values. What is read is written back as it was; what fits its row is read back, and other rows stay.
 use mathlib.Core.Path.{_≡_, refl, _∙_}
 use mathlib.Core.Bool.{Bool, true, false}
 use mathlib.Core.List.{List, [], _∷_, _++_}
@@ -69,13 +69,6 @@ unread-object r o hi un x l t =
     unread-places (o * objectCells) fieldsCell r (o * objectCells) hi un (x .values) 0 (set t (o * objectCells) (x .class)) (omega arith) (omega arith)
     ∙ un t (o * objectCells) (x .class) (omega arith) (omega arith)
 
-within-object : (o : ℕ) (x : Object) → length (x .values) ≤ fieldLimit → Within (λ t. putObject t o x) (o * objectCells) (o * objectCells + objectCells)
-unfolding putObject putField
-within-object o x l =
-    within-both (λ t. writeRows (putPlace (o * objectCells) fieldsCell) (x .values) 0 t) (λ t. set t (o * objectCells) (x .class)) (o * objectCells) (o * objectCells + objectCells)
-    (within-places (o * objectCells) fieldsCell (x .values) 0 (o * objectCells) (o * objectCells + objectCells) (omega arith) (omega arith))
-    (within-set (o * objectCells) (x .class) (o * objectCells) (o * objectCells + objectCells) (omega arith) (omega arith))
-
 pub putObject-length : (t : List ℕ) (o : ℕ) (x : Object) → length (putObject t o x) ≡ length t
 putObject-length t o x = unread-object length o (o * objectCells + (fieldsCell + valueCells * length (x .values))) (λ s m v a k. length-set s m v) x (omega arith) t
 
@@ -115,17 +108,6 @@ module _ (b : Base) where
 
   pub proper-few : (x : Object) → ObjectProper x → length (x .values) ≤ fieldLimit
   proper-few x p = omega (arith, p .size, used-few b (x .class))
-
-  pub object-rows : RowLaws (objectAt b) putObject objectCells ObjectProper
-  object-rows = record {
-    same = object-same b;
-    back = λ t o x l p. object-back t o x l (p .size) (p .values);
-    other = λ t i o x n p _. object-other t i o x n (proper-few x p);
-    long = putObject-length;
-    commute = λ t i j x y l p q.
-        within-apart (λ s. putObject s i x) (λ s. putObject s j y) (i * objectCells) (i * objectCells + objectCells) (j * objectCells) (j * objectCells + objectCells)
-        (within-object i x (proper-few x p)) (within-object j y (proper-few y q)) (λ m n a c d e r. omega arith) t;
-  }
 
   -- its values, as the machine reads them
   pub object-size : (t : List ℕ) (o : ℕ) → length (objectAt b t o .values) ≡ usedFields b (objectAt b t o .class)
