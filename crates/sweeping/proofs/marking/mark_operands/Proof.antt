@@ -5,7 +5,7 @@ use denote.Ref.{now}
 use borrow.Author.Needs.{needs}
 use Rattle.definition.specs.Lists.{stack}
 use Rattle.definition.specs.Sweeping.{named}
-use Rattle.definition.specs.Tables.{operandAt, valueAt}
+use Rattle.definition.specs.Tables.{operandAt}
 use Rattle.sweeping.specs.Marking.{work, markAll}
 use Rattle.sweeping.proofs.Laws.{stack-turn, stack-end}
 use Rattle.sweeping.proofs.marking.mark_operands.Statement.{statement}
@@ -21,17 +21,16 @@ loop-holds : tie.Need-loop-holds Inv-loop μ-loop
 loop-holds c = (refl, refl, refl)
 
 loop-again : tie.Need-loop-again Inv-loop μ-loop
-unfolding operandAt valueAt
+unfolding operandAt
 loop-again c =
     let at4 = c .before .before .before .before in
-    let at6 = at4 .before .before in
-    let at9 = at6 .before .before .before in
-    let at12 = at9 .before .before .before in
-    let at16 = at12 .before .before .before .before in
-    (stack-turn (operandAt (now (at16 .args .frames)) (at16 .args .b)) _ _ _ (at4 .mark-value .ensures) _ (at9 .before .before .loop-test .taken) (rw (at6 .at32 .ensures, at4 .before .at322 .ensures, at9 .before .wide32 .ensures .0, at9 .wide322 .ensures .0)) ∙ at12 .loop .inv .0, at4 .mark-value .kept .0 ∙ at12 .loop .inv .1, at4 .mark-value .kept .1 .0 ∙ at12 .loop .inv .2)
+    let at7 = at4 .before .before .before in
+    let at10 = at7 .before .before .before in
+    let at14 = at10 .before .before .before .before in
+    (stack-turn (operandAt (now (at14 .args .frames)) (at14 .args .b)) _ _ _ (at4 .mark-value .ensures) _ (at7 .before .before .loop-test .taken) (rw (at7 .before .wide32 .ensures .0, at7 .wide322 .ensures .0)) ∙ at10 .loop .inv .0, at4 .mark-value .kept .0 ∙ at10 .loop .inv .1, at4 .mark-value .kept .1 .0 ∙ at10 .loop .inv .2)
 
 returns : tie.Need-returns Inv-loop μ-loop
 returns c = sym (stack-end _ _ _ (c .loop-test .left)) ∙ c .before .loop .inv .0
 
 pub mark-operands-spec : {M : Type 1} → statement M
-mark-operands-spec = tie.close (tie.spec Inv-loop μ-loop loop-holds (λ c κs. search needs) (λ c. search needs) (λ c κs. search needs) (λ c. search needs) (λ c. search needs) (λ c. search needs) (λ c κs. search needs) (λ c. search needs) (λ c κs. search needs) (λ c κs. search needs) (λ c. search needs) (λ c. search needs) loop-again (λ c. search needs) (λ c. search needs) returns)
+mark-operands-spec = tie.close (tie.spec Inv-loop μ-loop loop-holds (λ c κs. search needs) (λ c. search needs) (λ c κs. search needs) (λ c. search needs) (λ c. search needs) (λ c. search needs) (λ c κs. search needs) (λ c. search needs) (λ c. search needs) loop-again (λ c. search needs) (λ c. search needs) returns)

@@ -7,7 +7,6 @@ use denote.Ref.{now}
 use borrow.Author.Needs.{needs}
 use Rattle.definition.specs.Lists.{rows}
 use Rattle.definition.specs.Sweeping.{named}
-use Rattle.definition.specs.Tables.{valueAt}
 use Rattle.sweeping.specs.Marking.{work, markAll, valueFrom}
 use Rattle.sweeping.proofs.Laws.{values-start, values-turn, values-end}
 use Rattle.sweeping.proofs.marking.mark_values.Statement.{statement}
@@ -23,17 +22,16 @@ loop-holds : tie.Need-loop-holds Inv-loop μ-loop
 loop-holds c = (omega arith, values-start _ _ _, refl, refl)
 
 loop-again : tie.Need-loop-again Inv-loop μ-loop
-unfolding valueFrom valueAt
+unfolding valueFrom
 loop-again c =
     let at4 = c .before .before .before .before in
-    let at6 = at4 .before .before in
-    let at9 = at6 .before .before .before in
-    let at11 = at9 .before .before in
-    let at15 = at11 .before .before .before .before in
-    (omega arith, values-turn (valueFrom (now (at15 .args .table)) (at15 .args .first)) _ _ _ (at4 .mark-value .ensures) _ _ (at9 .before .loop-test .taken) (rw (at6 .at32 .ensures, at4 .before .at322 .ensures, at9 .wide8 .ensures .0)) ∙ at11 .loop .inv .1, at4 .mark-value .kept .0 ∙ at11 .loop .inv .2, at4 .mark-value .kept .1 .0 ∙ at11 .loop .inv .3)
+    let at7 = at4 .before .before .before in
+    let at9 = at7 .before .before in
+    let at13 = at9 .before .before .before .before in
+    (omega arith, values-turn (valueFrom (now (at13 .args .table)) (at13 .args .first)) _ _ _ (at4 .mark-value .ensures) _ _ (at7 .before .loop-test .taken) (rw (at7 .wide8 .ensures .0)) ∙ at9 .loop .inv .1, at4 .mark-value .kept .0 ∙ at9 .loop .inv .2, at4 .mark-value .kept .1 .0 ∙ at9 .loop .inv .3)
 
 returns : tie.Need-returns Inv-loop μ-loop
 returns c = sym (values-end _ _ _ _ (c .loop-test .left)) ∙ c .before .loop .inv .1
 
 pub mark-values-spec : {M : Type 1} → statement M
-mark-values-spec = tie.close (tie.spec Inv-loop μ-loop loop-holds (λ c κs. search needs) (λ c. search needs) (λ c. search needs) (λ c κs. search needs) (λ c. search needs) (λ c κs. search needs) (λ c κs. search needs) (λ c. search needs) (λ c. search needs) loop-again (λ c. search needs) (λ c. search needs) returns)
+mark-values-spec = tie.close (tie.spec Inv-loop μ-loop loop-holds (λ c κs. search needs) (λ c. search needs) (λ c. search needs) (λ c κs. search needs) (λ c. search needs) (λ c. search needs) loop-again (λ c. search needs) (λ c. search needs) returns)
