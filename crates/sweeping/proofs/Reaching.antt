@@ -17,6 +17,7 @@ use Rattle.laws.specs.Objects.{exists-lt}
 use Rattle.laws.specs.Sweeps.{found-reached, reached-found, link-names, names-link}
 use Rattle.layout.specs.Tests.{All, all-more}
 use Rattle.unbroken.specs.WholeRows.{all-mem}
+use Rattle.store.specs.Same.{zeros-at}
 use Rattle.sweeping.specs.Marking.{Work, work, added, mark, markAll, follow}
 use Rattle.sweeping.proofs.Laws.{mark-again, mark-new}
 
@@ -55,11 +56,6 @@ zeros-none : (n : ℕ) → tally (replicate n 0) ≡ 0
 unfolding tally
 zeros-none zero = refl
 zeros-none (suc n) = zeros-none n
-
-zeros-at : (n o : ℕ) → _≡_ {A = ℕ} (getD (replicate n 0) o 0) 0
-zeros-at zero o = refl
-zeros-at (suc n) zero = refl
-zeros-at (suc n) (suc o) = zeros-at n o
 
 -- Marks and the list; P is what holds of each object on it
 
