@@ -188,10 +188,12 @@ blank-length s l = ap length l ∙ length-replicate {A = ℕ} 64 0
 
 module _ (b : Base) where
   pub sized-first : (s : List ℕ) → Blank s → sizeOf b 0 ≡ 0 → Sized b 1 (set s 0 0)
-  sized-first s l e c = (λ h.
-      let z : c ≡ 0 = omega arith in
-      (ap (λ (i : ℕ). getD (set s 0 0) i 0) z ∙ (getD-set-same s 0 0 0 (omega (arith, blank-length s l)) ∙ (sym e ∙ ap (sizeOf b) (sym z))), omega (arith, ap (sizeOf b) z)),
-      λ h. getD-set-other s 0 c 0 0 (λ z. omega arith) ∙ (ap (λ (u : List ℕ). getD u c 0) l ∙ zeros-at 64 c))
+  sized-first s l e c = (
+    λ h.
+        let z : c ≡ 0 = omega arith in
+        (ap (λ (i : ℕ). getD (set s 0 0) i 0) z ∙ (getD-set-same s 0 0 0 (omega (arith, blank-length s l)) ∙ (sym e ∙ ap (sizeOf b) (sym z))), omega (arith, ap (sizeOf b) z)),
+    λ h. getD-set-other s 0 c 0 0 (λ z. omega arith) ∙ (ap (λ (u : List ℕ). getD u c 0) l ∙ zeros-at 64 c),
+  )
 
   pub sized-more : (s : List ℕ) (n v : ℕ) → Sized b n s → n < length s → v ≡ sizeOf b n → sizeOf b n ≤ 16 → Sized b (n + 1) (set s n v)
   sized-more s n v h l e k c = (λ i. go i (eqb c n) refl, λ i. getD-set-other s n c v 0 (λ z. omega arith) ∙ h c .1 (omega arith))
