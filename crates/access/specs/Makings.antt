@@ -1,5 +1,5 @@
 -- new: the plan that it answers, and that the plan is right where the number that it was given is the lowest unused.
-use mathlib.Core.Path.{_≡_, refl, sym, _∙_}
+use mathlib.Core.Path.{_≡_, refl, _∙_}
 use mathlib.Core.Bool.{Bool, true, false, not, _&&_}
 use mathlib.Core.Option.{none, some}
 use mathlib.Core.List.{List}
@@ -14,7 +14,7 @@ use Rattle.definition.specs.Instructions.{pick}
 use Rattle.definition.specs.declared.Refusal.the-variants.{Word, Wanted}
 use Rattle.definition.specs.Answers.{_>>=_, need, take?}
 use Rattle.definition.specs.Machine.{Objects, unused, roomless, Frame, execute}
-use Rattle.definition.specs.Tables.{Tables, tables, sizeOf, operandAt, frameOf, objectsOf}
+use Rattle.definition.specs.Tables.{tables, sizeOf, operandAt, frameOf, objectsOf}
 use Rattle.layout.specs.Places.{stack-length}
 use Rattle.frames.specs.Unused.{unusedFrom, unused-is}
 use Rattle.instructions.specs.declared.Plan.{Plan}

@@ -18,7 +18,7 @@ use Rattle.definition.specs.Calls.{turn, boot, Call, callDefine, callRecord, ca
 use Rattle.definition.specs.Computing.Samples.{fileF, plain, coded, lifts, pushes, ready, tied12, tied123}
 
 -- case p: after a boot and the calls `before`, which are all accepted and leave these ties, these subtype constraints and objects of these numbers, `last` answers
--- `expect`, and changes the tables or not
+-- `expect`, leaves objects of the numbers `left`, and changes the tables or not
 pub record Case : Type 0 where
   pub p : ℕ
   pub before : List Call
@@ -27,10 +27,11 @@ pub record Case : Type 0 where
   pub objects : List ℕ
   pub last : Call
   pub expect : Shown
+  pub left : List ℕ
   pub unchanged : Bool
 
-abbrev pub case : ℕ → List Call → List Tie → List Subtype → List ℕ → Call → Shown → Bool → Case
-case p b ts ss os l e u = record { p = p; before = b; ties = ts; subtypes = ss; objects = os; last = l; expect = e; unchanged = u }
+abbrev pub case : ℕ → List Call → List Tie → List Subtype → List ℕ → Call → Shown → List ℕ → Bool → Case
+case p b ts ss os l e qs u = record { p = p; before = b; ties = ts; subtypes = ss; objects = os; last = l; expect = e; left = qs; unchanged = u }
 
 -- the tie of loaders 2 and 1 on 12, that of 3 and 2, and 13 below 12 under loader 1
 abbrev tie12 : Tie
@@ -58,23 +59,23 @@ class c = line 0 c 0 (pos 0)
 
 unfoldable pub table : List Case
 table =
-    case 1 [] [] [] [] callStep fine true
-    ∷ case 2 [] [] [] [] (callDefine 1 fileF) (line 5 1 2 (pos 0)) true
-    ∷ case 2 ready [] [] [] (callDefine 1 fileF) (class 1) false
-    ∷ case 3 (ready ++ callDefine 1 fileF ∷ []) [] [] [] (callDefine 1 fileF) (no 4) true
-    ∷ case 3 (ready ++ callDefine 1 fileF ∷ []) [] [] [] (callDefine 2 fileF) (class 2) false
-    ∷ case 4 [] [] [] [] (callRecord 1 2 0) fine false
-    ∷ case 4 (callRecord 1 2 0 ∷ []) [] [] [] (callRecord 1 2 0) fine true
-    ∷ case 5 (tied12 ++ callDefine 1 (plain 12 2) ∷ []) (tie12 ∷ []) [] [] (callDefine 2 (plain 12 2)) (no 9) true
-    ∷ case 5 (tied12 ++ callDefine 1 (plain 12 2) ∷ []) (tie12 ∷ []) [] [] (callRecord 2 12 3) fine false
-    ∷ case 6 (tied123 ++ callDefine 1 (plain 12 2) ∷ []) (tie12 ∷ tie23 ∷ []) [] [] (callDefine 3 (plain 12 2)) (no 9) true
-    ∷ case 6 (tied123 ++ callDefine 1 (plain 12 2) ∷ []) (tie12 ∷ tie23 ∷ []) [] [] (callRecord 3 12 4) fine false
-    ∷ case 7 (tied12 ++ callDefine 1 lifts ∷ callDefine 2 (plain 12 2) ∷ []) (tie12 ∷ []) (below1 ∷ []) [] (callDefine 1 (plain 13 2)) (no 9) true
-    ∷ case 7 (tied12 ++ callDefine 1 lifts ∷ callDefine 2 (plain 12 2) ∷ callRecord 1 12 4 ∷ []) (tie12 ∷ []) (below1 ∷ []) [] (callDefine 1 (plain 13 12)) (class 5) false
-    ∷ case 8 (ready ++ callDefine 1 (coded (0x15 ∷ 1 ∷ 0x11 ∷ 0 ∷ 1 ∷ 0x60 ∷ 0xAC ∷ [])) ∷ callStart 0 1 10 20 2147483647 ∷ callRun 3 ∷ []) [] [] (0 ∷ []) callStep (line 0 2 0 (negsuc 2147483647)) false
-    ∷ case 9 (ready ++ callDefine 1 (coded (0x01 ∷ 0xB4 ∷ 0 ∷ 99 ∷ 0 ∷ 5 ∷ 0 ∷ 1 ∷ 0xAC ∷ [])) ∷ callStart 0 1 10 20 7 ∷ callStep ∷ []) [] [] (0 ∷ []) callStep (line 5 1 99 (pos 0)) true
-    ∷ case 10 ready [] [] [] (callDefine 1 (coded (pushes 16))) (class 1) false
-    ∷ case 10 ready [] [] [] (callDefine 1 (coded (pushes 17))) (no 6) true
+    case 1 [] [] [] [] callStep fine [] true
+    ∷ case 2 [] [] [] [] (callDefine 1 fileF) (line 5 1 2 (pos 0)) [] true
+    ∷ case 2 ready [] [] [] (callDefine 1 fileF) (class 1) [] false
+    ∷ case 3 (ready ++ callDefine 1 fileF ∷ []) [] [] [] (callDefine 1 fileF) (no 4) [] true
+    ∷ case 3 (ready ++ callDefine 1 fileF ∷ []) [] [] [] (callDefine 2 fileF) (class 2) [] false
+    ∷ case 4 [] [] [] [] (callRecord 1 2 0) fine [] false
+    ∷ case 4 (callRecord 1 2 0 ∷ []) [] [] [] (callRecord 1 2 0) fine [] true
+    ∷ case 5 (tied12 ++ callDefine 1 (plain 12 2) ∷ []) (tie12 ∷ []) [] [] (callDefine 2 (plain 12 2)) (no 9) [] true
+    ∷ case 5 (tied12 ++ callDefine 1 (plain 12 2) ∷ []) (tie12 ∷ []) [] [] (callRecord 2 12 3) fine [] false
+    ∷ case 6 (tied123 ++ callDefine 1 (plain 12 2) ∷ []) (tie12 ∷ tie23 ∷ []) [] [] (callDefine 3 (plain 12 2)) (no 9) [] true
+    ∷ case 6 (tied123 ++ callDefine 1 (plain 12 2) ∷ []) (tie12 ∷ tie23 ∷ []) [] [] (callRecord 3 12 4) fine [] false
+    ∷ case 7 (tied12 ++ callDefine 1 lifts ∷ callDefine 2 (plain 12 2) ∷ []) (tie12 ∷ []) (below1 ∷ []) [] (callDefine 1 (plain 13 2)) (no 9) [] true
+    ∷ case 7 (tied12 ++ callDefine 1 lifts ∷ callDefine 2 (plain 12 2) ∷ callRecord 1 12 4 ∷ []) (tie12 ∷ []) (below1 ∷ []) [] (callDefine 1 (plain 13 12)) (class 5) [] false
+    ∷ case 8 (ready ++ callDefine 1 (coded (0x15 ∷ 1 ∷ 0x11 ∷ 0 ∷ 1 ∷ 0x60 ∷ 0xAC ∷ [])) ∷ callStart 0 1 10 20 2147483647 ∷ callRun 3 ∷ []) [] [] (0 ∷ []) callStep (line 0 2 0 (negsuc 2147483647)) (0 ∷ []) false
+    ∷ case 9 (ready ++ callDefine 1 (coded (0x01 ∷ 0xB4 ∷ 0 ∷ 99 ∷ 0 ∷ 5 ∷ 0 ∷ 1 ∷ 0xAC ∷ [])) ∷ callStart 0 1 10 20 7 ∷ callStep ∷ []) [] [] (0 ∷ []) callStep (line 5 1 99 (pos 0)) (0 ∷ []) true
+    ∷ case 10 ready [] [] [] (callDefine 1 (coded (pushes 16))) (class 1) [] false
+    ∷ case 10 ready [] [] [] (callDefine 1 (coded (pushes 17))) (no 6) [] true
     ∷ []
 
 -- the tables before the last call, and its answer's number and values
@@ -84,8 +85,8 @@ beforeLast t c = performAll (c .before) (boot t .tables) .tables
 unfoldable pub answered : Tables → Case → Shown
 answered t c = shown (details (turn (view (beforeLast t c))) (perform (c .last) (beforeLast t c) .answer))
 
-unfoldable pub left : Tables → Case → Tables
-left t c = perform (c .last) (beforeLast t c) .tables
+unfoldable pub afterLast : Tables → Case → Tables
+afterLast t c = perform (c .last) (beforeLast t c) .tables
 
 -- whether every call was accepted, and no run ended in a refusal
 unfoldable pub accepted : List Reply → Bool
@@ -106,9 +107,10 @@ pub record Right (table : List Case) (t : Tables) : Type 0 where
   pub ties : map (λ c. view (beforeLast t c) .ties) table ≡ map (λ c. c .ties) table
   pub subtypes : map (λ c. view (beforeLast t c) .subtypes) table ≡ map (λ c. c .subtypes) table
   pub objects : map (λ c. numbersFrom 0 (view (beforeLast t c) .objects)) table ≡ map (λ c. c .objects) table
+  pub left : map (λ c. numbersFrom 0 (view (afterLast t c) .objects)) table ≡ map (λ c. c .left) table
   pub answers : map (answered t) table ≡ map (λ c. c .expect) table
-  pub unchanged : (i : ℕ) (c : Case) → getElem? table i ≡ some c → c .unchanged ≡ true → left t c ≡ beforeLast t c
-  pub changed : (i : ℕ) (c : Case) → getElem? table i ≡ some c → c .unchanged ≡ false → left t c ≡ beforeLast t c → ⊥
+  pub unchanged : (i : ℕ) (c : Case) → getElem? table i ≡ some c → c .unchanged ≡ true → afterLast t c ≡ beforeLast t c
+  pub changed : (i : ℕ) (c : Case) → getElem? table i ≡ some c → c .unchanged ≡ false → afterLast t c ≡ beforeLast t c → ⊥
 
 -- The paper's worked example as bytes, a line each: R 1 2 0; D 1 with F; S 0 1 10 20 7; N; N; N
 unfoldable pub input : List ℕ

@@ -75,6 +75,7 @@ pub record Computed (table : List Case) : Type 0 where
   pub ties : map (λ c. rowsBefore c .ties) table ≡ map (λ c. c .ties) table
   pub subtypes : map (λ c. rowsBefore c .subtypes) table ≡ map (λ c. c .subtypes) table
   pub objects : map (λ c. numbersFrom 0 (rowsBefore c .objects)) table ≡ map (λ c. c .objects) table
+  pub left : map (λ c. numbersFrom 0 (rowsAfter c .objects)) table ≡ map (λ c. c .left) table
   pub stays : All Stays table
   pub steps : All (λ c. OneStep (c .last)) table
 
@@ -86,6 +87,7 @@ computed = record {
   ties = refl;
   subtypes = refl;
   objects = refl;
+  left = refl;
   stays = (
     same (inr refl),
     (

@@ -19,7 +19,7 @@ use Rattle.laws.specs.Refused.{refusal, refused-same}
 use Rattle.layout.specs.Tests.{All, is-some}
 use Rattle.unbroken.specs.Steps.{all-nth}
 use Rattle.unbroken.specs.OnRows.{Same, Shows, accepted-shaped, same-boot, same-booted, same-perform, OneStep, rows-same}
-use Rattle.cases.specs.Cases.{Case, table, numbersFrom, beforeLast, answered, left, Right, preparedBy, accepted, input, output}
+use Rattle.cases.specs.Cases.{Case, table, numbersFrom, beforeLast, answered, afterLast, Right, preparedBy, accepted, input, output}
 use Rattle.cases.specs.Computed.{rowsBefore, rowsAfter, answeredRows, size, Stays, scriptRows, Computed, computed, printed}
 
 -- From rows to tables
@@ -33,8 +33,8 @@ module _ (t : Tables) (h : shaped t ≡ true) (c : Case) where
   unfolding beforeLast rowsBefore
   shows = same-booted (c .before) t h .1
 
-  did : Same (perform (c .last) (beforeLast t c) .answer) (left t c) (performRows (c .last) (rowsBefore c))
-  unfolding left
+  did : Same (perform (c .last) (beforeLast t c) .answer) (afterLast t c) (performRows (c .last) (rowsBefore c))
+  unfolding afterLast
   did = same-perform (c .last) (beforeLast t c) (rowsBefore c) shows
 
   prepared-same : preparedBy t c ≡ accepted (performAllRows (c .before) bootRows .answer)
@@ -45,12 +45,12 @@ module _ (t : Tables) (h : shaped t ≡ true) (c : Case) where
   unfolding answered answeredRows
   answered-rows = λ i. shown (details (turn (shows .rows i)) (did .0 i))
 
-  view-left : view (left t c) ≡ rowsAfter c
+  view-left : view (afterLast t c) ≡ rowsAfter c
   unfolding rowsAfter
   view-left = did .1 .rows
 
-keeps : (t : Tables) (h : shaped t ≡ true) (c : Case) → OneStep (c .last) → (isSome (refusal (performRows (c .last) (rowsBefore c) .answer)) ≡ true) ⊎ (rowsAfter c ≡ rowsBefore c) → left t c ≡ beforeLast t c
-unfolding left rowsAfter
+keeps : (t : Tables) (h : shaped t ≡ true) (c : Case) → OneStep (c .last) → (isSome (refusal (performRows (c .last) (rowsBefore c) .answer)) ≡ true) ⊎ (rowsAfter c ≡ rowsBefore c) → afterLast t c ≡ beforeLast t c
+unfolding afterLast rowsAfter
 keeps t h c o (inl q) =
     let w = is-some (refusal (perform (c .last) (beforeLast t c) .answer)) (ap (λ (a : Reply). isSome (refusal a)) (did t h c .0) ∙ q) in
     refused-same (c .last) (beforeLast t c) (w .0) (w .1) .same
@@ -63,6 +63,7 @@ right table computed t a = record {
   ties = map-same (λ c. view (beforeLast t c) .ties) (λ c. rowsBefore c .ties) (λ c. ap (λ (r : Rows). r .ties) (shows t h c .rows)) table ∙ computed .ties;
   subtypes = map-same (λ c. view (beforeLast t c) .subtypes) (λ c. rowsBefore c .subtypes) (λ c. ap (λ (r : Rows). r .subtypes) (shows t h c .rows)) table ∙ computed .subtypes;
   objects = map-same (λ c. numbersFrom 0 (view (beforeLast t c) .objects)) (λ c. numbersFrom 0 (rowsBefore c .objects)) (λ c. ap (λ (r : Rows). numbersFrom 0 (r .objects)) (shows t h c .rows)) table ∙ computed .objects;
+  left = map-same (λ c. numbersFrom 0 (view (afterLast t c) .objects)) (λ c. numbersFrom 0 (rowsAfter c .objects)) (λ c. ap (λ (r : Rows). numbersFrom 0 (r .objects)) (view-left t h c)) table ∙ computed .left;
   answers = map-same (answered t) answeredRows (answered-rows t h) table ∙ computed .answers;
   unchanged = λ i c e u. keeps t h c (all-nth (λ c. OneStep (c .last)) table (computed .steps) i c e) (all-nth Stays table (computed .stays) i c e .0 u);
   changed = λ i c e u q. eqb-false _ _ (all-nth Stays table (computed .stays) i c e .1 u) (ap size (sym (view-left t h c) ∙ ap view q ∙ shows t h c .rows));

@@ -89,41 +89,41 @@ freed n = line 0 n 0 (pos 0)
 -- those that leave the rows as they are
 
 abbrev pub booted : Case
-booted = case 1 [] [] [] [] callSweep (freed 0) true
+booted = case 1 [] [] [] [] callSweep (freed 0) [] true
 
 abbrev pub cycleHeld : Case
-cycleHeld = case 2 (cycle ++ callRun 12 ∷ []) [] [] (0 ∷ 1 ∷ 2 ∷ []) callSweep (freed 0) true
+cycleHeld = case 2 (cycle ++ callRun 12 ∷ []) [] [] (0 ∷ 1 ∷ 2 ∷ []) callSweep (freed 0) (0 ∷ 1 ∷ 2 ∷ []) true
 
 abbrev pub rowHeld : Case
-rowHeld = case 3 (row ++ callRun 16 ∷ []) [] [] (0 ∷ 1 ∷ 2 ∷ 3 ∷ []) callSweep (freed 0) true
+rowHeld = case 3 (row ++ callRun 16 ∷ []) [] [] (0 ∷ 1 ∷ 2 ∷ 3 ∷ []) callSweep (freed 0) (0 ∷ 1 ∷ 2 ∷ 3 ∷ []) true
 
 abbrev pub waitingHeld : Case
-waitingHeld = case 5 (called ++ callRun 4 ∷ []) [] [] (0 ∷ 1 ∷ []) callSweep (freed 0) true
+waitingHeld = case 5 (called ++ callRun 4 ∷ []) [] [] (0 ∷ 1 ∷ []) callSweep (freed 0) (0 ∷ 1 ∷ []) true
 
 abbrev pub takenAgain : Case
-takenAgain = case 6 (loaded ++ quoted 2 ++ callStart 0 1 10 20 7 ∷ callSweep ∷ callStart 1 1 10 20 7 ∷ []) [] [] (0 ∷ 2 ∷ []) callSweep (freed 0) true
+takenAgain = case 6 (loaded ++ quoted 2 ++ callStart 0 1 10 20 7 ∷ callSweep ∷ callStart 1 1 10 20 7 ∷ []) [] [] (0 ∷ 2 ∷ []) callSweep (freed 0) (0 ∷ 2 ∷ []) true
 
 unfoldable pub sweeps : List Case
 sweeps =
     -- after a boot
     booted
     -- a cycle that nobody reaches goes; this, object 0, stays
-    ∷ case 2 (cycle ++ callRun 14 ∷ []) [] [] (0 ∷ 1 ∷ 2 ∷ []) callSweep (freed 2) false
+    ∷ case 2 (cycle ++ callRun 14 ∷ []) [] [] (0 ∷ 1 ∷ 2 ∷ []) callSweep (freed 2) (0 ∷ []) false
     -- a cycle that a local reaches stays
     ∷ cycleHeld
     -- a field of a field stays, and goes with what names it
     ∷ rowHeld
-    ∷ case 3 (row ++ callRun 16 ∷ callDrop 0 ∷ []) [] [] (0 ∷ 1 ∷ 2 ∷ 3 ∷ []) callSweep (freed 4) false
+    ∷ case 3 (row ++ callRun 16 ∷ callDrop 0 ∷ []) [] [] (0 ∷ 1 ∷ 2 ∷ 3 ∷ []) callSweep (freed 4) [] false
     -- what the report alone reaches stays
-    ∷ case 4 (loaded ++ callStart 0 1 10 20 7 ∷ callDrop 0 ∷ callStart 1 1 10 20 7 ∷ []) [] [] (0 ∷ 1 ∷ []) callSweep (freed 1) false
+    ∷ case 4 (loaded ++ callStart 0 1 10 20 7 ∷ callDrop 0 ∷ callStart 1 1 10 20 7 ∷ []) [] [] (0 ∷ 1 ∷ []) callSweep (freed 1) (1 ∷ []) false
     -- what a lower frame's operand names stays
     ∷ waitingHeld
     -- the lowest number is taken again: objects 0 and 1 are freed, and the report's is number 0
     ∷ takenAgain
     -- 256 objects: full; all are freed, and there is room again
-    ∷ case 7 (loaded ++ quoted 256) [] [] (upFrom 0 256) (callStart 0 1 10 20 7) (no 10) true
-    ∷ case 7 (loaded ++ quoted 256) [] [] (upFrom 0 256) callSweep (freed 256) false
-    ∷ case 7 (loaded ++ quoted 256 ++ callSweep ∷ []) [] [] [] (callStart 0 1 10 20 7) fine false
+    ∷ case 7 (loaded ++ quoted 256) [] [] (upFrom 0 256) (callStart 0 1 10 20 7) (no 10) (upFrom 0 256) true
+    ∷ case 7 (loaded ++ quoted 256) [] [] (upFrom 0 256) callSweep (freed 256) [] false
+    ∷ case 7 (loaded ++ quoted 256 ++ callSweep ∷ []) [] [] [] (callStart 0 1 10 20 7) fine (0 ∷ []) false
     ∷ []
 
 -- a sweep that frees none leaves the rows as they were
@@ -147,6 +147,7 @@ swept = record {
   ties = refl;
   subtypes = refl;
   objects = refl;
+  left = refl;
   stays = (
     same (inr (unfreed booted refl refl)),
     (

@@ -12,9 +12,9 @@ use definition::numbers::COUNT_CLASSES;
 use definition::numbers::COUNT_KEPT;
 use definition::numbers::COUNT_SUBTYPES;
 use definition::numbers::COUNT_TIES;
-use definition::numbers::COUNTS_LENGTH;
 use definition::numbers::FIELD_LIMIT;
 use definition::numbers::KEPT_LENGTH;
+use definition::numbers::OWNERS_CELL;
 use definition::numbers::TIE_LIMIT;
 use definition::numbers::WORD_CLASH;
 use definition::numbers::WORD_FULL;
@@ -72,7 +72,7 @@ fn has_room(
     resolution::size_of(counts, classes, kept, cache, p) + own <= FIELD_LIMIT
 }
 
-// The store with the file's class, below p, and with the rows of these tables agrees.
+// The store with the file's class, below p, and with the rows of these tables agrees: the cache is copied, and of the counts those that come before the owners.
 fn class_agrees(
     counts: &[u16],
     classes: &[u16],
@@ -90,7 +90,7 @@ fn class_agrees(
     ensures { λ r. ⌜ r ≡ agrees (world (baseWith (quickBase (now (counts .entry)) (now (classes .entry)) (now (kept .entry)) (now (cache .entry))) (classOf loader (quickFile (now (file .entry))))) (rows (tieAt (now (ties .entry))) tied 0) (rows (subtypeAt (now (subtypes .entry))) noted 0)) ⌝ }
 {
     let class = at16(counts, COUNT_CLASSES);
-    let mut counted = [0u16; COUNTS_LENGTH];
+    let mut counted = [0u16; OWNERS_CELL];
     let mut trial = [0u16; CACHE_LENGTH];
     entries::enter(
         counts,

@@ -1,5 +1,5 @@
--- Chains of edges between nodes, whatever the nodes are: requests that constraints join, or other things. One account serves all: what a
--- chain is, and a search for all that chains reach.
+-- Chains of edges between nodes, whatever the nodes are: requests that constraints join, or objects that fields link. One account serves
+-- both: what a chain is, and a search for all that chains reach.
 use mathlib.Core.Path.{_≡_}
 use mathlib.Core.Bool.{Bool, true, false}
 use mathlib.Core.List.{List, [], _∷_, _++_, List·Memᴰ}

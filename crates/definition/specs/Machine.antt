@@ -38,7 +38,7 @@ pub record Frame : Type 0 where
   pub operands : List Value
   pub locals : List Value
 
--- The rows of objects by number. A row is free, or holds an object with its owner, the task that made it.
+-- The rows of objects by number. A row is free, or holds an object with the task that made it.
 
 pub data ObjectRow : Type 0 where
   free : ObjectRow
@@ -80,7 +80,7 @@ made k x (owned j y ∷ os) = owned j y ∷ made k x os
 unfoldable pub roomless : ℕ → Objects → Bool
 roomless k os = leb objectLimit (unused os)
 
--- object o becomes x, its owner the same
+-- object o becomes x, of the same task
 unfoldable pub rewritten : Object → ObjectRow → ObjectRow
 rewritten x free = free
 rewritten x (owned k y) = owned k x

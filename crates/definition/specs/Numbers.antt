@@ -121,7 +121,7 @@ memberLimit = 8
 abbrev pub codeLimit : ℕ
 codeLimit = 512
 
--- The cells of counts; those of the tasks' frames stand last, the quote's, then the report's
+-- The cells of counts; of the eight counts those of the tasks' frames stand last, the quote's, then the report's
 
 abbrev pub countClasses : ℕ
 countClasses = 0

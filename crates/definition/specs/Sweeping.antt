@@ -1,12 +1,12 @@
 -- Dead objects: what the frames reach, and what a sweep leaves. An object is reached from a root, an object that a frame names, by a chain of links, each from
 -- an object to one that a field of it names.
-use mathlib.Core.Bool.{Bool, true, false}
+use mathlib.Core.Bool.{true, false}
 use mathlib.Core.List.{List, [], _∷_, _++_, map, List·Memᴰ}
-use Prim.Native.Nat.{ℕ, zero, suc}
+use Prim.Native.Nat.{ℕ, suc}
 use lib.Dec.{eqb}
 use Rattle.definition.specs.Chains.{Edge, Chain, has, reachFrom}
 use Rattle.definition.specs.Instructions.{pick}
-use Rattle.definition.specs.Machine.{Value, emptyValue, intValue, nullValue, objectValue, unlistedValue, Object, ObjectRow, free, owned, Objects, Frame}
+use Rattle.definition.specs.Machine.{Value, emptyValue, intValue, nullValue, objectValue, unlistedValue, free, owned, Objects, Frame}
 
 -- the objects that values name, in their order
 unfoldable pub named : List Value → List ℕ

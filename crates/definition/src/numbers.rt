@@ -77,7 +77,7 @@ pub const MEMBER_LIMIT: u8 = 8;
 
 pub const CODE_LIMIT: u16 = 512;
 
-// The cells of counts; those of the tasks' frames stand last, the quote's, then the report's.
+// The cells of counts; of the eight counts those of the tasks' frames stand last, the quote's, then the report's.
 pub const COUNT_CLASSES: usize = 0;
 
 pub const COUNT_KEPT: usize = 1;

@@ -6,11 +6,10 @@ use mathlib.Core.List.{List, [], _∷_, _++_}
 use Prim.Native.Nat.{ℕ, zero, suc, _+_, _*_, _%_, _≤_, _<_}
 use native.Mathlib.Omega.{arith}
 use native.Mathlib.Numerals.{add-one}
-use lib.ListN.{length, getD, set, getElem?, List·getD-eq-default, length-append}
+use lib.ListN.{length, getD, set, getElem?, List·getD-eq-default, length-append, length-set}
 use lib.Seq.{getD-set-same, getD-set-other}
 use lib.Dec.{eqb, ltb}
 use borrow.Author.Tests.{lt-ltb, ltb-true, ltb-false, eqb-true, eqb-false}
-use Rattle.definition.specs.Numbers.{countsLength}
 use Rattle.definition.specs.Lists.{rows, writeRows}
 use Rattle.definition.specs.Requests.{at}
 use Rattle.definition.specs.Classes.{Base, Class, Entry, superOf, find, lower}
@@ -18,7 +17,7 @@ use Rattle.definition.specs.Constraints.{agrees}
 use Rattle.definition.specs.Loading.{withEntry}
 use Rattle.definition.specs.Tables.{putThree, entry, entryAt, putEntry, tieAt, subtypeAt, classRowAt}
 use Rattle.laws.specs.Agreement.{super-falls, find-more}
-use Rattle.layout.specs.Places.{rows-getD, rows-length}
+use Rattle.layout.specs.Places.{rows-getD, rows-length, writeRows-length}
 use Rattle.layout.specs.Cells.{entry-rows, rows-after-last}
 use Rattle.resolution.specs.Quick.{quickClass, quickBase}
 use Rattle.resolution.specs.Lookups.{superCell, cell-none, cell-some}
@@ -35,15 +34,16 @@ pub entries-more : (t : List ℕ) (n l m c : ℕ) → suc n * 3 ≤ length t
 unfolding putEntry
 entries-more t n l m c h = ap (λ (k : ℕ). rows (entryAt (putThree t n l m c)) k 0) (add-one n) ∙ rows-after-last entry-rows t n (entry l m c) h
 
--- the base that the copies give
-pub trial-base : (counts classes kept cache : List ℕ) (l m c : ℕ) → length counts ≡ countsLength → suc (getD counts 2 0) * 3 ≤ length cache
-    → quickBase (set counts 2 (getD counts 2 0 + 1)) classes kept (putThree cache (getD counts 2 0) l m c)
-    ≡ record { classes = quickBase counts classes kept cache .classes; cache = quickBase counts classes kept cache .cache ++ (entry l m c ∷ []) }
-unfolding quickBase
-trial-base counts classes kept cache l m c e h =
-    let n : getD (set counts 2 (getD counts 2 0 + 1)) 0 0 ≡ getD counts 0 0 = getD-set-other counts 2 0 (getD counts 2 0 + 1) 0 (λ q. omega arith) in
-    let k : getD (set counts 2 (getD counts 2 0 + 1)) 2 0 ≡ getD counts 2 0 + 1 = getD-set-same counts 2 (getD counts 2 0 + 1) 0 (omega arith) in
-    rw (n, k, entries-more cache (getD counts 2 0) l m c h)
+-- a cell of a table with the cells of another written over its front, as far as it has room
+front : (xs : List ℕ) (j i : ℕ) (t : List ℕ) → i < length xs → j + i < length t → getD (writeRows set xs j t) (j + i) 0 ≡ getD xs i 0
+unfolding writeRows
+front [] j i t l h = absurd (omega arith)
+front (x ∷ xs) j zero t l h =
+    let z : j + 0 ≡ j = omega arith in
+    rw z (getD-set-same (writeRows set xs (suc j) t) j x 0 (omega (arith, writeRows-length set length-set xs (suc j) t)))
+front (x ∷ xs) j (suc i) t l h =
+    let z : j + suc i ≡ suc j + i = omega arith in
+    rw z (getD-set-other (writeRows set xs (suc j) t) j (suc j + i) x 0 (λ e. omega arith) ∙ front xs (suc j) i t (omega arith) (omega arith))
 
 -- Direct superclasses by a table
 
@@ -121,24 +121,34 @@ supers-more ks es k p t long less e s c = go (eqb c (length ks)) refl
 -- A store with one more entry: the copies hold it, and the test of agreement is the definition's
 
 module _ (counts classes kept cache : List ℕ) (ready : Searchable counts classes kept cache) (room : getD counts 2 0 < 256)
-    (l m c : ℕ) (zeros blank counted trial : List ℕ) (nl : length zeros ≡ countsLength) (el : length blank ≡ 768) (tried : Entered counts cache l m c zeros blank counted trial) where
+    (l m c : ℕ) (zeros blank counted trial : List ℕ) (nl : length zeros ≡ 8) (el : length blank ≡ 768) (tried : Entered counts cache l m c zeros blank counted trial) where
   abbrev b : Base
   b = quickBase counts classes kept cache
 
   abbrev more : Base
   more = record { classes = b .classes; cache = b .cache ++ (entry l m c ∷ []) }
 
-  counted-is : counted ≡ set counts 2 (getD counts 2 0 + 1)
-  counted-is =
+  -- the counts that are copied: those of the classes, and of the entries with one more
+  counted-front : (i : ℕ) → i < 8 → getD (writeRows set counts 0 zeros) i 0 ≡ getD counts i 0
+  counted-front i h = let z : 0 + i ≡ i = omega arith in rw z at (front counts 0 i zeros (omega (arith, ready .countsLong)) (omega arith))
+
+  counted-classes : getD counted 0 0 ≡ getD counts 0 0
+  counted-classes =
+      ap (λ (x : List ℕ). getD x 0 0) (tried .count)
+      ∙ (getD-set-other (writeRows set counts 0 zeros) 2 0 ((getD counts 2 0 + 1) % 65536) 0 (λ e. omega arith) ∙ counted-front 0 (omega arith))
+
+  counted-entries : getD counted 2 0 ≡ getD counts 2 0 + 1
+  counted-entries =
       let z : (getD counts 2 0 + 1) % 65536 ≡ getD counts 2 0 + 1 = omega arith in
-      tried .count ∙ (λ i. set (copied counts zeros (ready .countsLong ∙ sym nl) i) 2 (z i))
+      ap (λ (x : List ℕ). getD x 2 0) (tried .count)
+      ∙ (getD-set-same (writeRows set counts 0 zeros) 2 ((getD counts 2 0 + 1) % 65536) 0 (omega (arith, writeRows-length set length-set counts 0 zeros)) ∙ z)
 
   trial-is : trial ≡ putThree cache (getD counts 2 0) l m c
   trial-is = tried .row ∙ ap (λ (x : List ℕ). putThree x (getD counts 2 0) l m c) (copied cache blank (ready .cacheLong ∙ sym el))
 
   base-more : quickBase counted classes kept trial ≡ more
-  base-more =
-      (λ i. quickBase (counted-is i) classes kept (trial-is i)) ∙ trial-base counts classes kept cache l m c (ready .countsLong) (omega (arith, ready .cacheLong))
+  unfolding quickBase
+  base-more = rw (counted-classes, counted-entries, trial-is, entries-more cache (getD counts 2 0) l m c (omega (arith, ready .cacheLong)))
 
   classes-few : length (b .classes) ≡ getD counts 0 0
   unfolding quickBase
@@ -147,7 +157,7 @@ module _ (counts classes kept cache : List ℕ) (ready : Searchable counts class
   entries-are : (n : ℕ) → n ≡ getD counted 2 0 → (n ≤ 256) × (rows (entryAt trial) n 0 ≡ more .cache)
   unfolding quickBase
   entries-are n h =
-      let z : n ≡ getD counts 2 0 + 1 = h ∙ (ap (λ (x : List ℕ). getD x 2 0) counted-is ∙ getD-set-same counts 2 (getD counts 2 0 + 1) 0 (omega (arith, ready .countsLong))) in
+      let z : n ≡ getD counts 2 0 + 1 = h ∙ counted-entries in
       (omega arith, (λ i. rows (entryAt (trial-is i)) (z i) 0) ∙ entries-more cache (getD counts 2 0) l m c (omega (arith, ready .cacheLong)))
 
   module _ (empty supers : List ℕ) (long : length empty ≡ 64) (s : supers ≡ writeRows set (rows (superCell (quickBase counted classes kept trial)) 64 0) 0 empty) where

@@ -7,7 +7,6 @@ use mathlib.Core.List.{List, [], _∷_, _++_}
 use Prim.Native.Nat.{ℕ, _≤_, _<_}
 use native.Mathlib.Omega.{arith}
 use lib.ListN.{length, getD}
-use Rattle.definition.specs.Numbers.{countsLength}
 use Rattle.definition.specs.Lists.{rows}
 use Rattle.definition.specs.Requests.{Request, at}
 use Rattle.definition.specs.Classes.{Base, Class, find, loaderOf}
@@ -50,7 +49,7 @@ quick-world t h =
 -- What a decision asks of the tables that it reads: lengths, counts within their limits, loaders that are there, cached classes that are there
 
 pub record Searchable (counts classes kept cache : List ℕ) : Type 0 where
-  pub countsLong : length counts ≡ countsLength
+  pub countsLong : length counts ≡ 264
   pub cacheLong : length cache ≡ 768
   pub classesFew : getD counts 0 0 ≤ 64
   pub keptFew : getD counts 1 0 ≤ 16384

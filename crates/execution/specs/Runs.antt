@@ -1,6 +1,7 @@
 -- A run, step by step: it stops at the first answer other than ran, or when its steps are used up.
 use mathlib.Core.Path.{_≡_, refl, sym, ap, _∙_}
 use mathlib.Core.Bool.{Bool, true, false, false≢true, true≢false}
+use mathlib.Core.List.{List, []}
 use mathlib.Core.Logic.{_≢_}
 use Prim.Native.Nat.{ℕ, suc, _+_, _-_, _<_, _≤_}
 use native.Mathlib.Omega.{arith}
@@ -12,7 +13,7 @@ use Rattle.definition.specs.declared.Reply.{Reply}
 use Rattle.definition.specs.declared.Reply.the-variants.{RanFor, Denied}
 use Rattle.definition.specs.declared.Refusal.the-variants.{Word}
 use Rattle.definition.specs.Machine.{Objects, unused}
-use Rattle.definition.specs.Tables.{Tables, viewBase, objectsOf, viewOver, view}
+use Rattle.definition.specs.Tables.{Tables, tables, viewBase, objectsOf, viewOver, view}
 use Rattle.definition.specs.Broken.{broken}
 use Rattle.definition.specs.Calls.{Done, done, stepTables, goOn, runFrom, run}
 use Rattle.laws.specs.Objects.{unused-lowest, Numbered, numbered-exists}
@@ -65,6 +66,13 @@ module _ (n k : ℕ) (a b : Answer) (t u : Tables) (steps : done b u ≡ stepTab
       let lasts : Numbered os (objectsOf (viewBase u) u) = rw (← ap (λ (d : Done Answer). d .tables) steps) at (step-leaves t .objects) in
       rw (unused-is (viewBase t) t)
       (unused-on (viewBase u) u (unused os) (λ o l. numbered-exists os (objectsOf (viewBase u) u) lasts o (unused-lowest os o l)) ∙ sym (unused-is (viewBase u) u))
+
+-- sought from itself on it is found again
+pub unused-again : (N : List ℕ) → unusedFrom N (unusedFrom N 0) ≡ unusedFrom N 0
+unused-again N =
+    let t : Tables = tables N [] [] [] [] [] [] [] in
+    let os : Objects = objectsOf (viewBase t) t in
+    rw (unused-is (viewBase t) t) (unused-on (viewBase t) t (unused os) (λ o l. unused-lowest os o l))
 
 pub run-ends : (n k : ℕ) (a : Answer) (t : Tables) → n ≤ k → done (RanFor k a) t ≡ runFrom stepTables (n - k) k a t
 unfolding runFrom

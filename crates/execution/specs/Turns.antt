@@ -24,16 +24,11 @@ use Rattle.resolution.specs.Quick.{quickBase, quickOf}
 use Rattle.resolution.specs.Unbroken.{quick-base, quick-rows}
 use Rattle.access.specs.Accesses.{worldIn}
 use Rattle.instructions.specs.declared.Plan.{Plan}
-use Rattle.frames.specs.Unused.{unusedFrom}
 use Rattle.tasks.specs.Turns.{turnOf}
 use Rattle.posting.specs.declared.Posting.{Posting}
 use Rattle.posting.specs.Postings.{toPost}
 use Rattle.execution.specs.Carried.{planned, Left, left-planned}
 use Rattle.execution.specs.Steps.{Chosen}
-
--- where a task has a frame, o is the lowest number unused, which an object gets that its step makes
-abbrev pub Takes : List ℕ → ℕ → Type 0
-Takes N o = getD N (6 + turnOf N) 0 ≢ 0 → o ≡ unusedFrom N 0
 
 -- task k's step, with m frames below its top frame, where B gives the classes
 unfoldable pub taken : Base → Tables → ℕ → ℕ → Done Answer

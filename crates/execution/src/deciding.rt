@@ -22,7 +22,7 @@ ghost use Rattle.resolution.specs.Quick.{loaderIn};
 ghost use Rattle.execution.specs.Steps.{IsTop, Chosen};
 ghost use Rattle.execution.specs.Decisions.{Usable, Acted};
 
-// The decision on an instruction of the top frame of a task; `free` is the lowest number unused.
+// The decision on an instruction of the top frame of a task. The lowest number unused, which new asks for, may be sought from `from` on.
 fn act(
     counts: &[u16],
     classes: &[u16],
@@ -34,9 +34,9 @@ fn act(
     frames: &[u32],
     top: Top,
     i: Instruction,
-    free: u16,
+    from: u16,
 ) -> Decision
-    requires { ⌜ Usable (now counts) (now classes) (now kept) (now cache) (now ties) × (top .row < frameLimit) × (free ≡ unusedFrom (now counts) 0) ⌝ }
+    requires { ⌜ Usable (now counts) (now classes) (now kept) (now cache) (now ties) × (top .row < frameLimit) × (unusedFrom (now counts) from ≡ unusedFrom (now counts) 0) ⌝ }
     ensures { λ r. ⌜ Acted (now (counts .entry)) (now (classes .entry)) (now (kept .entry)) (now (cache .entry)) (now (ties .entry)) (now (subtypes .entry)) (now (objects .entry)) (now (frames .entry)) (top .task) (top .row) (top .base) (top .depth) (top .loader) i (r .posting) (r .plan) ⌝ }
 {
     match i {
@@ -117,7 +117,7 @@ fn act(
             frames,
             top,
             class,
-            free,
+            frames::unused(counts, from),
         )),
         Instruction::Return(k) => plain(instructions::give_back(frames, top, k)),
         Instruction::Branch(c, p) => plain(instructions::branch(frames, top, c, p)),
@@ -147,7 +147,7 @@ pub(crate) fn top_frame(counts: &[u16], classes: &[u16], frames: &[u32], task: u
     }
 }
 
-// The choice for the top frame of a task; `free` is the lowest number unused.
+// The choice for the top frame of a task; the lowest number unused may be sought from `from` on.
 pub(crate) fn choose(
     counts: &[u16],
     classes: &[u16],
@@ -158,9 +158,9 @@ pub(crate) fn choose(
     objects: &[u32],
     frames: &[u32],
     top: Top,
-    free: u16,
+    from: u16,
 ) -> Choice
-    requires { ⌜ (broken (tables (now counts) (now classes) (now kept) (now cache) (now ties) (now subtypes) (now objects) (now frames)) ≡ false) × (top .task < taskLimit) × (getD (now counts) (countFrames + top .task) 0 ≡ suc (top .row)) × IsTop (now counts) (now classes) (now frames) top × (free ≡ unusedFrom (now counts) 0) ⌝ }
+    requires { ⌜ (broken (tables (now counts) (now classes) (now kept) (now cache) (now ties) (now subtypes) (now objects) (now frames)) ≡ false) × (top .task < taskLimit) × (getD (now counts) (countFrames + top .task) 0 ≡ suc (top .row)) × IsTop (now counts) (now classes) (now frames) top × (unusedFrom (now counts) from ≡ unusedFrom (now counts) 0) ⌝ }
     ensures { λ r. ⌜ Chosen (now (counts .entry)) (now (classes .entry)) (now (kept .entry)) (now (cache .entry)) (now (ties .entry)) (now (subtypes .entry)) (now (objects .entry)) (now (frames .entry)) (top .task) (top .row) (top .base) (r .posting) (r .plan) (r .next) ⌝ }
 {
     let c = frames::frame_class(frames, top.base);
@@ -186,7 +186,7 @@ pub(crate) fn choose(
         frames,
         top,
         i,
-        free,
+        from,
     );
     let posting = r.posting;
     let plan = r.plan;

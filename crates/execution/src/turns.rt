@@ -11,10 +11,10 @@ ghost use mathlib.Core.Bool.{false};
 ghost use Rattle.definition.specs.Tables.{tables};
 ghost use Rattle.definition.specs.Broken.{broken};
 ghost use Rattle.definition.specs.Calls.{done, stepTables};
-ghost use Rattle.execution.specs.Turns.{Takes};
+ghost use Rattle.frames.specs.Unused.{unusedFrom};
 
-// A step of a store that is not broken: decided on shared tables, then ties are posted and the plan carried out. Where a task has a frame, `free` is the lowest
-// number unused.
+// A step of a store that is not broken: decided on shared tables, then ties are posted and the plan carried out. The lowest number unused may be sought from
+// `from` on.
 pub(crate) fn step_unbroken(
     counts: &mut [u16],
     classes: &[u16],
@@ -24,9 +24,9 @@ pub(crate) fn step_unbroken(
     subtypes: &[u16],
     objects: &mut [u32],
     frames: &mut [u32],
-    free: u16,
+    from: u16,
 ) -> Answer
-    requires { ⌜ (broken (tables (now counts) (now classes) (now kept) (now cache) (now ties) (now subtypes) (now objects) (now frames)) ≡ false) × Takes (now counts) free ⌝ }
+    requires { ⌜ (broken (tables (now counts) (now classes) (now kept) (now cache) (now ties) (now subtypes) (now objects) (now frames)) ≡ false) × (unusedFrom (now counts) from ≡ unusedFrom (now counts) 0) ⌝ }
     ensures { λ r. ⌜ done r (tables (now (counts .exit)) (now (classes .entry)) (now (kept .entry)) (now (cache .entry)) (now (ties .exit)) (now (subtypes .entry)) (now (objects .exit)) (now (frames .exit))) ≡ stepTables (tables (now (counts .entry)) (now (classes .entry)) (now (kept .entry)) (now (cache .entry)) (now (ties .entry)) (now (subtypes .entry)) (now (objects .entry)) (now (frames .entry))) ⌝ }
 {
     let task = tasks::turn(counts);
@@ -45,7 +45,7 @@ pub(crate) fn step_unbroken(
         objects,
         frames,
         top,
-        free,
+        from,
     );
     let posting = r.posting;
     let plan = r.plan;
@@ -61,16 +61,6 @@ pub(crate) fn step_unbroken(
         r.next,
         plan,
     )
-}
-
-// The number for an object that the next step makes, the lowest unused. It isn't looked for where no task has a frame.
-fn number(counts: &[u16]) -> u16
-    ensures { λ r. ⌜ Takes (now (counts .entry)) r ⌝ }
-{
-    if tasks::frame_count(counts, tasks::turn(counts)) == 0 {
-        return 0;
-    }
-    frames::unused(counts, 0)
 }
 
 // One instruction of the quote if it has a frame, else of the report.
@@ -98,7 +88,6 @@ pub fn step(
     ) {
         return Answer::Refused(Refusal::Word(WORD_BROKEN));
     }
-    let free = number(counts);
     step_unbroken(
         counts,
         classes,
@@ -108,6 +97,6 @@ pub fn step(
         subtypes,
         objects,
         frames,
-        free,
+        0,
     )
 }

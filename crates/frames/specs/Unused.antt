@@ -1,6 +1,6 @@
 -- Whether an object's number is used, and the lowest that isn't, read off the owners of object rows. The laws are that these are the machine's: `used-there` and
 -- `used-none`, `unused-is` and `unused-on`.
-use mathlib.Core.Path.{_≡_, refl, sym, ap, _∙_}
+use mathlib.Core.Path.{_≡_, refl, sym, _∙_}
 use mathlib.Core.Bool.{Bool, true, false, not, false≢true}
 use mathlib.Core.Option.{none, some, Option·none-ne-some}
 use mathlib.Core.List.{List, _∷_}

@@ -1,5 +1,5 @@
 -- Chains of edges, over any kind of node whose sameness a test tells: what a search finds is exactly what chains reach. One account for
--- ties, for ties with subtype constraints, and for every other list of edges.
+-- ties, for ties with subtype constraints, and for objects that fields link.
 use mathlib.Core.Path.{_≡_, refl, sym, ap, _∙_}
 use mathlib.Core.Bool.{Bool, true, false, false≢true}
 use mathlib.Core.List.{List, [], _∷_, _++_, List·Memᴰ, List·Memᴰ·head, List·Memᴰ·tail, List·Memᴰ·not-nil}

@@ -26,6 +26,11 @@ pub existing-none : (o : ℕ) → existing [] o ≡ none
 unfolding existing
 existing-none o = refl
 
+-- an owned row's object exists
+pub existing-owned : (os : Objects) (o k : ℕ) (x : Object) → getElem? os o ≡ some (owned k x) → existing os o ≡ some x
+unfolding existing objectHeld
+existing-owned os o k x e = rw (e, existing) refl
+
 -- a number that is used lies among the rows
 pub exists-lt : (os : Objects) (o : ℕ) → Exists os o → o < length os
 exists-lt [] o h = absurd (Option·none-ne-some (h .0) (sym (existing-none o) ∙ h .1))

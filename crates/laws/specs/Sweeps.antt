@@ -7,6 +7,7 @@ use mathlib.Core.List.{List, [], _∷_, _++_, map, List·Memᴰ, List·Memᴰ·h
 use mathlib.Core.Logic.{_⊎_, inl, inr}
 use Prim.Native.Nat.{ℕ, zero, suc, _+_}
 use native.Mathlib.Omega.{arith}
+use lib.ListN.{getElem?}
 use lib.Dec.{eqb}
 use Rattle.definition.specs.Chains.{Edge, Chain, stay, hop, has, reachFrom}
 use Rattle.definition.specs.Instructions.{pick}
@@ -144,6 +145,16 @@ swept-from R i (x ∷ os) (suc o) =
 
 pub swept-is : (R : List ℕ) (os : Objects) (o : ℕ) → existing (sweptFrom R 0 os) o ≡ pick (has eqb o R) (existing os o) none
 swept-is R os o = let z : 0 + o ≡ o = omega arith in rw z at (swept-from R 0 os o)
+
+-- row by row: as it was, or free
+row-from : (R : List ℕ) (i : ℕ) (os : Objects) (o : ℕ) (x : ObjectRow) → getElem? os o ≡ some x → getElem? (sweptFrom R i os) o ≡ some (pick (has eqb (i + o) R) x free)
+unfolding sweptFrom
+row-from R i [] o x e = absurd (Option·none-ne-some x e)
+row-from R i (y ∷ os) zero x e = let z : i + 0 ≡ i = omega arith in rw (z, Option·some-injective y x e) refl
+row-from R i (y ∷ os) (suc o) x e = let z : i + suc o ≡ suc i + o = omega arith in rw z (row-from R (suc i) os o x e)
+
+pub swept-row : (R : List ℕ) (os : Objects) (o : ℕ) (x : ObjectRow) → getElem? os o ≡ some x → getElem? (sweptFrom R 0 os) o ≡ some (pick (has eqb o R) x free)
+swept-row R os o x e = let z : 0 + o ≡ o = omega arith in rw z at (row-from R 0 os o x e)
 
 free-either : (u : Bool) → pick u free free ≡ free
 unfolding pick

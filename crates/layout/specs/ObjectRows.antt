@@ -1,4 +1,4 @@
--- An object's row: a class and values. It keeps the law of rows (`object-rows`).
+-- An object's row: a class and values. What is read is written back as it was; what fits its row is read back, and other rows stay.
 use mathlib.Core.Path.{_≡_, refl, _∙_}
 use mathlib.Core.Bool.{Bool, true, false}
 use mathlib.Core.List.{List, [], _∷_, _++_}
@@ -69,13 +69,6 @@ unread-object r o hi un x l t =
     unread-places (o * objectCells) fieldsCell r (o * objectCells) hi un (x .values) 0 (set t (o * objectCells) (x .class)) (omega arith) (omega arith)
     ∙ un t (o * objectCells) (x .class) (omega arith) (omega arith)
 
-within-object : (o : ℕ) (x : Object) → length (x .values) ≤ fieldLimit → Within (λ t. putObject t o x) (o * objectCells) (o * objectCells + objectCells)
-unfolding putObject putField
-within-object o x l =
-    within-both (λ t. writeRows (putPlace (o * objectCells) fieldsCell) (x .values) 0 t) (λ t. set t (o * objectCells) (x .class)) (o * objectCells) (o * objectCells + objectCells)
-    (within-places (o * objectCells) fieldsCell (x .values) 0 (o * objectCells) (o * objectCells + objectCells) (omega arith) (omega arith))
-    (within-set (o * objectCells) (x .class) (o * objectCells) (o * objectCells + objectCells) (omega arith) (omega arith))
-
 pub putObject-length : (t : List ℕ) (o : ℕ) (x : Object) → length (putObject t o x) ≡ length t
 putObject-length t o x = unread-object length o (o * objectCells + (fieldsCell + valueCells * length (x .values))) (λ s m v a k. length-set s m v) x (omega arith) t
 
@@ -116,17 +109,6 @@ module _ (b : Base) where
   pub proper-few : (x : Object) → ObjectProper x → length (x .values) ≤ fieldLimit
   proper-few x p = omega (arith, p .size, used-few b (x .class))
 
-  pub object-rows : RowLaws (objectAt b) putObject objectCells ObjectProper
-  object-rows = record {
-    same = object-same b;
-    back = λ t o x l p. object-back t o x l (p .size) (p .values);
-    other = λ t i o x n p _. object-other t i o x n (proper-few x p);
-    long = putObject-length;
-    commute = λ t i j x y l p q.
-        within-apart (λ s. putObject s i x) (λ s. putObject s j y) (i * objectCells) (i * objectCells + objectCells) (j * objectCells) (j * objectCells + objectCells)
-        (within-object i x (proper-few x p)) (within-object j y (proper-few y q)) (λ m n a c d e r. omega arith) t;
-  }
-
   -- its values, as the machine reads them
   pub object-size : (t : List ℕ) (o : ℕ) → length (objectAt b t o .values) ≡ usedFields b (objectAt b t o .class)
   unfolding objectAt
@@ -141,12 +123,3 @@ module _ (b : Base) where
   -- a field that isn't there: nothing
   pub object-field-past : (t : List ℕ) (o j : ℕ) (v : Value) → usedFields b (objectAt b t o .class) ≤ j → withField (objectAt b t o) j v ≡ objectAt b t o
   object-field-past t o j v l = rw (set-out (objectAt b t o .values) j v (rw (object-size t o) l))
-
-  -- The objects of a table: one field of one set, an object made
-
-  pub objects-field : (t : List ℕ) (n o j : ℕ) (v : Value) → o < n → j < usedFields b (objectAt b t o .class)
-      → writeRows putObject (set (rows (objectAt b t) n 0) o (withField (objectAt b t o) j v)) 0 t ≡ putField o t j v
-  objects-field t n o j v l h = writeRows-replace putObject (objectAt b) (object-same b) object-below t n o (withField (objectAt b t o) j v) l ∙ object-field t o j v h
-
-  pub objects-made : (t : List ℕ) (n : ℕ) (x : Object) → writeRows putObject (rows (objectAt b t) n 0 ++ (x ∷ [])) 0 t ≡ putObject t n x
-  objects-made t n x = writeRows-last putObject (objectAt b) (object-same b) object-below t n x

@@ -234,6 +234,19 @@ owner-back (y ∷ xs) j n l (suc i) x e =
     rw z (getD-set-other (writeRows putOwner xs (suc j) n) (ownersCell + j) (ownersCell + (suc j + i)) (ownerOf y) 0 (λ q. omega arith)
     ∙ owner-back xs (suc j) n (omega arith) i x e)
 
+pub owner-put : (xs : Objects) (n : List ℕ) → ownersCell + length xs ≤ length n → (o : ℕ) (x : ObjectRow) → getElem? xs o ≡ some x → ownerAt (writeRows putOwner xs 0 n) o ≡ ownerOf x
+owner-put xs n l o x e = let z : 0 + o ≡ o = omega arith in rw z at (owner-back xs 0 n (omega arith) o x e)
+
+-- owners of rows behind them stay
+past-from : (xs : Objects) (j : ℕ) (n : List ℕ) (o : ℕ) → j + length xs ≤ o → ownerAt (writeRows putOwner xs j n) o ≡ ownerAt n o
+unfolding writeRows putOwner ownerAt
+past-from [] j n o l = refl
+past-from (x ∷ xs) j n o l =
+    getD-set-other (writeRows putOwner xs (suc j) n) (ownersCell + j) (ownersCell + o) (ownerOf x) 0 (λ e. omega arith) ∙ past-from xs (suc j) n o (omega arith)
+
+pub owner-past : (xs : Objects) (n : List ℕ) (o : ℕ) → length xs ≤ o → ownerAt (writeRows putOwner xs 0 n) o ≡ ownerAt n o
+owner-past xs n o l = past-from xs 0 n o (omega arith)
+
 -- an object fits its row; a free row has nothing to fit
 abbrev pub RowProper : Base → ObjectRow → Type 0
 RowProper b free = Unit {0}

@@ -1,7 +1,7 @@
--- What the calls write and what they read: rows that were appended, replaced or dropped write their own cells and their count.
+-- What the calls write and what they read: rows that were appended, replaced or dropped write their own cells, their count and, of objects, their owners.
 use mathlib.Core.Path.{_≡_, refl, sym, ap, _∙_}
 use mathlib.Core.Bool.{Bool, true, false}
-use mathlib.Core.Option.{none, some}
+use mathlib.Core.Option.{none, some, Option·some-injective, Option·none-ne-some}
 use mathlib.Core.List.{List, [], _∷_, _++_, map, append-nil}
 use Prim.Native.Nat.{ℕ, zero, suc, _+_, _*_, _<_, _≤_}
 use native.Mathlib.Omega.{arith}
@@ -13,13 +13,14 @@ use Rattle.definition.specs.Lists.{rows, writeRows, stack, writeStack}
 use Rattle.definition.specs.Requests.{at}
 use Rattle.definition.specs.Classes.{Base, Class}
 use Rattle.definition.specs.Constraints.{Tie, Subtype}
-use Rattle.definition.specs.Machine.{Value, Frame, Progress, objectHeld, existing}
+use Rattle.definition.specs.Machine.{Value, Frame, Progress, ObjectRow, objectHeld, existing}
 use Rattle.definition.specs.Loading.{withClass, withEntry}
 use Rattle.definition.specs.Sweeping.{sweptFrom}
-use Rattle.definition.specs.Tables.{Tables, tables, classAt, worldOf, putThree, classRowAt, putClassRow, putEntry, putTie, putSubtype, objectAt, ownedBy, ownerAt, objectRowAt, localAt, putLocal, operandAt, putOperand, frameOf, putFrame, frameBase, frameIn, putFrameIn, classRowsOf, keptOf, tiesOf, viewBase, objectsOf, framesOf, viewOver, put, withObjects, withFrames, putOwner}
+use Rattle.definition.specs.Tables.{Tables, tables, classAt, worldOf, putThree, classRowAt, putClassRow, putEntry, putTie, putSubtype, objectAt, ownedBy, ownerOf, ownerAt, objectRowAt, localAt, putLocal, operandAt, putOperand, frameOf, putFrame, frameBase, frameIn, putFrameIn, classRowsOf, keptOf, tiesOf, viewBase, objectsOf, framesOf, viewOver, put, withObjects, withFrames, putOwner}
 use Rattle.definition.specs.Calls.{addFile, addEntry, progressed}
 use Rattle.layout.specs.Places.{rows-map, rows-there, rows-past, stack-length, stack-cong, writeStack-above, writeStack-two}
 use Rattle.layout.specs.Rows.{class-rows, entry-rows, cell-rows}
+use Rattle.layout.specs.OwnedRows.{owner-is}
 use Rattle.layout.specs.Values.{Unread, unread-value}
 use Rattle.layout.specs.FrameRows.{moved, frameWith, withValue, frame-kept, frame-above, frame-local, frame-given, frameIn-same, frame-unread, unread-frame}
 pub use Rattle.layout.specs.Fills.{countAt, Fills, FillsObjects, classes-fill, kept-fill, objects-fill, object-made, object-set, put-view, FillsTask}
@@ -83,7 +84,7 @@ module _ (b : Base) (t : Tables) where
       (count-set 2 (countAt t 2 + 1) (omega arith) (count-set 1 (countAt t 1 + length bs) (omega arith) (count-set 0 (countAt t 0 + 1) (omega arith) (counts-fill t))))))
       ∙ rw (n, m)
 
-  -- a task's progress: the ties that it posted, the objects and the task's frames that it leaves, and their three counts
+  -- a task's progress: the ties that it posted, the objects and the task's frames that it leaves, their three counts and the owners
   pub progress-writes : (k : ℕ) (p : Progress) (us : List Tie) (m n : ℕ) (w : List ℕ → List ℕ) (o u : List ℕ) → k < 2 → p .world .ties ≡ tiesOf t ++ us
       → FillsObjects (p .objects) (t .counts) (t .objects) m w o → FillsTask k (p .frames) t n u
       → put (progressed k (viewOver b t) p) t
@@ -278,6 +279,22 @@ module _ (t : Tables) where
   pub object-past : (b : Base) (o : ℕ) → countAt t 5 ≤ o → existing (objectsOf b t) o ≡ none
   unfolding existing objectsOf
   object-past b o l = rw (rows-past (objectRowAt b (t .counts) (t .objects)) (countAt t 5) 0 o l, existing) refl
+
+  -- a row's owner is that of its cell
+  pub row-owner : (b : Base) (o : ℕ) (x : ObjectRow) → getElem? (objectsOf b t) o ≡ some x → ownerOf x ≡ ownerAt (t .counts) o
+  row-owner b o x e = go (ltb o (countAt t 5)) refl
+    where
+      Row : ℕ → ObjectRow
+      Row = objectRowAt b (t .counts) (t .objects)
+
+      go : (u : Bool) → ltb o (countAt t 5) ≡ u → ownerOf x ≡ ownerAt (t .counts) o
+      go true l =
+          let there : getElem? (objectsOf b t) o ≡ some (Row o) = unfold objectsOf in rows-there Row (countAt t 5) o (ltb-true o (countAt t 5) l) in
+          let same : Row o ≡ x = Option·some-injective (Row o) x (sym there ∙ e) in
+          ap ownerOf (sym same) ∙ (unfold objectRowAt in owner-is (ownerAt (t .counts) o) (objectAt b (t .objects) o))
+      go false l =
+          let past : getElem? (objectsOf b t) o ≡ none = unfold objectsOf in rows-past Row (countAt t 5) 0 o (ltb-false o (countAt t 5) l) in
+          absurd (Option·none-ne-some x (sym past ∙ e))
 
   pub object-free : (b : Base) (o : ℕ) → ownerAt (t .counts) o ≡ 0 → existing (objectsOf b t) o ≡ none
   unfolding existing objectsOf objectRowAt objectHeld ownedBy

@@ -7,9 +7,9 @@ use definition::numbers::CLASS_LIMIT;
 use definition::numbers::COUNT_CACHE;
 use definition::numbers::COUNT_SUBTYPES;
 use definition::numbers::COUNT_TIES;
-use definition::numbers::COUNTS_LENGTH;
 use definition::numbers::LOADER_LIMIT;
 use definition::numbers::NAME_OBJECT;
+use definition::numbers::OWNERS_CELL;
 use definition::numbers::WORD_BROKEN;
 use definition::numbers::WORD_CLASH;
 use definition::numbers::WORD_FULL;
@@ -39,7 +39,7 @@ pub(crate) enum Recording {
     Add(u16, u16, u16),
 }
 
-// The store with one more entry agrees.
+// The store with one more entry agrees: the cache is copied, and of the counts those that come before the owners.
 fn entry_agrees(
     counts: &[u16],
     classes: &[u16],
@@ -54,7 +54,7 @@ fn entry_agrees(
     requires { ⌜ Loadable (now counts) (now classes) (now kept) (now cache) (now ties) (now subtypes) × (getD (now counts) countCache 0 < cacheLimit) ⌝ }
     ensures { λ r. ⌜ r ≡ agrees (withEntry (worldIn (now (counts .entry)) (now (classes .entry)) (now (kept .entry)) (now (cache .entry)) (now (ties .entry)) (now (subtypes .entry))) (at loader name) class) ⌝ }
 {
-    let mut counted = [0u16; COUNTS_LENGTH];
+    let mut counted = [0u16; OWNERS_CELL];
     let mut trial = [0u16; CACHE_LENGTH];
     entries::enter(counts, cache, loader, name, class, &mut counted, &mut trial);
     let mut supers = [0u8; CLASS_LIMIT as usize];

@@ -5,29 +5,30 @@ use mathlib.Core.Option.{Option, none, some}
 use mathlib.Core.List.{List, [], _∷_}
 use Prim.Native.Nat.{ℕ, zero, suc, _+_, _*_, _-_, _≤_, _<_}
 use native.Mathlib.Omega.{arith}
-use lib.ListN.{length, getD, set}
-use lib.Seq.{getD-set-same, getD-set-other}
+use lib.ListN.{length, length-replicate, getD, replicate, set}
+use lib.Seq.{ext-getD, getD-set-same, getD-set-other}
 use lib.Dec.{eqb, leb, ltb}
 use borrow.Author.Tests.{ne-eqb, lt-ltb, le-ltb, le-leb, lt-leb, leb-true, eqb-true, eqb-false, not-false}
+use Rattle.definition.specs.Numbers.{classLimit}
 use Rattle.definition.specs.Lists.{every, all, isSome, rows, stack}
 use Rattle.definition.specs.Instructions.{pick}
 use Rattle.definition.specs.Classes.{Base, superOf}
 use Rattle.definition.specs.Machine.{Value, emptyValue, intValue, nullValue, objectValue, unlistedValue, Object}
-use Rattle.definition.specs.Tables.{Tables, ClassRow, sizeOf, valueOf, classRowAt, usedFields, objectAt, ownedBy, ownerAt, objectRowAt, localAt, operandAt, frameOf, frameAt}
+use Rattle.definition.specs.Tables.{Tables, ClassRow, sizeOf, viewBase, valueOf, classRowAt, usedFields, objectAt, ownedBy, ownerAt, objectRowAt, localAt, operandAt, frameOf, frameAt}
 use Rattle.definition.specs.Broken.{isObject, broken}
 use Rattle.laws.specs.Agreement.{super-falls}
 use Rattle.layout.specs.Tests.{every-true}
-use Rattle.layout.specs.Places.{stack-length}
+use Rattle.layout.specs.Places.{rows-getD, rows-length, stack-length}
 use Rattle.layout.specs.Unbroken.{within-true}
 use Rattle.classfile.specs.Lists.{every-first, every-fails, every-last}
 use Rattle.classfile.specs.Reading.{fieldCount}
 use Rattle.resolution.specs.Quick.{quickBase, quickOf, fileIn, file-there, file-past, either}
-use Rattle.resolution.specs.Slots.{size-none, size-some, own-size}
+use Rattle.resolution.specs.Slots.{size-none, size-some, own-size, slots-past}
 use Rattle.resolution.specs.Unbroken.{part-none, quick-base}
 use Rattle.store.specs.declared.Fields.{Fields}
 use Rattle.store.specs.declared.Fields.the-variants.{Count, Unfit}
-use Rattle.store.specs.Checks.{fileFits, sourcesFit, linked, linkedSize, Sized, sizedObject, objectSized, exists, valueIn, localIn, objectIn, frameFit, valuesFit, readable, checks, Tested}
-use Rattle.store.specs.Same.{sources-first, checks-broken}
+use Rattle.store.specs.Checks.{fileFits, sourcesFit, linked, linkedSize, Blank, Sized, sizedObject, objectSized, exists, valueIn, localIn, objectIn, frameFit, valuesFit, readable, checks, Tested, sizesOf}
+use Rattle.store.specs.Same.{sources-first, checks-broken, zeros-at}
 
 -- Whether an object exists
 
@@ -180,30 +181,40 @@ module _ (n : ℕ) (X : ℕ → Bool) where
   row-fields zero x h k l = absurd (omega arith)
   row-fields (suc w) x h k l = every-first _ _ (lt-ltb w 2 (omega arith)) ∙ (every-first _ _ (lt-ltb (x .class) n l) ∙ every-last _)
 
+pub blank-length : (s : List ℕ) → Blank s → length s ≡ 64
+blank-length s l = ap length l ∙ length-replicate {A = ℕ} 64 0
+
 -- A table of sizes, of which the first is 0; one more; and what it says of objects
 
 module _ (b : Base) where
-  pub sized-first : (s : List ℕ) → length s ≡ 64 → sizeOf b 0 ≡ 0 → Sized b 1 (set s 0 0)
-  sized-first s l e c h =
-      let z : c ≡ 0 = omega arith in
-      (ap (λ (i : ℕ). getD (set s 0 0) i 0) z ∙ (getD-set-same s 0 0 0 (omega arith) ∙ (sym e ∙ ap (sizeOf b) (sym z))), omega (arith, ap (sizeOf b) z))
+  pub sized-first : (s : List ℕ) → Blank s → sizeOf b 0 ≡ 0 → Sized b 1 (set s 0 0)
+  sized-first s l e c = (
+    λ h.
+        let z : c ≡ 0 = omega arith in
+        (ap (λ (i : ℕ). getD (set s 0 0) i 0) z ∙ (getD-set-same s 0 0 0 (omega (arith, blank-length s l)) ∙ (sym e ∙ ap (sizeOf b) (sym z))), omega (arith, ap (sizeOf b) z)),
+    λ h. getD-set-other s 0 c 0 0 (λ z. omega arith) ∙ (ap (λ (u : List ℕ). getD u c 0) l ∙ zeros-at 64 c),
+  )
 
   pub sized-more : (s : List ℕ) (n v : ℕ) → Sized b n s → n < length s → v ≡ sizeOf b n → sizeOf b n ≤ 16 → Sized b (n + 1) (set s n v)
-  sized-more s n v h l e k c i = go (eqb c n) refl
+  sized-more s n v h l e k c = (λ i. go i (eqb c n) refl, λ i. getD-set-other s n c v 0 (λ z. omega arith) ∙ h c .1 (omega arith))
     where
-      go : (t : Bool) → eqb c n ≡ t → (getD (set s n v) c 0 ≡ sizeOf b c) × (sizeOf b c ≤ 16)
-      go true q = let z = eqb-true c n q in rw z (getD-set-same s n v 0 l ∙ e, k)
-      go false q = let z = eqb-false c n q in let m = h c (omega arith) in (getD-set-other s n c v 0 z ∙ m .0, m .1)
+      go : c < n + 1 → (t : Bool) → eqb c n ≡ t → (getD (set s n v) c 0 ≡ sizeOf b c) × (sizeOf b c ≤ 16)
+      go i true q = let z = eqb-true c n q in rw z (getD-set-same s n v 0 l ∙ e, k)
+      go i false q = let z = eqb-false c n q in let m = h c .0 (omega arith) in (getD-set-other s n c v 0 z ∙ m .0, m .1)
+
+  -- a table that goes past the classes
+  pub sized-less : (s : List ℕ) (n m : ℕ) → Sized b m s → n ≤ m → ((c : ℕ) → n ≤ c → sizeOf b c ≡ 0) → Sized b n s
+  sized-less s n m h l past c = (λ i. h c .0 (omega arith), λ i. either c m (λ j. h c .0 j .0 ∙ past c i) (λ j. h c .1 j))
+
+  -- an object whose class is there
+  pub same-object : (n : ℕ) (sizes t : List ℕ) → Sized b n sizes → (o : ℕ) → getD t (o * 33) 0 < n → sizedObject sizes t o ≡ objectAt b t o
+  unfolding objectAt usedFields pick
+  same-object n sizes t sized o l = let s = sized (getD t (o * 33) 0) .0 l in rw (s .0, le-leb (sizeOf b (getD t (o * 33) 0)) 16 (s .1), pick)
 
   module _ (n : ℕ) (X : ℕ → Bool) (sizes counts t : List ℕ) (sized : Sized b n sizes) where
-    -- an object whose class is there
-    same-object : (o : ℕ) → getD t (o * 33) 0 < n → sizedObject sizes t o ≡ objectAt b t o
-    unfolding objectAt usedFields pick
-    same-object o l = let s = sized (getD t (o * 33) 0) l in rw (s .0, le-leb (sizeOf b (getD t (o * 33) 0)) 16 (s .1), pick)
-
     same-fits : (o : ℕ) → objectIn n X (objectSized sizes counts t o) ≡ objectIn n X (objectRowAt b counts t o)
     unfolding objectSized objectRowAt
-    same-fits o = either (getD t (o * 33) 0) n (λ l. ap (λ (x : Object). objectIn n X (ownedBy (ownerAt counts o) x)) (same-object o l)) (λ l. go (ownerAt counts o) l)
+    same-fits o = either (getD t (o * 33) 0) n (λ l. ap (λ (x : Object). objectIn n X (ownedBy (ownerAt counts o) x)) (same-object n sizes t sized o l)) (λ l. go (ownerAt counts o) l)
       where
         go : (w : ℕ) → n ≤ getD t (o * 33) 0 → objectIn n X (ownedBy w (sizedObject sizes t o)) ≡ objectIn n X (ownedBy w (objectAt b t o))
         go zero l = unfold ownedBy in refl
@@ -251,6 +262,33 @@ unfolding frameFit frameAt frameOf
 frame-tests t b n X = rw (stack-length (operandAt t b) (getD t (b + 3) 0))
 
 -- The verdict
+
+-- the sizes that the tests leave are the definition's
+
+size-at : (t : Tables) (c : ℕ) → c < classLimit → getD (sizesOf t) c 0 ≡ pick (broken t) 0 (sizeOf (viewBase t) c)
+unfolding sizesOf
+size-at t c l = let z : 0 + c ≡ c = omega arith in rw z at (rows-getD (λ i. pick (broken t) 0 (sizeOf (viewBase t) i)) classLimit 0 c 0 l)
+
+pub sizes-broken : (t : Tables) → broken t ≡ true → replicate classLimit 0 ≡ sizesOf t
+unfolding sizesOf pick
+sizes-broken t h =
+    ext-getD 0 (replicate classLimit 0) (sizesOf t) (length-replicate {A = ℕ} classLimit 0 ∙ sym (rows-length _ classLimit 0)) (λ c l.
+    zeros-at classLimit c ∙ sym (size-at t c (omega (arith, length-replicate {A = ℕ} classLimit 0)) ∙ ap (λ (u : Bool). pick u 0 (sizeOf (viewBase t) c)) h))
+
+pub sizes-unbroken : (t : Tables) (v : Bool) (sizes : List ℕ) → Tested t v sizes → v ≡ false → length sizes ≡ classLimit → sizes ≡ sizesOf t
+unfolding sizesOf pick
+sizes-unbroken t v sizes d h e =
+    ext-getD 0 sizes (sizesOf t) (e ∙ sym (rows-length _ classLimit 0)) (λ c l.
+    at c ∙ sym (size-at t c (omega arith) ∙ ap (λ (u : Bool). pick u 0 (sizeOf (viewBase t) c)) (sym (d .verdict) ∙ h)))
+  where
+    n : ℕ
+    n = getD (t .counts) 0 0
+
+    past : (c : ℕ) → n ≤ c → sizeOf (viewBase t) c ≡ 0
+    past c l = ap (λ (b : Base). sizeOf b c) (sym (quick-base t (sym (d .verdict) ∙ h))) ∙ ap length (slots-past (t .counts) (t .classes) (t .kept) (t .cache) c l)
+
+    at : (c : ℕ) → getD sizes c 0 ≡ sizeOf (viewBase t) c
+    at c = either c n (λ l. d .sized h c .0 l .0) (λ l. d .sized h c .1 l ∙ sym (past c l))
 
 module _ (t : Tables) where
   pub unreadable : readable t ≡ false → true ≡ broken t

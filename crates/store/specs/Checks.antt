@@ -3,9 +3,11 @@
 use mathlib.Core.Bool.{Bool, true, false}
 use mathlib.Core.List.{List, [], _∷_}
 use Prim.Native.Nat.{ℕ, _+_, _*_, _-_, _<_, _≤_}
-use lib.ListN.{length, getD}
+use lib.ListN.{length, getD, replicate}
 use lib.Dec.{leb, ltb}
 use mathlib.Core.Path.{_≡_}
+use Rattle.definition.specs.Numbers.{classLimit}
+use Rattle.definition.specs.Instructions.{pick}
 use Rattle.definition.specs.Lists.{every, all, isSome, rows, stack}
 use Rattle.definition.specs.Classes.{Base, superOf}
 use Rattle.definition.specs.Machine.{Value, emptyValue, intValue, nullValue, objectValue, unlistedValue, Object, ObjectRow, free, owned, Frame}
@@ -41,9 +43,12 @@ linksFit b n = all (linked b) (rows number (n - 1) 1)
 unfoldable pub linkedSize : Base → ℕ → Fields
 linkedSize b c = elim (linked b c) [ true ↦ Count (sizeOf b c) | false ↦ Unfit ]
 
--- a table with the sizes of classes 0 to n - 1, each at most 16
+-- a table of zeros, and one with the sizes of classes 0 to n - 1, each at most 16, and zeros
+abbrev pub Blank : List ℕ → Type 0
+Blank sizes = sizes ≡ replicate classLimit 0
+
 abbrev pub Sized : Base → ℕ → List ℕ → Type 0
-Sized b n sizes = (c : ℕ) → c < n → (getD sizes c 0 ≡ sizeOf b c) × (sizeOf b c ≤ 16)
+Sized b n sizes = (c : ℕ) → (c < n → (getD sizes c 0 ≡ sizeOf b c) × (sizeOf b c ≤ 16)) × (n ≤ c → getD sizes c 0 ≡ 0)
 
 -- a row of objects, where the size of the object's class stands in such a table
 abbrev pub sizedObject : List ℕ → List ℕ → ℕ → Object
@@ -120,4 +125,14 @@ checks t = every (readable t ∷ valuesFit (quickOf t) (t .counts) (t .objects) 
 -- what the tests leave: the verdict, and if the tables are not broken, how many fields each class has
 pub record Tested (t : Tables) (v : Bool) (sizes : List ℕ) : Type 0 where
   pub verdict : v ≡ broken t
+  pub sized : v ≡ false → Sized (viewBase t) (getD (t .counts) 0 0) sizes
+
+-- how many fields each class of the tables has, 0 where there is none; all 0 if the tables are broken
+unfoldable pub sizesOf : Tables → List ℕ
+sizesOf t = rows (λ c. pick (broken t) 0 (sizeOf (viewBase t) c)) classLimit 0
+
+-- the verdict and the sizes; and that no class has more than 16 fields, if the tables are not broken
+pub record Measured (t : Tables) (v : Bool) (sizes : List ℕ) : Type 0 where
+  pub verdict : v ≡ broken t
+  pub fields : sizes ≡ sizesOf t
   pub sized : v ≡ false → Sized (viewBase t) (getD (t .counts) 0 0) sizes

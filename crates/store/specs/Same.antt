@@ -5,7 +5,7 @@ use mathlib.Core.Bool.{Bool, true, not}
 use mathlib.Core.List.{List}
 use Prim.Native.Nat.{ℕ, zero, suc, _+_, _-_, _<_, _≤_}
 use native.Mathlib.Omega.{arith}
-use lib.ListN.{length, getD}
+use lib.ListN.{length, getD, replicate}
 use borrow.Author.Tests.{ltb-true, lt-ltb, le-ltb, leb-true, le-leb, eqb-true, eq-eqb}
 use Rattle.definition.specs.Lists.{all, isSome, rows}
 use Rattle.definition.specs.Classes.{Base, superOf}
@@ -284,3 +284,9 @@ sound-checks t h =
 pub checks-broken : (t : Tables) → broken t ≡ not (checks t)
 unfolding broken
 checks-broken t = ap not (same-test (whole t) (checks t) (sound-checks t) (checks-sound t))
+
+-- a table of zeros has a zero everywhere
+pub zeros-at : (n o : ℕ) → _≡_ {A = ℕ} (getD (replicate n 0) o 0) 0
+zeros-at zero o = refl
+zeros-at (suc n) zero = refl
+zeros-at (suc n) (suc o) = zeros-at n o

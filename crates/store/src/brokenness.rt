@@ -18,7 +18,7 @@ ghost use Rattle.definition.specs.Numbers.{classLimit, countClasses};
 ghost use Rattle.definition.specs.Tables.{tables, sizeOf};
 ghost use Rattle.definition.specs.Broken.{broken};
 ghost use Rattle.resolution.specs.Quick.{quickBase};
-ghost use Rattle.store.specs.Checks.{linkedSize, linksFit, Sized, valuesFit, readable, Tested};
+ghost use Rattle.store.specs.Checks.{linkedSize, linksFit, Blank, Sized, valuesFit, readable, Tested, Measured};
 
 // How many fields an object has at most.
 const FIELDS: usize = FIELD_LIMIT as usize;
@@ -51,7 +51,7 @@ fn linked_size(
 
 // Whether each class but the first is linked. If so `sizes` has the sizes of all of them.
 fn links_fit(sizes: &mut [u8], counts: &[u16], classes: &[u16], kept: &[u8], cache: &[u16]) -> bool
-    requires { ⌜ (length (now sizes) ≡ classLimit) × (getD (now counts) countClasses 0 ≤ classLimit) × (sizeOf (quickBase (now counts) (now classes) (now kept) (now cache)) 0 ≡ 0) ⌝ }
+    requires { ⌜ Blank (now sizes) × (getD (now counts) countClasses 0 ≤ classLimit) × (sizeOf (quickBase (now counts) (now classes) (now kept) (now cache)) 0 ≡ 0) ⌝ }
     ensures { λ r. ⌜ (r ≡ linksFit (quickBase (now (counts .entry)) (now (classes .entry)) (now (kept .entry)) (now (cache .entry))) (getD (now (counts .entry)) countClasses 0)) × (r ≡ true → Sized (quickBase (now (counts .entry)) (now (classes .entry)) (now (kept .entry)) (now (cache .entry))) (getD (now (counts .entry)) countClasses 0) (now (sizes .exit))) ⌝ }
 {
     cells::put8(sizes, 0, 0);
@@ -77,7 +77,7 @@ fn values_fit(
     objects: &[u32],
     frames: &[u32],
 ) -> bool
-    requires { ⌜ (length (now sizes) ≡ classLimit) × (getD (now counts) countClasses 0 ≤ classLimit) × (sizeOf (quickBase (now counts) (now classes) (now kept) (now cache)) 0 ≡ 0) ⌝ }
+    requires { ⌜ Blank (now sizes) × (getD (now counts) countClasses 0 ≤ classLimit) × (sizeOf (quickBase (now counts) (now classes) (now kept) (now cache)) 0 ≡ 0) ⌝ }
     ensures { λ r. ⌜ (r ≡ valuesFit (quickBase (now (counts .entry)) (now (classes .entry)) (now (kept .entry)) (now (cache .entry))) (now (counts .entry)) (now (objects .entry)) (now (frames .entry))) × (r ≡ true → Sized (quickBase (now (counts .entry)) (now (classes .entry)) (now (kept .entry)) (now (cache .entry))) (getD (now (counts .entry)) countClasses 0) (now (sizes .exit))) ⌝ }
 {
     if !links_fit(sizes, counts, classes, kept, cache) {
@@ -126,8 +126,9 @@ fn is_readable(
     rows_fit(counts, cache, ties, subtypes)
 }
 
-// Whether the tables are broken.
-pub fn is_broken(
+// Whether the tables are broken. If not, `sizes` has the sizes of all classes.
+fn test(
+    sizes: &mut [u8],
     counts: &[u16],
     classes: &[u16],
     kept: &[u8],
@@ -137,7 +138,8 @@ pub fn is_broken(
     objects: &[u32],
     frames: &[u32],
 ) -> bool
-    ensures { λ r. ⌜ r ≡ broken (tables (now (counts .entry)) (now (classes .entry)) (now (kept .entry)) (now (cache .entry)) (now (ties .entry)) (now (subtypes .entry)) (now (objects .entry)) (now (frames .entry))) ⌝ }
+    requires { ⌜ Blank (now sizes) ⌝ }
+    ensures { λ r. ⌜ Tested (tables (now (counts .entry)) (now (classes .entry)) (now (kept .entry)) (now (cache .entry)) (now (ties .entry)) (now (subtypes .entry)) (now (objects .entry)) (now (frames .entry))) r (now (sizes .exit)) ⌝ }
 {
     if !is_readable(
         counts,
@@ -151,11 +153,37 @@ pub fn is_broken(
     ) {
         return true;
     }
-    let mut sizes = [0u8; CLASS_LIMIT as usize];
-    !values_fit(&mut sizes, counts, classes, kept, cache, objects, frames)
+    !values_fit(sizes, counts, classes, kept, cache, objects, frames)
 }
 
-// The same, with the number of fields of each class, if the tables are not broken.
+// Whether the tables are broken.
+pub fn is_broken(
+    counts: &[u16],
+    classes: &[u16],
+    kept: &[u8],
+    cache: &[u16],
+    ties: &[u16],
+    subtypes: &[u16],
+    objects: &[u32],
+    frames: &[u32],
+) -> bool
+    ensures { λ r. ⌜ r ≡ broken (tables (now (counts .entry)) (now (classes .entry)) (now (kept .entry)) (now (cache .entry)) (now (ties .entry)) (now (subtypes .entry)) (now (objects .entry)) (now (frames .entry))) ⌝ }
+{
+    let mut sizes = [0u8; CLASS_LIMIT as usize];
+    test(
+        &mut sizes,
+        counts,
+        classes,
+        kept,
+        cache,
+        ties,
+        subtypes,
+        objects,
+        frames,
+    )
+}
+
+// The same, with the number of fields of each class, all 0 if the tables are broken.
 pub fn class_sizes(
     counts: &[u16],
     classes: &[u16],
@@ -166,10 +194,11 @@ pub fn class_sizes(
     objects: &[u32],
     frames: &[u32],
 ) -> Sizes
-    ensures { λ r. ⌜ Tested (tables (now (counts .entry)) (now (classes .entry)) (now (kept .entry)) (now (cache .entry)) (now (ties .entry)) (now (subtypes .entry)) (now (objects .entry)) (now (frames .entry))) (r .broken) (r .fields) ⌝ }
+    ensures { λ r. ⌜ Measured (tables (now (counts .entry)) (now (classes .entry)) (now (kept .entry)) (now (cache .entry)) (now (ties .entry)) (now (subtypes .entry)) (now (objects .entry)) (now (frames .entry))) (r .broken) (r .fields) ⌝ }
 {
     let mut sizes = [0u8; CLASS_LIMIT as usize];
-    if !is_readable(
+    let broken = test(
+        &mut sizes,
         counts,
         classes,
         kept,
@@ -178,15 +207,15 @@ pub fn class_sizes(
         subtypes,
         objects,
         frames,
-    ) {
+    );
+    if broken {
         return Sizes {
             broken: true,
-            fields: sizes,
+            fields: [0u8; CLASS_LIMIT as usize],
         };
     }
-    let fit = values_fit(&mut sizes, counts, classes, kept, cache, objects, frames);
     Sizes {
-        broken: !fit,
+        broken: false,
         fields: sizes,
     }
 }

@@ -18,10 +18,11 @@ use definition::numbers::OWNERS_CELL;
 use definition::numbers::TASK_LIMIT;
 use definition::numbers::VALUE_CELLS;
 ghost use mathlib.Core.Path.{_≡_};
+ghost use Prim.Native.Nat.{_*_, _<_};
 ghost use lib.ListN.{getD};
-ghost use Rattle.definition.specs.Numbers.{localCount, countClasses, countObjects};
+ghost use Rattle.definition.specs.Numbers.{localCount, countClasses, countObjects, intRange};
 ghost use Rattle.definition.specs.Lists.{all, rows, stack};
-ghost use Rattle.definition.specs.Tables.{valueOf, fieldAt, localAt, operandAt, frameAt};
+ghost use Rattle.definition.specs.Tables.{valueAt, fieldAt, localAt, operandAt, frameAt};
 ghost use Rattle.store.specs.Checks.{exists, objectSized, valueIn, localIn, objectIn, frameFit, framesFit};
 
 // The rows of a task, and the cells of a row of frames.
@@ -42,12 +43,16 @@ fn object_exists(counts: &[u16], o: u32, made: u32) -> bool
     0 < cells::at16(counts, OWNERS_CELL + cells::wide32(o))
 }
 
-fn value_fits(counts: &[u16], kind: u32, bits: u32, made: u32) -> bool
-    ensures { λ r. ⌜ r ≡ valueIn (exists (now (counts .entry)) made) (valueOf kind bits) ⌝ }
+// The value at a cell of objects or frames. An int's bits aren't read.
+fn value_fits(counts: &[u16], table: &[u32], place: usize, made: u32) -> bool
+    requires { ⌜ place < 64 * intRange ⌝ }
+    ensures { λ r. ⌜ r ≡ valueIn (exists (now (counts .entry)) made) (valueAt (now (table .entry)) place) ⌝ }
 {
+    let kind = cells::at32(table, place);
     if kind == KIND_INT {
         return true;
     }
+    let bits = cells::at32(table, place + 1);
     if kind == KIND_OBJECT {
         return object_exists(counts, bits, made);
     }
@@ -58,13 +63,14 @@ fn value_fits(counts: &[u16], kind: u32, bits: u32, made: u32) -> bool
 }
 
 // A local may be empty.
-fn local_fits(counts: &[u16], kind: u32, bits: u32, made: u32) -> bool
-    ensures { λ r. ⌜ r ≡ localIn (exists (now (counts .entry)) made) (valueOf kind bits) ⌝ }
+fn local_fits(counts: &[u16], table: &[u32], place: usize, made: u32) -> bool
+    requires { ⌜ place < 64 * intRange ⌝ }
+    ensures { λ r. ⌜ r ≡ localIn (exists (now (counts .entry)) made) (valueAt (now (table .entry)) place) ⌝ }
 {
-    if kind == 0 {
-        return bits == 0;
+    if cells::at32(table, place) == 0 {
+        return cells::at32(table, place + 1) == 0;
     }
-    value_fits(counts, kind, bits, made)
+    value_fits(counts, table, place, made)
 }
 
 // The first `size` fields of object o.
@@ -75,12 +81,7 @@ fn fields_fit(counts: &[u16], objects: &[u32], o: u16, size: u8, made: u32) -> b
     let mut i: u8 = 0;
     while i < size {
         let place = first + (FIELDS_CELL + VALUE_CELLS * cells::wide8(i));
-        if !value_fits(
-            counts,
-            cells::at32(objects, place),
-            cells::at32(objects, place + 1),
-            made,
-        ) {
+        if !value_fits(counts, objects, place, made) {
             return false;
         }
         i += 1;
@@ -143,12 +144,7 @@ fn operands_fit(counts: &[u16], frames: &[u32], b: u32, depth: u32, made: u32) -
     let mut i = depth;
     while 0 < i {
         let place = cells::wide32(b) + (OPERANDS_CELL + VALUE_CELLS * cells::wide32(i - 1));
-        if !value_fits(
-            counts,
-            cells::at32(frames, place),
-            cells::at32(frames, place + 1),
-            made,
-        ) {
+        if !value_fits(counts, frames, place, made) {
             return false;
         }
         i -= 1;
@@ -162,12 +158,7 @@ fn locals_fit(counts: &[u16], frames: &[u32], b: u32, made: u32) -> bool
     let mut i: u8 = 0;
     while i < LOCAL_COUNT {
         let place = cells::wide32(b) + (LOCALS_CELL + VALUE_CELLS * cells::wide8(i));
-        if !local_fits(
-            counts,
-            cells::at32(frames, place),
-            cells::at32(frames, place + 1),
-            made,
-        ) {
+        if !local_fits(counts, frames, place, made) {
             return false;
         }
         i += 1;

@@ -1,15 +1,15 @@
 -- A sweep as the code does it: objects are marked and put on a work list, first those that frames name, then those that the objects on the list name in their
 -- fields; objects in use without a mark are freed. What is marked so is what frames reach (proofs/Reaching).
 use mathlib.Core.Bool.{Bool, true, false}
-use mathlib.Core.List.{List, [], _∷_, _++_}
-use Prim.Native.Nat.{ℕ, zero, suc, _+_}
+use mathlib.Core.List.{List, [], _∷_}
+use Prim.Native.Nat.{ℕ, zero, suc, _+_, _*_}
 use lib.ListN.{replicate, getD, set}
 use lib.Dec.{eqb, ltb}
-use Rattle.definition.specs.Numbers.{objectLimit, ownersCell}
+use Rattle.definition.specs.Numbers.{objectLimit, countFrames, ownersCell, valueCells}
 use Rattle.definition.specs.Lists.{every, stack}
 use Rattle.definition.specs.Machine.{Value, emptyValue, intValue, nullValue, objectValue, unlistedValue}
 use Rattle.definition.specs.Sweeping.{named, roots}
-use Rattle.definition.specs.Tables.{ownerAt, frameIn}
+use Rattle.definition.specs.Tables.{valueAt, ownerAt, frameIn}
 use Rattle.store.specs.Checks.{sizedObject}
 
 -- a cell for each object, 0 if it is not marked; the marked objects in the order in which they were found, and how many they are
@@ -44,6 +44,10 @@ markValue w nullValue = w
 markValue w (objectValue o) = mark w o
 markValue w (unlistedValue k b) = w
 
+-- the i-th of the values from cell `first` on
+unfoldable pub valueFrom : List ℕ → ℕ → ℕ → Value
+valueFrom t first i = valueAt t (first + valueCells * i)
+
 -- The work list: the object at place i is looked at, until the list ends
 
 -- the objects that the fields of object o name, where `sizes` has the sizes of the classes
@@ -58,7 +62,7 @@ module _ (names : ℕ → List ℕ) where
 
 -- both tasks' roots
 abbrev pub rootsOf : List ℕ → List ℕ → ℕ → List ℕ
-rootsOf counts frames k = roots (stack (frameIn frames k) (getD counts (6 + k) 0))
+rootsOf counts frames k = roots (stack (frameIn frames k) (getD counts (countFrames + k) 0))
 
 unfoldable pub marked : List ℕ → List ℕ → List ℕ → List ℕ → List ℕ → Work
 marked sizes counts objects frames marks =

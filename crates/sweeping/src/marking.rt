@@ -13,12 +13,12 @@ use definition::numbers::OPERANDS_CELL;
 use definition::numbers::VALUE_CELLS;
 ghost use mathlib.Core.Path.{_≡_};
 ghost use mathlib.Core.List.{_++_};
-ghost use Prim.Native.Nat.{_+_, _*_, _<_, _≤_};
-ghost use Rattle.definition.specs.Numbers.{valueCells, objectLimit, intRange};
+ghost use Prim.Native.Nat.{_*_, _<_, _≤_};
+ghost use Rattle.definition.specs.Numbers.{objectLimit, intRange};
 ghost use Rattle.definition.specs.Lists.{rows, stack};
 ghost use Rattle.definition.specs.Sweeping.{named};
-ghost use Rattle.definition.specs.Tables.{valueOf, valueAt, operandAt, frameAt};
-ghost use Rattle.sweeping.specs.Marking.{Work, work, mark, markAll, markValue, fieldNames, follow, rootsOf, marked};
+ghost use Rattle.definition.specs.Tables.{valueAt, operandAt, frameAt};
+ghost use Rattle.sweeping.specs.Marking.{work, mark, markAll, markValue, valueFrom, fieldNames, follow, rootsOf, marked};
 
 // The rows of a task, and the cells of a row of frames.
 const TASK_ROWS: u32 = FRAME_LIMIT as u32;
@@ -41,13 +41,15 @@ fn mark_object(marks: &mut [u8], list: &mut [u32], n: u16, o: u32) -> u16
     n + 1
 }
 
-fn mark_value(marks: &mut [u8], list: &mut [u32], n: u16, kind: u32, bits: u32) -> u16
-    ensures { λ r. ⌜ work (now (marks .exit)) (now (list .exit)) r ≡ markValue (work (now (marks .entry)) (now (list .entry)) n) (valueOf kind bits) ⌝ }
+// The value at a cell of objects or frames; bits are read of an object alone.
+fn mark_value(marks: &mut [u8], list: &mut [u32], n: u16, table: &[u32], place: usize) -> u16
+    requires { ⌜ place < 65 * intRange ⌝ }
+    ensures { λ r. ⌜ work (now (marks .exit)) (now (list .exit)) r ≡ markValue (work (now (marks .entry)) (now (list .entry)) n) (valueAt (now (table .entry)) place) ⌝ }
 {
-    if kind != KIND_OBJECT {
+    if cells::at32(table, place) != KIND_OBJECT {
         return n;
     }
-    mark_object(marks, list, n, bits)
+    mark_object(marks, list, n, cells::at32(table, place + 1))
 }
 
 // The `count` values from cell `first` on.
@@ -60,19 +62,13 @@ fn mark_values(
     count: u8,
 ) -> u16
     requires { ⌜ first < 64 * intRange ⌝ }
-    ensures { λ r. ⌜ work (now (marks .exit)) (now (list .exit)) r ≡ markAll (work (now (marks .entry)) (now (list .entry)) n) (named (rows (λ i. valueAt (now (table .entry)) (first + valueCells * i)) count 0)) ⌝ }
+    ensures { λ r. ⌜ work (now (marks .exit)) (now (list .exit)) r ≡ markAll (work (now (marks .entry)) (now (list .entry)) n) (named (rows (valueFrom (now (table .entry)) first) count 0)) ⌝ }
 {
     let mut size = n;
     let mut i: u8 = 0;
     while i < count {
         let place = first + VALUE_CELLS * cells::wide8(i);
-        size = mark_value(
-            marks,
-            list,
-            size,
-            cells::at32(table, place),
-            cells::at32(table, place + 1),
-        );
+        size = mark_value(marks, list, size, table, place);
         i += 1;
     }
     size
@@ -93,13 +89,7 @@ fn mark_operands(
     let mut i = depth;
     while 0 < i {
         let place = cells::wide32(b) + (OPERANDS_CELL + VALUE_CELLS * cells::wide32(i - 1));
-        size = mark_value(
-            marks,
-            list,
-            size,
-            cells::at32(frames, place),
-            cells::at32(frames, place + 1),
-        );
+        size = mark_value(marks, list, size, frames, place);
         i -= 1;
     }
     size
@@ -172,13 +162,7 @@ fn mark_fields(
 }
 
 // The work list, from its first object to the last that is put on it.
-fn follow_fields(
-    marks: &mut [u8],
-    list: &mut [u32],
-    n: u16,
-    sizes: &[u8],
-    objects: &[u32],
-) -> u16
+fn follow_fields(marks: &mut [u8], list: &mut [u32], n: u16, sizes: &[u8], objects: &[u32]) -> u16
     requires { ⌜ n ≤ objectLimit ⌝ }
     ensures { λ r. ⌜ work (now (marks .exit)) (now (list .exit)) r ≡ follow (fieldNames (now (sizes .entry)) (now (objects .entry))) objectLimit 0 (work (now (marks .entry)) (now (list .entry)) n) ⌝ }
 {

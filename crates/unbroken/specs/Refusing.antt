@@ -1,4 +1,4 @@
--- A define, a record, a start and a drop refuse with the first cause that applies.
+-- A define, a record, a start, a drop and a sweep refuse with the first cause that applies.
 use mathlib.Core.Path.{_≡_, refl, sym, _∙_, ap}
 use mathlib.Core.Bool.{Bool, true, false, not, _&&_, _||_, Bool·not-not}
 use mathlib.Core.Option.{Option, none, some}

@@ -1,44 +1,53 @@
 -- A sweep on tables that aren't broken: an object is in use afterwards exactly if it was and a frame reaches it, and is then the same (`sweep-keeps-it`,
 -- `sweep-left-it`); no table but counts changes, and of counts no cell but owners (`sweep-tables`); the answer is the number freed (`sweep-counts`); a second sweep
 -- frees none and changes nothing (`sweep-twice`); where no task has a frame, none is left (`sweep-empties`). And no place names an object that doesn't exist
--- (`root-exists`, `field-exists`, `reached-exists`); the number that an object gets is unused and the lowest (`start-takes`, `new-takes`).
+-- (`root-exists`, `field-exists`, `named-exists`); the number that an object gets is unused and the lowest (`start-takes`, `new-takes`).
 use mathlib.Core.Path.{_≡_, refl, sym, ap, _∙_, subst}
-use mathlib.Core.Bool.{true, false}
+use mathlib.Core.Bool.{Bool, true, false, false≢true}
 use mathlib.Core.Option.{none, some}
 use mathlib.Core.List.{List, [], _∷_, _++_, List·Memᴰ, List·Memᴰ·head, List·Memᴰ·tail, List·Memᴰ·not-nil}
 use mathlib.Core.Logic.{_⊎_, inl, inr}
 use Prim.Native.Nat.{ℕ, zero, suc, _+_, _<_}
 use native.Mathlib.Omega.{arith}
-use lib.ListN.{length, getD}
+use lib.ListN.{length, getElem?, getD}
+use lib.Dec.{eqb, ltb}
+use borrow.Author.Tests.{ltb-true, ltb-false}
 use Rattle.definition.specs.declared.Refusal.the-variants.{Word}
 use Rattle.definition.specs.declared.Reply.{Reply}
-use Rattle.definition.specs.declared.Reply.the-variants.{Swept, Denied}
+use Rattle.definition.specs.declared.Reply.the-variants.{Accepted, Swept, Denied}
+use Rattle.definition.specs.declared.Answer.{Answer}
+use Rattle.definition.specs.declared.Answer.the-variants.{Ran, Refused}
+use Rattle.definition.specs.declared.Instruction.{Instruction}
 use Rattle.definition.specs.declared.Instruction.the-variants.{New}
-use Rattle.definition.specs.Chains.{Chain, stay, hop}
+use Rattle.definition.specs.Chains.{Chain, stay, hop, has}
 use Rattle.definition.specs.Classes.{Class}
 use Rattle.definition.specs.Constraints.{World}
-use Rattle.definition.specs.Instructions.{Decoded}
+use Rattle.definition.specs.Instructions.{Decoded, pick}
 use Rattle.definition.specs.Lists.{writeRows}
-use Rattle.definition.specs.Machine.{Value, emptyValue, intValue, nullValue, objectValue, unlistedValue, Object, Objects, existing, Exists, inUse, unused, made, Frame, entryFrame, Progress, newObject, past, execute}
+use Rattle.definition.specs.Machine.{Value, emptyValue, intValue, nullValue, objectValue, unlistedValue, Object, ObjectRow, free, owned, Objects, existing, Exists, inUse, unused, made, Frame, entryFrame, Progress, Now, now, newObject, past, execute, step}
 use Rattle.definition.specs.Numbers.{ownersCell}
 use Rattle.definition.specs.Sweeping.{named, roots, links, Reached, reached}
 use Rattle.definition.specs.Loading.{started}
-use Rattle.definition.specs.Tables.{Tables, tables, Rows, worldOf, viewBase, objectsOf, viewOver, view, put, putOwner, framesIn, withObjects}
+use Rattle.definition.specs.Tables.{Tables, tables, Rows, worldOf, viewBase, objectsOf, viewOver, view, put, ownerOf, ownerAt, putOwner, framesIn, withObjects}
 use Rattle.definition.specs.Broken.{broken}
-use Rattle.definition.specs.Calls.{Given, Done, done, carried, progressed, sweepRows, startRows, Call, callSweep, perform}
+use Rattle.definition.specs.Calls.{Given, Done, done, carried, progressed, sweepRows, startRows, stepTask, stepOn, stepRows, stepTables, turnOf, turn, rowStart, Call, callStart, callSweep, perform}
 use Rattle.definition.specs.Answers.{ok}
-use Rattle.laws.specs.Objects.{unused-free, unused-lowest, made-there}
-use Rattle.laws.specs.Sweeps.{member-either, link-names, swept, freed, sweep-keeps, sweep-left, sweep-freed, sweep-again, sweep-rests, sweep-none}
+use Rattle.laws.specs.Objects.{existing-owned, unused-free, unused-lowest, made-there}
+use Rattle.laws.specs.Refusals.{running}
+use Rattle.laws.specs.Results.{bind-ok, ok-inj}
+use Rattle.laws.specs.Sweeps.{member-either, link-names, reached-found, swept-row, swept, freed, sweep-keeps, sweep-left, sweep-freed, sweep-again, sweep-rests, sweep-none}
 use Rattle.laws.specs.Wrapped.{wrap-broken, wrap-carried, Ok, ok-at, then}
-use Rattle.layout.specs.OwnedRows.{owners-behind}
+use Rattle.layout.specs.OwnedRows.{owners-behind, owner-put, owner-past, swept-length}
 use Rattle.layout.specs.ReadBack.{Lengths, view-put}
 use Rattle.layout.specs.Tests.{All, all-both}
 use Rattle.layout.specs.Unbroken.{broken-false}
-use Rattle.layout.specs.View.{put-view, sweep-writes}
+use Rattle.layout.specs.View.{put-view, row-owner, sweep-writes}
 use Rattle.layout.specs.Whole.{Local, ValueSound, Framed, Whole}
+use Rattle.unbroken.specs.Calls.{rows-whole, step-whole}
 use Rattle.unbroken.specs.Steps.{object-at}
 use Rattle.unbroken.specs.Swept.{objects-whole}
-use Rattle.unbroken.specs.Unbroken.{kept-unbroken}
+use Rattle.unbroken.specs.WholeRows.{nth-there}
+use Rattle.unbroken.specs.Unbroken.{shown, kept-unbroken}
 
 -- all frames of both tasks
 abbrev pub allFrames : Rows → List Frame
@@ -87,9 +96,10 @@ module _ (t : Tables) (h : broken t ≡ false) where
   pub sweep-counts : inUse os ≡ inUse (view after .objects) + freed os fs
   sweep-counts = sweep-freed os fs ∙ ap (λ (qs : Objects). inUse qs + freed os fs) (sym left-is)
 
-  -- no other table changes, nor any cell of counts before the owners
+  -- no other table changes, nor any of the eight counts; an owner is as it was, or 0 where an object that isn't reached was freed
   pub record SweepLeaves : Type 0 where
     pub counts : (j : ℕ) → j < ownersCell → getD (after .counts) j 0 ≡ getD (t .counts) j 0
+    pub owners : (o : ℕ) → (ownerAt (after .counts) o ≡ ownerAt (t .counts) o) ⊎ ((ownerAt (after .counts) o ≡ 0) × Exists os o × (Reached os fs o → ⊥))
     pub classes : after .classes ≡ t .classes
     pub kept : after .kept ≡ t .kept
     pub cache : after .cache ≡ t .cache
@@ -102,8 +112,35 @@ module _ (t : Tables) (h : broken t ≡ false) where
   unfolding view viewOver
   written = ap (λ (d : Done Reply). d .tables) sweep-done ∙ sweep-writes (viewBase t) t (reached os fs)
 
+  owner-read : (o : ℕ) (x : ObjectRow) → getElem? os o ≡ some x → ownerOf x ≡ ownerAt (t .counts) o
+  unfolding view viewOver
+  owner-read o x e = row-owner t (viewBase t) o x e
+
+  owner-left : (o : ℕ) → (ownerAt (after .counts) o ≡ ownerAt (t .counts) o) ⊎ ((ownerAt (after .counts) o ≡ 0) × Exists os o × (Reached os fs o → ⊥))
+  owner-left o = go (ltb o (length os)) refl
+    where
+      cell : ownerAt (after .counts) o ≡ ownerAt (writeRows putOwner (swept os fs) 0 (t .counts)) o
+      cell = ap (λ (u : Tables). ownerAt (u .counts) o) written
+
+      row : (x : ObjectRow) → getElem? os o ≡ some x → (u : Bool) → has eqb o (reached os fs) ≡ u → ownerOf x ≡ ownerAt (t .counts) o → ownerAt (after .counts) o ≡ ownerOf (pick u x free)
+          → (ownerAt (after .counts) o ≡ ownerAt (t .counts) o) ⊎ ((ownerAt (after .counts) o ≡ 0) × Exists os o × (Reached os fs o → ⊥))
+      row x e true h q z = inl (z ∙ (unfold pick in q))
+      row free e false h q z = inl (z ∙ (unfold pick in q))
+      row (owned k y) e false h q z =
+          inr (z ∙ (unfold pick ownerOf in refl), (y, existing-owned os o k y e), λ r. false≢true (sym h ∙ reached-found os fs o r))
+
+      go : (u : Bool) → ltb o (length os) ≡ u → (ownerAt (after .counts) o ≡ ownerAt (t .counts) o) ⊎ ((ownerAt (after .counts) o ≡ 0) × Exists os o × (Reached os fs o → ⊥))
+      go true l =
+          let n = nth-there os o (ltb-true o (length os) l) in
+          let s = swept-row (reached os fs) os o (n .0) (n .1) in
+          let room = broken-false t h in
+          row (n .0) (n .1) (has eqb o (reached os fs)) refl (owner-read o (n .0) (n .1))
+          (cell ∙ owner-put (swept os fs) (t .counts) (omega (arith, swept-length (reached os fs) 0 os, room .1 .limits .objects, room .0 .counts)) o _ s)
+      go false l = inl (cell ∙ owner-past (swept os fs) (t .counts) o (omega (arith, swept-length (reached os fs) 0 os, ltb-false o (length os) l)))
+
   pub sweep-tables : SweepLeaves
   sweep-tables = record {
+    owners = owner-left;
     counts = λ j l. ap (λ (u : Tables). getD (u .counts) j 0) written ∙ owners-behind (swept os fs) 0 (t .counts) j l;
     classes = ap (λ (u : Tables). u .classes) written;
     kept = ap (λ (u : Tables). u .kept) written;
@@ -181,10 +218,20 @@ module _ (r : Rows) (w : Whole r) where
   pub reached-exists : (o : ℕ) → Reached (r .objects) (allFrames r) o → Exists (r .objects) o
   reached-exists o h = chain-exists (h .root) o (h .chain) (h .isRoot)
 
--- and so after any call on tables that aren't broken
-pub none-freed-named : (c : Call) (t : Tables) → broken t ≡ false → (o : ℕ) → Reached (view (perform c t .tables) .objects) (allFrames (view (perform c t .tables))) o
-    → Exists (view (perform c t .tables) .objects) o
-none-freed-named c t h o r = reached-exists (view (perform c t .tables)) (broken-false (perform c t .tables) (kept-unbroken c t h) .1) o r
+-- object o is named by a place: an operand or a local of a frame, or a field of an object that exists
+abbrev pub Names : Rows → ℕ → Type 0
+Names r o = List·Memᴰ o (roots (allFrames r)) ⊎ ((p : ℕ) × (x : Object) × (existing (r .objects) p ≡ some x) × List·Memᴰ o (named (x .values)))
+
+-- no place holds a freed object, after any call on tables that aren't broken
+pub named-exists : (c : Call) (t : Tables) → broken t ≡ false → (o : ℕ) → Names (view (perform c t .tables)) o → Exists (view (perform c t .tables) .objects) o
+named-exists c t h o n = go (broken-false (perform c t .tables) (kept-unbroken c t h) .1) n
+  where
+    r : Rows
+    r = view (perform c t .tables)
+
+    go : Whole r → Names r o → Exists (r .objects) o
+    go w (inl m) = root-exists r w o m
+    go w (inr (p, x, e, m)) = field-exists r w p x e o m
 
 -- The number that an object gets
 
@@ -193,20 +240,23 @@ pub record Takes (k : ℕ) (os qs : Objects) (o : ℕ) : Type 0 where
   pub object : Object
   pub is : qs ≡ made k object os
   pub there : existing qs o ≡ some object
-  pub unused : existing os o ≡ none
+  pub wasFree : existing os o ≡ none
   pub lowest : (p : ℕ) → p < o → Exists os p
 
 takes-made : (k : ℕ) (x : Object) (os : Objects) → Takes k os (made k x os) (unused os)
-takes-made k x os = record { object = x; is = refl; there = made-there k x os; unused = unused-free os; lowest = unused-lowest os }
+takes-made k x os = record { object = x; is = refl; there = made-there k x os; wasFree = unused-free os; lowest = unused-lowest os }
 
--- of a start, `this` of the first frame has it
-pub start-takes : (k l n m v : ℕ) (r : Rows) → Ok (startRows k l n m v r) (λ g. Takes k (r .objects) (g .rows .objects) (unused (r .objects))
-    × ((c : ℕ) × (j : ℕ) × (framesIn k (g .rows) ≡ entryFrame c j (unused (r .objects)) (intValue v) ∷ [])))
+-- of a start that is accepted, `this` of the first frame has it
+
+abbrev pub Begun : ℕ → ℕ → Rows → Rows → Type 0
+Begun k v r s = Takes k (r .objects) (s .objects) (unused (r .objects)) × ((c : ℕ) × (j : ℕ) × (framesIn k s ≡ entryFrame c j (unused (r .objects)) (intValue v) ∷ []))
+
+begun-rows : (k l n m v : ℕ) (r : Rows) → Ok (startRows k l n m v r) (λ g. Begun k v r (g .rows))
 unfolding startRows started
-start-takes k l n m v r = then G _ _ (λ _ _. then G _ _ (λ o e. began o e))
+begun-rows k l n m v r = then G _ _ (λ _ _. then G _ _ (λ o e. let q = ok-at Q _ all o e in (q .0, (q .1 .0, q .1 .1, frames-of k o ∙ q .1 .2))))
   where
     G : Given Reply → Type 0
-    G g = Takes k (r .objects) (g .rows .objects) (unused (r .objects)) × ((c : ℕ) × (j : ℕ) × (framesIn k (g .rows) ≡ entryFrame c j (unused (r .objects)) (intValue v) ∷ []))
+    G g = Begun k v r (g .rows)
 
     Q : Progress → Type 0
     Q o = Takes k (r .objects) (o .objects) (unused (r .objects)) × ((c : ℕ) × (j : ℕ) × (o .frames ≡ entryFrame c j (unused (r .objects)) (intValue v) ∷ []))
@@ -219,15 +269,59 @@ start-takes k l n m v r = then G _ _ (λ _ _. then G _ _ (λ o e. began o e))
     all = then Q _ _ (λ _ _. then Q _ _ (λ _ _. then Q _ _ (λ c _. then Q _ _ (λ s _. then Q _ _ (λ _ _.
         (takes-made k (newObject (worldOf r .base) c) (r .objects), (s .class, s .place, refl)))))))
 
-    began : (o : Progress) → started k l n m v (worldOf r) (r .objects) (framesIn k r) ≡ ok o
-        → Takes k (r .objects) (progressed k r o .objects) (unused (r .objects)) × ((c : ℕ) × (j : ℕ) × (framesIn k (progressed k r o) ≡ entryFrame c j (unused (r .objects)) (intValue v) ∷ []))
-    began o e = let q = ok-at Q _ all o e in (q .0, (q .1 .0, q .1 .1, frames-of k o ∙ q .1 .2))
+pub start-takes : (k l n m v : ℕ) (t : Tables) → perform (callStart k l n m v) t .answer ≡ Accepted → Begun k v (view t) (view (perform (callStart k l n m v) t .tables))
+unfolding perform
+start-takes k l n m v t = shown Denied (startRows k l n m v) (λ a s. a ≡ Accepted → Begun k v (view t) s) t (λ r w. rows-whole r w (rowStart k l n m v))
+    (λ w e. let z : _≡_ {A = ℕ} 0 1 = cc in absurd (omega arith))
+    (λ _ g e _. ok-at (λ (g : Given Reply). Begun k v (view t) (g .rows)) _ (begun-rows k l n m v (view t)) g e)
 
--- of new, the operand that it pushes
-pub new-takes : (task : ℕ) (w : World) (os : Objects) (f : Frame) (fs : List Frame) (k : Class) (i : Decoded) (c : ℕ)
+-- of a new that ran, the operand that it pushes
+
+pushed-rows : (task : ℕ) (w : World) (os : Objects) (f : Frame) (fs : List Frame) (k : Class) (i : Decoded) (c : ℕ)
     → Ok (execute task w os f fs k i (New c)) (λ o. Takes task os (o .objects) (unused os) × (o .frames ≡ past f i (objectValue (unused os) ∷ f .operands) (f .locals) ∷ fs))
 unfolding execute
-new-takes task w os f fs k i c = then Q _ _ (λ e _. then Q _ _ (λ _ _. (takes-made task (newObject (w .base) e) os, refl)))
+pushed-rows task w os f fs k i c = then Q _ _ (λ e _. then Q _ _ (λ _ _. (takes-made task (newObject (w .base) e) os, refl)))
   where
     Q : Progress → Type 0
     Q o = Takes task os (o .objects) (unused os) × (o .frames ≡ past f i (objectValue (unused os) ∷ f .operands) (f .locals) ∷ fs)
+
+-- the frame whose turn it is, and the instruction that it reads
+pub record Turns (t : Tables) (f : Frame) (fs : List Frame) (n : Now) : Type 0 where
+  pub frames : running (view t .quote) (view t .report) ≡ f ∷ fs
+  pub reads : now (worldOf (view t)) f ≡ ok n
+
+abbrev Made : Tables → Frame → List Frame → Now → Rows → Type 0
+Made t f fs n s =
+    Takes (turn (view t)) (view t .objects) (s .objects) (unused (view t .objects))
+    × (framesIn (turn (view t)) s ≡ past f (n .at) (objectValue (unused (view t .objects)) ∷ f .operands) (f .locals) ∷ fs)
+
+pub new-takes : (t : Tables) (f : Frame) (fs : List Frame) (n : Now) (c k : ℕ) → Turns t f fs n → n .at .instruction ≡ New c → stepTables t .answer ≡ Ran k
+    → Takes (turn (view t)) (view t .objects) (view (stepTables t .tables) .objects) (unused (view t .objects))
+    × (framesIn (turn (view t)) (view (stepTables t .tables)) ≡ past f (n .at) (objectValue (unused (view t .objects)) ∷ f .operands) (f .locals) ∷ fs)
+unfolding stepTables stepRows stepOn stepTask step turn turnOf
+new-takes t f fs n c k r i = shown Refused stepRows (λ a s. a ≡ Ran k → Made t f fs n s) t step-whole (λ w e. let z : _≡_ {A = ℕ} 0 1 = cc in absurd (omega arith))
+    (λ _ g e _. go (view t .quote) (view t .report) refl refl (r .frames) g e)
+  where
+    task : (j : ℕ) → turn (view t) ≡ j → (g : Given Answer) → stepTask j (worldOf (view t)) f fs (view t) ≡ ok g → Made t f fs n (g .rows)
+    task j q g e =
+        let a = bind-ok _ _ e in
+        let b = bind-ok _ _ (a .1) in
+        let same : b .0 ≡ n = ok-inj (sym (b .1) ∙ r .reads) in
+        let did : execute j (worldOf (view t)) (view t .objects) f fs (n .theClass) (n .at) (New c) ≡ ok (a .0) =
+        subst (λ (x : Instruction). execute j (worldOf (view t)) (view t .objects) f fs (n .theClass) (n .at) x ≡ ok (a .0)) i
+        (subst (λ (x : Now). execute j (worldOf (view t)) (view t .objects) f fs (x .theClass) (x .at) (x .at .instruction) ≡ ok (a .0)) same (b .2)) in
+        let m = ok-at (λ (o : Progress). Takes j (view t .objects) (o .objects) (unused (view t .objects)) × (o .frames ≡ past f (n .at) (objectValue (unused (view t .objects)) ∷ f .operands) (f .locals) ∷ fs)) _
+        (pushed-rows j (worldOf (view t)) (view t .objects) f fs (n .theClass) (n .at) c) (a .0) did in
+        let rows : progressed j (view t) (a .0) ≡ g .rows = ap (λ (x : Given Answer). x .rows) (ok-inj (a .2)) in
+        subst (λ (x : ℕ). Takes x (view t .objects) (g .rows .objects) (unused (view t .objects)) × (framesIn x (g .rows) ≡ past f (n .at) (objectValue (unused (view t .objects)) ∷ f .operands) (f .locals) ∷ fs)) (sym q)
+        (subst (λ (s : Rows). Takes j (view t .objects) (s .objects) (unused (view t .objects)) × (framesIn j s ≡ past f (n .at) (objectValue (unused (view t .objects)) ∷ f .operands) (f .locals) ∷ fs)) rows
+        (m .0, frames-are j (a .0) ∙ m .1))
+      where
+        frames-are : (j : ℕ) (o : Progress) → framesIn j (progressed j (view t) o) ≡ o .frames
+        frames-are zero o = refl
+        frames-are (suc j) o = refl
+
+    go : (q p : List Frame) → view t .quote ≡ q → view t .report ≡ p → running q p ≡ f ∷ fs → (g : Given Answer) → stepOn q p (worldOf (view t)) (view t) ≡ ok g → Made t f fs n (g .rows)
+    go (h ∷ hs) p x y z g e = task 0 (ap turnOf x) g (subst (λ (us : List Frame). stepOn us p (worldOf (view t)) (view t) ≡ ok g) z e)
+    go [] (h ∷ hs) x y z g e = task 1 (ap turnOf x) g (subst (λ (us : List Frame). stepOn [] us (worldOf (view t)) (view t) ≡ ok g) z e)
+    go [] [] x y z g e = absurd (let l : length {A = Frame} [] ≡ length (f ∷ fs) = ap length z in omega arith)

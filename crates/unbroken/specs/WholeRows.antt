@@ -38,7 +38,7 @@ use Rattle.laws.specs.Wrapped.{Ok, then}
 
 -- Lists
 
-all-mem : {A : Type 0} (P : A → Type 0) {xs : List A} {x : A} → All P xs → List·Memᴰ x xs → P x
+pub all-mem : {A : Type 0} (P : A → Type 0) {xs : List A} {x : A} → All P xs → List·Memᴰ x xs → P x
 all-mem P {xs = y ∷ ys} {x} h (List·Memᴰ·head e) = rw e (h .0)
 all-mem P {xs = y ∷ ys} {x} h (List·Memᴰ·tail m) = all-mem P (h .1) m
 

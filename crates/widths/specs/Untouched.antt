@@ -9,10 +9,10 @@ use lib.ListN.{length, getElem?, getD, set, length-set}
 use lib.Seq.{getD-set-other}
 use Rattle.definition.specs.Numbers.{ownersCell, fieldLimit, frameLimit, operandLimit, localCount, rowCells, valueCells, objectCells, fieldsCell, frameCells, methodCell, pointCell, depthCell, localsCell, operandsCell}
 use Rattle.definition.specs.Lists.{writeRows, writeStack}
-use Rattle.definition.specs.Machine.{Object, ObjectRow, free, owned, Objects, objectHeld, existing, Exists, Frame}
+use Rattle.definition.specs.Machine.{Object, ObjectRow, free, owned, Objects, existing, Exists, Frame}
 use Rattle.definition.specs.Tables.{Tables, Rows, worldOf, putThree, putClassRow, putEntry, putTie, putSubtype, putField, putObject, ownerOf, putOwner, putObjectRow, putLocal, putOperand, putFrame, frameBase, putFrameIn, countsOf, put}
 use Rattle.laws.specs.Growth.{nth-lt}
-use Rattle.laws.specs.Objects.{exists-lt}
+use Rattle.laws.specs.Objects.{existing-owned, exists-lt}
 use Rattle.layout.specs.Tests.{All, all-more}
 use Rattle.layout.specs.Places.{writeRows-length, writeStack-length}
 use Rattle.layout.specs.Rows.{class-rows, entry-rows, tie-rows, subtype-rows}
@@ -125,10 +125,6 @@ unfolding putObjectRow
 row-spare s o free j h = refl
 row-spare s o (owned k y) j h = object-spare s (0 + o) y j (λ a. h k y refl (record { from = omega (arith, a .from); to = omega (arith, a .to) }))
 
-held-there : (os : Objects) (o k : ℕ) (y : Object) → getElem? os o ≡ some (owned k y) → existing os o ≡ some y
-unfolding existing objectHeld
-held-there os o k y e = rw (e, existing) refl
-
 owners-spare : (os : Objects) (j : ℕ) (t : List ℕ) → ownersCell + length os ≤ j → getD (writeRows putOwner os 0 t) j 0 ≡ getD t j 0
 owners-spare os j t l = rows-spare putOwner j os 0 (λ n x q s. (unfold putOwner in getD-set-other s (ownersCell + (0 + n)) j (ownerOf x) 0 (λ e. omega (arith, nth-lt os n x q)))) t
 
@@ -183,7 +179,7 @@ untouched r t = record {
   cache = λ j l. threes-spare (λ e. e .request .loader) (λ e. e .request .name) (λ e. e .class) (r .cache) j (t .cache) l;
   ties = λ j l. threes-spare (λ e. e .one) (λ e. e .two) (λ e. e .name) (r .ties) j (t .ties) l;
   subtypes = λ j l. threes-spare (λ e. e .loader) (λ e. e .low) (λ e. e .high) (r .subtypes) j (t .subtypes) l;
-  objects = λ j h. rows-spare putObjectRow j (r .objects) 0 (λ o x q s. row-spare s o x j (λ k y e a. h (o, y, held-there (r .objects) o k y (q ∙ ap some e), a))) (t .objects);
+  objects = λ j h. rows-spare putObjectRow j (r .objects) 0 (λ o x q s. row-spare s o x j (λ k y e a. h (o, y, existing-owned (r .objects) o k y (q ∙ ap some e), a))) (t .objects);
   frames = λ j a b. task-spare 1 (r .report) j b (writeStack (putFrameIn 0) (r .quote) (t .frames)) ∙ task-spare 0 (r .quote) j a (t .frames);
 }
 

@@ -55,10 +55,19 @@ returns-7 c =
     let at2 = at1 .before .before .before .before .before .before .before .before .before .before in
     rw (at2 .call5 .given .1) (at1 .drop-task .ensures)
 
+returns-8 : tie.Need-returns-8
+unfolding callOf
+returns-8 c =
+    let at1 = c .before .before in
+    let at2 = at1 .before .before .before .before .before .before .before .before .before in
+    rw (at2 .enum-told3 .given .1) (at1 .sweep .ensures)
+
 pub perform-spec : {M : Type 1} → statement M
 perform-spec =
     tie.close
     (tie.spec
+    (λ c. search needs)
+    (λ c κs. search needs)
     (λ c. search needs)
     (λ c κs. search needs)
     (λ c. search needs)
@@ -135,4 +144,13 @@ perform-spec =
     (λ c. search needs)
     (λ c. search needs)
     (λ c. search needs)
-    returns-7)
+    returns-7
+    (λ c. search needs)
+    (λ c. search needs)
+    (λ c. search needs)
+    (λ c. search needs)
+    (λ c. search needs)
+    (λ c. search needs)
+    (λ c. search needs)
+    (λ c. search needs)
+    returns-8)

@@ -32,10 +32,14 @@ returns-5 c =
     let at1 = c .before .before .before in
     rw (at1 .reply3 .given .1) (c .new5 .ensures .0 ∙ c .before .refusal-number .ensures, c .new5 .ensures .1, c .new5 .ensures .2)
 
+returns-6 : tie.Need-returns-6
+unfolding numberOf endsIn countOf
+returns-6 c = rw (c .before .enum-told3 .given .1) (c .new6 .ensures)
+
 pub tell-spec : {M : Type 1} → statement M
 tell-spec =
     tie.close
     (tie.spec (λ c. search needs) (λ c κs. search needs) (λ c. search needs) (λ c κs. search needs) (λ c. search needs)
     (λ c κs. search needs) (λ c κs. search needs) (λ c. search needs) (λ c κs. search needs) (λ c κs. search needs)
-    (λ c κs. search needs) (λ c. search needs) (λ c κs. search needs) (λ c κs. search needs) returns returns-2 returns-3 returns-4
-    returns-5)
+    (λ c κs. search needs) (λ c. search needs) (λ c κs. search needs) (λ c κs. search needs) (λ c. search needs) (λ c κs. search needs) returns
+    returns-2 returns-3 returns-4 returns-5 returns-6)

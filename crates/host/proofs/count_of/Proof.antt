@@ -24,8 +24,12 @@ returns-5 : tie.Need-returns-5
 unfolding countOf
 returns-5 c = rw (c .enum-told4 .given .1)
 
+returns-6 : tie.Need-returns-6
+unfolding countOf
+returns-6 c = rw (c .enum-told5 .given .1)
+
 pub count-of-spec : {M : Type 1} → statement M
 count-of-spec =
     tie.close
     (tie.spec (λ c. search needs) (λ c. search needs) (λ c. search needs) (λ c. search needs) (λ c κs. search needs)
-    (λ c. search needs) returns returns-2 returns-3 returns-4 returns-5)
+    (λ c. search needs) (λ c. search needs) returns returns-2 returns-3 returns-4 returns-5 returns-6)

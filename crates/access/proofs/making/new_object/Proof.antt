@@ -3,7 +3,6 @@ use borrow.Author.Needs.{needs}
 use borrow.Author.Tests.{lt-ltb, le-ltb}
 use Rattle.access.specs.Members.{cached, uncached}
 use Rattle.access.specs.Makings.{new-uncached, new-no-room, new-made}
-use Rattle.definition.specs.Requests.{at}
 use Rattle.access.proofs.making.new_object.Statement.{statement}
 use Rattle.access.proofs.making.new_object.Tie as tie
 

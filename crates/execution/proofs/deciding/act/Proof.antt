@@ -1,5 +1,5 @@
 -- Each instruction is decided as the machine does: an arm hands on what the function of its instruction ensures.
-use mathlib.Core.Path.{refl}
+use mathlib.Core.Path.{refl, _∙_}
 use native.Mathlib.Omega.{arith}
 use denote.Ref.{now}
 use borrow.Author.Needs.{needs}
@@ -67,8 +67,8 @@ returns-10 c =
 
 returns-11 : tie.Need-returns-11
 returns-11 c =
-    let at13 = c .before .before .before .before .before .before .before .before .before .before .before .before .before in
-    rw (c .plain8 .ensures .0, c .plain8 .ensures .1, c .before .before .before .i8 .given .1) (acted-make _ _ _ _ _ _ _ _ _ _ _ _ _ _ _ (at13 .pre .0 .counts .ties) _ _ refl (at13 .pre .2) (c .before .new-object .ensures) (λ e. at13 .pre .0 .sizes _ e))
+    let at14 = c .before .before .before .before .before .before .before .before .before .before .before .before .before .before in
+    rw (c .plain8 .ensures .0, c .plain8 .ensures .1, c .before .before .before .before .i8 .given .1) (acted-make _ _ _ _ _ _ _ _ _ _ _ _ _ _ _ (at14 .pre .0 .counts .ties) _ _ refl (c .before .before .unused .ensures ∙ at14 .pre .2) (c .before .new-object .ensures) (λ e. at14 .pre .0 .sizes _ e))
 
 returns-12 : tie.Need-returns-12
 returns-12 c = rw (c .plain9 .ensures .0, c .plain9 .ensures .1, c .before .before .before .i9 .given .1) (acted-return _ _ _ _ _ _ _ _ _ _ _ _ _ _ _ (c .before .before .before .before .before .before .before .before .before .before .before .before .before .pre .0 .counts .ties) (c .before .give-back .ensures))
@@ -112,6 +112,7 @@ act-spec =
     (λ c κs. search needs)
     settle-access-requires-3
     (λ c. search needs)
+    (λ c κs. search needs)
     (λ c κs. search needs)
     (λ c κs. search needs)
     (λ c. search needs)

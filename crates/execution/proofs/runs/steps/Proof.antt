@@ -6,7 +6,7 @@ use native.Mathlib.Omega.{arith}
 use borrow.Author.Needs.{needs}
 use lib.ListN.{length}
 use borrow.Author.Tests.{not-true, not-false}
-use Rattle.execution.specs.Runs.{run-stops, run-on, still-whole, next-unused, run-ends, run-begins}
+use Rattle.execution.specs.Runs.{run-stops, run-on, still-whole, next-unused, unused-again, run-ends, run-begins}
 use Rattle.frames.specs.Unused.{unusedFrom}
 use Rattle.definition.specs.declared.Answer.the-variants.{Idle}
 use Rattle.definition.specs.Broken.{broken}
@@ -34,7 +34,7 @@ loop-holds : tie.Need-loop-holds Inv-loop μ-loop
 loop-holds c = (omega arith, run-begins _ _, c .before .before .before .before .before .before .before .before .before .before .pre, refl, refl, refl, refl, c .unused .ensures)
 
 step-unbroken-requires : tie.Need-step-unbroken-requires Inv-loop μ-loop
-step-unbroken-requires c κs = (c .before .before .before .before .before .loop .inv .2, λ h. c .before .before .before .before .before .loop .inv .7)
+step-unbroken-requires c κs = (c .before .before .before .before .before .loop .inv .2, rw (c .before .before .before .before .before .loop .inv .7) (unused-again _))
 
 same-length : tie.Need-same-length Inv-loop μ-loop
 same-length c = c .before .before .before .before .before .before .before .before .before .before .step-unbroken .kept .0 ∙ c .before .before .before .before .before .before .before .before .before .before .before .before .before .before .before .before .loop .inv .3

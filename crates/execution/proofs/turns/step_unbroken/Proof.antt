@@ -1,5 +1,4 @@
 -- Nobody's turn is idle; else what was chosen is carried out, and that is the step of the task whose turn it is.
-use mathlib.Core.Path.{_∙_}
 use denote.Ref.{now}
 use Rattle.tasks.specs.Turns.{turn-two}
 use Rattle.execution.specs.Carried.{still-ready}
@@ -29,7 +28,7 @@ choose-requires c κs =
     let at8 = c .before .before .before .before .before .before .before .before in
     let at10 = at8 .before .before in
     let at20 = at10 .before .before .before .before .before .before .before .before .before .before in
-    (at20 .pre .0, rw (c .before .before .before .before .top-frame .ensures .0, at10 .turn .ensures) (turn-two (now (at20 .args .counts))), rw (c .before .before .before .before .top-frame .ensures .0, c .before .before .before .before .top-frame .ensures .1) (turn-count _ _ _ _ _ _ _ _ (at20 .pre .0) _ _ (at10 .turn .ensures) (at8 .frame-count .ensures) (c .before .before .before .before .before .before .before .if1 .left)), c .before .before .before .before .top-frame .ensures .2, at20 .pre .1 (λ e. c .before .before .before .before .before .before .before .if1 .left (at8 .frame-count .ensures ∙ rw (at10 .turn .ensures) e)))
+    (at20 .pre .0, rw (c .before .before .before .before .top-frame .ensures .0, at10 .turn .ensures) (turn-two (now (at20 .args .counts))), rw (c .before .before .before .before .top-frame .ensures .0, c .before .before .before .before .top-frame .ensures .1) (turn-count _ _ _ _ _ _ _ _ (at20 .pre .0) _ _ (at10 .turn .ensures) (at8 .frame-count .ensures) (c .before .before .before .before .before .before .before .if1 .left)), c .before .before .before .before .top-frame .ensures .2, at20 .pre .1)
 
 post-ties-requires : tie.Need-post-ties-requires
 post-ties-requires c κs = c .before .before .choose .ensures .ready .ties

@@ -29,7 +29,7 @@ whole c =
     let s = (found-at _ _ (sym (at9 .super-of .ensures) ∙ at7 .p .given .1)) in
     let l : p < at10 .from16 .result = super-falls _ _ _ s in
     let below : p < at16 .args .c = omega (arith, l, at10 .from16 .ensures .0) in
-    let size : c .before .wide8 .result ≡ sizeOf (quickBase counts classes kept (now (at16 .args .cache))) p = c .before .wide8 .ensures .0 ∙ (c .before .before .at8 .ensures ∙ (ap (λ (i : ℕ). getD (now (at16 .args .sizes)) i 0) (c .before .before .before .wide32 .ensures .0) ∙ at16 .pre p below .0)) in
+    let size : c .before .wide8 .result ≡ sizeOf (quickBase counts classes kept (now (at16 .args .cache))) p = c .before .wide8 .ensures .0 ∙ (c .before .before .at8 .ensures ∙ (ap (λ (i : ℕ). getD (now (at16 .args .sizes)) i 0) (c .before .before .before .wide32 .ensures .0) ∙ at16 .pre p .0 below .0)) in
     let own : c .wide82 .result ≡ fieldCount (fileIn counts classes kept (at10 .from16 .result)) = c .wide82 .ensures .0 ∙ (c .before .before .before .before .field-count .ensures ∙ ap fieldCount (c .before .before .before .before .before .file-of .ensures)) in
     size-sum _ _ _ _ _ _ _ _ s size own
 

@@ -6,7 +6,7 @@ use denote.Ref.{now}
 use borrow.Author.Needs.{needs}
 use borrow.Author.Tests.{not-false, not-true}
 use Rattle.definition.specs.Lists.{all, rows}
-use Rattle.definition.specs.Tables.{fieldAt, valueAt}
+use Rattle.definition.specs.Tables.{fieldAt}
 use Rattle.layout.specs.Places.{rows-end, rows-hit, rows-on, rows-start}
 use Rattle.store.specs.Checks.{exists, valueIn}
 use Rattle.store.proofs.values.fields_fit.Statement.{statement}
@@ -22,19 +22,19 @@ loop-holds : tie.Need-loop-holds Inv-loop μ-loop
 loop-holds c = (omega arith, ap (all _) (rows-start _ _))
 
 returns : tie.Need-returns Inv-loop μ-loop
-unfolding fieldAt valueAt
+unfolding fieldAt
 returns c =
-    let at10 = c .before .before .before .before .before .before .before .before .before .before in
-    sym (rows-hit _ (fieldAt (now (at10 .args .objects)) (at10 .args .o)) _ _ (c .before .before .before .before .before .loop-test .taken) (rw (← c .before .before .before .before .before .before .before .wide16 .ensures .0, ← c .before .before .before .before .wide8 .ensures .0, ← c .before .before .before .at32 .ensures, ← c .before .before .at322 .ensures) (sym (c .before .value-fits .ensures) ∙ not-true _ (c .if1 .taken)))) ∙ c .before .before .before .before .before .before .loop .inv .1
+    let at8 = c .before .before .before .before .before .before .before .before in
+    sym (rows-hit _ (fieldAt (now (at8 .args .objects)) (at8 .args .o)) _ _ (c .before .before .before .loop-test .taken) (rw (← c .before .before .before .before .before .wide16 .ensures .0, ← c .before .before .wide8 .ensures .0) (sym (c .before .value-fits .ensures) ∙ not-true _ (c .if1 .taken)))) ∙ c .before .before .before .before .loop .inv .1
 
 loop-again : tie.Need-loop-again Inv-loop μ-loop
-unfolding fieldAt valueAt
+unfolding fieldAt
 loop-again c =
-    let at10 = c .before .before .before .before .before .before .before .before .before .before in
-    (omega arith, sym (rows-on _ (fieldAt (now (at10 .args .objects)) (at10 .args .o)) _ _ (c .before .before .before .before .before .loop-test .taken) (rw (← c .before .before .before .before .before .before .before .wide16 .ensures .0, ← c .before .before .before .before .wide8 .ensures .0, ← c .before .before .before .at32 .ensures, ← c .before .before .at322 .ensures) (sym (c .before .value-fits .ensures) ∙ not-false _ (c .if1 .left)))) ∙ c .before .before .before .before .before .before .loop .inv .1)
+    let at8 = c .before .before .before .before .before .before .before .before in
+    (omega arith, sym (rows-on _ (fieldAt (now (at8 .args .objects)) (at8 .args .o)) _ _ (c .before .before .before .loop-test .taken) (rw (← c .before .before .before .before .before .wide16 .ensures .0, ← c .before .before .wide8 .ensures .0) (sym (c .before .value-fits .ensures) ∙ not-false _ (c .if1 .left)))) ∙ c .before .before .before .before .loop .inv .1)
 
 returns-2 : tie.Need-returns-2 Inv-loop μ-loop
 returns-2 c = sym (rows-end _ _ _ _ (c .loop-test .left)) ∙ c .before .loop .inv .1
 
 pub fields-fit-spec : {M : Type 1} → statement M
-fields-fit-spec = tie.close (tie.spec Inv-loop μ-loop (λ c κs. search needs) (λ c. search needs) loop-holds (λ c κs. search needs) (λ c. search needs) (λ c. search needs) (λ c. search needs) (λ c κs. search needs) (λ c. search needs) (λ c κs. search needs) (λ c κs. search needs) returns (λ c. search needs) (λ c. search needs) loop-again returns-2)
+fields-fit-spec = tie.close (tie.spec Inv-loop μ-loop (λ c κs. search needs) (λ c. search needs) loop-holds (λ c κs. search needs) (λ c. search needs) (λ c. search needs) (λ c. search needs) (λ c κs. search needs) returns (λ c. search needs) (λ c. search needs) loop-again returns-2)
