@@ -27,7 +27,7 @@ use Rattle.resolution.specs.Slots.{size-none, size-some, own-size, slots-past}
 use Rattle.resolution.specs.Unbroken.{part-none, quick-base}
 use Rattle.store.specs.declared.Fields.{Fields}
 use Rattle.store.specs.declared.Fields.the-variants.{Count, Unfit}
-use Rattle.store.specs.Checks.{fileFits, sourcesFit, linked, linkedSize, Blank, Sized, sizedObject, objectSized, exists, valueIn, localIn, objectIn, frameFit, valuesFit, readable, checks, Tested, sizesOf}
+use Rattle.store.specs.Checks.{fileFits, sourcesFit, linked, linkedSize, Blank, Sized, sizedObject, objectSized, exists, valueIn, localIn, objectIn, frameFit, linksFit, valuesFit, readable, checks, sizesOf, Measured}
 use Rattle.store.specs.Same.{sources-first, checks-broken, zeros-at}
 
 -- Whether an object exists
@@ -275,20 +275,20 @@ sizes-broken t h =
     ext-getD 0 (replicate classLimit 0) (sizesOf t) (length-replicate {A = ℕ} classLimit 0 ∙ sym (rows-length _ classLimit 0)) (λ c l.
     zeros-at classLimit c ∙ sym (size-at t c (omega (arith, length-replicate {A = ℕ} classLimit 0)) ∙ ap (λ (u : Bool). pick u 0 (sizeOf (viewBase t) c)) h))
 
-pub sizes-unbroken : (t : Tables) (v : Bool) (sizes : List ℕ) → Tested t v sizes → v ≡ false → length sizes ≡ classLimit → sizes ≡ sizesOf t
+pub sizes-unbroken : (t : Tables) (sizes : List ℕ) → broken t ≡ false → Sized (viewBase t) (getD (t .counts) 0 0) sizes → length sizes ≡ classLimit → sizes ≡ sizesOf t
 unfolding sizesOf pick
-sizes-unbroken t v sizes d h e =
+sizes-unbroken t sizes h d e =
     ext-getD 0 sizes (sizesOf t) (e ∙ sym (rows-length _ classLimit 0)) (λ c l.
-    at c ∙ sym (size-at t c (omega arith) ∙ ap (λ (u : Bool). pick u 0 (sizeOf (viewBase t) c)) (sym (d .verdict) ∙ h)))
+    at c ∙ sym (size-at t c (omega arith) ∙ ap (λ (u : Bool). pick u 0 (sizeOf (viewBase t) c)) h))
   where
     n : ℕ
     n = getD (t .counts) 0 0
 
     past : (c : ℕ) → n ≤ c → sizeOf (viewBase t) c ≡ 0
-    past c l = ap (λ (b : Base). sizeOf b c) (sym (quick-base t (sym (d .verdict) ∙ h))) ∙ ap length (slots-past (t .counts) (t .classes) (t .kept) (t .cache) c l)
+    past c l = ap (λ (b : Base). sizeOf b c) (sym (quick-base t h)) ∙ ap length (slots-past (t .counts) (t .classes) (t .kept) (t .cache) c l)
 
     at : (c : ℕ) → getD sizes c 0 ≡ sizeOf (viewBase t) c
-    at c = either c n (λ l. d .sized h c .0 l .0) (λ l. d .sized h c .1 l ∙ sym (past c l))
+    at c = either c n (λ l. d c .0 l .0) (λ l. d c .1 l ∙ sym (past c l))
 
 module _ (t : Tables) where
   pub unreadable : readable t ≡ false → true ≡ broken t
@@ -309,9 +309,21 @@ module _ (t : Tables) where
     unfolding readable
     readable-object = object-size (t .counts) (t .classes) (t .kept) (t .cache) (every-true _ h .1 .1 .0)
 
-    pub tested : (v : Bool) (sizes : List ℕ) → v ≡ valuesFit (quickOf t) (t .counts) (t .objects) (t .frames) → (v ≡ true → Sized (quickOf t) (getD (t .counts) 0 0) sizes)
-        → Tested t (not v) sizes
-    tested v sizes e s = record {
-      verdict = verdict-values v e;
-      sized = λ q. subst (λ (b : Base). Sized b (getD (t .counts) 0 0) sizes) (quick-base t (sym (verdict-values v e) ∙ q)) (s (not-false v q));
-    }
+  module _ (h : broken t ≡ false) where
+    tests-pass : checks t ≡ true
+    tests-pass = not-false (checks t) (sym (checks-broken t) ∙ h)
+
+    pub unbroken-readable : readable t ≡ true
+    unfolding checks
+    unbroken-readable = every-true _ tests-pass .0
+
+    unbroken-linked : linksFit (quickOf t) (getD (t .counts) 0 0) ≡ true
+    unfolding checks valuesFit
+    unbroken-linked = every-true _ (every-true _ tests-pass .1 .0) .0
+
+-- the sizes that the links' test leaves of tables that are not broken
+pub measured : (t : Tables) (sizes : List ℕ) (v : Bool) → broken t ≡ false → v ≡ linksFit (quickOf t) (getD (t .counts) 0 0) → (v ≡ true → Sized (quickOf t) (getD (t .counts) 0 0) sizes) → length sizes ≡ classLimit
+    → Measured t false sizes
+measured t sizes v h e s l =
+    let sized = subst (λ (b : Base). Sized b (getD (t .counts) 0 0) sizes) (quick-base t h) (s (e ∙ unbroken-linked t h)) in
+    record { verdict = sym h; fields = sizes-unbroken t sizes h sized l; sized = λ q. sized }

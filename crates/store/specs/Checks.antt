@@ -122,11 +122,6 @@ readable t = every
 unfoldable pub checks : Tables → Bool
 checks t = every (readable t ∷ valuesFit (quickOf t) (t .counts) (t .objects) (t .frames) ∷ [])
 
--- what the tests leave: the verdict, and if the tables are not broken, how many fields each class has
-pub record Tested (t : Tables) (v : Bool) (sizes : List ℕ) : Type 0 where
-  pub verdict : v ≡ broken t
-  pub sized : v ≡ false → Sized (viewBase t) (getD (t .counts) 0 0) sizes
-
 -- how many fields each class of the tables has, 0 where there is none; all 0 if the tables are broken
 unfoldable pub sizesOf : Tables → List ℕ
 sizesOf t = rows (λ c. pick (broken t) 0 (sizeOf (viewBase t) c)) classLimit 0

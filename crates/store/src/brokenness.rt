@@ -18,7 +18,7 @@ ghost use Rattle.definition.specs.Numbers.{classLimit, countClasses};
 ghost use Rattle.definition.specs.Tables.{tables, sizeOf};
 ghost use Rattle.definition.specs.Broken.{broken};
 ghost use Rattle.resolution.specs.Quick.{quickBase};
-ghost use Rattle.store.specs.Checks.{linkedSize, linksFit, Blank, Sized, valuesFit, readable, Tested, Measured};
+ghost use Rattle.store.specs.Checks.{linkedSize, linksFit, Blank, Sized, valuesFit, readable, Measured};
 
 // How many fields an object has at most.
 const FIELDS: usize = FIELD_LIMIT as usize;
@@ -67,9 +67,8 @@ fn links_fit(sizes: &mut [u8], counts: &[u16], classes: &[u16], kept: &[u8], cac
     true
 }
 
-// Superclasses and sizes, and all values. If they fit, `sizes` has the sizes of all classes.
+// Superclasses and sizes, and all values.
 fn values_fit(
-    sizes: &mut [u8],
     counts: &[u16],
     classes: &[u16],
     kept: &[u8],
@@ -77,13 +76,14 @@ fn values_fit(
     objects: &[u32],
     frames: &[u32],
 ) -> bool
-    requires { ⌜ Blank (now sizes) × (getD (now counts) countClasses 0 ≤ classLimit) × (sizeOf (quickBase (now counts) (now classes) (now kept) (now cache)) 0 ≡ 0) ⌝ }
-    ensures { λ r. ⌜ (r ≡ valuesFit (quickBase (now (counts .entry)) (now (classes .entry)) (now (kept .entry)) (now (cache .entry))) (now (counts .entry)) (now (objects .entry)) (now (frames .entry))) × (r ≡ true → Sized (quickBase (now (counts .entry)) (now (classes .entry)) (now (kept .entry)) (now (cache .entry))) (getD (now (counts .entry)) countClasses 0) (now (sizes .exit))) ⌝ }
+    requires { ⌜ (getD (now counts) countClasses 0 ≤ classLimit) × (sizeOf (quickBase (now counts) (now classes) (now kept) (now cache)) 0 ≡ 0) ⌝ }
+    ensures { λ r. ⌜ r ≡ valuesFit (quickBase (now (counts .entry)) (now (classes .entry)) (now (kept .entry)) (now (cache .entry))) (now (counts .entry)) (now (objects .entry)) (now (frames .entry)) ⌝ }
 {
-    if !links_fit(sizes, counts, classes, kept, cache) {
+    let mut sizes = [0u8; CLASS_LIMIT as usize];
+    if !links_fit(&mut sizes, counts, classes, kept, cache) {
         return false;
     }
-    if !objects_fit(sizes, counts, objects) {
+    if !objects_fit(&sizes, counts, objects) {
         return false;
     }
     if !frames_fit(counts, frames, 0) {
@@ -126,36 +126,6 @@ fn is_readable(
     rows_fit(counts, cache, ties, subtypes)
 }
 
-// Whether the tables are broken. If not, `sizes` has the sizes of all classes.
-fn test(
-    sizes: &mut [u8],
-    counts: &[u16],
-    classes: &[u16],
-    kept: &[u8],
-    cache: &[u16],
-    ties: &[u16],
-    subtypes: &[u16],
-    objects: &[u32],
-    frames: &[u32],
-) -> bool
-    requires { ⌜ Blank (now sizes) ⌝ }
-    ensures { λ r. ⌜ Tested (tables (now (counts .entry)) (now (classes .entry)) (now (kept .entry)) (now (cache .entry)) (now (ties .entry)) (now (subtypes .entry)) (now (objects .entry)) (now (frames .entry))) r (now (sizes .exit)) ⌝ }
-{
-    if !is_readable(
-        counts,
-        classes,
-        kept,
-        cache,
-        ties,
-        subtypes,
-        objects,
-        frames,
-    ) {
-        return true;
-    }
-    !values_fit(sizes, counts, classes, kept, cache, objects, frames)
-}
-
 // Whether the tables are broken.
 pub fn is_broken(
     counts: &[u16],
@@ -169,9 +139,7 @@ pub fn is_broken(
 ) -> bool
     ensures { λ r. ⌜ r ≡ broken (tables (now (counts .entry)) (now (classes .entry)) (now (kept .entry)) (now (cache .entry)) (now (ties .entry)) (now (subtypes .entry)) (now (objects .entry)) (now (frames .entry))) ⌝ }
 {
-    let mut sizes = [0u8; CLASS_LIMIT as usize];
-    test(
-        &mut sizes,
+    if !is_readable(
         counts,
         classes,
         kept,
@@ -180,7 +148,10 @@ pub fn is_broken(
         subtypes,
         objects,
         frames,
-    )
+    ) {
+        return true;
+    }
+    !values_fit(counts, classes, kept, cache, objects, frames)
 }
 
 // The same, with the number of fields of each class, all 0 if the tables are broken.
@@ -196,9 +167,7 @@ pub fn class_sizes(
 ) -> Sizes
     ensures { λ r. ⌜ Measured (tables (now (counts .entry)) (now (classes .entry)) (now (kept .entry)) (now (cache .entry)) (now (ties .entry)) (now (subtypes .entry)) (now (objects .entry)) (now (frames .entry))) (r .broken) (r .fields) ⌝ }
 {
-    let mut sizes = [0u8; CLASS_LIMIT as usize];
-    let broken = test(
-        &mut sizes,
+    if is_broken(
         counts,
         classes,
         kept,
@@ -207,13 +176,14 @@ pub fn class_sizes(
         subtypes,
         objects,
         frames,
-    );
-    if broken {
+    ) {
         return Sizes {
             broken: true,
             fields: [0u8; CLASS_LIMIT as usize],
         };
     }
+    let mut sizes = [0u8; CLASS_LIMIT as usize];
+    links_fit(&mut sizes, counts, classes, kept, cache);
     Sizes {
         broken: false,
         fields: sizes,

@@ -1,24 +1,25 @@
--- If the tests fail all sizes are 0, else they are those that the tests left.
+-- Of broken tables all sizes are 0; of others the links fit, and leave the sizes of all classes.
 use mathlib.Core.Bool.{false≢true}
 use mathlib.Core.Path.{_∙_, sym}
 use borrow.Author.Needs.{needs}
-use Rattle.store.proofs.Laws.{sizes-broken, sizes-unbroken}
+use Rattle.store.proofs.Laws.{measured, readable-few, readable-object, sizes-broken, unbroken-readable}
 use Rattle.store.proofs.brokenness.class_sizes.Statement.{statement}
 use Rattle.store.proofs.brokenness.class_sizes.Tie as tie
 
 returns : tie.Need-returns
-returns c = let d = c .before .before .test .ensures in record {
-  verdict = sym (c .if1 .taken) ∙ d .verdict;
-  fields = sizes-broken _ (sym (d .verdict) ∙ c .if1 .taken);
+returns c = let d = c .before .is-broken .ensures in record {
+  verdict = sym (c .if1 .taken) ∙ d;
+  fields = sizes-broken _ (sym d ∙ c .if1 .taken);
   sized = λ h. absurd (false≢true (sym h));
 }
 
+links-fit-requires : tie.Need-links-fit-requires
+links-fit-requires c κs = let h = unbroken-readable _ (sym (c .before .before .is-broken .ensures) ∙ c .before .if1 .left) in (search needs, readable-few _ h, readable-object _ h)
+
 returns-2 : tie.Need-returns-2
-returns-2 c = let d = c .before .before .test .ensures in record {
-  verdict = sym (c .if1 .left) ∙ d .verdict;
-  fields = sizes-unbroken _ _ _ d (c .if1 .left) (search needs);
-  sized = λ h. d .sized (c .if1 .left);
-}
+returns-2 c =
+    let h = sym (c .before .before .before .before .is-broken .ensures) ∙ c .before .before .before .if1 .left in
+    measured _ _ _ h (c .before .links-fit .ensures .0) (c .before .links-fit .ensures .1) (search needs)
 
 pub class-sizes-spec : {M : Type 1} → statement M
-class-sizes-spec = tie.close (tie.spec (λ c. search needs) (λ c κs. search needs) returns returns-2)
+class-sizes-spec = tie.close (tie.spec (λ c κs. search needs) returns (λ c. search needs) links-fit-requires returns-2)

@@ -1,5 +1,4 @@
--- Superclasses and sizes, objects, and the frames of both tasks are tested one after the other. Once all fit, the table has the sizes that the first test left.
-use mathlib.Core.Bool.{false≢true}
+-- Superclasses and sizes, objects, and the frames of both tasks are tested one after the other.
 use mathlib.Core.Path.{_∙_, sym}
 use borrow.Author.Needs.{needs}
 use borrow.Author.Tests.{not-false, not-true}
@@ -11,31 +10,25 @@ use Rattle.store.proofs.brokenness.values_fit.Tie as tie
 
 returns : tie.Need-returns
 unfolding valuesFit
-returns c = (sym (every-fails _ _ (sym (c .before .before .before .links-fit .ensures .0) ∙ not-true _ (c .if1 .taken))), λ h. absurd (false≢true h))
+returns c = sym (every-fails _ _ (sym (c .before .before .links-fit .ensures .0) ∙ not-true _ (c .if1 .taken)))
 
 returns-2 : tie.Need-returns-2
 unfolding valuesFit objectsFit
-returns-2 c =
-    let at3 = c .before .before .before in
-    let at6 = at3 .before .before .before in
-    (sym (every-first _ _ (sym (at6 .links-fit .ensures .0) ∙ not-false _ (at3 .if1 .left)) ∙ (every-fails _ _ (sym (sized-objects _ _ _ _ _ _ (at6 .links-fit .ensures .1 (not-false _ (at3 .if1 .left))) _ _) ∙ (sym (c .before .objects-fit .ensures) ∙ not-true _ (c .if2 .taken))))), λ h. absurd (false≢true h))
+returns-2 c = sym (every-first _ _ (sym (c .before .before .before .before .before .links-fit .ensures .0) ∙ not-false _ (c .before .before .before .if1 .left)) ∙ (every-fails _ _ (sym (sized-objects _ _ _ _ _ _ (c .before .before .before .before .before .links-fit .ensures .1 (not-false _ (c .before .before .before .if1 .left))) _ _) ∙ (sym (c .before .objects-fit .ensures) ∙ not-true _ (c .if2 .taken)))))
 
 returns-3 : tie.Need-returns-3
 unfolding valuesFit objectsFit
 returns-3 c =
-    let at3 = c .before .before .before in
-    let at5 = at3 .before .before in
-    let at8 = at5 .before .before .before in
-    (sym (every-first _ _ (sym (at8 .links-fit .ensures .0) ∙ not-false _ (at5 .if1 .left)) ∙ (every-first _ _ (sym (sized-objects _ _ _ _ _ _ (at8 .links-fit .ensures .1 (not-false _ (at5 .if1 .left))) _ _) ∙ (sym (at3 .objects-fit .ensures) ∙ not-false _ (c .before .before .if2 .left))) ∙ (every-fails _ _ (sym (c .before .frames-fit .ensures) ∙ not-true _ (c .if3 .taken))))), λ h. absurd (false≢true h))
+    let at5 = c .before .before .before .before .before in
+    let at7 = at5 .before .before in
+    sym (every-first _ _ (sym (at7 .links-fit .ensures .0) ∙ not-false _ (at5 .if1 .left)) ∙ (every-first _ _ (sym (sized-objects _ _ _ _ _ _ (at7 .links-fit .ensures .1 (not-false _ (at5 .if1 .left))) _ _) ∙ (sym (c .before .before .before .objects-fit .ensures) ∙ not-false _ (c .before .before .if2 .left))) ∙ (every-fails _ _ (sym (c .before .frames-fit .ensures) ∙ not-true _ (c .if3 .taken)))))
 
 returns-4 : tie.Need-returns-4
 unfolding valuesFit objectsFit
 returns-4 c =
-    let at4 = c .before .before .before .before in
-    let at6 = at4 .before .before in
-    let at9 = at6 .before .before .before in
-    let sized = at9 .links-fit .ensures .1 (not-false _ (at6 .if1 .left)) in
-    (c .frames-fit2 .ensures ∙ sym (every-first _ _ (sym (at9 .links-fit .ensures .0) ∙ not-false _ (at6 .if1 .left)) ∙ (every-first _ _ (sym (sized-objects _ _ _ _ _ _ sized _ _) ∙ (sym (at4 .objects-fit .ensures) ∙ not-false _ (c .before .before .before .if2 .left))) ∙ (every-first _ _ (sym (c .before .before .frames-fit .ensures) ∙ not-false _ (c .before .if3 .left)) ∙ (every-last _)))), λ h. sized)
+    let at6 = c .before .before .before .before .before .before in
+    let at8 = at6 .before .before in
+    c .frames-fit2 .ensures ∙ sym (every-first _ _ (sym (at8 .links-fit .ensures .0) ∙ not-false _ (at6 .if1 .left)) ∙ (every-first _ _ (sym (sized-objects _ _ _ _ _ _ (at8 .links-fit .ensures .1 (not-false _ (at6 .if1 .left))) _ _) ∙ (sym (c .before .before .before .before .objects-fit .ensures) ∙ not-false _ (c .before .before .before .if2 .left))) ∙ (every-first _ _ (sym (c .before .before .frames-fit .ensures) ∙ not-false _ (c .before .if3 .left)) ∙ (every-last _))))
 
 pub values-fit-spec : {M : Type 1} → statement M
-values-fit-spec = tie.close (tie.spec (λ c κs. search needs) (λ c. search needs) returns (λ c κs. search needs) (λ c. search needs) returns-2 (λ c κs. search needs) (λ c. search needs) returns-3 (λ c κs. search needs) (λ c. search needs) returns-4)
+values-fit-spec = tie.close (tie.spec (λ c. search needs) (λ c κs. search needs) returns (λ c. search needs) (λ c κs. search needs) returns-2 (λ c κs. search needs) returns-3 (λ c κs. search needs) returns-4)
