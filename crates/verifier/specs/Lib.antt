@@ -4,3 +4,4 @@ pub mod Lookups
 pub mod Types
 pub mod Effects
 pub mod Trace
+pub mod Answers

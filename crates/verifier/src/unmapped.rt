@@ -2,6 +2,7 @@
 use crate::decoding::Reading;
 use crate::decoding::decode;
 use crate::lookups::goes_on;
+use crate::lookups::index_maps;
 use crate::lookups::is_lacking;
 use classfile::MethodFound;
 use definition::numbers::VERSION_TWO;
@@ -13,10 +14,11 @@ ghost use lib.Dec.{leb};
 ghost use Rattle.definition.specs.Verifier.{unmappedFrom};
 ghost use Rattle.definition.specs.Lists.{any};
 ghost use Rattle.classfile.specs.Reading.{mapsOf, fileVersion, methodCount, methodIn, quickMethods};
-ghost use Rattle.verifier.specs.Lookups.{unmappedIn};
+ghost use Rattle.verifier.specs.Lookups.{Indexed, unmappedIn};
 
 // The code is read up to the first instruction that can't be.
-fn is_code_unmapped(version: u8, code: &[u8], maps: &[u8]) -> bool
+fn is_code_unmapped(version: u8, code: &[u8], maps: &[u8], places: &[u32]) -> bool
+    requires { ⌜ Indexed (now maps) (now places) ⌝ }
     ensures { λ r. ⌜ ((result : ℕ) → r ≡ unmappedFrom version (now (code .entry)) (mapsOf (now (maps .entry))) result (length (now (code .entry))) 0 false) ⌝ }
 {
     let mut left = code.len();
@@ -26,7 +28,7 @@ fn is_code_unmapped(version: u8, code: &[u8], maps: &[u8]) -> bool
         let Reading::At(i, size) = decode(version, code, p) else {
             return false;
         };
-        if is_lacking(maps, p, wants, i) {
+        if is_lacking(maps, places, p, wants, i) {
             return true;
         }
         wants = !goes_on(i);
@@ -43,7 +45,11 @@ pub fn is_unmapped(version: u8, code: &[u8], maps: &[u8]) -> bool
     if version < VERSION_TWO {
         return false;
     }
-    is_code_unmapped(version, code, maps)
+    if classfile::map_count(maps) == 0 {
+        return is_code_unmapped(version, code, maps, &[]);
+    }
+    let places = index_maps(maps);
+    is_code_unmapped(version, code, maps, &places)
 }
 
 // Method j of the file.
