@@ -14,7 +14,7 @@ returns c = sym (post-over _ _ _ _ (c .if1 .taken))
 cast-result : tie.Need-cast-result
 cast-result c =
     let call = c .before .before in
-    let a = call .before .before .before .args in
+    let a = call .before .before .before .before .args in
     omega (arith, call .add-subtype .ensures .0, call .before .before .if1 .left, new-few (a .loader) (note (a .low) (a .high)) (now (a .subtypes)) (a .count))
 
 returns-2 : tie.Need-returns-2
