@@ -5,7 +5,5 @@ pub mod EffectLaws
 pub mod TurnLaws
 pub mod LookupLaws
 pub mod FlowLaws
-pub mod NoteLaws
 pub mod TraceLaws
-pub mod CountLaws
 pub mod ClassLaws

@@ -1,5 +1,6 @@
 // Notes, posted as subtype constraints as they come.
 use crate::effects::Meeting;
+ghost use mathlib.Core.Bool.{false};
 ghost use mathlib.Core.Path.{_≡_};
 ghost use Rattle.constraints.specs.Posting.{noted, postNotes};
 ghost use Rattle.verifier.specs.Answers.{made};
