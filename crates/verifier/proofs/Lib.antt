@@ -2,8 +2,8 @@
 pub mod DecodingLaws
 pub mod TypeLaws
 pub mod EffectLaws
-pub mod TurnLaws
+pub mod ChangeLaws
 pub mod LookupLaws
+pub mod PostingLaws
 pub mod FlowLaws
-pub mod TraceLaws
-pub mod ClassLaws
+pub mod PassLaws

@@ -1,15 +1,13 @@
 -- What the answers of the walk's functions stand for.
 use mathlib.Core.Path.{_≡_}
-use mathlib.Core.Bool.{true, false}
 use mathlib.Core.Option.{Option, none, some}
 use mathlib.Core.List.{List, [], _∷_, _++_}
-use Prim.Native.Nat.{ℕ, _+_, _<_}
-use lib.ListN.{length, getD}
+use Prim.Native.Nat.{ℕ, _+_, _*_, _≤_}
 use Rattle.definition.specs.Instructions.{pick}
 use Rattle.definition.specs.Maybe.{_>>=_}
 use Rattle.definition.specs.Classes.{Map}
 use Rattle.definition.specs.Verifier.{Note, TypeState, Flow, meetLocal, meets}
-use Rattle.classfile.specs.Reading.{mapPlace, mapDepth, typeAt}
+use Rattle.classfile.specs.Reading.{mapPlace, typeAt}
 use Rattle.verifier.specs.declared.effects.Meeting.{Meeting}
 use Rattle.verifier.specs.declared.effects.Meeting.the-variants.{Unmet, Met, Noted}
 use Rattle.verifier.specs.declared.types.Types.{Types}
@@ -52,7 +50,11 @@ unfoldable pub partLimit : Part → ℕ
 partLimit Locals = 8
 partLimit Operands = 16
 
+-- a map's place, and that it is so low that the next is within 32 bits: a map takes at most 529 bytes
+abbrev pub PlaceOf : List ℕ → ℕ → ℕ → Type 0
+PlaceOf ms j r = (r ≡ mapPlace ms j) × (r ≤ 1 + 529 * j)
+
 -- the maps left behind a point, from map j on, whose place is r
 unfoldable pub Passes : List ℕ → Passed → Option (List Map) → Type 0
 Passes ms Inside o = o ≡ none
-Passes ms (To j r) o = (o ≡ some (leftFrom ms j)) × (r ≡ mapPlace ms j)
+Passes ms (To j r) o = (o ≡ some (leftFrom ms j)) × PlaceOf ms j r

@@ -14,12 +14,12 @@ ghost use lib.Dec.{leb};
 ghost use Prim.Native.Nat.{ℕ};
 ghost use Rattle.definition.specs.Classes.{Map};
 ghost use Rattle.definition.specs.Verifier.{mapsPast};
-ghost use Rattle.classfile.specs.Reading.{mapsOf, mapPlace};
+ghost use Rattle.classfile.specs.Reading.{mapsOf};
 ghost use Rattle.constraints.specs.Posting.{noted};
 ghost use Rattle.verifier.specs.Lookups.{Indexed};
 ghost use Rattle.verifier.specs.Types.{typesOf, entryOf};
 ghost use Rattle.verifier.specs.Trace.{verification, posting, trace, wholeTrace, methodTrace, leftFrom};
-ghost use Rattle.verifier.specs.Answers.{Passes};
+ghost use Rattle.verifier.specs.Answers.{PlaceOf, Passes};
 
 // The maps left behind a point: from that number on, the first at that place; or the point lies behind one of them.
 pub enum Passed {
@@ -29,7 +29,7 @@ pub enum Passed {
 
 // The maps from number i on, the first at that place, which lie at point p or behind it.
 fn pass(maps: &[u8], i: u8, place: u32, p: usize) -> Passed
-    requires { ⌜ (place ≡ mapPlace (now maps) i) ⌝ }
+    requires { ⌜ PlaceOf (now maps) i place ⌝ }
     ensures { λ r. ⌜ ((version : ℕ) (code : _) (all : _) (result : ℕ) → Passes (now (maps .entry)) r (mapsPast version code all result p (leftFrom (now (maps .entry)) i))) ⌝ }
 {
     if classfile::map_count(maps) <= i {

@@ -183,8 +183,10 @@ fn flow_from(
     if !change.fits {
         return stop(types, count);
     }
-    let first = post_meeting(change.receiver, loader, subtypes, count);
-    let second = post_meeting(change.value, loader, subtypes, first);
+    let receiver = change.receiver;
+    let value = change.value;
+    let first = post_meeting(receiver, loader, subtypes, count);
+    let second = post_meeting(value, loader, subtypes, first);
     flow(n, maps, places, i, q, types, loader, subtypes, second)
 }
 
