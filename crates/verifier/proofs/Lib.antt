@@ -2,7 +2,7 @@
 pub mod DecodingLaws
 pub mod TypeLaws
 pub mod EffectLaws
-pub mod TurnLaws
+pub mod ChangeLaws
 pub mod LookupLaws
 pub mod FlowLaws
 pub mod TraceLaws
