@@ -1,13 +1,12 @@
 -- Each effect is carried out by its own function.
-use Rattle.verifier.specs.Effects.{outcomeOf}
-use Rattle.verifier.specs.Trace.{settle}
+use Rattle.verifier.specs.Effects.{leftBy, outcomeOf}
 use borrow.Author.Needs.{needs}
-use Rattle.verifier.proofs.turns.carried_out.Statement.{statement}
-use Rattle.verifier.proofs.turns.carried_out.Tie as tie
+use Rattle.verifier.proofs.changes.carried_out.Statement.{statement}
+use Rattle.verifier.proofs.changes.carried_out.Tie as tie
 
 returns : tie.Need-returns
-unfolding outcomeOf settle
-returns c = rw (c .before .enum-told .given .1) (c .stop .ensures)
+unfolding outcomeOf leftBy
+returns c = rw (c .before .enum-told .given .1) (c .unfit .ensures)
 
 returns-2 : tie.Need-returns-2
 returns-2 c = rw (c .before .before .e .given .1) (c .kept .ensures)

@@ -1,12 +1,13 @@
--- A turn that stops makes no notes.
-use Rattle.verifier.specs.Trace.{turnOf, made, nextOf}
+-- What does not fit leaves nothing.
+use Rattle.definition.specs.Instructions.{pick}
+use Rattle.verifier.specs.Answers.{changeOf}
 use borrow.Author.Needs.{needs}
-use Rattle.verifier.proofs.turns.stop.Statement.{statement}
-use Rattle.verifier.proofs.turns.stop.Tie as tie
+use Rattle.verifier.proofs.changes.unfit.Statement.{statement}
+use Rattle.verifier.proofs.changes.unfit.Tie as tie
 
 returns : tie.Need-returns
-unfolding turnOf made nextOf
+unfolding changeOf pick
 returns c = search needs
 
-pub stop-spec : {M : Type 1} → statement M
-stop-spec = tie.close (tie.spec returns)
+pub unfit-spec : {M : Type 1} → statement M
+unfit-spec = tie.close (tie.spec returns)

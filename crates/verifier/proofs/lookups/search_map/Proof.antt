@@ -9,8 +9,8 @@ use Rattle.classfile.specs.Reading.{mapOf, mapPlace, mapNumbered, mapsOf}
 use Rattle.verifier.specs.Lookups.{mapThere}
 use Rattle.verifier.proofs.LookupLaws.{map-next, found-start, found-here, found-later, found-never}
 use borrow.Author.Needs.{needs}
-use Rattle.verifier.proofs.lookups.find_map.Statement.{statement}
-use Rattle.verifier.proofs.lookups.find_map.Tie as tie
+use Rattle.verifier.proofs.lookups.search_map.Statement.{statement}
+use Rattle.verifier.proofs.lookups.search_map.Tie as tie
 
 abbrev Inv-loop : tie.InvT-loop
 Inv-loop maps q n place₀ i₀ place i =
@@ -50,5 +50,5 @@ returns-2 : tie.Need-returns-2 Inv-loop μ-loop
 unfolding mapThere pick
 returns-2 c = sym (found-never _ _ _ _ (c .loop-test .left)) ∙ c .before .loop .inv .4
 
-pub find-map-spec : {M : Type 1} → statement M
-find-map-spec = tie.close (tie.spec Inv-loop μ-loop (λ c κs. search needs) loop-holds (λ c κs. search needs) (λ c κs. search needs) returns (λ c κs. search needs) (λ c. search needs) (λ c. search needs) (λ c. search needs) loop-again returns-2)
+pub search-map-spec : {M : Type 1} → statement M
+search-map-spec = tie.close (tie.spec Inv-loop μ-loop (λ c κs. search needs) loop-holds (λ c κs. search needs) (λ c κs. search needs) returns (λ c κs. search needs) (λ c. search needs) (λ c. search needs) (λ c. search needs) loop-again returns-2)

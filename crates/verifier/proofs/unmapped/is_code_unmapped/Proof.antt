@@ -7,8 +7,7 @@ use lib.ListN.{length}
 use Rattle.definition.specs.Verifier.{unmappedFrom}
 use Rattle.classfile.specs.Reading.{mapsOf}
 use Rattle.verifier.specs.Decoding.{decodedOf}
-use Rattle.verifier.proofs.TurnLaws.{decode-at, at-within}
-use Rattle.verifier.proofs.DecodingLaws.{decode-is}
+use Rattle.verifier.proofs.DecodingLaws.{decode-is, decode-at, at-within}
 use Rattle.verifier.proofs.LookupLaws.{unread, lacks, lacks-not, out-of-code}
 use borrow.Author.Needs.{needs}
 use Rattle.verifier.proofs.unmapped.is_code_unmapped.Statement.{statement}
