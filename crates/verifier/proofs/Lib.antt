@@ -5,5 +5,6 @@ pub mod EffectLaws
 pub mod TurnLaws
 pub mod LookupLaws
 pub mod FlowLaws
+pub mod PostingLaws
 pub mod TraceLaws
 pub mod ClassLaws

@@ -1,0 +1,31 @@
+-- Posting the notes of a walk, step by step: what comes first is posted first, and a rejection ends it.
+use mathlib.Core.Path.{_≡_, refl, ap}
+use mathlib.Core.Bool.{true, false}
+use mathlib.Core.List.{List}
+use Prim.Native.Nat.{ℕ}
+use Rattle.definition.specs.Instructions.{pick}
+use Rattle.definition.specs.Verifier.{Note}
+use Rattle.constraints.specs.Posting.{Noted, postNotes}
+use Rattle.constraints.specs.Laws.{post-append}
+use Rattle.verifier.specs.Trace.{Trace, after, followed, Turned, refused, once, Verification, verification, posting, Turning, turning, taking}
+
+pub posting-after : (l : ℕ) (ns : List Note) (w : Trace) (k : Noted) → posting l (after ns w) k ≡ posting l w (postNotes l ns k)
+unfolding posting after
+posting-after l ns w k = ap (verification (w .accepts)) (post-append l ns (w .notes) k)
+
+module _ (l : ℕ) (w : Trace) (k : Noted) where
+  pub posting-followed-on : (v : Trace) → w .accepts ≡ true → posting l (followed w v) k ≡ posting l v (posting l w k .rows)
+  unfolding followed pick posting
+  posting-followed-on v e = rw e (posting-after l (w .notes) v k)
+
+  pub posting-followed-stop : (v : Trace) → w .accepts ≡ false → posting l (followed w v) k ≡ posting l w k
+  unfolding followed pick
+  posting-followed-stop v e = rw e refl
+
+  pub taking-once-on : (t : Turned) → w .accepts ≡ true → taking l (once w t) k ≡ taking l t (posting l w k .rows)
+  unfolding once pick taking posting
+  taking-once-on t e = rw e (ap (turning (t .next)) (post-append l (w .notes) (t .notes) k))
+
+  pub taking-once-stop : (t : Turned) → w .accepts ≡ false → taking l (once w t) k ≡ turning refused (posting l w k .rows)
+  unfolding once pick taking posting
+  taking-once-stop t e = rw e refl
