@@ -1,6 +1,6 @@
 -- Posting the notes of a walk, step by step: what comes first is posted first, and a rejection ends it.
-use mathlib.Core.Path.{_≡_, refl, ap}
-use mathlib.Core.Bool.{true, false}
+use mathlib.Core.Path.{_≡_, refl, sym, ap, _∙_}
+use mathlib.Core.Bool.{Bool, true, false}
 use mathlib.Core.List.{List}
 use Prim.Native.Nat.{ℕ}
 use Rattle.definition.specs.Instructions.{pick}
@@ -29,3 +29,27 @@ module _ (l : ℕ) (w : Trace) (k : Noted) where
   pub taking-once-stop : (t : Turned) → w .accepts ≡ false → taking l (once w t) k ≡ turning refused (posting l w k .rows)
   unfolding once pick taking posting
   taking-once-stop t e = rw e refl
+
+-- by the answer on the first part: it accepts or not, and leaves the rows j
+module _ (l : ℕ) (w : Trace) (k j : Noted) (a : Bool) (e : verification a j ≡ posting l w k) where
+  accepts-is : w .accepts ≡ a
+  unfolding posting
+  accepts-is = sym (ap (λ (v : Verification). v .accepts) e)
+
+  rows-are : posting l w k .rows ≡ j
+  rows-are = sym (ap (λ (v : Verification). v .rows) e)
+
+  -- the whole is that part and the rest
+  module _ (v whole : Trace) (p : whole ≡ followed w v) where
+    pub then-on : a ≡ true → (r : Verification) → r ≡ posting l v j → r ≡ posting l whole k
+    then-on h r q = q ∙ sym (ap (λ (x : Trace). posting l x k) p ∙ posting-followed-on l w k v (accepts-is ∙ h) ∙ ap (posting l v) rows-are)
+
+    pub then-stop : a ≡ false → verification a j ≡ posting l whole k
+    then-stop h = e ∙ sym (ap (λ (x : Trace). posting l x k) p ∙ posting-followed-stop l w k v (accepts-is ∙ h))
+
+  module _ (t whole : Turned) (p : whole ≡ once w t) where
+    pub once-on : a ≡ true → (r : Turning) → r ≡ taking l t j → r ≡ taking l whole k
+    once-on h r q = q ∙ sym (ap (λ (x : Turned). taking l x k) p ∙ taking-once-on l w k t (accepts-is ∙ h) ∙ ap (taking l t) rows-are)
+
+    pub once-stop : a ≡ false → (r : Turning) → r ≡ turning refused j → r ≡ taking l whole k
+    once-stop h r q = q ∙ sym (ap (λ (x : Turned). taking l x k) p ∙ taking-once-stop l w k t (accepts-is ∙ h) ∙ ap (turning refused) rows-are)
