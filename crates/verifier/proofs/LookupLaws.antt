@@ -1,23 +1,24 @@
--- The search for the map at a point, and the tests for a map that is lacking.
+-- The search for the map at a point, the table of the maps, and the tests for a map that is lacking.
 use mathlib.Core.Path.{_≡_, refl, sym, ap, _∙_}
 use mathlib.Core.Bool.{Bool, true, false, false≢true, not, _&&_, _||_}
 use mathlib.Core.Logic.{_≢_}
 use mathlib.Core.Option.{Option, none, some}
-use mathlib.Core.List.{List, [], _∷_}
+use mathlib.Core.List.{List, [], _∷_, _++_}
 use Prim.Native.Nat.{ℕ, zero, suc, _+_, _-_, _*_, _≤_, _<_}
 use native.Mathlib.Omega.{arith}
 use native.Mathlib.Numerals.{add-one}
-use lib.ListN.{length}
+use lib.ListN.{length, getD, set, replicate, length-set, length-replicate, getD-replicate}
+use lib.Seq.{getD-set-same, getD-set-other}
 use lib.Dec.{eqb, leb}
-use borrow.Author.Tests.{eq-eqb, ne-eqb}
+use borrow.Author.Tests.{eq-eqb, ne-eqb, eqb-true, eqb-false}
 use Rattle.definition.specs.Instructions.{Decoded, decode, pick}
 use Rattle.definition.specs.declared.Instruction.{Instruction}
 use Rattle.definition.specs.Lists.{any, isNone, toList, rows}
 use Rattle.definition.specs.Classes.{Map}
 use Rattle.definition.specs.Verifier.{mapAt, target, goesOn, unmappedFrom}
-use Rattle.layout.specs.Places.{rows-step, rows-none, rows-start}
+use Rattle.layout.specs.Places.{rows-step, rows-none, rows-start, rows-last}
 use Rattle.classfile.specs.Reading.{fileVersion, mapCount, mapDepth, mapEnd, mapOf, mapPlace, mapNumbered, mapsOf, codeAt, mapBytes, methodAt, methodIn}
-use Rattle.verifier.specs.Lookups.{mapThere, lacking, unmappedIn}
+use Rattle.verifier.specs.Lookups.{mapThere, Indexed, lacking, unmappedIn}
 
 -- the place after map i, which begins at p and takes d bytes
 pub map-next : (ms : List ℕ) (i p d : ℕ) → p ≡ mapPlace ms i → d ≡ 19 + 2 * mapDepth ms p → p + d ≡ mapPlace ms (i + 1)
@@ -53,6 +54,95 @@ found-start ms n q e = rw (e, rows-start (mapNumbered ms) (mapCount ms))
 pub found-never : (ms : List ℕ) (n i q : ℕ) → n ≤ i → mapAt (rows (mapNumbered ms) (n - i) i) q ≡ none
 unfolding mapAt
 found-never ms n i q h = rw (rows-none (mapNumbered ms) n i h)
+
+-- a choice between two that are the same
+pub pick-same : {A : Type 0} (b : Bool) (x y : A) → x ≡ y → pick b x y ≡ y
+unfolding pick
+pick-same true x y e = e
+pick-same false x y e = refl
+
+-- The table of the first i maps
+
+abbrev pub IndexedTo : List ℕ → List ℕ → ℕ → Type 0
+IndexedTo ms t i = (q : ℕ) → q < length t → mapThere ms (getD t q 0) ≡ mapAt (rows (mapNumbered ms) i 0) q
+
+pub indexed-none : (ms : List ℕ) (n : ℕ) → IndexedTo ms (replicate n 0) 0
+unfolding mapThere mapAt rows pick
+indexed-none ms n q h = rw (getD-replicate {A = ℕ} n q 0 0 (rw (length-replicate {A = ℕ} n 0) at h))
+
+-- an earlier map wins
+earlier : Option Map → Option Map → Option Map
+earlier none b = b
+earlier (some m) b = some m
+
+earlier-alone : (m : Option Map) → earlier m none ≡ m
+unfolding earlier
+earlier-alone none = refl
+earlier-alone (some m) = refl
+
+mapAt-both : (xs ys : List Map) (q : ℕ) → mapAt (xs ++ ys) q ≡ earlier (mapAt xs q) (mapAt ys q)
+unfolding mapAt earlier
+mapAt-both [] ys q = refl
+mapAt-both (x ∷ xs) ys q = go (eqb (x .offset) q) (mapAt-both xs ys q)
+  where
+    go :
+        (b : Bool) → mapAt (xs ++ ys) q ≡ earlier (mapAt xs q) (mapAt ys q) →
+        (elim b as (λ _. Option Map) [ true ↦ some x | false ↦ mapAt (xs ++ ys) q ]) ≡ earlier (elim b as (λ _. Option Map) [ true ↦ some x | false ↦ mapAt xs q ]) (mapAt ys q)
+    go true e = refl
+    go false e = e
+
+-- the table after a place is put at point o, where there is none
+module _ (t : List ℕ) (o p : ℕ) where
+  put : Bool → List ℕ
+  put b = pick b (set t o p) t
+
+  put-length : (b : Bool) → length (put b) ≡ length t
+  unfolding put pick
+  put-length true = length-set t o p
+  put-length false = refl
+
+  put-other : (b : Bool) (q : ℕ) → o ≢ q → getD (put b) q 0 ≡ getD t q 0
+  unfolding put pick
+  put-other true q n = getD-set-other t o q p 0 (λ z. n (sym z))
+  put-other false q n = refl
+
+  pub placed-length : length (pick (eqb (getD t o 0) 0) (set t o p) t) ≡ length t
+  unfolding put
+  placed-length = put-length (eqb (getD t o 0) 0)
+
+-- one more map, at point o
+module _ (ms t : List ℕ) (i p o : ℕ) (e : p ≡ mapPlace ms i) (l : 1 ≤ p) (f : mapOf ms p .offset ≡ o) (known : IndexedTo ms t i) where
+  more : (q : ℕ) → q < length t → mapAt (rows (mapNumbered ms) (i + 1) 0) q ≡ earlier (mapThere ms (getD t q 0)) (mapAt (mapOf ms p ∷ []) q)
+  unfolding mapNumbered
+  more q h =
+      let z : 0 + i ≡ i = omega arith in
+      rw (add-one i, rows-last (mapNumbered ms) i 0, z, known q h, e) (mapAt-both (rows (mapNumbered ms) i 0) (mapNumbered ms i ∷ []) q)
+
+  own : (b : Bool) → eqb (getD t o 0) 0 ≡ b → o < length t → mapThere ms (getD (put t o p b) o 0) ≡ mapAt (rows (mapNumbered ms) (i + 1) 0) o
+  unfolding mapThere earlier put pick
+  own true z h = rw (getD-set-same t o p 0 h, more o h, here (mapOf ms p) [] o f, mapThere, z, ne-eqb p 0 (λ k. omega arith))
+  own false z h = rw (more o h, mapThere, z)
+
+  other : (q : ℕ) → q < length t → o ≢ q → mapThere ms (getD t q 0) ≡ mapAt (rows (mapNumbered ms) (i + 1) 0) q
+  unfolding mapAt
+  other q h n = rw (more q h, later (mapOf ms p) [] q (rw f n)) (sym (earlier-alone (mapThere ms (getD t q 0))))
+
+  pub indexed-more : IndexedTo ms (pick (eqb (getD t o 0) 0) (set t o p) t) (i + 1)
+  unfolding put
+  indexed-more q h = go (eqb o q) refl (rw (placed-length t o p) at h)
+    where
+      go : (b : Bool) → eqb o q ≡ b → q < length t → mapThere ms (getD (put t o p (eqb (getD t o 0) 0)) q 0) ≡ mapAt (rows (mapNumbered ms) (i + 1) 0) q
+      go true r k = rw (← eqb-true o q r) (own (eqb (getD t o 0) 0) refl (rw (eqb-true o q r) k))
+      go false r k = rw (put-other t o p (eqb (getD t o 0) 0) q (eqb-false o q r)) (other q k (eqb-false o q r))
+
+pub indexed-all : (ms t : List ℕ) (n i : ℕ) → n ≡ mapCount ms → i ≤ n → n ≤ i → IndexedTo ms t i → Indexed ms t
+unfolding Indexed mapsOf
+indexed-all ms t n i e h l known = let z : mapCount ms ≡ i = omega arith in rw z known
+
+-- a table that reaches no point
+pub indexed-nowhere : (ms : List ℕ) → Indexed ms []
+unfolding Indexed
+indexed-nowhere ms q h = absurd (omega arith)
 
 -- whether there is a map
 pub bare : (ms : List ℕ) (r : ℕ) (m : Option Map) → mapThere ms r ≡ m → eqb r 0 ≡ isNone m

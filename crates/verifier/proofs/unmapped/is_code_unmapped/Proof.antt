@@ -14,11 +14,11 @@ use Rattle.verifier.proofs.unmapped.is_code_unmapped.Statement.{stateme
 use Rattle.verifier.proofs.unmapped.is_code_unmapped.Tie as tie
 
 abbrev Inv-loop : tie.InvT-loop
-Inv-loop version code maps left₀ p₀ wants₀ left p wants =
+Inv-loop version code maps places left₀ p₀ wants₀ left p wants =
     (result : ℕ) → unmappedFrom version code (mapsOf maps) result left p wants ≡ unmappedFrom version code (mapsOf maps) result (length code) 0 false
 
 abbrev μ-loop : tie.MeasureT-loop
-μ-loop version code maps left₀ p₀ wants₀ left p wants = left
+μ-loop version code maps places left₀ p₀ wants₀ left p wants = left
 
 loop-holds : tie.Need-loop-holds Inv-loop μ-loop
 loop-holds c result = refl
