@@ -1,29 +1,27 @@
--- The walk over a method's code: it says what the verifier says, it is taken turn by turn, and it makes no more notes than there are bytes.
+-- The verifier says of a method what the code's walk says: the walk's notes where it accepts, and nothing where it rejects. The walk rejects maps with more
+-- than 16 operands, and so this holds where there are none.
 use mathlib.Core.Path.{_≡_, refl, sym, ap, _∙_}
+use mathlib.Core.Logic.{_≢_}
 use mathlib.Core.Bool.{Bool, true, false}
 use mathlib.Core.Option.{Option, none, some}
-use mathlib.Core.List.{List, _++_, append-nil}
-use Prim.Native.Nat.{ℕ, zero, suc, _+_, _-_, _<_, _≤_}
+use mathlib.Core.List.{List, [], _∷_, _++_, append-nil, reverse}
+use Prim.Native.Nat.{ℕ, zero, suc, _+_, _≤_}
 use native.Mathlib.Omega.{arith}
-use lib.ListN.{length, length-append}
-use lib.Dec.{eqb}
+use lib.ListN.{length, length-reverse}
+use lib.Dec.{eqb, leb}
+use borrow.Author.Tests.{le-leb, eqb-false}
 use Rattle.definition.specs.declared.Kind.{Kind}
+use Rattle.definition.specs.declared.Instruction.{Instruction}
+use Rattle.definition.specs.declared.Instruction.the-variants.{AconstNull, Sipush, Load, Store, Pop, Dup, Arithmetic, Getfield, Putfield, Invokevirtual, New, Return, Branch}
 use Rattle.definition.specs.Instructions.{Decoded, decode, pick}
-use Rattle.definition.specs.Lists.{writeRows}
 use Rattle.definition.specs.Maybe.{_>>=_, need}
-use Rattle.definition.specs.Classes.{Class, Method}
-use Rattle.definition.specs.Verifier.{Note, TypeState, Flow, effect, returns, returnKind, verify, entryTypes, notesOfMethod}
-use Rattle.layout.specs.Cells.{rows-parts}
-use Rattle.verifier.specs.declared.turns.Turn.{Turn}
-use Rattle.verifier.specs.declared.turns.Step.the-variants.{Stop, End, Next}
-use Rattle.verifier.specs.declared.methods.Verified.{Verified}
-use Rattle.verifier.specs.declared.methods.Verified.the-variants.{Notes, Rejected}
-use Rattle.verifier.specs.Types.{typesOf, entryOf}
-use Rattle.verifier.specs.Effects.{going, ending, outcome}
-use Rattle.verifier.specs.Trace.{Turned, halted, settle, turnedBy, turned, Trace, after, onward, trace, made, nextOf, turnOf, putNote, Wrote, Verification, verification, recorded, methodTrace, verified, acceptedNotes, granted}
-use Rattle.verifier.proofs.NoteLaws.{note-rows}
+use Rattle.definition.specs.Classes.{Class, Map, Method}
+use Rattle.definition.specs.Verifier.{Note, TypeState, Flow, Turn, Onward as Going, finished, onto as goesOnto, meetAll, meetMap, meetLocal, meets, mapAt, mapTypes, target, goesOn, returnKind, returns, effect, flowInto, flowToTarget, startAt, after as afterFlow, turn, mapsPast, verify, entryTypes, notesOfMethod}
+use Rattle.verifier.specs.Types.{entryOf}
+use Rattle.verifier.specs.Effects.{going, ending, outcome, leftBy, leaves}
+use Rattle.verifier.specs.Trace.{Trace, after, followed, meetEach, fits, meetTrace, refusing, Onward, refused, accepted, onto, Turned, bound, once, onward, targetTrace, intoTurn, startTurn, nextTurn, flowing, turnedTo, turnedBy, turned, proceed, trace, wholeTrace, granted, acceptedNotes, methodTrace}
 
--- The verifier says what the walk says
+-- One walk after another
 
 pub granted-after : (ns : List Note) (t : Trace) → acceptedNotes (after ns t) ≡ (acceptedNotes t >>= λ ms. some (ns ++ ms))
 unfolding acceptedNotes after granted _>>=_
@@ -33,141 +31,170 @@ granted-after ns t = go (t .accepts)
     go true = refl
     go false = refl
 
-module _ (rest : ℕ → TypeState → Option (List Note)) (walk : ℕ → TypeState → Trace) (same : (q : ℕ) (u : TypeState) → rest q u ≡ acceptedNotes (walk q u)) where
-  through : Turned → Option (List Note)
-  through t = acceptedNotes (after (t .notes) (onward (t .next) walk))
-
-  says-last : (q : ℕ) (b : Bool) (m : Option (List Note)) → (need b >>= λ _. m) ≡ through (settle q b (ending m))
-  unfolding through settle ending pick after onward acceptedNotes granted need _>>=_
-  says-last q true none = refl
-  says-last q true (some ns) = ap some (sym (append-nil ns))
-  says-last q false none = refl
-  says-last q false (some ns) = refl
-
-  says-flow :
-      (q : ℕ) (b : Bool) (m : Option Flow) →
-      (m >>= λ f. rest q (f .types) >>= λ ns. some (f .notes ++ ns)) ≡ through (settle q b (going m))
-  unfolding through settle going after onward acceptedNotes granted _>>=_
-  says-flow q b none = refl
-  says-flow q b (some f) = rw (same q (f .types)) (sym (granted-after (f .notes) (walk q (f .types))))
-
-  says-kind :
-      (q : ℕ) (b : Bool) (u : Option Kind) (m : Kind → Option (List Note)) (n : Option Flow) →
-      (elim u [ some kind ↦ need b >>= λ _. m kind | none ↦ n >>= λ f. rest q (f .types) >>= λ ns. some (f .notes ++ ns) ])
-      ≡ through (settle q b (elim u [ some kind ↦ ending (m kind) | none ↦ going n ]))
-  says-kind q b (some kind) m n = says-last q b (m kind)
-  says-kind q b none m n = says-flow q b n
-
-  says-none : none ≡ through halted
-  unfolding through after onward acceptedNotes granted
-  says-none = refl
-
-  says-read :
-      (code : List ℕ) (result p : ℕ) (s : TypeState) (d : Option Decoded) →
-      (d >>= λ i. elim (returnKind (i .instruction)) [
-        | some kind ↦ need (eqb (p + i .size) (length code)) >>= λ _. returns kind result s
-        | none ↦ effect (i .instruction) s >>= λ f. rest (p + i .size) (f .types) >>= λ ns. some (f .notes ++ ns)
-      ]) ≡ through (turnedBy code result p s d)
-  unfolding turnedBy outcome _>>=_
-  says-read code result p s none = says-none
-  says-read code result p s (some i) =
-      says-kind (p + i .size) (eqb (p + i .size) (length code)) (returnKind (i .instruction)) (λ kind. returns kind result s) (effect (i .instruction) s)
-
-module _ (version : ℕ) (code : List ℕ) (result : ℕ) where
-  pub says : (k p : ℕ) (s : TypeState) → verify version code result k p s ≡ acceptedNotes (trace version code result k p s)
-  unfolding verify trace turned through acceptedNotes granted
-  says zero p s = refl
-  says (suc k) p s = says-read (verify version code result k) (trace version code result k) (says k) code result p s (decode version code p)
-
--- The walk turn by turn, with its notes written as it goes
-
-pub begins : (from : ℕ) (w : Trace) (t : List ℕ) → recorded (from + 0) 0 w t ≡ verified from w t
-unfolding recorded verified
-begins from w t = let e : from + 0 ≡ from = omega arith in let f : 0 + length (w .notes) ≡ length (w .notes) = omega arith in rw (e, f)
-
-pub recorded-after :
-    (from c : ℕ) (ns : List Note) (w : Trace) (t : List ℕ) →
-    recorded (from + c) c (after ns w) t ≡ recorded (from + (c + length ns)) (c + length ns) w (writeRows putNote ns (from + c) t)
-unfolding recorded after
-recorded-after from c ns w t =
-    let e : from + (c + length ns) ≡ from + c + length ns = omega arith in
-    let f : c + length (ns ++ w .notes) ≡ c + length ns + length (w .notes) = omega (arith, length-append ns (w .notes)) in
-    rw (e, f, rows-parts note-rows ns (w .notes) (from + c) t)
-
-pub out-of-turns : (version : ℕ) (code : List ℕ) (result left p i c : ℕ) (s : TypeState) (t : List ℕ) → left ≤ 0 → recorded i c (trace version code result left p s) t ≡ verification Rejected t
-unfolding recorded trace pick writeRows
-out-of-turns version code result left p i c s t h = let e : left ≡ 0 = omega arith in rw e
-
--- the walk after a turn
-next : ℕ → List ℕ → ℕ → ℕ → Turn → Trace
-next version code result left r = onward (nextOf (r .step) (typesOf (r .types))) (λ q x. trace version code result left q x)
-
-module _
-    (version : ℕ) (code : List ℕ) (result left p from c n : ℕ) (s : TypeState) (t u : List ℕ) (r : Turn) (more : 0 < left)
-    (e : turnOf r ≡ turned version code result p s) (w : Wrote (made (r .receiver) ++ made (r .value)) (from + c) t u n)
+pub both-say : (w v : Trace) → acceptedNotes (followed w v) ≡ (acceptedNotes w >>= λ ns. acceptedNotes v >>= λ rs. some (ns ++ rs))
+unfolding followed acceptedNotes granted pick _>>=_
+both-say w v = go (w .accepts) refl
   where
-    trace-turn : trace version code result left p s ≡ after (made (r .receiver) ++ made (r .value)) (next version code result (left - 1) r)
-    unfolding trace turnOf next
-    trace-turn =
-        let one : left ≡ suc (left - 1) = omega arith in
-        ap (λ m. trace version code result m p s) one
-        ∙ ap (λ (d : Turned). after (d .notes) (onward (d .next) (λ q x. trace version code result (left - 1) q x))) (sym e)
+    go : (b : Bool) → w .accepts ≡ b → acceptedNotes (followed w v) ≡ (acceptedNotes w >>= λ ns. acceptedNotes v >>= λ rs. some (ns ++ rs))
+    go true e = rw e (granted-after (w .notes) v)
+    go false e = rw e
 
-    walked : recorded (from + c) c (trace version code result left p s) t ≡ recorded (from + (c + n)) (c + n) (next version code result (left - 1) r) u
-    walked = rw (w .count, w .table, trace-turn) (recorded-after from c (made (r .receiver) ++ made (r .value)) (next version code result (left - 1) r) t)
+-- The flow into a map
 
-    pub walk-stops : r .step ≡ Stop → recorded (from + c) c (trace version code result left p s) t ≡ verification Rejected u
-    unfolding next nextOf onward recorded pick writeRows
-    walk-stops h = walked ∙ rw h
+-- nothing comes of what ends in nothing
+never : {A B : Type 0} (o : Option A) → _>>=_ {B = B} o (λ _. none) ≡ none
+unfolding _>>=_
+never none = refl
+never (some a) = refl
 
-    pub walk-ends : r .step ≡ End → recorded (from + c) c (trace version code result left p s) t ≡ verification (Notes (c + n)) u
-    unfolding next nextOf onward recorded pick writeRows
-    walk-ends h = let z : c + n + 0 ≡ c + n = omega arith in walked ∙ rw (h, z)
-
-    pub walk-goes :
-        (q : ℕ) → r .step ≡ Next q →
-        recorded (from + c) c (trace version code result left p s) t ≡ recorded (from + (c + n)) (c + n) (trace version code result (left - 1) q (typesOf (r .types))) u
-    unfolding next nextOf onward
-    walk-goes q h = walked ∙ rw h
-
--- For callers: what the verifier says of a method, by the answer and the table
-
-pub method-says : (k : Class) (m : Method) → notesOfMethod k m ≡ acceptedNotes (methodTrace (k .version) (k .name) (m .signature) (m .code))
-unfolding methodTrace entryOf notesOfMethod
-method-says k m = says (k .version) (m .code) (m .signature .result) (length (m .code)) 0 (entryTypes k m)
-
-module _ (from : ℕ) (w : Trace) (t u : List ℕ) where
-  -- the notes are in the table, whatever the answer
-  pub table-says : (a : Verified) → verification a u ≡ verified from w t → u ≡ writeRows putNote (w .notes) from t
-  unfolding verified
-  table-says a e = ap (λ (v : Verification). v .table) e
-
-  by-answer : (a : Verified) → verification a u ≡ verified from w t → a ≡ pick (w .accepts) (Notes (length (w .notes))) Rejected
-  unfolding verified
-  by-answer a e = ap (λ (v : Verification). v .answer) e
-
-  -- an answer with n notes: the walk accepts, its notes are the verifier's, and n is their number
-  pub accepted-walk : (n : ℕ) → verification (Notes n) u ≡ verified from w t → (w .accepts ≡ true) × (n ≡ length (w .notes))
-  unfolding pick
-  accepted-walk n e = go (w .accepts) (by-answer (Notes n) e)
+module _ {A : Type 0} (f : A → ℕ → Option (List Note)) where
+  pub each-says : (xs : List A) (ns : List ℕ) → acceptedNotes (meetEach f xs ns) ≡ meetAll f xs ns
+  unfolding meetEach meetAll acceptedNotes granted _>>=_
+  each-says [] [] = refl
+  each-says [] (n ∷ ns) = refl
+  each-says (x ∷ xs) [] = refl
+  each-says (x ∷ xs) (n ∷ ns) = rw (← (each-says xs ns)) (go (f x n))
     where
-      go : (b : Bool) → Notes n ≡ pick b (Notes (length (w .notes))) Rejected → (b ≡ true) × (n ≡ length (w .notes))
-      go true q = (refl, cc)
-      go false q = let z : _≡_ {A = ℕ} 0 1 = cc in absurd (omega arith)
+      go : (o : Option (List Note)) → acceptedNotes (elim o [ none ↦ refusing | some a ↦ after a (meetEach f xs ns) ])
+          ≡ (o >>= λ a. acceptedNotes (meetEach f xs ns) >>= λ b. some (a ++ b))
+      go none = refl
+      go (some a) = granted-after a (meetEach f xs ns)
 
-  pub accepted-says : (n : ℕ) → verification (Notes n) u ≡ verified from w t → acceptedNotes w ≡ some (w .notes)
-  unfolding acceptedNotes granted
-  accepted-says n e = ap (λ (b : Bool). granted b (w .notes)) (accepted-walk n e .0)
+  -- nothing, where the numbers differ
+  all-differ : (xs : List A) (ns : List ℕ) → length xs ≢ length ns → meetAll f xs ns ≡ none
+  unfolding meetAll _>>=_
+  all-differ [] [] h = absurd (h refl)
+  all-differ [] (n ∷ ns) h = refl
+  all-differ (x ∷ xs) [] h = refl
+  all-differ (x ∷ xs) (n ∷ ns) h = rw (all-differ xs ns (λ e. h (ap suc e))) (never (f x n))
 
-  -- a rejection: the verifier has no notes
-  pub rejected-walk : verification Rejected u ≡ verified from w t → w .accepts ≡ false
-  unfolding pick
-  rejected-walk e = go (w .accepts) (by-answer Rejected e)
+module _ (s : TypeState) (m : Map) (few : length (m .operands) ≤ 16) where
+  abbrev locals : Trace
+  locals = meetEach meetLocal (s .locals) (m .locals)
+
+  abbrev operands : Trace
+  operands = meetEach meets (reverse (s .operands)) (m .operands)
+
+  pub map-says : acceptedNotes (meetTrace s m) ≡ meetMap s m
+  unfolding meetTrace meetMap fits pick acceptedNotes granted _>>=_
+  map-says = rw (le-leb (length (m .operands)) 16 few) (go (eqb (length (s .operands)) (length (m .operands))) refl)
     where
-      go : (b : Bool) → Rejected ≡ pick b (Notes (length (w .notes))) Rejected → b ≡ false
-      go true q = let z : _≡_ {A = ℕ} 0 1 = cc in absurd (omega arith)
-      go false q = refl
+      go : (t : Bool) → eqb (length (s .operands)) (length (m .operands)) ≡ t → acceptedNotes (pick t (followed locals operands) refusing) ≡ meetMap s m
+      go true e =
+          rw (← (each-says meetLocal (s .locals) (m .locals)), ← (each-says meets (reverse (s .operands)) (m .operands))) (both-say locals operands)
+      go false e =
+          let d : length (reverse (s .operands)) ≢ length (m .operands) = λ z. eqb-false _ _ e (sym (length-reverse (s .operands)) ∙ z) in
+          rw (all-differ meets (reverse (s .operands)) (m .operands) d) (sym (never (meetAll meetLocal (s .locals) (m .locals))))
 
-  pub rejected-says : verification Rejected u ≡ verified from w t → acceptedNotes w ≡ none
-  unfolding acceptedNotes granted
-  rejected-says e = ap (λ (b : Bool). granted b (w .notes)) (rejected-walk e)
+-- A turn
+
+-- what it says: nothing where it goes nowhere
+said : List Note → Onward → Option Turn
+said ns refused = none
+said ns accepted = some (record { notes = ns; next = finished })
+said ns (onto q s) = some (record { notes = ns; next = goesOnto q s })
+
+pub turnSaid : Turned → Option Turn
+turnSaid t = said (t .notes) (t .next)
+
+-- with notes before it
+abbrev noting : List Note → Turn → Turn
+noting ns t = record { notes = ns ++ t .notes; next = t .next }
+
+once-says : (w : Trace) (t : Turned) → turnSaid (once w t) ≡ (acceptedNotes w >>= λ ns. turnSaid t >>= λ u. some (noting ns u))
+unfolding turnSaid said once acceptedNotes granted pick _>>=_
+once-says w t = go (w .accepts) (t .next)
+  where
+    go : (b : Bool) (o : Onward)
+        → turnSaid (pick b (record { notes = w .notes ++ t .notes; next = o }) (record { notes = w .notes; next = refused }))
+        ≡ (granted b (w .notes) >>= λ ns. said (t .notes) o >>= λ u. some (noting ns u))
+    go true refused = refl
+    go true accepted = refl
+    go true (onto q s) = refl
+    go false o = refl
+
+-- a return flows nowhere
+last : (i : Instruction) (k : Kind) → returnKind i ≡ some k → (target i ≡ none) × (goesOn i ≡ false)
+unfolding returnKind target goesOn
+last (Return kind) k e = (refl, refl)
+last AconstNull k e = (cc, cc)
+last (Sipush n) k e = (cc, cc)
+last (Load kind i) k e = (cc, cc)
+last (Store kind i) k e = (cc, cc)
+last Pop k e = (cc, cc)
+last Dup k e = (cc, cc)
+last (Arithmetic o) k e = (cc, cc)
+last (Getfield c f t) k e = (cc, cc)
+last (Putfield c f t) k e = (cc, cc)
+last (Invokevirtual c m) k e = (cc, cc)
+last (New c) k e = (cc, cc)
+last (Branch c p) k e = (cc, cc)
+
+module _ (version : ℕ) (code : List ℕ) (maps : List Map) (result : ℕ) (few : (p : ℕ) (m : Map) → mapAt maps p ≡ some m → length (m .operands) ≤ 16) where
+  target-says : (t : Option ℕ) (s : TypeState) → acceptedNotes (targetTrace (length code) maps t s) ≡ flowToTarget version code maps result t s
+  unfolding targetTrace flowToTarget acceptedNotes granted _>>=_
+  target-says none s = refl
+  target-says (some p) s = go (mapAt maps p) refl
+    where
+      go : (o : Option Map) → mapAt maps p ≡ o → acceptedNotes (targetTrace (length code) maps (some p) s) ≡ flowToTarget version code maps result (some p) s
+      go none e = rw (e, targetTrace) refl
+      go (some m) e = rw (e, targetTrace) (map-says s m (few p m e))
+
+  -- the notes of a flow to point p, and the types there
+  abbrev flown : ℕ → Flow → Option Turn
+  flown p g = some (record { notes = g .notes; next = goesOnto p (g .types) })
+
+  into-says : (p : ℕ) (s : TypeState) → turnSaid (intoTurn (length code) maps p s) ≡ (flowInto version code maps result p s >>= flown p)
+  unfolding intoTurn flowInto turnSaid said _>>=_
+  into-says p s = go (mapAt maps p) refl
+    where
+      met : (m : Map) (o : Option (List Note))
+          → (o >>= λ ns. some (record { notes = ns ++ []; next = goesOnto p (mapTypes m) }))
+          ≡ ((o >>= λ ns. some (record { types = mapTypes m; notes = ns })) >>= flown p)
+      met m none = refl
+      met m (some ns) = rw (append-nil ns)
+
+      go : (o : Option Map) → mapAt maps p ≡ o → turnSaid (intoTurn (length code) maps p s) ≡ (flowInto version code maps result p s >>= flown p)
+      go none e = rw (e, intoTurn, flowInto) refl
+      go (some m) e =
+          rw (e, intoTurn, flowInto)
+          (once-says (meetTrace s m) (bound (onto p (mapTypes m))) ∙ rw (map-says s m (few p m e)) (met m (meetMap s m)))
+
+  start-says : (p : ℕ) → turnSaid (startTurn (length code) maps p) ≡ (startAt version code maps result p >>= λ o. some (record { notes = []; next = o }))
+  unfolding startTurn startAt turnSaid said fits pick _>>=_
+  start-says p = go (eqb p (length code)) refl (mapAt maps p) refl
+    where
+      go : (b : Bool) → eqb p (length code) ≡ b → (o : Option Map) → mapAt maps p ≡ o
+          → turnSaid (startTurn (length code) maps p) ≡ (startAt version code maps result p >>= λ o. some (record { notes = []; next = o }))
+      go true e o q = rw (e, startAt) refl
+      go false e none q = rw (e, startAt, q) refl
+      go false e (some m) q = rw (e, startAt, q, le-leb (length (m .operands)) 16 (few p m q)) refl
+
+  after-says : (i : Instruction) (p : ℕ) (f : Flow) → turnSaid (turnedTo (length code) maps i p (some f)) ≡ afterFlow version code maps result i p f
+  unfolding turnedTo flowing nextTurn afterFlow acceptedNotes granted _>>=_
+  after-says i p f =
+      once-says (record { notes = f .notes; accepts = true }) (flowing (length code) maps i p (f .types))
+      ∙ rw (once-says (targetTrace (length code) maps (target i) (f .types)) (nextTurn (length code) maps (goesOn i) p (f .types)), target-says (target i) (f .types))
+      (go (flowToTarget version code maps result (target i) (f .types)) (goesOn i))
+    where
+      goes : (ts : List Note) (o : Option Flow)
+          → (((o >>= flown p) >>= λ u. some (noting ts u)) >>= λ u. some (noting (f .notes) u))
+          ≡ (o >>= λ g. some (record { notes = f .notes ++ (ts ++ g .notes); next = goesOnto p (g .types) }))
+      goes ts none = refl
+      goes ts (some g) = refl
+
+      starts : (ts : List Note) (o : Option Going)
+          → (((o >>= λ x. some (record { notes = []; next = x })) >>= λ u. some (noting ts u)) >>= λ u. some (noting (f .notes) u))
+          ≡ (o >>= λ x. some (record { notes = f .notes ++ ts; next = x }))
+      starts ts none = refl
+      starts ts (some x) = rw (append-nil ts)
+
+      go : (o : Option (List Note)) (b : Bool)
+          → ((o >>= λ ts. turnSaid (nextTurn (length code) maps b p (f .types)) >>= λ u. some (noting ts u)) >>= λ u. some (noting (f .notes) u))
+          ≡ (o >>= λ ts. elim b [
+            | true ↦ flowInto version code maps result p (f .types) >>= λ g. some (record { notes = f .notes ++ (ts ++ g .notes); next = goesOnto p (g .types) })
+            | false ↦ startAt version code maps result p >>= λ x. some (record { notes = f .notes ++ ts; next = x })
+          ])
+      go none b = refl
+      go (some ts) true = rw (into-says p (f .types)) (goes ts (flowInto version code maps result p (f .types)))
+      go (some ts) false = rw (start-says p) (starts ts (startAt version code maps result p))
