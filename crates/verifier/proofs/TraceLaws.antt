@@ -19,7 +19,7 @@ use Rattle.definition.specs.Classes.{Class, Map, Method}
 use Rattle.definition.specs.Verifier.{Note, TypeState, Flow, Turn, Onward as Going, finished, onto as goesOnto, meetAll, meetMap, meetLocal, meets, mapAt, mapTypes, target, goesOn, returnKind, returns, effect, flowInto, flowToTarget, startAt, after as afterFlow, turn, mapsPast, verify, entryTypes, notesOfMethod}
 use Rattle.verifier.specs.Types.{entryOf}
 use Rattle.verifier.specs.Effects.{going, ending, outcome, leftBy, leaves}
-use Rattle.verifier.specs.Trace.{Trace, after, followed, meetEach, fits, meetTrace, refusing, Onward, refused, accepted, onto, Turned, bound, once, onward, targetTrace, intoTurn, startTurn, nextTurn, flowing, turnedTo, turnedBy, turned, proceed, trace, wholeTrace, granted, acceptedNotes, methodTrace}
+use Rattle.verifier.specs.Trace.{Trace, after, followed, meetEach, fits, meetTrace, refusing, accepting, Onward, refused, accepted, onto, Turned, bound, once, onward, targetTrace, intoTurn, startTurn, nextTurn, flowing, turnedTo, turnedBy, turned, proceed, trace, wholeTrace, granted, acceptedNotes, methodTrace}
 
 -- One walk after another
 
@@ -198,3 +198,120 @@ module _ (version : ℕ) (code : List ℕ) (maps : List Map) (result : ℕ) (few
       go none b = refl
       go (some ts) true = rw (into-says p (f .types)) (goes ts (flowInto version code maps result p (f .types)))
       go (some ts) false = rw (start-says p) (starts ts (startAt version code maps result p))
+
+  -- a return leaves the types as they are, and flows nowhere
+  return-says : (i : Instruction) (k : Kind) (p : ℕ) (s : TypeState) → returnKind i ≡ some k → (ns : List Note)
+      → turnSaid (turnedTo (length code) maps i p (some (record { types = s; notes = ns })))
+      ≡ (startAt version code maps result p >>= λ o. some (record { notes = ns; next = o }))
+  unfolding afterFlow flowToTarget _>>=_
+  return-says i k p s e ns =
+      after-says i p (record { types = s; notes = ns })
+      ∙ rw (last i k e .0, last i k e .1, append-nil ns)
+
+  leaves-says : (i : Instruction) (p : ℕ) (s : TypeState)
+      → turnSaid (turnedTo (length code) maps i p (leaves i result s))
+      ≡ (elim (returnKind i) [
+        | some kind ↦ returns kind result s >>= λ ns. startAt version code maps result p >>= λ o. some (record { notes = ns; next = o })
+        | none ↦ effect i s >>= λ f. afterFlow version code maps result i p f
+      ])
+  unfolding leaves leftBy outcome going ending turnedTo turnSaid said _>>=_
+  leaves-says i p s = go (returnKind i) refl
+    where
+      left : (o : Option Flow) → turnSaid (turnedTo (length code) maps i p (leftBy s (going o))) ≡ (o >>= λ f. afterFlow version code maps result i p f)
+      left none = refl
+      left (some f) = after-says i p f
+
+      ended : (k : Kind) → returnKind i ≡ some k → (o : Option (List Note))
+          → turnSaid (turnedTo (length code) maps i p (leftBy s (ending o)))
+          ≡ (o >>= λ ns. startAt version code maps result p >>= λ x. some (record { notes = ns; next = x }))
+      ended k e none = refl
+      ended k e (some ns) = return-says i k p s e ns
+
+      go : (u : Option Kind) → returnKind i ≡ u
+          → turnSaid (turnedTo (length code) maps i p (leftBy s (elim u [ some kind ↦ ending (returns kind result s) | none ↦ going (effect i s) ])))
+          ≡ (elim u [
+            | some kind ↦ returns kind result s >>= λ ns. startAt version code maps result p >>= λ o. some (record { notes = ns; next = o })
+            | none ↦ effect i s >>= λ f. afterFlow version code maps result i p f
+          ])
+      go none e = left (effect i s)
+      go (some k) e = ended k e (returns k result s)
+
+  pub turn-says : (p : ℕ) (s : TypeState) → turnSaid (turned version code maps result p s) ≡ turn version code maps result p s
+  unfolding turned turnedBy turn turnSaid said _>>=_
+  turn-says p s = go (decode version code p)
+    where
+      go : (d : Option Decoded) → turnSaid (turnedBy version code maps result p s d)
+          ≡ (d >>= λ i. elim (returnKind (i .instruction)) [
+            | some kind ↦ returns kind result s >>= λ ns. startAt version code maps result (p + i .size) >>= λ o. some (record { notes = ns; next = o })
+            | none ↦ effect (i .instruction) s >>= λ f. afterFlow version code maps result (i .instruction) (p + i .size) f
+          ])
+      go none = refl
+      go (some i) = leaves-says (i .instruction) (p + i .size) s
+
+  -- The walk
+
+  -- from a turn on
+  proceed-says : (t : Turned) (more : List Map) (rest : ℕ → List Map → TypeState → Option (List Note)) (walk : ℕ → List Map → TypeState → Trace)
+      → ((q : ℕ) (u : TypeState) → rest q more u ≡ acceptedNotes (walk q more u))
+      → (turnSaid t >>= λ u. elim (u .next) [
+        | finished ↦ need (leb (length more) 0) >>= λ _. some (u .notes)
+        | goesOnto q x ↦ rest q more x >>= λ ns. some (u .notes ++ ns)
+      ]) ≡ acceptedNotes (proceed version code maps result t more walk)
+  unfolding proceed turnSaid said onward after acceptedNotes granted need pick _>>=_
+  proceed-says t more rest walk same = go (t .next) (leb (length more) 0)
+    where
+      ns : List Note
+      ns = t .notes
+
+      go : (o : Onward) (b : Bool)
+          → (said ns o >>= λ u. elim (u .next) [ finished ↦ need b >>= λ _. some (u .notes) | goesOnto q x ↦ rest q more x >>= λ rs. some (u .notes ++ rs) ])
+          ≡ acceptedNotes (after ns (onward o refusing (pick b accepting refusing) (λ q u. walk q more u)))
+      go refused b = refl
+      go accepted true = ap some (sym (append-nil ns))
+      go accepted false = refl
+      go (onto q x) b = rw (same q x) (sym (granted-after ns (walk q more x)))
+
+  -- from a point on, where the steps after it say the same
+  step-says : (k p : ℕ) (s : TypeState) (o : Option (List Map))
+      → ((q : ℕ) (left : List Map) (u : TypeState) → verify version code maps result k q left u ≡ acceptedNotes (trace version code maps result k q left u))
+      → (o >>= λ more. turn version code maps result p s >>= λ t. elim (t .next) [
+        | finished ↦ need (leb (length more) 0) >>= λ _. some (t .notes)
+        | goesOnto q u ↦ verify version code maps result k q more u >>= λ ns. some (t .notes ++ ns)
+      ]) ≡ acceptedNotes (elim o [
+        | none ↦ refusing
+        | some more ↦ proceed version code maps result (turned version code maps result p s) more (trace version code maps result k)
+      ])
+  unfolding acceptedNotes granted _>>=_
+  step-says k p s none same = refl
+  step-says k p s (some more) same =
+      rw (← (turn-says p s))
+      (proceed-says (turned version code maps result p s) more (verify version code maps result k) (trace version code maps result k) (λ q u. same q more u))
+
+  pub says : (k p : ℕ) (left : List Map) (s : TypeState) → verify version code maps result k p left s ≡ acceptedNotes (trace version code maps result k p left s)
+  unfolding verify trace acceptedNotes granted
+  says zero p left s = refl
+  says (suc k) p left s = step-says k p s (mapsPast version code maps result p left) (says k)
+
+  -- the flow from entry first
+  whole-says : (s : TypeState)
+      → (flowInto version code maps result 0 s >>= λ f. verify version code maps result (length code) 0 maps (f .types) >>= λ ns. some (f .notes ++ ns))
+      ≡ acceptedNotes (wholeTrace version code maps result s)
+  unfolding wholeTrace _>>=_
+  whole-says s =
+      go (flowInto version code maps result 0 s) (into-says 0 s)
+      ∙ proceed-says (intoTurn (length code) maps 0 s) maps (verify version code maps result (length code)) (trace version code maps result (length code)) (λ q u. says (length code) q maps u)
+    where
+      go : (o : Option Flow) → turnSaid (intoTurn (length code) maps 0 s) ≡ (o >>= flown 0)
+          → (o >>= λ f. verify version code maps result (length code) 0 maps (f .types) >>= λ ns. some (f .notes ++ ns))
+          ≡ (turnSaid (intoTurn (length code) maps 0 s) >>= λ u. elim (u .next) [
+            | finished ↦ need (leb (length maps) 0) >>= λ _. some (u .notes)
+            | goesOnto q x ↦ verify version code maps result (length code) q maps x >>= λ ns. some (u .notes ++ ns)
+          ])
+      go none e = rw e refl
+      go (some f) e = rw e refl
+
+-- For callers: what the verifier says of a method
+pub method-says : (k : Class) (m : Method) → ((p : ℕ) (x : Map) → mapAt (m .maps) p ≡ some x → length (x .operands) ≤ 16)
+    → notesOfMethod k m ≡ acceptedNotes (methodTrace (k .version) (k .name) (m .signature) (m .code) (m .maps))
+unfolding methodTrace entryOf notesOfMethod
+method-says k m few = whole-says (k .version) (m .code) (m .maps) (m .signature .result) few (entryTypes k m)
