@@ -6,5 +6,7 @@ pub mod TurnLaws
 pub mod LookupLaws
 pub mod FlowLaws
 pub mod PostingLaws
+pub mod MeetLaws
+pub mod SayingLaws
 pub mod TraceLaws
 pub mod ClassLaws
