@@ -7,3 +7,6 @@ pub mod LookupLaws
 pub mod PostingLaws
 pub mod FlowLaws
 pub mod PassLaws
+pub mod MeetLaws
+pub mod SayingLaws
+pub mod TraceLaws
