@@ -12,7 +12,6 @@ use lib.Seq.{getD-set-same, getD-set-other}
 use lib.Dec.{eqb, leb}
 use borrow.Author.Tests.{eq-eqb, ne-eqb, eqb-true, eqb-false}
 use Rattle.definition.specs.Instructions.{Decoded, decode, pick}
-use Rattle.definition.specs.declared.Instruction.{Instruction}
 use Rattle.definition.specs.Lists.{any, isNone, toList, rows}
 use Rattle.definition.specs.Classes.{Map}
 use Rattle.definition.specs.Verifier.{mapAt, target, goesOn, unmappedFrom}
@@ -91,7 +90,7 @@ mapAt-both (x ∷ xs) ys q = go (eqb (x .offset) q) (mapAt-both xs ys q)
     go true e = refl
     go false e = e
 
--- the table after a place is put at point o, where there is none
+-- the table after place p is put at point o, if the test says so
 module _ (t : List ℕ) (o p : ℕ) where
   put : Bool → List ℕ
   put b = pick b (set t o p) t
@@ -112,17 +111,20 @@ module _ (t : List ℕ) (o p : ℕ) where
 
 -- one more map, at point o
 module _ (ms t : List ℕ) (i p o : ℕ) (e : p ≡ mapPlace ms i) (l : 1 ≤ p) (f : mapOf ms p .offset ≡ o) (known : IndexedTo ms t i) where
+  -- the maps with this one: the table's, else this one at its own point
   more : (q : ℕ) → q < length t → mapAt (rows (mapNumbered ms) (i + 1) 0) q ≡ earlier (mapThere ms (getD t q 0)) (mapAt (mapOf ms p ∷ []) q)
   unfolding mapNumbered
   more q h =
       let z : 0 + i ≡ i = omega arith in
       rw (add-one i, rows-last (mapNumbered ms) i 0, z, known q h, e) (mapAt-both (rows (mapNumbered ms) i 0) (mapNumbered ms i ∷ []) q)
 
+  -- at its own point the table has an earlier map, or is given this one
   own : (b : Bool) → eqb (getD t o 0) 0 ≡ b → o < length t → mapThere ms (getD (put t o p b) o 0) ≡ mapAt (rows (mapNumbered ms) (i + 1) 0) o
   unfolding mapThere earlier put pick
   own true z h = rw (getD-set-same t o p 0 h, more o h, here (mapOf ms p) [] o f, mapThere, z, ne-eqb p 0 (λ k. omega arith))
   own false z h = rw (more o h, mapThere, z)
 
+  -- at another point it changes nothing
   other : (q : ℕ) → q < length t → o ≢ q → mapThere ms (getD t q 0) ≡ mapAt (rows (mapNumbered ms) (i + 1) 0) q
   unfolding mapAt
   other q h n = rw (more q h, later (mapOf ms p) [] q (rw f n)) (sym (earlier-alone (mapThere ms (getD t q 0))))

@@ -71,13 +71,7 @@ fn kept(types: Types, d: usize, receiver: Meeting, value: Meeting) -> Change
 }
 
 // A type is pushed on the lowest d operands.
-fn pushed(
-    types: Types,
-    d: usize,
-    t: u32,
-    receiver: Meeting,
-    value: Meeting,
-) -> Change
+fn pushed(types: Types, d: usize, t: u32, receiver: Meeting, value: Meeting) -> Change
     ensures { λ r. ⌜ changeOf r ≡ leftBy (typesOf types) (outcomeOf types (Effect.Pushed d t receiver value)) ⌝ }
 {
     if OPERANDS <= d {

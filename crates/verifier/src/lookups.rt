@@ -141,7 +141,11 @@ fn is_wanting(maps: &[u8], places: &[u32], p: usize, wants: bool) -> bool
     requires { ⌜ Indexed (now maps) (now places) ⌝ }
     ensures { λ r. ⌜ r ≡ (wants && isNone (mapAt (mapsOf (now (maps .entry))) p)) ⌝ }
 {
-    if wants { is_bare(maps, places, p) } else { false }
+    if wants {
+        is_bare(maps, places, p)
+    } else {
+        false
+    }
 }
 
 fn is_target_bare(maps: &[u8], places: &[u32], i: Instruction) -> bool
@@ -156,13 +160,7 @@ fn is_target_bare(maps: &[u8], places: &[u32], i: Instruction) -> bool
 }
 
 // The instruction at point p lacks a map there, where it wants one, or at its target.
-pub(crate) fn is_lacking(
-    maps: &[u8],
-    places: &[u32],
-    p: usize,
-    wants: bool,
-    i: Instruction,
-) -> bool
+pub(crate) fn is_lacking(maps: &[u8], places: &[u32], p: usize, wants: bool, i: Instruction) -> bool
     requires { ⌜ Indexed (now maps) (now places) ⌝ }
     ensures { λ r. ⌜ r ≡ lacking (mapsOf (now (maps .entry))) p wants i ⌝ }
 {

@@ -1,5 +1,5 @@
 -- A place is put where 0 is; past the end there is nothing to put.
-use mathlib.Core.Path.{_≡_, refl, sym, _∙_}
+use mathlib.Core.Path.{sym}
 use lib.Seq.{set-out}
 use borrow.Author.Tests.{eq-eqb, ne-eqb}
 use Rattle.definition.specs.Instructions.{pick}
