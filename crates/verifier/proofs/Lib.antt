@@ -7,6 +7,7 @@ pub mod LookupLaws
 pub mod PostingLaws
 pub mod FlowLaws
 pub mod PassLaws
+pub mod TurnLaws
 pub mod MeetLaws
 pub mod SayingLaws
 pub mod TraceLaws

@@ -1,0 +1,85 @@
+-- One turn, by what is found: whether the next point and the target have maps, and what the instruction leaves.
+use mathlib.Core.Path.{_≡_, refl, sym, ap, _∙_}
+use mathlib.Core.Bool.{Bool, true, false, _&&_}
+use mathlib.Core.Option.{Option, none, some}
+use mathlib.Core.List.{List, [], _++_, append-nil}
+use mathlib.Core.Logic.{_≢_}
+use Prim.Native.Nat.{ℕ, _+_, _≤_}
+use native.Mathlib.Omega.{arith}
+use lib.ListN.{length}
+use lib.Dec.{eqb}
+use borrow.Author.Tests.{eq-eqb, ne-eqb}
+use Rattle.definition.specs.declared.Instruction.{Instruction}
+use Rattle.definition.specs.Instructions.{Decoded, decode, pick}
+use Rattle.definition.specs.Classes.{Map}
+use Rattle.definition.specs.Verifier.{Note, TypeState, Flow, mapAt, mapTypes, target, goesOn}
+use Rattle.classfile.specs.Reading.{mapDepth, mapOf, mapsOf}
+use Rattle.constraints.specs.Posting.{Noted, noted, postNotes}
+use Rattle.constraints.specs.Laws.{post-append}
+use Rattle.verifier.specs.declared.types.Types.{Types}
+use Rattle.verifier.specs.declared.changes.Change.{Change}
+use Rattle.verifier.specs.Types.{typesOf}
+use Rattle.verifier.specs.declared.lookups.Target.{Target}
+use Rattle.verifier.specs.declared.lookups.Target.the-variants.{To}
+use Rattle.verifier.specs.Lookups.{mapThere, targetOf}
+use Rattle.verifier.specs.Effects.{leaves}
+use Rattle.verifier.specs.Trace.{Trace, accepting, refusing, fits, meetTrace, Onward, refused, accepted, onto, Turned, bound, once, targetTrace, intoTurn, startTurn, nextTurn, flowing, turnedTo, turned, turnedBy, Verification, verification, posting, Turning, turning, taking}
+use Rattle.verifier.specs.Answers.{made, changeOf}
+use Rattle.verifier.proofs.FlowLaws.{fits-few}
+
+-- a map that is met has at most 16 operands
+pub met-few : (s : Types) (ms : List ℕ) (p l : ℕ) (k j : Noted) (a : Bool) → verification a j ≡ posting l (meetTrace (typesOf s) (mapOf ms p)) k → a ≡ true → mapDepth ms p ≤ 16
+unfolding posting meetTrace pick
+met-few s ms p l k j a e h = fits-few s ms p (go (fits (mapOf ms p)) _ (sym (ap (λ (v : Verification). v .accepts) e) ∙ h))
+  where
+    go : (b : Bool) (t : Trace) → pick (b && eqb (length (typesOf s .operands)) (length (mapOf ms p .operands))) t refusing .accepts ≡ true → b ≡ true
+    go true t q = refl
+    go false t q = q
+
+module _ (ms : List ℕ) (n q r : ℕ) (e : mapThere ms r ≡ mapAt (mapsOf ms) q) where
+  none-there : r ≡ 0 → mapAt (mapsOf ms) q ≡ none
+  unfolding mapThere pick
+  none-there h = sym e ∙ rw h refl
+
+  map-there : r ≢ 0 → mapAt (mapsOf ms) q ≡ some (mapOf ms r)
+  unfolding mapThere pick
+  map-there h = sym e ∙ rw (ne-eqb r 0 h) refl
+
+  module _ (h : r ≡ 0) where
+    pub into-bare : (s : TypeState) → intoTurn n (mapsOf ms) q s ≡ bound (onto q s)
+    unfolding intoTurn
+    into-bare s = rw (none-there h, intoTurn) refl
+
+    pub target-bare : (t : Target) (x : ℕ) (s : TypeState) → t ≡ To x → q ≡ x → targetTrace n (mapsOf ms) (targetOf t) s ≡ refusing
+    unfolding targetTrace targetOf
+    target-bare t x s d f = rw (d, ← f, targetTrace, none-there h) refl
+
+    pub start-bare : q ≢ n → startTurn n (mapsOf ms) q ≡ bound refused
+    unfolding startTurn pick
+    start-bare d = rw (ne-eqb q n d, none-there h, startTurn) refl
+
+  module _ (h : r ≢ 0) where
+    pub into-mapped : (s : TypeState) → intoTurn n (mapsOf ms) q s ≡ once (meetTrace s (mapOf ms r)) (bound (onto q (mapTypes (mapOf ms r))))
+    unfolding intoTurn
+    into-mapped s = rw (map-there h, intoTurn) refl
+
+    pub target-mapped : (t : Target) (x : ℕ) (s : TypeState) → t ≡ To x → q ≡ x → targetTrace n (mapsOf ms) (targetOf t) s ≡ meetTrace s (mapOf ms r)
+    unfolding targetTrace targetOf
+    target-mapped t x s d f = rw (d, ← f, targetTrace, map-there h) refl
+
+    pub start-unfit : q ≢ n → fits (mapOf ms r) ≡ false → startTurn n (mapsOf ms) q ≡ bound refused
+    unfolding startTurn pick
+    start-unfit d f = rw (ne-eqb q n d, map-there h, startTurn, f) refl
+
+    pub start-mapped : q ≢ n → fits (mapOf ms r) ≡ true → startTurn n (mapsOf ms) q ≡ bound (onto q (mapTypes (mapOf ms r)))
+    unfolding startTurn pick
+    start-mapped d f = rw (ne-eqb q n d, map-there h, startTurn, f) refl
+
+pub start-end : (n : ℕ) (maps : List Map) (q : ℕ) → q ≡ n → startTurn n maps q ≡ bound accepted
+unfolding startTurn pick
+start-end n maps q e = rw (eq-eqb q n e) refl
+
+-- a turn without notes leaves the rows as they are
+pub taken-bound : (l : ℕ) (t : Turned) (o : Onward) (k : Noted) → t ≡ bound o → turning o k ≡ taking l t k
+unfolding taking postNotes
+taken-bound l t o k e = rw e refl
