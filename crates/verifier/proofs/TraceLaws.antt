@@ -10,7 +10,7 @@ use lib.Dec.{leb}
 use Rattle.definition.specs.Instructions.{pick}
 use Rattle.definition.specs.Maybe.{_>>=_, need}
 use Rattle.definition.specs.Classes.{Class, Map, Method}
-use Rattle.definition.specs.Verifier.{Note, TypeState, Flow, Turn, finished, onto as goesOnto, mapAt, flowInto, turn, mapsPast, verify, entryTypes, notesOfMethod}
+use Rattle.definition.specs.Verifier.{Note, TypeState, Flow, finished, onto as goesOnto, mapAt, flowInto, turn, mapsPast, verify, entryTypes, notesOfMethod}
 use Rattle.verifier.specs.Types.{entryOf}
 use Rattle.verifier.specs.Trace.{Trace, after, refusing, accepting, Onward, refused, accepted, onto, Turned, onward, intoTurn, turned, proceed, trace, wholeTrace, granted, acceptedNotes, methodTrace}
 use Rattle.verifier.proofs.MeetLaws.{granted-after}
