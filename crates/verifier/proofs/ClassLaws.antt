@@ -93,7 +93,9 @@ module _ (bs : List ℕ) (r : Readable bs) where
 
   methods-few : All FewIn (quickMethods bs)
   unfolding quickMethods methodIn methodAt FewOperands
-  methods-few = rows-all FewIn (methodIn bs) (methodCount bs) 0 (λ j a b p x e. at-point FewOperands (mapsOf (mapBytes bs (methodPlace bs j))) p x (maps-few j (omega arith)) e)
+  methods-few =
+      rows-all FewIn (methodIn bs) (methodCount bs) 0
+      (λ j a b p x e. at-point FewOperands (mapsOf (mapBytes bs (methodPlace bs j))) p x (maps-few j (omega arith)) e)
 
 -- The verifier says of a class what the walks say
 
@@ -107,7 +109,9 @@ methods-say k (m ∷ ms) a = rw (method-says k m (a .0), methods-say k ms (a .1)
 module _ (l : ℕ) (bs : List ℕ) (f : File) (e : readFile bs ≡ some f) where
   pub class-says : notesOf (classOf l f) (f .methods) ≡ acceptedNotes (classTrace bs)
   unfolding classTrace
-  class-says = rw (version-of bs f e, name-of bs f e, methods-of bs f e) (methods-say (classOf l f) (f .methods) (rw (methods-of bs f e) at (methods-few bs (file-readable bs f e))))
+  class-says =
+      rw (version-of bs f e, name-of bs f e, methods-of bs f e)
+      (methods-say (classOf l f) (f .methods) (rw (methods-of bs f e) at (methods-few bs (file-readable bs f e))))
 
   pub unmapped-says : any (unmapped (classOf l f)) (f .methods) ≡ any (unmappedIn (fileVersion bs)) (quickMethods bs)
   unfolding unmapped unmappedIn
@@ -131,6 +135,7 @@ module _ (bs : List ℕ) (j : ℕ) (h : j < methodCount bs) (r : MethodFound) (e
 
 pub trace-found :
     (bs : List ℕ) (j p version own : ℕ) (s : Signature) (code maps : List ℕ) → methodAt bs p ≡ methodIn bs j → version ≡ fileVersion bs → own ≡ className bs →
-    s ≡ methodAt bs p .signature → code ≡ codeAt bs p → maps ≡ mapBytes bs p → methodTrace version own s code (mapsOf maps) ≡ traceOf (fileVersion bs) (className bs) (methodIn bs j)
+    s ≡ methodAt bs p .signature → code ≡ codeAt bs p → maps ≡ mapBytes bs p →
+    methodTrace version own s code (mapsOf maps) ≡ traceOf (fileVersion bs) (className bs) (methodIn bs j)
 unfolding traceOf methodAt
 trace-found bs j p version own s code maps e v a b c d = rw (← e, v, a, b, c, d)
