@@ -11,3 +11,4 @@ pub mod TurnLaws
 pub mod MeetLaws
 pub mod SayingLaws
 pub mod TraceLaws
+pub mod ClassLaws

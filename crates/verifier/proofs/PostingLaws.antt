@@ -1,13 +1,14 @@
--- Posting the notes of a walk, step by step: what comes first is posted first, and a rejection ends it.
+-- Posting the notes of a walk, step by step: what comes first is posted first, and a rejection ends it. What callers learn from the answer and the rows.
 use mathlib.Core.Path.{_≡_, refl, sym, ap, _∙_}
 use mathlib.Core.Bool.{Bool, true, false}
+use mathlib.Core.Option.{none, some}
 use mathlib.Core.List.{List}
 use Prim.Native.Nat.{ℕ}
 use Rattle.definition.specs.Instructions.{pick}
 use Rattle.definition.specs.Verifier.{Note}
 use Rattle.constraints.specs.Posting.{Noted, postNotes}
 use Rattle.constraints.specs.Laws.{post-append}
-use Rattle.verifier.specs.Trace.{Trace, after, followed, Turned, refused, once, Verification, verification, posting, Turning, turning, taking}
+use Rattle.verifier.specs.Trace.{Trace, after, followed, Turned, refused, once, Verification, verification, posting, turning, taking, granted, acceptedNotes}
 
 pub posting-after : (l : ℕ) (ns : List Note) (w : Trace) (k : Noted) → posting l (after ns w) k ≡ posting l w (postNotes l ns k)
 unfolding posting after
@@ -53,3 +54,23 @@ module _ (l : ℕ) (w : Trace) (k j : Noted) (a : Bool) (e : verification a j �
 
     pub once-stop : a ≡ false → (r : Turning) → r ≡ turning refused j → r ≡ taking l whole k
     once-stop h r q = q ∙ sym (ap (λ (x : Turned). taking l x k) p ∙ taking-once-stop l w k t (accepts-is ∙ h) ∙ ap (turning refused) rows-are)
+
+-- For callers: what the verifier says, by the answer and the rows
+
+module _ (l : ℕ) (w : Trace) (k r : Noted) where
+  -- the notes are posted, whatever the answer
+  pub rows-say : (a : Bool) → verification a r ≡ posting l w k → r ≡ postNotes l (w .notes) k
+  unfolding posting
+  rows-say a e = ap (λ (v : Verification). v .rows) e
+
+  pub answer-says : (a : Bool) → verification a r ≡ posting l w k → acceptedNotes w ≡ granted a (w .notes)
+  unfolding posting acceptedNotes
+  answer-says a e = ap (λ (v : Verification). granted (v .accepts) (w .notes)) (sym e)
+
+  pub accepted-says : verification true r ≡ posting l w k → acceptedNotes w ≡ some (w .notes)
+  unfolding granted
+  accepted-says e = answer-says true e
+
+  pub rejected-says : verification false r ≡ posting l w k → acceptedNotes w ≡ none
+  unfolding granted
+  rejected-says e = answer-says false e

@@ -10,7 +10,7 @@ use lib.Dec.{leb}
 use Rattle.definition.specs.Instructions.{pick}
 use Rattle.definition.specs.Maybe.{_>>=_, need}
 use Rattle.definition.specs.Classes.{Class, Map, Method}
-use Rattle.definition.specs.Verifier.{Note, TypeState, Flow, Turn, finished, onto as goesOnto, mapAt, flowInto, turn, mapsPast, verify, entryTypes, notesOfMethod}
+use Rattle.definition.specs.Verifier.{Note, TypeState, Flow, finished, onto as goesOnto, mapAt, flowInto, turn, mapsPast, verify, entryTypes, notesOfMethod}
 use Rattle.verifier.specs.Types.{entryOf}
 use Rattle.verifier.specs.Trace.{Trace, after, refusing, accepting, Onward, refused, accepted, onto, Turned, onward, intoTurn, turned, proceed, trace, wholeTrace, granted, acceptedNotes, methodTrace}
 use Rattle.verifier.proofs.MeetLaws.{granted-after}
@@ -66,7 +66,8 @@ module _ (version : ℕ) (code : List ℕ) (maps : List Map) (result : ℕ) (few
   unfolding wholeTrace _>>=_
   whole-says s =
       go (flowInto version code maps result 0 s) (into-says version code maps result few 0 s)
-      ∙ proceed-says (intoTurn (length code) maps 0 s) maps (verify version code maps result (length code)) (trace version code maps result (length code)) (λ q u. says (length code) q maps u)
+      ∙ proceed-says (intoTurn (length code) maps 0 s) maps (verify version code maps result (length code)) (trace version code maps result (length code))
+      (λ q u. says (length code) q maps u)
     where
       go : (o : Option Flow) → turnSaid (intoTurn (length code) maps 0 s) ≡ (o >>= flown 0)
           → (o >>= λ f. verify version code maps result (length code) 0 maps (f .types) >>= λ ns. some (f .notes ++ ns))
