@@ -8,6 +8,7 @@ pub mod PostingLaws
 pub mod FlowLaws
 pub mod PassLaws
 pub mod TurnLaws
+pub mod WalkLaws
 pub mod MeetLaws
 pub mod SayingLaws
 pub mod TraceLaws

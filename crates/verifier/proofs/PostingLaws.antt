@@ -8,11 +8,14 @@ use Rattle.definition.specs.Instructions.{pick}
 use Rattle.definition.specs.Verifier.{Note}
 use Rattle.constraints.specs.Posting.{Noted, postNotes}
 use Rattle.constraints.specs.Laws.{post-append}
-use Rattle.verifier.specs.Trace.{Trace, after, followed, Turned, refused, once, Verification, verification, posting, turning, taking, granted, acceptedNotes}
+use Rattle.verifier.specs.Trace.{Trace, after, followed, Turned, refused, once, Verification, verification, posting, Turning, turning, taking, granted, acceptedNotes}
 
 pub posting-after : (l : ℕ) (ns : List Note) (w : Trace) (k : Noted) → posting l (after ns w) k ≡ posting l w (postNotes l ns k)
 unfolding posting after
 posting-after l ns w k = ap (verification (w .accepts)) (post-append l ns (w .notes) k)
+
+pub posting-same : (l : ℕ) (w v : Trace) (k : Noted) (r : Verification) → v ≡ w → r ≡ posting l w k → r ≡ posting l v k
+posting-same l w v k r e h = rw e h
 
 module _ (l : ℕ) (w : Trace) (k : Noted) where
   pub posting-followed-on : (v : Trace) → w .accepts ≡ true → posting l (followed w v) k ≡ posting l v (posting l w k .rows)

@@ -22,9 +22,14 @@ use Rattle.verifier.specs.Types.{typesOf}
 use Rattle.verifier.specs.declared.lookups.Target.{Target}
 use Rattle.verifier.specs.declared.lookups.Target.the-variants.{To}
 use Rattle.verifier.specs.Lookups.{mapThere, targetOf}
-use Rattle.verifier.specs.Effects.{leaves}
+use Rattle.verifier.specs.declared.decoding.Reading.{Reading}
+use Rattle.verifier.specs.declared.decoding.Reading.the-variants.{At, Unreadable}
+use Rattle.verifier.specs.Decoding.{readingOf, decodedOf}
+use Rattle.verifier.specs.Effects.{Outcome, outcome, leftBy, leaves}
 use Rattle.verifier.specs.Trace.{Trace, accepting, refusing, fits, meetTrace, Onward, refused, accepted, onto, Turned, bound, once, targetTrace, intoTurn, startTurn, nextTurn, flowing, turnedTo, turned, turnedBy, Verification, verification, posting, Turning, turning, taking}
 use Rattle.verifier.specs.Answers.{made, changeOf}
+use Rattle.verifier.proofs.DecodingLaws.{decode-is, decode-at}
+use Rattle.verifier.proofs.PostingLaws.{taking-once-on}
 use Rattle.verifier.proofs.FlowLaws.{fits-few}
 
 -- a map that is met has at most 16 operands
@@ -83,3 +88,52 @@ start-end n maps q e = rw (eq-eqb q n e) refl
 pub taken-bound : (l : ℕ) (t : Turned) (o : Onward) (k : Noted) → t ≡ bound o → turning o k ≡ taking l t k
 unfolding taking postNotes
 taken-bound l t o k e = rw e refl
+
+pub taken-stop : (l : ℕ) (t : Turned) (k : Noted) (r : Turning) → t ≡ bound refused → r ≡ turning refused k → r ≡ taking l t k
+taken-stop l t k r e h = h ∙ taken-bound l t refused k e
+
+-- The flows of an instruction: into its target, then into the next point
+
+module _ (n : ℕ) (maps : List Map) (i : Instruction) (q : ℕ) (s : TypeState) (t : Target) (e : targetOf t ≡ target i) where
+  pub flow-parts : flowing n maps i q s ≡ once (targetTrace n maps (targetOf t) s) (nextTurn n maps (goesOn i) q s)
+  unfolding flowing
+  flow-parts = rw e refl
+
+  pub flow-on : (b : Bool) → b ≡ goesOn i → b ≡ true → flowing n maps i q s ≡ once (targetTrace n maps (targetOf t) s) (intoTurn n maps q s)
+  unfolding nextTurn
+  flow-on b g h = flow-parts ∙ rw (sym g ∙ h) refl
+
+  pub flow-ends : (b : Bool) → b ≡ goesOn i → b ≡ false → flowing n maps i q s ≡ once (targetTrace n maps (targetOf t) s) (startTurn n maps q)
+  unfolding nextTurn
+  flow-ends b g h = flow-parts ∙ rw (sym g ∙ h) refl
+
+-- What an instruction leaves: its own notes, then the flows
+
+module _ (n : ℕ) (maps : List Map) (i : Instruction) (q : ℕ) (c : Change) where
+  pub change-unfit : c .fits ≡ false → turnedTo n maps i q (changeOf c) ≡ bound refused
+  unfolding turnedTo changeOf pick
+  change-unfit e = rw e refl
+
+  pub change-fits : (l : ℕ) (k : Noted) → c .fits ≡ true → (a b : Noted) → a ≡ postNotes l (made (c .receiver)) k → b ≡ postNotes l (made (c .value)) a
+      → (r : Turning) → r ≡ taking l (flowing n maps i q (typesOf (c .types))) b → r ≡ taking l (turnedTo n maps i q (changeOf c)) k
+  unfolding turnedTo changeOf pick posting
+  change-fits l k e a b ea eb r h =
+      let own : List Note = made (c .receiver) ++ made (c .value) in
+      let rest : Turned = flowing n maps i q (typesOf (c .types)) in
+      let both : postNotes l own k ≡ b = post-append l (made (c .receiver)) (made (c .value)) k ∙ (ap (postNotes l (made (c .value))) (sym ea) ∙ sym eb) in
+      rw e (h ∙ sym (taking-once-on l (record { notes = own; accepts = true }) k rest refl ∙ ap (taking l rest) both))
+
+-- The whole turn, by what decoding answers
+
+module _ (version : ℕ) (code : List ℕ) (maps : List Map) (result p : ℕ) (s : TypeState) (r : Reading) (e : r ≡ readingOf (decode version code p)) where
+  pub turned-none : r ≡ Unreadable → turned version code maps result p s ≡ bound refused
+  unfolding turned turnedBy decodedOf
+  turned-none h = rw (decode-is (decode version code p) r e, h)
+
+  pub turned-at : (i : Instruction) (n : ℕ) → r ≡ At i n → (o : Outcome) → o ≡ outcome i result s → (f : Option Flow) → f ≡ leftBy s o
+      → turned version code maps result p s ≡ turnedTo (length code) maps i (p + n) f
+  unfolding turned turnedBy leaves
+  turned-at i n h o eo f ef = rw (decode-at version code p r e i n h, ef, eo) refl
+
+pub taken-same : (l : ℕ) (t u : Turned) (k : Noted) (r : Turning) → u ≡ t → r ≡ taking l t k → r ≡ taking l u k
+taken-same l t u k r e h = rw e h

@@ -3,6 +3,7 @@ use mathlib.Core.Path.{_≡_, refl, sym, ap, _∙_}
 use Rattle.constraints.specs.Posting.{postNotes}
 use Rattle.verifier.specs.Lookups.{targetOf}
 use Rattle.verifier.specs.Trace.{targetTrace, posting}
+use Rattle.verifier.proofs.PostingLaws.{posting-same}
 use Rattle.verifier.proofs.TurnLaws.{target-bare, target-mapped}
 use borrow.Author.Needs.{needs}
 use Rattle.verifier.proofs.turns.flow_to_target.Statement.{statement}
@@ -23,8 +24,9 @@ returns-3 c =
     let call = c .before .before in
     let bare = call .before .before in
     let look = bare .before in
-    λ n. call .meet-map .ensures
-    ∙ ap (λ w. posting _ w _) (sym (target-mapped _ n _ _ (look .find-map .ensures) (bare .if1 .left) _ _ _ (look .before .before .before .target .given .1) (look .before .wide16 .ensures .0)))
+    λ n. posting-same _ _ _ _ _
+    (target-mapped _ n _ _ (look .find-map .ensures) (bare .if1 .left) _ _ _ (look .before .before .before .target .given .1) (look .before .wide16 .ensures .0))
+    (call .meet-map .ensures)
 
 pub flow-to-target-spec : {M : Type 1} → statement M
 flow-to-target-spec =
