@@ -38,17 +38,17 @@ module _ (l v own : ℕ) (bs : List ℕ) (k r : Noted) (j : ℕ) (h : j < method
   abbrev others : Trace
   others = methodsTrace v own (methodsFrom bs (j + 1))
 
-  pub class-goes : verification true r ≡ posting l first k → posting l (methodsTrace v own (methodsFrom bs j)) k ≡ posting l others r
+  pub class-goes : (a : Bool) → a ≡ true → verification a r ≡ posting l first k → posting l (methodsTrace v own (methodsFrom bs j)) k ≡ posting l others r
   unfolding methodsTrace posting
-  class-goes e =
+  class-goes a t e =
       rw (rows-step (methodIn bs) (methodCount bs) j h, ap (λ (x : Verification). x .rows) e)
-      (posting-followed-on l first k others (sym (ap (λ (x : Verification). x .accepts) e)))
+      (posting-followed-on l first k others (sym (ap (λ (x : Verification). x .accepts) e) ∙ t))
 
-  pub class-stops : verification false r ≡ posting l first k → posting l (methodsTrace v own (methodsFrom bs j)) k ≡ verification false r
+  pub class-stops : (a : Bool) → a ≡ false → verification a r ≡ posting l first k → posting l (methodsTrace v own (methodsFrom bs j)) k ≡ verification false r
   unfolding methodsTrace posting
-  class-stops e =
-      rw (rows-step (methodIn bs) (methodCount bs) j h, e)
-      (posting-followed-stop l first k others (sym (ap (λ (x : Verification). x .accepts) e)))
+  class-stops a t e =
+      rw (rows-step (methodIn bs) (methodCount bs) j h, ← t, e)
+      (posting-followed-stop l first k others (sym (ap (λ (x : Verification). x .accepts) e) ∙ t))
 
 pub class-ends : (l v own : ℕ) (bs : List ℕ) (k : Noted) (j : ℕ) → methodCount bs ≤ j → posting l (methodsTrace v own (methodsFrom bs j)) k ≡ verification true k
 unfolding methodsTrace posting postNotes

@@ -1,22 +1,26 @@
 -- The walk, turn by turn, with its notes posted as it goes.
-use mathlib.Core.Path.{_≡_, refl, sym, ap, _∙_}
+use mathlib.Core.Path.{_≡_, refl, sym, ap, subst, _∙_}
 use mathlib.Core.Bool.{Bool, true, false}
-use mathlib.Core.Option.{none, some}
-use mathlib.Core.List.{List, append-nil}
+use mathlib.Core.Option.{Option, none, some}
+use mathlib.Core.List.{List, [], _++_}
 use Prim.Native.Nat.{ℕ, suc, _-_, _<_, _≤_}
 use native.Mathlib.Omega.{arith}
 use lib.ListN.{length}
 use lib.Dec.{leb}
 use Rattle.definition.specs.Instructions.{pick}
+use Rattle.definition.specs.declared.Signature.{Signature}
 use Rattle.definition.specs.Classes.{Map}
-use Rattle.definition.specs.Verifier.{TypeState, mapsPast}
+use Rattle.definition.specs.Verifier.{TypeState, mapAt, mapTypes, mapsPast}
 use Rattle.layout.specs.Places.{rows-start}
 use Rattle.classfile.specs.Reading.{mapCount, mapNumbered, mapsOf}
 use Rattle.constraints.specs.Posting.{Noted, postNotes}
 use Rattle.verifier.specs.declared.methods.Passed.{Passed}
 use Rattle.verifier.specs.declared.methods.Passed.the-variants.{Inside, To}
-use Rattle.verifier.specs.Trace.{Trace, refusing, accepting, Onward, refused, accepted, onto, onward, Turned, turned, proceed, trace, leftFrom, Verification, verification, posting, Turning, turning, taking}
-use Rattle.verifier.specs.Answers.{PlaceOf, Passes}
+use Rattle.verifier.specs.declared.turns.Step.{Step}
+use Rattle.verifier.specs.declared.turns.Step.the-variants.{Stop, End, Next}
+use Rattle.verifier.specs.Types.{entryOf}
+use Rattle.verifier.specs.Trace.{Trace, refusing, accepting, meetTrace, bound, once, intoTurn, wholeTrace, methodTrace, Onward, refused, accepted, onto, onward, Turned, turned, proceed, trace, leftFrom, Verification, verification, posting, Turning, turning, taking}
+use Rattle.verifier.specs.Answers.{nextOf, PlaceOf, Passes}
 use Rattle.verifier.proofs.PostingLaws.{posting-after}
 
 -- before the first point all maps are left
@@ -93,3 +97,48 @@ module _ (version : ℕ) (code : List ℕ) (maps : List Map) (result l n p : ℕ
 
       pub walk-next : (q : ℕ) (u : TypeState) → o ≡ onto q u → all ≡ posting l (trace version code maps result (n - 1) q more u) j
       walk-next q u z = turn-first ∙ on-next version code maps result l (turned version code maps result p s) more (trace version code maps result (n - 1)) k j o f q u z
+
+-- The flow from entry goes to point 0 or nowhere
+
+abbrev Bound : ℕ → Onward → Type 0
+Bound q refused = Unit {0}
+Bound q accepted = ⊥
+Bound q (onto r u) = r ≡ q
+
+into-bound : (n : ℕ) (maps : List Map) (q : ℕ) (s : TypeState) → Bound q (intoTurn n maps q s .next)
+unfolding intoTurn once pick
+into-bound n maps q s = go (mapAt maps q)
+  where
+    met : (b : Bool) (w : Trace) (u : TypeState) → Bound q (pick {A = Turned} b (record { notes = w .notes ++ []; next = onto q u }) (record { notes = w .notes; next = refused }) .next)
+    met true w u = refl
+    met false w u = tt
+
+    go : (m : Option Map) → Bound q ((elim m as (λ _. Turned) [ none ↦ bound (onto q s) | some x ↦ once (meetTrace s x) (bound (onto q (mapTypes x))) ]) .next)
+    go none = refl
+    go (some x) = met (meetTrace s x .accepts) (meetTrace s x) (mapTypes x)
+
+module _ (version own : ℕ) (g : Signature) (code : List ℕ) (maps : List Map) (l : ℕ) (k j : Noted) (s u : TypeState) (t : Step) (z : s ≡ entryOf own g)
+    (e : turning (nextOf t u) j ≡ taking l (intoTurn (length code) maps 0 s) k) where
+  goes : Bound 0 (nextOf t u)
+  unfolding taking
+  goes = subst (λ (x : Turning). Bound 0 (x .next)) (sym e) (into-bound (length code) maps 0 s)
+
+  entered : turning (nextOf t u) j ≡ taking l (intoTurn (length code) maps 0 (entryOf own g)) k
+  entered = rw z at e
+
+  pub entry-goes : (q : ℕ) → t ≡ Next q → (r : Verification) → r ≡ posting l (trace version code maps (g .result) (length code) 0 maps u) j → r ≡ posting l (methodTrace version own g code maps) k
+  unfolding methodTrace wholeTrace nextOf
+  entry-goes q h r a =
+      let zero : q ≡ 0 = rw h at goes in
+      a ∙ sym (on-next version code maps (g .result) l (intoTurn (length code) maps 0 (entryOf own g)) maps (trace version code maps (g .result) (length code)) k j (nextOf t u) entered 0 u (rw (h, zero) refl))
+
+  pub entry-stops : t ≡ Stop → verification false j ≡ posting l (methodTrace version own g code maps) k
+  unfolding methodTrace wholeTrace nextOf
+  entry-stops h = sym (on-stop version code maps (g .result) l (intoTurn (length code) maps 0 (entryOf own g)) maps (trace version code maps (g .result) (length code)) k j (nextOf t u) entered (rw h refl))
+
+  never-ends : t ≡ End → ⊥
+  unfolding nextOf
+  never-ends h = rw h at goes
+
+  pub entry-ends : t ≡ End → (r : Verification) → r ≡ posting l (methodTrace version own g code maps) k
+  entry-ends h r = absurd (never-ends h)
