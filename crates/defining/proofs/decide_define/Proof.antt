@@ -11,6 +11,14 @@ use Rattle.definition.specs.Tables.{Tables, tables}
 use Rattle.definition.specs.Broken.{broken}
 use Rattle.classfile.specs.Laws.{reads-some, file-readable}
 use Rattle.entries.specs.World.{loadable}
+use Rattle.entries.proofs.Laws.{copied}
+use lib.ListN.{getD}
+use Rattle.definition.specs.Lists.{any}
+use Rattle.classfile.specs.Reading.{fileVersion, quickMethods}
+use Rattle.constraints.specs.Posting.{noted}
+use Rattle.verifier.specs.Lookups.{unmappedIn}
+use Rattle.verifier.specs.Trace.{verification, posting, classTrace}
+use Rattle.verifier.proofs.PostingLaws.{rows-say}
 use Rattle.defining.specs.Stages.{Decided}
 use Rattle.defining.proofs.Defined.{no-loader, no-file, unmapped-there, unverified, verified-as, decided-same}
 use Rattle.defining.proofs.Carried.{plan-broken, plan}
@@ -58,5 +66,72 @@ returns-4 c =
     let r = c .before .before in
     plan (store r) _ _ _ _ (sound r) _ (unmapped-there _ _ _ _ (known r) (reads r) (sym (c .before .is-class-unmapped .ensures) ∙ c .if4 .taken))
 
+-- the notes are posted to a copy of the subtype constraints
+module _ (c : tie.After-verify-class) where
+  abbrev counted : tie.After-at16
+  counted = c .before .before
+
+  abbrev copy : tie.After-write-cells
+  copy = counted .before .before .before
+
+  abbrev mapped : tie.Else4
+  mapped = copy .before .before
+
+  abbrev read : tie.Else3
+  read = mapped .before .before
+
+  same : copy .write-cells .last .0 ≡ now (start read .args .subtypes)
+  same = copy .write-cells .ensures ∙ copied _ _ (loadable (store read) (sound read) .subtypesLong ∙ sym (start read .pre .1))
+
+  posted : verification (c .verify-class .result .accepts) (noted (c .verify-class .last .1 .1 .0) (c .verify-class .result .count))
+      ≡ posting (start read .args .loader) (classTrace (now (start read .args .file))) (noted (now (start read .args .subtypes)) (getD (now (start read .args .counts)) 4 0))
+  posted = c .verify-class .ensures ∙ (λ i. posting (start read .args .loader) (classTrace (now (start read .args .file))) (noted (same i) (counted .at16 .ensures i)))
+
+  unmapped-not : any (unmappedIn (fileVersion (now (start read .args .file)))) (quickMethods (now (start read .args .file))) ≡ false
+  unmapped-not = sym (mapped .before .is-class-unmapped .ensures) ∙ mapped .if4 .left
+
+cast-under : tie.Need-cast-under
+cast-under c = omega (arith, known (c .before .before .before .before .before .before))
+
+returns-5 : tie.Need-returns-5
+unfolding Decided
+returns-5 c =
+    let v = c .before .before .before .before in
+    plan (store (read v)) _ _ _ _ (sound (read v)) _ (unverified _ _ _ _ (known (read v)) (reads (read v)) (unmapped-not v) _ _ _ (posted v) (not-true _ (c .if5 .taken)))
+
+decide-class-requires : tie.Need-decide-class-requires
+decide-class-requires c κs =
+    let v : tie.After-verify-class = c .before .before .before .before .before .before in
+    let file = file-readable _ _ (reads-some _ (reads (read v))) in
+    (loadable (store (read v)) (sound (read v)), file .size, file .fewMethods, start (read v) .pre .0)
+
+returns-6 : tie.Need-returns-6
+returns-6 c =
+    let last : tie.After-decide-class = c .before .before in
+    let met : tie.Else5 = last .before .before .before in
+    let v : tie.After-verify-class = met .before .before .before .before in
+    plan (store (read v)) _ _ _ _ (sound (read v)) _
+    (decided-same _ _ _ _ _ _ _ _ (verified-as _ _ _ _ (known (read v)) (reads (read v)) (unmapped-not v) _ _ _ (posted v) (not-false _ (met .if5 .left)))
+    (last .decide-class .ensures _ (rows-say _ _ _ _ _ (posted v))))
+
 pub decide-define-spec : {M : Type 1} → statement M
-decide-define-spec = tie.close (tie.spec (λ c κs. search needs) returns returns-2 (λ c κs. search needs) returns-3 (λ c κs. search needs) returns-4)
+decide-define-spec =
+    tie.close
+    (tie.spec
+    (λ c κs. search needs)
+    returns
+    returns-2
+    (λ c κs. search needs)
+    returns-3
+    (λ c κs. search needs)
+    returns-4
+    (λ c κs. search needs)
+    cast-under
+    (λ c κs. search needs)
+    (λ c κs. search needs)
+    (λ c. search needs)
+    returns-5
+    decide-class-requires
+    (λ c. search needs)
+    (λ c. search needs)
+    returns-6)
