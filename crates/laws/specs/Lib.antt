@@ -10,6 +10,8 @@ pub mod Slots
 pub mod Members
 pub mod Sized
 pub mod Walk
+pub mod Points
+pub mod InOrder
 pub mod Objects
 pub mod Sweeps
 pub mod Stable

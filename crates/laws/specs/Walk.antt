@@ -96,29 +96,30 @@ module _ (version : ℕ) (code : List ℕ) (maps : List Map) (result : ℕ) (typ
     next : (r : ℕ) (u : TypeState) → t .next ≡ onto r u → types r ≡ some u
 
 module _ (version : ℕ) (code : List ℕ) (maps : List Map) (result : ℕ) where
-  abbrev Turns : ℕ → TypeState → Turn → Type 0
+  abbrev pub Turns : ℕ → TypeState → Turn → Type 0
   Turns p s t = turn version code maps result p s ≡ some t
 
-  abbrev Types : ℕ → ℕ → List Map → TypeState → ℕ → Option TypeState
+  abbrev pub Types : ℕ → ℕ → List Map → TypeState → ℕ → Option TypeState
   Types = typesAt version code maps result
 
-  abbrev Notes : ℕ → ℕ → List Map → TypeState → Option (List Note)
+  abbrev pub Notes : ℕ → ℕ → List Map → TypeState → Option (List Note)
   Notes = verify version code maps result
 
   -- What a turn is: a return, or an effect and its flows
 
-  record Returned (p : ℕ) (s : TypeState) (t : Turn) (i : Decoded) : Type 0 where
-    kind : Kind
-    is : returnKind (i .instruction) ≡ some kind
-    does : returns kind result s ≡ some (t .notes)
-    then : startAt version code maps result (p + i .size) ≡ some (t .next)
+  pub record Returned (p : ℕ) (s : TypeState) (t : Turn) (i : Decoded) : Type 0 where
+    pub kind : Kind
+    pub is : returnKind (i .instruction) ≡ some kind
+    pub does : returns kind result s ≡ some (t .notes)
+    pub then : startAt version code maps result (p + i .size) ≡ some (t .next)
 
-  record Effected (p : ℕ) (s : TypeState) (t : Turn) (i : Decoded) : Type 0 where
-    f : Flow
-    does : effect (i .instruction) s ≡ some f
-    then : after version code maps result (i .instruction) (p + i .size) f ≡ some t
+  pub record Effected (p : ℕ) (s : TypeState) (t : Turn) (i : Decoded) : Type 0 where
+    pub is : returnKind (i .instruction) ≡ none
+    pub f : Flow
+    pub does : effect (i .instruction) s ≡ some f
+    pub then : after version code maps result (i .instruction) (p + i .size) f ≡ some t
 
-  turn-cases : (p : ℕ) (s : TypeState) (t : Turn) → Turns p s t → (i : Decoded) × (decode version code p ≡ some i) × (Returned p s t i ⊎ Effected p s t i)
+  pub turn-cases : (p : ℕ) (s : TypeState) (t : Turn) → Turns p s t → (i : Decoded) × (decode version code p ≡ some i) × (Returned p s t i ⊎ Effected p s t i)
   unfolding turn
   turn-cases p s t h = let a = bind-some _ _ h in (a .0, a .1, go (a .0) (returnKind (a .0 .instruction)) refl (a .2))
     where
@@ -133,7 +134,7 @@ module _ (version : ℕ) (code : List ℕ) (maps : List Map) (result : ℕ) wher
           let zn : a .0 ≡ t .notes = ap (λ (x : Turn). x .notes) z in
           let zo : b .0 ≡ t .next = ap (λ (x : Turn). x .next) z in
           inl (record { kind = kind; is = e; does = rw zn at (a .1); then = rw zo at (b .1) })
-      go i none e r = let a = bind-some _ _ r in inr (record { f = a .0; does = a .1; then = a .2 })
+      go i none e r = let a = bind-some _ _ r in inr (record { is = e; f = a .0; does = a .1; then = a .2 })
 
   -- after an effect: the notes into the target, and those into the next point or none
   record Target (f : Flow) (t : Turn) (i : Decoded) : Type 0 where
@@ -240,27 +241,27 @@ module _ (version : ℕ) (code : List ℕ) (maps : List Map) (result : ℕ) wher
 
   -- What is verified from a point on: a turn, at which all ends or which goes on to what is verified after it
 
-  record Stops (left : List Map) (t : Turn) (ns : List Note) : Type 0 where
-    ended : t .next ≡ finished
-    none : length left ≤ 0
-    all : t .notes ≡ ns
+  pub record Stops (left : List Map) (t : Turn) (ns : List Note) : Type 0 where
+    pub ended : t .next ≡ finished
+    pub none : length left ≤ 0
+    pub all : t .notes ≡ ns
 
-  record Continues (k : ℕ) (left : List Map) (t : Turn) (ns : List Note) : Type 0 where
-    r : ℕ
-    u : TypeState
-    rest : List Note
-    onward : t .next ≡ onto r u
-    then : Notes k r left u ≡ some rest
-    all : t .notes ++ rest ≡ ns
+  pub record Continues (k : ℕ) (left : List Map) (t : Turn) (ns : List Note) : Type 0 where
+    pub r : ℕ
+    pub u : TypeState
+    pub rest : List Note
+    pub onward : t .next ≡ onto r u
+    pub then : Notes k r left u ≡ some rest
+    pub all : t .notes ++ rest ≡ ns
 
-  record Went (k p : ℕ) (left : List Map) (s : TypeState) (ns : List Note) : Type 0 where
-    more : List Map
-    t : Turn
-    passes : mapsPast version code maps result p left ≡ some more
-    does : Turns p s t
-    way : Stops more t ns ⊎ Continues k more t ns
+  pub record Went (k p : ℕ) (left : List Map) (s : TypeState) (ns : List Note) : Type 0 where
+    pub more : List Map
+    pub t : Turn
+    pub passes : mapsPast version code maps result p left ≡ some more
+    pub does : Turns p s t
+    pub way : Stops more t ns ⊎ Continues k more t ns
 
-  went : (k p : ℕ) (left : List Map) (s : TypeState) (ns : List Note) → Notes (suc k) p left s ≡ some ns → Went k p left s ns
+  pub went : (k p : ℕ) (left : List Map) (s : TypeState) (ns : List Note) → Notes (suc k) p left s ≡ some ns → Went k p left s ns
   unfolding verify
   went k p left s ns h =
       let a = bind-some _ _ h in
@@ -275,15 +276,15 @@ module _ (version : ℕ) (code : List ℕ) (maps : List Map) (result : ℕ) wher
       go more t (onto q u) e r = let a = bind-some _ _ r in inr (record { r = q; u = u; rest = a .0; onward = e; then = a .1; all = Option·some-injective _ _ (a .2) })
 
   -- the types at a point, here or further on
-  record On (k p : ℕ) (left : List Map) (s : TypeState) (q : ℕ) (τ : TypeState) : Type 0 where
-    more : List Map
-    t : Turn
-    r : ℕ
-    u : TypeState
-    passes : mapsPast version code maps result p left ≡ some more
-    does : Turns p s t
-    onward : t .next ≡ onto r u
-    then : Types k r more u q ≡ some τ
+  pub record On (k p : ℕ) (left : List Map) (s : TypeState) (q : ℕ) (τ : TypeState) : Type 0 where
+    pub more : List Map
+    pub t : Turn
+    pub r : ℕ
+    pub u : TypeState
+    pub passes : mapsPast version code maps result p left ≡ some more
+    pub does : Turns p s t
+    pub onward : t .next ≡ onto r u
+    pub then : Types k r more u q ≡ some τ
 
   types-cases : (k p : ℕ) (left : List Map) (s : TypeState) (q : ℕ) (τ : TypeState) → Types (suc k) p left s q ≡ some τ → ((p ≡ q) × (s ≡ τ)) ⊎ On k p left s q τ
   unfolding typesAt
@@ -304,11 +305,11 @@ module _ (version : ℕ) (code : List ℕ) (maps : List Map) (result : ℕ) wher
   unfolding typesAt
   types-here k p left more s m = some-bind _ _ m (rw (eq-eqb p p refl) refl)
 
-  types-on : (k p : ℕ) (left : List Map) (s : TypeState) (q : ℕ) (τ : TypeState) → (p ≡ q → ⊥) → On k p left s q τ → Types (suc k) p left s q ≡ some τ
+  pub types-on : (k p : ℕ) (left : List Map) (s : TypeState) (q : ℕ) (τ : TypeState) → (p ≡ q → ⊥) → On k p left s q τ → Types (suc k) p left s q ≡ some τ
   unfolding typesAt
   types-on k p left s q τ l o = some-bind _ _ (o .passes) (rw (ne-eqb p q l) (some-bind _ _ (o .does) (rw (o .onward) (o .then))))
 
-  types-first : (k p : ℕ) (left : List Map) (s : TypeState) (ns : List Note) → Notes k p left s ≡ some ns → Types k p left s p ≡ some s
+  pub types-first : (k p : ℕ) (left : List Map) (s : TypeState) (ns : List Note) → Notes k p left s ≡ some ns → Types k p left s p ≡ some s
   types-first zero p left s ns h = absurd (Option·none-ne-some ns (unfold verify in h))
   types-first (suc k) p left s ns h = let w = went k p left s ns h in types-here k p left (w .more) s (w .passes)
 
@@ -535,15 +536,15 @@ module _ (version : ℕ) (code : List ℕ) (maps : List Map) (result : ℕ) wher
 
 -- What is verified of a method
 
-record Verified (k : Class) (m : Method) (ns : List Note) : Type 0 where
-  f : Flow
-  rest : List Note
-  enters : flowInto (k .version) (m .code) (m .maps) (m .signature .result) 0 (entryTypes k m) ≡ some f
-  walks : verify (k .version) (m .code) (m .maps) (m .signature .result) (length (m .code)) 0 (m .maps) (f .types) ≡ some rest
-  all : f .notes ++ rest ≡ ns
-  types : (q : ℕ) → typesIn k m q ≡ typesAt (k .version) (m .code) (m .maps) (m .signature .result) (length (m .code)) 0 (m .maps) (f .types) q
+pub record Verified (k : Class) (m : Method) (ns : List Note) : Type 0 where
+  pub f : Flow
+  pub rest : List Note
+  pub enters : flowInto (k .version) (m .code) (m .maps) (m .signature .result) 0 (entryTypes k m) ≡ some f
+  pub walks : verify (k .version) (m .code) (m .maps) (m .signature .result) (length (m .code)) 0 (m .maps) (f .types) ≡ some rest
+  pub all : f .notes ++ rest ≡ ns
+  pub types : (q : ℕ) → typesIn k m q ≡ typesAt (k .version) (m .code) (m .maps) (m .signature .result) (length (m .code)) 0 (m .maps) (f .types) q
 
-verified : (k : Class) (m : Method) (ns : List Note) → notesOfMethod k m ≡ some ns → Verified k m ns
+pub verified : (k : Class) (m : Method) (ns : List Note) → notesOfMethod k m ≡ some ns → Verified k m ns
 unfolding notesOfMethod typesIn _>>=_
 verified k m ns v =
     let a = bind-some _ _ v in

@@ -1,0 +1,161 @@
+-- Every note that the paper asks for is among a method's, once for each time it is asked for, and in the paper's order: first those of the flow from entry; then,
+-- instruction by instruction in the order of the code, its own, those of the flow into its target, those of the flow into the next point.
+use mathlib.Core.Path.{_≡_, refl, sym, _∙_, ap, subst}
+use mathlib.Core.Bool.{Bool, true, false}
+use mathlib.Core.Option.{Option, none, some, Option·none-ne-some, Option·some-injective}
+use mathlib.Core.List.{List, [], _∷_, _++_, map, append-nil, List·Memᴰ, List·Memᴰ·head, List·Memᴰ·tail}
+use mathlib.Core.Logic.{_⊎_, inl, inr}
+use Prim.Native.Nat.{ℕ, zero, suc, _+_, _≤_, _<_}
+use native.Mathlib.Omega.{arith}
+use lib.ListN.{length}
+use lib.Dec.{eqb}
+use borrow.Author.Tests.{eqb-true, ne-eqb}
+use Rattle.definition.specs.Classes.{Class, Map, Method}
+use Rattle.definition.specs.Instructions.{Decoded, decode}
+use Rattle.definition.specs.Maybe.{_>>=_, need}
+use Rattle.definition.specs.Verifier.{Flow, Note, Onward, Turn, TypeState, after, effect, entryTypes, finished, flowInto, flowToTarget, goesOn, mapAt, mapTypes, notesOf, notesOfMethod, onto, returnKind, returns, startAt, target, turn, typesAt, typesIn, verify}
+use Rattle.definition.specs.declared.Kind.{Kind}
+use Rattle.definition.specs.declared.Instruction.{Instruction}
+use Rattle.laws.specs.Options.{bind-some, some-bind}
+use Rattle.laws.specs.Sized.{sized}
+use Rattle.laws.specs.Walk.{Continues, Effected, Notes, On, Returned, Stops, Turns, Types, Went, turn-cases, types-first, types-on, verified, went}
+use Rattle.laws.specs.Points.{pointsFrom, points, point-here, past-none, point-none}
+
+-- lists of notes, each after those before it; none where one of them fails
+unfoldable pub together : List (Option (List Note)) → Option (List Note)
+together [] = some []
+together (o ∷ os) = o >>= λ ns. together os >>= λ rs. some (ns ++ rs)
+
+-- What the paper asks for at a point q of a method, where the types are as `types` says
+
+module _ (version : ℕ) (code : List ℕ) (maps : List Map) (result : ℕ) where
+  -- the flow of the types s into the next point p, where the instruction goes on to it
+  unfoldable pub nextNotes : Bool → ℕ → TypeState → Option (List Note)
+  nextNotes false p s = some []
+  nextNotes true p s = flowInto version code maps result p s >>= λ f. some (f .notes)
+
+  -- the instruction i at point q, where the types are s: a return's own; of another its own, then the target's, then the next point's
+  unfoldable pub instructionNotes : Decoded → ℕ → TypeState → Option (List Note)
+  instructionNotes i q s = elim (returnKind (i .instruction)) [
+    | some kind ↦ returns kind result s
+    | none ↦ effect (i .instruction) s >>= λ f. flowToTarget version code maps result (target (i .instruction)) (f .types) >>= λ ts.
+        nextNotes (goesOn (i .instruction)) (q + i .size) (f .types) >>= λ gs. some (f .notes ++ (ts ++ gs))
+  ]
+
+  unfoldable pub pointNotes : (ℕ → Option TypeState) → ℕ → Option (List Note)
+  pointNotes types q = types q >>= λ s. decode version code q >>= λ i. instructionNotes i q s
+
+-- the flow from entry into point 0
+unfoldable pub entryNotes : Class → Method → Option (List Note)
+entryNotes k m = flowInto (k .version) (m .code) (m .maps) (m .signature .result) 0 (entryTypes k m) >>= λ f. some (f .notes)
+
+abbrev pub notesAt : Class → Method → ℕ → Option (List Note)
+notesAt k m = pointNotes (k .version) (m .code) (m .maps) (m .signature .result) (typesIn k m)
+
+-- The walk asks for the same
+
+module _ (version : ℕ) (code : List ℕ) (maps : List Map) (result : ℕ) where
+  abbrev Goes : Onward → ℕ → Type 0
+  Goes finished p = length code ≤ p
+  Goes (onto q u) p = q ≡ p
+
+  start-goes : (p : ℕ) (o : Onward) → startAt version code maps result p ≡ some o → Goes o p
+  unfolding startAt
+  start-goes p o h = go (eqb p (length code)) refl h
+    where
+      go : (b : Bool) → eqb p (length code) ≡ b → (elim b as (λ _. Option Onward) [ true ↦ some finished | false ↦ mapAt maps p >>= λ m. some (onto p (mapTypes m)) ]) ≡ some o → Goes o p
+      go true e r = subst (λ (x : Onward). Goes x p) (Option·some-injective _ _ r) (omega (arith, eqb-true p (length code) e))
+      go false e r = let a = bind-some _ _ r in subst (λ (x : Onward). Goes x p) (Option·some-injective _ _ (a .2)) refl
+
+  -- a turn's notes, and where it goes on: to the next point, or nowhere at the end of the code
+  abbrev Does : Decoded → ℕ → TypeState → Turn → Type 0
+  Does i q s t = (instructionNotes version code maps result i q s ≡ some (t .notes)) × Goes (t .next) (q + i .size)
+
+  record Nexts (f : Flow) (ts : List Note) (t : Turn) (b : Bool) (p : ℕ) : Type 0 where
+    gs : List Note
+    does : nextNotes version code maps result b p (f .types) ≡ some gs
+    all : f .notes ++ (ts ++ gs) ≡ t .notes
+    goes : Goes (t .next) p
+
+  nexts : (f : Flow) (ts : List Note) (t : Turn) (p : ℕ) (b : Bool) → (elim b as (λ _. Option Turn) [
+    | true ↦ flowInto version code maps result p (f .types) >>= λ g. some (record { notes = f .notes ++ (ts ++ g .notes); next = onto p (g .types) })
+    | false ↦ startAt version code maps result p >>= λ o. some (record { notes = f .notes ++ ts; next = o })
+  ]) ≡ some t → Nexts f ts t b p
+  unfolding nextNotes
+  nexts f ts t p true h =
+      let a = bind-some _ _ h in
+      subst (λ (x : Turn). Nexts f ts x true p) (Option·some-injective _ _ (a .2)) (record { gs = a .0 .notes; does = some-bind _ _ (a .1) refl; all = refl; goes = refl })
+  nexts f ts t p false h =
+      let a = bind-some _ _ h in
+      subst (λ (x : Turn). Nexts f ts x false p) (Option·some-injective _ _ (a .2))
+      (record { gs = []; does = refl; all = ap (λ (x : List Note). f .notes ++ x) (append-nil ts); goes = start-goes p (a .0) (a .1) })
+
+  turn-does : (i : Decoded) (q : ℕ) (s : TypeState) (t : Turn) → Returned version code maps result q s t i ⊎ Effected version code maps result q s t i → Does i q s t
+  unfolding after instructionNotes
+  turn-does i q s t (inl d) = (rw (d .is, instructionNotes) (d .does), start-goes (q + i .size) (t .next) (d .then))
+  turn-does i q s t (inr d) =
+      let a = bind-some _ _ (d .then) in
+      let n = nexts (d .f) (a .0) t (q + i .size) (goesOn (i .instruction)) (a .2) in
+      (rw (d .is, instructionNotes) (some-bind _ _ (d .does) (some-bind _ _ (a .1) (some-bind _ _ (n .does) (ap some (n .all))))), n .goes)
+
+  bound : {A B : Type 0} (o : Option A) (f : A → Option B) (a : A) → o ≡ some a → (o >>= f) ≡ f a
+  unfolding _>>=_
+  bound o f a e = rw (e, _>>=_) refl
+
+  -- a turn leaves the types at the points behind it to the walk after it
+  types-past : (n p : ℕ) (left : List Map) (s : TypeState) (ns : List Note) (w : Went version code maps result n p left s ns) (r : ℕ) (u : TypeState) → w .t .next ≡ onto r u → (q : ℕ) → p < q
+      → Types version code maps result (suc n) p left s q ≡ Types version code maps result n r (w .more) u q
+  unfolding typesAt
+  types-past n p left s ns w r u e q l = bound _ _ (w .more) (w .passes) ∙ (rw (ne-eqb p q (λ z. omega arith)) (bound _ _ (w .t) (w .does) ∙ (rw e refl)))
+
+  abbrev notesOver : (ℕ → Option TypeState) → List ℕ → Option (List Note)
+  notesOver types ps = together (map (pointNotes version code maps result types) ps)
+
+  -- the notes of the walk from point p on are those of the points from there, where the types are the walk's
+  walk-in-order : (types : ℕ → Option TypeState) (n p : ℕ) (left : List Map) (s : TypeState) (ns : List Note) → Notes version code maps result n p left s ≡ some ns
+      → ((q : ℕ) → p ≤ q → types q ≡ Types version code maps result n p left s q) → notesOver types (pointsFrom version code n p) ≡ some ns
+  unfolding together
+  walk-in-order types zero p left s ns h e = absurd (Option·none-ne-some ns (unfold verify in h))
+  walk-in-order types (suc n) p left s ns h e =
+      let w = went version code maps result n p left s ns h in
+      let c = turn-cases version code maps result p s (w .t) (w .does) in
+      let d = turn-does (c .0) p s (w .t) (c .2) in
+      let first : types p ≡ some s = e p (omega arith) ∙ types-first version code maps result (suc n) p left s ns h in
+      let r = rest w (c .0) (c .1) (d .1) (w .way) (λ q more u xs. walk-in-order types n q more u xs) in
+      rw (point-here version code n p (c .0) (c .1)) (some-bind _ _ (here (c .0) (w .t .notes) first (c .1) (d .0)) (some-bind _ _ (r .1) (ap some (r .2))))
+    where
+      here : (i : Decoded) (ts : List Note) → types p ≡ some s → decode version code p ≡ some i → instructionNotes version code maps result i p s ≡ some ts → pointNotes version code maps result types p ≡ some ts
+      here i ts a b c = unfold pointNotes in some-bind _ _ a (some-bind _ _ b c)
+
+      rest : (w : Went version code maps result n p left s ns) (i : Decoded) → decode version code p ≡ some i → Goes (w .t .next) (p + i .size)
+          → Stops version code maps result (w .more) (w .t) ns ⊎ Continues version code maps result n (w .more) (w .t) ns
+          → ((q : ℕ) (more : List Map) (u : TypeState) (xs : List Note) → Notes version code maps result n q more u ≡ some xs
+          → ((r : ℕ) → q ≤ r → types r ≡ Types version code maps result n q more u r) → notesOver types (pointsFrom version code n q) ≡ some xs)
+          → (rs : List Note) × (notesOver types (pointsFrom version code n (p + i .size)) ≡ some rs) × (w .t .notes ++ rs ≡ ns)
+      rest w i f g (inl c) ih =
+          let l : length code ≤ p + i .size = subst (λ (o : Onward). Goes o (p + i .size)) (c .ended) g in
+          ([], rw (point-none version code n (p + i .size) (past-none version code (p + i .size) l)) refl, append-nil (w .t .notes) ∙ c .all)
+      rest w i f g (inr c) ih =
+          let z : c .r ≡ p + i .size = subst (λ (o : Onward). Goes o (p + i .size)) (c .onward) g in
+          let a : (q : ℕ) → c .r ≤ q → types q ≡ Types version code maps result n (c .r) (w .more) (c .u) q =
+          λ q y. e q (omega (arith, sized version code p i f)) ∙ types-past n p left s ns w (c .r) (c .u) (c .onward) q (omega (arith, sized version code p i f)) in
+          (c .rest, rw z at (ih (c .r) (w .more) (c .u) (c .rest) (c .then) a), c .all)
+
+-- The list of a method's notes
+
+unfoldable pub inOrder : Class → Method → Option (List Note)
+inOrder k m = entryNotes k m >>= λ es. together (map (notesAt k m) (points k m)) >>= λ rs. some (es ++ rs)
+
+pub notes-in-order : (k : Class) (m : Method) (ns : List Note) → notesOfMethod k m ≡ some ns → inOrder k m ≡ some ns
+unfolding inOrder entryNotes
+notes-in-order k m ns v =
+    let w = verified k m ns v in
+    some-bind _ _ (some-bind _ _ (w .enters) refl) (some-bind _ _
+    (walk-in-order (k .version) (m .code) (m .maps) (m .signature .result) (typesIn k m) (length (m .code)) 0 (m .maps) (w .f .types) (w .rest) (w .walks) (λ q _. w .types q))
+    (ap some (w .all)))
+
+-- of a class the methods' notes, in the methods' order
+pub class-in-order : (k : Class) (ms : List Method) → notesOf k ms ≡ together (map (notesOfMethod k) ms)
+unfolding notesOf together
+class-in-order k [] = refl
+class-in-order k (m ∷ ms) = ap (λ (o : Option (List Note)). notesOfMethod k m >>= λ ns. o >>= λ rs. some (ns ++ rs)) (class-in-order k ms)
