@@ -3,7 +3,7 @@
 use mathlib.Core.Path.{_≡_, refl, sym, _∙_, ap, subst}
 use mathlib.Core.Bool.{Bool, true, false}
 use mathlib.Core.Option.{Option, none, some, Option·none-ne-some, Option·some-injective}
-use mathlib.Core.List.{List, [], _∷_, _++_, map, append-nil, List·Memᴰ, List·Memᴰ·head, List·Memᴰ·tail}
+use mathlib.Core.List.{List, [], _∷_, _++_, map, append-nil, List·Memᴰ, List·Memᴰ·head, List·Memᴰ·tail, List·Memᴰ·cases-cons, List·Memᴰ·not-nil}
 use mathlib.Core.Logic.{_⊎_, inl, inr}
 use Prim.Native.Nat.{ℕ, zero, suc, _+_, _≤_, _<_}
 use native.Mathlib.Omega.{arith}
@@ -56,7 +56,7 @@ notesAt k m = pointNotes (k .version) (m .code) (m .maps) (m .signature .result)
 
 module _ (version : ℕ) (code : List ℕ) (maps : List Map) (result : ℕ) where
   abbrev Goes : Onward → ℕ → Type 0
-  Goes finished p = length code ≤ p
+  Goes finished p = p ≡ length code
   Goes (onto q u) p = q ≡ p
 
   start-goes : (p : ℕ) (o : Onward) → startAt version code maps result p ≡ some o → Goes o p
@@ -64,7 +64,7 @@ module _ (version : ℕ) (code : List ℕ) (maps : List Map) (result : ℕ) wher
   start-goes p o h = go (eqb p (length code)) refl h
     where
       go : (b : Bool) → eqb p (length code) ≡ b → (elim b as (λ _. Option Onward) [ true ↦ some finished | false ↦ mapAt maps p >>= λ m. some (onto p (mapTypes m)) ]) ≡ some o → Goes o p
-      go true e r = subst (λ (x : Onward). Goes x p) (Option·some-injective _ _ r) (omega (arith, eqb-true p (length code) e))
+      go true e r = subst (λ (x : Onward). Goes x p) (Option·some-injective _ _ r) (eqb-true p (length code) e)
       go false e r = let a = bind-some _ _ r in subst (λ (x : Onward). Goes x p) (Option·some-injective _ _ (a .2)) refl
 
   -- a turn's notes, and where it goes on: to the next point, or nowhere at the end of the code
@@ -133,13 +133,59 @@ module _ (version : ℕ) (code : List ℕ) (maps : List Map) (result : ℕ) wher
           → ((r : ℕ) → q ≤ r → types r ≡ Types version code maps result n q more u r) → notesOver types (pointsFrom version code n q) ≡ some xs)
           → (rs : List Note) × (notesOver types (pointsFrom version code n (p + i .size)) ≡ some rs) × (w .t .notes ++ rs ≡ ns)
       rest w i f g (inl c) ih =
-          let l : length code ≤ p + i .size = subst (λ (o : Onward). Goes o (p + i .size)) (c .ended) g in
-          ([], rw (point-none version code n (p + i .size) (past-none version code (p + i .size) l)) refl, append-nil (w .t .notes) ∙ c .all)
+          let l : p + i .size ≡ length code = subst (λ (o : Onward). Goes o (p + i .size)) (c .ended) g in
+          ([], rw (point-none version code n (p + i .size) (past-none version code (p + i .size) (omega arith))) refl, append-nil (w .t .notes) ∙ c .all)
       rest w i f g (inr c) ih =
           let z : c .r ≡ p + i .size = subst (λ (o : Onward). Goes o (p + i .size)) (c .onward) g in
           let a : (q : ℕ) → c .r ≤ q → types q ≡ Types version code maps result n (c .r) (w .more) (c .u) q =
           λ q y. e q (omega (arith, sized version code p i f)) ∙ types-past n p left s ns w (c .r) (c .u) (c .onward) q (omega (arith, sized version code p i f)) in
           (c .rest, rw z at (ih (c .r) (w .more) (c .u) (c .rest) (c .then) a), c .all)
+
+  -- Each instruction that is verified is followed by the end of the code or by another
+
+  abbrev Followed : ℕ → List ℕ → Type 0
+  Followed p ps = (p ≡ length code) ⊎ List·Memᴰ p ps
+
+  walk-first : (n p : ℕ) (left : List Map) (s : TypeState) (ns : List Note) → Notes version code maps result n p left s ≡ some ns → List·Memᴰ p (pointsFrom version code n p)
+  walk-first zero p left s ns h = absurd (Option·none-ne-some ns (unfold verify in h))
+  walk-first (suc n) p left s ns h =
+      let w = went version code maps result n p left s ns h in
+      let c = turn-cases version code maps result p s (w .t) (w .does) in
+      rw (point-here version code n p (c .0) (c .1)) (List·Memᴰ·head refl)
+
+  walk-followed : (n p : ℕ) (left : List Map) (s : TypeState) (ns : List Note) → Notes version code maps result n p left s ≡ some ns
+      → (q : ℕ) → List·Memᴰ q (pointsFrom version code n p) → (i : Decoded) → decode version code q ≡ some i → Followed (q + i .size) (pointsFrom version code n p)
+  walk-followed zero p left s ns h q m i d = absurd (Option·none-ne-some ns (unfold verify in h))
+  walk-followed (suc n) p left s ns h q m i d =
+      let w = went version code maps result n p left s ns h in
+      let c = turn-cases version code maps result p s (w .t) (w .does) in
+      let x : List·Memᴰ q (p ∷ pointsFrom version code n (p + c .0 .size)) = rw (point-here version code n p (c .0) (c .1)) at m in
+      rw (point-here version code n p (c .0) (c .1)) (go w (c .0) (c .1) (turn-does (c .0) p s (w .t) (c .2) .1) (w .way) (List·Memᴰ·cases-cons x) (λ r more u xs. walk-followed n r more u xs))
+    where
+      same : (a : Decoded) → decode version code p ≡ some a → q ≡ p → q + i .size ≡ p + a .size
+      same a f z = let e : a ≡ i = Option·some-injective _ _ (sym f ∙ (rw z at d)) in cc
+
+      go : (w : Went version code maps result n p left s ns) (a : Decoded) → decode version code p ≡ some a → Goes (w .t .next) (p + a .size)
+          → Stops version code maps result (w .more) (w .t) ns ⊎ Continues version code maps result n (w .more) (w .t) ns
+          → (q ≡ p) ⊎ List·Memᴰ q (pointsFrom version code n (p + a .size))
+          → ((r : ℕ) (more : List Map) (u : TypeState) (xs : List Note) → Notes version code maps result n r more u ≡ some xs
+          → (x : ℕ) → List·Memᴰ x (pointsFrom version code n r) → (j : Decoded) → decode version code x ≡ some j → Followed (x + j .size) (pointsFrom version code n r))
+          → Followed (q + i .size) (p ∷ pointsFrom version code n (p + a .size))
+      go w a f g (inl c) (inl z) ih = inl (same a f z ∙ subst (λ (o : Onward). Goes o (p + a .size)) (c .ended) g)
+      go w a f g (inl c) (inr x) ih =
+          let l : p + a .size ≡ length code = subst (λ (o : Onward). Goes o (p + a .size)) (c .ended) g in
+          let y : List·Memᴰ q [] = rw (point-none version code n (p + a .size) (past-none version code (p + a .size) (omega arith))) at x in
+          absurd (List·Memᴰ·not-nil y)
+      go w a f g (inr c) o ih =
+          let z : c .r ≡ p + a .size = subst (λ (o : Onward). Goes o (p + a .size)) (c .onward) g in
+          let v : Notes version code maps result n (p + a .size) (w .more) (c .u) ≡ some (c .rest) = rw z at (c .then) in
+          further o (walk-first n (p + a .size) (w .more) (c .u) (c .rest) v) (λ x. ih (p + a .size) (w .more) (c .u) (c .rest) v q x i d)
+        where
+          further : (q ≡ p) ⊎ List·Memᴰ q (pointsFrom version code n (p + a .size)) → List·Memᴰ (p + a .size) (pointsFrom version code n (p + a .size))
+              → (List·Memᴰ q (pointsFrom version code n (p + a .size)) → Followed (q + i .size) (pointsFrom version code n (p + a .size)))
+              → Followed (q + i .size) (p ∷ pointsFrom version code n (p + a .size))
+          further (inl z) first ih = inr (rw (same a f z) (List·Memᴰ·tail {xs = pointsFrom version code n (p + a .size)} first))
+          further (inr x) first ih = elim (ih x) [ inl e ↦ inl e | inr y ↦ inr (List·Memᴰ·tail y) ]
 
 -- The list of a method's notes
 
@@ -153,6 +199,19 @@ notes-in-order k m ns v =
     some-bind _ _ (some-bind _ _ (w .enters) refl) (some-bind _ _
     (walk-in-order (k .version) (m .code) (m .maps) (m .signature .result) (typesIn k m) (length (m .code)) 0 (m .maps) (w .f .types) (w .rest) (w .walks) (λ q _. w .types q))
     (ap some (w .all)))
+
+-- and the points are those of all its instructions: from 0, one after the other, to the end of the code
+pub record Throughout (k : Class) (m : Method) : Type 0 where
+  pub from-first : List·Memᴰ 0 (points k m)
+  pub to-last : (q : ℕ) → List·Memᴰ q (points k m) → (i : Decoded) → decode (k .version) (m .code) q ≡ some i → (q + i .size ≡ length (m .code)) ⊎ List·Memᴰ (q + i .size) (points k m)
+
+pub points-throughout : (k : Class) (m : Method) (ns : List Note) → notesOfMethod k m ≡ some ns → Throughout k m
+points-throughout k m ns v =
+    let w = verified k m ns v in
+    record {
+      from-first = walk-first (k .version) (m .code) (m .maps) (m .signature .result) (length (m .code)) 0 (m .maps) (w .f .types) (w .rest) (w .walks);
+      to-last = walk-followed (k .version) (m .code) (m .maps) (m .signature .result) (length (m .code)) 0 (m .maps) (w .f .types) (w .rest) (w .walks);
+    }
 
 -- of a class the methods' notes, in the methods' order
 pub class-in-order : (k : Class) (ms : List Method) → notesOf k ms ≡ together (map (notesOfMethod k) ms)

@@ -38,7 +38,7 @@ module _ (version : ℕ) (code : List ℕ) where
   point-none (suc n) p e = rw (e, pointsFrom) refl
 
   -- the first is p itself; the others are those behind it
-  point-cases : (n p q : ℕ) → List·Memᴰ q (pointsFrom version code (suc n) p) → (i : Decoded) × (decode version code p ≡ some i) × ((q ≡ p) ⊎ List·Memᴰ q (pointsFrom version code n (p + i .size)))
+  pub point-cases : (n p q : ℕ) → List·Memᴰ q (pointsFrom version code (suc n) p) → (i : Decoded) × (decode version code p ≡ some i) × ((q ≡ p) ⊎ List·Memᴰ q (pointsFrom version code n (p + i .size)))
   unfolding pointsFrom
   point-cases n p q m = go (decode version code p) refl m
     where
