@@ -12,6 +12,7 @@ pub mod Sized
 pub mod Walk
 pub mod Points
 pub mod InOrder
+pub mod Mapped
 pub mod Objects
 pub mod Sweeps
 pub mod Stable

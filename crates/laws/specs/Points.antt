@@ -46,7 +46,7 @@ module _ (version : ℕ) (code : List ℕ) where
           → (i : Decoded) × (decode version code p ≡ some i) × ((q ≡ p) ⊎ List·Memᴰ q (pointsFrom version code n (p + i .size)))
       go (some i) e x = (i, e, List·Memᴰ·cases-cons x)
 
-  no-points : {A : Type 0} (p q : ℕ) → List·Memᴰ q (pointsFrom version code zero p) → A
+  pub no-points : {A : Type 0} (p q : ℕ) → List·Memᴰ q (pointsFrom version code zero p) → A
   unfolding pointsFrom
   no-points p q m = absurd (List·Memᴰ·not-nil m)
 
