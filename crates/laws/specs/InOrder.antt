@@ -55,11 +55,11 @@ notesAt k m = pointNotes (k .version) (m .code) (m .maps) (m .signature .result)
 -- The walk asks for the same
 
 module _ (version : ℕ) (code : List ℕ) (maps : List Map) (result : ℕ) where
-  abbrev Goes : Onward → ℕ → Type 0
+  abbrev pub Goes : Onward → ℕ → Type 0
   Goes finished p = p ≡ length code
   Goes (onto q u) p = q ≡ p
 
-  start-goes : (p : ℕ) (o : Onward) → startAt version code maps result p ≡ some o → Goes o p
+  pub start-goes : (p : ℕ) (o : Onward) → startAt version code maps result p ≡ some o → Goes o p
   unfolding startAt
   start-goes p o h = go (eqb p (length code)) refl h
     where
@@ -68,7 +68,7 @@ module _ (version : ℕ) (code : List ℕ) (maps : List Map) (result : ℕ) wher
       go false e r = let a = bind-some _ _ r in subst (λ (x : Onward). Goes x p) (Option·some-injective _ _ (a .2)) refl
 
   -- a turn's notes, and where it goes on: to the next point, or nowhere at the end of the code
-  abbrev Does : Decoded → ℕ → TypeState → Turn → Type 0
+  abbrev pub Does : Decoded → ℕ → TypeState → Turn → Type 0
   Does i q s t = (instructionNotes version code maps result i q s ≡ some (t .notes)) × Goes (t .next) (q + i .size)
 
   record Nexts (f : Flow) (ts : List Note) (t : Turn) (b : Bool) (p : ℕ) : Type 0 where
@@ -90,7 +90,7 @@ module _ (version : ℕ) (code : List ℕ) (maps : List Map) (result : ℕ) wher
       subst (λ (x : Turn). Nexts f ts x false p) (Option·some-injective _ _ (a .2))
       (record { gs = []; does = refl; all = ap (λ (x : List Note). f .notes ++ x) (append-nil ts); goes = start-goes p (a .0) (a .1) })
 
-  turn-does : (i : Decoded) (q : ℕ) (s : TypeState) (t : Turn) → Returned version code maps result q s t i ⊎ Effected version code maps result q s t i → Does i q s t
+  pub turn-does : (i : Decoded) (q : ℕ) (s : TypeState) (t : Turn) → Returned version code maps result q s t i ⊎ Effected version code maps result q s t i → Does i q s t
   unfolding after instructionNotes
   turn-does i q s t (inl d) = (rw (d .is, instructionNotes) (d .does), start-goes (q + i .size) (t .next) (d .then))
   turn-does i q s t (inr d) =
@@ -146,7 +146,7 @@ module _ (version : ℕ) (code : List ℕ) (maps : List Map) (result : ℕ) wher
   abbrev Followed : ℕ → List ℕ → Type 0
   Followed p ps = (p ≡ length code) ⊎ List·Memᴰ p ps
 
-  walk-first : (n p : ℕ) (left : List Map) (s : TypeState) (ns : List Note) → Notes version code maps result n p left s ≡ some ns → List·Memᴰ p (pointsFrom version code n p)
+  pub walk-first : (n p : ℕ) (left : List Map) (s : TypeState) (ns : List Note) → Notes version code maps result n p left s ≡ some ns → List·Memᴰ p (pointsFrom version code n p)
   walk-first zero p left s ns h = absurd (Option·none-ne-some ns (unfold verify in h))
   walk-first (suc n) p left s ns h =
       let w = went version code maps result n p left s ns h in

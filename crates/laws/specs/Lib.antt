@@ -13,6 +13,7 @@ pub mod Walk
 pub mod Points
 pub mod InOrder
 pub mod Mapped
+pub mod Paths
 pub mod Objects
 pub mod Sweeps
 pub mod Stable

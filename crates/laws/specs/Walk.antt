@@ -23,7 +23,7 @@ use Rattle.laws.specs.Options.{bind-some, some-bind, need-true}
 use Rattle.laws.specs.Sized.{sized}
 
 -- an instruction with a return's kind is that return
-return-is : (i : Instruction) (kind : Kind) → returnKind i ≡ some kind → i ≡ Return kind
+pub return-is : (i : Instruction) (kind : Kind) → returnKind i ≡ some kind → i ≡ Return kind
 unfolding returnKind
 return-is AconstNull kind h = absurd (Option·none-ne-some kind h)
 return-is (Sipush n) kind h = absurd (Option·none-ne-some kind h)
@@ -89,11 +89,11 @@ module _ (version : ℕ) (code : List ℕ) (maps : List Map) (result : ℕ) (typ
     pub way : Ends τ at ⊎ Goes q τ at
 
   -- the same as the walk has it: a turn, and the types where it goes on
-  record Turned (q : ℕ) (τ : TypeState) : Type 0 where
-    t : Turn
-    does : turn version code maps result q τ ≡ some t
-    posted : (n : Note) → List·Memᴰ n (t .notes) → List·Memᴰ n ns
-    next : (r : ℕ) (u : TypeState) → t .next ≡ onto r u → types r ≡ some u
+  pub record Turned (q : ℕ) (τ : TypeState) : Type 0 where
+    pub t : Turn
+    pub does : turn version code maps result q τ ≡ some t
+    pub posted : (n : Note) → List·Memᴰ n (t .notes) → List·Memᴰ n ns
+    pub next : (r : ℕ) (u : TypeState) → t .next ≡ onto r u → types r ≡ some u
 
 module _ (version : ℕ) (code : List ℕ) (maps : List Map) (result : ℕ) where
   abbrev pub Turns : ℕ → TypeState → Turn → Type 0
@@ -286,7 +286,7 @@ module _ (version : ℕ) (code : List ℕ) (maps : List Map) (result : ℕ) wher
     pub onward : t .next ≡ onto r u
     pub then : Types k r more u q ≡ some τ
 
-  types-cases : (k p : ℕ) (left : List Map) (s : TypeState) (q : ℕ) (τ : TypeState) → Types (suc k) p left s q ≡ some τ → ((p ≡ q) × (s ≡ τ)) ⊎ On k p left s q τ
+  pub types-cases : (k p : ℕ) (left : List Map) (s : TypeState) (q : ℕ) (τ : TypeState) → Types (suc k) p left s q ≡ some τ → ((p ≡ q) × (s ≡ τ)) ⊎ On k p left s q τ
   unfolding typesAt
   types-cases k p left s q τ h = let a = bind-some _ _ h in go (a .0) (a .1) (eqb p q) refl (a .2)
     where
@@ -566,19 +566,21 @@ module _ (k : Class) (m : Method) (ns : List Note) (v : notesOfMethod k m ≡ so
         has = w .types 0 ∙ types-first (k .version) (m .code) (m .maps) (m .signature .result) (length (m .code)) 0 (m .maps) (w .f .types) (w .rest) (w .walks);
       }
 
-  pub known : (q : ℕ) (τ : TypeState) → typesIn k m q ≡ some τ → Known (k .version) (m .code) (m .maps) (m .signature .result) (typesIn k m) ns q τ
-  known q τ h =
+  -- at a mapped point the types are the map's
+  pub mapped-types : (p : ℕ) (x : Map) → mapAt (m .maps) p ≡ some x → typesIn k m p ≡ some (mapTypes x)
+  mapped-types p x e =
       let w = verified k m ns v in
       let st = standing (k .version) (m .code) (m .maps) (m .signature .result) (entryTypes k m) (w .f) (w .enters) in
-      let mapped : (p : ℕ) (x : Map) → mapAt (m .maps) p ≡ some x → typesIn k m p ≡ some (mapTypes x) =
-      λ p x e. w .types p ∙ visited (k .version) (m .code) (m .maps) (m .signature .result) (length (m .code)) 0 (m .maps) (w .f .types) (w .rest) (w .walks) st p x e in
+      w .types p ∙ visited (k .version) (m .code) (m .maps) (m .signature .result) (length (m .code)) 0 (m .maps) (w .f .types) (w .rest) (w .walks) st p x e
+
+  pub turned : (q : ℕ) (τ : TypeState) → typesIn k m q ≡ some τ → Turned (k .version) (m .code) (m .maps) (m .signature .result) (typesIn k m) ns q τ
+  turned q τ h =
+      let w = verified k m ns v in
       let t = turns (k .version) (m .code) (m .maps) (m .signature .result) (length (m .code)) 0 (m .maps) (w .f .types) (w .rest) q τ (w .walks) (sym (w .types q) ∙ h) in
-      known-of (k .version) (m .code) (m .maps) (m .signature .result) (typesIn k m) ns mapped q τ (record {
-        t = t .t;
-        does = t .does;
-        posted = λ n x. rw (w .all) at (Memᴰ·append-right (w .f .notes) (t .posted n x));
-        next = λ r u e. w .types r ∙ t .next r u e;
-      })
+      record { t = t .t; does = t .does; posted = λ n x. rw (w .all) at (Memᴰ·append-right (w .f .notes) (t .posted n x)); next = λ r u e. w .types r ∙ t .next r u e }
+
+  pub known : (q : ℕ) (τ : TypeState) → typesIn k m q ≡ some τ → Known (k .version) (m .code) (m .maps) (m .signature .result) (typesIn k m) ns q τ
+  known q τ h = known-of (k .version) (m .code) (m .maps) (m .signature .result) (typesIn k m) ns mapped-types q τ (turned q τ h)
 
   -- types that have P throughout make notes that have N
   pub notes-have : (P : TypeState → Type 0) (N : List Note → Type 0) → N [] → ((a b : List Note) → N a → N b → N (a ++ b))
