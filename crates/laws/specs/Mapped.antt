@@ -150,3 +150,36 @@ all-mapped k m h =
     go : (a b : Bool) → b ≡ false → (a && b) ≡ false
     go true b e = e
     go false b e = refl
+
+-- Where all are mapped, the walk never wants for a map
+
+start-none : (version : ℕ) (code : List ℕ) (maps : List Map) (result p : ℕ) → startAt version code maps result p ≡ none → (p ≡ length code → ⊥) × (mapAt maps p ≡ none)
+unfolding startAt _>>=_
+start-none version code maps result p h = go (eqb p (length code)) refl (mapAt maps p) h
+  where
+    go : (b : Bool) → eqb p (length code) ≡ b → (o : Option Map) → _≡_ {A = Option Onward} (elim b as (λ _. Option Onward) [ true ↦ some finished | false ↦ o >>= λ m. some (onto p (mapTypes m)) ]) none
+        → (p ≡ length code → ⊥) × (o ≡ none)
+    go true e o r = absurd (Option·none-ne-some finished (sym r))
+    go false e none r = (eqb-false p (length code) e, refl)
+    go false e (some m) r = absurd (Option·none-ne-some (onto p (mapTypes m)) (sym r))
+
+module _ (k : Class) (m : Method) (all : AllMapped k m) (q : ℕ) (x : List·Memᴰ q (points k m)) (i : Decoded) (d : decode (k .version) (m .code) q ≡ some i) where
+  -- what flows to a target fails only by types that don't fit the map there
+  pub target-fails : (s : TypeState) → flowToTarget (k .version) (m .code) (m .maps) (m .signature .result) (target (i .instruction)) s ≡ none
+      → (p : ℕ) × (y : Map) × (target (i .instruction) ≡ some p) × (mapAt (m .maps) p ≡ some y) × (meetMap s y ≡ none)
+  unfolding flowToTarget _>>=_
+  target-fails s h = go (target (i .instruction)) refl h
+    where
+      go : (o : Option ℕ) → target (i .instruction) ≡ o → flowToTarget (k .version) (m .code) (m .maps) (m .signature .result) o s ≡ none
+          → (p : ℕ) × (y : Map) × (target (i .instruction) ≡ some p) × (mapAt (m .maps) p ≡ some y) × (meetMap s y ≡ none)
+      go none e r = absurd (Option·none-ne-some [] (sym r))
+      go (some p) e r = let y = all q x i d .there p e in (p, y .0, e, y .1, rw (y .1, _>>=_) at r)
+
+  -- behind a goto or return the walk stops only where the code goes on and can't be read
+  pub start-fails : goesOn (i .instruction) ≡ false → startAt (k .version) (m .code) (m .maps) (m .signature .result) (q + i .size) ≡ none
+      → (decode (k .version) (m .code) (q + i .size) ≡ none) × (q + i .size ≡ length (m .code) → ⊥)
+  start-fails g h = let a = start-none (k .version) (m .code) (m .maps) (m .signature .result) (q + i .size) h in (go (a .1) (decode (k .version) (m .code) (q + i .size)) refl, a .0)
+    where
+      go : mapAt (m .maps) (q + i .size) ≡ none → (o : Option Decoded) → decode (k .version) (m .code) (q + i .size) ≡ o → decode (k .version) (m .code) (q + i .size) ≡ none
+      go z none e = e
+      go z (some j) e = let y = all q x i d .then g j e in absurd (Option·none-ne-some (y .0) (sym z ∙ y .1))
