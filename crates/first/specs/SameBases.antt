@@ -107,7 +107,7 @@ from-early b bs c (k ∷ ks) h = go (firstClassFits b bs c k) refl h (from-early
     go true e q ih = (class-early b bs c k e, ih q)
     go false e q ih = absurd (false≢true q)
 
-object-early : (bs : List ℕ) (k : ClassRow) → isObject k ≡ true → laterRow bs k ≡ false
+pub object-early : (bs : List ℕ) (k : ClassRow) → isObject k ≡ true → laterRow bs k ≡ false
 unfolding isObject laterRow laterFile
 object-early bs k h = rw (eqb-true (k .size) 0 (every-true _ h .1 .1 .0)) refl
 

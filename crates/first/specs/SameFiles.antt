@@ -44,7 +44,7 @@ OldClass k = Old (k .version) × All NoMaps (k .methods)
 
 -- In sequence
 
-bind-eq : {A B : Type 0} (o p : Option A) → o ≡ p → (f g : A → Option B) → ((a : A) → f a ≡ g a) → (o >>= f) ≡ (p >>= g)
+pub bind-eq : {A B : Type 0} (o p : Option A) → o ≡ p → (f g : A → Option B) → ((a : A) → f a ≡ g a) → (o >>= f) ≡ (p >>= g)
 unfolding _>>=_
 bind-eq none p e f g k = rw (← e) refl
 bind-eq (some a) p e f g k = rw (← e) (k a)
@@ -52,7 +52,7 @@ bind-eq (some a) p e f g k = rw (← e) (k a)
 bind-same : {A B : Type 0} (o : Option A) (f g : A → Option B) → ((a : A) → f a ≡ g a) → (o >>= f) ≡ (o >>= g)
 bind-same o = bind-eq o o refl
 
-bind-in : {A B : Type 0} (o : Option A) (f g : A → Option B) → ((a : A) → o ≡ some a → f a ≡ g a) → (o >>= f) ≡ (o >>= g)
+pub bind-in : {A B : Type 0} (o : Option A) (f g : A → Option B) → ((a : A) → o ≡ some a → f a ≡ g a) → (o >>= f) ≡ (o >>= g)
 unfolding _>>=_
 bind-in none f g k = refl
 bind-in (some a) f g k = k a refl
@@ -249,7 +249,7 @@ module _ (version : ℕ) (code : List ℕ) (result : ℕ) (old : Old version) wh
   same-return n p false none = refl
   same-return n p false (some ns) = refl
 
-  after-straight : (i : Instruction) (p : ℕ) (f : Flow) → Straight i → returnKind i ≡ none → after version code [] result i p f ≡ some (record { notes = f .notes ++ []; next = onto p (f .types) })
+  pub after-straight : (i : Instruction) (p : ℕ) (f : Flow) → Straight i → returnKind i ≡ none → after version code [] result i p f ≡ some (record { notes = f .notes ++ []; next = onto p (f .types) })
   unfolding after
   after-straight i p f h e = rw (h .nowhere, h .on e) (unfold flowToTarget flowInto mapAt _>>=_ in refl)
 
@@ -286,7 +286,7 @@ module _ (version : ℕ) (code : List ℕ) (result : ℕ) (old : Old version) wh
       go none h ih = unfold _>>=_ in refl
       go (some i) h ih = unfold _>>=_ in kinds i h ih (returnKind (i .instruction)) refl
 
-same-notes : (k : Class) (m : Method) → Old (k .version) → NoMaps m → firstNotesOfMethod k m ≡ notesOfMethod k m
+pub same-notes : (k : Class) (m : Method) → Old (k .version) → NoMaps m → firstNotesOfMethod k m ≡ notesOfMethod k m
 unfolding firstNotesOfMethod notesOfMethod
 same-notes k m old e = rw (e, same-verify (k .version) (m .code) (m .signature .result) old (length (m .code)) 0 (entryTypes k m)) (unfold flowInto mapAt _>>=_ in go _)
   where
@@ -294,16 +294,16 @@ same-notes k m old e = rw (e, same-verify (k .version) (m .code) (m .signature .
     go none = unfold _>>=_ in refl
     go (some ns) = unfold _>>=_ in refl
 
-same-all-notes : (k : Class) (ms : List Method) → Old (k .version) → All NoMaps ms → firstNotesOf k ms ≡ notesOf k ms
+pub same-all-notes : (k : Class) (ms : List Method) → Old (k .version) → All NoMaps ms → firstNotesOf k ms ≡ notesOf k ms
 unfolding firstNotesOf notesOf
 same-all-notes k [] old h = refl
 same-all-notes k (m ∷ ms) old h = bind-eq _ _ (same-notes k m old (h .0)) _ _ (λ ns. bind-eq _ _ (same-all-notes k ms old (h .1)) _ _ (λ rs. refl))
 
-is-mapped : (k : Class) (m : Method) → Old (k .version) → unmapped k m ≡ false
+pub is-mapped : (k : Class) (m : Method) → Old (k .version) → unmapped k m ≡ false
 unfolding unmapped
 is-mapped k m old = rw old refl
 
-none-unmapped : (k : Class) (ms : List Method) → Old (k .version) → any (unmapped k) ms ≡ false
+pub none-unmapped : (k : Class) (ms : List Method) → Old (k .version) → any (unmapped k) ms ≡ false
 unfolding any
 none-unmapped k [] old = refl
 none-unmapped k (m ∷ ms) old = rw (is-mapped k m old, any) (none-unmapped k ms old)
