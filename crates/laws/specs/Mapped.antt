@@ -110,9 +110,10 @@ module _ (version : ℕ) (code : List ℕ) (maps : List Map) where
         go (some i) e r ih =
             let a = or-false _ _ r in
             let b = or-false _ _ (a .0) in
-            let c = ih (p + i .size) (not (goesOn (i .instruction))) (omega (arith, sized version code p i e)) (a .1) in
-            ((λ w j d. wants-has wants p (b .0) w),
-            points-mapped n p i e (record { there = targets-have (target (i .instruction)) (b .1); then = λ g. c .0 (goes-not (goesOn (i .instruction)) g) }) (c .1))
+            let c = ih (p + i .size) (not (goesOn (i .instruction))) (omega (arith, sized version code p i e)) (a .1) in (
+              (λ w j d. wants-has wants p (b .0) w),
+              points-mapped n p i e (record { there = targets-have (target (i .instruction)) (b .1); then = λ g. c .0 (goes-not (goesOn (i .instruction)) g) }) (c .1),
+            )
 
     mapped-from : (n p : ℕ) (wants : Bool) → Follows wants p → EachMapped (pointsFrom version code n p) → unmappedFrom version code maps result n p wants ≡ false
     unfolding unmappedFrom
