@@ -22,7 +22,7 @@ use Rattle.definition.specs.File.{File, Got, byte, mapsIn, methodsIn, readFile,
 use Rattle.definition.specs.Instructions.{pick, opcodeOf, inlineLength, instructionOf, Decoded, sizedAs, decode}
 use Rattle.definition.specs.Verifier.{Flow, Note, Onward, Turn, TypeState, after, effect, entryTypes, finished, flowInto, flowToTarget, goesOn, mapAt, mapTypes, mapsPast, notesOf, notesOfMethod, onto, returnKind, returns, startAt, target, turn, unmapped, verify}
 use Rattle.definition.specs.Loading.{define}
-use Rattle.laws.specs.Options.{bind-some, need-true}
+use Rattle.laws.specs.Options.{bind-some, need-true, Holds, holds-past, holds-on, holds-need, holds-at}
 use Rattle.layout.specs.Tests.{All}
 use Rattle.first.specs.Files.{firstMethodsIn, firstReadFile, firstOpcodeOf, firstDecode}
 use Rattle.first.specs.Verifier.{firstVerify, firstNotesOfMethod, firstNotesOf, firstDefine}
@@ -65,30 +65,6 @@ need-eq : {B : Type 0} (t u : Bool) → u ≡ t → (f g : Unit {0} → Option B
 unfolding _>>=_ need
 need-eq true u e f g k = rw e (k refl)
 need-eq false u e f g k = rw e refl
-
--- what holds of what was read, if it was read
-abbrev pub Holds : {A : Type 0} → Option A → (A → Type 0) → Type 0
-Holds none Q = Unit {0}
-Holds (some a) Q = Q a
-
-holds-past : {A B : Type 0} (Q : B → Type 0) (o : Option A) (f : A → Option B) → ((a : A) → Holds (f a) Q) → Holds (o >>= f) Q
-unfolding _>>=_
-holds-past Q none f k = tt
-holds-past Q (some a) f k = k a
-
-holds-on : {A B : Type 0} (P : A → Type 0) (Q : B → Type 0) (o : Option A) (f : A → Option B) → Holds o P → ((a : A) → P a → Holds (f a) Q) → Holds (o >>= f) Q
-unfolding _>>=_
-holds-on P Q none f h k = tt
-holds-on P Q (some a) f h k = k a h
-
-holds-need : {B : Type 0} (Q : B → Type 0) (t : Bool) (f : Unit {0} → Option B) → (t ≡ true → Holds (f tt) Q) → Holds (need t >>= f) Q
-unfolding _>>=_ need
-holds-need Q true f k = k refl
-holds-need Q false f k = tt
-
-pub holds-at : {A : Type 0} (Q : A → Type 0) (o : Option A) (a : A) → Holds o Q → o ≡ some a → Q a
-holds-at Q none a h e = absurd (Option·none-ne-some a e)
-holds-at Q (some b) a h e = rw (Option·some-injective b a e) at h
 
 -- Reading
 

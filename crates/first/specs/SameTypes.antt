@@ -16,11 +16,12 @@ use Rattle.definition.specs.Instructions.{Decoded, decode}
 use Rattle.definition.specs.Verifier.{Flow, Note, Onward, Turn, TypeState, after, effect, entryTypes, finished, flowInto, mapAt, mapTypes, mapsPast, notesOf, notesOfMethod, onto, returnKind, returns, startAt, turn, typesAt, typesIn}
 use Rattle.definition.specs.Numbers.{wordFile, wordUnverified}
 use Rattle.definition.specs.Desk.{verifierNumber, deskNumber}
+use Rattle.laws.specs.Options.{Holds}
 use Rattle.laws.specs.Walk.{return-is}
 use Rattle.layout.specs.Tests.{All}
 use Rattle.first.specs.Files.{firstReadFile, firstDecode}
 use Rattle.first.specs.Verifier.{firstTypesAt, firstTypesIn, firstNotesOfMethod, firstNotesOf, firstDeskNumber}
-use Rattle.first.specs.SameFiles.{Holds, NoMaps, Old, OldClass, Straight, after-straight, decode-straight, laterFile, none-unmapped, read-old, same-all-notes, same-decode, same-notes, same-read}
+use Rattle.first.specs.SameFiles.{NoMaps, Old, OldClass, Straight, after-straight, decode-straight, laterFile, none-unmapped, read-old, same-all-notes, same-decode, same-notes, same-read}
 
 module _ (version : ℕ) (code : List ℕ) (result : ℕ) (old : Old version) (q : ℕ) where
   -- where the walk goes on after a turn

@@ -13,7 +13,7 @@ use borrow.Author.Tests.{eqb-true, ne-eqb}
 use Rattle.definition.specs.Classes.{Class, Map, Method}
 use Rattle.definition.specs.Instructions.{Decoded, decode}
 use Rattle.definition.specs.Maybe.{_>>=_, need}
-use Rattle.definition.specs.Verifier.{Flow, Note, Onward, Turn, TypeState, after, effect, entryTypes, finished, flowInto, flowToTarget, goesOn, mapAt, mapTypes, notesOf, notesOfMethod, onto, returnKind, returns, startAt, target, turn, typesAt, typesIn, verify}
+use Rattle.definition.specs.Verifier.{Flow, Note, Onward, Turn, TypeState, after, effect, entryTypes, finished, flowInto, flowToTarget, goesOn, mapAt, mapTypes, mapsPast, notesOf, notesOfMethod, onto, returnKind, returns, startAt, target, turn, typesAt, typesIn, verify}
 use Rattle.definition.specs.declared.Kind.{Kind}
 use Rattle.definition.specs.declared.Instruction.{Instruction}
 use Rattle.laws.specs.Options.{bind-some, some-bind}
@@ -103,10 +103,10 @@ module _ (version : ℕ) (code : List ℕ) (maps : List Map) (result : ℕ) wher
   bound o f a e = rw (e, _>>=_) refl
 
   -- a turn leaves the types at the points behind it to the walk after it
-  types-past : (n p : ℕ) (left : List Map) (s : TypeState) (ns : List Note) (w : Went version code maps result n p left s ns) (r : ℕ) (u : TypeState) → w .t .next ≡ onto r u → (q : ℕ) → p < q
-      → Types version code maps result (suc n) p left s q ≡ Types version code maps result n r (w .more) u q
+  pub types-past : (n p : ℕ) (left more : List Map) (s : TypeState) (t : Turn) (r : ℕ) (u : TypeState) → mapsPast version code maps result p left ≡ some more → Turns version code maps result p s t
+      → t .next ≡ onto r u → (q : ℕ) → p < q → Types version code maps result (suc n) p left s q ≡ Types version code maps result n r more u q
   unfolding typesAt
-  types-past n p left s ns w r u e q l = bound _ _ (w .more) (w .passes) ∙ (rw (ne-eqb p q (λ z. omega arith)) (bound _ _ (w .t) (w .does) ∙ (rw e refl)))
+  types-past n p left more s t r u m d e q l = bound _ _ more m ∙ (rw (ne-eqb p q (λ z. omega arith)) (bound _ _ t d ∙ (rw e refl)))
 
   abbrev notesOver : (ℕ → Option TypeState) → List ℕ → Option (List Note)
   notesOver types ps = together (map (pointNotes version code maps result types) ps)
@@ -138,7 +138,7 @@ module _ (version : ℕ) (code : List ℕ) (maps : List Map) (result : ℕ) wher
       rest w i f g (inr c) ih =
           let z : c .r ≡ p + i .size = subst (λ (o : Onward). Goes o (p + i .size)) (c .onward) g in
           let a : (q : ℕ) → c .r ≤ q → types q ≡ Types version code maps result n (c .r) (w .more) (c .u) q =
-          λ q y. e q (omega (arith, sized version code p i f)) ∙ types-past n p left s ns w (c .r) (c .u) (c .onward) q (omega (arith, sized version code p i f)) in
+          λ q y. e q (omega (arith, sized version code p i f)) ∙ types-past n p left (w .more) s (w .t) (c .r) (c .u) (w .passes) (w .does) (c .onward) q (omega (arith, sized version code p i f)) in
           (c .rest, rw z at (ih (c .r) (w .more) (c .u) (c .rest) (c .then) a), c .all)
 
   -- Each instruction that is verified is followed by the end of the code or by another

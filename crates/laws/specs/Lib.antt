@@ -14,6 +14,7 @@ pub mod Points
 pub mod InOrder
 pub mod Mapped
 pub mod Paths
+pub mod Rising
 pub mod Objects
 pub mod Sweeps
 pub mod Stable

@@ -84,3 +84,31 @@ module _ (version : ℕ) (code : List ℕ) where
               let here : q + i .size ≡ p + a .size = cc in
               rw here (point-first n (p + a .size) j far (rw here at e))
           each far (inr x) = ih (p + a .size) far x
+
+  -- none lies before p, and none within an instruction that starts at one
+  point-from : (n p q : ℕ) → List·Memᴰ q (pointsFrom version code n p) → p ≤ q
+  point-from zero p q m = no-points p q m
+  point-from (suc n) p q m = let c = point-cases n p q m in go (c .0) (c .2) (λ r x. point-from n r q x)
+    where
+      go : (i : Decoded) → (q ≡ p) ⊎ List·Memᴰ q (pointsFrom version code n (p + i .size)) → ((r : ℕ) → List·Memᴰ q (pointsFrom version code n r) → r ≤ q) → p ≤ q
+      go i (inl z) ih = omega arith
+      go i (inr x) ih = omega (arith, ih (p + i .size) x)
+
+  pub point-between : (n p q r : ℕ) → List·Memᴰ q (pointsFrom version code n p) → List·Memᴰ r (pointsFrom version code n p) → (i : Decoded) → decode version code q ≡ some i → q < r → q + i .size ≤ r
+  point-between zero p q r x y i d l = no-points p q x
+  point-between (suc n) p q r x y i d l =
+      let a = point-cases n p q x in
+      let b = point-cases n p r y in
+      let same : b .0 ≡ a .0 = Option·some-injective _ _ (sym (b .1) ∙ a .1) in
+      let later : (r ≡ p) ⊎ List·Memᴰ r (pointsFrom version code n (p + a .0 .size)) = rw same at (b .2) in
+      go (a .0) (a .1) (a .2) later (λ x y. point-between n (p + a .0 .size) q r x y i d l)
+    where
+      go : (j : Decoded) → decode version code p ≡ some j → (q ≡ p) ⊎ List·Memᴰ q (pointsFrom version code n (p + j .size)) → (r ≡ p) ⊎ List·Memᴰ r (pointsFrom version code n (p + j .size))
+          → (List·Memᴰ q (pointsFrom version code n (p + j .size)) → List·Memᴰ r (pointsFrom version code n (p + j .size)) → q + i .size ≤ r) → q + i .size ≤ r
+      go j e (inl z) (inl w) ih = omega arith
+      go j e (inl z) (inr w) ih =
+          let same : j ≡ i = Option·some-injective _ _ (sym e ∙ (rw z at d)) in
+          let here : q + i .size ≡ p + j .size = cc in
+          omega (arith, point-from n (p + j .size) r w)
+      go j e (inr z) (inl w) ih = omega (arith, point-from n (p + j .size) q z)
+      go j e (inr z) (inr w) ih = ih z w

@@ -301,7 +301,7 @@ module _ (version : ℕ) (code : List ℕ) (maps : List Map) (result : ℕ) wher
       go more m true e x = inl (eqb-true p q e, Option·some-injective s τ x)
       go more m false e x = let a = bind-some _ _ x in inr (further more m (a .0) (a .1) (a .0 .next) refl (a .2))
 
-  types-here : (k p : ℕ) (left more : List Map) (s : TypeState) → mapsPast version code maps result p left ≡ some more → Types (suc k) p left s p ≡ some s
+  pub types-here : (k p : ℕ) (left more : List Map) (s : TypeState) → mapsPast version code maps result p left ≡ some more → Types (suc k) p left s p ≡ some s
   unfolding typesAt
   types-here k p left more s m = some-bind _ _ m (rw (eq-eqb p p refl) refl)
 
