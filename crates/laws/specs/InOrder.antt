@@ -16,7 +16,7 @@ use Rattle.definition.specs.Maybe.{_>>=_, need}
 use Rattle.definition.specs.Verifier.{Flow, Note, Onward, Turn, TypeState, after, effect, entryTypes, finished, flowInto, flowToTarget, goesOn, mapAt, mapTypes, mapsPast, notesOf, notesOfMethod, onto, returnKind, returns, startAt, target, turn, typesAt, typesIn, verify}
 use Rattle.definition.specs.declared.Kind.{Kind}
 use Rattle.definition.specs.declared.Instruction.{Instruction}
-use Rattle.laws.specs.Options.{bind-some, some-bind}
+use Rattle.laws.specs.Options.{bind-some, some-bind, bind-at}
 use Rattle.laws.specs.Sized.{sized}
 use Rattle.laws.specs.Walk.{Continues, Effected, Notes, On, Returned, Stops, Turns, Types, Went, turn-cases, types-first, types-on, verified, went}
 use Rattle.laws.specs.Points.{pointsFrom, points, point-here, past-none, point-none}
@@ -98,15 +98,11 @@ module _ (version : ℕ) (code : List ℕ) (maps : List Map) (result : ℕ) wher
       let n = nexts (d .f) (a .0) t (q + i .size) (goesOn (i .instruction)) (a .2) in
       (rw (d .is, instructionNotes) (some-bind _ _ (d .does) (some-bind _ _ (a .1) (some-bind _ _ (n .does) (ap some (n .all))))), n .goes)
 
-  bound : {A B : Type 0} (o : Option A) (f : A → Option B) (a : A) → o ≡ some a → (o >>= f) ≡ f a
-  unfolding _>>=_
-  bound o f a e = rw (e, _>>=_) refl
-
   -- a turn leaves the types at the points behind it to the walk after it
   pub types-past : (n p : ℕ) (left more : List Map) (s : TypeState) (t : Turn) (r : ℕ) (u : TypeState) → mapsPast version code maps result p left ≡ some more → Turns version code maps result p s t
       → t .next ≡ onto r u → (q : ℕ) → p < q → Types version code maps result (suc n) p left s q ≡ Types version code maps result n r more u q
   unfolding typesAt
-  types-past n p left more s t r u m d e q l = bound _ _ more m ∙ (rw (ne-eqb p q (λ z. omega arith)) (bound _ _ t d ∙ (rw e refl)))
+  types-past n p left more s t r u m d e q l = bind-at _ _ more m ∙ (rw (ne-eqb p q (λ z. omega arith)) (bind-at _ _ t d ∙ (rw e refl)))
 
   abbrev notesOver : (ℕ → Option TypeState) → List ℕ → Option (List Note)
   notesOver types ps = together (map (pointNotes version code maps result types) ps)

@@ -15,6 +15,8 @@ pub mod InOrder
 pub mod Mapped
 pub mod Paths
 pub mod Rising
+pub mod Rejected
+pub mod Reasons
 pub mod Objects
 pub mod Sweeps
 pub mod Stable

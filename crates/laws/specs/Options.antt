@@ -18,6 +18,10 @@ pub some-bind : {A B : Type 0} (o : Option A) (f : A → Option B) {a : A} {b : 
 unfolding _>>=_
 some-bind o f h k = rw (h, _>>=_) k
 
+pub bind-at : {A B : Type 0} (o : Option A) (f : A → Option B) (a : A) → o ≡ some a → (o >>= f) ≡ f a
+unfolding _>>=_
+bind-at o f a e = rw (e, _>>=_) refl
+
 pub need-true : (t : Bool) {u : Unit {0}} → need t ≡ some u → t ≡ true
 unfolding need
 need-true true h = refl
