@@ -10,7 +10,7 @@ use Rattle.definition.specs.Lists.{every, all, any, doubled, indexOf, isSome, i
 use Rattle.definition.specs.Maybe as Maybe
 use Rattle.definition.specs.Chains.{has, fires, rest, grow, reachFrom, reach, leads}
 use Rattle.definition.specs.Requests.{sameRequest}
-use Rattle.definition.specs.Answers.{endsIn, Shown, shown, details, stepDetails, refusalDetails, signed, less, number, numberOfStep, numberOf, _>>=_, need, take?}
+use Rattle.definition.specs.Answers.{endsIn, shown, details, stepDetails, refusalDetails, signed, less, number, numberOfStep, numberOf, _>>=_, need, take?}
 use Rattle.definition.specs.Superclasses.{seek, nearest, below}
 use Rattle.definition.specs.Classes.{find, lower, superOf, loaderOf, ownSlots, slotsIn, slots, slotIs, hasField, sameSignature, alike, methodsOf, hasMethod, selected, isNamed}
 use Rattle.definition.specs.Constraints.{tieEdges, subtypeEdges, edges, pairAgrees, rowAgrees, agreesOver, agrees, tieIs, newTie, newTies, signatureTies, agreesAfter, post}
@@ -23,7 +23,7 @@ use Rattle.definition.specs.Loading.{subtypeIs, newSubtypes, overrideTie, overr
 use Rattle.definition.specs.Sweeping.{named, roots, linksFrom, reached, sweptFrom, freedFrom}
 use Rattle.definition.specs.Tables.{Tables, subtype, fileAt, classAt}
 use Rattle.definition.specs.declared.Reply.the-variants.{Accepted}
-use Rattle.definition.specs.Calls.{boot, Call, callDefine, callStart, callStep, callRun, callSweep, turn, turnOf, defineRows, recordRows, startRows, dropRows, sweepRows, answerOf, stepTask, stepOn, stepRows}
+use Rattle.definition.specs.Calls.{boot, callDefine, callStart, callStep, callRun, callSweep, turn, turnOf, defineRows, recordRows, startRows, dropRows, sweepRows, answerOf, stepTask, stepOn, stepRows}
 use Rattle.definition.specs.Computing.OnRows.{settle, onRows, runRows, performRows, performAllRows}
 use Rattle.definition.specs.Computing.Samples.{fileF, two, method, fileOf, plain, taker, coded, lifts, pushes, ready, tied12, tied123}
 use Rattle.cases.specs.Cases.{Case, case, line, no, numbersFrom, accepted, Right}

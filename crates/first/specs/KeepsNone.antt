@@ -1,42 +1,37 @@
 -- The first document's machine reads files of version 1 alone: whatever call it is given, tables that keep no file of a later version are left so.
-use mathlib.Core.Path.{_≡_, refl, sym, ap, _∙_, subst, subst₂}
+use mathlib.Core.Path.{_≡_, refl, sym, _∙_, subst₂}
 use mathlib.Core.Bool.{Bool, true, false, false≢true, _&&_}
-use mathlib.Core.Option.{Option, none, some}
-use mathlib.Core.List.{List, [], _∷_, _++_, map}
-use Prim.Native.Nat.{ℕ, zero, suc, _+_, _*_, _<_, _≤_}
+use mathlib.Core.List.{List, [], _∷_, _++_}
+use Prim.Native.Nat.{ℕ, zero, suc, _+_, _<_, _≤_}
 use native.Mathlib.Omega.{arith}
 use lib.ListN.{length, getD, set, take, drop, length-map, length-append, length-drop}
 use lib.Seq.{take-append-le, drop-append-le, drop-at, take-length}
-use lib.Dec.{leb, ltb}
+use lib.Dec.{leb}
 use borrow.Author.Tests.{leb-true, ltb-true, eqb-true, not-false}
-use Rattle.definition.specs.declared.Refusal.{Refusal}
 use Rattle.definition.specs.declared.Refusal.the-variants.{Word}
 use Rattle.definition.specs.declared.Answer.{Answer}
 use Rattle.definition.specs.declared.Answer.the-variants.{Idle, Ran, Finished, Refused}
 use Rattle.definition.specs.declared.Reply.the-variants.{Accepted, Denied}
-use Rattle.definition.specs.Numbers.{wordBroken, wordUnknown, taskLimit, classLimit, keptLimit, runLimit, countClasses, countKept, classesLength, keptLength}
-use Rattle.definition.specs.Lists.{allFrom, every, isSome, rows, writeRows}
-use Rattle.definition.specs.Answers.{Result, refused, ok, _>>=_, need, take?}
+use Rattle.definition.specs.Numbers.{wordBroken, wordUnknown, classLimit, keptLimit, runLimit, countClasses, countKept, classesLength, keptLength}
+use Rattle.definition.specs.Lists.{allFrom, isSome, rows, writeRows}
+use Rattle.definition.specs.Answers.{Result, refused, ok}
 use Rattle.definition.specs.Classes.{Base, Class}
 use Rattle.definition.specs.Constraints.{World}
-use Rattle.definition.specs.File.{File, classOf}
-use Rattle.definition.specs.Loading.{recorded}
+use Rattle.definition.specs.File.{classOf}
 use Rattle.definition.specs.Tables.{ClassRow, classRow, classRowAt, putClassRow, classRowsOf, keptOf}
-use Rattle.definition.specs.Broken.{isObject}
-use Rattle.definition.specs.Calls.{done, runFrom, goOn, ofStep}
+use Rattle.definition.specs.Calls.{done, runFrom, goOn}
 use Rattle.laws.specs.Options.{bind-some, need-true}
 use Rattle.laws.specs.Results.{bind-ok, need-ok, take-ok}
 use Rattle.laws.specs.Wrapped.{Ok, then}
-use Rattle.layout.specs.Tests.{All, all-both, every-true, is-some}
+use Rattle.layout.specs.Tests.{all-both, every-true, is-some}
 use Rattle.layout.specs.Rows.{rows-back, cell-rows, class-rows}
-use Rattle.first.specs.Files.{firstReadFile}
 use Rattle.first.specs.Verifier.{firstDefine}
 use Rattle.first.specs.Tables.{FirstTables, firstCountsLength, firstShaped, firstFileAt, firstClassAt, FirstRows, firstWorldOf, firstViewBase, firstViewOver, firstView, firstCountsOf, firstPut}
 use Rattle.first.specs.Broken.{firstClassFits, firstClassesFit, firstSound, firstWhole, firstBroken}
 use Rattle.first.specs.Calls.{FirstGiven, FirstReply, FirstDone, firstBootRows, firstDefineRows, firstRecordRows, firstStartRows, firstDropRows, firstCarried, firstWrap, firstBoot, firstStepTables, firstRun, FirstRowCall, firstRowDefine, firstRowRecord, firstRowStart, firstRowDrop, firstOnRowCall, FirstCall, firstCallBoot, firstCallRows, firstCallStep, firstCallRun, firstPerform}
 use Rattle.first.specs.SameFiles.{laterFile, read-early}
 use Rattle.first.specs.SameBases.{Early, laterRow, object-early}
-use Rattle.first.specs.Carries.{EarlyTables, carrying, eight-counts}
+use Rattle.first.specs.Carries.{EarlyTables, carrying}
 use Rattle.first.specs.SameCalls.{SameFiles, count-after, early-after, step-early}
 
 -- Classes and kept files that were put are read back, where they have room

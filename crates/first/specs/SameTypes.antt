@@ -1,18 +1,17 @@
 -- A file of version 1 has the notes and the types that it had, at every point of every method, verified or not; and the desk gives the number that it gave.
 use mathlib.Core.Path.{_≡_, refl, sym, ap, _∙_}
 use mathlib.Core.Bool.{Bool, true, false}
-use mathlib.Core.Option.{Option, none, some, Option·none-ne-some}
-use mathlib.Core.List.{List, [], _∷_, _++_, List·Memᴰ, List·Memᴰ·head, List·Memᴰ·tail}
+use mathlib.Core.Option.{Option, none, some}
+use mathlib.Core.List.{List, [], _∷_, List·Memᴰ, List·Memᴰ·head, List·Memᴰ·tail}
 use Prim.Native.Nat.{ℕ, zero, suc, _+_}
 use lib.ListN.{length}
 use lib.Dec.{eqb}
 use Rattle.definition.specs.declared.Kind.{Kind}
 use Rattle.definition.specs.declared.Instruction.{Instruction}
-use Rattle.definition.specs.declared.Instruction.the-variants.{Return}
-use Rattle.definition.specs.Maybe.{_>>=_, need}
-use Rattle.definition.specs.Classes.{Class, Map, Method}
+use Rattle.definition.specs.Maybe.{_>>=_}
+use Rattle.definition.specs.Classes.{Class, Method}
 use Rattle.definition.specs.File.{File, readFile, classOf}
-use Rattle.definition.specs.Instructions.{Decoded, decode}
+use Rattle.definition.specs.Instructions.{Decoded}
 use Rattle.definition.specs.Verifier.{Flow, Note, Onward, Turn, TypeState, after, effect, entryTypes, finished, flowInto, mapAt, mapTypes, mapsPast, notesOf, notesOfMethod, onto, returnKind, returns, startAt, turn, typesAt, typesIn}
 use Rattle.definition.specs.Numbers.{wordFile, wordUnverified}
 use Rattle.definition.specs.Desk.{verifierNumber, deskNumber}
@@ -21,7 +20,7 @@ use Rattle.laws.specs.Walk.{return-is}
 use Rattle.layout.specs.Tests.{All}
 use Rattle.first.specs.Files.{firstReadFile, firstDecode}
 use Rattle.first.specs.Verifier.{firstTypesAt, firstTypesIn, firstNotesOfMethod, firstNotesOf, firstDeskNumber}
-use Rattle.first.specs.SameFiles.{NoMaps, Old, OldClass, Straight, after-straight, decode-straight, laterFile, none-unmapped, read-old, same-all-notes, same-decode, same-notes, same-read}
+use Rattle.first.specs.SameFiles.{NoMaps, Old, Straight, after-straight, decode-straight, laterFile, none-unmapped, read-old, same-all-notes, same-decode, same-notes, same-read}
 
 module _ (version : ℕ) (code : List ℕ) (result : ℕ) (old : Old version) (q : ℕ) where
   -- where the walk goes on after a turn

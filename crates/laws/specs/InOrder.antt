@@ -12,13 +12,11 @@ use lib.Dec.{eqb}
 use borrow.Author.Tests.{eqb-true, ne-eqb}
 use Rattle.definition.specs.Classes.{Class, Map, Method}
 use Rattle.definition.specs.Instructions.{Decoded, decode}
-use Rattle.definition.specs.Maybe.{_>>=_, need}
-use Rattle.definition.specs.Verifier.{Flow, Note, Onward, Turn, TypeState, after, effect, entryTypes, finished, flowInto, flowToTarget, goesOn, mapAt, mapTypes, mapsPast, notesOf, notesOfMethod, onto, returnKind, returns, startAt, target, turn, typesAt, typesIn, verify}
-use Rattle.definition.specs.declared.Kind.{Kind}
-use Rattle.definition.specs.declared.Instruction.{Instruction}
+use Rattle.definition.specs.Maybe.{_>>=_}
+use Rattle.definition.specs.Verifier.{Flow, Note, Onward, Turn, TypeState, after, effect, entryTypes, finished, flowInto, flowToTarget, goesOn, mapAt, mapTypes, mapsPast, notesOf, notesOfMethod, onto, returnKind, returns, startAt, target, typesAt, typesIn, verify}
 use Rattle.laws.specs.Options.{bind-some, some-bind, bind-at}
 use Rattle.laws.specs.Sized.{sized}
-use Rattle.laws.specs.Walk.{Continues, Effected, Notes, On, Returned, Stops, Turns, Types, Went, turn-cases, types-first, types-on, verified, went}
+use Rattle.laws.specs.Walk.{Continues, Effected, Notes, Returned, Stops, Turns, Types, Went, turn-cases, types-first, verified, went}
 use Rattle.laws.specs.Points.{pointsFrom, points, point-here, past-none, point-none}
 
 -- lists of notes, each after those before it; none where one of them fails

@@ -1,25 +1,24 @@
 -- Word 15, read both ways: a method isn't unmapped exactly if, of the instructions before the first that can't be read, each target has a map, and each that follows a
 -- goto or a return has one. Where that holds the walk never wants for a state: what flows to a target fails only by types that don't fit its map, and behind a goto or
 -- a return the walk stops only at code that can't be read. A verified method isn't unmapped.
-use mathlib.Core.Path.{_≡_, refl, sym, _∙_, ap, subst}
+use mathlib.Core.Path.{_≡_, refl, sym, _∙_, subst}
 use mathlib.Core.Bool.{Bool, true, false, not, _&&_, _||_, false≢true}
 use mathlib.Core.Option.{Option, none, some, Option·none-ne-some, Option·some-injective}
-use mathlib.Core.List.{List, [], _∷_, _++_, List·Memᴰ, List·Memᴰ·head, List·Memᴰ·tail, List·Memᴰ·cases-cons, List·Memᴰ·not-nil}
+use mathlib.Core.List.{List, [], _∷_, List·Memᴰ, List·Memᴰ·head, List·Memᴰ·tail, List·Memᴰ·cases-cons, List·Memᴰ·not-nil}
 use mathlib.Core.Logic.{_⊎_, inl, inr}
-use Prim.Native.Nat.{ℕ, zero, suc, _+_, _≤_, _<_}
+use Prim.Native.Nat.{ℕ, zero, suc, _+_, _≤_}
 use native.Mathlib.Omega.{arith}
 use lib.ListN.{length}
 use lib.Dec.{eqb, leb}
-use borrow.Author.Tests.{eqb-true, eqb-false}
+use borrow.Author.Tests.{eqb-false}
 use Rattle.definition.specs.Numbers.{versionTwo}
 use Rattle.definition.specs.Lists.{any, isNone, toList}
 use Rattle.definition.specs.Classes.{Class, Map, Method}
 use Rattle.definition.specs.Instructions.{Decoded, decode}
-use Rattle.definition.specs.Maybe.{_>>=_, need}
-use Rattle.definition.specs.Verifier.{Note, Onward, TypeState, finished, flowToTarget, goesOn, mapAt, mapTypes, meetMap, notesOfMethod, onto, startAt, target, turn, unmapped, unmappedFrom}
-use Rattle.laws.specs.Options.{bind-some}
+use Rattle.definition.specs.Maybe.{_>>=_}
+use Rattle.definition.specs.Verifier.{Onward, TypeState, finished, flowToTarget, goesOn, mapAt, mapTypes, meetMap, onto, startAt, target, unmapped, unmappedFrom}
 use Rattle.laws.specs.Sized.{within, sized}
-use Rattle.laws.specs.Points.{pointsFrom, points, point-here, point-none, point-cases, past-none, no-points}
+use Rattle.laws.specs.Points.{pointsFrom, points, point-here, point-none, no-points}
 
 -- the first of two tests that both fail
 or-false : (a b : Bool) → (a || b) ≡ false → (a ≡ false) × (b ≡ false)

@@ -3,25 +3,25 @@
 use mathlib.Core.Path.{_≡_, refl, sym, _∙_, ap, subst}
 use mathlib.Core.Bool.{Bool, true, false, false≢true}
 use mathlib.Core.Option.{Option, none, some, Option·none-ne-some, Option·some-injective}
-use mathlib.Core.List.{List, [], _∷_, _++_, map, List·Memᴰ, List·Memᴰ·head, List·Memᴰ·tail, Memᴰ·map}
+use mathlib.Core.List.{List, _∷_, _++_, map, List·Memᴰ, List·Memᴰ·head, List·Memᴰ·tail, Memᴰ·map}
 use mathlib.Core.Logic.{_⊎_, inl, inr}
-use Prim.Native.Nat.{ℕ, zero, suc, _+_, _≤_, _<_}
+use Prim.Native.Nat.{ℕ, zero, suc, _+_}
 use native.Mathlib.Omega.{arith}
 use lib.ListN.{length}
 use lib.Dec.{eqb}
-use borrow.Author.Tests.{eqb-true, eqb-false, eq-eqb}
+use borrow.Author.Tests.{eqb-true, eq-eqb}
 use Rattle.definition.specs.Classes.{Class, Map, Method}
 use Rattle.definition.specs.Instructions.{Decoded, decode}
 use Rattle.definition.specs.Maybe.{_>>=_}
-use Rattle.definition.specs.Verifier.{Note, Onward, Turn, TypeState, after, finished, flowInto, flowToTarget, goesOn, mapAt, mapTypes, notesOfMethod, onto, returnKind, startAt, target, turn, typesAt, typesIn, unmapped}
+use Rattle.definition.specs.Verifier.{Note, Onward, Turn, TypeState, after, finished, flowInto, flowToTarget, goesOn, mapAt, mapTypes, notesOfMethod, onto, startAt, target, typesAt, typesIn, unmapped}
 use Rattle.definition.specs.declared.Kind.{Kind}
 use Rattle.definition.specs.declared.Instruction.{Instruction}
 use Rattle.definition.specs.declared.Instruction.the-variants.{Return}
 use Rattle.laws.specs.Options.{bind-some}
 use Rattle.laws.specs.Sized.{within}
-use Rattle.laws.specs.Walk.{Effected, Known, On, Returned, Turned, Types, known, mapped-types, return-is, turn-cases, turned, types-cases, verified}
+use Rattle.laws.specs.Walk.{Effected, On, Returned, Types, known, mapped-types, return-is, turn-cases, turned, types-cases, verified}
 use Rattle.laws.specs.Points.{pointsFrom, points, point-here}
-use Rattle.laws.specs.InOrder.{Goes, entryNotes, inOrder, notesAt, notes-in-order, pointNotes, together, turn-does}
+use Rattle.laws.specs.InOrder.{Goes, inOrder, notesAt, notes-in-order, pointNotes, together, turn-does}
 use Rattle.laws.specs.Mapped.{AllMapped, HasMap, Mapped, all-mapped}
 
 -- of lists that stand together each is there

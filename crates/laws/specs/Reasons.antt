@@ -2,30 +2,26 @@
 use mathlib.Core.Path.{_≡_, refl, sym, _∙_, ap, subst}
 use mathlib.Core.Bool.{Bool, true, false, false≢true}
 use mathlib.Core.Option.{Option, none, some, Option·none-ne-some, Option·some-injective}
-use mathlib.Core.List.{List, [], _∷_, _++_, List·Memᴰ, List·Memᴰ·head, List·Memᴰ·tail, List·Memᴰ·not-nil, Memᴰ·append-left, Memᴰ·append-right}
+use mathlib.Core.List.{List, [], _∷_, _++_, List·Memᴰ, List·Memᴰ·head, List·Memᴰ·tail, List·Memᴰ·not-nil}
 use mathlib.Core.Logic.{_⊎_, inl, inr}
 use Prim.Native.Nat.{ℕ, zero, suc, _+_, _≤_, _<_}
 use native.Mathlib.Omega.{arith}
 use lib.ListN.{length}
 use lib.Dec.{eqb, leb, ltb}
-use borrow.Author.Tests.{eqb-true, eqb-false, eq-eqb, ltb-true, ltb-false, leb-true}
-use Rattle.definition.specs.Lists.{toList}
+use borrow.Author.Tests.{eqb-true, eqb-false, eq-eqb, ltb-true, ltb-false}
 use Rattle.definition.specs.Numbers.{versionTwo}
 use Rattle.definition.specs.Classes.{Class, Map, Method}
 use Rattle.definition.specs.File.{File, readFile, classOf}
 use Rattle.definition.specs.Instructions.{Decoded, decode}
 use Rattle.definition.specs.Maybe.{_>>=_, need}
-use Rattle.definition.specs.Verifier.{Flow, Note, Onward, Turn, TypeState, after, effect, entryTypes, finished, flowInto, flowToTarget, goesOn, mapAt, mapTypes, mapsPast, meetMap, notesOfMethod, onto, returnKind, returns, startAt, target, turn, typesAt, typesIn, unmapped, verify}
-use Rattle.definition.specs.declared.Kind.{Kind}
-use Rattle.definition.specs.declared.Instruction.{Instruction}
-use Rattle.definition.specs.declared.Instruction.the-variants.{Return}
+use Rattle.definition.specs.Verifier.{Flow, Note, Onward, Turn, TypeState, after, entryTypes, finished, flowInto, goesOn, mapAt, mapTypes, mapsPast, notesOfMethod, onto, startAt, turn, typesIn, unmapped, verify}
 use Rattle.laws.specs.Options.{bind-some, bind-at, need-true}
 use Rattle.laws.specs.Sized.{within, sized}
-use Rattle.laws.specs.Walk.{Effected, Returned, Turns, Types, return-is, successors, turn-cases, types-here}
-use Rattle.laws.specs.Points.{points, point-between, point-first, point-next, point-reads, past-none}
+use Rattle.laws.specs.Walk.{Effected, Returned, Turns, Types, turn-cases, types-here}
+use Rattle.laws.specs.Points.{points, point-between, point-reads, past-none}
 use Rattle.laws.specs.InOrder.{Goes, turn-does, types-past}
 use Rattle.laws.specs.Mapped.{AllMapped, mapped-all}
-use Rattle.laws.specs.Rejected.{Comes, Misfit, Rejected, Unfit, bind-none, mapped-none, comes-point, flow-fails, turn-rejected, first, behind, entryMisfits, unread, unfit, misfits, stray}
+use Rattle.laws.specs.Rejected.{Comes, Rejected, bind-none, mapped-none, comes-point, flow-fails, turn-rejected, first, behind, entryMisfits, unread, stray}
 use Rattle.laws.specs.Rising.{Rises, read-rises, rises-at, rises-less}
 
 module _ (k : Class) (m : Method) where

@@ -4,22 +4,22 @@
 use mathlib.Core.Path.{_≡_, refl, sym, _∙_, ap, subst}
 use mathlib.Core.Bool.{Bool, true, false, false≢true}
 use mathlib.Core.Option.{Option, none, some, Option·none-ne-some, Option·some-injective}
-use mathlib.Core.List.{List, [], _∷_, _++_, List·Memᴰ, List·Memᴰ·head, List·Memᴰ·tail, Memᴰ·append-left, Memᴰ·append-right}
+use mathlib.Core.List.{List, [], _++_, List·Memᴰ, List·Memᴰ·head, Memᴰ·append-right}
 use mathlib.Core.Logic.{_⊎_, inl, inr}
-use Prim.Native.Nat.{ℕ, zero, suc, _+_, _≤_, _<_}
+use Prim.Native.Nat.{ℕ, _+_}
 use native.Mathlib.Omega.{arith}
 use lib.ListN.{length}
 use Rattle.definition.specs.Lists.{toList}
 use Rattle.definition.specs.Classes.{Class, Map, Method}
 use Rattle.definition.specs.Instructions.{Decoded, decode}
-use Rattle.definition.specs.Maybe.{_>>=_, need}
-use Rattle.definition.specs.Verifier.{Flow, Note, Onward, Turn, TypeState, after, effect, entryTypes, finished, flowInto, flowToTarget, goesOn, mapAt, mapTypes, mapsPast, meetMap, notesOfMethod, onto, returnKind, returns, startAt, target, turn, typesAt, typesIn, verify}
+use Rattle.definition.specs.Maybe.{_>>=_}
+use Rattle.definition.specs.Verifier.{Flow, Note, Onward, Turn, TypeState, after, effect, entryTypes, flowInto, goesOn, mapAt, mapTypes, meetMap, notesOfMethod, onto, returnKind, returns, startAt, target, turn, typesIn}
 use Rattle.definition.specs.declared.Kind.{Kind}
 use Rattle.definition.specs.declared.Instruction.{Instruction}
 use Rattle.definition.specs.declared.Instruction.the-variants.{Return}
-use Rattle.laws.specs.Walk.{Effected, Ends, Goes as Passes, Into, Known, Returned, entry, known, return-is, successors, turn-cases, turned}
+use Rattle.laws.specs.Walk.{Effected, Ends, Goes as Passes, Returned, entry, known, return-is, successors, turn-cases, turned}
 use Rattle.laws.specs.Points.{points, point-first, point-next, point-reads}
-use Rattle.laws.specs.InOrder.{Throughout, points-throughout}
+use Rattle.laws.specs.InOrder.{points-throughout}
 use Rattle.laws.specs.Paths.{maps-start, point-types, types-point}
 use Rattle.laws.specs.Mapped.{AllMapped, target-fails, start-fails}
 

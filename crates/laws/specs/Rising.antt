@@ -1,9 +1,9 @@
 -- The maps of a file that reads stand by rising offset.
-use mathlib.Core.Path.{_≡_, refl, sym, _∙_, ap, subst}
+use mathlib.Core.Path.{_≡_, ap}
 use mathlib.Core.Bool.{Bool, true, false}
-use mathlib.Core.Option.{Option, none, some, Option·none-ne-some, Option·some-injective}
+use mathlib.Core.Option.{Option, some}
 use mathlib.Core.List.{List, [], _∷_, List·Memᴰ, List·Memᴰ·head, List·Memᴰ·tail, List·Memᴰ·not-nil}
-use Prim.Native.Nat.{ℕ, zero, suc, _+_, _≤_, _<_}
+use Prim.Native.Nat.{ℕ, zero, suc, _≤_}
 use native.Mathlib.Omega.{arith}
 use lib.ListN.{drop}
 use lib.Dec.{leb}
@@ -11,7 +11,7 @@ use borrow.Author.Tests.{leb-true}
 use Rattle.definition.specs.Numbers.{versionTwo}
 use Rattle.definition.specs.Classes.{Map, Method}
 use Rattle.definition.specs.File.{File, Got, byte, name, mapIn, mapsFrom, mapsIn, methodsIn, readFile}
-use Rattle.definition.specs.Maybe.{_>>=_, need}
+use Rattle.definition.specs.Maybe.{_>>=_}
 use Rattle.laws.specs.Options.{Holds, holds-past, holds-on, holds-need, holds-at}
 
 -- by rising offset, the first at o or later
