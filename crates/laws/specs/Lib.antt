@@ -17,6 +17,7 @@ pub mod Paths
 pub mod Rising
 pub mod Rejected
 pub mod Reasons
+pub mod Posted
 pub mod Objects
 pub mod Sweeps
 pub mod Stable
