@@ -10,12 +10,14 @@ use lib.ListN.{length}
 use lib.Dec.{eqb, leb, ltb}
 use borrow.Author.Tests.{eqb-true, eqb-false, eq-eqb, ltb-true, ltb-false}
 use Rattle.definition.specs.Numbers.{versionTwo}
+use Rattle.definition.specs.Lists.{any}
 use Rattle.definition.specs.Classes.{Class, Map, Method}
 use Rattle.definition.specs.File.{File, readFile, classOf}
 use Rattle.definition.specs.Instructions.{Decoded, decode}
 use Rattle.definition.specs.Maybe.{_>>=_, need}
-use Rattle.definition.specs.Verifier.{Flow, Note, Onward, Turn, TypeState, after, entryTypes, finished, flowInto, goesOn, mapAt, mapTypes, mapsPast, notesOfMethod, onto, startAt, turn, typesIn, unmapped, verify}
+use Rattle.definition.specs.Verifier.{Flow, Note, Onward, Turn, TypeState, after, entryTypes, finished, flowInto, goesOn, mapAt, mapTypes, mapsPast, notesOf, notesOfMethod, onto, startAt, turn, typesIn, unmapped, verify}
 use Rattle.laws.specs.Options.{bind-some, bind-at, need-true}
+use Rattle.laws.specs.Tests.{any-false}
 use Rattle.laws.specs.Sized.{within, sized}
 use Rattle.laws.specs.Walk.{Effected, Returned, Turns, Types, turn-cases, types-here}
 use Rattle.laws.specs.Points.{points, point-between, point-reads, past-none}
@@ -181,3 +183,18 @@ rejected-for k m all rises h = elim (bind-none _ _ h) [
 pub why-rejected : (l : ℕ) (bs : List ℕ) (f : File) → readFile bs ≡ some f → leb versionTwo (f .version) ≡ true → (m : Method) → List·Memᴰ m (f .methods)
     → unmapped (classOf l f) m ≡ false → notesOfMethod (classOf l f) m ≡ none → Rejected (classOf l f) m
 why-rejected l bs f e two m x u h = rejected-for (classOf l f) m (mapped-all (classOf l f) m two u) (read-rises bs f e m x) h
+
+some-unverified : (k : Class) (ms : List Method) → notesOf k ms ≡ none → (m : Method) × List·Memᴰ m ms × (notesOfMethod k m ≡ none)
+unfolding notesOf
+some-unverified k [] h = absurd (Option·none-ne-some [] (sym h))
+some-unverified k (m ∷ ms) h = elim (bind-none _ _ h) [
+  | inl e ↦ (m, List·Memᴰ·head refl, e)
+  | inr (ns, e, z) ↦ let r = some-unverified k ms (mapped-none _ (λ rs. ns ++ rs) z) in (r .0, List·Memᴰ·tail (r .1), r .2)
+]
+
+-- so a file of version 2 that gets word 6, and not 15, has a method with such a reason
+pub why-unverified : (l : ℕ) (bs : List ℕ) (f : File) → readFile bs ≡ some f → leb versionTwo (f .version) ≡ true → any (unmapped (classOf l f)) (f .methods) ≡ false
+    → notesOf (classOf l f) (f .methods) ≡ none → (m : Method) × List·Memᴰ m (f .methods) × Rejected (classOf l f) m
+why-unverified l bs f e two u h =
+    let r = some-unverified (classOf l f) (f .methods) h in
+    (r .0, r .1, why-rejected l bs f e two (r .0) (r .1) (any-false (unmapped (classOf l f)) (f .methods) u (r .0) (r .1)) (r .2))

@@ -1,4 +1,4 @@
--- What everything else knows of the verifier's walk over a method: `notesOfMethod` and `typesIn` by these laws alone. The entry types flow into
+-- What is known of the verifier's walk over a method: `notesOfMethod` and `typesIn` by these laws alone, but for InOrder, Paths and Reasons, which follow the walk itself. The entry types flow into
 -- point 0. At a point that has types the instruction reads; it is a return that fits the result type, or has an effect, and the types that it
 -- leaves flow into each of its successors, which has types: these, or its map's. All notes of that are among the method's.
 use mathlib.Core.Path.{_≡_, refl, sym, _∙_, ap, subst, subst₂}
