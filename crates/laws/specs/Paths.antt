@@ -1,9 +1,9 @@
 -- In a verified method the points that have types are exactly those at which its instructions start. Every map and every target lies at one of them, and the types at
--- a map's point are the map's (`mapped-types`, Walk). A verified method is never unmapped: word 15 is given only where the verifier would reject.
+-- a map's point are the map's (`mapped-types`, Walk). The last instruction is a goto or a return. A verified method is never unmapped: word 15 is given only where the verifier would reject.
 use mathlib.Core.Path.{_≡_, refl, sym, _∙_, ap, subst}
 use mathlib.Core.Bool.{Bool, true, false, false≢true}
 use mathlib.Core.Option.{Option, none, some, Option·none-ne-some, Option·some-injective}
-use mathlib.Core.List.{List, _∷_, _++_, map, List·Memᴰ, List·Memᴰ·head, List·Memᴰ·tail, Memᴰ·map}
+use mathlib.Core.List.{List, _∷_, _++_, map, List·Memᴰ, List·Memᴰ·head, List·Memᴰ·tail, Memᴰ·append-right, Memᴰ·map}
 use mathlib.Core.Logic.{_⊎_, inl, inr}
 use Prim.Native.Nat.{ℕ, zero, suc, _+_}
 use native.Mathlib.Omega.{arith}
@@ -12,6 +12,7 @@ use lib.Dec.{eqb}
 use borrow.Author.Tests.{eqb-true, eq-eqb}
 use Rattle.definition.specs.Classes.{Class, Map, Method}
 use Rattle.definition.specs.Instructions.{Decoded, decode}
+use Rattle.definition.specs.Lists.{toList}
 use Rattle.definition.specs.Maybe.{_>>=_}
 use Rattle.definition.specs.Verifier.{Note, Onward, Turn, TypeState, after, finished, flowInto, flowToTarget, goesOn, mapAt, mapTypes, notesOfMethod, onto, startAt, target, typesAt, typesIn, unmapped}
 use Rattle.definition.specs.declared.Kind.{Kind}
@@ -19,8 +20,8 @@ use Rattle.definition.specs.declared.Instruction.{Instruction}
 use Rattle.definition.specs.declared.Instruction.the-variants.{Return}
 use Rattle.laws.specs.Options.{bind-some}
 use Rattle.laws.specs.Sized.{within}
-use Rattle.laws.specs.Walk.{Effected, On, Returned, Types, known, mapped-types, return-is, turn-cases, turned, types-cases, verified}
-use Rattle.laws.specs.Points.{pointsFrom, points, point-here}
+use Rattle.laws.specs.Walk.{Effected, Ends, Goes as Passes, On, Returned, Types, known, mapped-types, return-is, turn-cases, turned, types-cases, verified}
+use Rattle.laws.specs.Points.{pointsFrom, points, point-here, point-reads}
 use Rattle.laws.specs.InOrder.{Goes, inOrder, notesAt, notes-in-order, pointNotes, together, turn-does}
 use Rattle.laws.specs.Mapped.{AllMapped, HasMap, Mapped, all-mapped}
 
@@ -126,3 +127,34 @@ module _ (k : Class) (m : Method) (ns : List Note) (v : notesOfMethod k m ≡ so
 
   pub verified-never-unmapped : unmapped k m ≡ false
   verified-never-unmapped = all-mapped k m verified-mapped
+
+  goes-on : (i : Instruction) (kind : Kind) → i ≡ Return kind → goesOn i ≡ true → ⊥
+  unfolding goesOn
+  goes-on i kind e g = false≢true (rw e at g)
+
+  -- where an instruction goes on, another starts behind it
+  pub next-start : (q : ℕ) (i : Decoded) → List·Memᴰ q (points k m) → decode (k .version) (m .code) q ≡ some i → goesOn (i .instruction) ≡ true → List·Memᴰ (q + i .size) (points k m)
+  next-start q i x d g =
+      let τ = point-types q x in
+      let n = known k m ns v q (τ .0) (τ .1) in
+      let same : n .at ≡ i = Option·some-injective _ _ (sym (n .reads) ∙ d) in
+      go (n .at) same (n .way)
+    where
+      go : (j : Decoded) → j ≡ i → Ends (k .version) (m .code) (m .maps) (m .signature .result) (typesIn k m) ns (point-types q x .0) j
+          ⊎ Passes (k .version) (m .code) (m .maps) (m .signature .result) (typesIn k m) ns q (point-types q x .0) j → List·Memᴰ (q + i .size) (points k m)
+      go j e (inl w) = absurd (goes-on (j .instruction) (w .kind) (w .is) (rw e g))
+      go j e (inr w) =
+          let on : goesOn (j .instruction) ≡ true = rw e g in
+          let here : q + j .size ≡ q + i .size = ap (λ (y : Decoded). q + y .size) e in
+          let a = w .next (q + j .size) (Memᴰ·append-right (toList (target (j .instruction))) (rw on (List·Memᴰ·head refl))) in
+          rw here at (types-point (q + j .size) (a .flows .types) (a .has))
+
+  -- so the code ends with a goto or a return: no path runs off the end
+  pub last-ends : (q : ℕ) (i : Decoded) → List·Memᴰ q (points k m) → decode (k .version) (m .code) q ≡ some i → q + i .size ≡ length (m .code) → goesOn (i .instruction) ≡ false
+  last-ends q i x d e = go (goesOn (i .instruction)) refl
+    where
+      go : (b : Bool) → goesOn (i .instruction) ≡ b → b ≡ false
+      go false g = refl
+      go true g =
+          let r = point-reads (k .version) (m .code) (length (m .code)) 0 (q + i .size) (next-start q i x d g) in
+          absurd (omega (arith, within (k .version) (m .code) (q + i .size) (r .0) (r .1)))

@@ -1,8 +1,8 @@
 -- Why the verifier rejects a method whose targets and followers have maps (`AllMapped`, word 15's passing) and whose maps rise, as a file's do: entry types that don't
 -- fit the map at point 0; a point to which the code leads where no instruction is read, the end of the code included; types that don't fit an instruction; what an
 -- instruction leaves doesn't fit the map of a successor; a map that isn't at an instruction's start. Never for want of a map. And each of these is rejected.
-use mathlib.Core.Path.{_≡_, refl, sym, _∙_, ap, subst}
-use mathlib.Core.Bool.{Bool, true, false, false≢true}
+use mathlib.Core.Path.{_≡_, refl, sym, _∙_, subst}
+use mathlib.Core.Bool.{Bool, true, false}
 use mathlib.Core.Option.{Option, none, some, Option·none-ne-some, Option·some-injective}
 use mathlib.Core.List.{List, [], _++_, List·Memᴰ, List·Memᴰ·head, Memᴰ·append-right}
 use mathlib.Core.Logic.{_⊎_, inl, inr}
@@ -20,7 +20,7 @@ use Rattle.definition.specs.declared.Instruction.the-variants.{Return}
 use Rattle.laws.specs.Walk.{Effected, Ends, Goes as Passes, Returned, entry, known, return-is, successors, turn-cases, turned}
 use Rattle.laws.specs.Points.{points, point-first, point-next, point-reads}
 use Rattle.laws.specs.InOrder.{points-throughout}
-use Rattle.laws.specs.Paths.{maps-start, point-types, types-point}
+use Rattle.laws.specs.Paths.{maps-start, next-start}
 use Rattle.laws.specs.Mapped.{AllMapped, target-fails, start-fails}
 
 -- In sequence: the first fails, or what follows it
@@ -142,36 +142,15 @@ unfolding flowInto _>>=_
 fits-not k m p s x e z f h = Option·none-ne-some f ((rw (e, flowInto) (rw (z, _>>=_) refl)) ∙ h)
 
 module _ (k : Class) (m : Method) (ns : List Note) (v : notesOfMethod k m ≡ some ns) where
-  goes-on : (i : Instruction) (kind : Kind) → i ≡ Return kind → goesOn i ≡ true → ⊥
-  unfolding goesOn
-  goes-on i kind e g = false≢true (rw e at g)
-
   kind-of : (i : Instruction) (kind : Kind) → i ≡ Return kind → returnKind i ≡ some kind
   kind-of i kind e = rw e (unfold returnKind in refl)
-
-  -- where an instruction goes on, the next point is read
-  next-read : (q : ℕ) (i : Decoded) → List·Memᴰ q (points k m) → decode (k .version) (m .code) q ≡ some i → goesOn (i .instruction) ≡ true → List·Memᴰ (q + i .size) (points k m)
-  next-read q i x d g =
-      let τ = point-types k m ns v q x in
-      let n = known k m ns v q (τ .0) (τ .1) in
-      let same : n .at ≡ i = Option·some-injective _ _ (sym (n .reads) ∙ d) in
-      go (n .at) same (n .way)
-    where
-      go : (j : Decoded) → j ≡ i → Ends (k .version) (m .code) (m .maps) (m .signature .result) (typesIn k m) ns (point-types k m ns v q x .0) j
-          ⊎ Passes (k .version) (m .code) (m .maps) (m .signature .result) (typesIn k m) ns q (point-types k m ns v q x .0) j → List·Memᴰ (q + i .size) (points k m)
-      go j e (inl w) = absurd (goes-on (j .instruction) (w .kind) (w .is) (rw e g))
-      go j e (inr w) =
-          let on : goesOn (j .instruction) ≡ true = rw e g in
-          let here : q + j .size ≡ q + i .size = ap (λ (y : Decoded). q + y .size) e in
-          let a = w .next (q + j .size) (Memᴰ·append-right (toList (target (j .instruction))) (rw on (List·Memᴰ·head refl))) in
-          rw here at (types-point k m ns v (q + j .size) (a .flows .types) (a .has))
 
   comes-read : (q : ℕ) → Comes k m q → List·Memᴰ q (points k m)
   comes-read q first = points-throughout k m ns v .from-first
   comes-read q (behind p i x d n) = go (goesOn (i .instruction)) refl (points-throughout k m ns v .to-last p x i d)
     where
       go : (b : Bool) → goesOn (i .instruction) ≡ b → (p + i .size ≡ length (m .code)) ⊎ List·Memᴰ (p + i .size) (points k m) → List·Memᴰ (p + i .size) (points k m)
-      go true e o = next-read p i x d e
+      go true e o = next-start k m ns v p i x d e
       go false e (inl z) = absurd (n e z)
       go false e (inr y) = y
 
