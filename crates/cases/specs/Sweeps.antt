@@ -128,14 +128,14 @@ sweeps =
 
 -- a sweep that frees none leaves the rows as they were
 
-unfoldable freedIn : Rows → ℕ
+unfoldable pub freedIn : Rows → ℕ
 freedIn r = freedFrom (reached (r .objects) (r .quote ++ r .report)) 0 (r .objects)
 
 leaves : (r : Rows) → freedIn r ≡ 0 → performRows callSweep r .rows ≡ r
 unfolding freedIn performRows onRows settle sweepRows
 leaves r z = ap (λ (os : Objects). withObjects os r) (none-freed (reached (r .objects) (r .quote ++ r .report)) 0 (r .objects) z)
 
-unfreed : (c : Case) → c .last ≡ callSweep → freedIn (rowsBefore c) ≡ 0 → rowsAfter c ≡ rowsBefore c
+pub unfreed : (c : Case) → c .last ≡ callSweep → freedIn (rowsBefore c) ≡ 0 → rowsAfter c ≡ rowsBefore c
 unfolding rowsAfter
 unfreed c e z = ap (λ (d : Call). performRows d (rowsBefore c) .rows) e ∙ leaves (rowsBefore c) z
 

@@ -7,6 +7,7 @@ pub mod Tables
 pub mod Broken
 pub mod Calls
 pub mod SameFiles
+pub mod SameTypes
 pub mod SameBases
 pub mod SameObjects
 pub mod Likewise
@@ -15,4 +16,5 @@ pub mod SameRows
 pub mod Carries
 pub mod Written
 pub mod SameCalls
+pub mod KeepsNone
 pub mod Same

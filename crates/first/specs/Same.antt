@@ -12,14 +12,16 @@ use mathlib.Core.List.{List, [], _∷_, map}
 use mathlib.Core.Logic.{_⊎_, inl, inr}
 use Rattle.definition.specs.Lists.{Each}
 use Rattle.definition.specs.declared.Reply.{Reply}
-use Rattle.definition.specs.declared.Reply.the-variants.{Stepped}
+use Rattle.definition.specs.declared.Reply.the-variants.{Accepted, Stepped}
 use Rattle.definition.specs.Tables.{Tables}
-use Rattle.definition.specs.Calls.{Done, Call, callBoot, callRows, callStep, callRun, perform, performAll}
+use Rattle.definition.specs.Calls.{boot, Done, Call, callBoot, callRows, callStep, callRun, perform, performAll}
 use Rattle.first.specs.Tables.{FirstTables}
-use Rattle.first.specs.Calls.{FirstReply, FirstRowCall, firstRowDefine, firstRowRecord, firstRowStart, firstRowDrop, FirstCall, firstCallBoot, firstCallRows, firstCallStep, firstCallRun, FirstDone, firstPerform, firstPerformAll}
+use Rattle.first.specs.Calls.{FirstReply, FirstRowCall, firstRowDefine, firstRowRecord, firstRowStart, firstRowDrop, FirstCall, firstCallBoot, firstCallRows, firstCallStep, firstCallRun, FirstDone, firstBoot, firstPerform, firstPerformAll}
 use Rattle.first.specs.SameFiles.{laterFile}
 use Rattle.first.specs.SameRows.{BringsLater, BringsNone, todayRow}
 pub use Rattle.first.specs.Carries.{Carries, EarlyTables, keepsLater, keeps-none, same-broken}
+use Rattle.layout.specs.Tests.{All}
+use Rattle.first.specs.KeepsNone.{keeps-early, booted-early}
 use Rattle.first.specs.SameCalls.{same-boot, same-rows-call, same-step-tables, same-run}
 
 -- a call of the first document, asked of today's machine
@@ -47,7 +49,7 @@ pub record Alike (d : FirstDone FirstReply) (e : Done Reply) : Type 0 where
   pub tables : Carries (d .tables) (e .tables)
 
 -- a call that brings no such file, on tables that keep none
-abbrev CallBringsNone : FirstCall → Type 0
+abbrev pub CallBringsNone : FirstCall → Type 0
 CallBringsNone firstCallBoot = Unit {0}
 CallBringsNone (firstCallRows c) = BringsNone c
 CallBringsNone firstCallStep = Unit {0}
@@ -110,3 +112,24 @@ many-calls (c ∷ cs) u t h n = go (one-call c u t h) (λ k. many-calls cs (firs
         × Carries (firstPerformAll (c ∷ cs) u .tables) (performAll (map today (c ∷ cs)) t .tables)
     go (inl x) later = absurd (n .0 x)
     go (inr a) later = let l = later (a .tables) in ((a .answer, l .0), l .1)
+
+-- Version 1 alone: the calls bring no file of a later version, and the tables keep none. Then every answer is what it was, and the tables left keep none
+
+abbrev SameLeft : List FirstCall → FirstTables → Tables → Type 0
+SameLeft cs u t = Each SameAnswer (firstPerformAll cs u .answer) (performAll (map today cs) t .answer) × Carries (firstPerformAll cs u .tables) (performAll (map today cs) t .tables)
+
+pub answers-kept : (cs : List FirstCall) → All CallBringsNone cs → (u : FirstTables) (t : Tables) → Carries u t → EarlyTables u → SameLeft cs u t × EarlyTables (firstPerformAll cs u .tables)
+unfolding performAll firstPerformAll
+answers-kept [] b u t h x = ((tt, h), x)
+answers-kept (c ∷ cs) b u t h x =
+    let a = same-call c (b .0) u t h x in
+    let r = answers-kept cs (b .1) (firstPerform c u .tables) (perform (today c) t .tables) (a .tables) (keeps-early c u x) in
+    (((a .answer, r .0 .0), r .0 .1), r .1)
+
+-- so from a boot that is accepted, whatever the tables held
+pub answers-from-boot : (u : FirstTables) (t : Tables) → Carries u t → firstBoot u .answer ≡ Accepted → (cs : List FirstCall) → All CallBringsNone cs → SameLeft (firstCallBoot ∷ cs) u t
+unfolding performAll firstPerformAll firstPerform perform
+answers-from-boot u t h e cs b =
+    let a = same-boot u t h in
+    let r = answers-kept cs b (firstBoot u .tables) (boot t .tables) (a .tables) (booted-early u e) in
+    ((a .answer, r .0 .0), r .0 .1)

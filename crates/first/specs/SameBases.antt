@@ -20,14 +20,14 @@ use Rattle.definition.specs.Instructions.{Decoded}
 use Rattle.definition.specs.Machine.{Frame, Now, now}
 use Rattle.definition.specs.Tables.{ClassRow, fileAt, classAt, sizeOf}
 use Rattle.definition.specs.Broken.{isObject, classFits, classesFit}
-use Rattle.laws.specs.Options.{bind-some}
+use Rattle.laws.specs.Options.{bind-some, holds-at}
 use Rattle.laws.specs.Results.{bind-ok, ok-inj, take-ok}
 use Rattle.layout.specs.Tests.{All, every-true, is-some}
 use Rattle.first.specs.Files.{firstDecode}
 use Rattle.first.specs.Machine.{firstNow}
 use Rattle.first.specs.Tables.{firstFileAt, firstClassAt}
 use Rattle.first.specs.Broken.{firstClassFits, firstClassesFit}
-use Rattle.first.specs.SameFiles.{laterFile, Old, Straight, same-read, read-early, read-old, same-decode, decode-straight, holds-at}
+use Rattle.first.specs.SameFiles.{laterFile, Old, Straight, same-read, read-early, read-old, same-decode, decode-straight}
 
 -- the row's bytes begin with version 2
 unfoldable pub laterRow : List ℕ → ClassRow → Bool
@@ -107,7 +107,7 @@ from-early b bs c (k ∷ ks) h = go (firstClassFits b bs c k) refl h (from-early
     go true e q ih = (class-early b bs c k e, ih q)
     go false e q ih = absurd (false≢true q)
 
-object-early : (bs : List ℕ) (k : ClassRow) → isObject k ≡ true → laterRow bs k ≡ false
+pub object-early : (bs : List ℕ) (k : ClassRow) → isObject k ≡ true → laterRow bs k ≡ false
 unfolding isObject laterRow laterFile
 object-early bs k h = rw (eqb-true (k .size) 0 (every-true _ h .1 .1 .0)) refl
 

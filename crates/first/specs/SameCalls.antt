@@ -77,7 +77,7 @@ same-rows-call c b = same-wrap Denied (firstOnRowCall c) (onRowCall (todayRow c)
 
 -- A step leaves the classes and their files
 
-count-after : (xs c : List ℕ) (j : ℕ) → length xs ≡ firstCountsLength → length c ≡ firstCountsLength → j < firstCountsLength → getD (writeRows set xs 0 c) j 0 ≡ getD xs j 0
+pub count-after : (xs c : List ℕ) (j : ℕ) → length xs ≡ firstCountsLength → length c ≡ firstCountsLength → j < firstCountsLength → getD (writeRows set xs 0 c) j 0 ≡ getD xs j 0
 count-after xs c j a b l =
     let z : 0 + j ≡ j = omega arith in
     sym (rw z at (rows-getD (λ i. getD (writeRows set xs 0 c) i 0) (length xs) 0 j 0 (omega (arith, a))))
@@ -100,10 +100,10 @@ module _ (u : FirstTables) (r : FirstRows) (eight : length (u .counts) ≡ first
       = count-after (firstCountsOf r) (u .counts) countKept refl eight (omega arith) ∙ (ap length bs ∙ kept-fill u .count) in
       λ i. rows (λ j. getD (cells i) j 0) (many i) 0
 
-  early-after : EarlyTables u → EarlyTables (firstPut r u)
+  pub early-after : EarlyTables u → EarlyTables (firstPut r u)
   early-after x = subst₂ (λ y z. Early y z) (sym kept-after) (sym classes-after) x
 
-abbrev SameFiles : FirstRows → FirstGiven Answer → Type 0
+abbrev pub SameFiles : {A : Type 0} → FirstRows → FirstGiven A → Type 0
 SameFiles r g = (g .rows .classes ≡ r .classes) × (g .rows .kept ≡ r .kept)
 
 step-files : (r : FirstRows) → Ok (firstStepRows r) (SameFiles r)
@@ -118,7 +118,7 @@ step-files r = go (r .quote) (r .report)
     go [] (f ∷ fs) = unfold firstStepOn in task 1 f fs
     go [] [] = unfold firstStepOn in (refl, refl)
 
-step-early : (u : FirstTables) (t : Tables) → Carries u t → EarlyTables u → EarlyTables (firstStepTables u .tables)
+pub step-early : (u : FirstTables) (t : Tables) → Carries u t → EarlyTables u → EarlyTables (firstStepTables u .tables)
 unfolding firstStepTables firstWrap firstView firstViewOver
 step-early u t h x = go (firstBroken u) refl
   where

@@ -22,7 +22,7 @@ use Rattle.definition.specs.File.{File, Got, byte, mapsIn, methodsIn, readFile,
 use Rattle.definition.specs.Instructions.{pick, opcodeOf, inlineLength, instructionOf, Decoded, sizedAs, decode}
 use Rattle.definition.specs.Verifier.{Flow, Note, Onward, Turn, TypeState, after, effect, entryTypes, finished, flowInto, flowToTarget, goesOn, mapAt, mapTypes, mapsPast, notesOf, notesOfMethod, onto, returnKind, returns, startAt, target, turn, unmapped, verify}
 use Rattle.definition.specs.Loading.{define}
-use Rattle.laws.specs.Options.{bind-some, need-true}
+use Rattle.laws.specs.Options.{bind-some, need-true, Holds, holds-past, holds-on, holds-need, holds-at}
 use Rattle.layout.specs.Tests.{All}
 use Rattle.first.specs.Files.{firstMethodsIn, firstReadFile, firstOpcodeOf, firstDecode}
 use Rattle.first.specs.Verifier.{firstVerify, firstNotesOfMethod, firstNotesOf, firstDefine}
@@ -44,7 +44,7 @@ OldClass k = Old (k .version) × All NoMaps (k .methods)
 
 -- In sequence
 
-bind-eq : {A B : Type 0} (o p : Option A) → o ≡ p → (f g : A → Option B) → ((a : A) → f a ≡ g a) → (o >>= f) ≡ (p >>= g)
+pub bind-eq : {A B : Type 0} (o p : Option A) → o ≡ p → (f g : A → Option B) → ((a : A) → f a ≡ g a) → (o >>= f) ≡ (p >>= g)
 unfolding _>>=_
 bind-eq none p e f g k = rw (← e) refl
 bind-eq (some a) p e f g k = rw (← e) (k a)
@@ -52,7 +52,7 @@ bind-eq (some a) p e f g k = rw (← e) (k a)
 bind-same : {A B : Type 0} (o : Option A) (f g : A → Option B) → ((a : A) → f a ≡ g a) → (o >>= f) ≡ (o >>= g)
 bind-same o = bind-eq o o refl
 
-bind-in : {A B : Type 0} (o : Option A) (f g : A → Option B) → ((a : A) → o ≡ some a → f a ≡ g a) → (o >>= f) ≡ (o >>= g)
+pub bind-in : {A B : Type 0} (o : Option A) (f g : A → Option B) → ((a : A) → o ≡ some a → f a ≡ g a) → (o >>= f) ≡ (o >>= g)
 unfolding _>>=_
 bind-in none f g k = refl
 bind-in (some a) f g k = k a refl
@@ -65,30 +65,6 @@ need-eq : {B : Type 0} (t u : Bool) → u ≡ t → (f g : Unit {0} → Option B
 unfolding _>>=_ need
 need-eq true u e f g k = rw e (k refl)
 need-eq false u e f g k = rw e refl
-
--- what holds of what was read, if it was read
-abbrev pub Holds : {A : Type 0} → Option A → (A → Type 0) → Type 0
-Holds none Q = Unit {0}
-Holds (some a) Q = Q a
-
-holds-past : {A B : Type 0} (Q : B → Type 0) (o : Option A) (f : A → Option B) → ((a : A) → Holds (f a) Q) → Holds (o >>= f) Q
-unfolding _>>=_
-holds-past Q none f k = tt
-holds-past Q (some a) f k = k a
-
-holds-on : {A B : Type 0} (P : A → Type 0) (Q : B → Type 0) (o : Option A) (f : A → Option B) → Holds o P → ((a : A) → P a → Holds (f a) Q) → Holds (o >>= f) Q
-unfolding _>>=_
-holds-on P Q none f h k = tt
-holds-on P Q (some a) f h k = k a h
-
-holds-need : {B : Type 0} (Q : B → Type 0) (t : Bool) (f : Unit {0} → Option B) → (t ≡ true → Holds (f tt) Q) → Holds (need t >>= f) Q
-unfolding _>>=_ need
-holds-need Q true f k = k refl
-holds-need Q false f k = tt
-
-pub holds-at : {A : Type 0} (Q : A → Type 0) (o : Option A) (a : A) → Holds o Q → o ≡ some a → Q a
-holds-at Q none a h e = absurd (Option·none-ne-some a e)
-holds-at Q (some b) a h e = rw (Option·some-injective b a e) at h
 
 -- Reading
 
@@ -249,7 +225,7 @@ module _ (version : ℕ) (code : List ℕ) (result : ℕ) (old : Old version) wh
   same-return n p false none = refl
   same-return n p false (some ns) = refl
 
-  after-straight : (i : Instruction) (p : ℕ) (f : Flow) → Straight i → returnKind i ≡ none → after version code [] result i p f ≡ some (record { notes = f .notes ++ []; next = onto p (f .types) })
+  pub after-straight : (i : Instruction) (p : ℕ) (f : Flow) → Straight i → returnKind i ≡ none → after version code [] result i p f ≡ some (record { notes = f .notes ++ []; next = onto p (f .types) })
   unfolding after
   after-straight i p f h e = rw (h .nowhere, h .on e) (unfold flowToTarget flowInto mapAt _>>=_ in refl)
 
@@ -286,7 +262,7 @@ module _ (version : ℕ) (code : List ℕ) (result : ℕ) (old : Old version) wh
       go none h ih = unfold _>>=_ in refl
       go (some i) h ih = unfold _>>=_ in kinds i h ih (returnKind (i .instruction)) refl
 
-same-notes : (k : Class) (m : Method) → Old (k .version) → NoMaps m → firstNotesOfMethod k m ≡ notesOfMethod k m
+pub same-notes : (k : Class) (m : Method) → Old (k .version) → NoMaps m → firstNotesOfMethod k m ≡ notesOfMethod k m
 unfolding firstNotesOfMethod notesOfMethod
 same-notes k m old e = rw (e, same-verify (k .version) (m .code) (m .signature .result) old (length (m .code)) 0 (entryTypes k m)) (unfold flowInto mapAt _>>=_ in go _)
   where
@@ -294,16 +270,16 @@ same-notes k m old e = rw (e, same-verify (k .version) (m .code) (m .signature .
     go none = unfold _>>=_ in refl
     go (some ns) = unfold _>>=_ in refl
 
-same-all-notes : (k : Class) (ms : List Method) → Old (k .version) → All NoMaps ms → firstNotesOf k ms ≡ notesOf k ms
+pub same-all-notes : (k : Class) (ms : List Method) → Old (k .version) → All NoMaps ms → firstNotesOf k ms ≡ notesOf k ms
 unfolding firstNotesOf notesOf
 same-all-notes k [] old h = refl
 same-all-notes k (m ∷ ms) old h = bind-eq _ _ (same-notes k m old (h .0)) _ _ (λ ns. bind-eq _ _ (same-all-notes k ms old (h .1)) _ _ (λ rs. refl))
 
-is-mapped : (k : Class) (m : Method) → Old (k .version) → unmapped k m ≡ false
+pub is-mapped : (k : Class) (m : Method) → Old (k .version) → unmapped k m ≡ false
 unfolding unmapped
 is-mapped k m old = rw old refl
 
-none-unmapped : (k : Class) (ms : List Method) → Old (k .version) → any (unmapped k) ms ≡ false
+pub none-unmapped : (k : Class) (ms : List Method) → Old (k .version) → any (unmapped k) ms ≡ false
 unfolding any
 none-unmapped k [] old = refl
 none-unmapped k (m ∷ ms) old = rw (is-mapped k m old, any) (none-unmapped k ms old)

@@ -1,21 +1,22 @@
--- The first document's verifier, a straight walk over the code, and its define, which doesn't ask for maps.
-use mathlib.Core.Bool.{Bool, not}
+-- The first document's verifier, a straight walk over the code, and its define and desk, which don't ask for maps.
+use mathlib.Core.Bool.{Bool, true, false, not}
 use mathlib.Core.Option.{Option, none, some}
 use mathlib.Core.List.{List, [], _∷_, _++_}
 use Prim.Native.Nat.{ℕ, zero, suc, _+_}
 use lib.ListN.{length}
 use lib.Dec.{eqb, leb, ltb}
 use Rattle.definition.specs.declared.Refusal.the-variants.{Word}
-use Rattle.definition.specs.Numbers.{wordTaken, wordUnverified, wordHidden, wordClash, wordFull, classLimit, cacheLimit, tieLimit, subtypeLimit, fieldLimit}
+use Rattle.definition.specs.Numbers.{wordFile, wordTaken, wordUnverified, wordHidden, wordClash, wordFull, classLimit, cacheLimit, tieLimit, subtypeLimit, fieldLimit}
 use Rattle.definition.specs.Lists.{every, any, isNone}
 use Rattle.definition.specs.Maybe as Maybe
 use Rattle.definition.specs.Requests.{at}
 use Rattle.definition.specs.Classes.{Class, Method, find, slots}
+use Rattle.definition.specs.File.{classOf}
 use Rattle.definition.specs.Constraints.{World, agrees}
 use Rattle.definition.specs.Verifier.{Note, TypeState, entryTypes, effect, returns, returnKind}
 use Rattle.definition.specs.Loading.{newSubtypes, overrideTies, hides, withClass}
 use Rattle.definition.specs.Answers.{wanted, Result, ok, _>>=_, need, take?}
-use Rattle.first.specs.Files.{firstDecode}
+use Rattle.first.specs.Files.{firstReadFile, firstDecode}
 
 module _ (code : List ℕ) (result : ℕ) where
   -- the notes of the code from point p on, where the types are s; a return is the last instruction and nowhere else.
@@ -27,8 +28,19 @@ module _ (code : List ℕ) (result : ℕ) where
     | none ↦ Maybe._>>=_ (effect (i .instruction) s) (λ f. Maybe._>>=_ (firstVerify k (p + i .size) (f .types)) (λ ns. some (f .notes ++ ns)))
   ])
 
+  -- the types at the point q
+  unfoldable pub firstTypesAt : ℕ → ℕ → TypeState → ℕ → Option TypeState
+  firstTypesAt zero p s q = none
+  firstTypesAt (suc k) p s q = elim (eqb p q) [
+    | true ↦ some s
+    | false ↦ Maybe._>>=_ (firstDecode code p) (λ i. Maybe._>>=_ (effect (i .instruction) s) (λ f. firstTypesAt k (p + i .size) (f .types) q))
+  ]
+
 unfoldable pub firstNotesOfMethod : Class → Method → Option (List Note)
 firstNotesOfMethod k m = firstVerify (m .code) (m .signature .result) (length (m .code)) 0 (entryTypes k m)
+
+unfoldable pub firstTypesIn : Class → Method → ℕ → Option TypeState
+firstTypesIn k m q = firstTypesAt (m .code) (m .signature .result) (length (m .code)) 0 (entryTypes k m) q
 
 -- notes in order of method, then point
 unfoldable pub firstNotesOf : Class → List Method → Option (List Note)
@@ -53,3 +65,7 @@ firstDefine room k w =
     ∷ leb (length (slots (w .base) p) + length (k .fields)) fieldLimit
     ∷ [])) (Word wordFull) >>= λ _.
     need (agrees (withClass w k us ss)) (Word wordClash) >>= λ _. ok (withClass w k us ss))
+
+-- the desk: 0, 2 or 6
+unfoldable pub firstDeskNumber : List ℕ → ℕ
+firstDeskNumber bs = elim (firstReadFile bs) [ none ↦ wordFile | some f ↦ elim (firstNotesOf (classOf 0 f) (f .methods)) [ none ↦ wordUnverified | some _ ↦ 0 ] ]

@@ -10,6 +10,14 @@ pub mod Slots
 pub mod Members
 pub mod Sized
 pub mod Walk
+pub mod Points
+pub mod InOrder
+pub mod Mapped
+pub mod Paths
+pub mod Rising
+pub mod Rejected
+pub mod Reasons
+pub mod Posted
 pub mod Objects
 pub mod Sweeps
 pub mod Stable

@@ -1,4 +1,4 @@
--- What everything else knows of the verifier's walk over a method: `notesOfMethod` and `typesIn` by these laws alone. The entry types flow into
+-- What is known of the verifier's walk over a method: `notesOfMethod` and `typesIn` by these laws alone, but for InOrder, Paths and Reasons, which follow the walk itself. The entry types flow into
 -- point 0. At a point that has types the instruction reads; it is a return that fits the result type, or has an effect, and the types that it
 -- leaves flow into each of its successors, which has types: these, or its map's. All notes of that are among the method's.
 use mathlib.Core.Path.{_≡_, refl, sym, _∙_, ap, subst, subst₂}
@@ -23,7 +23,7 @@ use Rattle.laws.specs.Options.{bind-some, some-bind, need-true}
 use Rattle.laws.specs.Sized.{sized}
 
 -- an instruction with a return's kind is that return
-return-is : (i : Instruction) (kind : Kind) → returnKind i ≡ some kind → i ≡ Return kind
+pub return-is : (i : Instruction) (kind : Kind) → returnKind i ≡ some kind → i ≡ Return kind
 unfolding returnKind
 return-is AconstNull kind h = absurd (Option·none-ne-some kind h)
 return-is (Sipush n) kind h = absurd (Option·none-ne-some kind h)
@@ -89,36 +89,37 @@ module _ (version : ℕ) (code : List ℕ) (maps : List Map) (result : ℕ) (typ
     pub way : Ends τ at ⊎ Goes q τ at
 
   -- the same as the walk has it: a turn, and the types where it goes on
-  record Turned (q : ℕ) (τ : TypeState) : Type 0 where
-    t : Turn
-    does : turn version code maps result q τ ≡ some t
-    posted : (n : Note) → List·Memᴰ n (t .notes) → List·Memᴰ n ns
-    next : (r : ℕ) (u : TypeState) → t .next ≡ onto r u → types r ≡ some u
+  pub record Turned (q : ℕ) (τ : TypeState) : Type 0 where
+    pub t : Turn
+    pub does : turn version code maps result q τ ≡ some t
+    pub posted : (n : Note) → List·Memᴰ n (t .notes) → List·Memᴰ n ns
+    pub next : (r : ℕ) (u : TypeState) → t .next ≡ onto r u → types r ≡ some u
 
 module _ (version : ℕ) (code : List ℕ) (maps : List Map) (result : ℕ) where
-  abbrev Turns : ℕ → TypeState → Turn → Type 0
+  abbrev pub Turns : ℕ → TypeState → Turn → Type 0
   Turns p s t = turn version code maps result p s ≡ some t
 
-  abbrev Types : ℕ → ℕ → List Map → TypeState → ℕ → Option TypeState
+  abbrev pub Types : ℕ → ℕ → List Map → TypeState → ℕ → Option TypeState
   Types = typesAt version code maps result
 
-  abbrev Notes : ℕ → ℕ → List Map → TypeState → Option (List Note)
+  abbrev pub Notes : ℕ → ℕ → List Map → TypeState → Option (List Note)
   Notes = verify version code maps result
 
   -- What a turn is: a return, or an effect and its flows
 
-  record Returned (p : ℕ) (s : TypeState) (t : Turn) (i : Decoded) : Type 0 where
-    kind : Kind
-    is : returnKind (i .instruction) ≡ some kind
-    does : returns kind result s ≡ some (t .notes)
-    then : startAt version code maps result (p + i .size) ≡ some (t .next)
+  pub record Returned (p : ℕ) (s : TypeState) (t : Turn) (i : Decoded) : Type 0 where
+    pub kind : Kind
+    pub is : returnKind (i .instruction) ≡ some kind
+    pub does : returns kind result s ≡ some (t .notes)
+    pub then : startAt version code maps result (p + i .size) ≡ some (t .next)
 
-  record Effected (p : ℕ) (s : TypeState) (t : Turn) (i : Decoded) : Type 0 where
-    f : Flow
-    does : effect (i .instruction) s ≡ some f
-    then : after version code maps result (i .instruction) (p + i .size) f ≡ some t
+  pub record Effected (p : ℕ) (s : TypeState) (t : Turn) (i : Decoded) : Type 0 where
+    pub is : returnKind (i .instruction) ≡ none
+    pub f : Flow
+    pub does : effect (i .instruction) s ≡ some f
+    pub then : after version code maps result (i .instruction) (p + i .size) f ≡ some t
 
-  turn-cases : (p : ℕ) (s : TypeState) (t : Turn) → Turns p s t → (i : Decoded) × (decode version code p ≡ some i) × (Returned p s t i ⊎ Effected p s t i)
+  pub turn-cases : (p : ℕ) (s : TypeState) (t : Turn) → Turns p s t → (i : Decoded) × (decode version code p ≡ some i) × (Returned p s t i ⊎ Effected p s t i)
   unfolding turn
   turn-cases p s t h = let a = bind-some _ _ h in (a .0, a .1, go (a .0) (returnKind (a .0 .instruction)) refl (a .2))
     where
@@ -133,7 +134,7 @@ module _ (version : ℕ) (code : List ℕ) (maps : List Map) (result : ℕ) wher
           let zn : a .0 ≡ t .notes = ap (λ (x : Turn). x .notes) z in
           let zo : b .0 ≡ t .next = ap (λ (x : Turn). x .next) z in
           inl (record { kind = kind; is = e; does = rw zn at (a .1); then = rw zo at (b .1) })
-      go i none e r = let a = bind-some _ _ r in inr (record { f = a .0; does = a .1; then = a .2 })
+      go i none e r = let a = bind-some _ _ r in inr (record { is = e; f = a .0; does = a .1; then = a .2 })
 
   -- after an effect: the notes into the target, and those into the next point or none
   record Target (f : Flow) (t : Turn) (i : Decoded) : Type 0 where
@@ -240,27 +241,27 @@ module _ (version : ℕ) (code : List ℕ) (maps : List Map) (result : ℕ) wher
 
   -- What is verified from a point on: a turn, at which all ends or which goes on to what is verified after it
 
-  record Stops (left : List Map) (t : Turn) (ns : List Note) : Type 0 where
-    ended : t .next ≡ finished
-    none : length left ≤ 0
-    all : t .notes ≡ ns
+  pub record Stops (left : List Map) (t : Turn) (ns : List Note) : Type 0 where
+    pub ended : t .next ≡ finished
+    pub none : length left ≤ 0
+    pub all : t .notes ≡ ns
 
-  record Continues (k : ℕ) (left : List Map) (t : Turn) (ns : List Note) : Type 0 where
-    r : ℕ
-    u : TypeState
-    rest : List Note
-    onward : t .next ≡ onto r u
-    then : Notes k r left u ≡ some rest
-    all : t .notes ++ rest ≡ ns
+  pub record Continues (k : ℕ) (left : List Map) (t : Turn) (ns : List Note) : Type 0 where
+    pub r : ℕ
+    pub u : TypeState
+    pub rest : List Note
+    pub onward : t .next ≡ onto r u
+    pub then : Notes k r left u ≡ some rest
+    pub all : t .notes ++ rest ≡ ns
 
-  record Went (k p : ℕ) (left : List Map) (s : TypeState) (ns : List Note) : Type 0 where
-    more : List Map
-    t : Turn
-    passes : mapsPast version code maps result p left ≡ some more
-    does : Turns p s t
-    way : Stops more t ns ⊎ Continues k more t ns
+  pub record Went (k p : ℕ) (left : List Map) (s : TypeState) (ns : List Note) : Type 0 where
+    pub more : List Map
+    pub t : Turn
+    pub passes : mapsPast version code maps result p left ≡ some more
+    pub does : Turns p s t
+    pub way : Stops more t ns ⊎ Continues k more t ns
 
-  went : (k p : ℕ) (left : List Map) (s : TypeState) (ns : List Note) → Notes (suc k) p left s ≡ some ns → Went k p left s ns
+  pub went : (k p : ℕ) (left : List Map) (s : TypeState) (ns : List Note) → Notes (suc k) p left s ≡ some ns → Went k p left s ns
   unfolding verify
   went k p left s ns h =
       let a = bind-some _ _ h in
@@ -275,17 +276,17 @@ module _ (version : ℕ) (code : List ℕ) (maps : List Map) (result : ℕ) wher
       go more t (onto q u) e r = let a = bind-some _ _ r in inr (record { r = q; u = u; rest = a .0; onward = e; then = a .1; all = Option·some-injective _ _ (a .2) })
 
   -- the types at a point, here or further on
-  record On (k p : ℕ) (left : List Map) (s : TypeState) (q : ℕ) (τ : TypeState) : Type 0 where
-    more : List Map
-    t : Turn
-    r : ℕ
-    u : TypeState
-    passes : mapsPast version code maps result p left ≡ some more
-    does : Turns p s t
-    onward : t .next ≡ onto r u
-    then : Types k r more u q ≡ some τ
+  pub record On (k p : ℕ) (left : List Map) (s : TypeState) (q : ℕ) (τ : TypeState) : Type 0 where
+    pub more : List Map
+    pub t : Turn
+    pub r : ℕ
+    pub u : TypeState
+    pub passes : mapsPast version code maps result p left ≡ some more
+    pub does : Turns p s t
+    pub onward : t .next ≡ onto r u
+    pub then : Types k r more u q ≡ some τ
 
-  types-cases : (k p : ℕ) (left : List Map) (s : TypeState) (q : ℕ) (τ : TypeState) → Types (suc k) p left s q ≡ some τ → ((p ≡ q) × (s ≡ τ)) ⊎ On k p left s q τ
+  pub types-cases : (k p : ℕ) (left : List Map) (s : TypeState) (q : ℕ) (τ : TypeState) → Types (suc k) p left s q ≡ some τ → ((p ≡ q) × (s ≡ τ)) ⊎ On k p left s q τ
   unfolding typesAt
   types-cases k p left s q τ h = let a = bind-some _ _ h in go (a .0) (a .1) (eqb p q) refl (a .2)
     where
@@ -300,15 +301,15 @@ module _ (version : ℕ) (code : List ℕ) (maps : List Map) (result : ℕ) wher
       go more m true e x = inl (eqb-true p q e, Option·some-injective s τ x)
       go more m false e x = let a = bind-some _ _ x in inr (further more m (a .0) (a .1) (a .0 .next) refl (a .2))
 
-  types-here : (k p : ℕ) (left more : List Map) (s : TypeState) → mapsPast version code maps result p left ≡ some more → Types (suc k) p left s p ≡ some s
+  pub types-here : (k p : ℕ) (left more : List Map) (s : TypeState) → mapsPast version code maps result p left ≡ some more → Types (suc k) p left s p ≡ some s
   unfolding typesAt
   types-here k p left more s m = some-bind _ _ m (rw (eq-eqb p p refl) refl)
 
-  types-on : (k p : ℕ) (left : List Map) (s : TypeState) (q : ℕ) (τ : TypeState) → (p ≡ q → ⊥) → On k p left s q τ → Types (suc k) p left s q ≡ some τ
+  pub types-on : (k p : ℕ) (left : List Map) (s : TypeState) (q : ℕ) (τ : TypeState) → (p ≡ q → ⊥) → On k p left s q τ → Types (suc k) p left s q ≡ some τ
   unfolding typesAt
   types-on k p left s q τ l o = some-bind _ _ (o .passes) (rw (ne-eqb p q l) (some-bind _ _ (o .does) (rw (o .onward) (o .then))))
 
-  types-first : (k p : ℕ) (left : List Map) (s : TypeState) (ns : List Note) → Notes k p left s ≡ some ns → Types k p left s p ≡ some s
+  pub types-first : (k p : ℕ) (left : List Map) (s : TypeState) (ns : List Note) → Notes k p left s ≡ some ns → Types k p left s p ≡ some s
   types-first zero p left s ns h = absurd (Option·none-ne-some ns (unfold verify in h))
   types-first (suc k) p left s ns h = let w = went k p left s ns h in types-here k p left (w .more) s (w .passes)
 
@@ -535,15 +536,15 @@ module _ (version : ℕ) (code : List ℕ) (maps : List Map) (result : ℕ) wher
 
 -- What is verified of a method
 
-record Verified (k : Class) (m : Method) (ns : List Note) : Type 0 where
-  f : Flow
-  rest : List Note
-  enters : flowInto (k .version) (m .code) (m .maps) (m .signature .result) 0 (entryTypes k m) ≡ some f
-  walks : verify (k .version) (m .code) (m .maps) (m .signature .result) (length (m .code)) 0 (m .maps) (f .types) ≡ some rest
-  all : f .notes ++ rest ≡ ns
-  types : (q : ℕ) → typesIn k m q ≡ typesAt (k .version) (m .code) (m .maps) (m .signature .result) (length (m .code)) 0 (m .maps) (f .types) q
+pub record Verified (k : Class) (m : Method) (ns : List Note) : Type 0 where
+  pub f : Flow
+  pub rest : List Note
+  pub enters : flowInto (k .version) (m .code) (m .maps) (m .signature .result) 0 (entryTypes k m) ≡ some f
+  pub walks : verify (k .version) (m .code) (m .maps) (m .signature .result) (length (m .code)) 0 (m .maps) (f .types) ≡ some rest
+  pub all : f .notes ++ rest ≡ ns
+  pub types : (q : ℕ) → typesIn k m q ≡ typesAt (k .version) (m .code) (m .maps) (m .signature .result) (length (m .code)) 0 (m .maps) (f .types) q
 
-verified : (k : Class) (m : Method) (ns : List Note) → notesOfMethod k m ≡ some ns → Verified k m ns
+pub verified : (k : Class) (m : Method) (ns : List Note) → notesOfMethod k m ≡ some ns → Verified k m ns
 unfolding notesOfMethod typesIn _>>=_
 verified k m ns v =
     let a = bind-some _ _ v in
@@ -565,19 +566,21 @@ module _ (k : Class) (m : Method) (ns : List Note) (v : notesOfMethod k m ≡ so
         has = w .types 0 ∙ types-first (k .version) (m .code) (m .maps) (m .signature .result) (length (m .code)) 0 (m .maps) (w .f .types) (w .rest) (w .walks);
       }
 
-  pub known : (q : ℕ) (τ : TypeState) → typesIn k m q ≡ some τ → Known (k .version) (m .code) (m .maps) (m .signature .result) (typesIn k m) ns q τ
-  known q τ h =
+  -- at a mapped point the types are the map's
+  pub mapped-types : (p : ℕ) (x : Map) → mapAt (m .maps) p ≡ some x → typesIn k m p ≡ some (mapTypes x)
+  mapped-types p x e =
       let w = verified k m ns v in
       let st = standing (k .version) (m .code) (m .maps) (m .signature .result) (entryTypes k m) (w .f) (w .enters) in
-      let mapped : (p : ℕ) (x : Map) → mapAt (m .maps) p ≡ some x → typesIn k m p ≡ some (mapTypes x) =
-      λ p x e. w .types p ∙ visited (k .version) (m .code) (m .maps) (m .signature .result) (length (m .code)) 0 (m .maps) (w .f .types) (w .rest) (w .walks) st p x e in
+      w .types p ∙ visited (k .version) (m .code) (m .maps) (m .signature .result) (length (m .code)) 0 (m .maps) (w .f .types) (w .rest) (w .walks) st p x e
+
+  pub turned : (q : ℕ) (τ : TypeState) → typesIn k m q ≡ some τ → Turned (k .version) (m .code) (m .maps) (m .signature .result) (typesIn k m) ns q τ
+  turned q τ h =
+      let w = verified k m ns v in
       let t = turns (k .version) (m .code) (m .maps) (m .signature .result) (length (m .code)) 0 (m .maps) (w .f .types) (w .rest) q τ (w .walks) (sym (w .types q) ∙ h) in
-      known-of (k .version) (m .code) (m .maps) (m .signature .result) (typesIn k m) ns mapped q τ (record {
-        t = t .t;
-        does = t .does;
-        posted = λ n x. rw (w .all) at (Memᴰ·append-right (w .f .notes) (t .posted n x));
-        next = λ r u e. w .types r ∙ t .next r u e;
-      })
+      record { t = t .t; does = t .does; posted = λ n x. rw (w .all) at (Memᴰ·append-right (w .f .notes) (t .posted n x)); next = λ r u e. w .types r ∙ t .next r u e }
+
+  pub known : (q : ℕ) (τ : TypeState) → typesIn k m q ≡ some τ → Known (k .version) (m .code) (m .maps) (m .signature .result) (typesIn k m) ns q τ
+  known q τ h = known-of (k .version) (m .code) (m .maps) (m .signature .result) (typesIn k m) ns mapped-types q τ (turned q τ h)
 
   -- types that have P throughout make notes that have N
   pub notes-have : (P : TypeState → Type 0) (N : List Note → Type 0) → N [] → ((a b : List Note) → N a → N b → N (a ++ b))
