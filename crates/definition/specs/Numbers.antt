@@ -156,10 +156,6 @@ rowCells = 3
 abbrev pub valueCells : ℕ
 valueCells = 2
 
--- a note of the verifier: the lower name, the higher name
-abbrev pub noteCells : ℕ
-noteCells = 2
-
 -- an object: its class, then its fields
 abbrev pub fieldsCell : ℕ
 fieldsCell = 1
@@ -251,7 +247,7 @@ allNumbers =
     ∷ classLimit ∷ keptLimit ∷ cacheLimit ∷ tieLimit ∷ subtypeLimit ∷ objectLimit
     ∷ fieldLimit ∷ frameLimit ∷ operandLimit ∷ localCount ∷ runLimit ∷ versionOne ∷ versionTwo
     ∷ fileLimit ∷ memberLimit ∷ codeLimit ∷ countClasses ∷ countKept ∷ countCache
-    ∷ countTies ∷ countSubtypes ∷ countObjects ∷ countFrames ∷ ownersCell ∷ rowCells ∷ valueCells ∷ noteCells
+    ∷ countTies ∷ countSubtypes ∷ countObjects ∷ countFrames ∷ ownersCell ∷ rowCells ∷ valueCells
     ∷ fieldsCell ∷ objectCells ∷ methodCell ∷ pointCell ∷ depthCell ∷ localsCell
     ∷ operandsCell ∷ frameCells ∷ countsLength ∷ classesLength ∷ keptLength ∷ cacheLength
     ∷ tiesLength ∷ subtypesLength ∷ objectsLength ∷ framesLength ∷ kindEmpty ∷ kindInt

@@ -98,8 +98,6 @@ pub const OWNERS_CELL: usize = COUNT_FRAMES + TASK_LIMIT as usize;
 pub const ROW_CELLS: usize = 3;
 
 pub const VALUE_CELLS: usize = 2;
-// A note of the verifier: the lower name, the higher name.
-pub const NOTE_CELLS: usize = 2;
 
 // An object: its class, then its fields.
 pub const FIELDS_CELL: usize = 1;
@@ -155,7 +153,7 @@ pub const INT_RANGE: usize = 4294967296;
 pub const SIGN_BIT: u32 = 2147483648;
 
 // Every number above, in the order of their names in specs/Numbers.antt.
-pub fn all_numbers() -> [u64; 70]
+pub fn all_numbers() -> [u64; 69]
     ensures { λ r. ⌜ r ≡ allNumbers ⌝ }
 {
     [
@@ -204,7 +202,6 @@ pub fn all_numbers() -> [u64; 70]
         OWNERS_CELL as u64,
         ROW_CELLS as u64,
         VALUE_CELLS as u64,
-        NOTE_CELLS as u64,
         FIELDS_CELL as u64,
         OBJECT_CELLS as u64,
         METHOD_CELL as u64,
