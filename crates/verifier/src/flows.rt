@@ -1,7 +1,7 @@
 // What flows into a map: each local and operand against the map's type.
+use crate::changes::met;
 use crate::effects::Meeting;
 use crate::effects::meet_name;
-use crate::changes::met;
 use crate::notes::Verified;
 use crate::notes::post_meeting;
 use crate::notes::rejected;
@@ -184,16 +184,7 @@ pub(crate) fn meet_map(
     if types.depth != cells::wide8(depth) {
         return rejected(count);
     }
-    let locals = meet_part(
-        maps,
-        place,
-        types,
-        Part::Locals,
-        8,
-        loader,
-        subtypes,
-        count,
-    );
+    let locals = meet_part(maps, place, types, Part::Locals, 8, loader, subtypes, count);
     if !locals.accepts {
         return locals;
     }

@@ -82,7 +82,16 @@ fn walk(
             return rejected(total);
         };
         let turn = turn_at(
-            version, code, maps, places, p, result, types, loader, subtypes, total,
+            version,
+            code,
+            maps,
+            places,
+            p,
+            result,
+            types,
+            loader,
+            subtypes,
+            total,
         );
         total = turn.count;
         let step = turn.step;
@@ -159,5 +168,15 @@ pub fn verify_method(
         return verify_code(version, code, maps, &[], own, s, loader, subtypes, count);
     }
     let places = index_maps(maps);
-    verify_code(version, code, maps, &places, own, s, loader, subtypes, count)
+    verify_code(
+        version,
+        code,
+        maps,
+        &places,
+        own,
+        s,
+        loader,
+        subtypes,
+        count,
+    )
 }
