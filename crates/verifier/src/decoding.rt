@@ -3,7 +3,7 @@ ghost use mathlib.Core.Path.{_≡_};
 ghost use mathlib.Core.Option.{some};
 ghost use Prim.Native.Nat.{_+_, _≤_};
 ghost use lib.ListN.{length};
-ghost use Rattle.definition.specs.Instructions.{opcodeOf, inlineLength, signatureAt, extend, instructionOf, sizedAs, decode};
+ghost use Rattle.definition.specs.Instructions.{opcodeOf, inlineLength, shortAt, signatureAt, extend, instructionOf, sizedAs, decode};
 ghost use Rattle.verifier.specs.Decoding.{branchOf, readingOf};
 use cells::short_at;
 use definition::Condition;
@@ -136,6 +136,14 @@ fn invokevirtual_at(code: &[u8], i: usize) -> Instruction
     Instruction::Invokevirtual(short_at(code, i), signature_at(code, i + 2))
 }
 
+// The point that a branch names: its offset counts from the start of the method's code, not from the branch.
+fn target_at(code: &[u8], place: usize) -> u16
+    requires { ⌜ place ≤ length (now code) ⌝ }
+    ensures { λ r. ⌜ r ≡ shortAt (now (code .entry)) place ⌝ }
+{
+    short_at(code, place)
+}
+
 // The instruction of n bytes whose inline bytes begin at place i.
 fn instruction_of(code: &[u8], i: usize, o: Opcode, n: usize) -> Reading
     requires { ⌜ i ≤ length (now code) ⌝ }
@@ -154,7 +162,7 @@ fn instruction_of(code: &[u8], i: usize, o: Opcode, n: usize) -> Reading
         Opcode::OpInvokevirtual => Reading::At(invokevirtual_at(code, i), n),
         Opcode::OpNew => Reading::At(Instruction::New(short_at(code, i)), n),
         Opcode::OpReturn(k) => Reading::At(Instruction::Return(k), n),
-        Opcode::OpBranch(k) => Reading::At(Instruction::Branch(k, short_at(code, i)), n),
+        Opcode::OpBranch(k) => Reading::At(Instruction::Branch(k, target_at(code, i)), n),
         Opcode::OpUnknown => Reading::Unreadable,
     }
 }

@@ -76,10 +76,11 @@ pub(crate) fn flow_into(
     if !met.accepts {
         return stop(types, met.count);
     }
+    let mapped = mapped_types(maps, place);
     Turn {
         step: Step::Next(q),
         count: met.count,
-        types: mapped_types(maps, place),
+        types: mapped,
     }
 }
 

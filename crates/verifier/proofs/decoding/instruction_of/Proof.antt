@@ -44,5 +44,5 @@ instruction-of-spec =
     (λ c. unfold readingOf sizedAs in rw (c .before .enum-told7 .given .1, ← c .invokevirtual-at .ensures))
     (λ c. unfold readingOf sizedAs instructionOf in rw (c .before .enum-told8 .given .1, c .short-at2 .ensures))
     (λ c. unfold readingOf sizedAs instructionOf in rw (c .before .o4 .given .1))
-    (λ c. unfold readingOf sizedAs instructionOf in rw (c .before .before .o5 .given .1, c .short-at3 .ensures))
+    (λ c. unfold readingOf sizedAs instructionOf in rw (c .before .before .o5 .given .1, c .target-at .ensures))
     (λ c. unfold readingOf sizedAs instructionOf in rw (c .enum-told9 .given .1)))
