@@ -31,14 +31,21 @@ module _ (t : List ℕ) (i l m n : ℕ) where
   tie-turned h e = rw (eq-eqb (getD t (i * 3 + 2) 0) n h, e) refl
 
 module _ (t : List ℕ) (i l a b : ℕ) where
-  pub subtype-low : (eqb (getD t (i * 3) 0) l && eqb (getD t (i * 3 + 1) 0) a) ≡ true
-      → subtypeIs l (note a b) (subtypeAt t i) ≡ eqb (getD t (i * 3 + 2) 0) b
+  pub subtype-not : (getD t (i * 3 + 1) 0 ≡ a → ⊥) → subtypeIs l (note a b) (subtypeAt t i) ≡ false
   unfolding subtypeIs subtypeAt
-  subtype-low e = rw e refl
+  subtype-not h = rw (ne-eqb (getD t (i * 3 + 1) 0) a h) (go (eqb (getD t (i * 3) 0) l))
+    where
+      go : (x : Bool) → (x && false && eqb (getD t (i * 3 + 2) 0) b) ≡ false
+      go true = refl
+      go false = refl
 
-  pub subtype-not : (eqb (getD t (i * 3) 0) l && eqb (getD t (i * 3 + 1) 0) a) ≡ false → subtypeIs l (note a b) (subtypeAt t i) ≡ false
+  pub subtype-low : getD t (i * 3 + 1) 0 ≡ a → subtypeIs l (note a b) (subtypeAt t i) ≡ (eqb (getD t (i * 3) 0) l && eqb (getD t (i * 3 + 2) 0) b)
   unfolding subtypeIs subtypeAt
-  subtype-not e = rw e refl
+  subtype-low h = rw (eq-eqb (getD t (i * 3 + 1) 0) a h) (go (eqb (getD t (i * 3) 0) l))
+    where
+      go : (x : Bool) → (x && true && eqb (getD t (i * 3 + 2) 0) b) ≡ (x && eqb (getD t (i * 3 + 2) 0) b)
+      go true = refl
+      go false = refl
 
 -- A tie
 

@@ -13,10 +13,10 @@ ghost use Rattle.verifier.specs.Answers.{changeOf, madeFlow};
 
 // What an instruction leaves, if it fits: the meetings of the receiver and of the value, and the types.
 pub struct Change {
-    pub fits: bool,
+    pub types: Types,
     pub receiver: Meeting,
     pub value: Meeting,
-    pub types: Types,
+    pub fits: bool,
 }
 
 pub(crate) fn met(m: Meeting) -> bool

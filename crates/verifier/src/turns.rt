@@ -36,9 +36,9 @@ pub enum Step {
 
 // What a turn leaves: where the walk goes, how many rows there are with its notes, and the types.
 pub struct Turn {
+    pub types: Types,
     pub step: Step,
     pub count: u16,
-    pub types: Types,
 }
 
 fn stop(types: Types, count: u16) -> Turn
