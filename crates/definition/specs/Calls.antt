@@ -3,17 +3,18 @@ use mathlib.Core.Path.{_≡_}
 use mathlib.Core.Bool.{true, false, _&&_}
 use mathlib.Core.Option.{Option, none, some}
 use mathlib.Core.List.{List, [], _∷_, _++_}
-use Prim.Native.Nat.{ℕ, zero, suc, _+_}
+use Prim.Native.Nat.{ℕ, zero, suc, _+_, _-_}
 use lib.ListN.{length}
 use lib.Dec.{leb, ltb}
 use Rattle.definition.specs.Numbers.{wordBroken, wordFile, wordUnknown, wordTaken, wordWanted, wordUnverified, wordAbsent, wordHidden, wordClash, wordFull, wordNull, wordBusy, wordMisnamed, wordStuck, wordUnmapped, nameObject, loaderLimit, taskLimit, keptLimit, runLimit}
+use Rattle.definition.specs.Lists.{rows}
 use Rattle.definition.specs.Constraints.{World}
 use Rattle.definition.specs.Answers.{Refusal, Word, Answer, Idle, Ran, Finished, Refused, Reply, Accepted, Defined, Stepped, RanFor, Swept, Denied, Result, refused, ok, _>>=_, need, take?}
 use Rattle.definition.specs.Machine.{Frame, Progress, step}
 use Rattle.definition.specs.Loading.{define, recorded, started}
 use Rattle.definition.specs.Sweeping.{reached, sweptFrom, freedFrom}
 use Rattle.definition.specs.File.{readFile, classOf}
-use Rattle.definition.specs.Tables.{Tables, shaped, Rows, noRows, withClasses, withKept, withCache, withTies, withSubtypes, withObjects, withFrames, framesIn, classRow, entry, worldOf, view, put}
+use Rattle.definition.specs.Tables.{Tables, shaped, RowNumbers, rowNumbers, Rows, noRows, withClasses, withKept, withCache, withTies, withSubtypes, withObjects, withFrames, withNumbers, framesIn, classRow, entry, worldOf, view, put}
 use Rattle.definition.specs.Broken.{broken}
 
 -- On rows: an answer with the rows that the call leaves
@@ -29,18 +30,31 @@ given a r = ok (record { answer = a; rows = r })
 abbrev pub bootRows : Rows
 bootRows = withClasses (classRow 0 0 0 ∷ []) (withCache (entry 0 nameObject 0 ∷ []) noRows)
 
+-- Rows that are posted are numbered on, behind all that were there; a define posts its notes before its ties
+
+-- n numbers from k on
+abbrev pub numbersFrom : ℕ → ℕ → List ℕ
+numbersFrom k n = rows (λ i. i) n k
+
+-- the constraints are now those of w
+unfoldable pub numberedOn : Rows → World → RowNumbers
+numberedOn r w =
+    let k = length (r .ties) + length (r .subtypes) in
+    let n = length (w .subtypes) - length (r .subtypes) in
+    rowNumbers (r .numbers .ties ++ numbersFrom (k + n) (length (w .ties) - length (r .ties))) (r .numbers .subtypes ++ numbersFrom k n)
+
 -- the next class, with its file behind the kept ones; cache and constraints as w has them
 abbrev pub addFile : ℕ → List ℕ → Rows → World → Rows
 addFile l bs r w =
     withClasses (r .classes ++ (classRow l (length (r .kept)) (length bs) ∷ [])) (withKept (r .kept ++ bs)
-    (withCache (w .base .cache) (withTies (w .ties) (withSubtypes (w .subtypes) r))))
+    (withCache (w .base .cache) (withTies (w .ties) (withSubtypes (w .subtypes) (withNumbers (numberedOn r w) r)))))
 
 abbrev pub addEntry : Rows → World → Rows
 addEntry r w = withCache (w .base .cache) r
 
--- a task's progress: ties, objects, and the task's frames
+-- a task's progress: ties with their numbers, objects, and the task's frames
 abbrev pub progressed : ℕ → Rows → Progress → Rows
-progressed k r o = withFrames k (o .frames) (withObjects (o .objects) (withTies (o .world .ties) r))
+progressed k r o = withFrames k (o .frames) (withObjects (o .objects) (withTies (o .world .ties) (withNumbers (numberedOn r (o .world)) r)))
 
 -- define. Refusals: 3 2 15 6 4 5 8 10 9
 unfoldable pub defineRows : ℕ → List ℕ → Rows → Result (Given Reply)

@@ -148,6 +148,13 @@ countFrames = 6
 abbrev pub ownersCell : ℕ
 ownersCell = countFrames + taskLimit
 
+-- behind those, the numbers of the tie rows, then the numbers of the rows of subtype constraints
+abbrev pub tieNumbersCell : ℕ
+tieNumbersCell = ownersCell + objectLimit
+
+abbrev pub subtypeNumbersCell : ℕ
+subtypeNumbersCell = tieNumbersCell + tieLimit
+
 -- Rows: cells of a row of classes, cache, ties and subtypes; of a value; of an object and of a frame, and where in them something stands
 
 abbrev pub rowCells : ℕ
@@ -185,7 +192,7 @@ frameCells = operandsCell + valueCells * operandLimit
 -- The published lengths
 
 abbrev pub countsLength : ℕ
-countsLength = ownersCell + objectLimit
+countsLength = subtypeNumbersCell + subtypeLimit
 
 abbrev pub classesLength : ℕ
 classesLength = classLimit * rowCells
@@ -247,7 +254,7 @@ allNumbers =
     ∷ classLimit ∷ keptLimit ∷ cacheLimit ∷ tieLimit ∷ subtypeLimit ∷ objectLimit
     ∷ fieldLimit ∷ frameLimit ∷ operandLimit ∷ localCount ∷ runLimit ∷ versionOne ∷ versionTwo
     ∷ fileLimit ∷ memberLimit ∷ codeLimit ∷ countClasses ∷ countKept ∷ countCache
-    ∷ countTies ∷ countSubtypes ∷ countObjects ∷ countFrames ∷ ownersCell ∷ rowCells ∷ valueCells
+    ∷ countTies ∷ countSubtypes ∷ countObjects ∷ countFrames ∷ ownersCell ∷ tieNumbersCell ∷ subtypeNumbersCell ∷ rowCells ∷ valueCells
     ∷ fieldsCell ∷ objectCells ∷ methodCell ∷ pointCell ∷ depthCell ∷ localsCell
     ∷ operandsCell ∷ frameCells ∷ countsLength ∷ classesLength ∷ keptLength ∷ cacheLength
     ∷ tiesLength ∷ subtypesLength ∷ objectsLength ∷ framesLength ∷ kindEmpty ∷ kindInt

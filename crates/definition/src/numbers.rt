@@ -94,6 +94,11 @@ pub const COUNT_FRAMES: usize = 6;
 // Behind them, the owners of the object rows: 0 of a free row, else 1 and the task that made the object.
 pub const OWNERS_CELL: usize = COUNT_FRAMES + TASK_LIMIT as usize;
 
+// Behind those, the numbers of the tie rows, then the numbers of the rows of subtype constraints.
+pub const TIE_NUMBERS_CELL: usize = OWNERS_CELL + OBJECT_LIMIT as usize;
+
+pub const SUBTYPE_NUMBERS_CELL: usize = TIE_NUMBERS_CELL + TIE_LIMIT as usize;
+
 // Rows: cells of a row of classes, cache, ties and subtypes, and of a value.
 pub const ROW_CELLS: usize = 3;
 
@@ -118,7 +123,7 @@ pub const OPERANDS_CELL: usize = LOCALS_CELL + VALUE_CELLS * LOCAL_COUNT as usiz
 pub const FRAME_CELLS: usize = OPERANDS_CELL + VALUE_CELLS * OPERAND_LIMIT as usize;
 
 // The published lengths.
-pub const COUNTS_LENGTH: usize = OWNERS_CELL + OBJECT_LIMIT as usize;
+pub const COUNTS_LENGTH: usize = SUBTYPE_NUMBERS_CELL + SUBTYPE_LIMIT as usize;
 
 pub const CLASSES_LENGTH: usize = CLASS_LIMIT as usize * ROW_CELLS;
 
@@ -153,7 +158,7 @@ pub const INT_RANGE: usize = 4294967296;
 pub const SIGN_BIT: u32 = 2147483648;
 
 // Every number above, in the order of their names in specs/Numbers.antt.
-pub fn all_numbers() -> [u64; 69]
+pub fn all_numbers() -> [u64; 71]
     ensures { λ r. ⌜ r ≡ allNumbers ⌝ }
 {
     [
@@ -200,6 +205,8 @@ pub fn all_numbers() -> [u64; 69]
         COUNT_OBJECTS as u64,
         COUNT_FRAMES as u64,
         OWNERS_CELL as u64,
+        TIE_NUMBERS_CELL as u64,
+        SUBTYPE_NUMBERS_CELL as u64,
         ROW_CELLS as u64,
         VALUE_CELLS as u64,
         FIELDS_CELL as u64,
