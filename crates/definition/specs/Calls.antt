@@ -8,7 +8,7 @@ use lib.ListN.{length}
 use lib.Dec.{leb, ltb}
 use Rattle.definition.specs.Numbers.{wordBroken, wordFile, wordUnknown, wordTaken, wordWanted, wordUnverified, wordAbsent, wordHidden, wordClash, wordFull, wordNull, wordBusy, wordMisnamed, wordStuck, wordUnmapped, nameObject, loaderLimit, taskLimit, keptLimit, runLimit}
 use Rattle.definition.specs.Lists.{rows}
-use Rattle.definition.specs.Constraints.{World}
+use Rattle.definition.specs.Constraints.{Tie, Subtype, World}
 use Rattle.definition.specs.Answers.{Refusal, Word, Answer, Idle, Ran, Finished, Refused, Reply, Accepted, Defined, Stepped, RanFor, Swept, Denied, Result, refused, ok, _>>=_, need, take?}
 use Rattle.definition.specs.Machine.{Frame, Progress, step}
 use Rattle.definition.specs.Loading.{define, recorded, started}
@@ -36,25 +36,25 @@ bootRows = withClasses (classRow 0 0 0 ∷ []) (withCache (entry 0 nameObject 0 
 abbrev pub numbersFrom : ℕ → ℕ → List ℕ
 numbersFrom k n = rows (λ i. i) n k
 
--- the constraints are now those of w
-unfoldable pub numberedOn : Rows → World → RowNumbers
-numberedOn r w =
+-- where the ties are now ts and the subtype constraints ss
+unfoldable pub numberedOn : List Tie → List Subtype → Rows → RowNumbers
+numberedOn ts ss r =
     let k = length (r .ties) + length (r .subtypes) in
-    let n = length (w .subtypes) - length (r .subtypes) in
-    rowNumbers (r .numbers .ties ++ numbersFrom (k + n) (length (w .ties) - length (r .ties))) (r .numbers .subtypes ++ numbersFrom k n)
+    let n = length ss - length (r .subtypes) in
+    rowNumbers (r .numbers .ties ++ numbersFrom (k + n) (length ts - length (r .ties))) (r .numbers .subtypes ++ numbersFrom k n)
 
 -- the next class, with its file behind the kept ones; cache and constraints as w has them
 abbrev pub addFile : ℕ → List ℕ → Rows → World → Rows
 addFile l bs r w =
     withClasses (r .classes ++ (classRow l (length (r .kept)) (length bs) ∷ [])) (withKept (r .kept ++ bs)
-    (withCache (w .base .cache) (withTies (w .ties) (withSubtypes (w .subtypes) (withNumbers (numberedOn r w) r)))))
+    (withCache (w .base .cache) (withTies (w .ties) (withSubtypes (w .subtypes) (withNumbers (numberedOn (w .ties) (w .subtypes) r) r)))))
 
 abbrev pub addEntry : Rows → World → Rows
 addEntry r w = withCache (w .base .cache) r
 
 -- a task's progress: ties with their numbers, objects, and the task's frames
 abbrev pub progressed : ℕ → Rows → Progress → Rows
-progressed k r o = withFrames k (o .frames) (withObjects (o .objects) (withTies (o .world .ties) (withNumbers (numberedOn r (o .world)) r)))
+progressed k r o = withFrames k (o .frames) (withObjects (o .objects) (withTies (o .world .ties) (withNumbers (numberedOn (o .world .ties) (r .subtypes) r) r)))
 
 -- define. Refusals: 3 2 15 6 4 5 8 10 9
 unfoldable pub defineRows : ℕ → List ℕ → Rows → Result (Given Reply)

@@ -6,6 +6,7 @@ pub mod Values
 pub mod ObjectRows
 pub mod OwnedRows
 pub mod NumberedRows
+pub mod InTurn
 pub mod FrameRows
 pub mod Cells
 pub mod Whole

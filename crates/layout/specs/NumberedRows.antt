@@ -2,14 +2,16 @@
 -- alone, no other cell is written, and numbers that were put are read back.
 use mathlib.Core.Path.{_≡_, refl, sym, ap, _∙_}
 use mathlib.Core.List.{List, [], _∷_, _++_, append-nil}
-use Prim.Native.Nat.{ℕ, zero, suc, _+_, _<_, _≤_}
+use Prim.Native.Nat.{ℕ, zero, suc, _+_, _-_, _<_, _≤_}
 use native.Mathlib.Omega.{arith}
-use lib.ListN.{length, getD, set, length-set}
+use lib.ListN.{length, getD, set, length-set, length-append}
 use lib.Seq.{set-getD, getD-set-same, getD-set-other}
 use Rattle.definition.specs.Numbers.{tieNumbersCell, subtypeNumbersCell}
 use Rattle.definition.specs.Lists.{rows, writeRows}
-use Rattle.definition.specs.Tables.{RowNumbers, rowNumbers, numberAt, putNumber, putNumbers}
-use Rattle.layout.specs.Tests.{All, all-each}
+use Rattle.definition.specs.Constraints.{Tie, Subtype}
+use Rattle.definition.specs.Tables.{RowNumbers, rowNumbers, Rows, numberAt, putNumber, putNumbers}
+use Rattle.definition.specs.Calls.{numbersFrom, numberedOn}
+use Rattle.layout.specs.Tests.{All}
 use Rattle.layout.specs.Places.{rows-cong, writeRows-append, writeRows-length, rows-written}
 use Rattle.layout.specs.Rows.{Anything, all-anything}
 
@@ -86,9 +88,34 @@ ties-back n c l =
 
 pub subtypes-back : (n : RowNumbers) (c : List ℕ) → length (n .ties) ≤ 256 → subtypeNumbersCell + length (n .subtypes) ≤ length c
     → rows (numberAt subtypeNumbersCell (putNumbers n c)) (length (n .subtypes)) 0 ≡ n .subtypes
-unfolding putNumbers
+unfolding putNumbers numberAt
 subtypes-back n c t l =
     let d : List ℕ = writeRows (putNumber subtypeNumbersCell) (n .subtypes) 0 c in
     rows-cong (numberAt subtypeNumbersCell (writeRows (putNumber tieNumbersCell) (n .ties) 0 d)) (numberAt subtypeNumbersCell d) (length (n .subtypes)) 0
-    (λ m a h. unfold numberAt in numbers-behind tieNumbersCell (n .ties) 0 d (subtypeNumbersCell + m) (omega arith))
+    (λ m a h. numbers-behind tieNumbersCell (n .ties) 0 d (subtypeNumbersCell + m) (omega arith))
     ∙ numbers-back subtypeNumbersCell (n .subtypes) c l
+
+-- Rows posted behind those that were there are numbered on: subtype constraints first, then ties
+
+pub numbered-on : (r : Rows) (us : List Tie) (ss : List Subtype)
+    → numberedOn (r .ties ++ us) (r .subtypes ++ ss) r
+    ≡ rowNumbers (r .numbers .ties ++ numbersFrom (length (r .ties) + length (r .subtypes) + length ss) (length us))
+    (r .numbers .subtypes ++ numbersFrom (length (r .ties) + length (r .subtypes)) (length ss))
+unfolding numberedOn
+numbered-on r us ss =
+    let a : length (r .ties ++ us) - length (r .ties) ≡ length us = omega (arith, length-append (r .ties) us) in
+    let b : length (r .subtypes ++ ss) - length (r .subtypes) ≡ length ss = omega (arith, length-append (r .subtypes) ss) in
+    rw (a, b)
+
+-- ties alone, and none
+pub ties-numbered-on : (r : Rows) (us : List Tie)
+    → numberedOn (r .ties ++ us) (r .subtypes) r
+    ≡ rowNumbers (r .numbers .ties ++ numbersFrom (length (r .ties) + length (r .subtypes)) (length us)) (r .numbers .subtypes)
+unfolding rows
+ties-numbered-on r us =
+    let z : length (r .ties) + length (r .subtypes) + 0 ≡ length (r .ties) + length (r .subtypes) = omega arith in
+    rw (append-nil (r .subtypes), append-nil (r .numbers .subtypes), z) at (numbered-on r us [])
+
+pub none-numbered-on : (r : Rows) → numberedOn (r .ties) (r .subtypes) r ≡ r .numbers
+unfolding rows
+none-numbered-on r = rw (append-nil (r .ties), append-nil (r .numbers .ties)) at (ties-numbered-on r [])

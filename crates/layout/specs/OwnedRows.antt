@@ -70,6 +70,13 @@ owners-behind [] i n j l = refl
 owners-behind (x ∷ xs) i n j l =
     getD-set-other (writeRows putOwner xs (suc i) n) (ownersCell + i) j (ownerOf x) 0 (λ e. omega arith) ∙ owners-behind xs (suc i) n j l
 
+-- and the cells behind them
+pub owners-past : (xs : Objects) (i : ℕ) (n : List ℕ) (j : ℕ) → ownersCell + (i + length xs) ≤ j → getD (writeRows putOwner xs i n) j 0 ≡ getD n j 0
+unfolding writeRows putOwner
+owners-past [] i n j l = refl
+owners-past (x ∷ xs) i n j l =
+    getD-set-other (writeRows putOwner xs (suc i) n) (ownersCell + i) j (ownerOf x) 0 (λ e. omega arith) ∙ owners-past xs (suc i) n j (omega arith)
+
 -- Where an object is made
 
 pub unused-few : (os : Objects) → unused os ≤ length os
