@@ -117,4 +117,5 @@ module _ (r : Rows) (w : Whole r) where
     objects = rows-kept (Exists (r .objects)) (Exists left) (worldOf r .base) (length (r .classes)) (reached (r .objects) all) 0 (r .objects) (w .objects) field-stays;
     quote = frames-kept (Exists (r .objects)) (Exists left) (length (r .classes)) (r .quote) (w .quote) (λ o m. root-stays o (roots-left (r .quote) (r .report) o m));
     report = frames-kept (Exists (r .objects)) (Exists left) (length (r .classes)) (r .report) (w .report) (λ o m. root-stays o (roots-right (r .quote) (r .report) o m));
+    numbers = w .numbers;
   }
