@@ -102,9 +102,12 @@ carrying k two u =
       tasks = λ o _ l. (k, two, List·getD-append ow (tiesFirst n) 0 o (omega (arith, long)) ∙ getD-replicate objectLimit o (suc k) 0 l);
       turn = λ eight few less.
           let cell : (j : ℕ) → j < ownersCell → getD (u .counts ++ (ow ++ tiesFirst n)) j 0 ≡ getD (u .counts) j 0 = λ j l. List·getD-append (u .counts) (ow ++ tiesFirst n) 0 j (omega arith) in
-          rw (cell countTies (omega arith), cell countSubtypes (omega arith),
-          tie-numbers (u .counts) ow n (getD (u .counts) countSubtypes 0) eight long few less,
-          subtype-numbers (u .counts) ow n (getD (u .counts) countSubtypes 0) eight long few less)
+          rw (
+            cell countTies (omega arith),
+            cell countSubtypes (omega arith),
+            tie-numbers (u .counts) ow n (getD (u .counts) countSubtypes 0) eight long few less,
+            subtype-numbers (u .counts) ow n (getD (u .counts) countSubtypes 0) eight long few less,
+          )
           (first-in-turn n (getD (u .counts) countSubtypes 0));
       rest = refl;
     }

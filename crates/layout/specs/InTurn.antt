@@ -256,8 +256,13 @@ words-turn (suc n) k ts ss h = go ts ss h (h .each k (omega arith) (omega arith)
     go ts [] h (inr m) on = absurd (List·Memᴰ·not-nil m)
     go ts (s ∷ ss) h (inr m) on =
         let e = first-there k s ss (h .subtypes) m in
-        is-turn n k ts (s ∷ ss) (inr (not-next ts (s ∷ ss) h m, (eq-eqb s k e,
-        on ts ss (swap n (suc k) ss ts (exactly-rest n k ss ts (swap (suc n) k ts (k ∷ ss) (subst (λ (x : ℕ). Exactly (suc n) k ts (x ∷ ss)) e h)))))))
+        is-turn n k ts (s ∷ ss) (inr (
+          not-next ts (s ∷ ss) h m,
+          (
+            eq-eqb s k e,
+            on ts ss (swap n (suc k) ss ts (exactly-rest n k ss ts (swap (suc n) k ts (k ∷ ss) (subst (λ (x : ℕ). Exactly (suc n) k ts (x ∷ ss)) e h)))),
+          ),
+        ))
 
 -- so the numbers of both tables' rows, k of them, are exactly 0 to k − 1, each once, and rise along each table
 abbrev pub InWords : RowNumbers → Type 0

@@ -16,6 +16,7 @@ pub mod Record
 pub mod Loaded
 pub mod Tasks
 pub mod Parts
+pub mod Numbers
 pub mod Lasting
 pub mod Resolution
 pub mod Waiting
