@@ -2,10 +2,10 @@
 -- accepted define numbers on the subtype constraints that it posts, then its ties; a step numbers on its ties; boot starts with none; every other call leaves every number.
 use mathlib.Core.Path.{_≡_, refl, sym, ap, _∙_}
 use mathlib.Core.Bool.{true, false}
-use mathlib.Core.List.{List, [], _∷_, _++_, append-nil}
+use mathlib.Core.List.{List, [], _∷_, _++_, append-nil, append-assoc}
 use Prim.Native.Nat.{ℕ, _+_, _≤_, _<_}
 use native.Mathlib.Omega.{arith}
-use lib.ListN.{length}
+use lib.ListN.{length, length-append}
 use Rattle.definition.specs.declared.Answer.{Answer}
 use Rattle.definition.specs.declared.Answer.the-variants.{Refused}
 use Rattle.definition.specs.declared.Reply.{Reply}
@@ -15,9 +15,11 @@ use Rattle.definition.specs.Loading.{started}
 use Rattle.definition.specs.Machine.{Objects, Exists, Frame, Progress}
 use Rattle.definition.specs.Tables.{Tables, shaped, rowNumbers, Rows, framesIn, worldOf, view}
 use Rattle.definition.specs.Broken.{broken}
-use Rattle.definition.specs.Calls.{Given, bootRows, boot, numbersFrom, numberedOn, progressed, defineRows, recordRows, startRows, dropRows, sweepRows, stepTask, stepOn, stepRows, RowCall, rowDefine, rowRecord, rowStart, rowDrop, rowSweep, onRowCall, callRows, stepTables, perform}
+use Rattle.definition.specs.Calls.{Given, bootRows, boot, numbersFrom, numberedOn, progressed, defineRows, recordRows, startRows, dropRows, sweepRows, stepTask, stepOn, stepRows, RowCall, rowDefine, rowRecord, rowStart, rowDrop, rowSweep, onRowCall, callRows, stepTables, run, perform}
+use Rattle.laws.specs.Runs.{run-keeps}
 use Rattle.laws.specs.Wrapped.{Ok, ok-at, then}
 use Rattle.layout.specs.Tests.{All}
+use Rattle.layout.specs.Places.{rows-both}
 use Rattle.layout.specs.Whole.{Framed, Whole}
 use Rattle.layout.specs.InTurn.{InWords, in-turn-words}
 use Rattle.layout.specs.NumberedRows.{numbered-on, ties-numbered-on, none-numbered-on}
@@ -185,3 +187,29 @@ pub step-numbers : (t : Tables) → PostsTies (view t) (view (stepTables t .tabl
 unfolding stepTables
 step-numbers t = shown Refused stepRows (λ _ s. PostsTies (view t) s) t step-whole (λ w. posts-no-ties (view t))
     (λ w g e. ok-at (λ (g : Given Answer). PostsTies (view t) (g .rows)) _ (step-posts (view t) w) g e)
+
+-- so a run posts ties, numbered on in order
+
+posts-then : (r s q : Rows) → PostsTies r s → PostsTies s q → PostsTies r q
+posts-then r s q a b = record {
+  newTies = a .newTies ++ b .newTies;
+  ties = b .ties ∙ (ap (λ (z : List Tie). z ++ b .newTies) (a .ties) ∙ append-assoc (r .ties) (a .newTies) (b .newTies));
+  subtypes = b .subtypes ∙ a .subtypes;
+  numbers = b .numbers ∙ (λ i. rowNumbers (ties i) (a .numbers i .subtypes));
+}
+  where
+    j : ℕ
+    j = nextNumber r
+
+    later : nextNumber s ≡ j + length (a .newTies)
+    later = omega (arith, ap length (a .ties), length-append (r .ties) (a .newTies), ap length (a .subtypes))
+
+    ties : s .numbers .ties ++ numbersFrom (nextNumber s) (length (b .newTies)) ≡ r .numbers .ties ++ numbersFrom j (length (a .newTies ++ b .newTies))
+    ties =
+        (λ i. a .numbers i .ties ++ numbersFrom (later i) (length (b .newTies)))
+        ∙ (append-assoc (r .numbers .ties) (numbersFrom j (length (a .newTies))) (numbersFrom (j + length (a .newTies)) (length (b .newTies)))
+        ∙ ap (λ (z : List ℕ). r .numbers .ties ++ z)
+        (sym (rows-both (λ i. i) (length (a .newTies)) (length (b .newTies)) j) ∙ ap (numbersFrom j) (sym (length-append (a .newTies) (b .newTies)))))
+
+pub run-numbers : (n : ℕ) (t : Tables) → PostsTies (view t) (view (run n t .tables))
+run-numbers n t = run-keeps (λ z. PostsTies (view t) (view z)) (λ z h. posts-then (view t) (view z) (view (stepTables z .tables)) h (step-numbers z)) n t (posts-no-ties (view t))
