@@ -12,7 +12,7 @@ use borrow.Author.Tests.{eqb-true, eqb-false, eq-eqb, ne-eqb, leb-true, not-fals
 use Rattle.definition.specs.Numbers.{taskLimit, classLimit, keptLimit, cacheLimit, tieLimit, subtypeLimit, objectLimit, frameLimit, countClasses, countKept, countCache, countTies, countSubtypes, countObjects, countFrames, ownersCell, tieNumbersCell, subtypeNumbersCell, countsLength, classesLength, keptLength, cacheLength, tiesLength, subtypesLength, objectsLength, framesLength}
 use Rattle.definition.specs.Lists.{every, any, rows, stack}
 use Rattle.definition.specs.Classes.{Base}
-use Rattle.definition.specs.Tables.{Tables, tables, RowNumbers, rowNumbers, numberAt, numbersOf, shaped, baseOf, classRowAt, entryAt, tieAt, subtypeAt, objectAt, ownedBy, ownerAt, objectRowAt, frameIn, classRowsOf, keptOf, cacheOf, viewBase, objectsOf, framesOf, viewOver, view}
+use Rattle.definition.specs.Tables.{Tables, tables, rowNumbers, numberAt, numbersOf, shaped, baseOf, classRowAt, entryAt, tieAt, subtypeAt, objectAt, ownedBy, ownerAt, objectRowAt, frameIn, classRowsOf, keptOf, cacheOf, viewBase, objectsOf, framesOf, viewOver, view}
 use Rattle.definition.specs.Broken.{within, inTurn, numbered, whole, broken}
 use Rattle.definition.specs.Calls.{numbersFrom}
 use Rattle.layout.specs.Places.{rows-length, rows-getD, rows-cong}

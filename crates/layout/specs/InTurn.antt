@@ -1,6 +1,6 @@
 -- What numbers in turn are, both ways: those of both tables together are exactly 0 to k − 1, each once, and they rise along each table. And numbers in turn that
 -- are numbered on, in either table, are in turn.
-use mathlib.Core.Path.{_≡_, refl, sym, subst, _∙_}
+use mathlib.Core.Path.{_≡_, refl, sym, subst}
 use mathlib.Core.Bool.{Bool, true, false, false≢true}
 use mathlib.Core.List.{List, [], _∷_, _++_, List·Memᴰ, List·Memᴰ·head, List·Memᴰ·tail, List·Memᴰ·not-nil}
 use mathlib.Core.Logic.{_⊎_, inl, inr}

@@ -1,17 +1,16 @@
 -- The numbers of the rows of ties and of subtype constraints, behind the owners: what is read and put back changes nothing, numbers behind them are written
 -- alone, no other cell is written, and numbers that were put are read back.
-use mathlib.Core.Path.{_≡_, refl, sym, ap, _∙_}
+use mathlib.Core.Path.{_≡_, refl, _∙_}
 use mathlib.Core.List.{List, [], _∷_, _++_, append-nil}
-use Prim.Native.Nat.{ℕ, zero, suc, _+_, _-_, _<_, _≤_}
+use Prim.Native.Nat.{ℕ, suc, _+_, _-_, _<_, _≤_}
 use native.Mathlib.Omega.{arith}
-use lib.ListN.{length, getD, set, length-set, length-append}
+use lib.ListN.{length, getD, length-set, length-append}
 use lib.Seq.{set-getD, getD-set-same, getD-set-other}
 use Rattle.definition.specs.Numbers.{tieNumbersCell, subtypeNumbersCell}
 use Rattle.definition.specs.Lists.{rows, writeRows}
 use Rattle.definition.specs.Constraints.{Tie, Subtype}
 use Rattle.definition.specs.Tables.{RowNumbers, rowNumbers, Rows, numberAt, putNumber, putNumbers}
 use Rattle.definition.specs.Calls.{numbersFrom, numberedOn}
-use Rattle.layout.specs.Tests.{All}
 use Rattle.layout.specs.Places.{rows-cong, writeRows-append, writeRows-length, rows-written}
 use Rattle.layout.specs.Rows.{Anything, all-anything}
 
