@@ -9,8 +9,9 @@
 extern "C" {
 #endif
 
-/* 0 if the bytes are a class file that the verifier accepts, 2 if they are no class file, 6 if the verifier rejects it.
-   `bytes` is `length` bytes that nothing else changes during the call; they may be any bytes, of any number, also none. */
+/* 0 if the bytes are a class file that the verifier accepts, 2 if they are no class file, 15 if a jump's target, or an instruction after
+   a goto or return, has no map, 6 if the verifier rejects it. `bytes` is `length` bytes that nothing else changes during the call; they
+   may be any bytes, of any number, also none. */
 uint8_t tariff_check(const uint8_t *bytes, size_t length);
 
 #ifdef __cplusplus

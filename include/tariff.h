@@ -92,7 +92,8 @@ enum tariff_word {
     TARIFF_NULL = 11,       /* receiver null */
     TARIFF_BUSY = 12,       /* start on a task with frames */
     TARIFF_MISNAMED = 13,   /* record: the class has another name */
-    TARIFF_STUCK = 14       /* step: no instruction, or no operand, local, class or method, as the instruction needs it */
+    TARIFF_STUCK = 14,      /* step: no instruction, or no operand, local, class or method, as the instruction needs it */
+    TARIFF_UNMAPPED = 15    /* define: a jump's target, or an instruction after a goto or return, without a map */
 };
 
 /* boot: makes a store of the tables, whatever they held. Class 0 is Object, known to loader 0 alone. Refusal: 1, for the lengths. */
@@ -102,8 +103,8 @@ uint8_t tariff_boot(uint16_t *counts, size_t counts_length, uint16_t *classes, s
                     const uint32_t *objects, size_t objects_length, const uint32_t *frames, size_t frames_length,
                     uint32_t *answer, size_t answer_length);
 
-/* define: a class of that loader, 0 to 15, from its file, which is kept. Answers the class's number. Refusals: 1 3 2 6 4 5 8 10 9, the
-   first that applies. */
+/* define: a class of that loader, 0 to 15, from its file, which is kept. Answers the class's number. Refusals: 1 3 2 15 6 4 5 8 10 9,
+   the first that applies. */
 uint8_t tariff_define(uint16_t *counts, size_t counts_length, uint16_t *classes, size_t classes_length,
                       uint8_t *kept, size_t kept_length, uint16_t *cache, size_t cache_length,
                       uint16_t *ties, size_t ties_length, uint16_t *subtypes, size_t subtypes_length,

@@ -1,4 +1,5 @@
-/* The publishers' desk from C: good files, each file rule broken, each rule of the verifier broken, no bytes, every length. */
+/* The publishers' desk from C: good files, each file rule broken, each rule of the verifier broken, maps that are there or not, no bytes, every
+   length. */
 #include <stdio.h>
 #include <stdlib.h>
 #include <string.h>
@@ -36,13 +37,18 @@ static void pair(struct file *f, unsigned n)
 }
 
 /* Version, length and names; the length is filled in by `whole`. */
-static void begin(struct file *f, unsigned name, unsigned super)
+static void begin_version(struct file *f, unsigned version, unsigned name, unsigned super)
 {
     f->length = 0;
-    byte(f, 1);
+    byte(f, version);
     pair(f, 0);
     pair(f, name);
     pair(f, super);
+}
+
+static void begin(struct file *f, unsigned name, unsigned super)
+{
+    begin_version(f, 1, name, super);
 }
 
 static void whole(struct file *f)
@@ -154,7 +160,7 @@ static void file_rules(void)
 {
     uint8_t f[sizeof quote];
     struct { const char *rule; size_t place; uint8_t value; } changed[] = {
-        {"version 0", 0, 0}, {"version 2", 0, 2}, {"a length too small", 2, 0x10}, {"a length too large", 2, 0x12},
+        {"version 0", 0, 0}, {"version 2 without a count of maps", 0, 2}, {"version 3", 0, 3}, {"a length too small", 2, 0x10}, {"a length too large", 2, 0x12},
         {"a length too large by 256", 1, 1}, {"class name 0", 4, 0}, {"class name 1", 4, 1}, {"superclass name 0", 6, 0},
         {"superclass name 1", 6, 1}, {"a field that isn't there", 7, 1}, {"9 fields", 7, 9}, {"no method where one is", 8, 0},
         {"a method too many", 8, 2}, {"9 methods", 8, 9}, {"method name 0", 10, 0}, {"argument type 0", 12, 0},
@@ -284,6 +290,106 @@ static void verifier_rules(void)
     code_is("no return", 6, 1, 1, CODE(0x15, 1));
 }
 
+/* Class 10 of version 2 with one method 20 from int to int; the maps come with their count. */
+static void mapped_file(struct file *f, size_t length, const uint8_t *code, size_t maps_length, const uint8_t *maps)
+{
+    begin_version(f, 2, 10, 2);
+    byte(f, 0);
+    byte(f, 1);
+    method(f, 20, 1, 1, length, code);
+    for (size_t i = 0; i < maps_length; i++)
+        byte(f, maps[i]);
+    whole(f);
+}
+
+static void mapped_is(const char *what, uint8_t number, size_t length, const uint8_t *code, size_t maps_length, const uint8_t *maps)
+{
+    struct file f;
+    mapped_file(&f, length, code, maps_length, maps);
+    expect(what, number, f.bytes, f.length);
+}
+
+/* A map at a low offset: its first locals, the others unset, and its operand count. */
+#define MAP(offset, one, two, three, operands) 0, offset, 0, one, 0, two, 0, three, 0, 0, 0, 0, 0, 0, 0, 0, 0, 0, operands
+#define IDENTITY CODE(0x15, 1, 0xAC)
+#define NONE CODE(0)
+
+static void map_shapes(void)
+{
+    mapped_is("no map", 0, IDENTITY, NONE);
+    mapped_is("a map that unsets all", 0, IDENTITY, CODE(1, MAP(2, 0, 0, 0, 1), 0, 1));
+    mapped_is("a goto to itself", 0, CODE(0xA7, 0, 0), CODE(1, MAP(0, 10, 1, 0, 0)));
+    mapped_is("a map of another name", 0, IDENTITY, CODE(1, MAP(0, 40, 1, 0, 0)));
+    mapped_is("code that nothing jumps to", 0, CODE(0x15, 1, 0xAC, 0x15, 2, 0xAC), CODE(1, MAP(3, 0, 0, 1, 0)));
+    mapped_is("null for a name, a name for unset", 0, CODE(0x01, 0x3A, 2, 0x15, 1, 0xAC), CODE(1, MAP(3, 0, 1, 30, 0)));
+
+    mapped_is("offsets alike", 2, IDENTITY, CODE(2, MAP(0, 0, 1, 0, 0), MAP(0, 0, 1, 0, 0)));
+    mapped_is("offsets that fall", 2, IDENTITY, CODE(2, MAP(2, 0, 1, 0, 1), 0, 1, MAP(0, 0, 1, 0, 0)));
+    mapped_is("17 operands", 2, IDENTITY,
+              CODE(1, MAP(0, 0, 0, 0, 17), 0, 1, 0, 1, 0, 1, 0, 1, 0, 1, 0, 1, 0, 1, 0, 1, 0, 1, 0, 1, 0, 1, 0, 1, 0, 1, 0, 1, 0, 1, 0, 1, 0, 1));
+    mapped_is("an operand of type 0", 2, IDENTITY, CODE(1, MAP(2, 0, 0, 0, 1), 0, 0));
+    mapped_is("no count of maps", 2, IDENTITY, 0, NULL);
+    mapped_is("a map that isn't there", 2, IDENTITY, CODE(2, MAP(0, 0, 1, 0, 0)));
+    mapped_is("a map too many", 2, IDENTITY, CODE(0, MAP(0, 0, 1, 0, 0)));
+    mapped_is("operands cut off", 2, IDENTITY, CODE(1, MAP(2, 0, 0, 0, 1), 0));
+}
+
+static void maps_wanted(void)
+{
+    mapped_is("a target without a map", 15, CODE(0xA7, 0, 0), NONE);
+    mapped_is("ifeq without a map", 15, CODE(0x15, 1, 0x99, 0, 5, 0x15, 1, 0xAC), NONE);
+    mapped_is("if_icmplt without a map", 15, CODE(0x15, 1, 0x15, 1, 0xA1, 0, 7, 0x15, 1, 0xAC), NONE);
+    mapped_is("a target past the code", 15, CODE(0xA7, 255, 255), NONE);
+    mapped_is("a target inside an instruction", 15, CODE(0xA7, 0, 1), NONE);
+    mapped_is("after a return", 15, CODE(0x15, 1, 0xAC, 0x15, 1, 0xAC), NONE);
+    mapped_is("after a goto", 15, CODE(0xA7, 0, 0, 0x01), CODE(1, MAP(0, 0, 0, 0, 0)));
+    mapped_is("local 9 before it", 15, CODE(0x15, 9, 0xA7, 0, 0), NONE);
+    mapped_is("class 0 before it", 15, CODE(0xBB, 0, 0, 0xA7, 0, 0), NONE);
+}
+
+static void flow_rules(void)
+{
+    mapped_is("an unknown opcode before it", 6, CODE(0xFF, 0xA7, 0, 0), NONE);
+    mapped_is("an unknown opcode after a return", 6, CODE(0x15, 1, 0xAC, 0xFF), NONE);
+    mapped_is("cut off after a return", 6, CODE(0x15, 1, 0xAC, 0xA7, 0), NONE);
+    mapped_is("a map inside an instruction", 6, CODE(0xA7, 0, 1), CODE(1, MAP(1, 0, 0, 0, 0)));
+    mapped_is("a map where the code ends", 6, IDENTITY, CODE(1, MAP(3, 0, 0, 0, 0)));
+    mapped_is("off the end by ifeq", 6, CODE(0x15, 1, 0x99, 0, 0), CODE(1, MAP(0, 10, 1, 0, 0)));
+    mapped_is("unset for an int, from entry", 6, IDENTITY, CODE(1, MAP(0, 10, 1, 1, 0)));
+    mapped_is("an int for a name, from entry", 6, IDENTITY, CODE(1, MAP(0, 10, 30, 0, 0)));
+    mapped_is("an operand too few", 6, IDENTITY, CODE(1, MAP(0, 10, 1, 0, 1), 0, 1));
+    mapped_is("an operand too many, to the next", 6, IDENTITY, CODE(1, MAP(2, 10, 1, 0, 0)));
+    mapped_is("a name for an int, by a jump", 6, CODE(0xA7, 0, 3, 0x15, 1, 0xAC), CODE(1, MAP(3, 1, 1, 0, 0)));
+    mapped_is("a local that the map unsets", 6, CODE(0xA7, 0, 3, 0x15, 1, 0xAC), CODE(1, MAP(3, 10, 0, 0, 0)));
+    mapped_is("ifeq of a reference", 6, CODE(0x19, 0, 0x99, 0, 5, 0x15, 1, 0xAC), CODE(1, MAP(5, 0, 1, 0, 0)));
+    code_is("goto in version 1", 6, 1, 1, CODE(0xA7, 0, 0));
+    code_is("ifeq in version 1", 6, 1, 1, CODE(0x15, 1, 0x99, 0, 5, 0x15, 1, 0xAC));
+    code_is("if_icmplt in version 1", 6, 1, 1, CODE(0x15, 1, 0x15, 1, 0xA1, 0, 7, 0x15, 1, 0xAC));
+}
+
+/* 15 is said of any method before 6 is said of one. */
+static void map_words(void)
+{
+    struct file f;
+    for (unsigned first = 0; first < 2; first++) {
+        begin_version(&f, 2, 10, 2);
+        byte(&f, 0);
+        byte(&f, 2);
+        for (unsigned i = 0; i < 2; i++) {
+            if (i == first)
+                method(&f, 20 + i, 1, 1, CODE(0x15, 2, 0xAC));
+            else
+                method(&f, 20 + i, 1, 1, CODE(0xA7, 0, 0));
+            byte(&f, 0);
+        }
+        whole(&f);
+        expect("a method unmapped, another unverified", 15, f.bytes, f.length);
+    }
+    mapped_file(&f, IDENTITY, CODE(1, MAP(2, 10, 1, 0, 1), 0, 1));
+    for (size_t n = 0; n < f.length; n++)
+        expect("a file of version 2 cut off", 2, f.bytes, n);
+}
+
 /* The last of eight methods is verified too. */
 static void last_method(void)
 {
@@ -320,6 +426,10 @@ int main(void)
     good_files();
     file_rules();
     verifier_rules();
+    map_shapes();
+    maps_wanted();
+    flow_rules();
+    map_words();
     last_method();
     lengths();
     printf("desk: %d checks, %d wrong\n", checked, wrong);

@@ -18,10 +18,13 @@ TARIFF_SECONDS=${1:-0} compare "$PWD/../target/staticlib" static=host,static=des
 mirror=$PWD/target/mirror/release
 cargo build --offline --release --quiet -p mirror --target-dir target/mirror
 compare "$mirror" dylib=tariff 40 --target-dir target/mirror >"$log" 2>&1 || { cat "$log"; exit 1; }
-faults=$(sed -n 's/^    ("\([a-z-]*\)",.*/\1/p; s/^const DESK: &str = "\(.*\)";/\1/p' mirror/src/faults.rs)
+tables="mirror/src/faults.rs mirror/src/mapped.rs src/gen/plain.rs"
+# shellcheck disable=SC2086
+faults=$(sed -n 's/^    ("\([a-z-]*\)",.*/\1/p' $tables)
 # the list has every fault that the mirror can have
-declared=$(sed -n 's/.*FAULTS: \[.*; \([0-9]*\)\].*/\1/p' mirror/src/faults.rs)
-[ "$(echo "$faults" | wc -w)" -eq $((declared + 1)) ] || { echo "not every fault of the mirror is tried"; exit 1; }
+# shellcheck disable=SC2086
+declared=$(sed -n 's/.*const \(FAULTS\|DESKS\|SLIPS\): \[.*; \([0-9]*\)\].*/\2/p' $tables | paste -sd+ | bc)
+[ "$(echo "$faults" | wc -w)" -eq "$declared" ] || { echo "not every fault of the mirror is tried"; exit 1; }
 for fault in $faults; do
     if MIRROR_FAULT=$fault compare "$mirror" dylib=tariff 40 --target-dir target/mirror >"$log" 2>&1 || ! grep -q differs "$log"; then
         cat "$log"

@@ -1,5 +1,5 @@
 /* The eight calls from C: tables of wrong lengths, damaged stores, every word of refusal, numbers at their limits, answer tables of every
-   length, a run beside its steps, objects freed and their numbers used again; and the desk beside define. */
+   length, a run beside its steps, objects freed and their numbers used again, files of version 2; and the desk beside define. */
 #define _GNU_SOURCE
 #include "host.h"
 
@@ -286,6 +286,94 @@ static void free_rows(void)
     frees("which it holds", 0);
 }
 
+/* Sums up its int and those below it, down to 1: a loop from 5 to 24, with maps at 5 and 27. */
+#define SUM                                                                                                                         \
+    CODE(0x11, 0, 0, 0x36, 2, 0x15, 2, 0x15, 1, 0x60, 0x36, 2, 0x15, 1, 0x11, 0, 1, 0x64, 0x59, 0x36, 1, 0x99, 0, 27, 0xA7, 0, 5, 0x15, \
+         2, 0xAC)
+#define SUM_MAPS CODE(2, MAP(5, 10, 1, 1, 0), MAP(27, 0, 0, 1, 0))
+
+/* A class of version 2 and a quote of it with that int. */
+static void mapped_quote(struct call c, uint32_t value)
+{
+    ready();
+    defines("a class of version 2", c, 1);
+    accepts("a quote", start(TARIFF_QUOTE, 1, 10, 20, value));
+}
+
+static void jumps(void)
+{
+    mapped_quote(define_mapped(1, SUM, SUM_MAPS), 7);
+    expect("a loop", run(65535), 0, SIX(TARIFF_RAN_FOR, 0, TARIFF_FINISHED, TARIFF_QUOTE, 28, 79));
+    accepts("once more", start(TARIFF_QUOTE, 1, 10, 20, 100));
+    expect("a longer one", run(65535), 0, SIX(TARIFF_RAN_FOR, 0, TARIFF_FINISHED, TARIFF_QUOTE, 5050, 1102));
+
+    /* the int is less than 5, by its sign: 1, else 0 */
+    struct call less = define_mapped(1, CODE(0x15, 1, 0x11, 0, 5, 0xA1, 0, 12, 0x11, 0, 0, 0xAC, 0x11, 0, 1, 0xAC), CODE(1, MAP(12, 0, 0, 0, 0)));
+    static const struct { uint32_t value, answer; } compared[] = {{4, 1}, {5, 0}, {6, 0}, {4294967295, 1}, {2147483648, 1}, {2147483647, 0}};
+    for (size_t i = 0; i < sizeof compared / sizeof *compared; i++) {
+        mapped_quote(less, compared[i].value);
+        expect("compared", run(9), 0, SIX(TARIFF_RAN_FOR, 0, TARIFF_FINISHED, TARIFF_QUOTE, compared[i].answer, 4));
+    }
+
+    mapped_quote(define_mapped(1, CODE(0xA7, 0, 0), CODE(1, MAP(0, 0, 0, 0, 0))), 7);
+    keep(&first);
+    expect("a goto to itself ends by n", run(65535), 0, SIX(TARIFF_RAN_FOR, 0, TARIFF_RAN, TARIFF_QUOTE, 0, 65535));
+    check("and moves nothing", same(&first));
+    runs("a step of it", TARIFF_QUOTE);
+    set(2, 19, 9);
+    runs("a jump out of the code", TARIFF_QUOTE);
+    refuses("and what is there", step(), TARIFF_STUCK);
+}
+
+/* What define says of files of version 2. */
+static void mapped_files(void)
+{
+    ready();
+    refuses("a target without a map", define_mapped(1, CODE(0xA7, 0, 0), CODE(0)), TARIFF_UNMAPPED);
+    refuses("a target past the code", define_mapped(1, CODE(0xA7, 255, 255), CODE(0)), TARIFF_UNMAPPED);
+    refuses("an instruction after a return", define_mapped(1, CODE(0x15, 1, 0xAC, 0x15, 1, 0xAC), CODE(0)), TARIFF_UNMAPPED);
+    refuses("unmapped, and a local that is unset", define_mapped(1, CODE(0x15, 2, 0xA7, 0, 0), CODE(0)), TARIFF_UNMAPPED);
+    refuses("an unknown opcode after a return", define_mapped(1, CODE(0x15, 1, 0xAC, 0xFF), CODE(0)), TARIFF_UNVERIFIED);
+    refuses("a target inside an instruction", define_mapped(1, CODE(0xA7, 0, 1), CODE(1, MAP(1, 0, 0, 0, 0))), TARIFF_UNVERIFIED);
+    refuses("a map behind the code", define_mapped(1, IDENTITY, CODE(1, MAP(3, 0, 0, 0, 0))), TARIFF_UNVERIFIED);
+    refuses("off the end by an if", define_mapped(1, CODE(0x15, 1, 0x99, 0, 0), CODE(1, MAP(0, 10, 1, 0, 0))), TARIFF_UNVERIFIED);
+    refuses("an unset local from entry", define_mapped(1, IDENTITY, CODE(1, MAP(0, 10, 1, 1, 0))), TARIFF_UNVERIFIED);
+    refuses("offsets that don't rise", define_mapped(1, IDENTITY, CODE(2, MAP(0, 0, 1, 0, 0), MAP(0, 0, 1, 0, 0))), TARIFF_FILE);
+    refuses("an operand of type 0", define_mapped(1, IDENTITY, CODE(1, MAP(2, 0, 0, 0, 1), 0, 0)), TARIFF_FILE);
+    refuses("no count of maps", define_mapped(1, IDENTITY, 0, NULL), TARIFF_FILE);
+    refuses("a jump in version 1", define(1, 10, 2, 0, 1, CODE(0xA7, 0, 0)), TARIFF_UNVERIFIED);
+
+}
+
+/* As many maps as fit, along pairs of `aconst_null, pop`. */
+static void many_maps(void)
+{
+    ready();
+    head(2, 10, 2, 0);
+    byte(1);
+    uint8_t code[392];
+    for (size_t i = 0; i < 388; i++)
+        code[i] = i % 2 ? 0x57 : 0x01;
+    memcpy(code + 388, (uint8_t[]){0x11, 0, 0, 0xAC}, 4);
+    method(20, 1, sizeof code, code);
+    byte(194);
+    for (unsigned i = 0; i < 194; i++) {
+        pair(2 * i);
+        put(CODE(0, 10, 0, 1, 0, 0, 0, 0, 0, 0, 0, 0, 0, 0, 0, 0, 0));
+    }
+    defines("194 maps in 4,096 bytes", defined(1), 1);
+}
+
+/* Notes from entry, then of an instruction the target's before the next point's. */
+static void mapped_notes(void)
+{
+    static const uint16_t notes[] = {1, 10, 40, 1, 40, 41, 1, 40, 42};
+    ready();
+    defines("notes", define_mapped(1, CODE(0x15, 1, 0x99, 0, 9, 0x11, 0, 0, 0xAC, 0x11, 0, 0, 0xAC),
+                                   CODE(3, MAP(0, 40, 1, 0, 0), MAP(5, 42, 0, 0, 0), MAP(9, 41, 0, 0, 0))), 1);
+    check("their order", ((uint16_t *)table[0])[4] == 3 && memcmp(table[5], notes, sizeof notes) == 0);
+}
+
 static void limits(void)
 {
     static const uint32_t loaders[] = {16, 255, 256, 65536, 65537, 2147483648, 4294967295};
@@ -384,6 +472,10 @@ int main(void)
     tie_by_a_step();
     sweeping();
     free_rows();
+    jumps();
+    mapped_files();
+    many_maps();
+    mapped_notes();
     limits();
     runs_and_steps();
     answer_tables();

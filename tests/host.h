@@ -144,14 +144,29 @@ static void pair(unsigned n)
     byte(n % 256);
 }
 
-/* A file with the int field of that name, if it isn't 0, and with method 20 of that argument and an int as its result, if there is code. */
-static struct call define(uint32_t loader, unsigned name, unsigned super, unsigned field, unsigned argument, size_t size, const uint8_t *code)
+/* The file that was written, at the very end of memory that may be used. */
+static struct call defined(uint32_t loader)
 {
     static uint8_t *end = NULL;
     end = end ? end : guarded(PAGE) + PAGE;
+    file[1] = (uint8_t)((written - 3) / 256);
+    file[2] = (uint8_t)((written - 3) % 256);
+    memcpy(end - written, file, written);
+    return (struct call){.name = DEFINE, .one = loader, .file = end - written, .size = written};
+}
+
+static void put(size_t size, const uint8_t *bytes)
+{
+    for (size_t i = 0; i < size; i++)
+        byte(bytes[i]);
+}
+
+/* Version, room for the length, names, and the int field of that name, if it isn't 0. */
+static void head(unsigned version, unsigned name, unsigned super, unsigned field)
+{
     written = 0;
-    byte(1);
-    pair(6 + (field ? 4 : 0) + (size ? 8 + (unsigned)size : 0));
+    byte(version);
+    pair(0);
     pair(name);
     pair(super);
     byte(field ? 1 : 0);
@@ -159,18 +174,40 @@ static struct call define(uint32_t loader, unsigned name, unsigned super, unsign
         pair(field);
         pair(1);
     }
-    byte(size ? 1 : 0);
-    if (size) {
-        pair(20);
-        pair(argument);
-        pair(1);
-        pair((unsigned)size);
-    }
-    for (size_t i = 0; i < size; i++)
-        byte(code[i]);
-    memcpy(end - written, file, written);
-    return (struct call){.name = DEFINE, .one = loader, .file = end - written, .size = written};
 }
+
+/* A method of that argument and an int as its result. */
+static void method(unsigned name, unsigned argument, size_t size, const uint8_t *code)
+{
+    pair(name);
+    pair(argument);
+    pair(1);
+    pair((unsigned)size);
+    put(size, code);
+}
+
+/* A file with the int field of that name, if it isn't 0, and with method 20 of that argument, if there is code. */
+static struct call define(uint32_t loader, unsigned name, unsigned super, unsigned field, unsigned argument, size_t size, const uint8_t *code)
+{
+    head(1, name, super, field);
+    byte(size ? 1 : 0);
+    if (size)
+        method(20, argument, size, code);
+    return defined(loader);
+}
+
+/* Class 10 below Object of version 2, with method 20 of an int; the maps come with their count. */
+static struct call define_mapped(uint32_t loader, size_t size, const uint8_t *code, size_t maps_size, const uint8_t *maps)
+{
+    head(2, 10, 2, 0);
+    byte(1);
+    method(20, 1, size, code);
+    put(maps_size, maps);
+    return defined(loader);
+}
+
+/* A map at a low offset: its first locals, the others unset, and its operand count. */
+#define MAP(offset, one, two, three, operands) 0, offset, 0, one, 0, two, 0, three, 0, 0, 0, 0, 0, 0, 0, 0, 0, 0, operands
 
 #define CODE(...) sizeof((uint8_t[]){__VA_ARGS__}), (uint8_t[]){__VA_ARGS__}
 #define IDENTITY CODE(0x15, 1, 0xAC)
@@ -245,7 +282,7 @@ static void expect(const char *what, struct call c, uint8_t number, const uint32
     if (number != 0)
         check(what, same(&before));
     if (c.name == DEFINE && number != TARIFF_BROKEN && number != TARIFF_UNKNOWN)
-        check(what, desk(c) == (number == TARIFF_FILE || number == TARIFF_UNVERIFIED ? number : 0));
+        check(what, desk(c) == (number == TARIFF_FILE || number == TARIFF_UNMAPPED || number == TARIFF_UNVERIFIED ? number : 0));
 }
 
 #define SIX(...) (const uint32_t[]){__VA_ARGS__}

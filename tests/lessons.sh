@@ -1,6 +1,6 @@
 #!/usr/bin/env bash
-# The writer's tool: its own tests, the course's lessons on the proved machine, each mistake's lesson on a machine that makes it, the lesson
-# on dead objects on machines that free or count them wrongly, what ./box says of mistakes in a text, and any bytes for a minute.
+# The writer's tool: its own tests, the course's lessons on the proved machine, each mistake's lesson on a machine that makes it, the lessons
+# on dead objects, choices and loops on machines that do them wrongly, what ./box says of mistakes in a text, and any bytes for a minute.
 #
 #   tests/lessons.sh                   all of it
 #   tests/lessons.sh --write-errors    writes what ./box says to tools/tests/errors, to be read before it is committed
@@ -23,7 +23,7 @@ own() {
     TARIFF_LIB=$PWD/target/staticlib FUZZ_SECONDS=${FUZZ_SECONDS:-60} cargo test --manifest-path tools/Cargo.toml --offline --release --quiet \
         --features host --target-dir "$tools/host" --lib --test round_trips --test lessons --test fuzz 2>&1 | tee "$work/own" || fail "a test of tools/"
     ran=$(awk '/^test result: ok\. [0-9]+ passed/ { ran += $4 } END { print ran + 0 }' "$work/own")
-    [ "$ran" -ge 14 ] || fail "only $ran tests of tools/ ran"
+    [ "$ran" -ge 15 ] || fail "only $ran tests of tools/ ran"
 }
 
 # What ./box says of each text with a mistake, and its exit status.
@@ -55,13 +55,14 @@ lessons() {
             grep -q "^R 1 2 0 .*loader 1 records Object as 0: recorded$" "$work/out" || fail "${lesson%.lesson}.box isn't in words"
         fi
     done
-    [ "$count" -gt 14 ] || fail "there are only $count lessons"
+    [ "$count" -gt 17 ] || fail "there are only $count lessons"
 }
 
-# A text through the assembler, and its files listed and assembled again.
+# Texts through the assembler, and their files listed and assembled again.
 assembler() {
     local file
     ./box asm examples/spoofed-discount.lesson "$work/one" >/dev/null
+    ./box asm examples/instalments.lesson "$work/one" >/dev/null
     for file in "$work"/one/*.class; do
         ./box list "$file" >"$work/listing"
         ./box asm "$work/listing" "$work/two" >/dev/null
@@ -95,22 +96,30 @@ usage() {
 
 # The mirror stands in for the libraries: right, it passes; with a learner's mistake, that mistake's lesson fails.
 mistakes() {
-    local mirror=$PWD/reference/target/mirror/release writer=$tools/mirror/release/writer lesson fault number tried
-    # the names of the mirror's faults that are each mistake; the sixth is dead objects
-    local faults=(desk "checks-only-constraints-on-the-request|joins-only-direct-ties" superclass-under-the-asking-loader
-        "([a-z]+-)?posts-and-then-refuses" overriding-ties-nothing compares-by-name
-        "sweep-(forgets-locals|forgets-the-report|frees-[a-z]+|tells-[a-z-]+)|freed-objects-count-for-full")
+    local mirror=$PWD/reference/target/mirror/release writer=$tools/mirror/release/writer lesson name fault faults tried
+    # a lesson, and the names of the mirror's faults that it must show
+    local -A shown=(
+        [mistake-1]="checks-only-constraints-on-the-request|joins-only-direct-ties"
+        [mistake-2]=superclass-under-the-asking-loader
+        [mistake-3]="([a-z]+-)?posts-and-then-refuses"
+        [mistake-4]=overriding-ties-nothing
+        [mistake-5]=compares-by-name
+        [dead-objects]="sweep-(forgets-locals|forgets-the-report|frees-[a-z]+|tells-[a-z-]+)|freed-objects-count-for-full"
+        [age-bands]="less-than-[a-z-]+|jumps-from-the-instruction|offsets-from-the-instruction|unmapped-is-unverified|unset-for-int"
+        [instalments]="ifeq-[a-z-]+|a-jump-to-itself-is-stuck|sweep-forgets-unset-locals|a-set-local-stays-set"
+        [a-join]="flow-to-the-target-not-checked|notes-upside-down"
+    )
     (cd reference && cargo build --offline --release --quiet -p mirror --target-dir target/mirror)
     TARIFF_LIB=$mirror TARIFF_LINK=dylib=tariff cargo build --manifest-path tools/Cargo.toml --offline --release --quiet --features host --target-dir "$tools/mirror"
     export LD_LIBRARY_PATH=$mirror
     for lesson in examples/*.lesson; do
         "$writer" play "$lesson" >/dev/null 2>&1 || fail "$lesson fails on the second implementation"
     done
-    for number in 1 2 3 4 5 6; do
+    for name in "${!shown[@]}"; do
         tried=0
-        lesson=examples/dead-objects.lesson
-        [ "$number" -eq 6 ] || lesson=$(echo examples/mistake-"$number"-*.lesson)
-        for fault in $(grep -oE "^    \\(\"(${faults[$number]})\"" reference/mirror/src/faults.rs | tr -d '( "'); do
+        lesson=$(echo examples/"$name"*.lesson)
+        faults=$(grep -ohE "^    \\(\"(${shown[$name]})\"" reference/mirror/src/*.rs reference/src/gen/plain.rs | tr -d '( "')
+        for fault in $faults; do
             tried=$((tried + 1))
             MIRROR_FAULT=$fault "$writer" play "$lesson" >"$work/out" 2>&1 && fail "$lesson passes on the machine $fault"
             grep -q "^NO" "$work/out" || { cat "$work/out"; fail "$lesson on the machine $fault"; }

@@ -48,5 +48,6 @@ class Tree {
         System.out.println("|---|---|");
         measure("tree", 2674, () -> new Tree().a0(3));
         measure("tall tree", 39026, () -> new Upper().b0(3));
+        Loop.main(arguments);
     }
 }

@@ -1,6 +1,6 @@
 //! What a call answers, and the words of refusal.
 
-/// The refusal numbers of document 01.
+/// The refusal numbers of document 01, and those that the papers of document 02 add.
 pub mod word {
     pub const BROKEN: u8 = 1;
     pub const FILE: u8 = 2;
@@ -16,11 +16,12 @@ pub mod word {
     pub const BUSY: u8 = 12;
     pub const MISNAMED: u8 = 13;
     pub const STUCK: u8 = 14;
+    pub const UNMAPPED: u8 = 15;
 
     /// The words in the order of their numbers, from 1.
-    pub const NAMES: [&str; 14] = [
+    pub const NAMES: [&str; 15] = [
         "broken", "file", "unknown", "taken", "wanted", "unverified", "absent", "hidden", "clash", "full",
-        "null", "busy", "misnamed", "stuck",
+        "null", "busy", "misnamed", "stuck", "unmapped",
     ];
 }
 

@@ -1,4 +1,6 @@
-//! Instructions: one decision over opcode bytes gives what follows inline and how long it is.
+//! Instructions: one decision over opcode bytes, by the version, gives what follows inline and how long it is.
+
+use crate::file::MAPPED;
 
 /// Opcode numbers, the JVMS's.
 pub mod op {
@@ -18,14 +20,18 @@ pub mod op {
     pub const PUTFIELD: u8 = 0xB5;
     pub const INVOKEVIRTUAL: u8 = 0xB6;
     pub const NEW: u8 = 0xBB;
+    pub const IFEQ: u8 = 0x99;
+    pub const IF_ICMPLT: u8 = 0xA1;
+    pub const GOTO: u8 = 0xA7;
 
-    pub const ALL: [u8; 16] = [
+    /// Those of version 1 first.
+    pub const ALL: [u8; 19] = [
         ACONST_NULL, SIPUSH, ILOAD, ALOAD, ISTORE, ASTORE, POP, DUP, IADD, ISUB, IRETURN, ARETURN, GETFIELD,
-        PUTFIELD, INVOKEVIRTUAL, NEW,
+        PUTFIELD, INVOKEVIRTUAL, NEW, IFEQ, IF_ICMPLT, GOTO,
     ];
-    pub const NAMES: [&str; 16] = [
+    pub const NAMES: [&str; 19] = [
         "aconst_null", "sipush", "iload", "aload", "istore", "astore", "pop", "dup", "iadd", "isub", "ireturn",
-        "areturn", "getfield", "putfield", "invokevirtual", "new",
+        "areturn", "getfield", "putfield", "invokevirtual", "new", "ifeq", "if_icmplt", "goto",
     ];
 
     /// What follows each opcode inline.
@@ -41,18 +47,25 @@ pub mod op {
         Field,
         /// Class, method, argument, result.
         Method,
+        /// An offset from the start of the method's code.
+        Target,
     }
 
     use Inline::*;
-    pub const INLINE: [Inline; 16] = [
+    pub const INLINE: [Inline; 19] = [
         Nothing, Int, Local, Local, Local, Local, Nothing, Nothing, Nothing, Nothing, Nothing, Nothing, Field, Field,
-        Method, Class,
+        Method, Class, Target, Target, Target,
     ];
 
     /// The opcode's name and what follows it.
     pub fn form(opcode: u8) -> Option<(&'static str, Inline)> {
         let at = ALL.iter().position(|&other| other == opcode)?;
         Some((NAMES[at], INLINE[at]))
+    }
+
+    /// The opcodes of a version.
+    pub fn of(version: u8) -> &'static [u8] {
+        if version < crate::file::MAPPED { &ALL[..16] } else { &ALL }
     }
 }
 
@@ -91,13 +104,32 @@ pub enum Instruction {
     New(u16),
     Ireturn,
     Areturn,
+    Ifeq(u16),
+    IfIcmplt(u16),
+    Goto(u16),
 }
 
 use Instruction::*;
 
-/// The instruction at a point and the next point; nothing if it can't be read.
-pub fn decode(code: &[u8], point: usize) -> Option<(Instruction, usize)> {
+impl Instruction {
+    /// Where a jump may go.
+    pub fn target(self) -> Option<usize> {
+        match self {
+            Ifeq(target) | IfIcmplt(target) | Goto(target) => Some(target.into()),
+            _ => None,
+        }
+    }
+
+    /// Does nothing go from it to the next instruction?
+    pub fn ends_path(self) -> bool {
+        matches!(self, Ireturn | Areturn | Goto(_))
+    }
+}
+
+/// The instruction at a point of a file of this version and the next point; nothing if it can't be read.
+pub fn decode(version: u8, code: &[u8], point: usize) -> Option<(Instruction, usize)> {
     let opcode = *code.get(point)?;
+    let branches = version >= MAPPED;
     let inline = &code[point + 1..];
     let byte = || inline.first().copied();
     let word = |i: usize| inline.get(2 * i..2 * i + 2).map(|w| u16::from_be_bytes([w[0], w[1]]));
@@ -122,6 +154,9 @@ pub fn decode(code: &[u8], point: usize) -> Option<(Instruction, usize)> {
         op::NEW => (New(word(0)?), 2),
         op::IRETURN => (Ireturn, 0),
         op::ARETURN => (Areturn, 0),
+        op::IFEQ if branches => (Ifeq(word(0)?), 2),
+        op::IF_ICMPLT if branches => (IfIcmplt(word(0)?), 2),
+        op::GOTO if branches => (Goto(word(0)?), 2),
         _ => return None,
     };
     Some((instruction, point + 1 + inline_length))
@@ -138,11 +173,14 @@ mod tests {
             let length = match inline {
                 Inline::Nothing => 0,
                 Inline::Local => 1,
-                Inline::Int | Inline::Class => 2,
+                Inline::Int | Inline::Class | Inline::Target => 2,
                 Inline::Field => 6,
                 Inline::Method => 8,
             };
-            assert_eq!(decode(&[opcode, 0, 3, 0, 3, 0, 3, 0, 3], 0).map(|(_, next)| next), Some(1 + length));
+            for version in [1, 2] {
+                let next = decode(version, &[opcode, 0, 3, 0, 3, 0, 3, 0, 3], 0).map(|(_, next)| next);
+                assert_eq!(next, op::of(version).contains(&opcode).then_some(1 + length));
+            }
         }
     }
 }

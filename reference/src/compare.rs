@@ -17,9 +17,10 @@ use crate::gen::graphs::graphs;
 use crate::gen::limits::LIMITS;
 use crate::gen::list::list;
 use crate::gen::rng::Rng;
+use crate::gen::loops::loops;
 use crate::gen::stuck::stuck;
 use crate::gen::swept::swept;
-use crate::gen::{cases, large, Call, Trial, CALLS};
+use crate::gen::{cases, large, mapped, Call, Trial, CALLS};
 use crate::host::{self, expected, CELLS};
 use crate::placed::misplaced;
 use crate::store::{Store, LENGTHS};
@@ -43,7 +44,7 @@ pub struct Comparison {
     /// Calls that followed the boot of a damaged store.
     pub rebooted: u64,
     /// What the desk answered to so many files, by number.
-    pub desk: [u64; 7],
+    pub desk: [u64; 16],
     pub seeds: u64,
 }
 
@@ -177,7 +178,7 @@ impl Comparison {
 
     /// What needs no seed.
     fn fixed(&mut self) {
-        for (at, trial) in cases::cases().iter().chain(&swept()).enumerate() {
+        for (at, trial) in cases::cases().iter().chain(&swept()).chain(&loops()).enumerate() {
             self.play(trial, &format!("case {at}"));
         }
         for seed in 0..4 {
@@ -191,6 +192,10 @@ impl Comparison {
         for draft in rejected().iter().chain(&taken()) {
             self.file(&store, draft.file(), "a method");
         }
+        for draft in mapped::taken().iter().chain(&mapped::unmapped()).chain(&mapped::rejected()) {
+            self.file(&store, draft.file(), "a method of version 2");
+        }
+        mapped::bad().into_iter().for_each(|bytes| self.file(&store, bytes, "a bad file of version 2"));
         self.large();
     }
 
@@ -208,7 +213,10 @@ impl Comparison {
         let held = [large::Held::Upward, large::Held::Downward, large::Held::ByFrames, large::Held::Nothing];
         let swept = held.map(|held| (large::objects(held), Call::Sweep));
         let made = [false, true].map(|freed| (large::making(freed), run.clone()));
-        for (at, (store, call)) in calls.iter().chain(&swept).chain(&made).enumerate() {
+        let looping = [large::Round::Ints, large::Round::Field].map(|round| (large::looping(round), run.clone()));
+        let empty = Trial::ready([1]).store;
+        let long = large::long_files().map(|(_, file)| (empty.clone(), Call::Define { loader: 1, file }));
+        for (at, (store, call)) in calls.iter().chain(&swept).chain(&made).chain(&looping).chain(&long).enumerate() {
             self.call(store, call, CELLS, &format!("large store {at}"));
         }
     }
@@ -227,7 +235,7 @@ impl Comparison {
         self.booted.add(&other.booted);
         self.damaged.add(&other.damaged);
         (0..CALLS.len()).for_each(|call| self.misshapen[call] += other.misshapen[call]);
-        (0..7).for_each(|number| self.desk[number] += other.desk[number]);
+        (0..16).for_each(|number| self.desk[number] += other.desk[number]);
         (0..SHAPES.len()).for_each(|shape| self.shapes[shape] += other.shapes[shape]);
         self.rebooted += other.rebooted;
         self.seeds += other.seeds;
@@ -258,20 +266,20 @@ impl Comparison {
         }
         demand(self.rebooted > 0, "no calls after the boot of a damaged store".into());
         demand(self.damaged.long_runs > 0, "no run of a thousand steps on damaged stores".into());
-        demand([0, 2, 6].iter().all(|&number| self.desk[number] > 0), format!("the desk answered {:?}", self.desk));
+        demand([0, 2, 6, 15].iter().all(|&number| self.desk[number] > 0), format!("the desk answered {:?}", self.desk));
         odd
     }
 }
 
 impl fmt::Display for Comparison {
     fn fmt(&self, f: &mut fmt::Formatter) -> fmt::Result {
-        let [sound, .., unverified] = self.desk;
         writeln!(f, "{} seeds\n\nCall lists from a boot\n{}", self.seeds, self.booted)?;
         writeln!(f, "Single calls, mostly on damaged stores\n{}", self.damaged)?;
         writeln!(f, "Calls on tables of a wrong length: {:?}", self.misshapen)?;
         SHAPES.iter().zip(&self.shapes).try_for_each(|((what, _), stores)| writeln!(f, "Damaged stores with {what}: {stores}"))?;
         writeln!(f, "Calls after the boot of a damaged store: {}", self.rebooted)?;
-        writeln!(f, "The desk: {sound} sound, {} no files, {unverified} unverified", self.desk[2])
+        let [sound, no_file, unmapped, unverified] = [0, 2, 15, 6].map(|number| self.desk[number]);
+        writeln!(f, "The desk: {sound} sound, {no_file} no files, {unmapped} unmapped, {unverified} unverified")
     }
 }
 

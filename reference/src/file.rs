@@ -1,15 +1,23 @@
 //! The file rules, the rule that bytes break, and a view of a file that fits them.
 
+use crate::store::{LOCALS, OPERANDS};
+
 pub const MOST_BYTES: usize = 4_096;
 pub const MOST_MEMBERS: usize = 8;
 pub const MOST_CODE: usize = 512;
 
-const VERSION: u8 = 1;
+/// The first version, and the first in which a method has maps and jumps.
+const FIRST: u8 = 1;
+pub const MAPPED: u8 = 2;
+const LAST: u8 = MAPPED;
+
 const NAME: usize = 3;
 const SUPERCLASS: usize = 5;
 const FIELDS: usize = 7;
 const FIELD: usize = 4;
 const METHOD_HEAD: usize = 8;
+/// Offset, eight local types, operand count.
+const MAP_HEAD: usize = 19;
 
 #[derive(Clone, Copy, Debug)]
 pub struct File<'a> {
@@ -26,10 +34,67 @@ pub struct Field {
 #[derive(Clone, Copy, Debug)]
 pub struct Method<'a> {
     pub place: usize,
+    /// The file's.
+    pub version: u8,
     pub name: u16,
     pub argument: u16,
     pub result: u16,
     pub code: &'a [u8],
+    /// The file's bytes, and where in them the code ends and the maps begin.
+    bytes: &'a [u8],
+    end: usize,
+}
+
+/// A map, the paper's word for a stack map frame of the JVMS: the types at a point of a method's code. It is a part of the file's bytes.
+#[derive(Clone, Copy, Debug)]
+pub struct Map<'a> {
+    bytes: &'a [u8],
+}
+
+impl<'a> Map<'a> {
+    /// The map at the front of these bytes, if it isn't cut off.
+    fn read(bytes: &'a [u8]) -> Option<Map<'a>> {
+        let operands = usize::from(*bytes.get(MAP_HEAD - 1)?);
+        Some(Map { bytes: bytes.get(..MAP_HEAD + 2 * operands)? })
+    }
+
+    pub fn offset(&self) -> usize {
+        usize::from(pair(self.bytes, 0))
+    }
+
+    /// The eight types of the locals; 0 is unset.
+    pub fn locals(&self) -> impl Iterator<Item = u16> + 'a {
+        let bytes = self.bytes;
+        (0..LOCALS).map(move |local| pair(bytes, 2 + 2 * local))
+    }
+
+    pub fn operand_count(&self) -> usize {
+        (self.bytes.len() - MAP_HEAD) / 2
+    }
+
+    /// The types of the operands from the lowest up.
+    pub fn operands(&self) -> impl Iterator<Item = u16> + 'a {
+        let bytes = self.bytes;
+        (MAP_HEAD..bytes.len()).step_by(2).map(move |at| pair(bytes, at))
+    }
+}
+
+/// The maps of a method in the file's order, as far as they aren't cut off.
+#[derive(Clone)]
+pub struct Maps<'a> {
+    bytes: &'a [u8],
+    left: u8,
+}
+
+impl<'a> Iterator for Maps<'a> {
+    type Item = Map<'a>;
+
+    fn next(&mut self) -> Option<Map<'a>> {
+        self.left = self.left.checked_sub(1)?;
+        let map = Map::read(self.bytes)?;
+        self.bytes = &self.bytes[map.bytes.len()..];
+        Some(map)
+    }
 }
 
 /// A file rule that bytes break.
@@ -45,6 +110,10 @@ pub enum Rule {
     TooManyFields(u8),
     TooManyMethods(u8),
     CodeLength(u16),
+    /// A map's offset, which isn't above that of the map before.
+    MapOffset(u16),
+    TooManyMapOperands(u8),
+    MapOperand0,
     BytesLeft(usize),
     SameField(u16),
     SameMethod(u16),
@@ -65,10 +134,28 @@ fn keeps(holds: bool, at: usize, rule: Rule) -> Result<(), Flaw> {
     }
 }
 
-impl Method<'_> {
+impl<'a> Method<'a> {
     pub fn is(&self, name: u16, argument: u16, result: u16) -> bool {
         self.name == name && self.argument == argument && self.result == result
     }
+
+    /// Methods of version 1 have none.
+    pub fn maps(&self) -> Maps<'a> {
+        maps(self.version, &self.bytes[self.end..])
+    }
+}
+
+/// The maps at the front of the bytes behind a method's code.
+fn maps(version: u8, behind: &[u8]) -> Maps<'_> {
+    match behind.split_first() {
+        Some((&left, bytes)) if version >= MAPPED => Maps { bytes, left },
+        _ => Maps { bytes: &[], left: 0 },
+    }
+}
+
+/// How many bytes the maps have, with their count.
+fn maps_length(version: u8, behind: &[u8]) -> usize {
+    usize::from(version >= MAPPED) + maps(version, behind).map(|map| map.bytes.len()).sum::<usize>()
 }
 
 fn pair(bytes: &[u8], at: usize) -> u16 {
@@ -84,8 +171,8 @@ impl<'a> File<'a> {
     /// The file, or the first rule that the bytes break.
     pub fn explained(bytes: &'a [u8]) -> Result<File<'a>, Flaw> {
         keeps(bytes.len() <= MOST_BYTES, MOST_BYTES, Rule::TooLong)?;
-        let version = bytes.first().copied().unwrap_or(VERSION);
-        keeps(version == VERSION, 0, Rule::Version(version))?;
+        let version = bytes.first().copied().unwrap_or(FIRST);
+        keeps((FIRST..=LAST).contains(&version), 0, Rule::Version(version))?;
         keeps(bytes.len() > FIELDS, bytes.len(), Rule::CutOff)?;
         let (said, follow) = (pair(bytes, 1), bytes.len() - NAME);
         keeps(usize::from(said) == follow, 1, Rule::Length(said, follow))?;
@@ -103,6 +190,10 @@ impl<'a> File<'a> {
     /// A file that has been read before.
     pub fn trusted(bytes: &'a [u8]) -> File<'a> {
         File { bytes }
+    }
+
+    pub fn version(&self) -> u8 {
+        self.bytes[0]
     }
 
     pub fn name(&self) -> u16 {
@@ -150,13 +241,11 @@ impl<'a> File<'a> {
     }
 
     fn methods_differ(&self) -> Result<(), Flaw> {
-        let mut at = self.methods_at() + 1;
         self.methods().try_for_each(|method| {
             let mut before = self.methods().take(method.place);
             let differs = before.all(|other| !other.is(method.name, method.argument, method.result));
-            keeps(differs, at, Rule::SameMethod(method.name))?;
-            at += METHOD_HEAD + method.code.len();
-            Ok(())
+            let at = method.code.as_ptr() as usize - self.bytes.as_ptr() as usize - METHOD_HEAD;
+            keeps(differs, at, Rule::SameMethod(method.name))
         })
     }
 }
@@ -165,6 +254,7 @@ impl<'a> File<'a> {
 #[derive(Clone)]
 pub struct Methods<'a> {
     bytes: &'a [u8],
+    /// Where the first method begins, or the code of the one before ends: its maps are passed over only if there is need.
     at: usize,
     place: usize,
     count: usize,
@@ -177,15 +267,22 @@ impl<'a> Iterator for Methods<'a> {
         if self.place == self.count {
             return None;
         }
-        let (bytes, at) = (self.bytes, self.at);
+        let (bytes, version) = (self.bytes, self.bytes[0]);
+        if version >= MAPPED && self.place > 0 {
+            self.at += maps_length(version, &bytes[self.at..]);
+        }
+        let at = self.at;
         let start = at + METHOD_HEAD;
         let end = start + usize::from(pair(bytes, at + 6));
         let method = Method {
             place: self.place,
+            version,
             name: pair(bytes, at),
             argument: pair(bytes, at + 2),
             result: pair(bytes, at + 4),
             code: &bytes[start..end],
+            bytes,
+            end,
         };
         self.at = end;
         self.place += 1;
@@ -203,7 +300,7 @@ fn fields_end(bytes: &[u8]) -> Result<usize, Flaw> {
     Ok(end)
 }
 
-/// Where the methods end, if their count, names, types and code lengths are fine.
+/// Where the methods end, if their count, names, types, code lengths and maps are fine.
 fn methods_end(bytes: &[u8], at: usize) -> Result<usize, Flaw> {
     let count = bytes[at];
     keeps(usize::from(count) <= MOST_MEMBERS, at, Rule::TooManyMethods(count))?;
@@ -216,6 +313,25 @@ fn methods_end(bytes: &[u8], at: usize) -> Result<usize, Flaw> {
         keeps(code != 0 && usize::from(code) <= MOST_CODE, end + 6, Rule::CodeLength(code))?;
         end = code_at + usize::from(code);
         keeps(end <= bytes.len(), bytes.len(), Rule::CutOff)?;
+        end = if bytes[0] >= MAPPED { maps_end(bytes, end)? } else { end };
+    }
+    Ok(end)
+}
+
+/// Where the maps whose count stands at this byte end, if their offsets rise and their operands are fine.
+fn maps_end(bytes: &[u8], at: usize) -> Result<usize, Flaw> {
+    keeps(at < bytes.len(), bytes.len(), Rule::CutOff)?;
+    let (mut end, mut least) = (at + 1, 0);
+    for _ in 0..bytes[at] {
+        let head = end + MAP_HEAD;
+        keeps(head <= bytes.len(), bytes.len(), Rule::CutOff)?;
+        let (offset, operands) = (pair(bytes, end), bytes[head - 1]);
+        keeps(u32::from(offset) >= least, end, Rule::MapOffset(offset))?;
+        keeps(usize::from(operands) <= OPERANDS, head - 1, Rule::TooManyMapOperands(operands))?;
+        least = u32::from(offset) + 1;
+        end = head + 2 * usize::from(operands);
+        keeps(end <= bytes.len(), bytes.len(), Rule::CutOff)?;
+        (head..end).step_by(2).try_for_each(|at| keeps(pair(bytes, at) != 0, at, Rule::MapOperand0))?;
     }
     Ok(end)
 }
@@ -223,10 +339,11 @@ fn methods_end(bytes: &[u8], at: usize) -> Result<usize, Flaw> {
 /// What can be read of bytes that needn't be a file, from the front, until they end.
 #[derive(Clone, Debug, Default)]
 pub struct Sketch<'a> {
+    pub version: Option<u8>,
     pub name: Option<u16>,
     pub superclass: Option<u16>,
     pub fields: Vec<Field>,
-    /// The last one's code may be cut off.
+    /// The last one's code or maps may be cut off.
     pub methods: Vec<Method<'a>>,
 }
 
@@ -234,7 +351,8 @@ impl<'a> Sketch<'a> {
     pub fn read(bytes: &'a [u8]) -> Sketch<'a> {
         let word = |at: usize| (at + 2 <= bytes.len()).then(|| pair(bytes, at));
         let count = |at: usize| bytes.get(at).map_or(0, |&count| usize::from(count));
-        let mut sketch = Sketch { name: word(NAME), superclass: word(SUPERCLASS), ..Sketch::default() };
+        let version = bytes.first().copied();
+        let mut sketch = Sketch { version, name: word(NAME), superclass: word(SUPERCLASS), ..Sketch::default() };
         let mut at = FIELDS + 1;
         for _ in 0..count(FIELDS) {
             let (Some(name), Some(of)) = (word(at), word(at + 2)) else {
@@ -254,7 +372,8 @@ impl<'a> Sketch<'a> {
             };
             let start = at + METHOD_HEAD;
             at = bytes.len().min(start + usize::from(length));
-            sketch.methods.push(Method { place, name, argument, result, code: &bytes[start..at] });
+            sketch.methods.push(Method { place, version: bytes[0], name, argument, result, code: &bytes[start..at], bytes, end: at });
+            at += maps_length(bytes[0], &bytes[at..]);
         }
         sketch
     }

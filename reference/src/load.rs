@@ -6,7 +6,7 @@ use crate::broken::{lengths_fit, unbroken};
 use crate::classes::Classes;
 use crate::file::File;
 use crate::store::{count, Store, FIELDS, LIMITS, LOADERS, OBJECT, ROW};
-use crate::verifier::verify;
+use crate::verifier::refused;
 
 pub fn boot(store: &mut Store) -> Reply {
     if !lengths_fit(store) {
@@ -19,22 +19,33 @@ pub fn boot(store: &mut Store) -> Reply {
 }
 
 pub fn define(store: &mut Store, loader: u32, bytes: &[u8]) -> Reply {
-    match try_define(store, loader, bytes) {
+    define_by(store, loader, bytes, |file, notes| {
+        refused(file, &mut |lower, higher| notes.take(lower, higher)).map_err(|(word, _)| word)
+    })
+}
+
+/// define, with the file judged by `judge`, which gives the notes and a word of refusal.
+pub fn define_by(store: &mut Store, loader: u32, bytes: &[u8], judge: impl Fn(File, &mut Notes) -> Result<(), u8>) -> Reply {
+    match try_define(store, loader, bytes, judge) {
         Ok(class) => Reply::Defined(class as u8),
         Err(refusal) => Reply::Denied(refusal),
     }
 }
 
-fn try_define(store: &mut Store, loader: u32, bytes: &[u8]) -> Result<u16, Refusal> {
+fn try_define(
+    store: &mut Store,
+    loader: u32,
+    bytes: &[u8],
+    judge: impl Fn(File, &mut Notes) -> Result<(), u8>,
+) -> Result<u16, Refusal> {
     let mut classes = unbroken(store).ok_or(Refusal::Word(word::BROKEN))?;
     if loader >= LOADERS.into() {
         return Err(Refusal::Word(word::UNKNOWN));
     }
     let loader = loader as u16;
     let file = File::read(bytes).ok_or(Refusal::Word(word::FILE))?;
-    let mut notes = Vec::new();
-    let verified = verify(file, &mut |lower, higher| notes.push([loader, lower, higher]));
-    verified.map_err(|_| Refusal::Word(word::UNVERIFIED))?;
+    let mut notes = Notes::new(store, loader);
+    judge(file, &mut notes).map_err(Refusal::Word)?;
     if store.cached(loader, file.name()).is_some() {
         return Err(Refusal::Word(word::TAKEN));
     }
@@ -43,7 +54,7 @@ fn try_define(store: &mut Store, loader: u32, bytes: &[u8]) -> Result<u16, Refus
     if file.fields().any(|field| classes.has_field_named(store, superclass, field.name)) {
         return Err(Refusal::Word(word::HIDDEN));
     }
-    let subtypes = new_subtypes(store, &notes);
+    let subtypes = notes.new_rows();
     let ties = overriding_ties(store, &classes, loader, superclass, file);
     let entry = [loader, file.name(), store.counts[count::CLASSES]];
     let added = Added { entry: Some(entry), ties: &ties, subtypes: &subtypes };
@@ -66,15 +77,37 @@ fn is_class_too_much(store: &Store, classes: &Classes, superclass: u16, file: Fi
         || classes.field_count(superclass) + file.field_count() > FIELDS
 }
 
-/// The notes that are no rows yet, each once.
-pub fn new_subtypes(store: &Store, notes: &[[u16; 3]]) -> Vec<[u16; 3]> {
-    let mut new: Vec<[u16; 3]> = Vec::new();
-    for &note in notes {
-        if !new.contains(&note) && !store.subtype_rows().any(|row| row == note) {
-            new.push(note);
+/// The notes of a file as they come: those that are no rows of the loader's yet, each once. When there are more than any table has room
+/// for, the rest are left out.
+pub struct Notes {
+    loader: u16,
+    /// Both names of each row of the loader's, then of each new note.
+    names: Vec<u32>,
+    there: usize,
+}
+
+impl Notes {
+    pub fn new(store: &Store, loader: u16) -> Notes {
+        let own = store.subtype_rows().filter(|row| row[0] == loader);
+        let names: Vec<u32> = own.map(|row| both(row[1], row[2])).collect();
+        Notes { loader, there: names.len(), names }
+    }
+
+    pub fn take(&mut self, lower: u16, higher: u16) {
+        let is_too_much = self.names.len() - self.there > usize::from(LIMITS[count::SUBTYPES]);
+        if !is_too_much && !self.names.contains(&both(lower, higher)) {
+            self.names.push(both(lower, higher));
         }
     }
-    new
+
+    /// The rows to be added, in the order of the notes.
+    pub fn new_rows(&self) -> Vec<[u16; 3]> {
+        self.names[self.there..].iter().map(|&names| [self.loader, (names >> 16) as u16, names as u16]).collect()
+    }
+}
+
+fn both(lower: u16, higher: u16) -> u32 {
+    u32::from(lower) << 16 | u32::from(higher)
 }
 
 /// Is the tie neither a row of the store nor among these?

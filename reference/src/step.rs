@@ -38,7 +38,7 @@ pub fn instruction_of(store: &Store, task: usize) -> Option<(Instruction, usize)
     let base = frame_base(task, store.frame_count(task).checked_sub(1)?);
     let file = store.file(store.frames[base + cell::CLASS] as u16)?;
     let method = file.method(store.frames[base + cell::METHOD] as usize)?;
-    decode(method.code, store.frames[base + cell::POINT] as usize)
+    decode(method.version, method.code, store.frames[base + cell::POINT] as usize)
 }
 
 /// The top frame of the task at its turn.
@@ -85,6 +85,15 @@ impl Turn<'_> {
             Instruction::New(class) => self.new_object(class),
             Instruction::Ireturn => self.give_back(is_int),
             Instruction::Areturn => self.give_back(is_reference),
+            Instruction::Ifeq(target) => {
+                let jumps = self.int(0)? == 0;
+                self.jump(1, jumps, target)
+            }
+            Instruction::IfIcmplt(target) => {
+                let (lower, upper) = (self.int(1)? as i32, self.int(0)? as i32);
+                self.jump(2, lower < upper, target)
+            }
+            Instruction::Goto(target) => self.jump(0, true, target),
         }
     }
 
@@ -119,6 +128,12 @@ impl Turn<'_> {
         self.store.frames[self.base + cell::OPERANDS] = (left + usize::from(put.is_some())) as u32;
         self.store.frames[self.base + cell::POINT] = self.next as u32;
         Ok(Answer::Ran(self.task as u8))
+    }
+
+    /// Takes operands off, and moves to the target or the next point. A target out of the code is seen by the next step.
+    fn jump(&mut self, taken: usize, jumps: bool, target: u16) -> Result<Answer, Refusal> {
+        self.next = if jumps { target.into() } else { self.next };
+        self.settle(taken, None)
     }
 
     /// An instruction that only adds an operand: the limit comes before the value.

@@ -12,7 +12,7 @@ use crate::store::{cell, frame_base, Store, FREE};
 /// The words that a call is given on lists from a boot; 0 is accepted.
 pub const FROM_A_BOOT: [(&str, &[usize]); 8] = [
     ("boot", &[0]),
-    ("define", &[0, 2, 3, 4, 5, 6, 8, 9, 10]),
+    ("define", &[0, 2, 3, 4, 5, 6, 8, 9, 10, 15]),
     ("record", &[0, 3, 4, 9, 10, 13]),
     ("start", &[0, 3, 5, 7, 10, 12]),
     ("step", &[0, 5, 7, 9, 10, 11]),
@@ -39,11 +39,11 @@ pub const ENDS_FROM_A_BOOT: [usize; 8] = [5, 7, 9, 10, 11, IDLE, RAN, FINISHED];
 #[derive(Clone)]
 pub struct Tally {
     /// By call and refusal number; 0 is accepted.
-    pub words: [[u64; 15]; CALLS.len()],
+    pub words: [[u64; WORDS]; CALLS.len()],
     /// The last answers of runs by refusal number, and then idle, ran, finished.
-    pub run_ends: [u64; 18],
+    pub run_ends: [u64; WORDS + 3],
     /// The same of steps.
-    pub steps: [u64; 18],
+    pub steps: [u64; WORDS + 3],
     pub opcodes: [u64; 256],
     /// Runs of a thousand steps and more.
     pub long_runs: u64,
@@ -57,9 +57,9 @@ pub struct Tally {
 impl Default for Tally {
     fn default() -> Tally {
         Tally {
-            words: [[0; 15]; CALLS.len()],
-            run_ends: [0; 18],
-            steps: [0; 18],
+            words: [[0; WORDS]; CALLS.len()],
+            run_ends: [0; WORDS + 3],
+            steps: [0; WORDS + 3],
             opcodes: [0; 256],
             long_runs: 0,
             held: [0; LEFT_OUT.len()],
@@ -69,9 +69,11 @@ impl Default for Tally {
     }
 }
 
-pub const IDLE: usize = 15;
-pub const RAN: usize = 16;
-pub const FINISHED: usize = 17;
+/// The words, with 0 for accepted.
+const WORDS: usize = 1 + word::NAMES.len();
+pub const IDLE: usize = WORDS;
+pub const RAN: usize = WORDS + 1;
+pub const FINISHED: usize = WORDS + 2;
 
 fn ending(answer: Answer) -> usize {
     match answer {
@@ -150,10 +152,10 @@ impl Tally {
 
     pub fn add(&mut self, other: &Tally) {
         for call in 0..CALLS.len() {
-            (0..15).for_each(|number| self.words[call][number] += other.words[call][number]);
+            (0..WORDS).for_each(|number| self.words[call][number] += other.words[call][number]);
         }
-        (0..18).for_each(|end| self.run_ends[end] += other.run_ends[end]);
-        (0..18).for_each(|end| self.steps[end] += other.steps[end]);
+        (0..WORDS + 3).for_each(|end| self.run_ends[end] += other.run_ends[end]);
+        (0..WORDS + 3).for_each(|end| self.steps[end] += other.steps[end]);
         (0..256).for_each(|opcode| self.opcodes[opcode] += other.opcodes[opcode]);
         self.long_runs += other.long_runs;
         (0..LEFT_OUT.len()).for_each(|what| self.held[what] += other.held[what]);
@@ -164,12 +166,12 @@ impl Tally {
     /// The words given to a call, by number; 0 is accepted.
     pub fn given(&self, call: &str) -> Vec<usize> {
         let kind = CALLS.iter().position(|&name| name == call).expect("a call");
-        (0..15).filter(|&number| self.words[kind][number] > 0).collect()
+        (0..WORDS).filter(|&number| self.words[kind][number] > 0).collect()
     }
 
     /// The ends of runs that occurred.
     pub fn ended(&self) -> Vec<usize> {
-        (0..18).filter(|&end| self.run_ends[end] > 0).collect()
+        (0..WORDS + 3).filter(|&end| self.run_ends[end] > 0).collect()
     }
 
     /// What held no object by itself at any sweep, and whether nothing was freed or made in a freed row.
@@ -195,7 +197,7 @@ impl fmt::Display for Tally {
         write!(f, "{:<14}", "")?;
         CALLS.iter().try_for_each(|name| write!(f, "{name:>9}"))?;
         writeln!(f, "{:>11}", "run's end")?;
-        for number in 0..15 {
+        for number in 0..WORDS {
             let name = if number == 0 { "accepted" } else { word::NAMES[number - 1] };
             write!(f, "{number:>2} {name:<11}")?;
             self.words.iter().try_for_each(|call| write!(f, "{:>9}", call[number]))?;

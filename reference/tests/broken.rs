@@ -1,7 +1,7 @@
 //! Word 1, condition by condition, and what isn't broken though it is damaged.
 
 use reference::broken;
-use reference::gen::build::Draft;
+use reference::gen::build::{Code, Draft};
 use reference::gen::cases::whole;
 use reference::store::{Store, INT, LIMITS};
 
@@ -68,6 +68,36 @@ fn classes_and_files() {
         s.kept[at] = 0xFF;
     });
     check(false, "two classes with one file", |s| s.classes.copy_within(4..6, 10));
+}
+
+/// The store with one more class, of version 2, which begins at this byte of the kept ones.
+fn with_maps(s: &mut Store) -> usize {
+    let start = s.count(1);
+    let code = Code::new().iload(1).ifeq(1).end(INT).point(1, &[40], &[]).null().map(&[], &[40]).pop().end(INT);
+    let class = s.add_class(1, &Draft::mapped(40).main(20, &code).file());
+    s.add_cached([1, 40, class]);
+    start
+}
+
+#[test]
+fn files_of_version_2() {
+    check(false, "maps", |s| drop(with_maps(s)));
+    // The count of maps stands at 32: 17 bytes before the code, 15 of code.
+    let changed = |at: usize, byte: u8| move |s: &mut Store| {
+        let start = with_maps(s);
+        s.kept[start + at] = byte;
+    };
+    check(true, "version 3", changed(0, 3));
+    check(true, "version 1, with bytes left", changed(0, 1));
+    check(true, "a map less", changed(32, 1));
+    check(true, "a map more", changed(32, 3));
+    check(false, "another offset", changed(34, 0));
+    check(true, "an offset that isn't below the next", changed(34, 10));
+    check(true, "an operand more", changed(51, 1));
+    check(true, "an operand of type 0", changed(72, 0));
+    check(false, "a local of type 0", changed(36, 0));
+    check(false, "a map that the verifier doesn't take", changed(36, 1));
+    check(false, "a jump out of the code", changed(21, 200));
 }
 
 #[test]

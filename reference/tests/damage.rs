@@ -15,7 +15,7 @@ const SEEDS: u64 = 10_000;
 /// The words of each call on damaged stores that this test meets; 0 is accepted.
 const ON_DAMAGE: [(&str, &[usize]); 8] = [
     ("boot", &[0]),
-    ("define", &[0, 4, 5, 6, 8, 9, 10]),
+    ("define", &[0, 4, 5, 6, 8, 9, 10, 15]),
     ("record", &[0, 3, 4, 9, 10, 13]),
     ("start", &[0, 3, 5, 7, 10, 12]),
     ("step", &[0, 5, 7, 9, 10, 11]),

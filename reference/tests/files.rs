@@ -4,6 +4,7 @@ use reference::check;
 use reference::gen::build::{Code, Draft};
 use reference::gen::codes::{rejected, taken};
 use reference::gen::files::{edge, file, of_length};
+use reference::gen::mapped;
 use reference::gen::rng::Rng;
 use reference::gen::Trial;
 use reference::store::INT;
@@ -26,11 +27,23 @@ impl Reader<'_> {
     fn word_from(&mut self, least: u16) -> Option<u16> {
         self.word().filter(|&word| word >= least)
     }
+
+    fn maps(&mut self) -> Option<()> {
+        let mut offsets = Vec::new();
+        for _ in 0..self.byte()? {
+            offsets.push(self.word()?);
+            (0..8).try_for_each(|_| self.word().map(|_| ()))?;
+            let operands = self.byte().filter(|&count| count <= 16)?;
+            (0..operands).try_for_each(|_| self.word_from(1).map(|_| ()))?;
+        }
+        offsets.windows(2).all(|pair| pair[0] < pair[1]).then_some(())
+    }
 }
 
 fn reads(bytes: &[u8]) -> Option<()> {
     let mut reader = Reader(bytes);
-    (bytes.len() <= 4_096 && reader.byte()? == 1).then_some(())?;
+    let version = reader.byte().filter(|version| [1, 2].contains(version))?;
+    (bytes.len() <= 4_096).then_some(())?;
     (usize::from(reader.word()?) == reader.0.len()).then_some(())?;
     reader.word_from(2)?;
     reader.word_from(2)?;
@@ -47,27 +60,30 @@ fn reads(bytes: &[u8]) -> Option<()> {
         for _ in 0..reader.word().filter(|&length| (1..=512).contains(&length))? {
             reader.byte()?;
         }
+        if version == 2 {
+            reader.maps()?;
+        }
     }
     reader.0.is_empty().then_some(())
 }
 
 #[test]
 fn many_files() {
-    let mut seen = [0u64; 3];
+    let mut seen = [0u64; 16];
     for seed in 0..30_000 {
         let bytes = file(seed);
         let number = check(&bytes);
         assert_eq!(number == 2, reads(&bytes).is_none(), "file {seed}: {bytes:02X?}");
-        seen[usize::from(number / 2).min(2)] += 1;
+        seen[usize::from(number)] += 1;
         let reply = Trial::ready([1]).call(reference::gen::Call::Define { loader: 1, file: bytes });
         let refused = match reply {
-            Reply::Denied(Refusal::Word(given @ (2 | 6))) => given,
+            Reply::Denied(Refusal::Word(given @ (2 | 6 | 15))) => given,
             _ => 0,
         };
         assert_eq!(refused, number, "file {seed}: define says {reply:?}");
     }
-    println!("good {}, bad files {}, unverified {}", seen[0], seen[1], seen[2]);
-    assert!(seen.iter().all(|&count| count > 1_000));
+    println!("good {}, bad files {}, unmapped {}, unverified {}", seen[0], seen[2], seen[15], seen[6]);
+    assert!([0, 2, 6, 15].iter().all(|&number| seen[number] > 1_000));
 }
 
 #[test]
@@ -104,6 +120,19 @@ fn the_verifier_rejects() {
 fn the_verifier_takes() {
     for (at, draft) in taken().into_iter().enumerate() {
         assert_eq!(check(&draft.file()), 0, "case {at}: {:02X?}", draft.methods);
+    }
+}
+
+#[test]
+fn files_of_version_2_by_hand() {
+    for (number, drafts) in [(0, mapped::taken()), (15, mapped::unmapped()), (6, mapped::rejected())] {
+        for (at, draft) in drafts.into_iter().enumerate() {
+            assert_eq!(check(&draft.file()), number, "case {at}: {:02X?}", draft.methods);
+        }
+    }
+    for (at, bytes) in mapped::bad().into_iter().enumerate() {
+        assert_eq!(check(&bytes), 2, "case {at}: {bytes:02X?}");
+        assert!(reads(&bytes).is_none(), "case {at}");
     }
 }
 

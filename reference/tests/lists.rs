@@ -7,6 +7,7 @@ use reference::gen::chains::chains;
 use reference::gen::graphs::graphs;
 use reference::gen::limits::LIMITS;
 use reference::gen::list::list;
+use reference::gen::loops::loops;
 use reference::gen::rng::Rng;
 use reference::gen::swept::swept;
 use reference::gen::{cases, Call, Trial};
@@ -118,7 +119,7 @@ fn random_lists() {
     }
     println!("{SEEDS} random lists, as many about constraints, and as many about objects\n{tally}");
     assert_eq!(tally.unswept(), Vec::<&str>::new(), "what sweeps never had");
-    for trial in cases::cases().iter().chain(&swept()) {
+    for trial in cases::cases().iter().chain(&swept()).chain(&loops()) {
         watch(trial, "a case", &mut tally);
     }
     for (name, limit) in LIMITS {

@@ -2,10 +2,10 @@
 
 use reference::code::op;
 use reference::file::{File, Flaw, Rule, Sketch};
-use reference::gen::build::{Code, Draft};
+use reference::gen::build::{Code, Draft, MapDraft};
 use reference::gen::files::{file, of_length};
 use reference::store::INT;
-use reference::verifier::{seen, verify, Rejected, Type, Why};
+use reference::verifier::{refused, seen, verify, Misfit, Rejected, Type, Why};
 
 fn flaw(bytes: &[u8]) -> (usize, Rule) {
     let Flaw { at, rule } = File::explained(bytes).expect_err("a flaw");
@@ -38,6 +38,55 @@ fn each_file_rule() {
     assert_eq!(flaw(&changed(24, 0)), (23, Rule::CodeLength(0)));
     let end = Code::new().end(INT);
     assert_eq!(flaw(&Draft::new(10).main(20, &end).main(20, &end).file()), (21, Rule::SameMethod(20)));
+}
+
+#[test]
+fn each_rule_of_maps() {
+    // The code of four bytes ends at byte 21; the count of maps stands there, and the first map behind it.
+    let with = |maps: &[MapDraft]| Draft::mapped(10).main(20, &Code::new().end(INT).with_maps(maps)).file();
+    let map = |offset: u16, operands: &[u16]| MapDraft::new(offset, &[10], operands);
+    assert_eq!(flaw(&with(&[map(0, &[]), map(0, &[])])), (41, Rule::MapOffset(0)));
+    assert_eq!(flaw(&with(&[map(3, &[INT]), map(2, &[])])), (43, Rule::MapOffset(2)));
+    assert_eq!(flaw(&with(&[map(0, &[INT; 17])])), (40, Rule::TooManyMapOperands(17)));
+    assert_eq!(flaw(&with(&[map(0, &[INT, 0])])), (43, Rule::MapOperand0));
+    let mut bytes = with(&[map(0, &[INT])]);
+    bytes[21] = 2;
+    assert_eq!(flaw(&bytes), (43, Rule::CutOff));
+    bytes[21] = 0;
+    assert_eq!(flaw(&bytes), (22, Rule::BytesLeft(21)));
+    let mut first = Draft::new(10).main(20, &Code::new().end(INT)).file();
+    first[0] = 2;
+    assert_eq!(flaw(&first), (21, Rule::CutOff));
+    // Two methods alike, the second behind the maps of the first.
+    let twice = Draft::mapped(10).main(20, &Code::new().map(&[10, INT], &[]).end(INT)).main(20, &Code::new().end(INT));
+    assert_eq!(flaw(&twice.file()), (41, Rule::SameMethod(20)));
+}
+
+#[test]
+fn places_and_reasons_of_maps() {
+    let c = Code::new;
+    let flows = |into: usize, misfit: Misfit| Why::Flow(into, misfit);
+    let at = |offset: u16| [MapDraft::new(offset, &[], &[])];
+    let cases = [
+        (c().map(&[INT], &[]).end(INT), 0, flows(0, Misfit::Local(0, Type::Class(10), Type::Int))),
+        (c().iload(1).map(&[], &[12]).ireturn(), 0, flows(2, Misfit::Operand(0, Type::Int, Type::Class(12)))),
+        (c().iload(1).ifeq(1).end(INT).point(1, &[], &[INT]).ireturn(), 2, flows(9, Misfit::OperandCount(0, 1))),
+        (c().end(INT).with_maps(&at(2)), 0, Why::MapInside(2)),
+        (c().end(INT).with_maps(&at(9)), 3, Why::MapBehind(9)),
+        (c().point(1, &[10, INT], &[]).iload(1).ifeq(1), 2, Why::EndsWithoutReturn),
+        (c().end(INT).plain(0xFF), 4, Why::UnknownOpcode(0xFF)),
+    ];
+    for (code, point, why) in cases {
+        let bytes = Draft::mapped(10).main(20, &code).file();
+        let rejected = Rejected { method: 0, point, why };
+        assert_eq!(refused(File::read(&bytes).expect("a file"), &mut |_, _| ()), Err((6, rejected)));
+    }
+    let unmapped = [(c().int(0).ifeq(1).label(1).end(INT), 3, Why::TargetUnmapped(6)), (c().end(INT).end(INT), 3, Why::NextUnmapped)];
+    for (code, point, why) in unmapped {
+        let bytes = Draft::mapped(10).main(19, &c().iload(2).ireturn()).main(20, &code).file();
+        let rejected = Rejected { method: 1, point, why };
+        assert_eq!(refused(File::read(&bytes).expect("a file"), &mut |_, _| ()), Err((15, rejected)));
+    }
 }
 
 #[test]
@@ -88,7 +137,9 @@ fn a_sketch_has_what_a_file_has() {
         };
         assert_eq!((sketch.name, sketch.superclass), (Some(file.name()), Some(file.superclass())));
         assert_eq!(sketch.fields, file.fields().collect::<Vec<_>>());
-        let methods = |method: reference::file::Method| (method.name, method.argument, method.result, method.code.to_vec());
+        let maps = |method: reference::file::Method| format!("{:?}", method.maps().collect::<Vec<_>>());
+        let methods =
+            |method: reference::file::Method| (method.name, method.argument, method.result, method.code.to_vec(), maps(method));
         let own: Vec<_> = file.methods().map(methods).collect();
         assert_eq!(sketch.methods.into_iter().map(methods).collect::<Vec<_>>(), own);
     }

@@ -2,7 +2,7 @@
 
 use reference::answer::word;
 use reference::file::File;
-use reference::verifier::verify;
+use reference::verifier::refused;
 
 use crate::input::Input;
 use crate::listing;
@@ -66,14 +66,11 @@ fn place(bytes: &[u8], names: &Names) -> Option<(usize, String, String)> {
         Ok(file) => file,
         Err(flaw) => return Some((flaw.at, format!("byte {}", flaw.at), reasons::rule(flaw.rule, names))),
     };
-    let rejected = verify(file, &mut |_, _| ()).err()?;
+    let (_, rejected) = refused(file, &mut |_, _| ()).err()?;
     let method = file.method(rejected.method)?;
     let code = method.code.as_ptr() as usize - bytes.as_ptr() as usize;
     let point = rejected.point;
-    let instruction = match reference::code::decode(method.code, point) {
-        Some((_, next)) => listing::instruction(&method.code[point..next], names),
-        None => format!("bytes {}", listing::hexadecimal(&method.code[point..])),
-    };
+    let (instruction, _) = listing::instruction_at(method, point, names, &[]);
     let place = format!("method {}, point {point}, {instruction}", names.method(method.name, method.argument, method.result));
     Some((code + point, place, reasons::why(rejected.why, names)))
 }

@@ -102,6 +102,21 @@ impl<'a> Cursor<'a> {
         Err(self.expected(&format!("'{sign}'")))
     }
 
+    /// Takes this sign if it is next on the line.
+    pub fn took_sign(&mut self, sign: char) -> bool {
+        let is = self.goes_on() && self.has_sign(sign);
+        if is {
+            self.at += 1;
+        }
+        is
+    }
+
+    /// Is the next token a word with this sign behind it on its line?
+    pub fn has_word_before(&self, sign: char) -> bool {
+        let behind = self.tokens.get(self.at + 1);
+        self.word().is_some() && behind.is_some_and(|token| token.kind == Kind::Sign(sign) && token.line == self.peek().line)
+    }
+
     /// A number on the same line, from `least` to `most`.
     pub fn number(&mut self, what: &str, least: i64, most: i64) -> Parsed<i64> {
         let range = format!("{what}, {least} to {most}");

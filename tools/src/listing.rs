@@ -4,8 +4,8 @@ use std::fmt::Write;
 
 use reference::code::decode;
 use reference::code::op::{self, Inline};
-use reference::file::{File, Flaw, Method, Sketch};
-use reference::verifier::{seen, Rejected, Seen, Types};
+use reference::file::{File, Flaw, Map, Method, Sketch, MAPPED};
+use reference::verifier::{seen, Rejected, Seen, Type, Types, Why};
 
 use crate::names::Names;
 use crate::reasons;
@@ -47,7 +47,8 @@ type Seeing = fn(u16, Method) -> (Vec<Seen>, Option<Rejected>);
 fn class(sketch: &Sketch, called: Option<&str>, names: &Names, seeing: Seeing) -> String {
     let name = |name: Option<u16>| name.map_or("?".into(), |name| names.class(name));
     let called = called.map_or(String::new(), |called| format!(" as {called}"));
-    let mut out = format!("class {} extends {}{called} {{\n", name(sketch.name), name(sketch.superclass));
+    let version = sketch.version.filter(|&version| version >= MAPPED).map_or(String::new(), |version| format!(" version {version}"));
+    let mut out = format!("class {} extends {}{version}{called} {{\n", name(sketch.name), name(sketch.superclass));
     for field in &sketch.fields {
         let _ = writeln!(out, "    field {} {}", names.member(field.name), names.class(field.of));
     }
@@ -59,34 +60,71 @@ fn class(sketch: &Sketch, called: Option<&str>, names: &Names, seeing: Seeing) -
     out + "}\n"
 }
 
-/// The instructions of a method, each with what the verifier sees there.
+/// The points that a jump of the method goes to and that an instruction starts at.
+fn labels(method: Method) -> Vec<usize> {
+    let next = |point: &usize| decode(method.version, method.code, *point).map(|(_, next)| next);
+    let starts: Vec<usize> = std::iter::successors(Some(0), next).filter(|&point| point < method.code.len()).collect();
+    let decoded = starts.iter().filter_map(|&point| decode(method.version, method.code, point)?.0.target());
+    decoded.filter(|target| starts.contains(target)).collect()
+}
+
+/// The instructions and maps of a method, each instruction with what the verifier sees there.
 fn code(method: Method, names: &Names, (points, rejected): (Vec<Seen>, Option<Rejected>)) -> String {
     let mut out = String::new();
+    let labels = labels(method);
+    let mut maps = method.maps().peekable();
     let mut point = 0;
     while point < method.code.len() {
+        if labels.contains(&point) {
+            let _ = writeln!(out, "    L{point}:");
+        }
+        while let Some(map) = maps.next_if(|map| map.offset() <= point) {
+            let _ = writeln!(out, "        {}", mapped(map, point, names));
+        }
         let seen = points.iter().find(|seen| seen.point == point);
         let rejected = rejected.filter(|rejected| rejected.point == point);
-        let (text, next) = match decode(method.code, point) {
-            Some((_, next)) => (instruction(&method.code[point..next], names), next),
-            None => (format!("bytes {}", hexadecimal(&method.code[point..])), method.code.len()),
-        };
+        let (text, next) = instruction_at(method, point, names, &labels);
         let line = format!("        {text:<44}  # {point:>3}{}", remark(seen, rejected, names));
         let _ = writeln!(out, "{}", line.trim_end());
         point = next;
     }
+    for map in maps {
+        let _ = writeln!(out, "        {}", mapped(map, point, names));
+    }
     out
 }
 
+/// A map as the text form writes it before the instruction at this point.
+fn mapped(map: Map, point: usize, names: &Names) -> String {
+    let place = if map.offset() == point { String::new() } else { format!(" at {}", map.offset()) };
+    let operands: Vec<String> = map.operands().map(|of| names.class(of)).collect();
+    let locals: Vec<u16> = map.locals().collect();
+    let set = locals.iter().rposition(|&of| of != 0).map_or(0, |last| last + 1);
+    let local = |&of: &u16| if of == 0 { "-".into() } else { names.class(of) };
+    let locals: Vec<String> = locals[..set].iter().map(local).collect();
+    format!("map{place} [{}] {{{}}}", operands.join(" "), locals.join(" "))
+}
+
+/// The instruction at a point, or what can't be read from there on, and the next point. Jumps go to these labels, or to an offset.
+pub fn instruction_at(method: Method, point: usize, names: &Names, labels: &[usize]) -> (String, usize) {
+    let unread = || (format!("bytes {}", hexadecimal(&method.code[point..])), method.code.len());
+    readable_at(method, point, names, labels).unwrap_or_else(unread)
+}
+
+/// The instruction at any point and the next point, if it can be read.
+pub fn readable_at(method: Method, point: usize, names: &Names, labels: &[usize]) -> Option<(String, usize)> {
+    let (_, next) = decode(method.version, method.code, point)?;
+    Some((instruction(&method.code[point..next], names, labels), next))
+}
+
 fn remark(seen: Option<&Seen>, rejected: Option<Rejected>, names: &Names) -> String {
-    let Some(seen) = seen else {
-        return String::new();
-    };
-    let mut out = format!("  {}", types(&seen.types, names));
-    for &(lower, higher) in &seen.notes {
-        let _ = write!(out, "  note: {} below {}", names.class(lower), names.class(higher));
+    let mut out = seen.map_or(String::new(), |seen| format!("  {}", types(&seen.types, names)));
+    for (lower, higher) in seen.iter().flat_map(|seen| &seen.notes) {
+        let _ = write!(out, "  note: {} below {}", names.class(*lower), names.class(*higher));
     }
-    if let Some(rejected) = rejected {
-        let _ = write!(out, "  REJECTED: {}", reasons::why(rejected.why, names));
+    if let Some(Rejected { why, .. }) = rejected {
+        let is_unmapped = matches!(why, Why::TargetUnmapped(_) | Why::NextUnmapped);
+        let _ = write!(out, "  {}: {}", if is_unmapped { "UNMAPPED" } else { "REJECTED" }, reasons::why(why, names));
     }
     out
 }
@@ -94,12 +132,12 @@ fn remark(seen: Option<&Seen>, rejected: Option<Rejected>, names: &Names) -> Str
 /// `[operands] {locals}`, the locals up to the last that is set.
 fn types(types: &Types, names: &Names) -> String {
     let join = |types: &[_]| types.iter().map(|&of| reasons::of_type(of, names)).collect::<Vec<_>>().join(" ");
-    let set = types.locals.iter().rposition(|&of| of != reference::verifier::Type::Unset).map_or(0, |last| last + 1);
+    let set = types.locals.iter().rposition(|&of| of != Type::Unset).map_or(0, |last| last + 1);
     format!("[{}] {{{}}}", join(types.operands()), join(&types.locals[..set]))
 }
 
 /// One instruction, whole, as the text form writes it.
-pub fn instruction(bytes: &[u8], names: &Names) -> String {
+fn instruction(bytes: &[u8], names: &Names, labels: &[usize]) -> String {
     let Some(((name, inline), rest)) = bytes.split_first().and_then(|(&code, rest)| Some((op::form(code)?, rest))) else {
         return format!("bytes {}", hexadecimal(bytes));
     };
@@ -110,6 +148,8 @@ pub fn instruction(bytes: &[u8], names: &Names) -> String {
         Inline::Int => format!("{name} {}", word(0) as i16),
         Inline::Local => format!("{name} {}", rest.first().copied().unwrap_or(0)),
         Inline::Class => format!("{name} {}", names.class(word(0))),
+        Inline::Target if labels.contains(&word(0).into()) => format!("{name} L{}", word(0)),
+        Inline::Target => format!("{name} {}", word(0)),
         Inline::Field => format!("{name} {} {}", member(), names.class(word(2))),
         Inline::Method => format!("{name} {}({}) {}", member(), names.class(word(2)), names.class(word(3))),
     }

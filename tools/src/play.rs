@@ -177,7 +177,7 @@ impl<'a> Play<'a> {
             let wish = self.source.of(expected.span).trim_start_matches("expect").trim_start();
             made.problems.push(Problem::new(expected.span, format!("expected {wish}, but the answer was: {}", made.answer)));
         }
-        if let (Call::Define { file, .. }, word::FILE | word::UNVERIFIED) = (call, told.number) {
+        if let (Call::Define { file, .. }, word::FILE | word::UNMAPPED | word::UNVERIFIED) = (call, told.number) {
             let text = self.lesson.texts.iter().find(|text| text.bytes == *file);
             made.reason = reason(file, names, text.map(|text| (text, self.source)));
         }

@@ -2,9 +2,10 @@
 
 use reference::code::op;
 use reference::file::Rule;
-use reference::verifier::{Type, Why};
+use reference::verifier::{Misfit, Type, Why};
 
 use crate::names::Names;
+use crate::words::counted;
 
 pub fn of_type(of: Type, names: &Names) -> String {
     match of {
@@ -20,13 +21,16 @@ pub fn rule(rule: Rule, names: &Names) -> String {
     match rule {
         Rule::TooLong => "a file has at most 4,096 bytes".into(),
         Rule::CutOff => "the file ends here, and more should follow".into(),
-        Rule::Version(version) => format!("the version byte is {version}, and only version 1 is known"),
+        Rule::Version(version) => format!("the version byte is {version}, and versions 1 and 2 are known"),
         Rule::Length(said, follow) => format!("the length bytes say {said}, and {follow} bytes follow them"),
         Rule::ClassBelow2(name) => format!("a class's or superclass's name is 2 or more, and this is {name}"),
         Rule::Name0 => "a name or type is 0".into(),
         Rule::TooManyFields(count) => format!("{count} fields, and a class has at most 8"),
         Rule::TooManyMethods(count) => format!("{count} methods, and a class has at most 8"),
         Rule::CodeLength(length) => format!("a method of {length} bytes of code, and it has 1 to 512"),
+        Rule::MapOffset(offset) => format!("a map at {offset}, and the maps' offsets rise"),
+        Rule::TooManyMapOperands(count) => format!("a map with {count} operands, and it has at most 16"),
+        Rule::MapOperand0 => "an operand's type is 0 in a map: only a local may be unset".into(),
         Rule::BytesLeft(1) => "the last method ends here, and 1 byte is left".into(),
         Rule::BytesLeft(left) => format!("the last method ends here, and {left} bytes are left"),
         Rule::SameField(name) => format!("a second field named {}", names.member(name)),
@@ -53,7 +57,25 @@ pub fn why(why: Why, names: &Names) -> String {
         Why::NoReference(of) => format!("a reference is demanded, and {} stands there", of_type(of, names)),
         Why::ResultIsNoInt(of) => format!("ireturn returns an int, and the method's result is {}", names.class(of)),
         Why::ResultIsInt => "areturn returns a reference, and the method's result is int".into(),
-        Why::EndsWithoutReturn => "the code ends here, and its last instruction is no return".into(),
+        Why::EndsWithoutReturn => "the code ends here, and a path runs off its end".into(),
         Why::GoesOnAfterReturn => "a return, and more code behind it: a return is the last instruction".into(),
+        Why::TargetUnmapped(target) => format!("a jump to {target}, where there is no map"),
+        Why::NextUnmapped => "the instruction behind it has no map, and nothing comes to that one from here".into(),
+        Why::MapInside(offset) => format!("a map at {offset}, where no instruction starts"),
+        Why::MapBehind(offset) => format!("a map at {offset}, and the code ends before it"),
+        Why::Flow(into, misfit) => format!("into the map at {into}: {}", misfit_in_words(misfit, names)),
+    }
+}
+
+/// Why something doesn't fit a map.
+fn misfit_in_words(misfit: Misfit, names: &Names) -> String {
+    let fits = |what: &str, place: usize, stands: Type, demanded: Type| {
+        let stands = if stands == Type::Unset { "unset".into() } else { of_type(stands, names) };
+        format!("{what} {place} is {stands}, and the map says {}", of_type(demanded, names))
+    };
+    match misfit {
+        Misfit::OperandCount(there, demanded) => format!("{}, and the map has {demanded}", counted(there, "operand")),
+        Misfit::Local(local, stands, demanded) => fits("local", local, stands, demanded),
+        Misfit::Operand(operand, stands, demanded) => fits("operand", operand, stands, demanded),
     }
 }

@@ -4,7 +4,6 @@ use std::fmt::Write;
 
 use reference::broken::unbroken;
 use reference::classes::Classes;
-use reference::code::decode;
 use reference::store::{cell, count, frame_base, FRAME_ROW, LENGTHS, LOCALS, TABLES, TASKS};
 use reference::store::{Store, Value};
 
@@ -150,8 +149,8 @@ fn frame_says(store: &Store, task: usize, depth: usize, names: &Names) -> String
     let (class, point) = (frame[cell::CLASS] as u16, frame[cell::POINT] as usize);
     let method = store.file(class).and_then(|file| file.method(frame[cell::METHOD] as usize));
     let place = method.map_or("no method".into(), |method| names.method(method.name, method.argument, method.result));
-    let next = method.and_then(|method| Some((decode(method.code, point)?.1, method.code)));
-    let next = next.map_or("nothing".into(), |(end, code)| listing::instruction(&code[point..end], names));
+    let next = method.and_then(|method| listing::readable_at(method, point, names, &[]));
+    let next = next.map_or("nothing".into(), |(instruction, _)| instruction);
     let values = |first: usize, count: usize| (0..count).map(|i| value(frame, first + 2 * i)).collect::<Vec<_>>();
     let mut locals = values(cell::LOCAL_0, LOCALS);
     while locals.last().is_some_and(|local| local == "-") {
@@ -170,7 +169,6 @@ pub fn next_instruction(store: &Store, names: &Names) -> Option<String> {
     let file = store.file(store.frames[base + cell::CLASS] as u16)?;
     let method = file.method(store.frames[base + cell::METHOD] as usize)?;
     let point = store.frames[base + cell::POINT] as usize;
-    let (_, end) = decode(method.code, point)?;
-    let instruction = listing::instruction(&method.code[point..end], names);
+    let (instruction, _) = listing::readable_at(method, point, names, &[])?;
     Some(format!("{instruction} ({})", task(task_number as u32)))
 }

@@ -10,7 +10,7 @@ pub struct Source {
 }
 
 /// A part of a text, in bytes.
-#[derive(Clone, Copy, Debug, PartialEq, Eq)]
+#[derive(Clone, Copy, Debug, PartialEq, Eq, Default)]
 pub struct Span {
     pub start: usize,
     pub end: usize,

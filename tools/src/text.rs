@@ -2,11 +2,14 @@
 //!
 //! ```text
 //! class Discount extends Object { field rate int  method of(int) int { iload 1  ireturn } }
+//! class Endless extends Object version 2 { method of(int) int { again: map [] {Endless int}  goto again } }
 //! file Damaged { 01 0006 000A 0002 00 }
 //! ```
 
 use reference::code::op::{self, Inline};
-use reference::gen::build::{Code, Draft, MethodDraft};
+use reference::file::MAPPED;
+use reference::gen::build::{Code, Draft, MapDraft, MethodDraft};
+use reference::store::LOCALS;
 
 use crate::cursor::{Cursor, Parsed};
 use crate::source::{Problem, Span};
@@ -33,8 +36,9 @@ const HEAD: usize = 3;
 const FIELDS: usize = 8;
 const FIELD: usize = 4;
 const METHOD_HEAD: usize = 8;
+const MAP_HEAD: usize = 19;
 
-/// `class NAME extends NAME [as WORD] { members }`, behind the word class.
+/// `class NAME extends NAME [version N] [as WORD] { members }`, behind the word class.
 pub fn class(at: &mut Cursor) -> Parsed<Text> {
     let begin = at.last().span;
     let own = at.peek().span;
@@ -43,7 +47,10 @@ pub fn class(at: &mut Cursor) -> Parsed<Text> {
     at.keyword("extends")?;
     let above = at.peek().span;
     draft = draft.under(at.name("the superclass's name")?);
-    let mut span = begin.to(above);
+    if at.took("version") {
+        draft.version = at.number("a version", 1, MAPPED.into())? as u8;
+    }
+    let mut span = begin.to(at.last().span);
     if at.took("as") {
         let (word, end) = at.fresh("what the text is called")?;
         (called, span) = (word.to_string(), begin.to(end));
@@ -55,7 +62,7 @@ pub fn class(at: &mut Cursor) -> Parsed<Text> {
     }
     let end = at.take();
     let mut marks = vec![(0, span), (HEAD, own), (HEAD + 2, above), (HEAD + 4, span)];
-    marks.extend(members.marks());
+    marks.extend(members.marks(draft.version));
     let bytes = fits(&draft).map_err(|said| Problem::new(end, said))?;
     Ok(Text { called, span, bytes, marks })
 }
@@ -71,10 +78,12 @@ struct MethodPlaces {
     head: Span,
     instructions: Vec<(usize, Span)>,
     length: usize,
+    /// How many bytes each map has.
+    maps: Vec<(usize, Span)>,
 }
 
 impl Members {
-    fn marks(&self) -> Vec<(usize, Span)> {
+    fn marks(&self, version: u8) -> Vec<(usize, Span)> {
         let mut marks: Vec<_> = self.fields.iter().enumerate().map(|(i, &span)| (FIELDS + FIELD * i, span)).collect();
         let mut at = FIELDS + FIELD * self.fields.len() + 1;
         for method in &self.methods {
@@ -82,6 +91,14 @@ impl Members {
             let code = at + METHOD_HEAD;
             marks.extend(method.instructions.iter().map(|&(point, span)| (code + point, span)));
             at = code + method.length;
+            if version >= MAPPED {
+                marks.push((at, method.head));
+                at += 1;
+            }
+            for &(size, span) in &method.maps {
+                marks.push((at, span));
+                at += size;
+            }
         }
         marks
     }
@@ -90,7 +107,9 @@ impl Members {
 /// The file, if its counts and lengths can be written at all. Whether they are allowed is for the desk to say.
 fn fits(draft: &Draft) -> Result<Vec<u8>, String> {
     let counts = [("fields", draft.fields.len()), ("methods", draft.methods.len())];
-    if let Some((what, count)) = counts.into_iter().find(|&(_, count)| count > 255) {
+    let maps = draft.methods.iter().map(|method| ("maps", method.maps.len()));
+    let operands = draft.methods.iter().flat_map(|method| &method.maps).map(|map| ("operands", map.operands.len()));
+    if let Some((what, count)) = counts.into_iter().chain(maps).chain(operands).find(|&(_, count)| count > 255) {
         return Err(format!("{count} {what}: a file has one byte for their count"));
     }
     let longest = draft.methods.iter().map(|method| method.code.len()).max().unwrap_or(0);
@@ -116,7 +135,7 @@ fn member(at: &mut Cursor, draft: &mut Draft, members: &mut Members, brace: Span
             Ok(())
         }
         Some("method") => {
-            let (method, places) = method(at)?;
+            let (method, places) = method(at, draft.version)?;
             draft.methods.push(method);
             members.methods.push(places);
             Ok(())
@@ -133,24 +152,22 @@ fn not_closed(at: &Cursor, brace: Span) -> String {
 }
 
 /// `method NAME(TYPE) TYPE { code }`
-fn method(at: &mut Cursor) -> Parsed<(MethodDraft, MethodPlaces)> {
+fn method(at: &mut Cursor, version: u8) -> Parsed<(MethodDraft, MethodPlaces)> {
     let begin = at.take();
     let name = at.name("the method's name")?;
     let argument = argument(at)?;
     let result = at.name("the result's type")?;
     let head = begin.to(at.last().span);
     let brace = at.sign('{')?;
-    let mut code = Code::new();
-    let mut instructions = Vec::new();
+    let mut body = Body { version, brace, ..Body::default() };
     while !at.has_sign('}') {
-        let point = code.bytes.len();
-        let first = at.peek().span;
-        code = instruction(at, code, brace)?;
-        instructions.push((point, first.to(at.last().span)));
+        body.part(at)?;
     }
     at.take();
-    let places = MethodPlaces { head, instructions, length: code.bytes.len() };
-    Ok((MethodDraft { name, argument, result, code: code.bytes }, places))
+    body.labels_are_there(at)?;
+    let Body { code, instructions, maps, .. } = body;
+    let places = MethodPlaces { head, instructions, length: code.bytes.len(), maps };
+    Ok((MethodDraft { name, argument, result, code: code.bytes, maps: code.maps }, places))
 }
 
 /// `(TYPE)`: the list of arguments, which has one in a file of version 1.
@@ -164,41 +181,164 @@ fn argument(at: &mut Cursor) -> Parsed<u16> {
     Ok(one)
 }
 
-/// One instruction, or `bytes` and code in hexadecimal, of the method with this brace.
-fn instruction(at: &mut Cursor, mut code: Code, brace: Span) -> Parsed<Code> {
-    let Some(word) = at.word() else {
-        return Err(at.here("an instruction or '}'").or_help(not_closed(at, brace)));
-    };
-    if word == "bytes" {
-        at.take();
-        if !at.goes_on() {
-            return Err(at.expected("bytes in hexadecimal, two digits each"));
-        }
-        code.bytes.extend(at.bytes(false)?);
-        return Ok(code);
+/// The code of a method as far as it is read.
+#[derive(Default)]
+struct Body {
+    version: u8,
+    brace: Span,
+    code: Code,
+    instructions: Vec<(usize, Span)>,
+    maps: Vec<(usize, Span)>,
+    /// Each label's word, where it stands if it does yet, and where it was used first if it was. Its place is its number in the code.
+    labels: Vec<(String, Option<Span>, Option<Span>)>,
+}
+
+impl Body {
+    fn emit(&mut self, change: impl FnOnce(Code) -> Code) {
+        self.code = change(std::mem::take(&mut self.code));
     }
-    let Some(place) = op::NAMES.iter().position(|&name| name == word) else {
-        let problem = Problem::new(at.peek().span, format!("'{word}' is no instruction"));
-        let problem = problem.near(word, op::NAMES.into_iter().chain(["bytes"]));
-        return Err(problem.or_help(not_closed(at, brace)));
-    };
+
+    /// The place of a label.
+    fn label(&mut self, word: &str) -> usize {
+        self.labels.iter().position(|label| label.0 == word).unwrap_or_else(|| {
+            self.labels.push((word.into(), None, None));
+            self.labels.len() - 1
+        })
+    }
+
+    /// A label, a map, or an instruction.
+    fn part(&mut self, at: &mut Cursor) -> Parsed<()> {
+        if at.has_word_before(':') {
+            return self.labelled(at);
+        }
+        let (point, first) = (self.code.bytes.len(), at.peek().span);
+        if at.word() == Some("map") {
+            self.is_of_version(at, MAPPED, "a map")?;
+            let map = map(at, self.code.here())?;
+            self.maps.push((MAP_HEAD + 2 * map.operands.len(), first.to(at.last().span)));
+            self.code.maps.push(map);
+            return Ok(());
+        }
+        self.instruction(at)?;
+        self.instructions.push((point, first.to(at.last().span)));
+        Ok(())
+    }
+
+    /// `WORD:`
+    fn labelled(&mut self, at: &mut Cursor) -> Parsed<()> {
+        self.is_of_version(at, MAPPED, "a label")?;
+        let word = at.text();
+        let span = at.take();
+        at.sign(':')?;
+        let place = self.label(word);
+        if let Some(there) = self.labels[place].1.replace(span) {
+            let line = at.source.place(there.start).0;
+            return Err(Problem::new(span, format!("line {line} has a label {word} already")));
+        }
+        self.emit(|code| code.label(place as u16));
+        Ok(())
+    }
+
+    fn is_of_version(&self, at: &Cursor, version: u8, what: &str) -> Parsed<()> {
+        if self.version >= version {
+            return Ok(());
+        }
+        let problem = Problem::new(at.peek().span, format!("{what} needs a file of version {version}"));
+        Err(problem.help(format!("say so behind the superclass: class Loop extends Object version {version} {{ .. }}")))
+    }
+
+    fn labels_are_there(&self, at: &Cursor) -> Parsed<()> {
+        let Some((word, _, Some(used))) = self.labels.iter().find(|label| label.1.is_none()) else {
+            return Ok(());
+        };
+        let problem = Problem::new(*used, format!("the method has no label {word}"));
+        let placed = self.labels.iter().filter(|label| label.1.is_some()).map(|label| label.0.as_str());
+        Err(problem.near(at.source.of(*used), placed).or_help(format!("it stands before an instruction, as: {word}: iload 1")))
+    }
+
+    /// One instruction, or `bytes` and code in hexadecimal.
+    fn instruction(&mut self, at: &mut Cursor) -> Parsed<()> {
+        let Some(word) = at.word() else {
+            return Err(at.here("an instruction or '}'").or_help(not_closed(at, self.brace)));
+        };
+        if word == "bytes" {
+            at.take();
+            if !at.goes_on() {
+                return Err(at.expected("bytes in hexadecimal, two digits each"));
+            }
+            self.code.bytes.extend(at.bytes(false)?);
+            return Ok(());
+        }
+        let Some(place) = op::NAMES.iter().position(|&name| name == word) else {
+            let problem = Problem::new(at.peek().span, format!("'{word}' is no instruction"));
+            let problem = problem.near(word, op::NAMES.into_iter().chain(["bytes", "map"]));
+            return Err(problem.or_help(not_closed(at, self.brace)));
+        };
+        let opcode = op::ALL[place];
+        if !op::of(self.version).contains(&opcode) {
+            self.is_of_version(at, MAPPED, word)?;
+        }
+        at.take();
+        self.inline(at, opcode, op::INLINE[place])
+    }
+
+    /// What follows an opcode.
+    fn inline(&mut self, at: &mut Cursor, opcode: u8, inline: Inline) -> Parsed<()> {
+        let names = match inline {
+            Inline::Nothing => Vec::new(),
+            Inline::Int => vec![at.number("an int", i16::MIN.into(), i16::MAX.into())? as u16],
+            Inline::Local => {
+                let local = at.number("a local's number", 0, 255)? as u8;
+                self.emit(|code| code.local(opcode, local));
+                return Ok(());
+            }
+            Inline::Class => vec![at.name("a class")?],
+            Inline::Field => {
+                let [class, field] = dotted(at, "a field")?;
+                vec![class, field, at.name("the field's type")?]
+            }
+            Inline::Method => {
+                let [class, method] = dotted(at, "a method")?;
+                let argument = argument(at)?;
+                vec![class, method, argument, at.name("the result's type")?]
+            }
+            Inline::Target if at.has_number() => vec![at.number("an offset", 0, u16::MAX.into())? as u16],
+            Inline::Target => {
+                let (word, span) = at.fresh("a label, or an offset from the start of the code")?;
+                let place = self.label(word);
+                self.labels[place].2.get_or_insert(span);
+                self.emit(|code| code.jump(opcode, place as u16));
+                return Ok(());
+            }
+        };
+        self.emit(|code| code.names(opcode, &names));
+        Ok(())
+    }
+}
+
+/// `map [at OFFSET] [OPERANDS] {LOCALS}`: the types at what comes next, or at an offset. Operands stand from the lowest up, locals from 0;
+/// `-` is unset, and so are the locals that aren't written.
+fn map(at: &mut Cursor, here: u16) -> Parsed<MapDraft> {
     at.take();
-    let opcode = op::ALL[place];
-    Ok(match op::INLINE[place] {
-        Inline::Nothing => code.plain(opcode),
-        Inline::Int => code.names(opcode, &[at.number("an int", i16::MIN.into(), i16::MAX.into())? as u16]),
-        Inline::Local => code.local(opcode, at.number("a local's number", 0, 255)? as u8),
-        Inline::Class => code.names(opcode, &[at.name("a class")?]),
-        Inline::Field => {
-            let [class, field] = dotted(at, "a field")?;
-            code.names(opcode, &[class, field, at.name("the field's type")?])
-        }
-        Inline::Method => {
-            let [class, method] = dotted(at, "a method")?;
-            let argument = argument(at)?;
-            code.names(opcode, &[class, method, argument, at.name("the result's type")?])
-        }
-    })
+    let offset = if at.took("at") { at.number("an offset", 0, u16::MAX.into())? as u16 } else { here };
+    let operands = types(at, ['[', ']'], "an operand's type")?;
+    let locals = types(at, ['{', '}'], "a local's type, or - for unset")?;
+    if locals.len() > LOCALS {
+        return Err(Problem::new(at.last().span, format!("{} locals, and a map has 8", locals.len())));
+    }
+    Ok(MapDraft::new(offset, &locals, &operands))
+}
+
+/// Types between two signs on one line.
+fn types(at: &mut Cursor, [open, close]: [char; 2], what: &str) -> Parsed<Vec<u16>> {
+    if !at.took_sign(open) {
+        return Err(at.expected(&format!("'{open}'")).or_help("as in: map [int] {Policy int - Discount}"));
+    }
+    let mut all = Vec::new();
+    while !at.took_sign(close) {
+        all.push(if open == '{' && at.took_sign('-') { 0 } else { at.name(what)? });
+    }
+    Ok(all)
 }
 
 /// `CLASS.MEMBER`

@@ -10,7 +10,7 @@ pub enum Kind {
     Number(i64),
     /// Digits and letters that begin with a digit: no number, but perhaps hexadecimal.
     Mixed,
-    /// One of `{ } ( ) . , :`
+    /// One of `{ } [ ] ( ) . , :`, or a minus alone.
     Sign(char),
     /// A line that begins with >: words for the reader, without the sign.
     Said(String),
@@ -24,6 +24,9 @@ pub struct Token {
     /// From 1.
     pub line: usize,
 }
+
+/// The signs that end a word or number.
+const SIGNS: &str = "{}[]().,:";
 
 /// All tokens of a text; the last is `End`.
 pub fn tokens(source: &Source) -> Result<Vec<Token>, Problem> {
@@ -52,7 +55,7 @@ fn line_tokens(line: &str, start: usize, number: usize, all: &mut Vec<Token>) ->
             break;
         }
         let rest = &line[at..];
-        let length = if first.is_whitespace() || "{}().,:".contains(first) { first.len_utf8() } else { length_of(rest) };
+        let length = if first.is_whitespace() || SIGNS.contains(first) { first.len_utf8() } else { length_of(rest) };
         let span = Span { start: start + at, end: start + at + length.max(first.len_utf8()) };
         if !first.is_whitespace() {
             let kind = kind_of(&rest[..length]).ok_or_else(|| strange(first, span))?;
@@ -80,7 +83,7 @@ fn length_of(rest: &str) -> usize {
 
 fn kind_of(part: &str) -> Option<Kind> {
     let first = part.chars().next()?;
-    if "{}().,:".contains(first) {
+    if SIGNS.contains(first) || part == "-" {
         return Some(Kind::Sign(first));
     }
     if first.is_alphabetic() || first == '_' {

@@ -6,7 +6,7 @@ use reference::classes::Classes;
 use reference::code::Instruction;
 use reference::file::File;
 use reference::gen::Call;
-use reference::load::{is_new_tie, new_subtypes, overriding_ties};
+use reference::load::{is_new_tie, overriding_ties, Notes};
 use reference::step::instruction_of;
 use reference::store::{cell, count, frame_base};
 use reference::verifier::verify;
@@ -36,13 +36,13 @@ pub fn tried(call: &Call, store: &Store) -> Tried {
 
 fn defined(store: &Store, classes: &Classes, loader: u16, bytes: &[u8]) -> Option<Tried> {
     let file = File::read(bytes)?;
-    let mut notes = Vec::new();
-    verify(file, &mut |lower, higher| notes.push([loader, lower, higher])).ok()?;
+    let mut notes = Notes::new(store, loader);
+    verify(file, &mut |lower, higher| notes.take(lower, higher)).ok()?;
     let superclass = store.cached(loader, file.superclass())?;
     Some(Tried {
         entry: Some([loader, file.name(), store.counts[count::CLASSES]]),
         ties: overriding_ties(store, classes, loader, superclass, file),
-        subtypes: new_subtypes(store, &notes),
+        subtypes: notes.new_rows(),
     })
 }
 

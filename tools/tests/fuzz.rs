@@ -18,7 +18,17 @@ use writer::script;
 use writer::source::Source;
 
 /// Pieces that make sense somewhere.
-const WORDS: [&str; 32] = [
+const WORDS: [&str; 42] = [
+    "version 2 ",
+    "again: ",
+    "again:\n",
+    "goto again\n",
+    "ifeq 7\n",
+    "if_icmplt done ",
+    "map [int] {Object - int}\n",
+    "map at 3 [] {}\n",
+    "[",
+    "] - ",
     "name ",
     "class ",
     "extends ",

@@ -5,6 +5,7 @@ mod common;
 use reference::file::File;
 use reference::gen::codes::{rejected, taken};
 use reference::gen::files::{edge, file, of_length};
+use reference::gen::mapped;
 use reference::gen::rng::Rng;
 use writer::input;
 use writer::lesson::Lesson;
@@ -24,19 +25,21 @@ fn goes_round(bytes: &[u8]) {
     assert_eq!(assembled(&text), [("Listed".to_string(), bytes.to_vec())], "{text}");
     let reads = File::read(bytes).is_some();
     assert_eq!(text.contains("# No class file: at byte "), !reads, "{text}");
-    let rejected = reads && reference::check(bytes) == 6;
-    assert_eq!(!text.starts_with('#') && text.contains("  REJECTED: "), rejected, "{text}");
+    let says = |word: &str| !text.starts_with('#') && text.contains(&format!("  {word}: "));
+    let number = reference::check(bytes);
+    assert_eq!(says("REJECTED") || says("UNMAPPED"), reads && [6, 15].contains(&number), "{text}");
+    assert!(number != 6 || !says("UNMAPPED"), "{text}");
 }
 
 #[test]
 fn generated_and_damaged_files() {
-    let mut kinds = [0; 3];
+    let mut kinds = [0; 16];
     for seed in 0..20_000 {
         let bytes = file(seed);
         goes_round(&bytes);
-        kinds[usize::from(reference::check(&bytes) / 2).min(2)] += 1;
+        kinds[usize::from(reference::check(&bytes))] += 1;
     }
-    assert!(kinds.iter().all(|&count| count > 1_000), "{kinds:?}");
+    assert!([0, 2, 6, 15].iter().all(|&number| kinds[number] > 900), "{kinds:?}");
     let mut rng = Rng::new(7);
     (0..2_000).for_each(|_| goes_round(&edge(&mut rng)));
 }
@@ -44,6 +47,13 @@ fn generated_and_damaged_files() {
 #[test]
 fn each_reason_of_the_verifier() {
     rejected().into_iter().chain(taken()).for_each(|draft| goes_round(&draft.file()));
+}
+
+#[test]
+fn files_of_version_2() {
+    let drafts = mapped::taken().into_iter().chain(mapped::unmapped()).chain(mapped::rejected());
+    drafts.for_each(|draft| goes_round(&draft.file()));
+    mapped::bad().iter().for_each(|bytes| goes_round(bytes));
 }
 
 #[test]

@@ -9,7 +9,7 @@ use Rattle.definition.specs.Superclasses.{nearest}
 use Rattle.definition.specs.Classes.{Base, find, superOf, loaderOf, hasField, selected}
 use Rattle.definition.specs.declared.Signature.{Signature}
 use Rattle.definition.specs.declared.Instruction.{Instruction}
-use Rattle.definition.specs.declared.Instruction.the-variants.{AconstNull, Sipush, Load, Store, Pop, Dup, Arithmetic, Getfield, Putfield, Invokevirtual, New, Return}
+use Rattle.definition.specs.declared.Instruction.the-variants.{AconstNull, Sipush, Load, Store, Pop, Dup, Arithmetic, Getfield, Putfield, Invokevirtual, New, Return, Branch}
 
 -- the loader of the class that f gives of the class c in the cache under loader l
 unfoldable pub loaderFrom : Base → ℕ → ℕ → (ℕ → Option ℕ) → Option ℕ
@@ -33,6 +33,7 @@ declaringLoader B l (Putfield c n t) = loaderFrom B l c (nearest (superOf B) (ha
 declaringLoader B l (Invokevirtual c s) = loaderFrom B l c (selectedClass B s)
 declaringLoader B l (New c) = none
 declaringLoader B l (Return k) = none
+declaringLoader B l (Branch c p) = none
 
 module _ (B : Base) (l c : ℕ) (f : ℕ → Option ℕ) where
   -- no such class, no such member, or both
@@ -84,3 +85,4 @@ declaring-some B l (Putfield c n t) one h = loader-some B l c (nearest (superOf 
 declaring-some B l (Invokevirtual c s) one h = loader-some B l c (selectedClass B s) one h
 declaring-some B l (New c) one h = absurd (Option·none-ne-some one (sym h))
 declaring-some B l (Return k) one h = absurd (Option·none-ne-some one (sym h))
+declaring-some B l (Branch c p) one h = absurd (Option·none-ne-some one (sym h))

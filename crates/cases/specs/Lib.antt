@@ -3,3 +3,4 @@ pub mod Cases
 pub mod Computed
 pub mod Proved
 pub mod Sweeps
+pub mod Branches

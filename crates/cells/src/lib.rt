@@ -1,11 +1,13 @@
 // Cells of a table, read and written totally: a read past the end answers 0, a write past the end does nothing.
 use definition::numbers::BYTE_RANGE;
 use definition::numbers::ROW_CELLS;
+use definition::numbers::SIGN_BIT;
 ghost use mathlib.Core.Path.{_≡_};
 ghost use Prim.Native.Nat.{_+_, _*_, _<_};
 ghost use lib.ListN.{getD, set};
 ghost use Rattle.definition.specs.Numbers.{byteRange, shortRange, intRange};
 ghost use Rattle.definition.specs.Instructions.{shortAt};
+ghost use Rattle.definition.specs.Answers.{signed, less};
 ghost use Rattle.definition.specs.Tables.{putThree};
 
 // Numbers widened: sums and products of these do not wrap.
@@ -37,6 +39,22 @@ pub fn from16(x: u16) -> u32
     ensures { λ r. ⌜ (r ≡ x) × (r < shortRange) ⌝ }
 {
     x as u32
+}
+
+// Whether 32 bits, read as signed, are less than others.
+pub fn is_less(a: u32, b: u32) -> bool
+    ensures { λ r. ⌜ r ≡ less (signed a) (signed b) ⌝ }
+{
+    if a < SIGN_BIT {
+        if b < SIGN_BIT {
+            return a < b;
+        }
+        return false;
+    }
+    if b < SIGN_BIT {
+        return true;
+    }
+    a < b
 }
 
 // A cell, 0 past the end.

@@ -6,7 +6,7 @@ use mathlib.Core.List.{List}
 use Prim.Native.Nat.{ℕ, zero, suc, _+_, _*_, _≤_, _<_}
 use native.Mathlib.Nat.{zero-add}
 use native.Mathlib.Omega.{arith}
-use lib.ListN.{length, getD, drop, length-drop}
+use lib.ListN.{length, drop, length-drop}
 use borrow.Author.Tests.{not-true}
 use Rattle.definition.specs.Lists.{doubled, isSome}
 use Rattle.definition.specs.Instructions.{shortAt}
@@ -15,7 +15,7 @@ use Rattle.layout.specs.Tests.{same-test}
 use Rattle.classfile.specs.Lists.{_and_, Each}
 use Rattle.classfile.specs.Reading.{fileVersion, className, superName, fieldCount, fieldPlace, quickFields, methodCount, methodPlace, quickMethods, quickFile}
 use Rattle.classfile.specs.Rules.{Readable, readable, said, tested}
-use Rattle.classfile.specs.Stages.{Outcome, FieldRule, MethodRule, passes, fails, meant, then, made, moved, needs, needs-le, needs-eq, byte-at, short-at, name-at, count-at, fields-at, methods-at, ends-at}
+use Rattle.classfile.specs.Stages.{Outcome, FieldRule, MethodRule, passes, fails, meant, then, made, moved, needs, needs-le, needs-both, needs-eq, byte-at, short-at, name-at, count-at, fields-at, methods-at, method-within, ends-at}
 
 module _ (bs : List ℕ) where
   -- what the readings ask for, in their order
@@ -30,7 +30,7 @@ module _ (bs : List ℕ) where
   Asked =
       (length bs ≤ 4096)
       × ((0 < length bs)
-      × ((getD bs 0 0 ≡ 1)
+      × (((1 ≤ fileVersion bs) × (fileVersion bs ≤ 2))
       × ((1 + 2 ≤ length bs)
       × ((shortAt bs 1 ≡ length (drop 3 bs))
       × (((3 + 2 ≤ length bs) × (2 ≤ className bs))
@@ -41,7 +41,7 @@ module _ (bs : List ℕ) where
   last-within : (n : ℕ) → Each (MethodRule bs) n 0 → methodPlace bs 0 ≤ length bs → methodPlace bs n ≤ length bs
   unfolding methodPlace
   last-within zero h w = w
-  last-within (suc m) h w = h m (omega arith) (omega arith) .within
+  last-within (suc m) h w = method-within bs (methodPlace bs m) (h m (omega arith) (omega arith))
 
   readable-asked : Asked → Readable bs
   unfolding methodPlace
@@ -52,7 +52,8 @@ module _ (bs : List ℕ) where
       record {
         size = h .0;
         within = w;
-        version = h .1 .1 .0;
+        versionLow = h .1 .1 .0 .0;
+        versionHigh = h .1 .1 .0 .1;
         rest = omega (arith, h .1 .1 .1 .0, h .1 .1 .1 .1 .0, length-drop 3 bs);
         name = h .1 .1 .1 .1 .1 .0 .1;
         super = h .1 .1 .1 .1 .1 .1 .0 .1;
@@ -71,7 +72,7 @@ module _ (bs : List ℕ) where
       let nine : 9 + 4 * fieldCount bs ≤ length bs = omega (arith, r .within) in
       r .size
       and (omega arith)
-      and r .version
+      and (r .versionLow and r .versionHigh)
       and (omega arith)
       and (omega (arith, length-drop 3 bs, r .rest))
       and ((omega arith) and r .name)
@@ -88,7 +89,7 @@ module _ (bs : List ℕ) where
   unfolding readFile quickFile fileVersion quickFields quickMethods className superName fieldCount fieldPlace methodCount methodPlace
   file-read =
       meant readable-asked asked-readable
-      (then _ (needs-le (length bs) 4096) (λ _. then _ (byte-at bs 0) (λ _. then _ (needs-eq (getD bs 0 0) 1) (λ _.
+      (then _ (needs-le (length bs) 4096) (λ _. then _ (byte-at bs 0) (λ _. then _ (needs-both 1 (fileVersion bs) 2) (λ _.
       then _ (short-at bs 1) (λ _. then _ (needs-eq (shortAt bs 1) (length (drop 3 bs))) (λ _.
       then _ (name-at bs 2 3) (λ _. then _ (name-at bs 2 5) (λ _. then _ (count-at bs 7) (λ _.
       then _ (moved bs (ap fieldPlace (zero-add (fieldCount bs))) (fields-at bs (fieldCount bs) 0)) (λ _.

@@ -8,8 +8,8 @@ use Prim.Native.Nat.{ℕ, zero, suc, _+_, _-_, _*_, _≤_}
 use lib.ListN.{length, getD, take, drop}
 use lib.Dec.{eqb, leb, ltb}
 use Rattle.definition.specs.Lists.{rows}
-use Rattle.definition.specs.Classes.{Field, Method}
-use Rattle.definition.specs.Instructions.{shortAt, signatureAt}
+use Rattle.definition.specs.Classes.{Field, Map, Method}
+use Rattle.definition.specs.Instructions.{pick, shortAt, signatureAt}
 use Rattle.definition.specs.File.{File}
 use Rattle.classfile.specs.declared.FieldFound.{FieldFound}
 use Rattle.classfile.specs.declared.MethodFound.{MethodFound}
@@ -43,7 +43,37 @@ quickFields bs = rows (fieldIn bs) (fieldCount bs) 0
 abbrev pub fieldsFrom : List ℕ → ℕ → List Field
 fieldsFrom bs i = rows (fieldIn bs) (fieldCount bs - i) i
 
--- Methods: one record after another, each with its signature, code length and code
+-- Maps, off bytes that begin with the byte that counts them: offset, eight local types, a byte with the operand count, operand types
+
+unfoldable pub mapCount : List ℕ → ℕ
+mapCount ms = getD ms 0 0
+
+-- of the map that begins at place p
+unfoldable pub mapDepth : List ℕ → ℕ → ℕ
+mapDepth ms p = getD ms (p + 18) 0
+
+unfoldable pub mapEnd : List ℕ → ℕ → ℕ
+mapEnd ms p = p + (19 + 2 * mapDepth ms p)
+
+-- type i of those from place p on
+unfoldable pub typeAt : List ℕ → ℕ → ℕ → ℕ
+typeAt ms p i = shortAt ms (p + 2 * i)
+
+unfoldable pub mapOf : List ℕ → ℕ → Map
+mapOf ms p = record { offset = shortAt ms p; locals = rows (typeAt ms (p + 2)) 8 0; operands = rows (typeAt ms (p + 19)) (mapDepth ms p) 0 }
+
+-- where map i begins
+unfoldable pub mapPlace : List ℕ → ℕ → ℕ
+mapPlace ms zero = 1
+mapPlace ms (suc i) = mapEnd ms (mapPlace ms i)
+
+unfoldable pub mapNumbered : List ℕ → ℕ → Map
+mapNumbered ms i = mapOf ms (mapPlace ms i)
+
+unfoldable pub mapsOf : List ℕ → List Map
+mapsOf ms = rows (mapNumbered ms) (mapCount ms) 0
+
+-- Methods: one record after another, each with its signature, code length, code, and from version 2 on its maps
 
 unfoldable pub methodCount : List ℕ → ℕ
 methodCount bs = getD bs (fieldPlace (fieldCount bs)) 0
@@ -56,11 +86,22 @@ codeLength bs p = shortAt bs (p + 6)
 unfoldable pub codeAt : List ℕ → ℕ → List ℕ
 codeAt bs p = take (codeLength bs p) (drop (p + 8) bs)
 
+unfoldable pub codeEnd : List ℕ → ℕ → ℕ
+codeEnd bs p = p + 8 + codeLength bs p
+
+-- the bytes that begin with the count of the maps; none in version 1
+unfoldable pub mapBytes : List ℕ → ℕ → List ℕ
+mapBytes bs p = pick (leb 2 (fileVersion bs)) (drop (codeEnd bs p) bs) []
+
+-- how many of them the maps take
+unfoldable pub mapsSize : List ℕ → ℕ → ℕ
+mapsSize bs p = pick (leb 2 (fileVersion bs)) (mapPlace (mapBytes bs p) (mapCount (mapBytes bs p))) 0
+
 unfoldable pub methodAt : List ℕ → ℕ → Method
-methodAt bs p = record { signature = signatureAt bs p; code = codeAt bs p }
+methodAt bs p = record { signature = signatureAt bs p; code = codeAt bs p; maps = mapsOf (mapBytes bs p) }
 
 unfoldable pub nextPlace : List ℕ → ℕ → ℕ
-nextPlace bs p = p + 8 + codeLength bs p
+nextPlace bs p = codeEnd bs p + mapsSize bs p
 
 -- where the record of method j begins
 unfoldable pub methodPlace : List ℕ → ℕ → ℕ
@@ -70,7 +111,7 @@ methodPlace bs (suc j) = nextPlace bs (methodPlace bs j)
 -- p is the place of method j, and so low that no place after it is larger than 32 bits can say
 pub record Placed (bs : List ℕ) (j p : ℕ) : Type 0 where
   pub place : p ≡ methodPlace bs j
-  pub low : p ≤ 1029 + 65543 * j
+  pub low : p ≤ 1029 + 200439 * j
 
 unfoldable pub methodIn : List ℕ → ℕ → Method
 methodIn bs j = methodAt bs (methodPlace bs j)

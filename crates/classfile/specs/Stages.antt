@@ -1,10 +1,10 @@
 -- The readings of the file rules, one after another, each at a place of the bytes: when it passes, and what it then gives.
-use mathlib.Core.Path.{_≡_, refl, ap}
+use mathlib.Core.Path.{_≡_, refl, sym, ap, _∙_}
 use mathlib.Core.Logic.{⊎-elim}
 use mathlib.Core.Bool.{Bool, true, false, false≢true, _&&_}
 use mathlib.Core.Option.{Option, none, some}
 use mathlib.Core.List.{List}
-use Prim.Native.Nat.{ℕ, zero, suc, _+_, _≤_, _<_}
+use Prim.Native.Nat.{ℕ, zero, suc, _+_, _*_, _≤_, _<_}
 use native.Mathlib.Omega.{arith}
 use lib.ListN.{length, getD, drop, length-drop, drop-of-length-le}
 use lib.Seq.{drop-cons, drop-drop}
@@ -12,12 +12,12 @@ use lib.Dec.{eqb, leb}
 use borrow.Author.Tests.{leb-true, eqb-true, le-leb, eq-eqb}
 use Rattle.definition.specs.Lists.{rows}
 use Rattle.definition.specs.Maybe.{_>>=_, need}
-use Rattle.definition.specs.Classes.{Method, isNamed}
-use Rattle.definition.specs.Instructions.{shortAt, signatureAt}
-use Rattle.definition.specs.File.{Got, byte, short, name, count, fieldsIn, signatureIn, methodsIn, ends}
+use Rattle.definition.specs.Classes.{Map, Method, isNamed}
+use Rattle.definition.specs.Instructions.{pick, shortAt, signatureAt}
+use Rattle.definition.specs.File.{Got, byte, short, name, count, fieldsIn, signatureIn, namesIn, mapIn, mapsFrom, mapsIn, methodsIn, ends}
 use Rattle.classfile.specs.Lists.{le-or-lt, _and_, Each, each-more, each-rest}
-use Rattle.classfile.specs.Reading.{fieldPlace, fieldIn, codeLength, codeAt, methodAt, nextPlace, methodPlace, methodIn}
-use Rattle.classfile.specs.Rules.{NamedField, namedMethod, WholeMethod}
+use Rattle.classfile.specs.Reading.{fileVersion, fieldPlace, fieldIn, mapCount, mapDepth, mapEnd, typeAt, mapOf, mapPlace, mapNumbered, mapsOf, codeLength, codeEnd, codeAt, mapBytes, mapsSize, methodAt, nextPlace, methodPlace, methodIn}
+use Rattle.classfile.specs.Rules.{NamedField, namedMethod, WholeMap, WholeMaps, leastOffset, WholeMethod}
 
 -- a reading that gives x where T holds, and else fails
 pub data Outcome {A : Type 0} (m : Option A) (T : Type 0) (x : A) : Type 0 where
@@ -57,6 +57,16 @@ needs false = fails false≢true refl
 
 pub needs-le : (a b : ℕ) → Outcome (need (leb a b)) (a ≤ b) tt
 needs-le a b = meant (leb-true a b) (le-leb a b) (needs (leb a b))
+
+-- from a to c
+pub needs-both : (a b c : ℕ) → Outcome (need (leb a b && leb b c)) ((a ≤ b) × (b ≤ c)) tt
+needs-both a b c =
+    meant (λ e. let t = two _ _ e in (leb-true a b (t .0), leb-true b c (t .1))) (λ h. rw (le-leb a b (h .0), le-leb b c (h .1))) (needs _)
+  where
+    two : (s t : Bool) → s && t ≡ true → (s ≡ true) × (t ≡ true)
+    two true true h = (refl, refl)
+    two true false h = absurd (false≢true h)
+    two false t h = absurd (false≢true h)
 
 pub needs-eq : (a b : ℕ) → Outcome (need (eqb a b)) (a ≡ b) tt
 needs-eq a b = meant (eqb-true a b) (eq-eqb a b) (needs (eqb a b))
@@ -134,6 +144,145 @@ module _ (bs : List ℕ) where
       (then _ (name-at 1 (fieldPlace i)) (λ _. then _ (moved bs next (name-at 1 (fieldPlace i + 2))) (λ _.
       made _ (moved bs (ap fieldPlace end) (fields-at k (suc i))))))
 
+  -- Maps
+
+  -- type j of those from place p on is there, and n or more
+  abbrev TypeRule : ℕ → ℕ → ℕ → Type 0
+  TypeRule n p j = (p + 2 * j + 2 ≤ length bs) × (n ≤ typeAt bs p j)
+
+  types-from : (n p k i : ℕ) → Outcome (namesIn n k (drop (p + 2 * i) bs)) (Each (TypeRule n p) k i) (got bs (rows (typeAt bs p) k i) (p + 2 * (i + k)))
+  unfolding namesIn rows typeAt
+  types-from n p zero i = let none : i + 0 ≡ i = omega arith in passes (λ j l m. absurd (omega arith)) (rw none)
+  types-from n p (suc k) i =
+      let next : p + 2 * i + 2 ≡ p + 2 * suc i = omega arith in
+      let end : p + 2 * (suc i + k) ≡ p + 2 * (i + suc k) = omega arith in
+      meant (λ h. each-more (TypeRule n p) k i (h .0) (h .1)) (each-rest (TypeRule n p) k i)
+      (then _ (moved bs next (name-at n (p + 2 * i))) (λ _. made _ (moved bs end (types-from n p k (suc i)))))
+
+  starts : (n k : ℕ) {p q : ℕ} {T : Type 0} {x : Got (List ℕ)} → p ≡ q → Outcome (namesIn n k (drop p bs)) T x → Outcome (namesIn n k (drop q bs)) T x
+  starts n k e o = rw e at o
+
+  types-at : (n p k q : ℕ) → p + 2 * k ≡ q → Outcome (namesIn n k (drop p bs)) (Each (TypeRule n p) k 0) (got bs (rows (typeAt bs p) k 0) q)
+  types-at n p k q e =
+      let first : p + 2 * 0 ≡ p = omega arith in
+      let last : p + 2 * (0 + k) ≡ q = omega arith in
+      starts n k first (moved bs last (types-from n p k 0))
+
+  -- as a map is tested
+  abbrev MapTests : ℕ → ℕ → Type 0
+  MapTests o p =
+      ((p + 2 ≤ length bs) × (o ≤ shortAt bs p))
+      × (Each (TypeRule 0 (p + 2)) 8 0
+      × ((p + 18 < length bs) × ((mapDepth bs p ≤ 16) × Each (TypeRule 1 (p + 19)) (mapDepth bs p) 0)))
+
+  -- the last type ends within the bytes
+  types-within : (n p k : ℕ) → p ≤ length bs → Each (TypeRule n p) k 0 → p + 2 * k ≤ length bs
+  types-within n p zero w h = omega arith
+  types-within n p (suc m) w h = let l = h m (omega arith) (omega arith) .0 in omega (arith, l)
+
+  map-rule : (o p : ℕ) → MapTests o p → WholeMap bs o p
+  unfolding mapEnd
+  map-rule o p h =
+      let w = types-within 1 (p + 19) (mapDepth bs p) (omega (arith, h .1 .1 .0)) (h .1 .1 .1 .1) in
+      record {
+        rises = h .0 .1;
+        few = h .1 .1 .1 .0;
+        within = omega (arith, w);
+        operands = λ i l. h .1 .1 .1 .1 i (omega arith) (omega arith) .1;
+      }
+
+  map-tests : (o p : ℕ) → WholeMap bs o p → MapTests o p
+  unfolding mapEnd
+  map-tests o p h =
+      let w : p + (19 + 2 * mapDepth bs p) ≤ length bs = h .within in
+      ((omega arith) and h .rises)
+      and (λ j l m. (omega arith) and (omega arith))
+      and (omega arith)
+      and h .few
+      and (λ j l m. (omega arith) and h .operands j (omega arith))
+
+  map-at : (o p : ℕ) → Outcome (mapIn o (drop p bs)) (WholeMap bs o p) (got bs (mapOf bs p) (mapEnd bs p))
+  unfolding mapIn mapOf mapEnd mapDepth
+  map-at o p =
+      let next : p + 18 + 1 ≡ p + 19 = omega arith in
+      meant (map-rule o p) (map-tests o p)
+      (then _ (name-at o p) (λ _. then _ (types-at 0 (p + 2) 8 (p + 18) (omega arith)) (λ _.
+      then _ (moved bs next (byte-at (p + 18))) (λ _. then _ (needs-le (mapDepth bs p) 16) (λ _.
+      made _ (types-at 1 (p + 19) (mapDepth bs p) (p + (19 + 2 * mapDepth bs p)) (omega arith)))))))
+
+  abbrev MapRule : ℕ → Type 0
+  MapRule i = WholeMap bs (leastOffset bs i) (mapPlace bs i)
+
+  maps-from : (k i : ℕ)
+      → Outcome (mapsFrom (leastOffset bs i) k (drop (mapPlace bs i) bs)) (Each MapRule k i) (got bs (rows (mapNumbered bs) k i) (mapPlace bs (i + k)))
+  unfolding mapsFrom rows mapNumbered mapOf mapPlace leastOffset
+  maps-from zero i = let none : i + 0 ≡ i = omega arith in passes (λ j l m. absurd (omega arith)) (rw none)
+  maps-from (suc k) i =
+      let end : suc i + k ≡ i + suc k = omega arith in
+      meant (λ h. each-more MapRule k i (h .0) (h .1)) (each-rest MapRule k i)
+      (then _ (map-at (leastOffset bs i) (mapPlace bs i)) (λ _. made _ (moved bs (ap (mapPlace bs) end) (maps-from k (suc i)))))
+
+  -- the count, and that many maps
+  pub maps-counted : Outcome (byte bs >>= λ k. mapsFrom 0 (k .value) (k .more)) (WholeMaps bs) (got bs (mapsOf bs) (mapPlace bs (mapCount bs)))
+  unfolding mapsOf mapCount leastOffset mapPlace
+  maps-counted =
+      let end : 0 + mapCount bs ≡ mapCount bs = omega arith in
+      meant
+      (λ h. record { counted = omega (arith, h .0); each = λ i l. h .1 i (omega arith) (omega arith) })
+      (λ h. (omega (arith, h .counted)) and (λ i l m. h .each i (omega arith)))
+      (then _ (byte-at 0) (λ _. moved bs (ap (mapPlace bs) end) (maps-from (mapCount bs) 0)))
+
+  -- the last map ends within the bytes
+  pub maps-within : WholeMaps bs → mapPlace bs (mapCount bs) ≤ length bs
+  unfolding mapPlace
+  maps-within h = go (mapCount bs) (h .each)
+    where
+      go : (k : ℕ) → ((i : ℕ) → i < k → MapRule i) → mapPlace bs k ≤ length bs
+      go zero e = h .counted
+      go (suc i) e = e i (omega arith) .within
+
+-- The maps of a method, and the next method
+
+module _ (bs : List ℕ) where
+  abbrev MapsRule : ℕ → Type 0
+  MapsRule p = leb 2 (fileVersion bs) ≡ true → WholeMaps (mapBytes bs p)
+
+  maps-some : (p : ℕ) → leb 2 (fileVersion bs) ≡ true
+      → Outcome (mapsIn (fileVersion bs) (drop (codeEnd bs p) bs)) (MapsRule p) (got bs (mapsOf (mapBytes bs p)) (nextPlace bs p))
+  unfolding mapsIn mapBytes nextPlace mapsSize pick
+  maps-some p e =
+      let ms = drop (codeEnd bs p) bs in
+      let o : Outcome (mapsIn (fileVersion bs) (drop (codeEnd bs p) bs)) (WholeMaps (mapBytes bs p)) (got bs (mapsOf (mapBytes bs p)) (nextPlace bs p)) =
+      rw (e, mapsIn, pick, ← drop-drop (mapPlace ms (mapCount ms)) (codeEnd bs p) bs) (maps-counted ms) in
+      meant (λ w d. w) (λ f. f e) o
+
+  maps-none : (p : ℕ) → leb 2 (fileVersion bs) ≡ false
+      → Outcome (mapsIn (fileVersion bs) (drop (codeEnd bs p) bs)) (MapsRule p) (got bs (mapsOf (mapBytes bs p)) (nextPlace bs p))
+  unfolding mapsIn mapBytes nextPlace mapsSize mapsOf mapCount rows pick
+  maps-none p e =
+      let end : codeEnd bs p + 0 ≡ codeEnd bs p = omega arith in
+      passes (λ d. absurd (false≢true (sym e ∙ d))) (rw (e, mapsIn, pick, end))
+
+  maps-at : (p : ℕ) → Outcome (mapsIn (fileVersion bs) (drop (codeEnd bs p) bs)) (MapsRule p) (got bs (mapsOf (mapBytes bs p)) (nextPlace bs p))
+  maps-at p = go (leb 2 (fileVersion bs)) refl
+    where
+      go : (t : Bool) → leb 2 (fileVersion bs) ≡ t
+          → Outcome (mapsIn (fileVersion bs) (drop (codeEnd bs p) bs)) (MapsRule p) (got bs (mapsOf (mapBytes bs p)) (nextPlace bs p))
+      go true e = maps-some p e
+      go false e = maps-none p e
+
+  -- a whole method ends within the bytes
+  pub method-within : (p : ℕ) → WholeMethod bs p → nextPlace bs p ≤ length bs
+  unfolding nextPlace mapsSize mapBytes pick
+  method-within p h = go (leb 2 (fileVersion bs)) refl
+    where
+      go : (t : Bool) → leb 2 (fileVersion bs) ≡ t → nextPlace bs p ≤ length bs
+      go true e =
+          let w = maps-within (mapBytes bs p) (h .maps e) in
+          let v : mapPlace (drop (codeEnd bs p) bs) (mapCount (drop (codeEnd bs p) bs)) ≤ length (drop (codeEnd bs p) bs) = rw (e, pick) at w in
+          rw (e, pick) (omega (arith, v, h .within, length-drop (codeEnd bs p) bs))
+      go false e = rw (e, pick) (omega (arith, h .within))
+
   -- Methods
 
   abbrev pub MethodRule : ℕ → Type 0
@@ -163,10 +312,10 @@ module _ (bs : List ℕ) where
   MethodsFrom k j p =
       ((p + 6 ≤ length bs) × (namedMethod bs p ≡ true))
       × ((p + 6 + 2 ≤ length bs)
-      × (CodeRule (p + 8) (codeLength bs p) × Each MethodRule k (suc j)))
+      × (CodeRule (p + 8) (codeLength bs p) × (MapsRule p × Each MethodRule k (suc j))))
 
   method-rule : (k j : ℕ) → MethodsFrom k j (methodPlace bs j) → Each MethodRule (suc k) j
-  unfolding nextPlace
+  unfolding codeEnd
   method-rule k j h =
       let code = h .1 .1 .0 in
       each-more MethodRule k j
@@ -175,11 +324,12 @@ module _ (bs : List ℕ) where
         some = code .0;
         few = code .1;
         within = code .2;
+        maps = h .1 .1 .1 .0;
       })
-      (h .1 .1 .1)
+      (h .1 .1 .1 .1)
 
   method-tests : (k j : ℕ) → Each MethodRule (suc k) j → MethodsFrom k j (methodPlace bs j)
-  unfolding nextPlace
+  unfolding codeEnd
   method-tests k j h =
       let p = each-rest MethodRule k j h in
       let m = p .0 in
@@ -187,6 +337,7 @@ module _ (bs : List ℕ) where
       ((omega arith) and m .named)
       and (omega arith)
       and (m .some, m .few, all)
+      and m .maps
       and p .1
 
   -- a signature, at a place: its names are there and none is 0
@@ -200,16 +351,16 @@ module _ (bs : List ℕ) where
       (λ h.
       let t = and-rule _ _ _ (h .1) in
       (omega (arith, h .0), leb-true _ _ (t .0)) and (omega (arith, h .0), leb-true _ _ (t .1)) and (omega (arith, h .0), leb-true _ _ (t .2)))
-      (then _ (name-at 1 p) (λ _. then _ (moved bs four (name-at 1 (p + 2))) (λ _. made _ (moved bs six (name-at 1 (p + 4))))))
+      (then _ (name-at bs 1 p) (λ _. then _ (moved bs four (name-at bs 1 (p + 2))) (λ _. made _ (moved bs six (name-at bs 1 (p + 4))))))
 
   -- after the code of the method at place p
-  rest-at : (k p : ℕ) {T : Type 0} {x : Got (List Method)}
-      → Outcome (methodsIn k (drop (nextPlace bs p) bs)) T x → Outcome (methodsIn k (drop (codeLength bs p) (drop (p + 8) bs))) T x
-  unfolding nextPlace
-  rest-at k p o = rw (drop-drop (codeLength bs p) (p + 8) bs) o
+  rest-at : (p : ℕ) {T : Type 0} {x : Got (List Map)}
+      → Outcome (mapsIn (fileVersion bs) (drop (codeEnd bs p) bs)) T x → Outcome (mapsIn (fileVersion bs) (drop (codeLength bs p) (drop (p + 8) bs))) T x
+  unfolding codeEnd
+  rest-at p o = rw (drop-drop (codeLength bs p) (p + 8) bs) o
 
   pub methods-at : (k j : ℕ)
-      → Outcome (methodsIn k (drop (methodPlace bs j) bs)) (Each MethodRule k j) (got bs (rows (methodIn bs) k j) (methodPlace bs (j + k)))
+      → Outcome (methodsIn (fileVersion bs) k (drop (methodPlace bs j) bs)) (Each MethodRule k j) (got bs (rows (methodIn bs) k j) (methodPlace bs (j + k)))
   unfolding methodsIn rows methodIn methodAt methodPlace codeAt codeLength
   methods-at zero j = let none : j + 0 ≡ j = omega arith in passes (λ i l m. absurd (omega arith)) (rw none)
   methods-at (suc k) j =
@@ -218,5 +369,5 @@ module _ (bs : List ℕ) where
       let end : suc j + k ≡ j + suc k = omega arith in
       let rest = moved bs (ap (methodPlace bs) end) (methods-at k (suc j)) in
       meant (method-rule k j) (method-tests k j)
-      (then _ (signature-at p) (λ _. then _ (moved bs eight (short-at (p + 6))) (λ h.
-      then _ (code-rule (p + 8) (shortAt bs (p + 6)) (omega (arith, h))) (λ _. made _ (rest-at k p rest)))))
+      (then _ (signature-at p) (λ _. then _ (moved bs eight (short-at bs (p + 6))) (λ h.
+      then _ (code-rule (p + 8) (shortAt bs (p + 6)) (omega (arith, h))) (λ _. then _ (rest-at p (maps-at p)) (λ _. made _ rest)))))

@@ -2,6 +2,7 @@
 // rule of a file. Of bytes that `reads` accepts the quick functions give the file that the rules give.
 mod fields; // fields.rt: the version, a class's names and its fields, by their number
 mod methods; // methods.rt: methods, by their number and by the place at which their record begins, and their code
+mod maps; // maps.rt: a method's maps, by the place at which each begins
 mod rules; // rules.rt: the rules of a file, one after another
 
 pub use fields::class_name;
@@ -12,6 +13,13 @@ pub use fields::find_field;
 pub use fields::has_field;
 pub use fields::super_name;
 pub use fields::version;
+pub use maps::map_count;
+pub use maps::map_depth;
+pub use maps::map_local;
+pub use maps::map_offset;
+pub use maps::map_operand;
+pub use maps::map_size;
+pub use maps::method_maps;
 pub use methods::code;
 pub use methods::find_method;
 pub use methods::is_named;

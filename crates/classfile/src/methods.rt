@@ -2,6 +2,7 @@
 use crate::MethodFound;
 use crate::fields::field_count;
 use crate::fields::field_place;
+use crate::maps::maps_size;
 use definition::Signature;
 ghost use mathlib.Core.Path.{_≡_};
 ghost use Prim.Native.Nat.{_+_, _≤_, min};
@@ -64,7 +65,7 @@ pub(crate) fn code_length(bytes: &[u8], place: u32) -> u16
     cells::short_at(bytes, cells::wide32(place) + 6)
 }
 
-fn least(a: usize, b: usize) -> usize
+pub(crate) fn least(a: usize, b: usize) -> usize
     ensures { λ r. ⌜ r ≡ min a b ⌝ }
 {
     if a <= b { a } else { b }
@@ -103,9 +104,9 @@ pub(crate) fn first_place(bytes: &[u8]) -> u32
 // The place after the record that begins at `place`.
 pub(crate) fn next_place(bytes: &[u8], place: u32) -> u32
     requires { ⌜ place ≤ 4000000000 ⌝ }
-    ensures { λ r. ⌜ (r ≡ nextPlace (now (bytes .entry)) place) × (r ≤ place + 65543) ⌝ }
+    ensures { λ r. ⌜ (r ≡ nextPlace (now (bytes .entry)) place) × (r ≤ place + 200439) ⌝ }
 {
-    place + 8 + cells::from16(code_length(bytes, place))
+    place + 8 + cells::from16(code_length(bytes, place)) + maps_size(bytes, place)
 }
 
 // The place of the record of method j: the records before it are passed one by one.

@@ -6,6 +6,13 @@ use crate::fields::field_name;
 use crate::fields::field_type;
 use crate::fields::named_from;
 use crate::fields::super_name;
+use crate::fields::version;
+use crate::maps::map_count;
+use crate::maps::map_depth;
+use crate::maps::map_offset;
+use crate::maps::map_operand;
+use crate::maps::map_size;
+use crate::maps::method_maps;
 use crate::methods::alike_from;
 use crate::methods::code_length;
 use crate::methods::first_place;
@@ -17,13 +24,17 @@ use definition::numbers::CODE_LIMIT;
 use definition::numbers::FILE_LIMIT;
 use definition::numbers::MEMBER_LIMIT;
 use definition::numbers::NAME_OBJECT;
+use definition::numbers::OPERAND_LIMIT;
+use definition::numbers::VERSION_ONE;
+use definition::numbers::VERSION_TWO;
 ghost use mathlib.Core.Path.{_≡_};
 ghost use Prim.Native.Nat.{_+_, _<_};
 ghost use Rattle.definition.specs.Lists.{any, doubled, isSome};
 ghost use Rattle.definition.specs.File.{readFile, sameField, sameMethod};
 ghost use Rattle.classfile.specs.Reading.{quickFields};
 ghost use Rattle.classfile.specs.Reading.{Placed, methodIn, quickMethods, methodsFrom};
-ghost use Rattle.classfile.specs.Rules.{sized, titled, namedField, namedFields, namedMethod, codedMethod, wholeMethod, wholeMethods};
+ghost use Rattle.classfile.specs.Rules.{sized, titled, namedField, namedFields, namedMethod, codedMethod};
+ghost use Rattle.classfile.specs.Rules.{operandsSet, wholeMap, wholeMaps, mappedMethod, wholeMethod, wholeMethods};
 
 fn is_sized(bytes: &[u8]) -> bool
     ensures { λ r. ⌜ r ≡ sized (now (bytes .entry)) ⌝ }
@@ -35,7 +46,10 @@ fn is_sized(bytes: &[u8]) -> bool
     if size < cells::wide32(first_place(bytes)) {
         return false;
     }
-    if cells::at8(bytes, 0) != 1 {
+    if version(bytes) < VERSION_ONE {
+        return false;
+    }
+    if VERSION_TWO < version(bytes) {
         return false;
     }
     cells::wide16(cells::short_at(bytes, 1)) + 3 == size
@@ -98,13 +112,78 @@ fn is_coded_method(bytes: &[u8], place: u32) -> bool
     cells::wide32(place) + 8 + cells::wide16(length) <= bytes.len()
 }
 
+// No operand type of the map at that place is 0.
+fn are_operands_set(maps: &[u8], place: u32) -> bool
+    ensures { λ r. ⌜ r ≡ operandsSet (now (maps .entry)) place ⌝ }
+{
+    let n = map_depth(maps, place);
+    let mut i: u8 = 0;
+    while i < n {
+        if map_operand(maps, place, i) < 1 {
+            return false;
+        }
+        i += 1;
+    }
+    true
+}
+
+fn is_whole_map(maps: &[u8], low: u32, place: u32) -> bool
+    ensures { λ r. ⌜ r ≡ wholeMap (now (maps .entry)) low place ⌝ }
+{
+    if cells::from16(map_offset(maps, place)) < low {
+        return false;
+    }
+    if OPERAND_LIMIT < cells::from16(cells::from8(map_depth(maps, place))) {
+        return false;
+    }
+    if maps.len() < cells::wide32(place) + cells::wide32(map_size(maps, place)) {
+        return false;
+    }
+    are_operands_set(maps, place)
+}
+
+// Every map is whole, and the offsets rise.
+fn are_maps_whole(maps: &[u8]) -> bool
+    ensures { λ r. ⌜ r ≡ wholeMaps (now (maps .entry)) ⌝ }
+{
+    if maps.len() < 1 {
+        return false;
+    }
+    let n = map_count(maps);
+    let mut place: u32 = 1;
+    let mut low: u32 = 0;
+    let mut i: u8 = 0;
+    while i < n {
+        if !is_whole_map(maps, low, place) {
+            return false;
+        }
+        low = cells::from16(map_offset(maps, place)) + 1;
+        place += map_size(maps, place);
+        i += 1;
+    }
+    true
+}
+
+// The maps of a method are whole; version 1 has none.
+fn is_mapped_method(bytes: &[u8], place: u32) -> bool
+    ensures { λ r. ⌜ r ≡ mappedMethod (now (bytes .entry)) place ⌝ }
+{
+    if version(bytes) < VERSION_TWO {
+        return true;
+    }
+    are_maps_whole(method_maps(bytes, place))
+}
+
 fn is_whole_method(bytes: &[u8], place: u32) -> bool
     ensures { λ r. ⌜ r ≡ wholeMethod (now (bytes .entry)) place ⌝ }
 {
     if !is_named_method(bytes, place) {
         return false;
     }
-    is_coded_method(bytes, place)
+    if !is_coded_method(bytes, place) {
+        return false;
+    }
+    is_mapped_method(bytes, place)
 }
 
 // Every method is whole, and nothing follows the last.

@@ -10,4 +10,3 @@ pub mod Searching
 pub mod Supers
 pub mod Pairing
 pub mod Posted
-pub mod Notes

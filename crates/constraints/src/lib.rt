@@ -8,14 +8,7 @@ mod upward; // upward.rt: the classes above a class
 mod agreement; // agreement.rt: the test of agreement
 
 pub use agreement::agree;
-pub use posting::add_subtype;
-pub use posting::add_subtypes;
 pub use posting::add_tie;
+pub use posting::post_note;
 pub use posting::subtype_known;
 pub use posting::tie_known;
-
-// What posting subtype constraints answers: the new count of rows, or that they would be more than 256.
-pub enum Added {
-    Count(u16),
-    Full,
-}

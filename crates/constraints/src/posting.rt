@@ -1,14 +1,11 @@
 // Posting ties and subtype constraints.
-use crate::Added;
 use cells::at16;
 use cells::from8;
 use cells::from16;
 use cells::put_three;
 use cells::wide16;
-use definition::numbers::NOTE_CELLS;
 use definition::numbers::ROW_CELLS;
 use definition::numbers::SUBTYPE_LIMIT;
-use definition::numbers::SUBTYPES_LENGTH;
 ghost use mathlib.Core.Path.{_≡_};
 ghost use Prim.Native.Nat.{_+_, _<_};
 ghost use lib.ListN.{length};
@@ -20,10 +17,7 @@ ghost use Rattle.definition.specs.Lists.{rows, any};
 ghost use Rattle.definition.specs.Constraints.{tieIs};
 ghost use Rattle.definition.specs.Loading.{subtypeIs};
 ghost use Rattle.definition.specs.Tables.{tieAt, subtypeAt};
-ghost use Rattle.constraints.specs.Posting.{newTieIn, newSubtypesIn, newNotesIn, note, tiesAfter, subtypesAfter, roomy, counted, notesPosted};
-
-// How many subtype constraints there may be, as a count that may have grown past 16 bits.
-const SUBTYPE_ROWS: u32 = SUBTYPE_LIMIT as u32;
+ghost use Rattle.constraints.specs.Posting.{newTieIn, newSubtypesIn, note, tiesAfter, subtypesAfter, noted, postNote};
 
 // Two cells are equal to these two.
 fn are_equal(a: u16, b: u16, x: u16, y: u16) -> bool
@@ -89,15 +83,13 @@ fn subtype_is(subtypes: &[u16], i: usize, loader: u8, low: u16, high: u16) -> bo
     requires { ⌜ i < shortRange ⌝ }
     ensures { λ r. ⌜ r ≡ subtypeIs loader (note low high) (subtypeAt (now (subtypes .entry)) i) ⌝ }
 {
-    if are_equal(
-        at16(subtypes, i * ROW_CELLS),
-        at16(subtypes, i * ROW_CELLS + 1),
-        from8(loader),
-        low,
-    ) {
-        return at16(subtypes, i * ROW_CELLS + 2) == high;
+    let first = at16(subtypes, i * ROW_CELLS + 1);
+    let second = at16(subtypes, i * ROW_CELLS + 2);
+    if are_equal(first, second, low, high) {
+        at16(subtypes, i * ROW_CELLS) == from8(loader)
+    } else {
+        false
     }
-    false
 }
 
 // A subtype constraint is among the first rows.
@@ -116,7 +108,7 @@ pub fn subtype_known(subtypes: &[u16], count: u16, loader: u8, low: u16, high: u
 }
 
 // Adds a subtype constraint behind the first rows, unless it is there. Answers the new count.
-pub fn add_subtype(subtypes: &mut [u16], count: u16, loader: u8, low: u16, high: u16) -> u32
+fn add_subtype(subtypes: &mut [u16], count: u16, loader: u8, low: u16, high: u16) -> u32
     ensures { λ r. ⌜ r ≡ count + length (newSubtypesIn (now (subtypes .entry)) count loader (note low high ∷ [])) ⌝ }
     ensures { λ _. ⌜ now (subtypes .exit) ≡ subtypesAfter (now (subtypes .entry)) count (newSubtypesIn (now (subtypes .entry)) count loader (note low high ∷ [])) ⌝ }
 {
@@ -128,39 +120,13 @@ pub fn add_subtype(subtypes: &mut [u16], count: u16, loader: u8, low: u16, high:
     rows + 1
 }
 
-// Adds the notes of a verifier, two cells each, as subtype constraints of a loader, those that are not there yet.
-pub fn add_subtypes(
-    subtypes: &mut [u16],
-    count: u16,
-    loader: u8,
-    notes: &[u16],
-    note_count: u16,
-) -> Added
-    ensures { λ r. ⌜ r ≡ counted (roomy (now (subtypes .entry))) (count + length (newNotesIn (now (subtypes .entry)) count loader (now (notes .entry)) «note_count»)) ⌝ }
-    ensures { λ _. ⌜ now (subtypes .exit) ≡ notesPosted (now (subtypes .entry)) count (newNotesIn (now (subtypes .entry)) count loader (now (notes .entry)) «note_count») ⌝ }
+// Posts a note of the verifier as a subtype constraint of a loader, unless it is there. Answers the new count of rows: past 256 there are too many,
+// and nothing more is posted.
+pub fn post_note(subtypes: &mut [u16], count: u16, loader: u8, low: u16, high: u16) -> u16
+    ensures { λ r. ⌜ noted (now (subtypes .exit)) r ≡ postNote loader (note low high) (noted (now (subtypes .entry)) count) ⌝ }
 {
-    if subtypes.len() < SUBTYPES_LENGTH {
-        return Added::Full;
-    }
     if SUBTYPE_LIMIT < count {
-        return Added::Full;
+        return count;
     }
-    let n = wide16(note_count);
-    let mut total = count;
-    let mut i = 0;
-    while i < n {
-        let next = add_subtype(
-            subtypes,
-            total,
-            loader,
-            at16(notes, i * NOTE_CELLS),
-            at16(notes, i * NOTE_CELLS + 1),
-        );
-        if SUBTYPE_ROWS < next {
-            return Added::Full;
-        }
-        total = next as u16;
-        i += 1;
-    }
-    Added::Count(total)
+    add_subtype(subtypes, count, loader, low, high) as u16
 }

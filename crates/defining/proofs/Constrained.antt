@@ -15,7 +15,7 @@ use Rattle.definition.specs.Classes.{Base, Class, slots}
 use Rattle.definition.specs.Constraints.{World, Tie, Subtype, agrees}
 use Rattle.definition.specs.Verifier.{Note}
 use Rattle.definition.specs.Answers.{Result, refused, ok, _>>=_, need}
-use Rattle.definition.specs.Loading.{overrideTies, newSubtypes, withClass}
+use Rattle.definition.specs.Loading.{overrideTies, withClass}
 use Rattle.definition.specs.File.{classOf}
 use Rattle.definition.specs.Tables.{tieAt, putTie, subtypeAt, putSubtype, entryAt, classRowAt}
 use Rattle.layout.specs.Tests.{every-true, true-every}
@@ -23,13 +23,11 @@ use Rattle.layout.specs.Places.{rows-length, rows-cong, writeRows-length}
 use Rattle.layout.specs.Cells.{tie-rows, subtype-rows, rows-after-more, cells-block}
 use Rattle.classfile.specs.Reading.{fieldCount, fieldIn, quickFields, quickMethods, quickFile}
 use Rattle.resolution.specs.Quick.{quickClass, quickBase}
-use Rattle.constraints.specs.declared.Added.{Added}
-use Rattle.constraints.specs.declared.Added.the-variants.{Count, Full}
-use Rattle.constraints.specs.Posting.{newSubtypesIn, subtypesAfter, roomy, counted, notesPosted}
-use Rattle.entries.specs.World.{worldIn, Loadable}
-use Rattle.defining.specs.Posting.{TiesPosted}
-use Rattle.defining.specs.Stages.{postedFor, roomFor, classTies, newNotes}
-use Rattle.entries.proofs.Laws.{copied}
+use Rattle.constraints.specs.Posting.{newSubtypesIn, subtypesAfter, Noted, noted, postNotes}
+use Rattle.constraints.specs.Laws.{Posts, posts}
+use Rattle.entries.specs.World.{worldIn, world, baseWith, Loadable}
+use Rattle.defining.specs.Posting.{TiesPosted, NotesPosted}
+use Rattle.defining.specs.Stages.{postedFor, roomFor, classTies, newNotes, Adding}
 
 -- Copies
 
@@ -77,24 +75,6 @@ module _ (t z : List ℕ) (short : length t ≤ length z) where
         name = cell-there (i * 3 + 2) (omega arith) j;
       })
 
--- Answers of posting subtype constraints
-
-full-many : (n : ℕ) → counted true n ≡ Full → 256 < n
-unfolding counted
-full-many n h = go (leb n 256) refl h
-  where
-    go : (b : Bool) → leb n 256 ≡ b → _≡_ {A = Added} (elim b as (λ _. Added) [ true ↦ Count n | false ↦ Full ]) Full → 256 < n
-    go true e q = absurd (let z : _≡_ {A = ℕ} 0 1 = cc in omega arith)
-    go false e q = leb-false n 256 e
-
-count-few : (n m : ℕ) → counted true n ≡ Count m → (n ≤ 256) × (m ≡ n)
-unfolding counted
-count-few n m h = go (leb n 256) refl h
-  where
-    go : (b : Bool) → leb n 256 ≡ b → _≡_ {A = Added} (elim b as (λ _. Added) [ true ↦ Count n | false ↦ Full ]) (Count m) → (n ≤ 256) × (m ≡ n)
-    go true e q = (leb-true n 256 e, cc)
-    go false e q = absurd (let z : _≡_ {A = ℕ} 0 1 = cc in omega arith)
-
 -- a test that cannot pass fails
 fails : (bs : List Bool) → (every bs ≡ true → ⊥) → every bs ≡ false
 fails bs h = go (every bs) refl
@@ -103,9 +83,9 @@ fails bs h = go (every bs) refl
     go true e = absurd (h e)
     go false e = refl
 
--- The decision: t and s are the copies before posting, u and v after it
+-- What is decided of a class: u, of `tied` rows, is the copy of the ties with the class's own, and v, of n rows, that of the subtype constraints with the notes
 
-module _ (counts classes kept cache ties subtypes : List ℕ) (ld : Loadable counts classes kept cache ties subtypes) (l p : ℕ) (bs : List ℕ) (ns : List Note) where
+module _ (counts classes kept cache ties subtypes : List ℕ) (ld : Loadable counts classes kept cache ties subtypes) (l p : ℕ) (bs : List ℕ) where
   abbrev b : Base
   b = quickBase counts classes kept cache
 
@@ -118,17 +98,17 @@ module _ (counts classes kept cache ties subtypes : List ℕ) (ld : Loadable cou
   abbrev us : List Tie
   us = classTies k w p
 
-  abbrev ss : List Subtype
-  ss = newNotes k w ns
+  abbrev ss : List Note → List Subtype
+  ss ns = newNotes k w ns
 
-  abbrev whole : Result World
-  whole = postedFor (leb (getD counts 1 0 + length bs) 16384) k w ns p
+  abbrev whole : List Note → Result World
+  whole ns = postedFor (leb (getD counts 1 0 + length bs) 16384) k w ns p
 
   ties-count : length (w .ties ++ us) ≡ getD counts 3 0 + length us
   ties-count = length-append (w .ties) us ∙ ap (λ (x : ℕ). x + length us) (rows-length (tieAt ties) (getD counts 3 0) 0)
 
-  subtypes-count : length (w .subtypes ++ ss) ≡ getD counts 4 0 + length ss
-  subtypes-count = length-append (w .subtypes) ss ∙ ap (λ (x : ℕ). x + length ss) (rows-length (subtypeAt subtypes) (getD counts 4 0) 0)
+  subtypes-count : (ns : List Note) → length (w .subtypes ++ ss ns) ≡ getD counts 4 0 + length (ss ns)
+  subtypes-count ns = length-append (w .subtypes) (ss ns) ∙ ap (λ (x : ℕ). x + length (ss ns)) (rows-length (subtypeAt subtypes) (getD counts 4 0) 0)
 
   classes-count : length (b .classes) ≡ getD counts 0 0
   unfolding quickBase
@@ -142,68 +122,67 @@ module _ (counts classes kept cache ties subtypes : List ℕ) (ld : Loadable cou
   unfolding quickFile quickFields
   fields-count = rows-length (fieldIn bs) (fieldCount bs) 0
 
-  abbrev limits : List Bool
-  limits =
+  abbrev limits : List Note → List Bool
+  limits ns =
       leb (getD counts 1 0 + length bs) 16384
       ∷ ltb (length (b .classes)) 64
       ∷ ltb (length (b .cache)) 256
       ∷ leb (length (w .ties ++ us)) 256
-      ∷ leb (length (w .subtypes ++ ss)) 256
+      ∷ leb (length (w .subtypes ++ ss ns)) 256
       ∷ leb (length (slots b p) + length (k .fields)) 16
       ∷ []
 
   -- one of the limits would be passed
-  past : (every limits ≡ true → ⊥) → refused (Word 10) ≡ whole
+  past : (ns : List Note) → (every (limits ns) ≡ true → ⊥) → refused (Word 10) ≡ whole ns
   unfolding postedFor need _>>=_
-  past h = rw (fails limits h)
+  past ns h = rw (fails (limits ns) h)
 
-  pub posted-full : 256 < getD counts 4 0 + length ss → refused (Word 10) ≡ whole
-  posted-full h = past (λ e. omega (arith, h, subtypes-count, leb-true (length (w .subtypes ++ ss)) 256 (every-true limits e .1 .1 .1 .1 .0)))
+  -- The notes, posted to a copy of the subtype constraints
 
-  module _ (tied : ℕ) (et : tied ≡ getD counts 3 0 + length us) where
-    same : tied ≡ length (w .ties ++ us)
-    same = et ∙ sym ties-count
+  module _ (v : List ℕ) (n : ℕ) (ns : List Note) (e : NotesPosted ns l subtypes (getD counts 4 0) v n) where
+    posted : Posts l ns subtypes (getD counts 4 0)
+    posted = posts l ns subtypes (getD counts 4 0) (omega (arith, ld .subtypesLong)) (ld .subtypesFew)
 
-    pub posted-roomless : roomFor b counts bs p tied ≡ false → refused (Word 10) ≡ whole
-    unfolding roomFor
-    posted-roomless h = past (λ e.
-        let a = every-true limits e in
-        false≢true (sym h ∙ true-every _ (
-          a .0,
-          (rw classes-count at (a .1 .0), (rw entries-count at (a .1 .1 .0), (rw (sym same) at (a .1 .1 .1 .0), (rw fields-count at (a .1 .1 .1 .1 .1 .0), tt)))),
-        )))
+    abbrev total : ℕ
+    total = getD counts 4 0 + length (ss ns)
 
-    module _ (roomy : roomFor b counts bs p tied ≡ true) (few : getD counts 4 0 + length ss ≤ 256) where
-      pub room-there : (getD counts 0 0 < 64) × (getD counts 2 0 < 256) × (tied ≤ 256)
-      unfolding roomFor
-      room-there =
-          let a = every-true _ roomy in
-          (ltb-true (getD counts 0 0) 64 (a .1 .0), ltb-true (getD counts 2 0) 256 (a .1 .1 .0), leb-true tied 256 (a .1 .1 .1 .0))
+    count-is : n ≡ postNotes l ns (noted subtypes (getD counts 4 0)) .count
+    count-is = ap (λ (x : Noted). x .count) e
 
-      limits-pass : every limits ≡ true
-      unfolding roomFor
-      limits-pass =
-          let a = every-true _ roomy in
-          true-every limits (
-            a .0,
-            (
-              rw classes-count (a .1 .0),
-              (
-                rw entries-count (a .1 .1 .0),
-                (rw (sym same) (a .1 .1 .1 .0), (le-leb (length (w .subtypes ++ ss)) 256 (omega (arith, subtypes-count)), (rw fields-count (a .1 .1 .1 .1 .0), tt))),
-              ),
-            ),
-          )
+    noted-few : n ≤ 256 → total ≤ 256
+    unfolding newSubtypesIn
+    noted-few h = go (leb total 256) refl
+      where
+        go : (d : Bool) → leb total 256 ≡ d → total ≤ 256
+        go true q = leb-true total 256 q
+        go false q = absurd (omega (arith, count-is, posted .full (leb-false total 256 q)))
 
-      pub posted-clash : agrees (withClass w k us ss) ≡ false → refused (Word 9) ≡ whole
-      unfolding postedFor need _>>=_
-      posted-clash h = rw (limits-pass, h)
+    fitted : total ≤ 256 → noted v n ≡ noted (writeRows putSubtype (ss ns) (getD counts 4 0) subtypes) total
+    unfolding newSubtypesIn subtypesAfter
+    fitted h = e ∙ posted .fit h
 
-      pub posted-fine : agrees (withClass w k us ss) ≡ true → ok (withClass w k us ss) ≡ whole
-      unfolding postedFor need _>>=_
-      posted-fine h = rw (limits-pass, h)
+    noted-is : n ≤ 256 → n ≡ total
+    noted-is h = ap (λ (x : Noted). x .count) (fitted (noted-few h))
 
-  -- What the copies hold
+    subtypes-cells : n ≤ 256 → v ≡ writeRows putSubtype (ss ns) (getD counts 4 0) subtypes
+    subtypes-cells h = ap (λ (x : Noted). x .table) (fitted (noted-few h))
+
+    subtypes-after : n ≤ 256 → rows (subtypeAt v) n 0 ≡ w .subtypes ++ ss ns
+    subtypes-after h =
+        (λ x. rows (subtypeAt (subtypes-cells h x)) (noted-is h x) 0)
+        ∙ rows-after-more subtype-rows (ss ns) subtypes (getD counts 4 0) (omega (arith, noted-few h, ld .subtypesLong))
+
+    pub posted-full : 256 < n → refused (Word 10) ≡ whole ns
+    posted-full h = past ns (λ q.
+        let few : total ≤ 256 = omega (arith, subtypes-count ns, leb-true (length (w .subtypes ++ ss ns)) 256 (every-true (limits ns) q .1 .1 .1 .1 .0)) in
+        omega (arith, few, ap (λ (x : Noted). x .count) (fitted few)))
+
+  -- The ties, posted to a copy of the table, which has room for more
+
+  pub record TiesMade (u : List ℕ) (tied : ℕ) : Type 0 where
+    pub count : tied ≡ getD counts 3 0 + length us
+    pub cut : take 768 u ≡ writeRows putTie us (getD counts 3 0) ties
+    pub after : tied ≤ 256 → rows (tieAt u) tied 0 ≡ w .ties ++ us
 
   module _ (z t u : List ℕ) (i tied : ℕ) (zl : length z ≡ 816) (et : t ≡ writeRows set ties 0 z) (ei : i ≡ getD counts 3 0)
       (tp : TiesPosted (overrideTies b l p (rows (tieAt t) i 0) (quickMethods bs)) t i u tied) where
@@ -216,57 +195,80 @@ module _ (counts classes kept cache ties subtypes : List ℕ) (ld : Loadable cou
     unfolding quickFile
     new = ap (λ (x : List Tie). overrideTies b l p x (quickMethods bs)) before
 
-    pub tied-is : tied ≡ getD counts 3 0 + length us
+    tied-is : tied ≡ getD counts 3 0 + length us
     tied-is = omega (arith, tp .count, ei, ap length new)
 
     cells : u ≡ writeRows putTie us (getD counts 3 0) t
     cells = tp .cells ∙ (λ x. writeRows putTie (new x) (ei x) t)
 
-    pub ties-cut : take 768 u ≡ writeRows putTie us (getD counts 3 0) ties
-    ties-cut =
-        let cut : take 768 t ≡ ties = ap (take 768) et ∙ rw (ld .tiesLong) at (copy-cut ties z (omega (arith, ld .tiesLong))) in
-        ap (take 768) cells ∙ (take-ties 768 us (getD counts 3 0) t ∙ ap (writeRows putTie us (getD counts 3 0)) cut)
+    pub ties-made : TiesMade u tied
+    ties-made = record {
+      count = tied-is;
+      cut =
+          let cut : take 768 t ≡ ties = ap (take 768) et ∙ rw (ld .tiesLong) at (copy-cut ties z (omega (arith, ld .tiesLong))) in
+          ap (take 768) cells ∙ (take-ties 768 us (getD counts 3 0) t ∙ ap (writeRows putTie us (getD counts 3 0)) cut);
+      after = λ h.
+          let long : length t ≡ 816 = ap length et ∙ (writeRows-length set length-set ties 0 z ∙ zl) in
+          (λ x. rows (tieAt (cells x)) (tied-is x) 0)
+          ∙ (rows-after-more tie-rows us t (getD counts 3 0) (omega (arith, tied-is))
+          ∙ ap (λ (x : List Tie). x ++ us) (ap (λ (x : ℕ). rows (tieAt t) x 0) (sym ei) ∙ before));
+    }
 
-    pub ties-after : tied ≤ 256 → rows (tieAt u) tied 0 ≡ w .ties ++ us
-    ties-after h =
-        let long : length t ≡ 816 = ap length et ∙ (writeRows-length set length-set ties 0 z ∙ zl) in
-        (λ x. rows (tieAt (cells x)) (tied-is x) 0)
-        ∙ (rows-after-more tie-rows us t (getD counts 3 0) (omega (arith, tied-is))
-        ∙ ap (λ (x : List Tie). x ++ us) (ap (λ (x : ℕ). rows (tieAt t) x 0) (sym ei) ∙ before))
+  -- With both copies made
 
-  module _ (z s v : List ℕ) (j : ℕ) (a : Added) (zl : length z ≡ 768) (es : s ≡ writeRows set subtypes 0 z) (ej : j ≡ getD counts 4 0)
-      (ea : a ≡ counted (roomy s) (j + length (newSubtypesIn s j l ns))) (ev : v ≡ notesPosted s j (newSubtypesIn s j l ns)) where
-    same-table : s ≡ subtypes
-    same-table = es ∙ copied subtypes z (ld .subtypesLong ∙ sym zl)
+  module _ (u : List ℕ) (tied : ℕ) (tm : TiesMade u tied) where
+    same : tied ≡ length (w .ties ++ us)
+    same = tm .count ∙ sym ties-count
 
-    new-notes : newSubtypesIn s j l ns ≡ ss
-    unfolding newSubtypesIn
-    new-notes = λ x. newSubtypes (rows (subtypeAt (same-table x)) (ej x) 0) l ns
+    pub posted-roomless : roomFor b counts bs p tied ≡ false → (ns : List Note) → refused (Word 10) ≡ whole ns
+    unfolding roomFor
+    posted-roomless h ns = past ns (λ e.
+        let a = every-true (limits ns) e in
+        false≢true (sym h ∙ true-every _ (
+          a .0,
+          (rw classes-count at (a .1 .0), (rw entries-count at (a .1 .1 .0), (rw (sym same) at (a .1 .1 .1 .0), (rw fields-count at (a .1 .1 .1 .1 .1 .0), tt)))),
+        )))
 
-    wide : roomy s ≡ true
-    unfolding roomy
-    wide = le-leb 768 (length s) (omega (arith, ap length same-table, ld .subtypesLong))
+    module _ (roomy : roomFor b counts bs p tied ≡ true) where
+      pub room-there : (getD counts 0 0 < 64) × (getD counts 2 0 < 256) × (tied ≤ 256)
+      unfolding roomFor
+      room-there =
+          let a = every-true _ roomy in
+          (ltb-true (getD counts 0 0) 64 (a .1 .0), ltb-true (getD counts 2 0) 256 (a .1 .1 .0), leb-true tied 256 (a .1 .1 .1 .0))
 
-    answer : a ≡ counted true (getD counts 4 0 + length ss)
-    answer = ea ∙ (λ x. counted (wide x) (ej x + length (new-notes x)))
+      module _ (v : List ℕ) (n : ℕ) (h : n ≤ 256) (ns : List Note) (e : NotesPosted ns l subtypes (getD counts 4 0) v n) where
+        limits-pass : every (limits ns) ≡ true
+        unfolding roomFor
+        limits-pass =
+            let a = every-true _ roomy in
+            true-every (limits ns) (
+              a .0,
+              (
+                rw classes-count (a .1 .0),
+                (
+                  rw entries-count (a .1 .1 .0),
+                  (rw (sym same) (a .1 .1 .1 .0), (le-leb (length (w .subtypes ++ ss ns)) 256 (omega (arith, subtypes-count ns, noted-few v n ns e h)), (rw fields-count (a .1 .1 .1 .1 .0), tt))),
+                ),
+              ),
+            )
 
-    pub noted-full : a ≡ Full → 256 < getD counts 4 0 + length ss
-    noted-full h = full-many (getD counts 4 0 + length ss) (sym answer ∙ h)
+        copies : world (baseWith b k) (rows (tieAt u) tied 0) (rows (subtypeAt v) n 0) ≡ withClass w k us (ss ns)
+        copies = λ i. world (baseWith b k) (tm .after (room-there .2) i) (subtypes-after v n ns e h i)
 
-    module _ (n : ℕ) (h : a ≡ Count n) where
-      pub noted-few : (getD counts 4 0 + length ss ≤ 256) × (n ≡ getD counts 4 0 + length ss)
-      noted-few = count-few (getD counts 4 0 + length ss) n (sym answer ∙ h)
+        pub posted-clash : agrees (world (baseWith b k) (rows (tieAt u) tied 0) (rows (subtypeAt v) n 0)) ≡ false → refused (Word 9) ≡ whole ns
+        unfolding postedFor need _>>=_
+        posted-clash q = rw (limits-pass, ap agrees (sym copies) ∙ q)
 
-      pub subtypes-cells : v ≡ writeRows putSubtype ss (getD counts 4 0) subtypes
-      unfolding notesPosted subtypesAfter
-      subtypes-cells =
-          ev ∙ (rw (wide, notesPosted) ((λ x. writeRows putSubtype (take (257 - ej x) (new-notes x)) (ej x) (same-table x))
-          ∙ ap (λ (x : List Subtype). writeRows putSubtype x (getD counts 4 0) subtypes) (take-all (257 - getD counts 4 0) ss (omega (arith, noted-few .0)))))
-
-      pub subtypes-after : rows (subtypeAt v) n 0 ≡ w .subtypes ++ ss
-      subtypes-after =
-          (λ x. rows (subtypeAt (subtypes-cells x)) (noted-few .1 x) 0)
-          ∙ rows-after-more subtype-rows ss subtypes (getD counts 4 0) (omega (arith, noted-few .0, ld .subtypesLong))
-
-      pub subtypes-long : length v ≡ length z
-      subtypes-long = ap length subtypes-cells ∙ (writeRows-length putSubtype (subtype-rows .long) ss (getD counts 4 0) subtypes ∙ (ld .subtypesLong ∙ sym zl))
+        pub posted-fine : agrees (world (baseWith b k) (rows (tieAt u) tied 0) (rows (subtypeAt v) n 0)) ≡ true → Adding (whole ns) w k counts ties subtypes u v l tied n
+        unfolding postedFor need _>>=_
+        posted-fine q = record {
+          loader = refl;
+          ties = us;
+          subtypes = ss ns;
+          whole = rw (limits-pass, ap agrees (sym copies) ∙ q);
+          tied = tm .count;
+          noted = noted-is v n ns e h;
+          few = (room-there .2, h);
+          tieCells = tm .cut;
+          subtypeCells = subtypes-cells v n ns e h;
+        }

@@ -1,6 +1,6 @@
 -- define, test by test: what each refusal says of the definition.
 use mathlib.Core.Path.{_≡_, refl, sym, ap, _∙_}
-use mathlib.Core.Bool.{Bool, true, false, true≢false}
+use mathlib.Core.Bool.{Bool, true, false, not, true≢false}
 use mathlib.Core.Option.{Option, none, some}
 use mathlib.Core.List.{List}
 use Prim.Native.Nat.{ℕ, _≤_, _<_}
@@ -10,27 +10,24 @@ use Rattle.definition.specs.declared.Signature.{Signature}
 use Rattle.definition.specs.declared.Refusal.{Refusal}
 use Rattle.definition.specs.declared.Refusal.the-variants.{Wanted, Word}
 use borrow.Author.Tests.{lt-ltb, le-ltb}
-use Rattle.definition.specs.Lists.{any, isNone, isSome, rows, writeRows}
+use Rattle.definition.specs.Lists.{any, isNone, isSome}
 use Rattle.definition.specs.Requests.{at}
 use Rattle.definition.specs.Classes.{Base, Class, find}
 use Rattle.definition.specs.Constraints.{World}
-use Rattle.definition.specs.Instructions.{pick}
 use Rattle.definition.specs.Verifier.{Note}
 use Rattle.definition.specs.File.{File, readFile, classOf}
 use Rattle.definition.specs.Answers.{wanted, Result, refused, ok, _>>=_, need, take?}
 use Rattle.definition.specs.Loading.{hides}
 use Rattle.laws.specs.Results.{bind-ok, ok-inj, take-ok}
-use Rattle.layout.specs.Cells.{rows-back}
 use Rattle.classfile.specs.declared.MethodFound.{MethodFound}
-use Rattle.classfile.specs.Reading.{methodCount, methodPlace, methodIn, methodAt, methodFound, numbered, quickFile}
+use Rattle.classfile.specs.Reading.{fileVersion, methodCount, methodPlace, methodIn, methodAt, methodFound, numbered, quickMethods, quickFile}
 use Rattle.classfile.specs.Searches.{numbered-in, method-at, method-absent}
 use Rattle.classfile.specs.Laws.{reads-some}
-use Rattle.verifier.specs.declared.methods.Verified.{Verified}
-use Rattle.verifier.specs.declared.methods.Verified.the-variants.{Notes, Rejected}
-use Rattle.verifier.specs.Trace.{Verification, verification, verified, classTrace, acceptedNotes, granted, putNote, noteAt as noteIn}
-use Rattle.verifier.proofs.NoteLaws.{note-rows}
-use Rattle.verifier.proofs.ClassLaws.{class-few, class-says}
-use Rattle.constraints.specs.Posting.{noteAt}
+use Rattle.verifier.specs.Lookups.{unmappedIn}
+use Rattle.verifier.specs.Trace.{verification, posting, classTrace, acceptedNotes, granted}
+use Rattle.verifier.proofs.PostingLaws.{answer-says}
+use Rattle.verifier.proofs.ClassLaws.{class-says, unmapped-says}
+use Rattle.constraints.specs.Posting.{Noted}
 use Rattle.defining.specs.declared.constraining.Defining.{Defining}
 use Rattle.defining.specs.Stages.{superFor, postedFor, placedFor, definedFrom, define-stages, Decided}
 
@@ -114,47 +111,6 @@ decided-same (Defining.Add l i j) n t s u v w k e h = record {
   subtypeCells = h .subtypeCells;
 }
 
--- The file, as it is read and verified: a is the verifier's answer and t its table of notes
-
-module _ (bs : List ℕ) (e : isSome (readFile bs) ≡ true) where
-  read : readFile bs ≡ some (quickFile bs)
-  read = reads-some bs e
-
-  module _ (a : Verified) (t z : List ℕ) (long : length z ≡ 8192) (v : verification a t ≡ verified 0 (classTrace bs) z) where
-    answer : a ≡ pick (classTrace bs .accepts) (Notes (length (classTrace bs .notes))) Rejected
-    unfolding verified
-    answer = ap (λ (x : Verification). x .answer) v
-
-    table : t ≡ writeRows putNote (classTrace bs .notes) 0 z
-    unfolding verified
-    table = ap (λ (x : Verification). x .table) v
-
-    rejects : a ≡ Rejected → classTrace bs .accepts ≡ false
-    unfolding pick
-    rejects q = go (classTrace bs .accepts) (sym answer ∙ q)
-      where
-        go : (b : Bool) → pick b (Notes (length (classTrace bs .notes))) Rejected ≡ Rejected → b ≡ false
-        go true r = cc
-        go false r = refl
-
-    module _ (n : ℕ) (q : a ≡ Notes n) where
-      accepts : (classTrace bs .accepts ≡ true) × (n ≡ length (classTrace bs .notes))
-      unfolding pick
-      accepts = go (classTrace bs .accepts) (sym answer ∙ q)
-        where
-          go : (b : Bool) → pick b (Notes (length (classTrace bs .notes))) Rejected ≡ Notes n → (b ≡ true) × (n ≡ length (classTrace bs .notes))
-          go true r = (refl, cc)
-          go false r = absurd (let o : _≡_ {A = ℕ} 0 1 = cc in omega arith)
-
-      pub notes-few : n ≤ 4096
-      notes-few = omega (arith, accepts .1, class-few bs (quickFile bs) read)
-
-      notes-are : rows (noteAt t) n 0 ≡ classTrace bs .notes
-      unfolding noteAt noteIn
-      notes-are =
-          (λ i. rows (noteIn (table i)) (accepts .1 i) 0)
-          ∙ rows-back note-rows (classTrace bs .notes) z (omega (arith, class-few bs (quickFile bs) read))
-
 -- The call on the world
 
 module _ (l : ℕ) (bs : List ℕ) (room : Bool) (w : World) where
@@ -172,18 +128,27 @@ module _ (l : ℕ) (bs : List ℕ) (room : Bool) (w : World) where
         not-some (some f) q = absurd (true≢false q)
 
     module _ (e : isSome (readFile bs) ≡ true) where
-      stages : definedFrom l bs room w ≡ (take? (acceptedNotes (classTrace bs)) (Word 6) >>= λ ns. placedFor room (classOf l (quickFile bs)) w ns)
-      unfolding definedFrom need take? _>>=_ placedFor
+      read : readFile bs ≡ some (quickFile bs)
+      read = reads-some bs e
+
+      stages : definedFrom l bs room w
+          ≡ (need (not (any (unmappedIn (fileVersion bs)) (quickMethods bs))) (Word 15) >>= λ _.
+          take? (acceptedNotes (classTrace bs)) (Word 6) >>= λ ns. placedFor room (classOf l (quickFile bs)) w ns)
+      unfolding definedFrom placedFor need take? _>>=_ quickFile
       stages =
-          rw (lt-ltb l 16 h, read bs e) (define-stages room (classOf l (quickFile bs)) w
-          ∙ ap (λ (o : Option (List Note)). take? o (Word 6) >>= λ ns. placedFor room (classOf l (quickFile bs)) w ns) (class-says l bs (quickFile bs) (read bs e)))
+          rw (lt-ltb l 16 h, read) (define-stages room (classOf l (quickFile bs)) w
+          ∙ (λ i. need (not (unmapped-says l bs (quickFile bs) read i)) (Word 15) >>= λ _.
+          take? (class-says l bs (quickFile bs) read i) (Word 6) >>= λ ns. placedFor room (classOf l (quickFile bs)) w ns))
 
-      module _ (a : Verified) (t z : List ℕ) (long : length z ≡ 8192) (v : verification a t ≡ verified 0 (classTrace bs) z) where
-        pub unverified : a ≡ Rejected → refused (Word 6) ≡ definedFrom l bs room w
-        unfolding acceptedNotes granted take? _>>=_
-        unverified q = sym (stages ∙ rw (rejects bs e a t z long v q))
+      pub unmapped-there : any (unmappedIn (fileVersion bs)) (quickMethods bs) ≡ true → refused (Word 15) ≡ definedFrom l bs room w
+      unfolding need _>>=_
+      unmapped-there u = sym (stages ∙ rw u refl)
 
-        pub verified-as : (n : ℕ) → a ≡ Notes n → placedFor room (classOf l (quickFile bs)) w (rows (noteAt t) n 0) ≡ definedFrom l bs room w
-        unfolding acceptedNotes granted take? _>>=_
-        verified-as n q =
-            ap (placedFor room (classOf l (quickFile bs)) w) (notes-are bs e a t z long v n q) ∙ sym (stages ∙ rw (accepts bs e a t z long v n q .0))
+      module _ (u : any (unmappedIn (fileVersion bs)) (quickMethods bs) ≡ false) (a : Bool) (r k : Noted) (v : verification a r ≡ posting l (classTrace bs) k) where
+        pub unverified : a ≡ false → refused (Word 6) ≡ definedFrom l bs room w
+        unfolding need take? granted _>>=_
+        unverified q = sym (stages ∙ rw (u, answer-says l (classTrace bs) k r a v, q) refl)
+
+        pub verified-as : a ≡ true → placedFor room (classOf l (quickFile bs)) w (classTrace bs .notes) ≡ definedFrom l bs room w
+        unfolding need take? granted _>>=_
+        verified-as q = sym (stages ∙ rw (u, answer-says l (classTrace bs) k r a v, q) refl)

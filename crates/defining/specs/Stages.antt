@@ -1,5 +1,5 @@
 -- define in stages, each of which may refuse: what a function of its own decides.
-use mathlib.Core.Path.{_≡_, refl}
+use mathlib.Core.Path.{_≡_, refl, ap}
 use mathlib.Core.Bool.{Bool, true, false, not}
 use mathlib.Core.Option.{Option, none, some}
 use mathlib.Core.List.{List, [], _∷_, _++_}
@@ -11,7 +11,7 @@ use Rattle.definition.specs.Lists.{every, any, isNone, writeRows}
 use Rattle.definition.specs.Requests.{at}
 use Rattle.definition.specs.Classes.{Base, Class, find, slots}
 use Rattle.definition.specs.Constraints.{World, Tie, Subtype, agrees}
-use Rattle.definition.specs.Verifier.{Note, notesOf}
+use Rattle.definition.specs.Verifier.{Note, unmapped, notesOf}
 use Rattle.definition.specs.declared.Refusal.the-variants.{Word}
 use Rattle.definition.specs.Answers.{wanted, Result, refused, ok, _>>=_, need, take?}
 use Rattle.definition.specs.File.{readFile, classOf}
@@ -64,9 +64,10 @@ abbrev pub newNotes : Class → World → List Note → List Subtype
 newNotes k w ns = newSubtypes (w .subtypes) (k .loader) ns
 
 pub define-stages : (room : Bool) (k : Class) (w : World)
-    → define room k w ≡ (take? (notesOf k (k .methods)) (Word 6) >>= λ ns. superFor k (w .base) >>= λ p. postedFor room k w ns p)
+    → define room k w
+    ≡ (need (not (any (unmapped k) (k .methods))) (Word 15) >>= λ _. take? (notesOf k (k .methods)) (Word 6) >>= λ ns. superFor k (w .base) >>= λ p. postedFor room k w ns p)
 unfolding define superFor postedFor _>>=_ need take?
-define-stages room k w = go (notesOf k (k .methods)) (isNone (find (w .base .cache) (at (k .loader) (k .name)))) (find (w .base .cache) (at (k .loader) (k .super)))
+define-stages room k w = ap (λ (r : Result World). need (not (any (unmapped k) (k .methods))) (Word 15) >>= λ _. r) (go (notesOf k (k .methods)) (isNone (find (w .base .cache) (at (k .loader) (k .name)))) (find (w .base .cache) (at (k .loader) (k .super))))
   where
     go : (o : Option (List Note)) (a : Bool) (q : Option ℕ)
         → (take? o (Word 6) >>= λ ns. need a (Word 4) >>= λ _. take? q (wanted (at (k .loader) (k .super))) >>= λ p.

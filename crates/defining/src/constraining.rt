@@ -1,8 +1,6 @@
 // The constraints of a class that is to be defined: limits, then agreement.
 use crate::overrides::post_methods;
 use cells::at16;
-use constraints::Added;
-use constraints::add_subtypes;
 use definition::Refusal;
 use definition::numbers::CACHE_LENGTH;
 use definition::numbers::CACHE_LIMIT;
@@ -10,20 +8,21 @@ use definition::numbers::CLASS_LIMIT;
 use definition::numbers::COUNT_CACHE;
 use definition::numbers::COUNT_CLASSES;
 use definition::numbers::COUNT_KEPT;
-use definition::numbers::COUNT_SUBTYPES;
 use definition::numbers::COUNT_TIES;
 use definition::numbers::FIELD_LIMIT;
 use definition::numbers::KEPT_LENGTH;
 use definition::numbers::OWNERS_CELL;
+use definition::numbers::SUBTYPE_LIMIT;
 use definition::numbers::TIE_LIMIT;
 use definition::numbers::WORD_CLASH;
 use definition::numbers::WORD_FULL;
 ghost use mathlib.Core.Path.{_≡_};
 ghost use mathlib.Core.Option.{some};
+ghost use mathlib.Core.List.{List};
 ghost use Prim.Native.Nat.{_+_, _<_, _≤_};
 ghost use lib.ListN.{length, getD};
 ghost use lib.Dec.{leb};
-ghost use Rattle.definition.specs.Numbers.{classLimit, keptLimit, cacheLimit, tieLimit, subtypeLimit, fileLimit, memberLimit, countClasses, countKept, countCache, subtypesLength};
+ghost use Rattle.definition.specs.Numbers.{classLimit, keptLimit, cacheLimit, tieLimit, subtypeLimit, fileLimit, memberLimit, countClasses, countKept, countCache, countSubtypes};
 ghost use Rattle.definition.specs.Lists.{rows};
 ghost use Rattle.definition.specs.Tables.{tieAt, subtypeAt};
 ghost use Rattle.definition.specs.Requests.{at};
@@ -32,9 +31,9 @@ ghost use Rattle.definition.specs.Classes.{find};
 ghost use Rattle.definition.specs.File.{classOf};
 ghost use Rattle.classfile.specs.Reading.{superName, methodCount, quickFile};
 ghost use Rattle.resolution.specs.Quick.{quickBase};
-ghost use Rattle.constraints.specs.Posting.{noteAt};
+ghost use Rattle.definition.specs.Verifier.{Note};
 ghost use Rattle.entries.specs.World.{worldIn, world, baseWith, Searchable, Loadable};
-ghost use Rattle.defining.specs.Posting.{triedTiesLength};
+ghost use Rattle.defining.specs.Posting.{triedTiesLength, NotesPosted};
 ghost use Rattle.defining.specs.Stages.{roomFor, postedFor, Decided};
 
 // What is decided of a class: it is refused, or it is to be added with this loader and so many ties and subtype constraints in all.
@@ -115,7 +114,8 @@ fn class_agrees(
     )
 }
 
-// The constraints of the file's class, below p, posted to copies: limits, then agreement.
+// The constraints of the file's class, below p: limits, then agreement. Its ties are posted to a copy of theirs; its notes stand in a copy of the
+// subtype constraints already, which has so many rows with them.
 pub(crate) fn decide_constraints(
     counts: &[u16],
     classes: &[u16],
@@ -126,16 +126,14 @@ pub(crate) fn decide_constraints(
     loader: u8,
     file: &[u8],
     p: u32,
-    notes: &[u16],
-    note_count: u16,
     new_ties: &mut [u16],
-    new_subtypes: &mut [u16],
+    new_subtypes: &[u16],
+    noted: u16,
 ) -> Defining
-    requires { ⌜ Loadable (now counts) (now classes) (now kept) (now cache) (now ties) (now subtypes) × (length (now file) ≤ fileLimit) × (methodCount (now file) ≤ memberLimit) × (length (now «new_ties») ≡ triedTiesLength) × (length (now «new_subtypes») ≡ subtypesLength) × (find (quickBase (now counts) (now classes) (now kept) (now cache) .cache) (at loader (superName (now file))) ≡ some p) ⌝ }
-    ensures { λ r. ⌜ Decided r (postedFor (leb (getD (now (counts .entry)) countKept 0 + length (now (file .entry))) keptLimit) (classOf loader (quickFile (now (file .entry)))) (worldIn (now (counts .entry)) (now (classes .entry)) (now (kept .entry)) (now (cache .entry)) (now (ties .entry)) (now (subtypes .entry))) (rows (noteAt (now (notes .entry))) «note_count» 0) p) (now (counts .entry)) (now (ties .entry)) (now (subtypes .entry)) (now («new_ties» .exit)) (now («new_subtypes» .exit)) (worldIn (now (counts .entry)) (now (classes .entry)) (now (kept .entry)) (now (cache .entry)) (now (ties .entry)) (now (subtypes .entry))) (classOf loader (quickFile (now (file .entry)))) ⌝ }
+    requires { ⌜ Loadable (now counts) (now classes) (now kept) (now cache) (now ties) (now subtypes) × (length (now file) ≤ fileLimit) × (methodCount (now file) ≤ memberLimit) × (length (now «new_ties») ≡ triedTiesLength) × (find (quickBase (now counts) (now classes) (now kept) (now cache) .cache) (at loader (superName (now file))) ≡ some p) ⌝ }
+    ensures { λ r. ⌜ ((ns : List Note) → NotesPosted ns loader (now (subtypes .entry)) (getD (now (counts .entry)) countSubtypes 0) (now («new_subtypes» .entry)) noted → Decided r (postedFor (leb (getD (now (counts .entry)) countKept 0 + length (now (file .entry))) keptLimit) (classOf loader (quickFile (now (file .entry)))) (worldIn (now (counts .entry)) (now (classes .entry)) (now (kept .entry)) (now (cache .entry)) (now (ties .entry)) (now (subtypes .entry))) ns p) (now (counts .entry)) (now (ties .entry)) (now (subtypes .entry)) (now («new_ties» .exit)) (now («new_subtypes» .entry)) (worldIn (now (counts .entry)) (now (classes .entry)) (now (kept .entry)) (now (cache .entry)) (now (ties .entry)) (now (subtypes .entry))) (classOf loader (quickFile (now (file .entry))))) ⌝ }
 {
     entries::write_cells(new_ties, 0, ties);
-    entries::write_cells(new_subtypes, 0, subtypes);
     let tied = post_methods(
         counts,
         classes,
@@ -147,16 +145,9 @@ pub(crate) fn decide_constraints(
         p,
         file,
     );
-    let added = add_subtypes(
-        new_subtypes,
-        at16(counts, COUNT_SUBTYPES),
-        loader,
-        notes,
-        note_count,
-    );
-    let Added::Count(noted) = added else {
+    if SUBTYPE_LIMIT < noted {
         return Defining::Refuse(Refusal::Word(WORD_FULL));
-    };
+    }
     if !has_room(counts, classes, kept, cache, p, file, tied) {
         return Defining::Refuse(Refusal::Word(WORD_FULL));
     }

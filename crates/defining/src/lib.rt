@@ -10,10 +10,9 @@ use definition::Reply;
 use definition::numbers::COUNT_CACHE;
 use definition::numbers::COUNT_CLASSES;
 use definition::numbers::COUNT_KEPT;
-use definition::numbers::FILE_LIMIT;
+use definition::numbers::COUNT_SUBTYPES;
 use definition::numbers::LOADER_LIMIT;
 use definition::numbers::MEMBER_LIMIT;
-use definition::numbers::NOTE_CELLS;
 use definition::numbers::ROW_CELLS;
 use definition::numbers::SUBTYPES_LENGTH;
 use definition::numbers::TIE_LIMIT;
@@ -21,33 +20,30 @@ use definition::numbers::TIES_LENGTH;
 use definition::numbers::WORD_BROKEN;
 use definition::numbers::WORD_FILE;
 use definition::numbers::WORD_UNKNOWN;
+use definition::numbers::WORD_UNMAPPED;
 use definition::numbers::WORD_UNVERIFIED;
 use superclasses::Above;
 use superclasses::find_super;
-use verifier::Verified;
 ghost use mathlib.Core.Path.{_≡_};
+ghost use mathlib.Core.List.{List};
 ghost use Prim.Native.Nat.{_+_, _≤_};
 ghost use lib.ListN.{length, getD};
 ghost use lib.Dec.{leb};
-ghost use Rattle.definition.specs.Numbers.{keptLimit, fileLimit, memberLimit, countKept, subtypesLength};
-ghost use Rattle.definition.specs.Lists.{rows};
+ghost use Rattle.definition.specs.Numbers.{keptLimit, fileLimit, memberLimit, countKept, countSubtypes, subtypesLength};
 ghost use Rattle.definition.specs.Tables.{tables};
 ghost use Rattle.definition.specs.Calls.{done, callDefine, perform};
 ghost use Rattle.definition.specs.File.{classOf};
 ghost use Rattle.classfile.specs.Reading.{methodCount, quickFile};
-ghost use Rattle.constraints.specs.Posting.{noteAt};
+ghost use Rattle.definition.specs.Verifier.{Note};
 ghost use Rattle.entries.specs.World.{worldIn, Loadable};
-ghost use Rattle.defining.specs.Posting.{triedTiesLength};
+ghost use Rattle.defining.specs.Posting.{triedTiesLength, NotesPosted};
 ghost use Rattle.defining.specs.Stages.{placedFor, Decided};
 ghost use Rattle.defining.specs.Writing.{Planned};
-
-// The verifier makes at most one note for each byte of a file.
-const NOTES_LENGTH: usize = FILE_LIMIT * NOTE_CELLS;
 
 // Cells for all ties that may be there and two more for each method of a file.
 const TRIED_TIES_LENGTH: usize = (TIE_LIMIT as usize + 2 * MEMBER_LIMIT as usize) * ROW_CELLS;
 
-// The superclass, then the constraints, of a file that was read and verified.
+// The superclass, then the constraints, of a file that was read and verified, and whose notes stand in a copy of the subtype constraints.
 fn decide_class(
     counts: &[u16],
     classes: &[u16],
@@ -57,13 +53,12 @@ fn decide_class(
     subtypes: &[u16],
     loader: u8,
     file: &[u8],
-    notes: &[u16],
-    note_count: u16,
     new_ties: &mut [u16],
-    new_subtypes: &mut [u16],
+    new_subtypes: &[u16],
+    noted: u16,
 ) -> Defining
-    requires { ⌜ Loadable (now counts) (now classes) (now kept) (now cache) (now ties) (now subtypes) × (length (now file) ≤ fileLimit) × (methodCount (now file) ≤ memberLimit) × (length (now «new_ties») ≡ triedTiesLength) × (length (now «new_subtypes») ≡ subtypesLength) ⌝ }
-    ensures { λ r. ⌜ Decided r (placedFor (leb (getD (now (counts .entry)) countKept 0 + length (now (file .entry))) keptLimit) (classOf loader (quickFile (now (file .entry)))) (worldIn (now (counts .entry)) (now (classes .entry)) (now (kept .entry)) (now (cache .entry)) (now (ties .entry)) (now (subtypes .entry))) (rows (noteAt (now (notes .entry))) «note_count» 0)) (now (counts .entry)) (now (ties .entry)) (now (subtypes .entry)) (now («new_ties» .exit)) (now («new_subtypes» .exit)) (worldIn (now (counts .entry)) (now (classes .entry)) (now (kept .entry)) (now (cache .entry)) (now (ties .entry)) (now (subtypes .entry))) (classOf loader (quickFile (now (file .entry)))) ⌝ }
+    requires { ⌜ Loadable (now counts) (now classes) (now kept) (now cache) (now ties) (now subtypes) × (length (now file) ≤ fileLimit) × (methodCount (now file) ≤ memberLimit) × (length (now «new_ties») ≡ triedTiesLength) ⌝ }
+    ensures { λ r. ⌜ ((ns : List Note) → NotesPosted ns loader (now (subtypes .entry)) (getD (now (counts .entry)) countSubtypes 0) (now («new_subtypes» .entry)) noted → Decided r (placedFor (leb (getD (now (counts .entry)) countKept 0 + length (now (file .entry))) keptLimit) (classOf loader (quickFile (now (file .entry)))) (worldIn (now (counts .entry)) (now (classes .entry)) (now (kept .entry)) (now (cache .entry)) (now (ties .entry)) (now (subtypes .entry))) ns) (now (counts .entry)) (now (ties .entry)) (now (subtypes .entry)) (now («new_ties» .exit)) (now («new_subtypes» .entry)) (worldIn (now (counts .entry)) (now (classes .entry)) (now (kept .entry)) (now (cache .entry)) (now (ties .entry)) (now (subtypes .entry))) (classOf loader (quickFile (now (file .entry))))) ⌝ }
 {
     let above = find_super(counts, classes, kept, cache, loader, file);
     match above {
@@ -78,10 +73,9 @@ fn decide_class(
             loader,
             file,
             p,
-            notes,
-            note_count,
             new_ties,
             new_subtypes,
+            noted,
         ),
     }
 }
@@ -122,10 +116,16 @@ fn decide_define(
     if !classfile::reads(file) {
         return Defining::Refuse(Refusal::Word(WORD_FILE));
     }
-    let mut notes = [0u16; NOTES_LENGTH];
-    let Verified::Notes(n) = verifier::verify_class(file, &mut notes) else {
+    if verifier::is_class_unmapped(file) {
+        return Defining::Refuse(Refusal::Word(WORD_UNMAPPED));
+    }
+    entries::write_cells(new_subtypes, 0, subtypes);
+    let under = loader as u8;
+    let count = cells::at16(counts, COUNT_SUBTYPES);
+    let verified = verifier::verify_class(file, under, new_subtypes, count);
+    if !verified.accepts {
         return Defining::Refuse(Refusal::Word(WORD_UNVERIFIED));
-    };
+    }
     decide_class(
         counts,
         classes,
@@ -133,17 +133,16 @@ fn decide_define(
         cache,
         ties,
         subtypes,
-        loader as u8,
+        under,
         file,
-        &notes,
-        n as u16,
         new_ties,
         new_subtypes,
+        verified.count,
     )
 }
 
 // A class is added, with its defining loader, from its file, and cached under its own request. Answers its number.
-// Refusals: 1 3 2 6 4 5 8 10 9
+// Refusals: 1 3 2 15 6 4 5 8 10 9
 pub fn define(
     counts: &mut [u16],
     classes: &mut [u16],

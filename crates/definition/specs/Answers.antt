@@ -19,6 +19,13 @@ pub use Rattle.definition.specs.declared.Details.{Details}
 unfoldable pub signed : ℕ → ℤ
 signed n = elim (ltb n signBit) [ true ↦ pos n | false ↦ negsuc (intRange - 1 - n) ]
 
+-- as ints, a is less than b
+unfoldable pub less : ℤ → ℤ → Bool
+less (pos m) (pos n) = ltb m n
+less (pos m) (negsuc n) = false
+less (negsuc m) (pos n) = true
+less (negsuc m) (negsuc n) = ltb n m
+
 -- Words of refusal by number
 
 abbrev pub wanted : Request → Refusal

@@ -6,7 +6,7 @@ use mathlib.Core.List.{List, [], _∷_, _++_}
 use Prim.Native.Nat.{ℕ, zero, suc, _+_}
 use lib.ListN.{length}
 use lib.Dec.{leb, ltb}
-use Rattle.definition.specs.Numbers.{wordBroken, wordFile, wordUnknown, wordTaken, wordWanted, wordUnverified, wordAbsent, wordHidden, wordClash, wordFull, wordNull, wordBusy, wordMisnamed, wordStuck, nameObject, loaderLimit, taskLimit, keptLimit, runLimit}
+use Rattle.definition.specs.Numbers.{wordBroken, wordFile, wordUnknown, wordTaken, wordWanted, wordUnverified, wordAbsent, wordHidden, wordClash, wordFull, wordNull, wordBusy, wordMisnamed, wordStuck, wordUnmapped, nameObject, loaderLimit, taskLimit, keptLimit, runLimit}
 use Rattle.definition.specs.Constraints.{World}
 use Rattle.definition.specs.Answers.{Refusal, Word, Answer, Idle, Ran, Finished, Refused, Reply, Accepted, Defined, Stepped, RanFor, Swept, Denied, Result, refused, ok, _>>=_, need, take?}
 use Rattle.definition.specs.Machine.{Frame, Progress, step}
@@ -42,7 +42,7 @@ addEntry r w = withCache (w .base .cache) r
 abbrev pub progressed : ℕ → Rows → Progress → Rows
 progressed k r o = withFrames k (o .frames) (withObjects (o .objects) (withTies (o .world .ties) r))
 
--- define. Refusals: 3 2 6 4 5 8 10 9
+-- define. Refusals: 3 2 15 6 4 5 8 10 9
 unfoldable pub defineRows : ℕ → List ℕ → Rows → Result (Given Reply)
 defineRows l bs r =
     need (ltb l loaderLimit) (Word wordUnknown) >>= λ _. take? (readFile bs) (Word wordFile) >>= λ f.
@@ -180,7 +180,7 @@ stepRefusals = wordBroken ∷ wordStuck ∷ wordWanted ∷ wordAbsent ∷ wordFu
 
 -- those of a call on rows come after 'broken'
 unfoldable pub rowRefusals : RowCall → List ℕ
-rowRefusals (rowDefine l bs) = wordUnknown ∷ wordFile ∷ wordUnverified ∷ wordTaken ∷ wordWanted ∷ wordHidden ∷ wordFull ∷ wordClash ∷ []
+rowRefusals (rowDefine l bs) = wordUnknown ∷ wordFile ∷ wordUnmapped ∷ wordUnverified ∷ wordTaken ∷ wordWanted ∷ wordHidden ∷ wordFull ∷ wordClash ∷ []
 rowRefusals (rowRecord l n c) = wordUnknown ∷ wordMisnamed ∷ wordTaken ∷ wordFull ∷ wordClash ∷ []
 rowRefusals (rowStart k l n m v) = wordUnknown ∷ wordBusy ∷ wordWanted ∷ wordAbsent ∷ wordFull ∷ []
 rowRefusals (rowDrop k) = wordUnknown ∷ []

@@ -28,9 +28,17 @@ signatureTypes s = s .argument ∷ s .result ∷ []
 unfoldable pub isNamed : Signature → Bool
 isNamed s = leb 1 (s .name) && leb 1 (s .argument) && leb 1 (s .result)
 
+-- A map, the paper's word for a stack map frame: the types that a file gives a point of its code. The offset from the start of the code; the types of the eight
+-- locals, 0 for unset; those of the operands, from the lowest.
+pub record Map : Type 0 where
+  pub offset : ℕ
+  pub locals : List ℕ
+  pub operands : List ℕ
+
 pub record Method : Type 0 where
   pub signature : Signature
   pub code : List ℕ
+  pub maps : List Map
 
 -- `loader` is its defining loader, `version` its file's, `super` its superclass's name
 pub record Class : Type 0 where

@@ -5,10 +5,10 @@ use mathlib.Core.List.{List, [], _∷_}
 use Prim.Native.Nat.{ℕ, zero, suc, _+_, _*_}
 use lib.ListN.{length, take, drop}
 use lib.Dec.{eqb, leb}
-use Rattle.definition.specs.Numbers.{nameObject, versionOne, fileLimit, memberLimit, codeLimit, byteRange}
+use Rattle.definition.specs.Numbers.{nameObject, operandLimit, localCount, versionOne, versionTwo, fileLimit, memberLimit, codeLimit, byteRange}
 use Rattle.definition.specs.Lists.{doubled}
 use Rattle.definition.specs.Maybe.{_>>=_, need}
-use Rattle.definition.specs.Classes.{Signature, signature, Class, Field, Method, alike}
+use Rattle.definition.specs.Classes.{Signature, signature, Class, Field, Map, Method, alike}
 
 pub record File : Type 0 where
   pub version : ℕ
@@ -49,14 +49,36 @@ fieldsIn (suc k) bs =
 unfoldable pub signatureIn : List ℕ → Option (Got Signature)
 signatureIn bs = name 1 bs >>= λ n. name 1 (n .more) >>= λ a. name 1 (a .more) >>= λ r. some (record { value = signature (n .value) (a .value) (r .value); more = r .more })
 
--- for each method its signature, code length (1 to 512), code
-unfoldable pub methodsIn : ℕ → List ℕ → Option (Got (List Method))
-methodsIn zero bs = some (record { value = []; more = bs })
-methodsIn (suc k) bs =
+-- k types of at least n
+unfoldable pub namesIn : ℕ → ℕ → List ℕ → Option (Got (List ℕ))
+namesIn n zero bs = some (record { value = []; more = bs })
+namesIn n (suc k) bs = name n bs >>= λ t. namesIn n k (t .more) >>= λ ts. some (record { value = t .value ∷ ts .value; more = ts .more })
+
+-- a map: its offset, which is o or more, eight local types, a byte with the operand count, 0 to 16, operand types, none 0
+unfoldable pub mapIn : ℕ → List ℕ → Option (Got Map)
+mapIn o bs =
+    name o bs >>= λ p. namesIn 0 localCount (p .more) >>= λ ls.
+    byte (ls .more) >>= λ d. need (leb (d .value) operandLimit) >>= λ _. namesIn 1 (d .value) (d .more) >>= λ os.
+    some (record { value = record { offset = p .value; locals = ls .value; operands = os .value }; more = os .more })
+
+-- k maps by rising offset, the first at o or later
+unfoldable pub mapsFrom : ℕ → ℕ → List ℕ → Option (Got (List Map))
+mapsFrom o zero bs = some (record { value = []; more = bs })
+mapsFrom o (suc k) bs =
+    mapIn o bs >>= λ m. mapsFrom (suc (m .value .offset)) k (m .more) >>= λ ms. some (record { value = m .value ∷ ms .value; more = ms .more })
+
+-- from version 2 on a byte with the count of maps, then the maps; version 1 has none
+unfoldable pub mapsIn : ℕ → List ℕ → Option (Got (List Map))
+mapsIn version bs = elim (leb versionTwo version) [ true ↦ byte bs >>= λ k. mapsFrom 0 (k .value) (k .more) | false ↦ some (record { value = []; more = bs }) ]
+
+-- for each method its signature, code length (1 to 512), code, maps
+unfoldable pub methodsIn : ℕ → ℕ → List ℕ → Option (Got (List Method))
+methodsIn version zero bs = some (record { value = []; more = bs })
+methodsIn version (suc k) bs =
     signatureIn bs >>= λ s. short (s .more) >>= λ l.
     need (leb 1 (l .value) && leb (l .value) codeLimit && leb (l .value) (length (l .more))) >>= λ _.
-    methodsIn k (drop (l .value) (l .more)) >>= λ ms.
-    some (record { value = record { signature = s .value; code = take (l .value) (l .more) } ∷ ms .value; more = ms .more })
+    mapsIn version (drop (l .value) (l .more)) >>= λ maps. methodsIn version k (maps .more) >>= λ ms.
+    some (record { value = record { signature = s .value; code = take (l .value) (l .more); maps = maps .value } ∷ ms .value; more = ms .more })
 
 unfoldable pub ends : List ℕ → Bool
 ends [] = true
@@ -69,14 +91,14 @@ sameField f g = eqb (g .name) (f .name)
 unfoldable pub sameMethod : Method → Method → Bool
 sameMethod m n = alike (m .signature) n
 
--- version 1, the length of all that follows it, both class names, fields, methods, nothing after, at most 4,096 bytes, none doubled
+-- version 1 or 2, the length of all that follows it, both class names, fields, methods, nothing after, at most 4,096 bytes, none doubled
 unfoldable pub readFile : List ℕ → Option File
 readFile bs =
-    need (leb (length bs) fileLimit) >>= λ _. byte bs >>= λ v. need (eqb (v .value) versionOne) >>= λ _.
+    need (leb (length bs) fileLimit) >>= λ _. byte bs >>= λ v. need (leb versionOne (v .value) && leb (v .value) versionTwo) >>= λ _.
     short (v .more) >>= λ n. need (eqb (n .value) (length (n .more))) >>= λ _.
     name nameObject (n .more) >>= λ c. name nameObject (c .more) >>= λ s.
     count (s .more) >>= λ k. fieldsIn (k .value) (k .more) >>= λ fs.
-    count (fs .more) >>= λ j. methodsIn (j .value) (j .more) >>= λ ms. need (ends (ms .more)) >>= λ _.
+    count (fs .more) >>= λ j. methodsIn (v .value) (j .value) (j .more) >>= λ ms. need (ends (ms .more)) >>= λ _.
     need (not (doubled sameField (fs .value))) >>= λ _. need (not (doubled sameMethod (ms .value))) >>= λ _.
     some (record { version = v .value; name = c .value; super = s .value; fields = fs .value; methods = ms .value })
 

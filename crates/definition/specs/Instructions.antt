@@ -5,18 +5,20 @@ use mathlib.Core.List.{List}
 use Prim.Native.Nat.{ℕ, suc, _+_, _*_}
 use lib.ListN.{length, getD}
 use lib.Dec.{eqb, leb, ltb}
-use Rattle.definition.specs.Numbers.{byteRange}
+use Rattle.definition.specs.Numbers.{versionTwo, byteRange}
 pub use Rattle.definition.specs.declared.Kind.{Kind}
 pub use Rattle.definition.specs.declared.Kind.the-variants.{IntKind, ReferenceKind}
 pub use Rattle.definition.specs.declared.Operator.{Operator}
 pub use Rattle.definition.specs.declared.Operator.the-variants.{Add, Subtract}
+pub use Rattle.definition.specs.declared.Condition.{Condition}
+pub use Rattle.definition.specs.declared.Condition.the-variants.{Always, IfZero, IfLess}
 use Rattle.definition.specs.Classes.{Signature, signature}
 pub use Rattle.definition.specs.declared.Opcode.{Opcode}
-pub use Rattle.definition.specs.declared.Opcode.the-variants.{OpAconstNull, OpSipush, OpLoad, OpStore, OpPop, OpDup, OpArithmetic, OpGetfield, OpPutfield, OpInvokevirtual, OpNew, OpReturn, OpUnknown}
+pub use Rattle.definition.specs.declared.Opcode.the-variants.{OpAconstNull, OpSipush, OpLoad, OpStore, OpPop, OpDup, OpArithmetic, OpGetfield, OpPutfield, OpInvokevirtual, OpNew, OpReturn, OpBranch, OpUnknown}
 pub use Rattle.definition.specs.declared.Instruction.{Instruction}
-pub use Rattle.definition.specs.declared.Instruction.the-variants.{AconstNull, Sipush, Load, Store, Pop, Dup, Arithmetic, Getfield, Putfield, Invokevirtual, New, Return}
+pub use Rattle.definition.specs.declared.Instruction.the-variants.{AconstNull, Sipush, Load, Store, Pop, Dup, Arithmetic, Getfield, Putfield, Invokevirtual, New, Return, Branch}
 
--- The decision over opcode bytes, by the version of the class's file. Version 1 has these; as a file has no other version, the answer is the same for all
+-- The decision over opcode bytes, by the version of the class's file: branches are there from version 2 on
 
 unfoldable pub pick : {A : Type 0} → Bool → A → A → A
 pick true a b = a
@@ -28,7 +30,8 @@ opcodeOf version b =
     (pick (eqb b 0x15) (OpLoad IntKind) (pick (eqb b 0x19) (OpLoad ReferenceKind) (pick (eqb b 0x36) (OpStore IntKind) (pick (eqb b 0x3A) (OpStore ReferenceKind)
     (pick (eqb b 0x57) OpPop (pick (eqb b 0x59) OpDup (pick (eqb b 0x60) (OpArithmetic Add) (pick (eqb b 0x64) (OpArithmetic Subtract)
     (pick (eqb b 0xB4) OpGetfield (pick (eqb b 0xB5) OpPutfield (pick (eqb b 0xB6) OpInvokevirtual (pick (eqb b 0xBB) OpNew
-    (pick (eqb b 0xAC) (OpReturn IntKind) (pick (eqb b 0xB0) (OpReturn ReferenceKind) OpUnknown)))))))))))))))
+    (pick (eqb b 0xAC) (OpReturn IntKind) (pick (eqb b 0xB0) (OpReturn ReferenceKind)
+    (pick (leb versionTwo version) (pick (eqb b 0x99) (OpBranch IfZero) (pick (eqb b 0xA1) (OpBranch IfLess) (pick (eqb b 0xA7) (OpBranch Always) OpUnknown))) OpUnknown))))))))))))))))
 
 -- how many bytes follow inline
 unfoldable pub inlineLength : Opcode → ℕ
@@ -44,6 +47,7 @@ inlineLength OpPutfield = 6
 inlineLength OpInvokevirtual = 8
 inlineLength OpNew = 2
 inlineLength (OpReturn k) = 0
+inlineLength (OpBranch c) = 2
 inlineLength OpUnknown = 0
 
 -- 16 bits inline at place i
@@ -72,6 +76,7 @@ instructionOf s i OpPutfield = some (Putfield (shortAt s i) (shortAt s (i + 2)) 
 instructionOf s i OpInvokevirtual = some (Invokevirtual (shortAt s i) (signatureAt s (i + 2)))
 instructionOf s i OpNew = some (New (shortAt s i))
 instructionOf s i (OpReturn k) = some (Return k)
+instructionOf s i (OpBranch c) = some (Branch c (shortAt s i))
 instructionOf s i OpUnknown = none
 
 -- an instruction, and its size in bytes

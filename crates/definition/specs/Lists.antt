@@ -42,6 +42,10 @@ unfoldable pub isNone : {A : Type 0} → Option A → Bool
 isNone none = true
 isNone (some a) = false
 
+unfoldable pub toList : {A : Type 0} → Option A → List A
+toList none = []
+toList (some a) = a ∷ []
+
 -- element by element, none too many or too few
 abbrev pub Each : {A B : Type 0} → (A → B → Type 0) → List A → List B → Type 0
 Each R [] [] = Unit {0}

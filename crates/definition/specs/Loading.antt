@@ -5,12 +5,12 @@ use mathlib.Core.List.{List, [], _∷_, _++_}
 use Prim.Native.Nat.{ℕ, _+_}
 use lib.ListN.{length, getElem?}
 use lib.Dec.{eqb, leb, ltb}
-use Rattle.definition.specs.Numbers.{wordUnknown, wordTaken, wordUnverified, wordAbsent, wordHidden, wordClash, wordFull, wordBusy, wordMisnamed, nameObject, loaderLimit, classLimit, cacheLimit, tieLimit, subtypeLimit, fieldLimit}
+use Rattle.definition.specs.Numbers.{wordUnknown, wordTaken, wordUnverified, wordAbsent, wordHidden, wordClash, wordFull, wordBusy, wordMisnamed, wordUnmapped, nameObject, loaderLimit, classLimit, cacheLimit, tieLimit, subtypeLimit, fieldLimit}
 use Rattle.definition.specs.Lists.{every, any, isNone}
 use Rattle.definition.specs.Requests.{Request, at}
 use Rattle.definition.specs.Classes.{Base, Signature, Class, Field, Method, find, loaderOf, slots, selected, startSignature}
 use Rattle.definition.specs.Constraints.{Tie, Subtype, World, agrees, signatureTies}
-use Rattle.definition.specs.Verifier.{Note, notesOf}
+use Rattle.definition.specs.Verifier.{Note, unmapped, notesOf}
 use Rattle.definition.specs.Machine.{intValue, Frame, Objects, unused, made, roomless, newObject, entryFrame, Progress}
 use Rattle.definition.specs.Answers.{Word, wanted, Result, ok, _>>=_, need, take?}
 
@@ -60,9 +60,10 @@ withEntry w r c = record {
   subtypes = w .subtypes;
 }
 
--- define, of a file that was read as the class k; `room` is whether its bytes can be kept. Refusals: 6 4 5 8 10 9
+-- define, of a file that was read as the class k; `room` is whether its bytes can be kept. Refusals: 15 6 4 5 8 10 9
 unfoldable pub define : Bool → Class → World → Result World
 define room k w =
+    need (not (any (unmapped k) (k .methods))) (Word wordUnmapped) >>= λ _.
     take? (notesOf k (k .methods)) (Word wordUnverified) >>= λ ns.
     need (isNone (find (w .base .cache) (at (k .loader) (k .name)))) (Word wordTaken) >>= λ _.
     take? (find (w .base .cache) (at (k .loader) (k .super))) (wanted (at (k .loader) (k .super))) >>= λ p.

@@ -12,9 +12,9 @@ use Rattle.definition.specs.Requests.{at}
 use Rattle.definition.specs.Superclasses.{nearest, below}
 use Rattle.definition.specs.Classes.{Base, Class, Method, find, superOf, loaderOf, Slot, slots, slotIs, hasField, selected}
 use Rattle.definition.specs.Constraints.{World, newTie, signatureTies, post}
-use Rattle.definition.specs.Instructions.{Kind, IntKind, ReferenceKind, Operator, Add, Subtract, Instruction, AconstNull, Sipush, Load, Store, Pop, Dup, Arithmetic, Getfield, Putfield, Invokevirtual, New, Return, Decoded, decode}
+use Rattle.definition.specs.Instructions.{Kind, IntKind, ReferenceKind, Operator, Add, Subtract, Instruction, AconstNull, Sipush, Load, Store, Pop, Dup, Arithmetic, Getfield, Putfield, Invokevirtual, New, Return, Condition, Always, IfZero, IfLess, Branch, Decoded, decode, pick}
 use Rattle.definition.specs.Verifier.{pop}
-use Rattle.definition.specs.Answers.{Word, wanted, Result, refused, ok, _>>=_, need, take?}
+use Rattle.definition.specs.Answers.{signed, less, Word, wanted, Result, refused, ok, _>>=_, need, take?}
 
 -- an empty local, an int's 32 bits, null, an object's number, or a pair of cells that docs/STORE.md doesn't list
 pub data Value : Type 0 where
@@ -135,6 +135,13 @@ unfoldable pub compute : Operator → ℕ → ℕ → Result ℕ
 compute Add a b = ok ((a + b) % intRange)
 compute Subtract a b = ok ((a + intRange - b) % intRange)
 
+-- Whether a branch jumps, and the operands that it leaves
+unfoldable pub jumps : Condition → List Value → Result (record { taken : Bool; more : List Value })
+jumps Always vs = ok (record { taken = true; more = vs })
+jumps IfZero vs = pop! vs >>= λ p. int! (p .top) >>= λ n. ok (record { taken = eqb n 0; more = p .more })
+jumps IfLess vs =
+    pop! vs >>= λ p. pop! (p .more) >>= λ q. int! (p .top) >>= λ b. int! (q .top) >>= λ a. ok (record { taken = less (signed a) (signed b); more = q .more })
+
 -- room for one operand more
 unfoldable pub room! : List Value → Result (Unit {0})
 room! vs = need (ltb (length vs) operandLimit) (Word wordFull)
@@ -167,9 +174,12 @@ now w f =
     take? (getElem? (w .base .classes) (f .class)) (Word wordStuck) >>= λ k. take? (getElem? (k .methods) (f .method)) (Word wordStuck) >>= λ m.
     take? (decode (k .version) (m .code) (f .point)) (Word wordStuck) >>= λ i. ok (record { theClass = k; method = m; at = i })
 
--- the frame past its instruction, with new operands and locals
+-- the frame at another point, with new operands and locals; past its instruction
+abbrev pub moved : Frame → ℕ → List Value → List Value → Frame
+moved f p o l = record { class = f .class; method = f .method; point = p; operands = o; locals = l }
+
 abbrev pub past : Frame → Decoded → List Value → List Value → Frame
-past f i o l = record { class = f .class; method = f .method; point = f .point + i .size; operands = o; locals = l }
+past f i o l = moved f (f .point + i .size) o l
 
 -- the frame below, if there is one, has room for a result
 unfoldable pub under! : List Frame → Result (Unit {0})
@@ -240,6 +250,9 @@ module _ (task : ℕ) (w : World) (os : Objects) (f : Frame) (fs : List Frame) (
         frames = past f i (objectValue (unused os) ∷ f .operands) (f .locals) ∷ fs;
         result = none;
       })
+  execute (Branch c p) =
+      jumps c (f .operands) >>= λ j.
+      ok (record { world = w; objects = os; frames = moved f (pick (j .taken) p (f .point + i .size)) (j .more) (f .locals) ∷ fs; result = none })
   execute (Return kind) = under! fs >>= λ _. pop! (f .operands) >>= λ p. ofKind! kind (p .top) >>= λ _. give fs w os (p .top)
 
 -- one instruction of the frame f, above the frames fs of its task

@@ -47,6 +47,9 @@ wordMisnamed = 13
 abbrev pub wordStuck : ℕ
 wordStuck = 14
 
+abbrev pub wordUnmapped : ℕ
+wordUnmapped = 15
+
 -- Names: 0 is none; others than these are free
 
 abbrev pub nameInt : ℕ
@@ -105,6 +108,10 @@ runLimit = 65535
 abbrev pub versionOne : ℕ
 versionOne = 1
 
+-- the first with branches and maps
+abbrev pub versionTwo : ℕ
+versionTwo = 2
+
 abbrev pub fileLimit : ℕ
 fileLimit = 4096
 
@@ -148,10 +155,6 @@ rowCells = 3
 
 abbrev pub valueCells : ℕ
 valueCells = 2
-
--- a note of the verifier: the lower name, the higher name
-abbrev pub noteCells : ℕ
-noteCells = 2
 
 -- an object: its class, then its fields
 abbrev pub fieldsCell : ℕ
@@ -240,11 +243,11 @@ abbrev pub allNumbers : List ℕ
 allNumbers =
     wordBroken ∷ wordFile ∷ wordUnknown ∷ wordTaken ∷ wordWanted ∷ wordUnverified
     ∷ wordAbsent ∷ wordHidden ∷ wordClash ∷ wordFull ∷ wordNull ∷ wordBusy
-    ∷ wordMisnamed ∷ wordStuck ∷ nameInt ∷ nameObject ∷ loaderLimit ∷ taskLimit
+    ∷ wordMisnamed ∷ wordStuck ∷ wordUnmapped ∷ nameInt ∷ nameObject ∷ loaderLimit ∷ taskLimit
     ∷ classLimit ∷ keptLimit ∷ cacheLimit ∷ tieLimit ∷ subtypeLimit ∷ objectLimit
-    ∷ fieldLimit ∷ frameLimit ∷ operandLimit ∷ localCount ∷ runLimit ∷ versionOne
+    ∷ fieldLimit ∷ frameLimit ∷ operandLimit ∷ localCount ∷ runLimit ∷ versionOne ∷ versionTwo
     ∷ fileLimit ∷ memberLimit ∷ codeLimit ∷ countClasses ∷ countKept ∷ countCache
-    ∷ countTies ∷ countSubtypes ∷ countObjects ∷ countFrames ∷ ownersCell ∷ rowCells ∷ valueCells ∷ noteCells
+    ∷ countTies ∷ countSubtypes ∷ countObjects ∷ countFrames ∷ ownersCell ∷ rowCells ∷ valueCells
     ∷ fieldsCell ∷ objectCells ∷ methodCell ∷ pointCell ∷ depthCell ∷ localsCell
     ∷ operandsCell ∷ frameCells ∷ countsLength ∷ classesLength ∷ keptLength ∷ cacheLength
     ∷ tiesLength ∷ subtypesLength ∷ objectsLength ∷ framesLength ∷ kindEmpty ∷ kindInt

@@ -53,7 +53,14 @@ pub enum Operator {
     Subtract,
 }
 
-// What an opcode byte is: load, store and return go by a kind, arithmetic by an operator.
+// When a branch jumps: always; if the int on top is 0; if the lower of two ints is less than the upper.
+pub enum Condition {
+    Always,
+    IfZero,
+    IfLess,
+}
+
+// What an opcode byte is: load, store and return go by a kind, arithmetic by an operator, a branch by its condition.
 pub enum Opcode {
     OpAconstNull,
     OpSipush,
@@ -67,10 +74,12 @@ pub enum Opcode {
     OpInvokevirtual,
     OpNew,
     OpReturn(Kind),
+    OpBranch(Condition),
     OpUnknown,
 }
 
-// An instruction: its opcode and what stands inline. A local is its number, the int of sipush its 32 bits, the others names and a signature.
+// An instruction: its opcode and what stands inline. A local is its number, the int of sipush its 32 bits, a branch's target an offset from the
+// start of its method's code, the others names and a signature.
 pub enum Instruction {
     AconstNull,
     Sipush(u32),
@@ -84,4 +93,5 @@ pub enum Instruction {
     Invokevirtual(u16, Signature),
     New(u16),
     Return(Kind),
+    Branch(Condition, u16),
 }

@@ -32,6 +32,8 @@ pub const WORD_MISNAMED: u8 = 13;
 
 pub const WORD_STUCK: u8 = 14;
 
+pub const WORD_UNMAPPED: u8 = 15;
+
 // Names: 0 is none; others than these are free.
 pub const NAME_INT: u16 = 1;
 
@@ -66,6 +68,8 @@ pub const RUN_LIMIT: u32 = 65535;
 
 // The file: its version, its bytes, the fields or methods that it declares, the bytes of a method's code.
 pub const VERSION_ONE: u8 = 1;
+// The first with branches and maps.
+pub const VERSION_TWO: u8 = 2;
 
 pub const FILE_LIMIT: usize = 4096;
 
@@ -94,8 +98,6 @@ pub const OWNERS_CELL: usize = COUNT_FRAMES + TASK_LIMIT as usize;
 pub const ROW_CELLS: usize = 3;
 
 pub const VALUE_CELLS: usize = 2;
-// A note of the verifier: the lower name, the higher name.
-pub const NOTE_CELLS: usize = 2;
 
 // An object: its class, then its fields.
 pub const FIELDS_CELL: usize = 1;
@@ -151,7 +153,7 @@ pub const INT_RANGE: usize = 4294967296;
 pub const SIGN_BIT: u32 = 2147483648;
 
 // Every number above, in the order of their names in specs/Numbers.antt.
-pub fn all_numbers() -> [u64; 68]
+pub fn all_numbers() -> [u64; 69]
     ensures { λ r. ⌜ r ≡ allNumbers ⌝ }
 {
     [
@@ -169,6 +171,7 @@ pub fn all_numbers() -> [u64; 68]
         WORD_BUSY as u64,
         WORD_MISNAMED as u64,
         WORD_STUCK as u64,
+        WORD_UNMAPPED as u64,
         NAME_INT as u64,
         NAME_OBJECT as u64,
         LOADER_LIMIT as u64,
@@ -185,6 +188,7 @@ pub fn all_numbers() -> [u64; 68]
         LOCAL_COUNT as u64,
         RUN_LIMIT as u64,
         VERSION_ONE as u64,
+        VERSION_TWO as u64,
         FILE_LIMIT as u64,
         MEMBER_LIMIT as u64,
         CODE_LIMIT as u64,
@@ -198,7 +202,6 @@ pub fn all_numbers() -> [u64; 68]
         OWNERS_CELL as u64,
         ROW_CELLS as u64,
         VALUE_CELLS as u64,
-        NOTE_CELLS as u64,
         FIELDS_CELL as u64,
         OBJECT_CELLS as u64,
         METHOD_CELL as u64,

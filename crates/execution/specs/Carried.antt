@@ -32,9 +32,10 @@ use Rattle.instructions.specs.Plans.{meaning, Fit}
 use Rattle.frames.specs.declared.Cell.{Cell}
 use Rattle.frames.specs.declared.Entry.{Entry}
 use Rattle.instructions.specs.declared.Plan.{Plan}
-use Rattle.instructions.specs.declared.Plan.the-variants.{Refuse, Keep, Above, Local, Give, Finish, Field, Enter, Make}
+use Rattle.instructions.specs.declared.Plan.the-variants.{Refuse, Keep, Jump, Above, Local, Give, Finish, Field, Enter, Make}
 
--- what the machine makes of a plan of task k, which has m frames below its top frame, where the ties us are posted and the frame goes on at point q
+-- what the machine makes of a plan of task k, which has m frames below its top frame, where the ties us are posted and the frame goes on at point q, unless
+-- the plan jumps
 unfoldable pub planned : Base → Tables → ℕ → ℕ → ℕ → List Tie → Plan → Done Answer
 planned B t k m q us p =
     carried Refused t
@@ -105,6 +106,13 @@ module _ (B : Base) (N L K E I S O F : List ℕ) (k m b q : ℕ) (us : List Tie)
       rw (e, c, j, g, r .row)
       (ap (done (Ran k)) (sym (top-frame B before k m q us (r .two) (objectsOf B before) (frameOf F (frameBase k m) q d ∷ stack (frameIn F k) m) O
       (moved F (frameBase k m) q d) (r .count) (objects-fill before B) (top-kept before k m (r .low) q d))))
+
+  pub out-jump : (d x : ℕ) (G : List ℕ) → p ≡ Jump d x → G ≡ moved F b x d → done (Ran k) (tables C L K E J S O G) ≡ plans
+  unfolding planned meaning _>>=_ carried answerOf
+  out-jump d x G e g =
+      rw (e, c, j, g, r .row)
+      (ap (done (Ran k)) (sym (top-frame B before k m q us (r .two) (objectsOf B before) (frameOf F (frameBase k m) x d ∷ stack (frameIn F k) m) O
+      (moved F (frameBase k m) x d) (r .count) (objects-fill before B) (top-kept before k m (r .low) x d))))
 
   pub out-above : (d : ℕ) (v : Cell) (G : List ℕ) → p ≡ Above d v → G ≡ putOperand b (moved F b q (d + 1)) d (valueOf (v .kind) (v .bits))
       → done (Ran k) (tables C L K E J S O G) ≡ plans
@@ -215,11 +223,12 @@ pub written-new : (B : Base) (c o n : ℕ) (O P ts us : List ℕ) → n ≡ size
 written-new B c o n O P ts us e f l h = h ∙ rw (e, f, typed-object B c ts l)
 
 -- What carrying a plan out leaves: the answer, the counts, the objects and the frames. The top frame of task k is in row m, which begins at cell b, and
--- goes on at point q
+-- goes on at point q, unless the plan jumps
 
 abbrev pub Left : Base → List ℕ → List ℕ → List ℕ → ℕ → ℕ → ℕ → ℕ → Plan → Answer → List ℕ → List ℕ → List ℕ → Type 0
 Left B N O F k m b q (Refuse r) a C P G = (a ≡ Refused r) × (C ≡ N) × (P ≡ O) × (G ≡ F)
 Left B N O F k m b q (Keep d) a C P G = (a ≡ Ran k) × (C ≡ N) × (P ≡ O) × (G ≡ moved F b q d)
+Left B N O F k m b q (Jump d x) a C P G = (a ≡ Ran k) × (C ≡ N) × (P ≡ O) × (G ≡ moved F b x d)
 Left B N O F k m b q (Above d v) a C P G = (a ≡ Ran k) × (C ≡ N) × (P ≡ O) × (G ≡ putOperand b (moved F b q (d + 1)) d (valueOf (v .kind) (v .bits)))
 Left B N O F k m b q (Local d i v) a C P G = (a ≡ Ran k) × (C ≡ N) × (P ≡ O) × (G ≡ putLocal b (moved F b q d) i (valueOf (v .kind) (v .bits)))
 Left B N O F k m b q (Give v) a C P G =
@@ -250,6 +259,7 @@ module _ (N L K E I S O F : List ℕ) (k m b : ℕ) (us : List Tie) (p : Plan) (
       go : (p : Plan) → Fit (quickBase N L K E) (tables N L K E I S O F) k m p → Fit (quickBase C L K E) (tables C L K E [] [] O F) k m p
       go (Refuse w) h = tt
       go (Keep d) h = tt
+      go (Jump d x) h = tt
       go (Above d v) h = h
       go (Local d i v) h = h
       go (Give v) h = h
@@ -267,6 +277,7 @@ module _ (N L K E I S O F : List ℕ) (k m b : ℕ) (us : List Tie) (p : Plan) (
           → done a (tables D L K E J S P G) ≡ planned (quickBase N L K E) (tables N L K E I S O F) k m q us p
       go (Refuse w) r h = rw (h .0, h .1, h .2, h .3) (out-refuse (quickBase N L K E) N L K E I S O F k m b q us (Refuse w) r C J c j w refl)
       go (Keep d) r h = rw (h .0, h .1, h .2) (out-keep (quickBase N L K E) N L K E I S O F k m b q us (Keep d) r C J c j d G refl (h .3))
+      go (Jump d x) r h = rw (h .0, h .1, h .2) (out-jump (quickBase N L K E) N L K E I S O F k m b q us (Jump d x) r C J c j d x G refl (h .3))
       go (Above d v) r h = rw (h .0, h .1, h .2) (out-above (quickBase N L K E) N L K E I S O F k m b q us (Above d v) r C J c j d v G refl (h .3))
       go (Local d i v) r h = rw (h .0, h .1, h .2) (out-local (quickBase N L K E) N L K E I S O F k m b q us (Local d i v) r C J c j d i v G refl (h .3))
       go (Give v) r h =

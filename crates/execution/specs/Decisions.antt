@@ -25,7 +25,7 @@ use Rattle.layout.specs.Places.{rows-length, stack-length}
 use Rattle.layout.specs.Unbroken.{Counts}
 use Rattle.frames.specs.Unused.{unusedFrom}
 use Rattle.instructions.specs.declared.Plan.{Plan}
-use Rattle.instructions.specs.declared.Plan.the-variants.{Refuse, Keep, Above, Local, Give, Finish, Field, Enter, Make}
+use Rattle.instructions.specs.declared.Plan.the-variants.{Refuse, Keep, Jump, Above, Local, Give, Finish, Field, Enter, Make}
 use Rattle.instructions.specs.Plans.{decoded, meaning, Fit, FrameOnly, Returning}
 use Rattle.resolution.specs.Quick.{quickBase}
 use Rattle.access.specs.declared.Access.{Access}
@@ -161,6 +161,7 @@ posted-none w = λ i. record { base = w .base; ties = append-nil (w .ties) i; su
 nothing-quiet : (p : Plan) → Quiet [] p
 nothing-quiet (Refuse r) = refl
 nothing-quiet (Keep d) = tt
+nothing-quiet (Jump d p) = tt
 nothing-quiet (Above d v) = tt
 nothing-quiet (Local d j v) = tt
 nothing-quiet (Give v) = tt

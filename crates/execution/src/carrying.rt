@@ -151,7 +151,7 @@ fn make(
     take_row(counts, o, task);
 }
 
-// A plan carried out: the top frame of a task goes on at point q.
+// A plan carried out: the top frame of a task goes on at point q, unless the plan jumps.
 pub(crate) fn carry_out(
     counts: &mut [u16],
     classes: &[u16],
@@ -170,6 +170,10 @@ pub(crate) fn carry_out(
         Plan::Refuse(r) => Answer::Refused(r),
         Plan::Keep(d) => {
             frames::write_moved(frames, top.base, q, d);
+            Answer::Ran(top.task)
+        }
+        Plan::Jump(d, p) => {
+            frames::write_moved(frames, top.base, cells::from16(p), d);
             Answer::Ran(top.task)
         }
         Plan::Above(d, v) => {

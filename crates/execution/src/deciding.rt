@@ -120,10 +120,11 @@ fn act(
             frames::unused(counts, from),
         )),
         Instruction::Return(k) => plain(instructions::give_back(frames, top, k)),
+        Instruction::Branch(c, p) => plain(instructions::branch(frames, top, c, p)),
     }
 }
 
-// What a step chooses: ties, a plan, and the point at which the frame goes on.
+// What a step chooses: ties, a plan, and the point at which the frame goes on unless it jumps.
 pub struct Choice {
     pub posting: Posting,
     pub plan: Plan,

@@ -1,16 +1,25 @@
--- Word 1, 'broken', of the first document: the tests that speak of objects, and what stands on them.
+-- Word 1, 'broken', of the first document: the tests that speak of files or objects, and what stands on them.
 use mathlib.Core.Bool.{Bool, true, false, not}
 use mathlib.Core.List.{List, [], _∷_}
 use Prim.Native.Nat.{ℕ}
 use lib.ListN.{length}
 use lib.Dec.{leb, ltb}
-use Rattle.definition.specs.Numbers.{operandLimit}
-use Rattle.definition.specs.Lists.{every, all, isSome}
+use Rattle.definition.specs.Numbers.{loaderLimit, fieldLimit, operandLimit}
+use Rattle.definition.specs.Lists.{every, all, allFrom, isSome}
+use Rattle.definition.specs.Classes.{Base, superOf}
 use Rattle.definition.specs.Machine.{Value, emptyValue, intValue, nullValue, objectValue, unlistedValue, Object, Frame}
-use Rattle.definition.specs.Tables.{baseOf}
-use Rattle.definition.specs.Broken.{within, classesFit, entryFits, tieFits, subtypeFits}
+use Rattle.definition.specs.Tables.{ClassRow, sizeOf}
+use Rattle.definition.specs.Broken.{within, isObject, entryFits, tieFits, subtypeFits}
 use Rattle.first.specs.Machine.{firstExisting}
-use Rattle.first.specs.Tables.{FirstTables, firstShaped, FirstRows, firstView}
+use Rattle.first.specs.Tables.{FirstTables, firstShaped, firstFileAt, firstBaseOf, FirstRows, firstView}
+
+-- another class, of number c: its kept file reads by the file rules, its superclass is cached with a lower number, it has at most 16 fields
+unfoldable pub firstClassFits : Base → List ℕ → ℕ → ClassRow → Bool
+firstClassFits b bs c k = every (ltb (k .loader) loaderLimit ∷ isSome (firstFileAt bs k) ∷ isSome (superOf b c) ∷ leb (sizeOf b c) fieldLimit ∷ [])
+
+unfoldable pub firstClassesFit : Base → List ℕ → List ClassRow → Bool
+firstClassesFit b bs [] = true
+firstClassesFit b bs (k ∷ ks) = every (isObject k ∷ allFrom (firstClassFits b bs) 1 ks ∷ [])
 
 -- a value's kind is listed, for a field or operand and for a local, which alone may be empty
 unfoldable pub firstValueFits : List Object → Value → Bool
@@ -36,7 +45,7 @@ firstFrameFits n os f = every
 
 unfoldable pub firstSound : FirstRows → Bool
 firstSound r = every
-    (classesFit (baseOf (r .classes) (r .kept) (r .cache)) (r .kept) (r .classes)
+    (firstClassesFit (firstBaseOf (r .classes) (r .kept) (r .cache)) (r .kept) (r .classes)
     ∷ all (entryFits (length (r .classes))) (r .cache)
     ∷ all tieFits (r .ties)
     ∷ all subtypeFits (r .subtypes)

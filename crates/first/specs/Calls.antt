@@ -15,10 +15,12 @@ use Rattle.definition.specs.Numbers.{wordBroken, wordFile, wordUnknown, nameObj
 use Rattle.definition.specs.Constraints.{World}
 use Rattle.definition.specs.Answers.{Result, refused, ok, _>>=_, need, take?}
 use Rattle.definition.specs.Machine.{Frame}
-use Rattle.definition.specs.Loading.{define, recorded}
-use Rattle.definition.specs.File.{readFile, classOf}
+use Rattle.definition.specs.Loading.{recorded}
+use Rattle.definition.specs.File.{classOf}
 use Rattle.definition.specs.Tables.{classRow, entry}
 use Rattle.definition.specs.Calls.{answerOf, Done, done, runFrom, ofStep}
+use Rattle.first.specs.Files.{firstReadFile}
+use Rattle.first.specs.Verifier.{firstDefine}
 use Rattle.first.specs.Machine.{FirstProgress, firstStep, firstStarted}
 use Rattle.first.specs.Tables.{FirstTables, firstShaped, FirstRows, firstNoRows, firstWithClasses, firstWithKept, firstWithCache, firstWithTies, firstWithSubtypes, firstWithObjects, firstFramesIn, firstWithFrames, firstWorldOf, firstView, firstPut}
 use Rattle.first.specs.Broken.{firstBroken}
@@ -55,8 +57,8 @@ firstProgressed k r o = firstWithFrames k (o .frames) (firstWithObjects (o .obje
 -- define. Refusals: 3 2 6 4 5 8 10 9
 unfoldable pub firstDefineRows : ℕ → List ℕ → FirstRows → Result (FirstGiven FirstReply)
 firstDefineRows l bs r =
-    need (ltb l loaderLimit) (Word wordUnknown) >>= λ _. take? (readFile bs) (Word wordFile) >>= λ f.
-    define (leb (length (r .kept) + length bs) keptLimit) (classOf l f) (firstWorldOf r) >>= λ w.
+    need (ltb l loaderLimit) (Word wordUnknown) >>= λ _. take? (firstReadFile bs) (Word wordFile) >>= λ f.
+    firstDefine (leb (length (r .kept) + length bs) keptLimit) (classOf l f) (firstWorldOf r) >>= λ w.
     firstGiven (Defined (length (r .classes))) (firstAddFile l bs r w)
 
 -- record. 3 13 4 10 9

@@ -1,5 +1,6 @@
--- Today's tables that carry the first document's: what that is, and that then both are broken or both hold the same rows.
-use mathlib.Core.Path.{_≡_, refl, sym, ap, _∙_}
+-- Today's tables that carry the first document's: what that is, and that then, where they keep no file of a later version, both are broken or both hold the same
+-- rows.
+use mathlib.Core.Path.{_≡_, refl, sym, ap, _∙_, subst}
 use mathlib.Core.Bool.{Bool, true, false, not}
 use mathlib.Core.List.{List, [], _∷_, _++_}
 use Prim.Native.Nat.{ℕ, zero, suc, _+_, _<_, _≤_}
@@ -9,15 +10,16 @@ use lib.Seq.{getD-append-add}
 use lib.Dec.{eqb, leb}
 use borrow.Author.Tests.{eqb-true, eqb-false, eq-eqb, ne-eqb, leb-true, not-false}
 use Rattle.definition.specs.Numbers.{taskLimit, classLimit, keptLimit, cacheLimit, tieLimit, subtypeLimit, objectLimit, frameLimit, countClasses, countKept, countCache, countTies, countSubtypes, countObjects, countFrames, ownersCell, countsLength, classesLength, keptLength, cacheLength, tiesLength, subtypesLength, objectsLength, framesLength}
-use Rattle.definition.specs.Lists.{every, rows, stack}
+use Rattle.definition.specs.Lists.{every, any, rows, stack}
 use Rattle.definition.specs.Classes.{Base}
-use Rattle.definition.specs.Tables.{Tables, tables, shaped, baseOf, classRowAt, entryAt, tieAt, subtypeAt, objectAt, ownedBy, ownerAt, objectRowAt, frameIn, viewBase, objectsOf, framesOf, viewOver, view}
+use Rattle.definition.specs.Tables.{Tables, tables, shaped, baseOf, classRowAt, entryAt, tieAt, subtypeAt, objectAt, ownedBy, ownerAt, objectRowAt, frameIn, classRowsOf, keptOf, cacheOf, viewBase, objectsOf, framesOf, viewOver, view}
 use Rattle.definition.specs.Broken.{within, whole, broken}
 use Rattle.layout.specs.Tests.{every-true}
-use Rattle.first.specs.Tables.{FirstTables, firstCountsLength, firstShaped, firstRowsOf, firstObjectsOf, firstViewOver, firstView}
+use Rattle.first.specs.Tables.{FirstTables, firstCountsLength, firstShaped, FirstRows, firstRowsOf, firstObjectsOf, firstViewOver, firstViewBase, firstView}
 use Rattle.first.specs.Broken.{firstSound, firstWhole, firstBroken}
 use Rattle.first.specs.SameObjects.{SameObjects, noObjects, sameObject}
-use Rattle.first.specs.SameRows.{SameRows, same-sound}
+use Rattle.first.specs.SameBases.{laterRow, Early, early, same-classes, fits-early}
+use Rattle.first.specs.SameRows.{SameRows, EarlyRows, same-sound}
 
 -- an owner cell that says a task, whichever
 abbrev pub IsOwner : ℕ → Type 0
@@ -47,6 +49,22 @@ carrying k two u = record {
   tasks = λ o _ l. (k, two, getD-replicate objectLimit o (suc k) 0 l);
   rest = refl;
 }
+
+-- the tables keep a file of a later version for a class, or none
+unfoldable pub keepsLater : FirstTables → Bool
+keepsLater u = any (laterRow (keptOf u)) (classRowsOf u)
+
+abbrev pub EarlyTables : FirstTables → Type 0
+EarlyTables u = Early (keptOf u) (classRowsOf u)
+
+pub keeps-none : (u : FirstTables) → keepsLater u ≡ false → EarlyTables u
+unfolding keepsLater
+keeps-none u h = early (keptOf u) (classRowsOf u) h
+
+-- tables that the first document doesn't call broken keep none
+pub unbroken-keeps-none : (u : FirstTables) → firstBroken u ≡ false → EarlyTables u
+unfolding firstBroken firstWhole firstSound firstView firstViewOver
+unbroken-keeps-none u h = fits-early (firstViewBase u) (keptOf u) (classRowsOf u) (every-true _ (every-true _ (not-false _ h) .1 .1 .0) .0)
 
 -- The published lengths
 
@@ -83,7 +101,7 @@ same-read b n t (suc k) i h =
     let w = h i (omega arith) (omega arith) in
     rw (w .2) (sameObject (w .1) (same-read b n t k (suc i) (λ m a l. h m (omega arith) (omega arith))))
 
-module _ (u : FirstTables) (t : Tables) (h : Carries u t) (eight : length (u .counts) ≡ firstCountsLength) where
+module _ (u : FirstTables) (t : Tables) (h : Carries u t) (early-u : EarlyTables u) (eight : length (u .counts) ≡ firstCountsLength) where
   same-cell : (j : ℕ) → j < firstCountsLength → getD (u .counts) j 0 ≡ getD (t .counts) j 0
   same-cell j l = sym (ap (λ (z : List ℕ). getD z j 0) (h .counts) ∙ List·getD-append (u .counts) (h .owners) 0 j (omega arith))
 
@@ -104,16 +122,22 @@ module _ (u : FirstTables) (t : Tables) (h : Carries u t) (eight : length (u .co
       ∷ leb (same-cell (countFrames + 1) (omega arith) i) frameLimit
       ∷ [])
 
-  same-base : viewBase u ≡ viewBase t
-  same-base = λ i. baseOf
+  read-base : firstViewBase u ≡ viewBase u
+  read-base = λ i. record { classes = same-classes (keptOf u) (classRowsOf u) early-u i; cache = cacheOf u }
+
+  carried-base : viewBase u ≡ viewBase t
+  carried-base = λ i. baseOf
       (rows (classRowAt (h .rest i .classes)) (same-cell countClasses (omega arith) i) 0)
       (rows (λ j. getD (h .rest i .kept) j 0) (same-cell countKept (omega arith) i) 0)
       (rows (entryAt (h .rest i .cache)) (same-cell countCache (omega arith) i) 0)
 
-  same-objects : getD (u .counts) countObjects 0 ≤ objectLimit → SameObjects (firstObjectsOf (viewBase u) u) (objectsOf (viewBase t) t)
+  same-base : firstViewBase u ≡ viewBase t
+  same-base = read-base ∙ carried-base
+
+  same-objects : getD (u .counts) countObjects 0 ≤ objectLimit → SameObjects (firstObjectsOf (firstViewBase u) u) (objectsOf (viewBase t) t)
   unfolding firstObjectsOf objectsOf
   same-objects few =
-      let e : rows (objectAt (viewBase u) (u .objects)) (getD (u .counts) countObjects 0) 0 ≡ rows (objectAt (viewBase t) (t .objects)) (getD (t .counts) countObjects 0) 0 =
+      let e : rows (objectAt (firstViewBase u) (u .objects)) (getD (u .counts) countObjects 0) 0 ≡ rows (objectAt (viewBase t) (t .objects)) (getD (t .counts) countObjects 0) 0 =
       λ i. rows (objectAt (same-base i) (h .rest i .objects)) (same-cell countObjects (omega arith) i) 0 in
       rw e (same-read (viewBase t) (t .counts) (t .objects) (getD (t .counts) countObjects 0) 0
       (λ m _ l. rw (same-owner m) (h .tasks m (omega (arith, same-cell countObjects (omega arith))) (omega (arith, same-cell countObjects (omega arith))))))
@@ -127,7 +151,7 @@ module _ (u : FirstTables) (t : Tables) (h : Carries u t) (eight : length (u .co
         (rows (entryAt (h .rest i .cache)) (same-cell countCache (omega arith) i) 0)
         (rows (tieAt (h .rest i .ties)) (same-cell countTies (omega arith) i) 0)
         (rows (subtypeAt (h .rest i .subtypes)) (same-cell countSubtypes (omega arith) i) 0)
-        (firstObjectsOf (viewBase u) u)
+        (firstObjectsOf (firstViewBase u) u)
         (stack (frameIn (h .rest i .frames) 0) (same-cell countFrames (omega arith) i))
         (stack (frameIn (h .rest i .frames) 1) (same-cell (countFrames + 1) (omega arith) i));
     objects = same-objects few;
@@ -141,28 +165,32 @@ unfolding every
 in-turn true b xs ys e k = rw (← e) (k refl)
 in-turn false b xs ys e k = rw (← e) refl
 
+pub early-rows : (u : FirstTables) (t : Tables) → EarlyTables u → SameRows (firstView u) (view t) → EarlyRows (view t)
+unfolding firstView firstViewOver
+early-rows u t e r = subst (λ (z : FirstRows). Early (z .kept) (z .classes)) (r .rest) e
+
 module _ (u : FirstTables) (t : Tables) (h : Carries u t) where
   pub eight-counts : firstShaped u ≡ true → length (u .counts) ≡ firstCountsLength
   unfolding firstShaped
   eight-counts s = eqb-true _ _ (every-true _ s .0)
 
   -- of the first document's lengths, and counts within the limits: both hold the same rows
-  same-rows : firstShaped u ≡ true → within (u .counts) ≡ true → SameRows (firstView u) (view t)
+  same-rows : EarlyTables u → firstShaped u ≡ true → within (u .counts) ≡ true → SameRows (firstView u) (view t)
   unfolding within
-  same-rows s w = same-view u t h (eight-counts s) (leb-true _ _ (every-true _ w .1 .1 .1 .1 .1 .0))
+  same-rows e s w = same-view u t h e (eight-counts s) (leb-true _ _ (every-true _ w .1 .1 .1 .1 .1 .0))
 
-  pub same-broken : firstBroken u ≡ broken t
+  pub same-broken : EarlyTables u → firstBroken u ≡ broken t
   unfolding firstBroken broken firstWhole whole
-  same-broken = ap not
-      (in-turn _ _ _ _ (same-shaped u t h) (λ s. in-turn _ _ _ _ (same-within u t h (eight-counts s)) (λ w.
-      let r = same-rows s w in
-      ap (λ (z : Bool). every (z ∷ [])) (ap firstSound (r .rest) ∙ same-sound (firstView u .objects) (view t) (r .objects)))))
+  same-broken e = ap not
+      (in-turn _ _ _ _ (same-shaped u t h) (λ s. in-turn _ _ _ _ (same-within u t h e (eight-counts s)) (λ w.
+      let r = same-rows e s w in
+      ap (λ (z : Bool). every (z ∷ [])) (ap firstSound (r .rest) ∙ same-sound (firstView u .objects) (view t) (r .objects) (early-rows u t e r)))))
 
   -- a store that isn't broken
   pub record SameStore : Type 0 where
     pub eight : length (u .counts) ≡ firstCountsLength
     pub rows : SameRows (firstView u) (view t)
 
-  pub same-store : firstBroken u ≡ false → SameStore
+  pub same-store : EarlyTables u → firstBroken u ≡ false → SameStore
   unfolding firstBroken firstWhole
-  same-store e = let p = every-true _ (not-false _ e) in record { eight = eight-counts (p .0); rows = same-rows (p .0) (p .1 .0) }
+  same-store x e = let p = every-true _ (not-false _ e) in record { eight = eight-counts (p .0); rows = same-rows x (p .0) (p .1 .0) }

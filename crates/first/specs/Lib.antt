@@ -1,9 +1,14 @@
 -- The first document's machine, kept, and what today's machine has in common with it. Machine, Tables, Broken and Calls hold its own text where a later paper
--- changed it, so far paper 1, since which a row of objects may be free; Same holds the statements, the files between them their proofs.
+-- changed it, as Files and Verifier do: so far paper 1, since which a row of objects may be free, and paper 2, since which there are files of version 2; Same holds the statements, the files between them their proofs.
+pub mod Files
+pub mod Verifier
 pub mod Machine
 pub mod Tables
 pub mod Broken
 pub mod Calls
+pub mod SameFiles
+pub mod SameTypes
+pub mod SameBases
 pub mod SameObjects
 pub mod Likewise
 pub mod SameSteps
@@ -11,4 +16,5 @@ pub mod SameRows
 pub mod Carries
 pub mod Written
 pub mod SameCalls
+pub mod KeepsNone
 pub mod Same

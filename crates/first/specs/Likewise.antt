@@ -26,6 +26,12 @@ module _ {C D : Type 0} (Q : C → D → Type 0) where
   after (refused w) p e f g k = rw (← e) refl
   after (ok a) p e f g k = rw (← e) (k a)
 
+  -- where the value is known to be the answer's
+  pub after-in : {A : Type 0} (o p : Result A) → o ≡ p → (f : A → Result C) (g : A → Result D) → ((a : A) → o ≡ ok a → Likewise Q (f a) (g a)) → Likewise Q (o >>= f) (p >>= g)
+  unfolding _>>=_
+  after-in (refused w) p e f g k = rw (← e) refl
+  after-in (ok a) p e f g k = rw (← e) (k a refl)
+
   -- after a test that passed
   pub passed : (t : Bool) (w : Refusal) (f : Unit {0} → Result C) (g : Unit {0} → Result D) → (t ≡ true → Likewise Q (f tt) (g tt))
       → Likewise Q (need t w >>= f) (need t w >>= g)

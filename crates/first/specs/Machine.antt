@@ -1,6 +1,6 @@
 -- The first document's machine on rows: objects, and one instruction. Where a later paper changed nothing its definitions are today's; where one changed a
 -- definition, the old text stands in this crate with what stands on it. Since paper 1 a row of objects may be free, and each object has an owner: here an object
--- is the next row of a list, for good.
+-- is the next row of a list, for good. Since paper 2 there are branches: here none is read.
 use mathlib.Core.Bool.{true, _&&_}
 use mathlib.Core.Option.{Option, none, some}
 use mathlib.Core.List.{List, [], _∷_, _++_}
@@ -9,7 +9,7 @@ use lib.ListN.{length, getElem?, set}
 use lib.Dec.{leb, ltb}
 use Rattle.definition.specs.declared.Refusal.the-variants.{Word}
 use Rattle.definition.specs.declared.Instruction.{Instruction}
-use Rattle.definition.specs.declared.Instruction.the-variants.{AconstNull, Sipush, Load, Store, Pop, Dup, Arithmetic, Getfield, Putfield, Invokevirtual, New, Return}
+use Rattle.definition.specs.declared.Instruction.the-variants.{AconstNull, Sipush, Load, Store, Pop, Dup, Arithmetic, Getfield, Putfield, Invokevirtual, New, Return, Branch}
 use Rattle.definition.specs.Numbers.{wordUnknown, wordAbsent, wordFull, wordNull, wordBusy, wordStuck, nameObject, loaderLimit, objectLimit, frameLimit, operandLimit}
 use Rattle.definition.specs.Lists.{indexOf}
 use Rattle.definition.specs.Requests.{at}
@@ -17,7 +17,8 @@ use Rattle.definition.specs.Superclasses.{nearest, below}
 use Rattle.definition.specs.Classes.{Base, Class, find, superOf, loaderOf, slots, slotIs, hasField, selected, startSignature}
 use Rattle.definition.specs.Constraints.{World, newTie, signatureTies, post}
 use Rattle.definition.specs.Instructions.{Decoded}
-use Rattle.definition.specs.Machine.{Value, emptyValue, intValue, nullValue, objectValue, unlistedValue, Object, Frame, newObject, entryFrame, pop!, int!, ofKind!, kind!, compute, room!, under!, now, past}
+use Rattle.definition.specs.Machine.{Value, emptyValue, intValue, nullValue, objectValue, unlistedValue, Object, Frame, newObject, entryFrame, pop!, int!, ofKind!, kind!, compute, room!, under!, Now, past}
+use Rattle.first.specs.Files.{firstDecode}
 use Rattle.definition.specs.Answers.{wanted, Result, refused, ok, _>>=_, need, take?}
 
 -- an object exists from its making until its row is emptied
@@ -40,6 +41,12 @@ pub record FirstProgress : Type 0 where
   pub objects : List Object
   pub frames : List Frame
   pub result : Option ℕ
+
+-- the instruction at the frame's point, with the frame's class and method; 14 if it can't be read
+unfoldable pub firstNow : World → Frame → Result Now
+firstNow w f =
+    take? (getElem? (w .base .classes) (f .class)) (Word wordStuck) >>= λ k. take? (getElem? (k .methods) (f .method)) (Word wordStuck) >>= λ m.
+    take? (firstDecode (m .code) (f .point)) (Word wordStuck) >>= λ i. ok (record { theClass = k; method = m; at = i })
 
 -- a value given back to the frame below; a first frame's must be an int
 unfoldable pub firstGive : List Frame → World → List Object → Value → Result FirstProgress
@@ -100,11 +107,12 @@ module _ (w : World) (os : List Object) (f : Frame) (fs : List Frame) (k : Class
       take? (find (w .base .cache) (at (k .loader) c)) (wanted (at (k .loader) c)) >>= λ e.
       need (ltb (length os) objectLimit && ltb (length (f .operands)) operandLimit) (Word wordFull) >>= λ _.
       ok (record { world = w; objects = os ++ (newObject (w .base) e ∷ []); frames = past f i (objectValue (length os) ∷ f .operands) (f .locals) ∷ fs; result = none })
+  firstExecute (Branch c p) = refused (Word wordStuck)
   firstExecute (Return kind) = under! fs >>= λ _. pop! (f .operands) >>= λ p. ofKind! kind (p .top) >>= λ _. firstGive fs w os (p .top)
 
 -- one instruction of the frame f, above the frames fs of its task
 unfoldable pub firstStep : World → List Object → Frame → List Frame → Result FirstProgress
-firstStep w os f fs = now w f >>= λ n. firstExecute w os f fs (n .theClass) (n .at) (n .at .instruction)
+firstStep w os f fs = firstNow w f >>= λ n. firstExecute w os f fs (n .theClass) (n .at) (n .at .instruction)
 
 -- start: a new object and a first frame in the method selected for (m, int, int). Refusals: 3 12 5 7 10
 unfoldable pub firstStarted : ℕ → ℕ → ℕ → ℕ → World → List Object → List Frame → Result FirstProgress

@@ -5,18 +5,23 @@
 -- machine as `today` says, and what the paper names is a case of `Involved`. Of the papers so far:
 --
 -- 1, dead objects: `Carries` forgets the owners. No call of the first document frees a row, so none is involved.
-use mathlib.Core.Path.{_≡_, ap}
+-- 2, choices and loops: tables carry as before. Files of version 2 are involved: a define of one, and any call but boot on tables that keep one.
+use mathlib.Core.Path.{_≡_, refl, ap}
+use mathlib.Core.Bool.{Bool, true, false}
 use mathlib.Core.List.{List, [], _∷_, map}
 use mathlib.Core.Logic.{_⊎_, inl, inr}
 use Rattle.definition.specs.Lists.{Each}
 use Rattle.definition.specs.declared.Reply.{Reply}
-use Rattle.definition.specs.declared.Reply.the-variants.{Stepped}
+use Rattle.definition.specs.declared.Reply.the-variants.{Accepted, Stepped}
 use Rattle.definition.specs.Tables.{Tables}
-use Rattle.definition.specs.Calls.{Done, Call, callBoot, callRows, callStep, callRun, perform, performAll}
+use Rattle.definition.specs.Calls.{boot, Done, Call, callBoot, callRows, callStep, callRun, perform, performAll}
 use Rattle.first.specs.Tables.{FirstTables}
-use Rattle.first.specs.Calls.{FirstReply, FirstCall, firstCallBoot, firstCallRows, firstCallStep, firstCallRun, FirstDone, firstPerform, firstPerformAll}
-use Rattle.first.specs.SameRows.{todayRow}
-pub use Rattle.first.specs.Carries.{Carries, same-broken}
+use Rattle.first.specs.Calls.{FirstReply, FirstRowCall, firstRowDefine, firstRowRecord, firstRowStart, firstRowDrop, FirstCall, firstCallBoot, firstCallRows, firstCallStep, firstCallRun, FirstDone, firstBoot, firstPerform, firstPerformAll}
+use Rattle.first.specs.SameFiles.{laterFile}
+use Rattle.first.specs.SameRows.{BringsLater, BringsNone, todayRow}
+pub use Rattle.first.specs.Carries.{Carries, EarlyTables, keepsLater, keeps-none, same-broken}
+use Rattle.layout.specs.Tests.{All}
+use Rattle.first.specs.KeepsNone.{keeps-early, booted-early}
 use Rattle.first.specs.SameCalls.{same-boot, same-rows-call, same-step-tables, same-run}
 
 -- a call of the first document, asked of today's machine
@@ -29,9 +34,13 @@ today (firstCallRun n) = callRun n
 abbrev pub SameAnswer : FirstReply → Reply → Type 0
 SameAnswer a b = a ≡ b
 
--- what the papers name is involved in call c, which the first document's machine answers with a and today's with b: nothing yet
-abbrev pub Involved : FirstCall → FirstReply → Reply → Type 0
-Involved c a b = ⊥
+-- what the papers name is involved in call c on tables u, which the first document's machine answers with a and today's with b: a file of a later version, which the
+-- tables keep or the call brings
+abbrev pub Involved : FirstCall → FirstTables → FirstReply → Reply → Type 0
+Involved firstCallBoot u a b = ⊥
+Involved (firstCallRows c) u a b = (keepsLater u ≡ true) ⊎ BringsLater c
+Involved firstCallStep u a b = keepsLater u ≡ true
+Involved (firstCallRun n) u a b = keepsLater u ≡ true
 
 -- One call
 
@@ -39,16 +48,46 @@ pub record Alike (d : FirstDone FirstReply) (e : Done Reply) : Type 0 where
   pub answer : SameAnswer (d .answer) (e .answer)
   pub tables : Carries (d .tables) (e .tables)
 
-same-call : (c : FirstCall) (u : FirstTables) (t : Tables) → Carries u t → Alike (firstPerform c u) (perform (today c) t)
+-- a call that brings no such file, on tables that keep none
+abbrev pub CallBringsNone : FirstCall → Type 0
+CallBringsNone firstCallBoot = Unit {0}
+CallBringsNone (firstCallRows c) = BringsNone c
+CallBringsNone firstCallStep = Unit {0}
+CallBringsNone (firstCallRun n) = Unit {0}
+
+boot-call : (u : FirstTables) (t : Tables) → Carries u t → Alike (firstPerform firstCallBoot u) (perform callBoot t)
 unfolding firstPerform perform
-same-call firstCallBoot u t h = let d = same-boot u t h in record { answer = d .answer; tables = d .tables }
-same-call (firstCallRows c) u t h = let d = same-rows-call c u t h in record { answer = d .answer; tables = d .tables }
-same-call firstCallStep u t h = let d = same-step-tables u t h in record { answer = ap Stepped (d .answer); tables = d .tables }
-same-call (firstCallRun n) u t h = let d = same-run n u t h in record { answer = d .answer; tables = d .tables }
+boot-call u t h = let d = same-boot u t h in record { answer = d .answer; tables = d .tables }
+
+same-call : (c : FirstCall) → CallBringsNone c → (u : FirstTables) (t : Tables) → Carries u t → EarlyTables u → Alike (firstPerform c u) (perform (today c) t)
+unfolding firstPerform perform
+same-call firstCallBoot b u t h x = boot-call u t h
+same-call (firstCallRows c) b u t h x = let d = same-rows-call c b u t h x in record { answer = d .answer; tables = d .tables }
+same-call firstCallStep b u t h x = let d = same-step-tables u t h x in record { answer = ap Stepped (d .answer); tables = d .tables }
+same-call (firstCallRun n) b u t h x = let d = same-run n u t h x in record { answer = d .answer; tables = d .tables }
+
+brings : (c : FirstRowCall) → BringsLater c ⊎ BringsNone c
+brings (firstRowDefine l bs) = go (laterFile bs)
+  where
+    go : (b : Bool) → (b ≡ true) ⊎ (b ≡ false)
+    go true = inl refl
+    go false = inr refl
+brings (firstRowRecord l n c) = inr tt
+brings (firstRowStart k l n m v) = inr tt
+brings (firstRowDrop k) = inr tt
 
 pub one-call : (c : FirstCall) (u : FirstTables) (t : Tables) → Carries u t
-    → Involved c (firstPerform c u .answer) (perform (today c) t .answer) ⊎ Alike (firstPerform c u) (perform (today c) t)
-one-call c u t h = inr (same-call c u t h)
+    → Involved c u (firstPerform c u .answer) (perform (today c) t .answer) ⊎ Alike (firstPerform c u) (perform (today c) t)
+one-call c u t h = go c (keepsLater u) refl
+  where
+    go : (c : FirstCall) (b : Bool) → keepsLater u ≡ b → Involved c u (firstPerform c u .answer) (perform (today c) t .answer) ⊎ Alike (firstPerform c u) (perform (today c) t)
+    go firstCallBoot b e = inr (boot-call u t h)
+    go (firstCallRows c) true e = inl (inl e)
+    go (firstCallRows c) false e = elim (brings c) [ inl l ↦ inl (inr l) | inr n ↦ inr (same-call (firstCallRows c) n u t h (keeps-none u e)) ]
+    go firstCallStep true e = inl e
+    go firstCallStep false e = inr (same-call firstCallStep tt u t h (keeps-none u e))
+    go (firstCallRun n) true e = inl e
+    go (firstCallRun n) false e = inr (same-call (firstCallRun n) tt u t h (keeps-none u e))
 
 -- Lists of calls
 
@@ -56,7 +95,7 @@ one-call c u t h = inr (same-call c u t h)
 abbrev pub Uninvolved : List FirstCall → FirstTables → Tables → Type 0
 Uninvolved [] u t = Unit {0}
 Uninvolved (c ∷ cs) u t =
-    (Involved c (firstPerform c u .answer) (perform (today c) t .answer) → ⊥) × Uninvolved cs (firstPerform c u .tables) (perform (today c) t .tables)
+    (Involved c u (firstPerform c u .answer) (perform (today c) t .answer) → ⊥) × Uninvolved cs (firstPerform c u .tables) (perform (today c) t .tables)
 
 -- every answer is the same, and the tables left carry those left by the first document's machine
 pub many-calls : (cs : List FirstCall) (u : FirstTables) (t : Tables) → Carries u t → Uninvolved cs u t
@@ -65,7 +104,7 @@ unfolding performAll firstPerformAll
 many-calls [] u t h n = (tt, h)
 many-calls (c ∷ cs) u t h n = go (one-call c u t h) (λ k. many-calls cs (firstPerform c u .tables) (perform (today c) t .tables) k (n .1))
   where
-    go : Involved c (firstPerform c u .answer) (perform (today c) t .answer) ⊎ Alike (firstPerform c u) (perform (today c) t)
+    go : Involved c u (firstPerform c u .answer) (perform (today c) t .answer) ⊎ Alike (firstPerform c u) (perform (today c) t)
         → (Carries (firstPerform c u .tables) (perform (today c) t .tables)
         → Each SameAnswer (firstPerformAll cs (firstPerform c u .tables) .answer) (performAll (map today cs) (perform (today c) t .tables) .answer)
         × Carries (firstPerformAll cs (firstPerform c u .tables) .tables) (performAll (map today cs) (perform (today c) t .tables) .tables))
@@ -73,3 +112,24 @@ many-calls (c ∷ cs) u t h n = go (one-call c u t h) (λ k. many-calls cs (firs
         × Carries (firstPerformAll (c ∷ cs) u .tables) (performAll (map today (c ∷ cs)) t .tables)
     go (inl x) later = absurd (n .0 x)
     go (inr a) later = let l = later (a .tables) in ((a .answer, l .0), l .1)
+
+-- Version 1 alone: the calls bring no file of a later version, and the tables keep none. Then every answer is what it was, and the tables left keep none
+
+abbrev SameLeft : List FirstCall → FirstTables → Tables → Type 0
+SameLeft cs u t = Each SameAnswer (firstPerformAll cs u .answer) (performAll (map today cs) t .answer) × Carries (firstPerformAll cs u .tables) (performAll (map today cs) t .tables)
+
+pub answers-kept : (cs : List FirstCall) → All CallBringsNone cs → (u : FirstTables) (t : Tables) → Carries u t → EarlyTables u → SameLeft cs u t × EarlyTables (firstPerformAll cs u .tables)
+unfolding performAll firstPerformAll
+answers-kept [] b u t h x = ((tt, h), x)
+answers-kept (c ∷ cs) b u t h x =
+    let a = same-call c (b .0) u t h x in
+    let r = answers-kept cs (b .1) (firstPerform c u .tables) (perform (today c) t .tables) (a .tables) (keeps-early c u x) in
+    (((a .answer, r .0 .0), r .0 .1), r .1)
+
+-- so from a boot that is accepted, whatever the tables held
+pub answers-from-boot : (u : FirstTables) (t : Tables) → Carries u t → firstBoot u .answer ≡ Accepted → (cs : List FirstCall) → All CallBringsNone cs → SameLeft (firstCallBoot ∷ cs) u t
+unfolding performAll firstPerformAll firstPerform perform
+answers-from-boot u t h e cs b =
+    let a = same-boot u t h in
+    let r = answers-kept cs b (firstBoot u .tables) (boot t .tables) (a .tables) (booted-early u e) in
+    ((a .answer, r .0 .0), r .0 .1)

@@ -1,24 +1,35 @@
--- A call of both machines on tables of which today's carry the first document's: the same answer, and tables that carry again.
-use mathlib.Core.Path.{_≡_, refl, ap}
+-- A call of both machines on tables of which today's carry the first document's, where no file of a later version is kept or brought: the same answer, and tables
+-- that carry again.
+use mathlib.Core.Path.{_≡_, refl, sym, ap, _∙_, subst₂}
 use mathlib.Core.Bool.{Bool, true, false, _&&_}
-use Prim.Native.Nat.{ℕ, zero, suc}
-use lib.ListN.{length}
+use mathlib.Core.List.{List, [], _∷_}
+use Prim.Native.Nat.{ℕ, zero, suc, _+_, _<_}
+use native.Mathlib.Omega.{arith}
+use lib.ListN.{length, getD, set}
 use lib.Dec.{leb}
 use Rattle.definition.specs.declared.Refusal.{Refusal}
 use Rattle.definition.specs.declared.Refusal.the-variants.{Word}
 use Rattle.definition.specs.declared.Answer.{Answer}
 use Rattle.definition.specs.declared.Answer.the-variants.{Idle, Ran, Finished, Refused}
 use Rattle.definition.specs.declared.Reply.the-variants.{Denied}
-use Rattle.definition.specs.Numbers.{wordUnknown, runLimit}
+use Rattle.definition.specs.Numbers.{wordBroken, wordUnknown, runLimit, countClasses, countKept}
+use Rattle.definition.specs.Lists.{rows, writeRows}
+use Rattle.definition.specs.Machine.{Frame}
 use Rattle.definition.specs.Answers.{Result, refused, ok}
-use Rattle.definition.specs.Tables.{Tables, Rows, view}
+use Rattle.definition.specs.Tables.{Tables, ClassRow, Rows, classRowAt, putClassRow, classRowsOf, keptOf, view}
+use Rattle.laws.specs.Wrapped.{Ok, then}
+use Rattle.layout.specs.Places.{rows-getD}
+use Rattle.layout.specs.Rows.{rows-back, cell-rows}
+use Rattle.layout.specs.Fills.{classes-fill, kept-fill}
 use Rattle.definition.specs.Calls.{Given, bootRows, Done, done, carried, wrap, boot, stepRows, stepTables, goOn, runFrom, run, onRowCall}
-use Rattle.first.specs.Tables.{FirstTables, firstCountsLength, FirstRows, firstView}
-use Rattle.first.specs.Calls.{FirstGiven, firstBootRows, FirstDone, firstCarried, firstWrap, firstBoot, firstStepRows, firstStepTables, firstRun, FirstRowCall, firstOnRowCall}
+use Rattle.first.specs.Tables.{FirstTables, firstCountsLength, FirstRows, firstWorldOf, firstViewOver, firstView, firstCountsOf, firstPut}
+use Rattle.first.specs.Broken.{firstBroken}
+use Rattle.first.specs.Calls.{FirstGiven, firstBootRows, FirstDone, firstCarried, firstWrap, firstBoot, firstStepTask, firstStepOn, firstStepRows, firstStepTables, firstRun, FirstRowCall, firstOnRowCall}
 use Rattle.first.specs.SameObjects.{noObjects}
 use Rattle.first.specs.Likewise.{Likewise}
-use Rattle.first.specs.SameRows.{SameRows, SameGiven, todayRow, same-row-call, same-step-rows}
-use Rattle.first.specs.Carries.{Carries, eight-counts, same-shaped, same-broken, same-store}
+use Rattle.first.specs.SameBases.{Early}
+use Rattle.first.specs.SameRows.{SameRows, EarlyRows, BringsNone, SameGiven, todayRow, same-row-call, same-step-rows}
+use Rattle.first.specs.Carries.{Carries, EarlyTables, early-rows, eight-counts, same-shaped, same-broken, same-store}
 use Rattle.first.specs.Written.{same-rows-put}
 
 pub record SameDone {A : Type 0} (d : FirstDone A) (e : Done A) : Type 0 where
@@ -43,7 +54,7 @@ same-boot u t h = either _ _ _ _ _ _ (same-shaped u t h)
 
 -- a call on rows, where it is alike on the same rows
 module _ {A : Type 0} (deny : Refusal → A) (f : FirstRows → Result (FirstGiven A)) (g : Rows → Result (Given A))
-    (alike : (r : FirstRows) (q : Rows) → SameRows r q → Likewise SameGiven (f r) (g q)) where
+    (alike : (r : FirstRows) (q : Rows) → SameRows r q → EarlyRows q → Likewise SameGiven (f r) (g q)) where
   same-carried : (u : FirstTables) (t : Tables) → Carries u t → length (u .counts) ≡ firstCountsLength → (o : Result (FirstGiven A)) (p : Result (Given A))
       → Likewise SameGiven o p → SameDone (firstCarried deny u o) (carried deny t p)
   unfolding firstCarried carried
@@ -52,17 +63,72 @@ module _ {A : Type 0} (deny : Refusal → A) (f : FirstRows → Result (FirstGiv
   same-carried u t h e (ok a) (refused w) l = absurd l
   same-carried u t h e (ok a) (ok b) l = record { answer = l .answer; tables = same-rows-put u t h e (a .rows) (b .rows) (l .rows) }
 
-  pub same-wrap : (u : FirstTables) (t : Tables) → Carries u t → SameDone (firstWrap deny f u) (wrap deny g t)
+  pub same-wrap : (u : FirstTables) (t : Tables) → Carries u t → EarlyTables u → SameDone (firstWrap deny f u) (wrap deny g t)
   unfolding firstWrap wrap
-  same-wrap u t h = either _ _ _ _ _ _ (same-broken u t h) (λ _. same-left _ u t h)
-      (λ b. let s = same-store u t h b in same-carried u t h (s .eight) (f (firstView u)) (g (view t)) (alike (firstView u) (view t) (s .rows)))
+  same-wrap u t h x = either _ _ _ _ _ _ (same-broken u t h x) (λ _. same-left _ u t h)
+      (λ b. let s = same-store u t h x b in same-carried u t h (s .eight) (f (firstView u)) (g (view t)) (alike (firstView u) (view t) (s .rows) (early-rows u t x (s .rows))))
 
-pub same-step-tables : (u : FirstTables) (t : Tables) → Carries u t → SameDone (firstStepTables u) (stepTables t)
+pub same-step-tables : (u : FirstTables) (t : Tables) → Carries u t → EarlyTables u → SameDone (firstStepTables u) (stepTables t)
 unfolding firstStepTables stepTables
-same-step-tables = same-wrap Refused firstStepRows stepRows (λ r q s. rw (s .rest) (same-step-rows (r .objects) q (s .objects)))
+same-step-tables = same-wrap Refused firstStepRows stepRows (λ r q s x. rw (s .rest) (same-step-rows (r .objects) q (s .objects) x))
 
-pub same-rows-call : (c : FirstRowCall) (u : FirstTables) (t : Tables) → Carries u t → SameDone (firstWrap Denied (firstOnRowCall c) u) (wrap Denied (onRowCall (todayRow c)) t)
-same-rows-call c = same-wrap Denied (firstOnRowCall c) (onRowCall (todayRow c)) (λ r q s. rw (s .rest) (same-row-call (r .objects) q (s .objects) c))
+pub same-rows-call : (c : FirstRowCall) → BringsNone c → (u : FirstTables) (t : Tables) → Carries u t → EarlyTables u → SameDone (firstWrap Denied (firstOnRowCall c) u) (wrap Denied (onRowCall (todayRow c)) t)
+same-rows-call c b = same-wrap Denied (firstOnRowCall c) (onRowCall (todayRow c)) (λ r q s x. rw (s .rest) (same-row-call (r .objects) q (s .objects) x c b))
+
+-- A step leaves the classes and their files
+
+pub count-after : (xs c : List ℕ) (j : ℕ) → length xs ≡ firstCountsLength → length c ≡ firstCountsLength → j < firstCountsLength → getD (writeRows set xs 0 c) j 0 ≡ getD xs j 0
+count-after xs c j a b l =
+    let z : 0 + j ≡ j = omega arith in
+    sym (rw z at (rows-getD (λ i. getD (writeRows set xs 0 c) i 0) (length xs) 0 j 0 (omega (arith, a))))
+    ∙ ap (λ (y : List ℕ). getD y j 0) (rows-back cell-rows xs c (omega (arith, a, b)))
+
+module _ (u : FirstTables) (r : FirstRows) (eight : length (u .counts) ≡ firstCountsLength) (ks : r .classes ≡ classRowsOf u) (bs : r .kept ≡ keptOf u) where
+  classes-after : classRowsOf (firstPut r u) ≡ classRowsOf u
+  unfolding firstPut firstCountsOf
+  classes-after =
+      let cells : writeRows putClassRow (r .classes) 0 (u .classes) ≡ u .classes = ap (λ (z : List ClassRow). writeRows putClassRow z 0 (u .classes)) ks ∙ classes-fill u .cells in
+      let many : getD (writeRows set (firstCountsOf r) 0 (u .counts)) countClasses 0 ≡ getD (u .counts) countClasses 0
+      = count-after (firstCountsOf r) (u .counts) countClasses refl eight (omega arith) ∙ (ap length ks ∙ classes-fill u .count) in
+      λ i. rows (classRowAt (cells i)) (many i) 0
+
+  kept-after : keptOf (firstPut r u) ≡ keptOf u
+  unfolding firstPut firstCountsOf
+  kept-after =
+      let cells : writeRows set (r .kept) 0 (u .kept) ≡ u .kept = ap (λ (z : List ℕ). writeRows set z 0 (u .kept)) bs ∙ kept-fill u .cells in
+      let many : getD (writeRows set (firstCountsOf r) 0 (u .counts)) countKept 0 ≡ getD (u .counts) countKept 0
+      = count-after (firstCountsOf r) (u .counts) countKept refl eight (omega arith) ∙ (ap length bs ∙ kept-fill u .count) in
+      λ i. rows (λ j. getD (cells i) j 0) (many i) 0
+
+  pub early-after : EarlyTables u → EarlyTables (firstPut r u)
+  early-after x = subst₂ (λ y z. Early y z) (sym kept-after) (sym classes-after) x
+
+abbrev pub SameFiles : {A : Type 0} → FirstRows → FirstGiven A → Type 0
+SameFiles r g = (g .rows .classes ≡ r .classes) × (g .rows .kept ≡ r .kept)
+
+step-files : (r : FirstRows) → Ok (firstStepRows r) (SameFiles r)
+unfolding firstStepRows
+step-files r = go (r .quote) (r .report)
+  where
+    task : (k : ℕ) (f : Frame) (fs : List Frame) → Ok (firstStepTask k (firstWorldOf r) f fs r) (SameFiles r)
+    task k f fs = unfold firstStepTask in then (SameFiles r) _ _ (λ _ _. (refl, refl))
+
+    go : (fs gs : List Frame) → Ok (firstStepOn fs gs (firstWorldOf r) r) (SameFiles r)
+    go (f ∷ fs) gs = unfold firstStepOn in task 0 f fs
+    go [] (f ∷ fs) = unfold firstStepOn in task 1 f fs
+    go [] [] = unfold firstStepOn in (refl, refl)
+
+pub step-early : (u : FirstTables) (t : Tables) → Carries u t → EarlyTables u → EarlyTables (firstStepTables u .tables)
+unfolding firstStepTables firstWrap firstView firstViewOver
+step-early u t h x = go (firstBroken u) refl
+  where
+    put : (o : Result (FirstGiven Answer)) → Ok o (SameFiles (firstView u)) → length (u .counts) ≡ firstCountsLength → EarlyTables (firstCarried Refused u o .tables)
+    put (refused w) f e = unfold firstCarried in x
+    put (ok g) f e = unfold firstCarried in early-after u (g .rows) e (f .0) (f .1) x
+
+    go : (b : Bool) → firstBroken u ≡ b → EarlyTables ((elim b as (λ _. FirstDone Answer) [ true ↦ done (Refused (Word wordBroken)) u | false ↦ firstCarried Refused u (firstStepRows (firstView u)) ]) .tables)
+    go true e = x
+    go false e = put (firstStepRows (firstView u)) (step-files (firstView u)) (same-store u t h x e .eight)
 
 -- A run: as many steps
 
@@ -77,14 +143,14 @@ same-on n k a b e u t h more = rw e (go b)
     go (Finished j m) = same-left _ u t h
     go (Refused w) = same-left _ u t h
 
-same-run-from : (n k : ℕ) (a : Answer) (u : FirstTables) (t : Tables) → Carries u t → SameDone (runFrom firstStepTables n k a u) (runFrom stepTables n k a t)
+same-run-from : (n k : ℕ) (a : Answer) (u : FirstTables) (t : Tables) → Carries u t → EarlyTables u → SameDone (runFrom firstStepTables n k a u) (runFrom stepTables n k a t)
 unfolding runFrom
-same-run-from zero k a u t h = same-left _ u t h
-same-run-from (suc n) k a u t h =
-    let d = same-step-tables u t h in
-    same-on n k _ _ (d .answer) _ _ (d .tables) (λ c. same-run-from n (suc k) c _ _ (d .tables))
+same-run-from zero k a u t h x = same-left _ u t h
+same-run-from (suc n) k a u t h x =
+    let d = same-step-tables u t h x in
+    same-on n k _ _ (d .answer) _ _ (d .tables) (λ c. same-run-from n (suc k) c _ _ (d .tables) (step-early u t h x))
 
-pub same-run : (n : ℕ) (u : FirstTables) (t : Tables) → Carries u t → SameDone (firstRun n u) (run n t)
+pub same-run : (n : ℕ) (u : FirstTables) (t : Tables) → Carries u t → EarlyTables u → SameDone (firstRun n u) (run n t)
 unfolding firstRun run
-same-run n u t h = either _ _ _ _ _ _ (same-broken u t h) (λ _. same-left _ u t h)
-    (λ _. either (leb 1 n && leb n runLimit) _ _ _ _ _ refl (λ _. same-run-from n 0 Idle u t h) (λ _. same-left (Denied (Word wordUnknown)) u t h))
+same-run n u t h x = either _ _ _ _ _ _ (same-broken u t h x) (λ _. same-left _ u t h)
+    (λ _. either (leb 1 n && leb n runLimit) _ _ _ _ _ refl (λ _. same-run-from n 0 Idle u t h x) (λ _. same-left (Denied (Word wordUnknown)) u t h))

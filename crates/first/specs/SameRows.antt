@@ -1,25 +1,35 @@
--- The same rows in both machines: the same objects, and every other part equal. They are sound together, and a call on them gives the same answer and leaves
--- the same rows again.
-use mathlib.Core.Path.{_≡_, refl, ap, _∙_}
+-- The same rows in both machines: the same objects, and every other part equal. Where no class's file is of a later version they are sound together, and a call
+-- on them that brings none gives the same answer and leaves the same rows again.
+use mathlib.Core.Path.{_≡_, refl, sym, ap, _∙_}
+use mathlib.Core.Option.{Option}
 use mathlib.Core.Bool.{Bool, true, false}
 use mathlib.Core.List.{List, [], _∷_}
-use Prim.Native.Nat.{ℕ, _<_}
+use Prim.Native.Nat.{ℕ, _+_, _<_}
 use native.Mathlib.Omega.{arith}
 use lib.ListN.{length}
 use lib.Dec.{leb, ltb}
 use borrow.Author.Tests.{ltb-true, lt-ltb}
-use Rattle.definition.specs.Numbers.{taskLimit, operandLimit}
+use Rattle.definition.specs.Numbers.{wordFile, taskLimit, keptLimit, operandLimit}
+use Rattle.definition.specs.declared.Refusal.the-variants.{Word}
+use Rattle.definition.specs.Answers.{take?}
+use Rattle.definition.specs.Classes.{Base}
+use Rattle.definition.specs.File.{File, classOf}
+use Rattle.definition.specs.Loading.{recorded}
 use Rattle.definition.specs.Lists.{every, all, isSome}
 use Rattle.definition.specs.Machine.{Value, emptyValue, intValue, nullValue, objectValue, unlistedValue, Object, owned, Objects, Frame, Progress}
 use Rattle.definition.specs.Tables.{Rows, worldOf, framesIn}
-use Rattle.definition.specs.Broken.{classesFit, entryFits, tieFits, subtypeFits, valueFits, localFits, objectFits, frameFits, sound}
+use Rattle.definition.specs.Broken.{entryFits, tieFits, subtypeFits, valueFits, localFits, objectFits, frameFits, sound}
 use Rattle.definition.specs.Calls.{Given, progressed, answerOf, defineRows, recordRows, startRows, dropRows, stepTask, stepOn, stepRows, RowCall, rowDefine, rowRecord, rowStart, rowDrop, onRowCall}
 use Rattle.first.specs.Machine.{FirstProgress}
-use Rattle.first.specs.Tables.{FirstRows, firstRowsOf}
-use Rattle.first.specs.Broken.{firstValueFits, firstLocalFits, firstObjectFits, firstFrameFits, firstSound}
+use Rattle.first.specs.Tables.{FirstRows, firstRowsOf, firstBaseOf, firstWorldOf}
+use Rattle.first.specs.Broken.{firstValueFits, firstLocalFits, firstObjectFits, firstFrameFits, firstClassesFit, firstSound}
+use Rattle.laws.specs.Results.{take-ok}
+use Rattle.first.specs.Verifier.{firstDefine}
+use Rattle.first.specs.SameFiles.{laterFile, same-read, read-old, same-define}
+use Rattle.first.specs.SameBases.{Early, same-classes, classes-old, same-classes-fit}
 use Rattle.first.specs.Calls.{FirstGiven, firstProgressed, firstDefineRows, firstRecordRows, firstStartRows, firstDropRows, firstStepTask, firstStepOn, firstStepRows, FirstRowCall, firstRowDefine, firstRowRecord, firstRowStart, firstRowDrop, firstOnRowCall}
 use Rattle.first.specs.SameObjects.{SameObjects, noObjects, sameObject, same-existing}
-use Rattle.first.specs.Likewise.{Likewise, both, after, passed}
+use Rattle.first.specs.Likewise.{Likewise, both, after, after-in, passed}
 use Rattle.first.specs.SameSteps.{SameProgress, same-step, same-started}
 
 -- today's rows, but for the objects
@@ -68,11 +78,30 @@ module _ (os : List Object) (qs : Objects) (h : SameObjects os qs) where
       λ i. every
       (ltb (f .class) n ∷ leb (length (f .operands)) operandLimit ∷ all (λ v. same-value v i) (f .operands) ∷ all (λ v. same-local v i) (f .locals) ∷ [])
 
-pub same-sound : (os : List Object) (q : Rows) → SameObjects os (q .objects) → firstSound (plain os q) ≡ sound q
+-- no file of a later version is kept, and the call brings none
+abbrev pub EarlyRows : Rows → Type 0
+EarlyRows q = Early (q .kept) (q .classes)
+
+same-base : (q : Rows) → EarlyRows q → firstBaseOf (q .classes) (q .kept) (q .cache) ≡ worldOf q .base
+same-base q e = λ i. record { classes = same-classes (q .kept) (q .classes) e i; cache = q .cache }
+
+abbrev pub BringsLater : FirstRowCall → Type 0
+BringsLater (firstRowDefine l bs) = laterFile bs ≡ true
+BringsLater (firstRowRecord l n c) = ⊥
+BringsLater (firstRowStart k l n m v) = ⊥
+BringsLater (firstRowDrop k) = ⊥
+
+abbrev pub BringsNone : FirstRowCall → Type 0
+BringsNone (firstRowDefine l bs) = laterFile bs ≡ false
+BringsNone (firstRowRecord l n c) = Unit {0}
+BringsNone (firstRowStart k l n m v) = Unit {0}
+BringsNone (firstRowDrop k) = Unit {0}
+
+pub same-sound : (os : List Object) (q : Rows) → SameObjects os (q .objects) → EarlyRows q → firstSound (plain os q) ≡ sound q
 unfolding firstSound sound
-same-sound os q h =
+same-sound os q h e =
     λ i. every
-    (classesFit (worldOf q .base) (q .kept) (q .classes)
+    ((ap (λ (b : Base). firstClassesFit b (q .kept) (q .classes)) (same-base q e) ∙ same-classes-fit (worldOf q .base) (q .kept) (q .classes) e) i
     ∷ all (entryFits (length (q .classes))) (q .cache)
     ∷ all tieFits (q .ties)
     ∷ all subtypeFits (q .subtypes)
@@ -94,31 +123,37 @@ todayRow (firstRowRecord l n c) = rowRecord l n c
 todayRow (firstRowStart k l n m v) = rowStart k l n m v
 todayRow (firstRowDrop k) = rowDrop k
 
-module _ (os : List Object) (q : Rows) (h : SameObjects os (q .objects)) where
+module _ (os : List Object) (q : Rows) (h : SameObjects os (q .objects)) (e : EarlyRows q) where
+  same-world : firstWorldOf (plain os q) ≡ worldOf q
+  same-world = λ i. record { base = same-base q e i; ties = q .ties; subtypes = q .subtypes }
+
   -- a task's progress
   same-progressed : (k : ℕ) (p : FirstProgress) (o : Progress) → SameProgress p o → SameRows (firstProgressed k (plain os q) p) (progressed k q o)
   same-progressed k p o g = record { rest = ap (firstProgressed k (plain os q)) (g .rest); objects = g .objects }
 
-  pub same-row-call : (c : FirstRowCall) → Likewise SameGiven (firstOnRowCall c (plain os q)) (onRowCall (todayRow c) q)
+  pub same-row-call : (c : FirstRowCall) → BringsNone c → Likewise SameGiven (firstOnRowCall c (plain os q)) (onRowCall (todayRow c) q)
   unfolding firstDefineRows defineRows firstRecordRows recordRows firstStartRows startRows firstDropRows dropRows
-  same-row-call (firstRowDefine l bs) =
-      after SameGiven _ _ refl _ _ (λ _. after SameGiven _ _ refl _ _ (λ f. after SameGiven _ _ refl _ _ (λ w. record { answer = refl; rows = record { rest = refl; objects = h } })))
-  same-row-call (firstRowRecord l n c) = after SameGiven _ _ refl _ _ (λ w. record { answer = refl; rows = record { rest = refl; objects = h } })
-  same-row-call (firstRowStart k l n m v) =
-      passed SameGiven _ _ _ _ (λ t. both SameProgress SameGiven _ _ _ _ (same-started os (q .objects) h k (ltb-true k taskLimit t) (worldOf q) l n m v (framesIn k q))
+  same-row-call (firstRowDefine l bs) b =
+      let z = same-read bs b in
+      after SameGiven _ _ refl _ _ (λ _. after-in SameGiven _ _ (ap (λ (o : Option File). take? o (Word wordFile)) z) _ _ (λ f t.
+      after SameGiven _ _ (ap (firstDefine (leb (length (q .kept) + length bs) keptLimit) (classOf l f)) same-world ∙ same-define _ (classOf l f) (worldOf q) (read-old l bs b f (sym z ∙ take-ok _ _ t))) _ _
+      (λ w. record { answer = refl; rows = record { rest = refl; objects = h } })))
+  same-row-call (firstRowRecord l n c) b = after SameGiven _ _ (ap (recorded l n c) same-world) _ _ (λ w. record { answer = refl; rows = record { rest = refl; objects = h } })
+  same-row-call (firstRowStart k l n m v) b =
+      passed SameGiven _ _ _ _ (λ t. both SameProgress SameGiven _ _ _ _ (rw same-world (same-started os (q .objects) h k (ltb-true k taskLimit t) (worldOf q) l n m v (framesIn k q)))
       (λ p o g. record { answer = refl; rows = same-progressed k p o g }))
-  same-row-call (firstRowDrop k) = after SameGiven _ _ refl _ _ (λ _. record { answer = refl; rows = record { rest = refl; objects = h } })
+  same-row-call (firstRowDrop k) b = after SameGiven _ _ refl _ _ (λ _. record { answer = refl; rows = record { rest = refl; objects = h } })
 
   same-task : (k : ℕ) → k < taskLimit → (f : Frame) (fs : List Frame)
       → Likewise SameGiven (firstStepTask k (worldOf q) f fs (plain os q)) (stepTask k (worldOf q) f fs q)
   unfolding firstStepTask stepTask
   same-task k t f fs =
-      both SameProgress SameGiven _ _ _ _ (same-step os (q .objects) h k t (worldOf q) f fs)
+      both SameProgress SameGiven _ _ _ _ (same-step os (q .objects) h k t (worldOf q) (classes-old (q .kept) (q .classes) e) f fs)
       (λ p o g. record { answer = ap (λ (z : FirstProgress). answerOf k (z .result)) (g .rest); rows = same-progressed k p o g })
 
   pub same-step-rows : Likewise SameGiven (firstStepRows (plain os q)) (stepRows q)
   unfolding firstStepRows stepRows
-  same-step-rows = go (q .quote) (q .report)
+  same-step-rows = rw same-world (go (q .quote) (q .report))
     where
       go : (fs gs : List Frame) → Likewise SameGiven (firstStepOn fs gs (worldOf q) (plain os q)) (stepOn fs gs (worldOf q) q)
       go (f ∷ fs) gs = unfold firstStepOn stepOn in same-task 0 (omega arith) f fs

@@ -1,19 +1,24 @@
 -- One instruction, and a start, of both machines on the same objects: the same refusal, or the same constraints, frames and result, with the same objects again.
-use mathlib.Core.Path.{_≡_, refl}
+use mathlib.Core.Path.{_≡_, refl, sym}
+use mathlib.Core.Option.{some, Option·none-ne-some}
 use mathlib.Core.List.{List, [], _∷_}
 use Prim.Native.Nat.{ℕ, _<_}
+use lib.ListN.{getElem?}
 use Rattle.definition.specs.declared.Instruction.{Instruction}
-use Rattle.definition.specs.declared.Instruction.the-variants.{AconstNull, Sipush, Load, Store, Pop, Dup, Arithmetic, Getfield, Putfield, Invokevirtual, New, Return}
+use Rattle.definition.specs.declared.Instruction.the-variants.{AconstNull, Sipush, Load, Store, Pop, Dup, Arithmetic, Getfield, Putfield, Invokevirtual, New, Return, Branch}
 use Rattle.definition.specs.Numbers.{taskLimit}
 use Rattle.definition.specs.Classes.{Base, Class}
 use Rattle.definition.specs.Constraints.{World}
 use Rattle.definition.specs.Instructions.{Decoded}
 use Rattle.definition.specs.Machine.{Value, emptyValue, intValue, nullValue, objectValue, unlistedValue, Object, Objects, Frame, object!, Progress, give, execute, step}
+use Rattle.definition.specs.Verifier.{target}
 use Rattle.definition.specs.Loading.{started}
 use Rattle.definition.specs.Answers.{Result, _>>=_}
 use Rattle.first.specs.Machine.{firstObject!, FirstProgress, firstGive, firstExecute, firstStep, firstStarted}
 use Rattle.first.specs.SameObjects.{SameObjects, same-existing, same-next, same-room, same-made, same-changed}
-use Rattle.first.specs.Likewise.{Likewise, after}
+use Rattle.first.specs.Likewise.{Likewise, after, after-in}
+use Rattle.first.specs.SameFiles.{Old, Straight}
+use Rattle.first.specs.SameBases.{same-now, now-straight}
 
 -- today's progress, but for the objects
 abbrev pub plainProgress : List Object → Progress → FirstProgress
@@ -50,32 +55,34 @@ module _ (os : List Object) (qs : Objects) (h : SameObjects os qs) where
   same-give (g ∷ gs) w v = record { rest = refl; objects = h }
 
   module _ (task : ℕ) (two : task < taskLimit) (w : World) (f : Frame) (fs : List Frame) (k : Class) (d : Decoded) where
-    pub same-execute : (i : Instruction) → Likewise SameProgress (firstExecute w os f fs k d i) (execute task w qs f fs k d i)
+    pub same-execute : (i : Instruction) → Straight i → Likewise SameProgress (firstExecute w os f fs k d i) (execute task w qs f fs k d i)
     unfolding firstExecute execute
-    same-execute AconstNull = then _ _ _ (λ _. record { rest = refl; objects = h })
-    same-execute (Sipush n) = then _ _ _ (λ _. record { rest = refl; objects = h })
-    same-execute (Load kind j) = then _ _ _ (λ _. then _ _ _ (λ v. then _ _ _ (λ _. record { rest = refl; objects = h })))
-    same-execute (Store kind j) = then _ _ _ (λ p. then _ _ _ (λ _. then _ _ _ (λ _. record { rest = refl; objects = h })))
-    same-execute Pop = then _ _ _ (λ p. record { rest = refl; objects = h })
-    same-execute Dup = then _ _ _ (λ _. then _ _ _ (λ p. record { rest = refl; objects = h }))
-    same-execute (Arithmetic o) = then _ _ _ (λ p. then _ _ _ (λ q. then _ _ _ (λ b. then _ _ _ (λ a. then _ _ _ (λ n. record { rest = refl; objects = h })))))
-    same-execute (Getfield c n t) =
+    same-execute AconstNull z = then _ _ _ (λ _. record { rest = refl; objects = h })
+    same-execute (Sipush n) z = then _ _ _ (λ _. record { rest = refl; objects = h })
+    same-execute (Load kind j) z = then _ _ _ (λ _. then _ _ _ (λ v. then _ _ _ (λ _. record { rest = refl; objects = h })))
+    same-execute (Store kind j) z = then _ _ _ (λ p. then _ _ _ (λ _. then _ _ _ (λ _. record { rest = refl; objects = h })))
+    same-execute Pop z = then _ _ _ (λ p. record { rest = refl; objects = h })
+    same-execute Dup z = then _ _ _ (λ _. then _ _ _ (λ p. record { rest = refl; objects = h }))
+    same-execute (Arithmetic o) z = then _ _ _ (λ p. then _ _ _ (λ q. then _ _ _ (λ b. then _ _ _ (λ a. then _ _ _ (λ n. record { rest = refl; objects = h })))))
+    same-execute (Getfield c n t) z =
         then _ _ _ (λ e. then _ _ _ (λ _. then _ _ _ (λ _. then _ _ _ (λ (p : Popped).
         then-by _ _ (same-receiver (w .base) e (p .top)) _ _ (λ o. then _ _ _ (λ j. then _ _ _ (λ v. record { rest = refl; objects = h })))))))
-    same-execute (Putfield c n t) =
+    same-execute (Putfield c n t) z =
         then _ _ _ (λ e. then _ _ _ (λ _. then _ _ _ (λ _. then _ _ _ (λ p. then _ _ _ (λ (q : Popped). then _ _ _ (λ _.
         then-by _ _ (same-receiver (w .base) e (q .top)) _ _ (λ o. then _ _ _ (λ j. record { rest = refl; objects = same-changed os qs h _ _ }))))))))
-    same-execute (Invokevirtual c s) =
+    same-execute (Invokevirtual c s) z =
         then _ _ _ (λ e. then _ _ _ (λ _. then _ _ _ (λ _. then _ _ _ (λ p. then _ _ _ (λ (q : Popped). then _ _ _ (λ _.
         then-by _ _ (same-receiver (w .base) e (q .top)) _ _ (λ o. then _ _ _ (λ m. record { rest = refl; objects = h }))))))))
-    same-execute (New c) =
+    same-execute (New c) z =
         then _ _ _ (λ e. then-by _ _ (rw (same-room task os qs h)) _ _ (λ _. record { rest = rw (same-next os qs h); objects = same-made task two _ os qs h }))
-    same-execute (Return kind) = then _ _ _ (λ _. then _ _ _ (λ (p : Popped). then _ _ _ (λ _. same-give fs w (p .top))))
+    same-execute (Branch c p) z = absurd (Option·none-ne-some p (sym (unfold target in z .nowhere)))
+    same-execute (Return kind) z = then _ _ _ (λ _. then _ _ _ (λ (p : Popped). then _ _ _ (λ _. same-give fs w (p .top))))
 
   module _ (task : ℕ) (two : task < taskLimit) (w : World) where
-    pub same-step : (f : Frame) (fs : List Frame) → Likewise SameProgress (firstStep w os f fs) (step task w qs f fs)
+    pub same-step : ((c : ℕ) (k : Class) → getElem? (w .base .classes) c ≡ some k → Old (k .version)) → (f : Frame) (fs : List Frame) → Likewise SameProgress (firstStep w os f fs) (step task w qs f fs)
     unfolding firstStep step
-    same-step f fs = then _ _ _ (λ n. same-execute task two w f fs (n .theClass) (n .at) (n .at .instruction))
+    same-step old f fs =
+        after-in SameProgress _ _ (same-now w f old) _ _ (λ n e. same-execute task two w f fs (n .theClass) (n .at) (n .at .instruction) (now-straight w f n e))
 
     pub same-started : (l n m v : ℕ) (fs : List Frame) → Likewise SameProgress (firstStarted l n m v w os fs) (started task l n m v w qs fs)
     unfolding firstStarted started

@@ -1,15 +1,19 @@
--- The first document's store: its rows, with objects that are never freed, and its tables, with the eight counts alone and no owners behind them.
+-- The first document's store: its classes, read of version 1 alone, its rows, with objects that are never freed, and its tables, with the eight counts alone and no owners behind them.
 use mathlib.Core.Bool.{Bool}
-use mathlib.Core.List.{List, [], _∷_}
+use mathlib.Core.Option.{Option, none, some}
+use mathlib.Core.List.{List, [], _∷_, map}
 use Prim.Native.Nat.{ℕ, _+_}
-use lib.ListN.{length, getD, set}
-use lib.Dec.{eqb}
+use lib.ListN.{length, getD, set, take, drop}
+use lib.Dec.{eqb, leb}
 use Rattle.definition.specs.Numbers.{taskLimit, countObjects, countFrames, classesLength, keptLength, cacheLength, tiesLength, subtypesLength, objectsLength, framesLength}
 use Rattle.definition.specs.Lists.{every, rows, writeRows, writeStack}
-use Rattle.definition.specs.Classes.{Base, Entry}
+use Rattle.definition.specs.Classes.{Base, Class, Entry}
 use Rattle.definition.specs.Constraints.{Tie, Subtype, World}
 use Rattle.definition.specs.Machine.{Object, Frame}
-use Rattle.definition.specs.Tables.{Tables, ClassRow, ofTask, baseOf, putClassRow, putEntry, putTie, putSubtype, objectAt, putObject, putFrameIn, classRowsOf, keptOf, cacheOf, tiesOf, subtypesOf, viewBase, framesOf}
+use Rattle.definition.specs.Tables.{Tables, ClassRow, ofTask, putClassRow, putEntry, putTie, putSubtype, objectAt, putObject, putFrameIn, classRowsOf, keptOf, cacheOf, tiesOf, subtypesOf, framesOf}
+use Rattle.definition.specs.File.{File, classOf, objectClass}
+use Rattle.definition.specs.Maybe.{_>>=_, need}
+use Rattle.first.specs.Files.{firstReadFile}
 
 abbrev pub FirstTables : Type 0
 FirstTables = Tables
@@ -29,6 +33,17 @@ firstShaped t = every
     ∷ eqb (length (t .objects)) objectsLength
     ∷ eqb (length (t .frames)) framesLength
     ∷ [])
+
+-- Classes, by their kept files; Object has none
+
+unfoldable pub firstFileAt : List ℕ → ClassRow → Option File
+firstFileAt bs k = need (leb (k .start + k .size) (length bs)) >>= λ _. firstReadFile (take (k .size) (drop (k .start) bs))
+
+unfoldable pub firstClassAt : List ℕ → ClassRow → Class
+firstClassAt bs k = elim (firstFileAt bs k) [ none ↦ objectClass | some f ↦ classOf (k .loader) f ]
+
+abbrev pub firstBaseOf : List ClassRow → List ℕ → List Entry → Base
+firstBaseOf ks bs es = record { classes = map (firstClassAt bs) ks; cache = es }
 
 -- The store as rows
 
@@ -75,7 +90,7 @@ abbrev pub firstWithFrames : ℕ → List Frame → FirstRows → FirstRows
 firstWithFrames k x r = firstRowsOf (r .classes) (r .kept) (r .cache) (r .ties) (r .subtypes) (r .objects) (ofTask k x (r .quote)) (ofTask k (r .report) x)
 
 abbrev pub firstWorldOf : FirstRows → World
-firstWorldOf r = record { base = baseOf (r .classes) (r .kept) (r .cache); ties = r .ties; subtypes = r .subtypes }
+firstWorldOf r = record { base = firstBaseOf (r .classes) (r .kept) (r .cache); ties = r .ties; subtypes = r .subtypes }
 
 -- The used rows, by their counts
 
@@ -86,8 +101,11 @@ firstObjectsOf b t = rows (objectAt b (t .objects)) (getD (t .counts) countObjec
 unfoldable pub firstViewOver : Base → FirstTables → FirstRows
 firstViewOver b t = firstRowsOf (classRowsOf t) (keptOf t) (cacheOf t) (tiesOf t) (subtypesOf t) (firstObjectsOf b t) (framesOf t 0) (framesOf t 1)
 
+abbrev pub firstViewBase : FirstTables → Base
+firstViewBase t = firstBaseOf (classRowsOf t) (keptOf t) (cacheOf t)
+
 unfoldable pub firstView : FirstTables → FirstRows
-firstView t = firstViewOver (viewBase t) t
+firstView t = firstViewOver (firstViewBase t) t
 
 -- Rows written back; every other cell stays
 

@@ -1,7 +1,7 @@
 -- What a step is going to do, as a plan of numbers, and what a plan means in rows. A plan speaks of the frame of a task whose row begins at cell b and goes
--- on at point q; fs are the frames below it. An instruction's function answers a plan whose meaning is what the machine does.
+-- on at point q, unless the plan jumps; fs are the frames below it. An instruction's function answers a plan whose meaning is what the machine does.
 use mathlib.Core.Path.{_≡_, refl}
-use mathlib.Core.Bool.{true}
+use mathlib.Core.Bool.{Bool, true, false}
 use mathlib.Core.Option.{none, some}
 use mathlib.Core.List.{List, [], _∷_}
 use Prim.Native.Nat.{ℕ, suc, _+_, _-_, _<_, _≤_}
@@ -20,7 +20,7 @@ use Rattle.frames.specs.declared.Cell.{Cell}
 use Rattle.frames.specs.declared.Entry.{Entry}
 use Rattle.frames.specs.Unused.{isUsed, unusedFrom}
 pub use Rattle.instructions.specs.declared.Plan.{Plan}
-pub use Rattle.instructions.specs.declared.Plan.the-variants.{Refuse, Keep, Above, Local, Give, Finish, Field, Enter, Make}
+pub use Rattle.instructions.specs.declared.Plan.the-variants.{Refuse, Keep, Jump, Above, Local, Give, Finish, Field, Enter, Make}
 
 abbrev pub decoded : Instruction → ℕ → Decoded
 decoded i n = record { instruction = i; size = n }
@@ -40,6 +40,7 @@ module _ (task : ℕ) (w : World) (os : Objects) (fs : List Frame) (F : List ℕ
   unfoldable pub meaning : Plan → Result Progress
   meaning (Refuse r) = refused r
   meaning (Keep d) = leaves os (frameOf F b q d ∷ fs)
+  meaning (Jump d p) = leaves os (frameOf F b p d ∷ fs)
   meaning (Above d v) = leaves os (withAbove F b q d (valueOf (v .kind) (v .bits)) ∷ fs)
   meaning (Local d j v) = leaves os (withLocal F b q d j (valueOf (v .kind) (v .bits)) ∷ fs)
   meaning (Give v) = give fs w os (valueOf (v .kind) (v .bits))
@@ -59,11 +60,23 @@ unfolding meaning computed valueOf pick _>>=_
 computed-means task w os fs F b q d (refused x) = refl
 computed-means task w os fs F b q d (ok n) = refl
 
+-- What becomes of a branch that leaves d operands, by whether it jumps
+unfoldable pub jumped : Bool → ℕ → ℕ → Plan
+jumped true d p = Jump d p
+jumped false d p = Keep d
+
+pub jumped-means : (task : ℕ) (w : World) (os : Objects) (fs : List Frame) (F : List ℕ) (b q d p : ℕ) (u : Bool)
+    → meaning task w os fs F b q (jumped u d p) ≡ ok (record { world = w; objects = os; frames = frameOf F b (pick u p q) d ∷ fs; result = none })
+unfolding meaning jumped pick
+jumped-means task w os fs F b q d p true = refl
+jumped-means task w os fs F b q d p false = refl
+
 -- What carrying a plan out asks, where task k of the tables has m frames below its top frame and B gives the classes' fields: operands, locals,
 -- fields, frames and objects that it writes have room, an object that it changes exists, and one that it makes gets the lowest number unused
 abbrev pub Fit : Base → Tables → ℕ → ℕ → Plan → Type 0
 Fit B t k m (Refuse r) = Unit {0}
 Fit B t k m (Keep d) = Unit {0}
+Fit B t k m (Jump d p) = Unit {0}
 Fit B t k m (Above d v) = d < 16
 Fit B t k m (Local d j v) = j < 8
 Fit B t k m (Give v) = (0 < m) × (getD (t .frames) (frameBase k (m - 1) + 3) 0 < 16)
@@ -76,6 +89,11 @@ pub computed-fits : (B : Base) (t : Tables) (k m d : ℕ) (r : Result ℕ) → d
 unfolding computed
 computed-fits B t k m d (refused w) h = tt
 computed-fits B t k m d (ok n) h = h
+
+pub jumped-fits : (B : Base) (t : Tables) (k m d p : ℕ) (u : Bool) → Fit B t k m (jumped u d p)
+unfolding jumped
+jumped-fits B t k m d p true = tt
+jumped-fits B t k m d p false = tt
 
 -- The plan r is right for the instruction i of a frame with d operands, whatever task, world, objects, frames below, class, point and size there are
 

@@ -3,8 +3,9 @@ ghost use mathlib.Core.Path.{_≡_};
 ghost use mathlib.Core.List.{List};
 ghost use Prim.Native.Nat.{ℕ};
 ghost use Rattle.definition.specs.Machine.{compute};
-ghost use Rattle.instructions.specs.Plans.{computed, FrameOnly, Returning};
+ghost use Rattle.instructions.specs.Plans.{computed, jumped, FrameOnly, Returning};
 ghost use Rattle.instructions.specs.Operands.{isReference, isOfKind, isKind, roomBelow};
+use definition::Condition;
 use definition::Instruction;
 use definition::Kind;
 use definition::Operator;
@@ -27,6 +28,8 @@ pub enum Plan {
     Refuse(Refusal),
     // d operands stay.
     Keep(u32),
+    // d operands stay, and the frame goes on at that point of its code.
+    Jump(u32, u16),
     // d operands stay, with a value above them.
     Above(u32, Cell),
     // d operands stay; a local is set to a value.
@@ -223,6 +226,64 @@ pub fn arithmetic(frames: &[u32], top: Top, o: Operator) -> Plan
         return refuse(WORD_STUCK);
     }
     compute(o, e - 1, x.bits, y.bits)
+}
+
+// Branches
+
+// A branch that leaves d operands: it jumps to the target, or goes on after itself.
+fn jump_if(taken: bool, d: u32, target: u16) -> Plan
+    ensures { λ r. ⌜ r ≡ jumped taken d target ⌝ }
+{
+    if taken {
+        return Plan::Jump(d, target);
+    }
+    Plan::Keep(d)
+}
+
+fn if_zero(frames: &[u32], top: Top, target: u16) -> Plan
+    ensures { λ r. ⌜ FrameOnly (now (frames .entry)) (top .base) (top .depth) (Instruction.Branch Condition.IfZero target) r ⌝ }
+{
+    let d = top.depth;
+    if d == 0 {
+        return refuse(WORD_STUCK);
+    }
+    let x = frames::operand(frames, top.base, d - 1);
+    if x.kind != KIND_INT {
+        return refuse(WORD_STUCK);
+    }
+    jump_if(x.bits == 0, d - 1, target)
+}
+
+fn if_less(frames: &[u32], top: Top, target: u16) -> Plan
+    ensures { λ r. ⌜ FrameOnly (now (frames .entry)) (top .base) (top .depth) (Instruction.Branch Condition.IfLess target) r ⌝ }
+{
+    let d = top.depth;
+    if d == 0 {
+        return refuse(WORD_STUCK);
+    }
+    let e = d - 1;
+    if e == 0 {
+        return refuse(WORD_STUCK);
+    }
+    let y = frames::operand(frames, top.base, e);
+    if y.kind != KIND_INT {
+        return refuse(WORD_STUCK);
+    }
+    let x = frames::operand(frames, top.base, e - 1);
+    if x.kind != KIND_INT {
+        return refuse(WORD_STUCK);
+    }
+    jump_if(cells::is_less(x.bits, y.bits), e - 1, target)
+}
+
+pub fn branch(frames: &[u32], top: Top, c: Condition, target: u16) -> Plan
+    ensures { λ r. ⌜ FrameOnly (now (frames .entry)) (top .base) (top .depth) (Instruction.Branch c target) r ⌝ }
+{
+    match c {
+        Condition::Always => Plan::Jump(top.depth, target),
+        Condition::IfZero => if_zero(frames, top, target),
+        Condition::IfLess => if_less(frames, top, target),
+    }
 }
 
 // Returns

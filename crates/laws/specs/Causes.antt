@@ -10,7 +10,9 @@ use Rattle.definition.specs.declared.Kind.{Kind}
 use Rattle.definition.specs.declared.Kind.the-variants.{IntKind, ReferenceKind}
 use Rattle.definition.specs.declared.Signature.{Signature}
 use Rattle.definition.specs.declared.Instruction.{Instruction}
-use Rattle.definition.specs.declared.Instruction.the-variants.{AconstNull, Sipush, Load, Store, Pop, Dup, Arithmetic, Getfield, Putfield, Invokevirtual, New, Return}
+use Rattle.definition.specs.declared.Condition.{Condition}
+use Rattle.definition.specs.declared.Condition.the-variants.{Always, IfZero, IfLess}
+use Rattle.definition.specs.declared.Instruction.the-variants.{AconstNull, Sipush, Load, Store, Pop, Dup, Arithmetic, Getfield, Putfield, Invokevirtual, New, Return, Branch}
 use Rattle.definition.specs.Lists.{every, any, isSome, isNone}
 use Rattle.definition.specs.Maybe.{_>>=_}
 use Rattle.definition.specs.Requests.{at}
@@ -18,7 +20,7 @@ use Rattle.definition.specs.Superclasses.{nearest, below}
 use Rattle.definition.specs.Classes.{Class, find, superOf, loaderOf, slots, hasField, Selected, selected, startSignature}
 use Rattle.definition.specs.Constraints.{Tie, World, agrees, newTie, signatureTies, agreesAfter}
 use Rattle.definition.specs.Instructions.{decode}
-use Rattle.definition.specs.Verifier.{Note, notesOf}
+use Rattle.definition.specs.Verifier.{Note, notesOf, unmapped}
 use Rattle.definition.specs.Machine.{Value, emptyValue, intValue, nullValue, objectValue, unlistedValue, Objects, Frame, Now, existing, roomless}
 use Rattle.definition.specs.Loading.{newSubtypes, overrideTies, hides, withClass, withEntry}
 use Rattle.definition.specs.File.{File, readFile, classOf}
@@ -45,7 +47,7 @@ abbrev pub isSomeAnd : {A : Type 0} → Option A → (A → Bool) → Bool
 isSomeAnd none test = false
 isSomeAnd (some a) test = test a
 
--- define: 3 2 6 4 5 8 10 9, of the file that the bytes are read as, the superclass p and the verifier's notes
+-- define: 3 2 15 6 4 5 8 10 9, of the file that the bytes are read as, the superclass p and the verifier's notes
 
 module _ (r : Rows) (l : ℕ) (f : File) where
   -- a limit would be passed
@@ -70,6 +72,7 @@ defineCauses l bs r =
     let notes = file >>= λ f. notesOf (classOf l f) (f .methods) in
     cause 3 (not (ltb l 16))
     ∷ cause 2 (isNone file)
+    ∷ cause 15 (isSomeAnd file (λ f. any (unmapped (classOf l f)) (f .methods)))
     ∷ cause 6 (isSomeAnd file (λ f. isNone (notesOf (classOf l f) (f .methods))))
     ∷ cause 4 (isSomeAnd file (λ f. not (isNone (find (r .cache) (at l (f .name))))))
     ∷ cause 5 (isSomeAnd file (λ f. isNone (find (r .cache) (at l (f .super)))))
@@ -207,6 +210,12 @@ module _ (task : ℕ) (w : World) (os : Objects) (f : Frame) (fs : List Frame) (
   abbrev pub local : ℕ → Option Value
   local n = getElem? (f .locals) n
 
+  -- the operands that a branch needs are ints
+  unfoldable pub branches : Condition → Bool
+  branches Always = true
+  branches IfZero = isSomeAnd (operand 0) anInt
+  branches IfLess = isSomeAnd (operand 0) anInt && isSomeAnd (operand 1) anInt
+
   unfoldable pub instructionCauses : Instruction → List Cause
   instructionCauses AconstNull = plainly (noRoom (f .operands)) false
   instructionCauses (Sipush n) = plainly (noRoom (f .operands)) false
@@ -226,6 +235,7 @@ module _ (task : ℕ) (w : World) (os : Objects) (f : Frame) (fs : List Frame) (
       (λ e. isSomeAnd (operand 0) (ofKind (s .argument)) && isSomeAnd (operand 1) (λ v. receives w os e v && selects w os s v)) (isSomeAnd (operand 1) aNull)
   instructionCauses (New c) =
       cause 5 (isNone (named w k c)) ∷ cause 7 false ∷ cause 10 (not (not (roomless task os) && ltb (length (f .operands)) 16)) ∷ cause 9 false ∷ cause 14 false ∷ cause 11 false ∷ []
+  instructionCauses (Branch c p) = plainly false (not (branches c))
   instructionCauses (Return kind) =
       plainly (noRoomBelow fs) (not (isSomeAnd (operand 0) (aValueOf kind) && (not (isEmpty fs) || isSomeAnd (operand 0) anInt)))
 
@@ -281,6 +291,7 @@ instruction-order task w os f fs k (Getfield c n t) = refl
 instruction-order task w os f fs k (Putfield c n t) = refl
 instruction-order task w os f fs k (Invokevirtual c s) = refl
 instruction-order task w os f fs k (New c) = refl
+instruction-order task w os f fs k (Branch c p) = refl
 instruction-order task w os f fs k (Return kind) = refl
 
 frame-order : (task : ℕ) (w : World) (os : Objects) (fs : List Frame) → words (frameCauses task w os fs) ≡ 14 ∷ 5 ∷ 7 ∷ 10 ∷ 9 ∷ 14 ∷ 11 ∷ []

@@ -9,7 +9,16 @@ pub mod Growth
 pub mod Slots
 pub mod Members
 pub mod Sized
+pub mod WalkTurns
 pub mod Walk
+pub mod Points
+pub mod InOrder
+pub mod Mapped
+pub mod Paths
+pub mod Rising
+pub mod Rejected
+pub mod Reasons
+pub mod Posted
 pub mod Objects
 pub mod Sweeps
 pub mod Stable

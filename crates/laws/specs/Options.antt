@@ -18,10 +18,38 @@ pub some-bind : {A B : Type 0} (o : Option A) (f : A → Option B) {a : A} {b : 
 unfolding _>>=_
 some-bind o f h k = rw (h, _>>=_) k
 
+pub bind-at : {A B : Type 0} (o : Option A) (f : A → Option B) (a : A) → o ≡ some a → (o >>= f) ≡ f a
+unfolding _>>=_
+bind-at o f a e = rw (e, _>>=_) refl
+
 pub need-true : (t : Bool) {u : Unit {0}} → need t ≡ some u → t ≡ true
 unfolding need
 need-true true h = refl
 need-true false {u} h = absurd (Option·none-ne-some u h)
+
+-- what holds of what was read, if it was read
+abbrev pub Holds : {A : Type 0} → Option A → (A → Type 0) → Type 0
+Holds none Q = Unit {0}
+Holds (some a) Q = Q a
+
+pub holds-past : {A B : Type 0} (Q : B → Type 0) (o : Option A) (f : A → Option B) → ((a : A) → Holds (f a) Q) → Holds (o >>= f) Q
+unfolding _>>=_
+holds-past Q none f k = tt
+holds-past Q (some a) f k = k a
+
+pub holds-on : {A B : Type 0} (P : A → Type 0) (Q : B → Type 0) (o : Option A) (f : A → Option B) → Holds o P → ((a : A) → P a → Holds (f a) Q) → Holds (o >>= f) Q
+unfolding _>>=_
+holds-on P Q none f h k = tt
+holds-on P Q (some a) f h k = k a h
+
+pub holds-need : {B : Type 0} (Q : B → Type 0) (t : Bool) (f : Unit {0} → Option B) → (t ≡ true → Holds (f tt) Q) → Holds (need t >>= f) Q
+unfolding _>>=_ need
+holds-need Q true f k = k refl
+holds-need Q false f k = tt
+
+pub holds-at : {A : Type 0} (Q : A → Type 0) (o : Option A) (a : A) → Holds o Q → o ≡ some a → Q a
+holds-at Q none a h e = absurd (Option·none-ne-some a e)
+holds-at Q (some b) a h e = rw (Option·some-injective b a e) at h
 
 pub each-more : {A B : Type 0} {R S : A → B → Type 0} → ((x : A) (y : B) → R x y → S x y) → (xs : List A) (ys : List B) → Each R xs ys → Each S xs ys
 each-more f [] [] h = tt

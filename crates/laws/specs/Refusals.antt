@@ -14,7 +14,9 @@ use Rattle.definition.specs.declared.Kind.the-variants.{IntKind, ReferenceKind}
 use Rattle.definition.specs.declared.Operator.{Operator}
 use Rattle.definition.specs.declared.Operator.the-variants.{Add, Subtract}
 use Rattle.definition.specs.declared.Instruction.{Instruction}
-use Rattle.definition.specs.declared.Instruction.the-variants.{AconstNull, Sipush, Load, Store, Pop, Dup, Arithmetic, Getfield, Putfield, Invokevirtual, New, Return}
+use Rattle.definition.specs.declared.Condition.{Condition}
+use Rattle.definition.specs.declared.Condition.the-variants.{Always, IfZero, IfLess}
+use Rattle.definition.specs.declared.Instruction.the-variants.{AconstNull, Sipush, Load, Store, Pop, Dup, Arithmetic, Getfield, Putfield, Invokevirtual, New, Return, Branch}
 use Rattle.definition.specs.Lists.{any}
 use Rattle.definition.specs.Requests.{at}
 use Rattle.definition.specs.Answers.{number, wanted, Result, refused, ok, _>>=_, need, take?}
@@ -22,7 +24,7 @@ use Rattle.definition.specs.Classes.{Base, Class, find}
 use Rattle.definition.specs.Constraints.{Tie, World, agrees, post}
 use Rattle.definition.specs.File.{File, readFile}
 use Rattle.definition.specs.Instructions.{Decoded}
-use Rattle.definition.specs.Machine.{Value, emptyValue, intValue, nullValue, objectValue, unlistedValue, Object, Objects, Frame, Now, pop!, int!, reference!, ofKind!, kind!, compute, room!, object!, now, under!, give, execute, step}
+use Rattle.definition.specs.Machine.{Value, emptyValue, intValue, nullValue, objectValue, unlistedValue, Object, Objects, Frame, Now, pop!, int!, reference!, ofKind!, kind!, compute, jumps, room!, object!, now, under!, give, execute, step}
 use Rattle.definition.specs.Loading.{define, recorded, started, withEntry}
 use Rattle.definition.specs.Tables.{Rows, worldOf}
 use Rattle.definition.specs.Calls.{stepRefusals, refusalsOf, Call, callBoot, callDefine, callRecord, callStart, callStep, callRun, callDrop, defineRows, recordRows, startRows, dropRows, sweepRows, stepTask, stepOn, stepRows, RowCall, rowDefine, rowRecord, rowStart, rowDrop, rowSweep, onRowCall, callRows, rowRefusals}
@@ -45,6 +47,7 @@ classIn (Getfield c n t) = some c
 classIn (Putfield c n t) = some c
 classIn (Invokevirtual c s) = some c
 classIn (New c) = some c
+classIn (Branch c p) = none
 classIn (Return kind) = none
 
 module _ (P : Refusal → Type 0) where
@@ -140,6 +143,12 @@ module _ (P : Refusal → Type 0) (stuck : P (Word 14)) (full : P (Word 10)) (cl
   unfolding post
   posting w t us f k = on-bind P _ f (on-need P _ _ _ full (λ _. on-need P _ _ _ clash (λ _. tt))) (λ v _. k v)
 
+  jumps-refuses : (c : Condition) (vs : List Value) → Refuses P (jumps c vs)
+  unfolding jumps
+  jumps-refuses Always vs = tt
+  jumps-refuses IfZero vs = popped vs _ (λ p. int (p .top) _ (λ _. tt))
+  jumps-refuses IfLess vs = popped vs _ (λ p. popped (p .more) _ (λ q. int (p .top) _ (λ b. int (q .top) _ (λ a. tt))))
+
   receiver : {B : Type 0} (w : Base) (os : Objects) (e : ℕ) (v : Value) (f : record { number : ℕ; object : Object } → Result B) → ((o : record { number : ℕ; object : Object }) → Refuses P (f o)) → Refuses P (object! w os e v >>= f)
   receiver w os e v f k = on-bind P (object! w os e v) f (object-refuses w os e v) (λ o _. k o)
 
@@ -164,6 +173,7 @@ module _ (P : Refusal → Type 0) (stuck : P (Word 14)) (full : P (Word 10)) (cl
         on-take P _ _ _ (h c refl) (λ e _. on-take P _ _ _ (λ _. absent) (λ d _. posting w (ltb (suc (length fs)) 32) _ _ (λ _. popped _ _ (λ p. popped _ _ (λ q.
         on-bind P (kind! (s .argument) (p .top)) _ (kind-refuses (s .argument) (p .top)) (λ _ _. receiver (w .base) os e (q .top) _ (λ _. local _ _ (λ _. tt))))))))
     execute-refuses (New c) h = on-take P _ _ _ (h c refl) (λ e _. on-need P _ _ _ full (λ _. tt))
+    execute-refuses (Branch c p) h = on-bind P (jumps c (f .operands)) _ (jumps-refuses c (f .operands)) (λ _ _. tt)
     execute-refuses (Return kind) h = under fs _ (λ _. popped _ _ (λ p. of-kind kind (p .top) _ (λ _. give-refuses fs w os (p .top))))
 
   -- what the frame whose turn it is needs: at its point an instruction that names class c
@@ -236,8 +246,8 @@ unfolding defineRows define refusalsOf rowRefusals any
 define-due l bs r =
     let P : Refusal → Type 0 = Due (callDefine l bs) r in
     on-need P _ _ _ refl (λ _. on-take P _ _ _ (λ _. refl) (λ f e. on-bind P _ _
-    (on-take P _ _ _ (λ _. refl) (λ _ _. on-need P _ _ _ refl (λ _. on-take P _ _ _ (λ m. (refl, (f, e, refl, refl), m)) (λ _ _.
-    on-need P _ _ _ refl (λ _. on-need P _ _ _ refl (λ _. on-need P _ _ _ refl (λ _. tt))))))) (λ _ _. tt)))
+    (on-need P _ _ _ refl (λ _. on-take P _ _ _ (λ _. refl) (λ _ _. on-need P _ _ _ refl (λ _. on-take P _ _ _ (λ m. (refl, (f, e, refl, refl), m)) (λ _ _.
+    on-need P _ _ _ refl (λ _. on-need P _ _ _ refl (λ _. on-need P _ _ _ refl (λ _. tt)))))))) (λ _ _. tt)))
 
 record-due : (l n c : ℕ) (r : Rows) → Refuses (Due (callRecord l n c) r) (recordRows l n c r)
 unfolding recordRows recorded refusalsOf rowRefusals any

@@ -1,5 +1,5 @@
 -- Tests on lists, and what they find.
-use mathlib.Core.Path.{_≡_, refl}
+use mathlib.Core.Path.{_≡_, refl, sym}
 use mathlib.Core.Bool.{Bool, true, false, false≢true, _&&_, _||_}
 use mathlib.Core.Option.{Option, none, some}
 use mathlib.Core.List.{List, [], _∷_, _++_, List·Memᴰ, List·Memᴰ·head, List·Memᴰ·tail}
@@ -29,6 +29,15 @@ any-true {A} f (x ∷ xs) h = go (f x) refl h (any-true f xs)
     go : (t : Bool) → f x ≡ t → (elim t as (λ _. Bool) [ true ↦ true | false ↦ any f xs ]) ≡ true → (any f xs ≡ true → (y : A) × List·Memᴰ y xs × (f y ≡ true)) → (y : A) × List·Memᴰ y (x ∷ xs) × (f y ≡ true)
     go true e r ih = (x, List·Memᴰ·head refl, e)
     go false e r ih = let a = ih r in (a .0, List·Memᴰ·tail (a .1), a .2)
+
+pub any-false : {A : Type 0} (f : A → Bool) (xs : List A) → any f xs ≡ false → (x : A) → List·Memᴰ x xs → f x ≡ false
+unfolding any
+any-false {A} f (y ∷ xs) h x m = go (f y) refl h m (any-false f xs)
+  where
+    go : (t : Bool) → f y ≡ t → (elim t as (λ _. Bool) [ true ↦ true | false ↦ any f xs ]) ≡ false → List·Memᴰ x (y ∷ xs) → (any f xs ≡ false → (z : A) → List·Memᴰ z xs → f z ≡ false) → f x ≡ false
+    go true e r m ih = absurd (false≢true (sym r))
+    go false e r (List·Memᴰ·head z) ih = rw z e
+    go false e r (List·Memᴰ·tail t) ih = ih r x t
 
 pub any-right : {A : Type 0} (f : A → Bool) (xs ys : List A) → any f ys ≡ true → any f (xs ++ ys) ≡ true
 unfolding any

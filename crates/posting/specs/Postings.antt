@@ -13,7 +13,7 @@ use Rattle.definition.specs.Constraints.{Tie, World, posted, tieIs, newTie}
 use Rattle.definition.specs.Machine.{Objects, Frame}
 use Rattle.definition.specs.Tables.{tie}
 use Rattle.instructions.specs.declared.Plan.{Plan}
-use Rattle.instructions.specs.declared.Plan.the-variants.{Refuse, Keep, Above, Local, Give, Finish, Field, Enter, Make}
+use Rattle.instructions.specs.declared.Plan.the-variants.{Refuse, Keep, Jump, Above, Local, Give, Finish, Field, Enter, Make}
 use Rattle.instructions.specs.Plans.{meaning}
 use Rattle.access.specs.Accesses.{tiesOn}
 pub use Rattle.posting.specs.declared.Posting.{Posting}
@@ -111,6 +111,7 @@ module _ (ts : List Tie) (l m a r : ℕ) (differ : l ≢ m) where
 abbrev pub Quiet : List Tie → Plan → Type 0
 Quiet us (Refuse r) = us ≡ []
 Quiet us (Keep d) = Unit {0}
+Quiet us (Jump d p) = Unit {0}
 Quiet us (Above d v) = Unit {0}
 Quiet us (Local d j v) = Unit {0}
 Quiet us (Give v) = Unit {0}
@@ -122,6 +123,7 @@ Quiet us (Make d c o) = Unit {0}
 abbrev pub quietly : Posting → Plan → Posting
 quietly x (Refuse r) = Nothing
 quietly x (Keep d) = x
+quietly x (Jump d p) = x
 quietly x (Above d v) = x
 quietly x (Local d j v) = x
 quietly x (Give v) = x
@@ -134,6 +136,7 @@ pub quietly-quiet : (x : Posting) (p : Plan) → Quiet (toPost (quietly x p)) p
 unfolding toPost
 quietly-quiet x (Refuse r) = refl
 quietly-quiet x (Keep d) = tt
+quietly-quiet x (Jump d p) = tt
 quietly-quiet x (Above d v) = tt
 quietly-quiet x (Local d j v) = tt
 quietly-quiet x (Give v) = tt
@@ -147,6 +150,7 @@ pub quietly-means : (task : ℕ) (w : World) (os : Objects) (fs : List Frame) (F
 unfolding meaning
 quietly-means task w os fs F b q x (Refuse r) = refl
 quietly-means task w os fs F b q x (Keep d) = refl
+quietly-means task w os fs F b q x (Jump d p) = refl
 quietly-means task w os fs F b q x (Above d v) = refl
 quietly-means task w os fs F b q x (Local d j v) = refl
 quietly-means task w os fs F b q x (Give v) = refl
@@ -159,6 +163,7 @@ pub quietly-few : (x : Posting) (p : Plan) → length (toPost (quietly x p)) ≤
 unfolding toPost
 quietly-few x (Refuse r) = omega arith
 quietly-few x (Keep d) = omega arith
+quietly-few x (Jump d p) = omega arith
 quietly-few x (Above d v) = omega arith
 quietly-few x (Local d j v) = omega arith
 quietly-few x (Give v) = omega arith

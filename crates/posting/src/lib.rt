@@ -89,6 +89,7 @@ pub fn quiet(posting: Posting, plan: Plan) -> Posting
     match plan {
         Plan::Refuse(_) => Posting::Nothing,
         Plan::Keep(_) => posting,
+        Plan::Jump(_, _) => posting,
         Plan::Above(_, _) => posting,
         Plan::Local(_, _, _) => posting,
         Plan::Give(_) => posting,

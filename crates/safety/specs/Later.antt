@@ -1,7 +1,7 @@
 -- What holds of objects, classes and constraints holds in a later store: ties posted, a field written, an object made, a class or a cache entry added.
 use mathlib.Core.Path.{_≡_, refl, sym, subst}
 use mathlib.Core.Bool.{Bool, true, false}
-use mathlib.Core.Option.{some}
+use mathlib.Core.Option.{Option, some}
 use mathlib.Core.List.{List, [], _∷_, _++_, map, List·Memᴰ, Memᴰ·append-left}
 use mathlib.Core.Logic.{_⊎_, inl, inr}
 use Prim.Native.Nat.{ℕ}
@@ -16,7 +16,8 @@ use Rattle.definition.specs.Requests.{Request}
 use Rattle.definition.specs.Verifier.{VerifierType, typeClass, typeInt, typeOfName, entryTypes}
 use Rattle.laws.specs.Chains.{chain-more}
 use Rattle.laws.specs.Options.{each-more, each-more-in}
-use Rattle.safety.specs.Valid.{Conforms, Heap, Later, Linked, ObjectSound, Stack, Top, later-conforms}
+use Rattle.safety.specs.Flows.{lands, operands-flow, locals-flow}
+use Rattle.safety.specs.Valid.{Conforms, Heap, Later, Linked, Local, ObjectSound, Stack, Top, later-conforms}
 use Rattle.definition.specs.Maybe as Maybe
 use Rattle.laws.specs.Growth.{Grows, grows-join, grows-self, tie-edges-more}
 use Rattle.definition.specs.Lists.{Each}
@@ -118,13 +119,14 @@ pub entered-top : (w : World) (os : Objects) → Linked w → (s : Signature) (m
     → (v : Value) → Conforms w os (loaderOf (w .base) (m .class)) (typeOfName (s .argument)) v → Top w os (entryFrame (m .class) (m .place) o v) (ma .theClass) (ma .method)
 entered-top w os lk s m ma o b th bl v cv =
     let ve = lk .verified (m .class) (m .place) (ma .theClass) (ma .method) (ma .isClass) (ma .isMethod) in
+    let to = lands w (ma .theClass) (ma .method) ve 0 (entryTypes (ma .theClass) (ma .method)) (entry (ma .theClass) (ma .method) (ve .notes) (ve .passes)) in
+    let f = entryFrame (m .class) (m .place) o v in
+    let ls : List (Option VerifierType) = entryTypes (ma .theClass) (ma .method) .locals in
+    let held : Each (Local w os (ma .theClass .loader)) ls (f .locals)
+    = (record { object = b; there = th; fits = fits-own (lk .own (m .class) (ma .theClass) (ma .isClass)) bl }, (rw (ma .isSignature, sym (ma .loader)) cv, (tt, (tt, (tt, (tt, (tt, (tt, tt)))))))) in
     record {
-      τ = entryTypes (ma .theClass) (ma .method);
-      typed = record {
-        isClass = ma .isClass;
-        isMethod = ma .isMethod;
-        types = entry (ma .theClass) (ma .method) (ve .notes) (ve .passes);
-      };
-      operands = tt;
-      locals = (record { object = b; there = th; fits = fits-own (lk .own (m .class) (ma .theClass) (ma .isClass)) bl }, (rw (ma .isSignature, sym (ma .loader)) cv, (tt, (tt, (tt, (tt, (tt, (tt, tt))))))));
+      τ = to .τ;
+      typed = record { isClass = ma .isClass; isMethod = ma .isMethod; types = to .types };
+      operands = operands-flow w os (ma .theClass .loader) [] (to .τ .operands) [] (to .reaches .operands) tt;
+      locals = locals-flow w os (ma .theClass .loader) ls (to .τ .locals) (f .locals) (to .reaches .locals) held;
     }

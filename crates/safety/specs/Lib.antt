@@ -3,6 +3,7 @@ pub mod Store
 pub mod Conform
 pub mod Valid
 pub mod Places
+pub mod Flows
 pub mod Later
 pub mod Operands
 pub mod Returns

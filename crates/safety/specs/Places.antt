@@ -18,11 +18,7 @@ use Rattle.laws.specs.Chains.{chain-more}
 use Rattle.laws.specs.Growth.{tie-edges-more}
 use Rattle.laws.specs.Tests.{and-true, any-true, or-true}
 use Rattle.safety.specs.Conform.{Fits, Tied, fits-on, fits-tied, tie-turned}
-use Rattle.safety.specs.Valid.{Conforms}
-
--- every note of the list is a constraint of loader l
-abbrev pub Noted : World → ℕ → List Note → Type 0
-Noted w l ns = (n : Note) → List·Memᴰ n ns → List·Memᴰ (record { from = at l (n .low); to = at l (n .high) }) (subtypeEdges (w .subtypes))
+use Rattle.safety.specs.Valid.{Conforms, Noted}
 
 note-edge : (w : World) (e : Edge Request) → List·Memᴰ e (subtypeEdges (w .subtypes)) → List·Memᴰ e (edges w)
 unfolding edges

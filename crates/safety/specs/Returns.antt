@@ -18,8 +18,9 @@ use Rattle.definition.specs.declared.Instruction.{Instruction}
 use Rattle.definition.specs.declared.Instruction.the-variants.{Return}
 use Rattle.laws.specs.Options.{bind-some}
 use Rattle.laws.specs.Results.{Wp, wp-known}
-use Rattle.safety.specs.Places.{Noted, carry, meet-name, of-int}
-use Rattle.safety.specs.Valid.{Conforms, Heap, Linked, Top, Under}
+use Rattle.safety.specs.Places.{carry, meet-name, of-int}
+use Rattle.safety.specs.Flows.{flows-value}
+use Rattle.safety.specs.Valid.{Conforms, Heap, Linked, Noted, Top, Under}
 use Rattle.safety.specs.Operands.{each-pop, int-of, of-kind, wp-room}
 use Rattle.safety.specs.Later.{Kept, later-same}
 
@@ -39,7 +40,7 @@ give-kept w os (g ∷ gs) l r v lk hp (k, m, wt, ti, un) cv = record {
     record {
       τ = wt .τ;
       typed = record { isClass = wt .typed .isClass; isMethod = wt .typed .isMethod; types = wt .typed .types };
-      operands = rw (wt .split) (carry w os l (k .loader) r v ti cv, wt .operands);
+      operands = rw (wt .split) (flows-value w os (k .loader) (typeOfName r) (wt .top) v (wt .takes) (carry w os l (k .loader) r v ti cv), wt .operands);
       locals = wt .locals;
     },
     un,

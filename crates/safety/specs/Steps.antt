@@ -1,70 +1,91 @@
 -- A step keeps the invariant, and is never stuck.
-use mathlib.Core.Path.{_≡_, refl, sym, ap}
-use mathlib.Core.Bool.{true}
+use mathlib.Core.Path.{_≡_, refl, sym, ap, subst}
+use mathlib.Core.Bool.{Bool, true, false}
 use mathlib.Core.Option.{Option, none, some, Option·none-ne-some}
 use mathlib.Core.List.{List, [], _∷_, _++_, map, Memᴰ·append-left, Memᴰ·append-right, List·Memᴰ, List·Memᴰ·head, List·Memᴰ·tail}
 use mathlib.Core.Logic.{inl, inr, _≢_}
 use Prim.Native.Nat.{ℕ, suc, _+_, _-_, _%_}
 use native.Mathlib.Omega.{arith}
 use lib.ListN.{length, getElem?, set}
-use lib.Dec.{ltb}
+use lib.Dec.{eqb, ltb}
 use Rattle.definition.specs.declared.Signature.{Signature}
-use Rattle.definition.specs.Answers.{Result, _>>=_, ok, take?}
+use Rattle.definition.specs.Answers.{Result, _>>=_, less, ok, signed, take?}
 use Rattle.definition.specs.declared.Refusal.the-variants.{Word}
 use Rattle.definition.specs.Classes.{Class, Method, hasField, hasMethod, loaderOf, slots, superOf, Selected, signatureTypes}
 use Rattle.definition.specs.Constraints.{Agrees, Tie, World, newTie, posted, signatureTies}
-use Rattle.definition.specs.Instructions.{Decoded}
-use Rattle.definition.specs.Machine.{Frame, Object, Progress, Value, entryFrame, execute, initialValue, int!, intValue, newObject, now, room!, nullValue, objectValue, past, pop!, reference!, step, Objects, existing, unused, made, changed}
+use Rattle.definition.specs.Instructions.{Decoded, pick}
+use Rattle.definition.specs.Machine.{Frame, Object, Progress, Value, entryFrame, execute, initialValue, int!, intValue, jumps, newObject, now, room!, nullValue, objectValue, past, pop!, reference!, step, Objects, existing, unused, made, changed}
 use Rattle.definition.specs.Requests.{at}
 use Rattle.definition.specs.Superclasses.{Below, same}
-use Rattle.definition.specs.Verifier.{Flow, Note, VerifierType, effect, flow, meetClass, meetInt, meets, pop, typeClass, typeInt, typeNull, typeOfName, typesIn}
+use Rattle.definition.specs.Verifier.{Flow, Note, TypeState, VerifierType, goesOn, target, effect, flow, meetClass, meetInt, meets, pop, typeClass, typeInt, typeNull, typeOfName, typesIn}
 use Rattle.definition.specs.declared.Kind.{Kind}
 use Rattle.definition.specs.declared.Operator.{Operator}
 use Rattle.definition.specs.declared.Instruction.{Instruction}
-use Rattle.definition.specs.declared.Instruction.the-variants.{AconstNull, Arithmetic, Dup, Getfield, Invokevirtual, Load, New, Pop, Putfield, Return, Sipush, Store}
+use Rattle.definition.specs.declared.Condition.{Condition}
+use Rattle.definition.specs.declared.Condition.the-variants.{Always, IfZero, IfLess}
+use Rattle.definition.specs.declared.Instruction.the-variants.{AconstNull, Arithmetic, Branch, Dup, Getfield, Invokevirtual, Load, New, Pop, Putfield, Return, Sipush, Store}
 use Rattle.laws.specs.Agreement.{super-falls}
 use Rattle.laws.specs.Chains.{chain-join, chain-more}
 use Rattle.laws.specs.Options.{bind-some, each-at, each-both, each-more, each-set}
 use Rattle.laws.specs.Results.{Wp, not-wanted, not-word, wp-bind, wp-known, wp-need, wp-take, wp-there}
 use Rattle.laws.specs.Upward.{below-trans, nearest-below, nearest-finds}
 use Rattle.safety.specs.Conform.{Tied, fits-own, override, tied-turn}
-use Rattle.safety.specs.Places.{Noted, carry, meet-class, meet-name, tie-there, ties-there}
+use Rattle.safety.specs.Places.{carry, meet-class, meet-name, tie-there, ties-there}
 use Rattle.laws.specs.Walk.{Known, known, successors}
-use Rattle.safety.specs.Valid.{Conforms, Heap, Later, Linked, Local, Stack, Top, Under, Verified, later-conforms, later-local, later-ops, later-under}
-use Rattle.definition.specs.Lists.{Each}
+use Rattle.safety.specs.Flows.{Lands, lands, later-lands, operands-flow, locals-flow}
+use Rattle.safety.specs.Valid.{Conforms, Flows, Heap, Later, Linked, Local, Noted, Stack, Top, Under, Verified, later-conforms, later-local, later-ops, later-under}
+use Rattle.definition.specs.Lists.{Each, toList}
 use Rattle.laws.specs.Members.{MethodAt, selected-at, SelectedAt, nearest-selected}
 use Rattle.laws.specs.Objects.{made-there}
 use Rattle.safety.specs.Operands.{Popped, each-pop, int-of, of-kind, wp-compute, flow-is, kind-of, wp-room, wp-post, wp-object, FieldAt, field-at}
 use Rattle.safety.specs.Later.{ties-more, Kept, later-same, later-posted, heap-posted, linked-posted, later-changed, later-join, heap-changed, later-made, heap-made, zeros-conform, entered-top}
 use Rattle.safety.specs.Returns.{each-ret}
 
+-- the list on the right has as many, a first and others
+record Cons {A B : Type 0} (R : A → B → Type 0) (x : A) (xs : List A) (ys : List B) : Type 0 where
+  first : B
+  rest : List B
+  is : ys ≡ first ∷ rest
+  fits : R x first
+  others : Each R xs rest
+
+each-cons : {A B : Type 0} (R : A → B → Type 0) (x : A) (xs : List A) (ys : List B) → Each R (x ∷ xs) ys → Cons R x xs ys
+each-cons R x xs [] h = absurd h
+each-cons R x xs (y ∷ ys) h = record { first = y; rest = ys; is = refl; fits = h .0; others = h .1 }
+
 module _ (task : ℕ) (w : World) (os : Objects) (f : Frame) (fs : List Frame) (k : Class) (m : Method)
     (lk : Linked w) (hp : Heap w os) (tp : Top w os f k m) (un : Under w os (k .loader) (m .signature .result) fs) where
-  module _ (i : Decoded) (fl : Flow)
-      (nx : (p : ℕ) → List·Memᴰ p (successors i (f .point)) → typesIn k m p ≡ some (fl .types))
-      (nt : Noted w (k .loader) (fl .notes)) where
+  -- the frame stands at point p, whose types the values' flow into, in a later store
+  arrives : (v : World) (qs : Objects) → Later w os v qs → Linked v → Heap v qs → (p : ℕ) (s : TypeState) → Lands w k m p s
+      → (o l : List Value) → Each (Conforms v qs (k .loader)) (s .operands) o → Each (Local v qs (k .loader)) (s .locals) l
+      → Kept w os (record { world = v; objects = qs; frames = record { class = f .class; method = f .method; point = p; operands = o; locals = l } ∷ fs; result = none })
+  arrives v qs z lv hv p s to o l a b =
+      let at = later-lands z to in
+      record {
+        linked = lv;
+        heap = hv;
+        later = z;
+        stack = (
+          k,
+          m,
+          record {
+            τ = at .τ;
+            typed = record { isClass = z .grows .classes (f .class) k (tp .typed .isClass); isMethod = tp .typed .isMethod; types = at .types };
+            operands = operands-flow v qs (k .loader) (s .operands) (at .τ .operands) o (at .reaches .operands) a;
+            locals = locals-flow v qs (k .loader) (s .locals) (at .τ .locals) l (at .reaches .locals) b;
+          },
+          later-under z (k .loader) (m .signature .result) fs un,
+        );
+      }
+
+  module _ (i : Decoded) (fl : Flow) (nx : Lands w k m (f .point + i .size) (fl .types)) (nt : Noted w (k .loader) (fl .notes)) where
     -- the frame moves on, in a later store
     moved : (v : World) (qs : Objects) → Later w os v qs → Linked v → Heap v qs → (ts : List VerifierType) (ls : List (Option VerifierType)) (ns : List Note) → flow ts ls ns ≡ some fl
         → (o l : List Value) → Each (Conforms v qs (k .loader)) ts o → Each (Local v qs (k .loader)) ls l
         → Kept w os (record { world = v; objects = qs; frames = past f i o l ∷ fs; result = none })
     moved v qs z lv hv ts ls ns e o l a b =
         let q = flow-is ts ls ns fl e in
-        record {
-          linked = lv;
-          heap = hv;
-          later = z;
-          stack = (
-            k,
-            m,
-            record {
-              τ = fl .types;
-              typed = record { isClass = z .grows .classes (f .class) k (tp .typed .isClass); isMethod = tp .typed .isMethod; types = nx _ (List·Memᴰ·head refl) };
-              operands = rw (sym q) a;
-              locals = rw (sym q) b;
-            },
-            later-under z (k .loader) (m .signature .result) fs un,
-          );
-        }
+        arrives v qs z lv hv (f .point + i .size) (fl .types) nx o l (rw (sym q) a) (rw (sym q) b)
 
     -- the store stays
     stays : (ts : List VerifierType) (ls : List (Option VerifierType)) (ns : List Note) → flow ts ls ns ≡ some fl
@@ -224,6 +245,9 @@ module _ (task : ℕ) (w : World) (os : Objects) (f : Frame) (fs : List Frame) (
         → Kept w os (record { world = u; objects = os; frames = entryFrame (a .class) (a .place) o v ∷ past f i vs (f .locals) ∷ fs; result = none })
     enter u y lu hu s a ma o z th bl v cv tr ts ns e vs ev =
         let q = flow-is (typeOfName (s .result) ∷ ts) (tp .τ .locals) ns fl e in
+        let at = later-lands y nx in
+        let sp = each-cons (Flows u (k .loader)) (typeOfName (s .result)) ts (at .τ .operands)
+        (subst (λ (x : Flow). Each (Flows u (k .loader)) (x .types .operands) (at .τ .operands)) (sym q) (at .reaches .operands)) in
         record {
           linked = lu;
           heap = hu;
@@ -236,12 +260,15 @@ module _ (task : ℕ) (w : World) (os : Objects) (f : Frame) (fs : List Frame) (
               k,
               m,
               record {
-                τ = fl .types;
-                others = ts;
-                typed = record { isClass = y .grows .classes (f .class) k (tp .typed .isClass); isMethod = tp .typed .isMethod; types = nx _ (List·Memᴰ·head refl) };
-                split = rw (ma .isSignature, sym q) refl;
-                operands = later-ops y (k .loader) ts vs ev;
-                locals = rw (sym q) (each-more (later-local y (k .loader)) (tp .τ .locals) (f .locals) (tp .locals));
+                τ = at .τ;
+                top = sp .first;
+                others = sp .rest;
+                typed = record { isClass = y .grows .classes (f .class) k (tp .typed .isClass); isMethod = tp .typed .isMethod; types = at .types };
+                split = sp .is;
+                takes = rw (ma .isSignature) (sp .fits);
+                operands = operands-flow u os (k .loader) ts (sp .rest) vs (sp .others) (later-ops y (k .loader) ts vs ev);
+                locals = locals-flow u os (k .loader) (fl .types .locals) (at .τ .locals) (f .locals) (at .reaches .locals)
+                    (rw (sym q) (each-more (later-local y (k .loader)) (tp .τ .locals) (f .locals) (tp .locals)));
               },
               rw (ma .isSignature, sym (ma .loader)) tr,
               later-under y (k .loader) (m .signature .result) fs un,
@@ -291,33 +318,83 @@ module _ (task : ℕ) (w : World) (os : Objects) (f : Frame) (fs : List Frame) (
         let y = bind-some _ _ (x .2) in
         do-call c s (a .1) (b .1) (x .1) (y .1) (y .2)
 
+  module _ (i : Decoded) (fl : Flow) (nx : (p : ℕ) → List·Memᴰ p (successors i (f .point)) → Lands w k m p (fl .types)) (nt : Noted w (k .loader) (fl .notes)) where
+    -- the next point, and a branch's target
+    ahead : (j : Instruction) → i .instruction ≡ j → target j ≡ none → goesOn j ≡ true → Lands w k m (f .point + i .size) (fl .types)
+    unfolding toList
+    ahead j h t g = nx (f .point + i .size) (rw (h, t, g) (List·Memᴰ·head refl))
+
+    jumped : (c : Condition) (p : ℕ) → i .instruction ≡ Branch c p → Lands w k m p (fl .types)
+    unfolding toList target
+    jumped c p h = nx p (rw h (List·Memᴰ·head refl))
+
+    passed : (c : Condition) (p : ℕ) → i .instruction ≡ Branch c p → goesOn (Branch c p) ≡ true → Lands w k m (f .point + i .size) (fl .types)
+    unfolding toList target
+    passed c p h g = nx (f .point + i .size) (rw (h, g) (List·Memᴰ·tail (List·Memᴰ·head refl)))
+
+    picked : (b : Bool) (p q : ℕ) → Lands w k m p (fl .types) → Lands w k m q (fl .types) → Lands w k m (pick b p q) (fl .types)
+    unfolding pick
+    picked true p q x y = x
+    picked false p q x y = y
+
+    -- the frame stands where the branch goes
+    branched : (p : ℕ) → Lands w k m p (fl .types) → (ts : List VerifierType) → flow ts (tp .τ .locals) [] ≡ some fl → (o : List Value) → Each (Conforms w os (k .loader)) ts o
+        → Kept w os (record { world = w; objects = os; frames = record { class = f .class; method = f .method; point = p; operands = o; locals = f .locals } ∷ fs; result = none })
+    branched p to ts e o a =
+        let q = flow-is ts (tp .τ .locals) [] fl e in
+        arrives w os (later-same w os) lk hp p (fl .types) to o (f .locals) (rw (sym q) a) (rw (sym q) (tp .locals))
+
+    ex-branch : (c : Condition) (p : ℕ) → i .instruction ≡ Branch c p → effect (Branch c p) (tp .τ) ≡ some fl → Wp (execute task w os f fs k i (Branch c p)) (Kept w os)
+    unfolding execute effect jumps
+    ex-branch Always p h e = wp-known (Kept w os) _ _ refl (unfold pick in branched p (jumped Always p h) (tp .τ .operands) e (f .operands) (tp .operands))
+    ex-branch IfZero p h e =
+        let a = bind-some _ _ e in
+        let b = bind-some _ _ (a .2) in
+        let x = each-pop (Conforms w os (k .loader)) (tp .τ .operands) (f .operands) (a .0 .top) (a .0 .more) (a .1) (tp .operands) in
+        let n = int-of w os (k .loader) (a .0 .top) (x .0 .top) (b .1) (x .2) in
+        wp-bind (Kept w os) _ _ (wp-known _ _ _ (x .1) (wp-known _ _ _ (n .1)
+        (branched _ (picked (eqb (n .0) 0) p (f .point + i .size) (jumped IfZero p h) (passed IfZero p h (unfold goesOn in refl))) (a .0 .more) (b .2) (x .0 .more) (x .3))))
+    ex-branch IfLess p h e =
+        let a = bind-some _ _ e in
+        let b = bind-some _ _ (a .2) in
+        let c = bind-some _ _ (b .2) in
+        let d = bind-some _ _ (c .2) in
+        let x = each-pop (Conforms w os (k .loader)) (tp .τ .operands) (f .operands) (a .0 .top) (a .0 .more) (a .1) (tp .operands) in
+        let y = each-pop (Conforms w os (k .loader)) (a .0 .more) (x .0 .more) (b .0 .top) (b .0 .more) (b .1) (x .3) in
+        let upper = int-of w os (k .loader) (a .0 .top) (x .0 .top) (c .1) (x .2) in
+        let lower = int-of w os (k .loader) (b .0 .top) (y .0 .top) (d .1) (y .2) in
+        wp-bind (Kept w os) _ _ (wp-known _ _ _ (x .1) (wp-known _ _ _ (y .1) (wp-known _ _ _ (upper .1) (wp-known _ _ _ (lower .1)
+        (branched _ (picked (less (signed (lower .0)) (signed (upper .0))) p (f .point + i .size) (jumped IfLess p h) (passed IfLess p h (unfold goesOn in refl))) (b .0 .more) (d .2) (y .0 .more) (y .3))))))
+
     -- any instruction that is no return
-    each-ins : (j : Instruction) → effect j (tp .τ) ≡ some fl → Wp (execute task w os f fs k i j) Q
-    each-ins AconstNull e = ex-anull e
-    each-ins (Sipush n) e = ex-ipush n e
-    each-ins (Load kind n) e = ex-load kind n e
-    each-ins (Store kind n) e = ex-store kind n e
-    each-ins Pop e = ex-pop e
-    each-ins Dup e = ex-dup e
-    each-ins (Arithmetic o) e = ex-arithmetic o e
-    each-ins (Getfield c n t) e = ex-getf c n t e
-    each-ins (Putfield c n t) e = ex-putf c n t e
-    each-ins (Invokevirtual c s) e = ex-call c s e
-    each-ins (New c) e = ex-new c e
-    each-ins (Return kind) e = absurd (Option·none-ne-some fl (unfold effect in e))
+    each-ins : (j : Instruction) → i .instruction ≡ j → effect j (tp .τ) ≡ some fl → Wp (execute task w os f fs k i j) (Kept w os)
+    unfolding target goesOn Q
+    each-ins AconstNull h e = ex-anull i fl (ahead AconstNull h refl refl) nt e
+    each-ins (Sipush n) h e = ex-ipush i fl (ahead (Sipush n) h refl refl) nt n e
+    each-ins (Load kind n) h e = ex-load i fl (ahead (Load kind n) h refl refl) nt kind n e
+    each-ins (Store kind n) h e = ex-store i fl (ahead (Store kind n) h refl refl) nt kind n e
+    each-ins Pop h e = ex-pop i fl (ahead Pop h refl refl) nt e
+    each-ins Dup h e = ex-dup i fl (ahead Dup h refl refl) nt e
+    each-ins (Arithmetic o) h e = ex-arithmetic i fl (ahead (Arithmetic o) h refl refl) nt o e
+    each-ins (Getfield c n t) h e = ex-getf i fl (ahead (Getfield c n t) h refl refl) nt c n t e
+    each-ins (Putfield c n t) h e = ex-putf i fl (ahead (Putfield c n t) h refl refl) nt c n t e
+    each-ins (Invokevirtual c s) h e = ex-call i fl (ahead (Invokevirtual c s) h refl refl) nt c s e
+    each-ins (New c) h e = ex-new i fl (ahead (New c) h refl refl) nt c e
+    each-ins (Branch c p) h e = ex-branch c p h e
+    each-ins (Return kind) h e = absurd (Option·none-ne-some fl (unfold effect in e))
 
   one : Wp (step task w os f fs) (Kept w os)
-  unfolding step now Q
+  unfolding step now
   one =
       let t = tp .typed in
       let ve = lk .verified (f .class) (f .method) k m (t .isClass) (t .isMethod) in
       let kn = known k m (ve .notes) (ve .passes) (f .point) (tp .τ) (t .types) in
       wp-bind (Kept w os) _ _ (wp-there _ _ _ _ (t .isClass) (wp-there _ _ _ _ (t .isMethod) (wp-there _ _ _ _ (kn .reads) (go ve kn))))
     where
-      go : (ve : Verified w k m) (kn : Known (k .version) (m .code) (m .signature .result) (typesIn k m) (ve .notes) (f .point) (tp .τ)) → Wp (execute task w os f fs k (kn .at) (kn .at .instruction)) (Kept w os)
+      go : (ve : Verified w k m) (kn : Known (k .version) (m .code) (m .maps) (m .signature .result) (typesIn k m) (ve .notes) (f .point) (tp .τ)) → Wp (execute task w os f fs k (kn .at) (kn .at .instruction)) (Kept w os)
       go ve kn = elim (kn .way) [
         | inl a ↦ each-ret task w os f fs k m lk hp tp un (kn .at) (a .made) (λ n x. ve .posted n (a .posted n x)) (kn .at .instruction) (a .kind) (a .is) (a .does)
-        | inr a ↦ each-ins (kn .at) (a .flows) (a .next) (λ n x. ve .posted n (a .posted n x)) (kn .at .instruction) (a .does)
+        | inr a ↦ each-ins (kn .at) (a .flows) (λ p x. lands w k m ve p (a .flows .types) (a .next p x)) (λ n x. ve .posted n (a .posted n x)) (kn .at .instruction) refl (a .does)
       ]
 
 -- Theorem 1 and 3 of the loading paper, for a step

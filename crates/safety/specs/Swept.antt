@@ -96,9 +96,11 @@ module _ (w : World) (os qs : Objects) where
     m,
     record {
       τ = x .τ;
+      top = x .top;
       others = x .others;
       typed = x .typed;
       split = x .split;
+      takes = x .takes;
       operands = operands-stay (c .loader) (x .others) (g .operands) (in-operands g gs k) (x .operands);
       locals = locals-stay (c .loader) (x .τ .locals) (g .locals) (in-locals g gs k) (x .locals);
     },

@@ -3,7 +3,7 @@ use mathlib.Core.Path.{_≡_}
 use mathlib.Core.Bool.{true}
 use mathlib.Core.Option.{Option, none, some}
 use mathlib.Core.List.{List, [], _∷_, List·Memᴰ}
-use mathlib.Core.Logic.{_≢_}
+use mathlib.Core.Logic.{_≢_, _⊎_, inl, inr}
 use Prim.Native.Nat.{ℕ, _<_}
 use lib.ListN.{length, getElem?}
 use Rattle.definition.specs.declared.Signature.{Signature}
@@ -12,7 +12,7 @@ use Rattle.definition.specs.Constraints.{Agrees, World, posted, subtypeEdges}
 use Rattle.definition.specs.Machine.{Frame, Object, Value, intValue, nullValue, objectValue, emptyValue, unlistedValue, Objects, existing}
 use Rattle.definition.specs.Requests.{Request, at}
 use Rattle.definition.specs.Superclasses.{nearest}
-use Rattle.definition.specs.Verifier.{Note, TypeState, VerifierType, typeClass, typeInt, typeNull, typeOfName, typesIn, notesOfMethod}
+use Rattle.definition.specs.Verifier.{Note, TypeState, VerifierType, typeClass, typeInt, typeNull, typeOfName, typesIn, meets, notesOfMethod}
 use Rattle.laws.specs.Chains.{chain-more}
 use Rattle.laws.specs.Options.{each-more}
 use Rattle.safety.specs.Conform.{Fits, Tied, grows-fits}
@@ -57,6 +57,28 @@ abbrev pub Local : World → Objects → ℕ → Option VerifierType → Value �
 Local w os l none v = Exists os v
 Local w os l (some t) v = Conforms w os l t v
 
+-- every note of the list is a constraint of loader l
+abbrev pub Noted : World → ℕ → List Note → Type 0
+Noted w l ns = (n : Note) → List·Memᴰ n ns → List·Memᴰ (record { from = at l (n .low); to = at l (n .high) }) (subtypeEdges (w .subtypes))
+
+-- Type a flows into type b: it is b, or meets the name that b stands for under notes that are posted. A local may become unset.
+
+pub record Met (w : World) (l : ℕ) (a b : VerifierType) : Type 0 where
+  pub name : ℕ
+  pub notes : List Note
+  pub is : typeOfName name ≡ b
+  pub does : meets a name ≡ some notes
+  pub posted : Noted w l notes
+
+abbrev pub Flows : World → ℕ → VerifierType → VerifierType → Type 0
+Flows w l a b = (a ≡ b) ⊎ Met w l a b
+
+abbrev pub FlowsLocal : World → ℕ → Option VerifierType → Option VerifierType → Type 0
+FlowsLocal w l none none = Unit {0}
+FlowsLocal w l (some a) none = Unit {0}
+FlowsLocal w l none (some b) = ⊥
+FlowsLocal w l (some a) (some b) = Flows w l a b
+
 pub record ObjectSound (w : World) (os : Objects) (b : Object) : Type 0 where
   pub theClass : Class
   pub isClass : getElem? (w .base .classes) (b .class) ≡ some theClass
@@ -65,7 +87,7 @@ pub record ObjectSound (w : World) (os : Objects) (b : Object) : Type 0 where
 pub record Verified (w : World) (k : Class) (m : Method) : Type 0 where
   pub notes : List Note
   pub passes : notesOfMethod k m ≡ some notes
-  pub posted : (n : Note) → List·Memᴰ n notes → List·Memᴰ (record { from = at (k .loader) (n .low); to = at (k .loader) (n .high) }) (subtypeEdges (w .subtypes))
+  pub posted : Noted w (k .loader) notes
 
 -- what holds of classes, cache and constraints
 pub record Linked (w : World) : Type 0 where
@@ -89,7 +111,7 @@ pub record Typed (w : World) (f : Frame) (k : Class) (m : Method) (τ : TypeStat
   pub isMethod : getElem? (k .methods) (f .method) ≡ some m
   pub types : typesIn k m (f .point) ≡ some τ
 
--- the frame on top, and a frame that waits for a result of type r
+-- the frame on top, and a frame that waits for a result of type r, which flows into the type on top of its point's operands
 pub record Top (w : World) (os : Objects) (f : Frame) (k : Class) (m : Method) : Type 0 where
   pub τ : TypeState
   pub typed : Typed w f k m τ
@@ -98,9 +120,11 @@ pub record Top (w : World) (os : Objects) (f : Frame) (k : Class) (m : Method) :
 
 pub record Waits (w : World) (os : Objects) (f : Frame) (k : Class) (m : Method) (r : ℕ) : Type 0 where
   pub τ : TypeState
+  pub top : VerifierType
   pub others : List VerifierType
   pub typed : Typed w f k m τ
-  pub split : τ .operands ≡ typeOfName r ∷ others
+  pub split : τ .operands ≡ top ∷ others
+  pub takes : Flows w (k .loader) (typeOfName r) top
   pub operands : Each (Conforms w os (k .loader)) others (f .operands)
   pub locals : Each (Local w os (k .loader)) (τ .locals) (f .locals)
 
@@ -157,8 +181,12 @@ module _ {v w : World} {os qs : Objects} (z : Later v os w qs) where
   pub later-top : {f : Frame} {k : Class} {m : Method} → Top v os f k m → Top w qs f k m
   later-top {f} {k} t = record { τ = t .τ; typed = later-typed (t .typed); operands = later-ops (k .loader) (t .τ .operands) (f .operands) (t .operands); locals = each-more (later-local (k .loader)) (t .τ .locals) (f .locals) (t .locals) }
 
+  pub later-flows : (l : ℕ) (a b : VerifierType) → Flows v l a b → Flows w l a b
+  later-flows l a b (inl e) = inl e
+  later-flows l a b (inr m) = inr (record { name = m .name; notes = m .notes; is = m .is; does = m .does; posted = λ n i. z .grows .subtypes _ (m .posted n i) })
+
   pub later-waits : {f : Frame} {k : Class} {m : Method} {r : ℕ} → Waits v os f k m r → Waits w qs f k m r
-  later-waits {f} {k} t = record { τ = t .τ; others = t .others; typed = later-typed (t .typed); split = t .split; operands = later-ops (k .loader) (t .others) (f .operands) (t .operands); locals = each-more (later-local (k .loader)) (t .τ .locals) (f .locals) (t .locals) }
+  later-waits {f} {k} {m} {r} t = record { τ = t .τ; top = t .top; others = t .others; typed = later-typed (t .typed); split = t .split; takes = later-flows (k .loader) (typeOfName r) (t .top) (t .takes); operands = later-ops (k .loader) (t .others) (f .operands) (t .operands); locals = each-more (later-local (k .loader)) (t .τ .locals) (f .locals) (t .locals) }
 
   pub later-under : (l r : ℕ) (gs : List Frame) → Under v os l r gs → Under w qs l r gs
   later-under l r [] h = h

@@ -261,9 +261,7 @@ pub frame-tests : (t : List ℕ) (b n : ℕ) (X : ℕ → Bool)
 unfolding frameFit frameAt frameOf
 frame-tests t b n X = rw (stack-length (operandAt t b) (getD t (b + 3) 0))
 
--- The verdict
-
--- the sizes that the tests leave are the definition's
+-- The sizes that the tests leave are the definition's
 
 size-at : (t : Tables) (c : ℕ) → c < classLimit → getD (sizesOf t) c 0 ≡ pick (broken t) 0 (sizeOf (viewBase t) c)
 unfolding sizesOf

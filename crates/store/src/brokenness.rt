@@ -13,7 +13,7 @@ use definition::numbers::FIELD_LIMIT;
 ghost use mathlib.Core.Path.{_≡_};
 ghost use mathlib.Core.Bool.{true};
 ghost use Prim.Native.Nat.{_≤_};
-ghost use lib.ListN.{length, getD};
+ghost use lib.ListN.{getD};
 ghost use Rattle.definition.specs.Numbers.{classLimit, countClasses};
 ghost use Rattle.definition.specs.Tables.{tables, sizeOf};
 ghost use Rattle.definition.specs.Broken.{broken};

@@ -14,7 +14,7 @@ use Rattle.definition.specs.Constraints.{World, agrees}
 use Rattle.definition.specs.Loading.{define, newSubtypes, overrideTies, recorded, withClass, withEntry}
 use Rattle.definition.specs.Requests.{at}
 use Rattle.definition.specs.Tables.{sizeOf}
-use Rattle.definition.specs.Verifier.{Note}
+use Rattle.definition.specs.Verifier.{Note, notesOf}
 use Rattle.definition.specs.declared.Refusal.the-variants.{Word}
 use Rattle.laws.specs.Growth.{nth-lt}
 use Rattle.laws.specs.Results.{bind-ok, need-ok, ok-inj, take-ok}
@@ -53,6 +53,7 @@ pub record DefineAccepted (room : Bool) (k : Class) (w v : World) : Type 0 where
   pub super : ℕ
   pub cached : find (w .base .cache) (at (k .loader) (k .super)) ≡ some super
   pub notes : List Note
+  pub verified : notesOf k (k .methods) ≡ some notes
   pub fresh : find (w .base .cache) (at (k .loader) (k .name)) ≡ none
   pub kept : room ≡ true
   pub classes : length (w .base .classes) < 64
@@ -71,17 +72,19 @@ defined-is room k w v e =
     let d = bind-ok _ _ (c .2) in
     let f = bind-ok _ _ (d .2) in
     let g = bind-ok _ _ (f .2) in
-    let p = every-true _ (need-ok _ _ (f .1)) in
+    let h = bind-ok _ _ (g .2) in
+    let p = every-true _ (need-ok _ _ (g .1)) in
     record {
-      super = c .0;
-      cached = take-ok _ _ (c .1);
-      notes = a .0;
-      fresh = none-is _ (need-ok _ _ (b .1));
+      super = d .0;
+      cached = take-ok _ _ (d .1);
+      notes = b .0;
+      verified = take-ok _ _ (b .1);
+      fresh = none-is _ (need-ok _ _ (c .1));
       kept = p .0;
       classes = ltb-true _ _ (p .1 .0);
       cache = ltb-true _ _ (p .1 .1 .0);
       ties = leb-true _ _ (p .1 .1 .1 .0);
       subtypes = leb-true _ _ (p .1 .1 .1 .1 .0);
       size = leb-true _ _ (p .1 .1 .1 .1 .1 .0);
-      is = ok-inj (g .2);
+      is = ok-inj (h .2);
     }

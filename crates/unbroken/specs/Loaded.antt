@@ -14,6 +14,8 @@ use Rattle.definition.specs.Requests.{at}
 use Rattle.definition.specs.Classes.{find}
 use Rattle.definition.specs.Constraints.{World}
 use Rattle.definition.specs.File.{File, readFile, classOf}
+use Rattle.definition.specs.Verifier.{Note, notesOf}
+use Rattle.definition.specs.Loading.{newSubtypes}
 use Rattle.definition.specs.Tables.{Tables, Rows, withCache, classRow, entry, worldOf, view, classAt}
 use Rattle.definition.specs.Calls.{Given, addFile, addEntry, defineRows, recordRows, callDefine, callRecord, perform, rowDefine, rowRecord}
 use Rattle.laws.specs.Options.{nth-last}
@@ -25,7 +27,8 @@ use Rattle.unbroken.specs.Accepted.{Entered, Stood, recorded-is, defined
 use Rattle.unbroken.specs.Calls.{world-defined, rows-whole}
 use Rattle.unbroken.specs.Unbroken.{shown}
 
--- class c was defined by loader l from the bytes; before it there were the rows r, after it s: exactly one class, its bytes and one cache entry more
+-- class c was defined by loader l from the bytes; before it there were the rows r, after it s: exactly one class, its bytes and one cache entry more, and of its
+-- verifier's notes those that weren't there yet, in order
 pub record DefinedAs (l : ℕ) (bs : List ℕ) (c : ℕ) (r s : Rows) : Type 0 where
   pub file : File
   pub reads : readFile bs ≡ some file
@@ -35,6 +38,9 @@ pub record DefinedAs (l : ℕ) (bs : List ℕ) (c : ℕ) (r s : Rows) : Type 0 w
   pub classes : s .classes ≡ r .classes ++ (classRow l (length (r .kept)) (length bs) ∷ [])
   pub kept : s .kept ≡ r .kept ++ bs
   pub cache : s .cache ≡ r .cache ++ (entry l (file .name) c ∷ [])
+  pub notes : List Note
+  pub verified : notesOf (classOf l file) (file .methods) ≡ some notes
+  pub subtypes : s .subtypes ≡ r .subtypes ++ newSubtypes (r .subtypes) l notes
 
 define-as : (l : ℕ) (bs : List ℕ) (r : Rows) → Whole r → Ok (defineRows l bs r) (λ g. (c : ℕ) → g .answer ≡ Defined c → DefinedAs l bs c r (g .rows))
 unfolding defineRows
@@ -53,6 +59,9 @@ define-as l bs r w = then Q _ _ (λ _ a. then Q _ _ (λ f rf. then Q _ _ (λ v e
       classes = refl;
       kept = refl;
       cache = sym (ap (λ (z : World). z .base .cache) (d .is)) ∙ ap (λ (i : ℕ). r .cache ++ (entry l (f .name) i ∷ [])) m;
+      notes = d .notes;
+      verified = d .verified;
+      subtypes = sym (ap (λ (z : World). z .subtypes) (d .is));
     })))
   where
     Q : Given Reply → Type 0

@@ -25,7 +25,7 @@ use Rattle.laws.specs.Wrapped.{wrapped, Ok, ok-at, then}
 use Rattle.layout.specs.View.{put-view}
 use Rattle.unbroken.specs.Accepted.{Entered, Stood, recorded-is, defined-is}
 use Rattle.unbroken.specs.Calls.{rows-whole, step-whole}
-use Rattle.unbroken.specs.Progress.{Advances, step-advances}
+use Rattle.unbroken.specs.Progress.{Advances, Loops, step-advances}
 use Rattle.unbroken.specs.Unbroken.{shown}
 
 -- the later list is the earlier with some behind it
@@ -151,7 +151,7 @@ step-goes r = go (r .quote) (r .report)
   where
     task : (k : ℕ) (f : Frame) (fs : List Frame) → Ok (stepTask k (worldOf r) f fs r) (λ g. Goes k r (g .rows))
     task k f fs = unfold stepTask in then (λ (g : Given Answer). Goes k r (g .rows)) _ _ (λ o e.
-        goes-progressed k r o (ok-at (Advances (r .objects) (f ∷ fs)) _ (step-advances k (worldOf r) (r .objects) f fs) o e .objects))
+        goes-progressed k r o (ok-at (Advances (Loops (worldOf r) f) (r .objects) (f ∷ fs)) _ (step-advances k (worldOf r) (r .objects) f fs) o e .objects))
 
     go : (q p : List Frame) → Ok (stepOn q p (worldOf r) r) (λ g. Goes (turnOf q) r (g .rows))
     go (f ∷ fs) p = unfold stepOn turnOf in task 0 f fs

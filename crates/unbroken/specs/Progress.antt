@@ -1,77 +1,105 @@
--- What an accepted instruction leaves: every object keeps its number and class, and unless the task gives a result it has a frame and its frames moved.
+-- What an accepted instruction leaves: every object keeps its number and class, and unless the task gives a result it has a frame and its frames moved, but for
+-- a goto to its own point.
 use mathlib.Core.Path.{_≡_, refl, sym, ap}
+use mathlib.Core.Bool.{Bool}
 use mathlib.Core.Option.{Option, none, some}
 use mathlib.Core.List.{List, [], _∷_}
 use Prim.Native.Nat.{ℕ, _+_, _<_}
 use native.Mathlib.Omega.{arith}
 use lib.ListN.{length}
 use Rattle.definition.specs.declared.Instruction.{Instruction}
-use Rattle.definition.specs.declared.Instruction.the-variants.{AconstNull, Sipush, Load, Store, Pop, Dup, Arithmetic, Getfield, Putfield, Invokevirtual, New, Return}
+use Rattle.definition.specs.declared.Condition.{Condition}
+use Rattle.definition.specs.declared.Condition.the-variants.{Always}
+use Rattle.definition.specs.declared.Instruction.the-variants.{AconstNull, Sipush, Load, Store, Pop, Dup, Arithmetic, Getfield, Putfield, Invokevirtual, New, Return, Branch}
 use Rattle.definition.specs.Answers.{ok}
 use Rattle.definition.specs.Classes.{Class}
 use Rattle.definition.specs.Constraints.{World}
-use Rattle.definition.specs.Instructions.{Decoded}
-use Rattle.definition.specs.Machine.{Value, Objects, Frame, Progress, Now, past, now, give, execute, step}
+use Rattle.definition.specs.Instructions.{Decoded, pick}
+use Rattle.definition.specs.Machine.{Value, Objects, Frame, Progress, Now, past, now, jumps, give, execute, step}
 use Rattle.laws.specs.Results.{bind-ok, ok-inj, take-ok}
 use Rattle.laws.specs.Sized.{sized}
 use Rattle.laws.specs.Objects.{Numbered, numbered-same, numbered-changed, numbered-made}
 use Rattle.laws.specs.Wrapped.{Ok, then}
-use Rattle.unbroken.specs.Steps.{object-is}
+use Rattle.unbroken.specs.Steps.{object-is, jumps-same}
 
--- from the objects os and the frames fs
-pub record Advances (os : Objects) (fs : List Frame) (o : Progress) : Type 0 where
+-- the frame stands at a goto to its own point
+pub record Loops (w : World) (f : Frame) : Type 0 where
+  pub reads : Now
+  pub isNow : now w f ≡ ok reads
+  pub itself : reads .at .instruction ≡ Branch Always (f .point)
+
+-- from the objects os and the frames fs, which stand still only if S
+pub record Advances (S : Type 0) (os : Objects) (fs : List Frame) (o : Progress) : Type 0 where
   pub objects : Numbered os (o .objects)
   pub left : o .result ≡ none → o .frames ≡ [] → ⊥
-  pub moved : o .result ≡ none → o .frames ≡ fs → ⊥
+  pub moved : o .result ≡ none → o .frames ≡ fs → S
+
+-- the point and the operands of the top frame
+abbrev point : List Frame → ℕ
+point [] = 0
+point (g ∷ gs) = g .point
+
+abbrev depth : List Frame → ℕ
+depth [] = 0
+depth (g ∷ gs) = length (g .operands)
 
 longer : (fs gs : List Frame) → (length fs ≡ length gs → ⊥) → fs ≡ gs → ⊥
 longer fs gs h e = h (ap length e)
 
-module _ (os : Objects) (f : Frame) (fs : List Frame) (i : Decoded) (size : 0 < i .size) where
+module _ (S : Type 0) (os : Objects) (f : Frame) (fs : List Frame) (i : Decoded) (size : 0 < i .size) where
   -- the frame stands past its instruction
-  goes : (w : World) (qs : Objects) → Numbered os qs → (o l : List Value) → Advances os (f ∷ fs) (record { world = w; objects = qs; frames = past f i o l ∷ fs; result = none })
-  goes w qs n o l = record { objects = n; left = λ _. longer _ _ (λ e. omega arith); moved = λ _ e. stands (ap (λ (gs : List Frame). point gs) e) }
+  goes : (w : World) (qs : Objects) → Numbered os qs → (o l : List Value) → Advances S os (f ∷ fs) (record { world = w; objects = qs; frames = past f i o l ∷ fs; result = none })
+  goes w qs n o l = record { objects = n; left = λ _. longer _ _ (λ e. omega arith); moved = λ _ e. absurd (stands (ap point e)) }
     where
-      point : List Frame → ℕ
-      point [] = 0
-      point (g ∷ gs) = g .point
-
       stands : f .point + i .size ≡ f .point → ⊥
       stands e = omega arith
 
   -- a value given back: one frame less
-  gives : (gs : List Frame) (w : World) (v : Value) → Ok (give gs w os v) (Advances os (f ∷ gs))
+  gives : (gs : List Frame) (w : World) (v : Value) → Ok (give gs w os v) (Advances S os (f ∷ gs))
   unfolding give
-  gives [] w v = then (Advances os (f ∷ [])) _ _ (λ n _. record { objects = numbered-same os; left = λ e. absurd (some-none n e); moved = λ e. absurd (some-none n e) })
+  gives [] w v = then (Advances S os (f ∷ [])) _ _ (λ n _. record { objects = numbered-same os; left = λ e. absurd (some-none n e); moved = λ e. absurd (some-none n e) })
     where
       some-none : (n : ℕ) → Path (Option ℕ) (some n) none → ⊥
       some-none n e = let z : _≡_ {A = ℕ} 0 1 = cc in omega arith
-  gives (g ∷ gs) w v = record { objects = numbered-same os; left = λ _. longer _ _ (λ e. omega arith); moved = λ _. longer _ _ (λ e. omega arith) }
+  gives (g ∷ gs) w v = record { objects = numbered-same os; left = λ _. longer _ _ (λ e. omega arith); moved = λ _ e. absurd (longer _ _ (λ e. omega arith) e) }
 
   module _ (task : ℕ) (w : World) (k : Class) where
     abbrev Q : Progress → Type 0
-    Q = Advances os (f ∷ fs)
+    Q = Advances S os (f ∷ fs)
 
-    on : (o l : List Value) → Advances os (f ∷ fs) (record { world = w; objects = os; frames = past f i o l ∷ fs; result = none })
+    on : (o l : List Value) → Advances S os (f ∷ fs) (record { world = w; objects = os; frames = past f i o l ∷ fs; result = none })
     on o l = goes w os (numbered-same os) o l
 
-    advances : (j : Instruction) → Ok (execute task w os f fs k i j) Q
+    still : (c : Condition) (p : ℕ) (j : record { taken : Bool; more : List Value }) → jumps c (f .operands) ≡ ok j → length (j .more) ≡ length (f .operands)
+        → pick (j .taken) p (f .point + i .size) ≡ f .point → Branch c p ≡ Branch Always (f .point)
+    unfolding pick
+    still c p j e d q =
+        let a = jumps-same c (f .operands) j e d in
+        let z : p ≡ f .point = rw (a .1, pick) at q in
+        rw (a .0, z) refl
+
+    advances : (j : Instruction) → (j ≡ Branch Always (f .point) → S) → Ok (execute task w os f fs k i j) Q
     unfolding execute
-    advances AconstNull = then Q _ _ (λ _ _. on _ _)
-    advances (Sipush n) = then Q _ _ (λ _ _. on _ _)
-    advances (Load kind j) = then Q _ _ (λ _ _. then Q _ _ (λ _ _. then Q _ _ (λ _ _. on _ _)))
-    advances (Store kind j) = then Q _ _ (λ _ _. then Q _ _ (λ _ _. then Q _ _ (λ _ _. on _ _)))
-    advances Pop = then Q _ _ (λ _ _. on _ _)
-    advances Dup = then Q _ _ (λ _ _. then Q _ _ (λ _ _. on _ _))
-    advances (Arithmetic o) = then Q _ _ (λ _ _. then Q _ _ (λ _ _. then Q _ _ (λ _ _. then Q _ _ (λ _ _. then Q _ _ (λ _ _. on _ _)))))
-    advances (Getfield c n t) = then Q _ _ (λ _ _. then Q _ _ (λ _ _. then Q _ _ (λ v _. then Q _ _ (λ _ _. then Q _ _ (λ _ _. then Q _ _ (λ _ _. then Q _ _ (λ _ _.
+    advances AconstNull h = then Q _ _ (λ _ _. on _ _)
+    advances (Sipush n) h = then Q _ _ (λ _ _. on _ _)
+    advances (Load kind j) h = then Q _ _ (λ _ _. then Q _ _ (λ _ _. then Q _ _ (λ _ _. on _ _)))
+    advances (Store kind j) h = then Q _ _ (λ _ _. then Q _ _ (λ _ _. then Q _ _ (λ _ _. on _ _)))
+    advances Pop h = then Q _ _ (λ _ _. on _ _)
+    advances Dup h = then Q _ _ (λ _ _. then Q _ _ (λ _ _. on _ _))
+    advances (Arithmetic o) h = then Q _ _ (λ _ _. then Q _ _ (λ _ _. then Q _ _ (λ _ _. then Q _ _ (λ _ _. then Q _ _ (λ _ _. on _ _)))))
+    advances (Getfield c n t) h = then Q _ _ (λ _ _. then Q _ _ (λ _ _. then Q _ _ (λ v _. then Q _ _ (λ _ _. then Q _ _ (λ _ _. then Q _ _ (λ _ _. then Q _ _ (λ _ _.
         goes v os (numbered-same os) _ _)))))))
-    advances (Putfield c n t) = then Q _ _ (λ e _. then Q _ _ (λ _ _. then Q _ _ (λ v _. then Q _ _ (λ _ _. then Q _ _ (λ q _. then Q _ _ (λ _ _. then Q _ _ (λ o h. then Q _ _ (λ _ _.
-        goes v _ (numbered-changed os (o .number) (o .object) (record { class = o .object .class; values = _ }) (object-is (w .base) os e (q .top) o h) refl) _ _))))))))
-    advances (Invokevirtual c s) = then Q _ _ (λ _ _. then Q _ _ (λ _ _. then Q _ _ (λ _ _. then Q _ _ (λ _ _. then Q _ _ (λ _ _. then Q _ _ (λ _ _. then Q _ _ (λ _ _. then Q _ _ (λ _ _.
-        record { objects = numbered-same os; left = λ _. longer _ _ (λ e. omega arith); moved = λ _. longer _ _ (λ e. omega arith) }))))))))
-    advances (New c) = then Q _ _ (λ _ _. then Q _ _ (λ _ _. goes w _ (numbered-made task _ os) _ _))
-    advances (Return kind) = then Q _ _ (λ _ _. then Q _ _ (λ p _. then Q _ _ (λ _ _. gives fs w (p .top))))
+    advances (Putfield c n t) h = then Q _ _ (λ e _. then Q _ _ (λ _ _. then Q _ _ (λ v _. then Q _ _ (λ _ _. then Q _ _ (λ q _. then Q _ _ (λ _ _. then Q _ _ (λ o r. then Q _ _ (λ _ _.
+        goes v _ (numbered-changed os (o .number) (o .object) (record { class = o .object .class; values = _ }) (object-is (w .base) os e (q .top) o r) refl) _ _))))))))
+    advances (Invokevirtual c s) h = then Q _ _ (λ _ _. then Q _ _ (λ _ _. then Q _ _ (λ _ _. then Q _ _ (λ _ _. then Q _ _ (λ _ _. then Q _ _ (λ _ _. then Q _ _ (λ _ _. then Q _ _ (λ _ _.
+        record { objects = numbered-same os; left = λ _. longer _ _ (λ e. omega arith); moved = λ _ e. absurd (longer _ _ (λ e. omega arith) e) }))))))))
+    advances (New c) h = then Q _ _ (λ _ _. then Q _ _ (λ _ _. goes w _ (numbered-made task _ os) _ _))
+    advances (Branch c p) h = then Q _ _ (λ j e. record {
+      objects = numbered-same os;
+      left = λ _. longer _ _ (λ e. omega arith);
+      moved = λ _ q. h (still c p j e (ap depth q) (ap point q));
+    })
+    advances (Return kind) h = then Q _ _ (λ _ _. then Q _ _ (λ p _. then Q _ _ (λ _ _. gives fs w (p .top))))
 
 now-sized : (w : World) (f : Frame) (n : Now) → now w f ≡ ok n → 0 < n .at .size
 unfolding now
@@ -81,6 +109,7 @@ now-sized w f n e =
     let c = bind-ok _ _ (b .2) in
     rw (sym (ap (λ (y : Now). y .at) (ok-inj (c .2)))) (sized (a .0 .version) (b .0 .code) (f .point) (c .0) (take-ok _ _ (c .1)))
 
-pub step-advances : (task : ℕ) (w : World) (os : Objects) (f : Frame) (fs : List Frame) → Ok (step task w os f fs) (Advances os (f ∷ fs))
+pub step-advances : (task : ℕ) (w : World) (os : Objects) (f : Frame) (fs : List Frame) → Ok (step task w os f fs) (Advances (Loops w f) os (f ∷ fs))
 unfolding step
-step-advances task w os f fs = then (Advances os (f ∷ fs)) _ _ (λ n e. advances os f fs (n .at) (now-sized w f n e) task w (n .theClass) (n .at .instruction))
+step-advances task w os f fs = then (Advances (Loops w f) os (f ∷ fs)) _ _ (λ n e.
+    advances (Loops w f) os f fs (n .at) (now-sized w f n e) task w (n .theClass) (n .at .instruction) (λ q. record { reads = n; isNow = e; itself = q }))

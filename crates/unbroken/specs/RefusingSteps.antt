@@ -14,7 +14,9 @@ use Rattle.definition.specs.declared.Kind.the-variants.{IntKind, ReferenceKind}
 use Rattle.definition.specs.declared.Operator.{Operator}
 use Rattle.definition.specs.declared.Operator.the-variants.{Add, Subtract}
 use Rattle.definition.specs.declared.Instruction.{Instruction}
-use Rattle.definition.specs.declared.Instruction.the-variants.{AconstNull, Sipush, Load, Store, Pop, Dup, Arithmetic, Getfield, Putfield, Invokevirtual, New, Return}
+use Rattle.definition.specs.declared.Condition.{Condition}
+use Rattle.definition.specs.declared.Condition.the-variants.{Always, IfZero, IfLess}
+use Rattle.definition.specs.declared.Instruction.the-variants.{AconstNull, Sipush, Load, Store, Pop, Dup, Arithmetic, Getfield, Putfield, Invokevirtual, New, Return, Branch}
 use Rattle.definition.specs.Requests.{Request, at}
 use Rattle.definition.specs.Superclasses.{Below, below, nearest}
 use Rattle.definition.specs.Answers.{number, wanted, Result, ok, _>>=_, need, take?}
@@ -22,18 +24,18 @@ use Rattle.definition.specs.Classes.{Class, find, superOf, slots, slotIs, hasFi
 use Rattle.definition.specs.Constraints.{Tie, World, posted, agreesAfter, post}
 use Rattle.definition.specs.Instructions.{Decoded}
 use Rattle.definition.specs.Lists.{indexOf, isSome, isNone}
-use Rattle.definition.specs.Machine.{Value, emptyValue, intValue, nullValue, objectValue, unlistedValue, Object, Objects, Exists, changed, Frame, Progress, Now, existing, pop!, int!, reference!, ofKind!, kind!, compute, room!, object!, past, entryFrame, now, under!, give, execute, step}
+use Rattle.definition.specs.Machine.{Value, emptyValue, intValue, nullValue, objectValue, unlistedValue, Object, Objects, Exists, changed, Frame, Progress, Now, existing, pop!, int!, reference!, ofKind!, kind!, compute, jumps, room!, object!, past, entryFrame, now, under!, give, execute, step}
 use Rattle.definition.specs.Verifier.{pop}
 use Rattle.definition.specs.Maybe as Maybe
 use Rattle.laws.specs.Agreement.{super-falls}
 use Rattle.laws.specs.Growth.{nth-lt}
 use Rattle.laws.specs.Members.{FieldPlace, field-place}
 use Rattle.laws.specs.Upward.{nearest-below, below-true, below-trans}
-use Rattle.laws.specs.Causes.{Cause, cause, first, isSomeAnd, anInt, aNull, aReference, aValueOf, ofKind, isEmpty, noRoom, noRoomBelow, receives, selects, fieldTies, methodTies, plainly, accessing, reading, readCauses, frameCauses, instructionCauses}
+use Rattle.laws.specs.Causes.{Cause, cause, first, isSomeAnd, anInt, aNull, aReference, aValueOf, ofKind, isEmpty, noRoom, noRoomBelow, receives, selects, fieldTies, methodTies, plainly, branches, accessing, reading, readCauses, frameCauses, instructionCauses}
 use Rattle.layout.specs.Whole.{ObjectSound}
 use Rattle.unbroken.specs.Steps.{Ready, object-at}
 use Rattle.unbroken.specs.WholeRows.{nth-there}
-use Rattle.unbroken.specs.Refusing.{numberIn, first-need, first-take, first-skip, number-ok, number-there}
+use Rattle.unbroken.specs.Refusing.{numberIn, first-need, first-take, first-skip, number-on, number-ok, number-there}
 
 -- Two causes of one word, and the causes of an instruction that names no class
 
@@ -239,6 +241,13 @@ module _ (task : ℕ) (w : World) (n : ℕ) (os : Objects) (rd : Ready w n os) (
       ∙ sym (first-and 14 (receives w os e u) (selects w os s u) (cause 11 (aNull u) ∷ [])))))
       ∙ sym (first-and 14 (upper (ofKind (s .argument))) (lower (λ v. receives w os e v && selects w os s v)) (cause 11 (lower aNull) ∷ []))
 
+  jumps-first : (c : Condition) → numberIn (jumps c (f .operands)) ≡ first (cause 14 (not (branches task w os f fs k c)) ∷ [])
+  unfolding jumps branches
+  jumps-first Always = number-ok _ ∙ sym (first-skip 14 [])
+  jumps-first IfZero = first-top [] (f .operands) anInt _ (λ v us _. first-int [] v _ (λ _ _. number-ok _))
+  jumps-first IfLess =
+      first-two [] (f .operands) anInt anInt _ (λ v u us _. first-int _ v _ (λ b _. first-int [] u _ (λ a _. number-ok _))) ∙ sym (first-and 14 (upper anInt) (lower anInt) [])
+
   execute-first : (j : Instruction) → numberIn (execute task w os f fs k i j) ≡ first (instructionCauses task w os f fs k j)
   unfolding execute instructionCauses room! noRoom number
   execute-first AconstNull = first-need _ (ltb (length (f .operands)) 16) (Word 10) _ (λ _. number-ok _ ∙ sym (first-skip 14 [])) ∙ sym (plain _ _)
@@ -257,6 +266,7 @@ module _ (task : ℕ) (w : World) (n : ℕ) (os : Objects) (rd : Ready w n os) (
   execute-first (Putfield c x t) = first-access _ _ _ true _ _ _ _ (λ e d p. putfield-first x t e d p (posted w (fieldTies w k t d)))
   execute-first (Invokevirtual c s) = first-access _ _ _ _ _ _ _ _ (λ e d p. invoke-first s e (posted w (methodTies w k s d)))
   execute-first (New c) = first-take _ (find (w .base .cache) (at (k .loader) c)) (wanted (at (k .loader) c)) _ (λ e _. first-need [] _ (Word 10) _ (λ _. number-ok _) ∙ sym (only-full _))
+  execute-first (Branch c p) = number-on (jumps c (f .operands)) _ ∙ jumps-first c ∙ sym (plain-stuck _)
   execute-first (Return kind) =
       first-under fs _ _ (first-top (cause 14 (not (not (isEmpty fs) || upper anInt)) ∷ []) (f .operands) (aValueOf kind) _ (λ v us q. rw q (first-of-kind _ kind v _ (give-first fs v)))
       ∙ sym (first-and 14 (upper (aValueOf kind)) (not (isEmpty fs) || upper anInt) [])) ∙ sym (plain _ _)

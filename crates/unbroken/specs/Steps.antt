@@ -14,13 +14,15 @@ use Rattle.definition.specs.Classes.{Base, Class, Slot, find, loaderOf, slots, 
 use Rattle.definition.specs.Constraints.{Tie, World, newTie, post, posted, tieIs, newTies, signatureTies}
 use Rattle.definition.specs.Instructions.{Decoded, pick}
 use Rattle.definition.specs.Lists.{any}
-use Rattle.definition.specs.Machine.{Frame, Now, Object, ObjectRow, free, owned, Objects, objectHeld, Exists, unused, made, roomless, rewritten, changed, Progress, Value, entryFrame, execute, give, initialValue, int!, intValue, newObject, now, nullValue, object!, objectValue, ofKind!, past, pop!, reference!, room!, step, under!, emptyValue, unlistedValue, existing}
+use Rattle.definition.specs.Machine.{Frame, Now, Object, ObjectRow, free, owned, Objects, objectHeld, Exists, unused, made, roomless, rewritten, changed, Progress, Value, entryFrame, execute, give, initialValue, int!, intValue, jumps, newObject, now, nullValue, object!, objectValue, ofKind!, past, pop!, reference!, room!, step, under!, emptyValue, unlistedValue, existing}
 use Rattle.definition.specs.Requests.{Request, at}
 use Rattle.definition.specs.Verifier.{pop}
 use Rattle.definition.specs.declared.Kind.{Kind}
 use Rattle.definition.specs.declared.Kind.the-variants.{IntKind, ReferenceKind}
 use Rattle.definition.specs.declared.Instruction.{Instruction}
-use Rattle.definition.specs.declared.Instruction.the-variants.{AconstNull, Arithmetic, Dup, Getfield, Invokevirtual, Load, New, Pop, Putfield, Return, Sipush, Store}
+use Rattle.definition.specs.declared.Condition.{Condition}
+use Rattle.definition.specs.declared.Condition.the-variants.{Always, IfZero, IfLess}
+use Rattle.definition.specs.declared.Instruction.the-variants.{AconstNull, Arithmetic, Branch, Dup, Getfield, Invokevirtual, Load, New, Pop, Putfield, Return, Sipush, Store}
 use Rattle.definition.specs.declared.Refusal.{Refusal}
 use Rattle.laws.specs.Growth.{nth-lt}
 use Rattle.laws.specs.Objects.{existing-none, existing-tail, made-there, made-exists, changed-exists}
@@ -100,6 +102,47 @@ pop-all : (X : ℕ → Type 0) (vs : List Value) (p : record { top : Value; more
 unfolding pop! pop take?
 pop-all X [] p h e = never _ _ e
 pop-all X (v ∷ vs) p h e = rw (sym (ok-inj e)) (record { top = h .0; more = h .1; less = refl })
+
+-- A branch leaves operands that were there, fewer unless it is a goto, which jumps
+
+jumps-left : (X : ℕ → Type 0) (c : Condition) (vs : List Value) (j : record { taken : Bool; more : List Value }) → All (ValueSound X) vs → jumps c vs ≡ ok j
+    → All (ValueSound X) (j .more) × (length (j .more) ≤ length vs)
+unfolding jumps
+jumps-left X Always vs j h e = rw (sym (ok-inj e)) (h, omega arith)
+jumps-left X IfZero vs j h e =
+    let a = bind-ok _ _ e in
+    let b = bind-ok _ _ (a .2) in
+    let p = pop-all X vs (a .0) h (a .1) in
+    rw (sym (ok-inj (b .2))) (p .more, omega (arith, p .less))
+jumps-left X IfLess vs j h e =
+    let a = bind-ok _ _ e in
+    let b = bind-ok _ _ (a .2) in
+    let c = bind-ok _ _ (b .2) in
+    let d = bind-ok _ _ (c .2) in
+    let p = pop-all X vs (a .0) h (a .1) in
+    let q = pop-all X (a .0 .more) (b .0) (p .more) (b .1) in
+    rw (sym (ok-inj (d .2))) (q .more, omega (arith, p .less, q .less))
+
+pop-less : (vs : List Value) (p : record { top : Value; more : List Value }) → pop! vs ≡ ok p → suc (length (p .more)) ≡ length vs
+unfolding pop! pop take?
+pop-less [] p e = never _ _ e
+pop-less (v ∷ vs) p e = rw (sym (ok-inj e)) refl
+
+pub jumps-same : (c : Condition) (vs : List Value) (j : record { taken : Bool; more : List Value }) → jumps c vs ≡ ok j → length (j .more) ≡ length vs → (c ≡ Always) × (j .taken ≡ true)
+unfolding jumps
+jumps-same Always vs j e q = rw (sym (ok-inj e)) (refl, refl)
+jumps-same IfZero vs j e q =
+    let a = bind-ok _ _ e in
+    let b = bind-ok _ _ (a .2) in
+    let z : length (a .0 .more) ≡ length vs = ap (λ (x : record { taken : Bool; more : List Value }). length (x .more)) (ok-inj (b .2)) ∙ q in
+    absurd (omega (arith, pop-less vs (a .0) (a .1), z))
+jumps-same IfLess vs j e q =
+    let a = bind-ok _ _ e in
+    let b = bind-ok _ _ (a .2) in
+    let c = bind-ok _ _ (b .2) in
+    let d = bind-ok _ _ (c .2) in
+    let z : length (b .0 .more) ≡ length vs = ap (λ (x : record { taken : Bool; more : List Value }). length (x .more)) (ok-inj (d .2)) ∙ q in
+    absurd (omega (arith, pop-less vs (a .0) (a .1), pop-less (a .0 .more) (b .0) (b .1), z))
 
 pub object-is : (b : Base) (os : Objects) (e : ℕ) (v : Value) (p : record { number : ℕ; object : Object }) → object! b os e v ≡ ok p → existing os (p .number) ≡ some (p .object)
 unfolding object!
@@ -345,6 +388,9 @@ module _ (w : World) (n : ℕ) (os : Objects) (rd : Ready w n os) where
             all-more (grow-frame n M (Exists qs) g) fs frs,
           );
         }))
+    each-kept (Branch c p) = then Q _ _ (λ j e.
+        let l = jumps-left M c (f .operands) j (fr .operands) e in
+        stays _ _ (omega arith) (record { class = fr .class; depth = omega (arith, l .1, fr .depth); operands = l .0; eight = fr .eight; locals = fr .locals }, frs))
     each-kept (Return kind) = then Q _ _ (λ u eu. then Q _ _ (λ p ep. then Q _ _ (λ _ _. let q = pop-all M (f .operands) p (fr .operands) ep in given (p .more) (p .top) fs frs fl u eu (q .top))))
 
   pub step-moves : (task : ℕ) → task < 2 → (f : Frame) (fs : List Frame) → All (Framed n (Exists os)) (f ∷ fs) → length (f ∷ fs) ≤ 32 → Ok (step task w os f fs) (Moved w n os)

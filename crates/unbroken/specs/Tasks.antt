@@ -1,4 +1,5 @@
--- While the quote has a frame, no call but a boot, a start or a drop of the report changes the report's frames. A step that ran moved its task's frames.
+-- While the quote has a frame, no call but a boot, a start or a drop of the report changes the report's frames. A step that ran moved its task's
+-- frames, but for a goto to its own point.
 use mathlib.Core.Path.{_≡_, refl, sym, ap, _∙_, subst}
 use mathlib.Core.Bool.{Bool, true, false, _&&_}
 use mathlib.Core.Option.{Option, none, some}
@@ -22,7 +23,7 @@ use Rattle.laws.specs.Results.{bind-ok, need-ok}
 use Rattle.laws.specs.Runs.{runs-end}
 use Rattle.laws.specs.Wrapped.{Ok, ok-at, then}
 use Rattle.unbroken.specs.Calls.{step-whole, rows-whole}
-use Rattle.unbroken.specs.Progress.{Advances, step-advances}
+use Rattle.unbroken.specs.Progress.{Advances, Loops, step-advances}
 use Rattle.unbroken.specs.Unbroken.{shown}
 
 abbrev Kept : Tables → Answer → Rows → Type 0
@@ -54,31 +55,43 @@ step-kept t h = shown Refused stepRows (Kept t) t step-whole (λ w. (refl, λ k 
         let y : progressed 0 r (a .0) ≡ g .rows = cc (a .2) in (
           ap (λ (z : Rows). z .report) (sym y),
           λ k q n.
-              ok-at (Advances (r .objects) (f ∷ fs)) _ (step-advances 0 (worldOf r) (r .objects) f fs) (a .0) (a .1) .left (same-result 0 k (a .0 .result) (x ∙ q) .0)
+              ok-at (Advances (Loops (worldOf r) f) (r .objects) (f ∷ fs)) _ (step-advances 0 (worldOf r) (r .objects) f fs) (a .0) (a .1) .left (same-result 0 k (a .0 .result) (x ∙ q) .0)
               (ap (λ (z : Rows). z .quote) y ∙ n),
         )
 
--- a step that ran moved the frames of its task
-pub ran-moves : (t : Tables) (k : ℕ) → stepTables t .answer ≡ Ran k → framesIn k (view (stepTables t .tables)) ≡ framesIn k (view t) → ⊥
+-- the task runs, and its frame stands at a goto to its own point
+pub record TaskLoops (k : ℕ) (r : Rows) : Type 0 where
+  pub frame : Frame
+  pub others : List Frame
+  pub task : framesIn k r ≡ frame ∷ others
+  pub loops : Loops (worldOf r) frame
+
+-- a step that ran moved the frames of its task, but for such a goto
+pub ran-moves : (t : Tables) (k : ℕ) → stepTables t .answer ≡ Ran k → framesIn k (view (stepTables t .tables)) ≡ framesIn k (view t) → TaskLoops k (view t)
 unfolding stepTables stepRows
-ran-moves t k = shown Refused stepRows (λ a z. a ≡ Ran k → framesIn k z ≡ framesIn k r → ⊥) t step-whole (λ w e. let z : _≡_ {A = ℕ} 0 1 = cc in absurd (omega arith))
+ran-moves t k = shown Refused stepRows (λ a z. a ≡ Ran k → framesIn k z ≡ framesIn k r → TaskLoops k r) t step-whole (λ w e. let z : _≡_ {A = ℕ} 0 1 = cc in absurd (omega arith))
     (λ _ g e. go (r .quote) (r .report) refl refl g e)
   where
     r : Rows
     r = view t
 
     moved : (j : ℕ) (f : Frame) (fs : List Frame) → framesIn j r ≡ f ∷ fs → ((o : Progress) → framesIn j (progressed j r o) ≡ o .frames)
-        → (g : Given Answer) → stepTask j (worldOf r) f fs r ≡ ok g → g .answer ≡ Ran k → framesIn k (g .rows) ≡ framesIn k r → ⊥
+        → (g : Given Answer) → stepTask j (worldOf r) f fs r ≡ ok g → g .answer ≡ Ran k → framesIn k (g .rows) ≡ framesIn k r → TaskLoops k r
     moved j f fs q is g e a s =
         let o = task-ok j (worldOf r) f fs r g e in
         let x : answerOf j (o .0 .result) ≡ g .answer = cc (o .2) in
         let y : progressed j r (o .0) ≡ g .rows = cc (o .2) in
         let n = same-result j k (o .0 .result) (x ∙ a) in
         let z : framesIn j (g .rows) ≡ framesIn j r = subst (λ (i : ℕ). framesIn i (g .rows) ≡ framesIn i r) (sym (n .1)) s in
-        ok-at (Advances (r .objects) (f ∷ fs)) _ (step-advances j (worldOf r) (r .objects) f fs) (o .0) (o .1) .moved (n .0)
-        (sym (is (o .0)) ∙ ap (framesIn j) y ∙ z ∙ q)
+        subst (λ (i : ℕ). TaskLoops i r) (n .1) (record {
+          frame = f;
+          others = fs;
+          task = q;
+          loops = ok-at (Advances (Loops (worldOf r) f) (r .objects) (f ∷ fs)) _ (step-advances j (worldOf r) (r .objects) f fs) (o .0) (o .1) .moved (n .0)
+              (sym (is (o .0)) ∙ ap (framesIn j) y ∙ z ∙ q);
+        })
 
-    go : (q p : List Frame) → r .quote ≡ q → r .report ≡ p → (g : Given Answer) → stepOn q p (worldOf r) r ≡ ok g → g .answer ≡ Ran k → framesIn k (g .rows) ≡ framesIn k r → ⊥
+    go : (q p : List Frame) → r .quote ≡ q → r .report ≡ p → (g : Given Answer) → stepOn q p (worldOf r) r ≡ ok g → g .answer ≡ Ran k → framesIn k (g .rows) ≡ framesIn k r → TaskLoops k r
     go (f ∷ fs) p x y g e = moved 0 f fs x (λ o. refl) g (unfold stepOn in e)
     go [] (f ∷ fs) x y g e = moved 1 f fs y (λ o. refl) g (unfold stepOn in e)
     go [] [] x y g e = λ a. let z : ok (record { answer = Idle; rows = r }) ≡ ok g = unfold stepOn in e in let n : _≡_ {A = ℕ} 0 1 = cc in absurd (omega arith)

@@ -11,7 +11,7 @@ use borrow.Author.Tests.{leb-true, ltb-true}
 use Rattle.definition.specs.declared.Refusal.{Refusal}
 use Rattle.definition.specs.declared.Refusal.the-variants.{Wanted, Word}
 use Rattle.definition.specs.declared.Instruction.{Instruction}
-use Rattle.definition.specs.declared.Instruction.the-variants.{AconstNull, Sipush, Load, Store, Pop, Dup, Arithmetic, Getfield, Putfield, Invokevirtual, New, Return}
+use Rattle.definition.specs.declared.Instruction.the-variants.{AconstNull, Sipush, Load, Store, Pop, Dup, Arithmetic, Getfield, Putfield, Invokevirtual, New, Return, Branch}
 use Rattle.definition.specs.declared.Answer.{Answer}
 use Rattle.definition.specs.declared.Answer.the-variants.{Refused}
 use Rattle.definition.specs.declared.Reply.{Reply}
@@ -99,6 +99,7 @@ module _ (task : ℕ) (w : World) (os : Objects) (f : Frame) (fs : List Frame) (
   wants (Putfield x n t) e = let z : x ≡ c = cc in rw (z, m) refl
   wants (Invokevirtual x s) e = let z : x ≡ c = cc in rw (z, m) refl
   wants (New x) e = let z : x ≡ c = cc in rw (z, m) refl
+  wants (Branch x p) e = absurd (Option·none-ne-some c e)
   wants (Return kind) e = absurd (Option·none-ne-some c e)
 
 module _ (f : Frame) (fs : List Frame) (l c : ℕ) where

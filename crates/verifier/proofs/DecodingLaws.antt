@@ -13,6 +13,7 @@ use Rattle.definition.specs.declared.Opcode.{Opcode}
 use Rattle.definition.specs.declared.Instruction.{Instruction}
 use Rattle.definition.specs.Instructions.{Decoded, opcodeOf, inlineLength, extend, instructionOf, sizedAs, decode}
 use Rattle.verifier.specs.declared.decoding.Reading.{Reading}
+use Rattle.verifier.specs.declared.decoding.Reading.the-variants.{At}
 use Rattle.verifier.specs.Decoding.{readingOf, decodedOf}
 
 module _ (version : ℕ) (code : List ℕ) (p : ℕ) where
@@ -96,6 +97,14 @@ decode-is m r e = same m ∙ ap decodedOf (sym e)
     same : (k : Option Decoded) → k ≡ decodedOf (readingOf k)
     same none = refl
     same (some d) = refl
+
+module _ (version : ℕ) (code : List ℕ) (p : ℕ) (r : Reading) (e : r ≡ readingOf (decode version code p)) (i : Instruction) (n : ℕ) (h : r ≡ At i n) where
+  pub decode-at : decode version code p ≡ some (record { instruction = i; size = n })
+  unfolding decodedOf
+  decode-at = decode-is (decode version code p) r e ∙ rw h
+
+  pub at-within : p + n ≤ length code
+  at-within = decode-within version code p (record { instruction = i; size = n }) decode-at .0
 
 -- the sign of 16 bits
 module _ (n : ℕ) where

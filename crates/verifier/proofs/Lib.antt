@@ -2,8 +2,14 @@
 pub mod DecodingLaws
 pub mod TypeLaws
 pub mod EffectLaws
+pub mod ChangeLaws
+pub mod LookupLaws
+pub mod PostingLaws
+pub mod FlowLaws
+pub mod PassLaws
 pub mod TurnLaws
-pub mod NoteLaws
+pub mod WalkLaws
+pub mod MeetLaws
+pub mod SayingLaws
 pub mod TraceLaws
-pub mod CountLaws
 pub mod ClassLaws

@@ -1,8 +1,18 @@
 -- The answer of decoding: an instruction with its size, or nothing readable.
 use mathlib.Core.Option.{Option, none, some}
-use Rattle.definition.specs.Instructions.{Decoded}
+use Prim.Native.Nat.{ℕ}
+use lib.Dec.{eqb, leb}
+use Rattle.definition.specs.declared.Condition.the-variants.{Always, IfZero, IfLess}
+use Rattle.definition.specs.declared.Opcode.{Opcode}
+use Rattle.definition.specs.declared.Opcode.the-variants.{OpBranch, OpUnknown}
+use Rattle.definition.specs.Instructions.{pick, Decoded}
 use Rattle.verifier.specs.declared.decoding.Reading.{Reading}
 use Rattle.verifier.specs.declared.decoding.Reading.the-variants.{At, Unreadable}
+
+-- the branches, by their opcode bytes, from version 2 on
+unfoldable pub branchOf : ℕ → ℕ → Opcode
+branchOf version b =
+    pick (leb 2 version) (pick (eqb b 0x99) (OpBranch IfZero) (pick (eqb b 0xA1) (OpBranch IfLess) (pick (eqb b 0xA7) (OpBranch Always) OpUnknown))) OpUnknown
 
 unfoldable pub readingOf : Option Decoded → Reading
 readingOf none = Unreadable

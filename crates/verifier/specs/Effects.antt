@@ -39,6 +39,15 @@ ending (some ns) = ends ns
 unfoldable pub outcome : Instruction → ℕ → TypeState → Outcome
 outcome i r s = elim (returnKind i) [ some kind ↦ ending (returns kind r s) | none ↦ going (effect i s) ]
 
+-- what it leaves; a return leaves the types as they are
+unfoldable pub leftBy : TypeState → Outcome → Option Flow
+leftBy s rejected = none
+leftBy s (goes f) = some f
+leftBy s (ends ns) = some (record { types = s; notes = ns })
+
+unfoldable pub leaves : Instruction → ℕ → TypeState → Option Flow
+leaves i r s = leftBy s (outcome i r s)
+
 -- the state after the lowest d operands are kept
 abbrev kept : Types → ℕ → List Note → Option Flow
 kept s d ns = flow (stack (operandAt (s .operands)) d) (localsOf (s .locals)) ns

@@ -1,39 +1,54 @@
 // The verifier over a class file: its methods in order.
-use crate::methods::Verified;
 use crate::methods::verify_method;
+use crate::notes::Verified;
+use crate::notes::rejected;
 use classfile::MethodFound;
 ghost use mathlib.Core.Path.{_≡_};
 ghost use Prim.Native.Nat.{_<_};
 ghost use Rattle.classfile.specs.Reading.{fileVersion, className, methodCount, methodIn};
-ghost use Rattle.verifier.specs.Trace.{verification, verified, traceOf, classTrace};
+ghost use Rattle.constraints.specs.Posting.{noted};
+ghost use Rattle.verifier.specs.Trace.{verification, posting, traceOf, classTrace};
 
-// Method j of the file: its code is handed over as the part of the bytes.
-fn verify_numbered(bytes: &[u8], j: u8, notes: &mut [u16], from: usize) -> Verified
+// Method j of the file: its code and its maps are handed over as parts of the bytes.
+fn verify_numbered(bytes: &[u8], j: u8, loader: u8, subtypes: &mut [u16], count: u16) -> Verified
     requires { ⌜ j < methodCount (now bytes) ⌝ }
-    ensures { λ r. ⌜ verification r (now (notes .exit)) ≡ verified from (traceOf (fileVersion (now (bytes .entry))) (className (now (bytes .entry))) (methodIn (now (bytes .entry)) j)) (now (notes .entry)) ⌝ }
+    ensures { λ r. ⌜ verification (r .accepts) (noted (now (subtypes .exit)) (r .count)) ≡ posting loader (traceOf (fileVersion (now (bytes .entry))) (className (now (bytes .entry))) (methodIn (now (bytes .entry)) j)) (noted (now (subtypes .entry)) count) ⌝ }
 {
     let MethodFound::At(_, place) = classfile::method_place(bytes, j) else {
-        return Verified::Rejected;
+        return rejected(count);
     };
     let version = classfile::version(bytes);
     let own = classfile::class_name(bytes);
     let s = classfile::method_signature(bytes, place);
-    verify_method(version, classfile::code(bytes, place), own, s, notes, from)
+    verify_method(
+        version,
+        classfile::code(bytes, place),
+        classfile::method_maps(bytes, place),
+        own,
+        s,
+        loader,
+        subtypes,
+        count,
+    )
 }
 
-// All methods of a class file. Their notes are the first rows of the table. The file's own rules are for others to check.
-pub fn verify_class(bytes: &[u8], notes: &mut [u16]) -> Verified
-    ensures { λ r. ⌜ verification r (now (notes .exit)) ≡ verified 0 (classTrace (now (bytes .entry))) (now (notes .entry)) ⌝ }
+// All methods of a class file. Their notes are posted under the loader, behind the table's rows. The file's own rules are for others to check.
+pub fn verify_class(bytes: &[u8], loader: u8, subtypes: &mut [u16], count: u16) -> Verified
+    ensures { λ r. ⌜ verification (r .accepts) (noted (now (subtypes .exit)) (r .count)) ≡ posting loader (classTrace (now (bytes .entry))) (noted (now (subtypes .entry)) count) ⌝ }
 {
     let n = classfile::method_count(bytes);
     let mut j: u8 = 0;
-    let mut count: usize = 0;
+    let mut total = count;
     while j < n {
-        let Verified::Notes(more) = verify_numbered(bytes, j, notes, count) else {
-            return Verified::Rejected;
-        };
-        count += more;
+        let method = verify_numbered(bytes, j, loader, subtypes, total);
+        total = method.count;
+        if !method.accepts {
+            return rejected(total);
+        }
         j += 1;
     }
-    Verified::Notes(count)
+    Verified {
+        accepts: true,
+        count: total,
+    }
 }

@@ -3,14 +3,16 @@ ghost use mathlib.Core.Path.{_≡_};
 ghost use mathlib.Core.Option.{some};
 ghost use Prim.Native.Nat.{_+_, _≤_};
 ghost use lib.ListN.{length};
-ghost use Rattle.definition.specs.Instructions.{opcodeOf, inlineLength, signatureAt, extend, instructionOf, sizedAs, decode};
-ghost use Rattle.verifier.specs.Decoding.{readingOf};
+ghost use Rattle.definition.specs.Instructions.{opcodeOf, inlineLength, shortAt, signatureAt, extend, instructionOf, sizedAs, decode};
+ghost use Rattle.verifier.specs.Decoding.{branchOf, readingOf};
 use cells::short_at;
+use definition::Condition;
 use definition::Instruction;
 use definition::Kind;
 use definition::Opcode;
 use definition::Operator;
 use definition::Signature;
+use definition::numbers::VERSION_TWO;
 
 // What stands at a point of the code: an instruction with its size in bytes, or nothing that can be read.
 pub enum Reading {
@@ -18,7 +20,22 @@ pub enum Reading {
     Unreadable,
 }
 
-// The one decision over opcode bytes, by the version of the class's file: version 1 has these.
+// The branches, which are there from version 2 on.
+fn branch_of(version: u8, b: u8) -> Opcode
+    ensures { λ r. ⌜ r ≡ branchOf version b ⌝ }
+{
+    if version < VERSION_TWO {
+        return Opcode::OpUnknown;
+    }
+    match b {
+        0x99 => Opcode::OpBranch(Condition::IfZero),
+        0xA1 => Opcode::OpBranch(Condition::IfLess),
+        0xA7 => Opcode::OpBranch(Condition::Always),
+        _ => Opcode::OpUnknown,
+    }
+}
+
+// The one decision over opcode bytes, by the version of the class's file: every version has these and its branches.
 pub fn opcode_of(version: u8, b: u8) -> Opcode
     ensures { λ r. ⌜ r ≡ opcodeOf version b ⌝ }
 {
@@ -39,7 +56,7 @@ pub fn opcode_of(version: u8, b: u8) -> Opcode
         0xBB => Opcode::OpNew,
         0xAC => Opcode::OpReturn(Kind::IntKind),
         0xB0 => Opcode::OpReturn(Kind::ReferenceKind),
-        _ => Opcode::OpUnknown,
+        _ => branch_of(version, b),
     }
 }
 
@@ -60,6 +77,7 @@ pub fn inline_length(o: Opcode) -> usize
         Opcode::OpInvokevirtual => 8,
         Opcode::OpNew => 2,
         Opcode::OpReturn(_) => 0,
+        Opcode::OpBranch(_) => 2,
         Opcode::OpUnknown => 0,
     }
 }
@@ -118,6 +136,14 @@ fn invokevirtual_at(code: &[u8], i: usize) -> Instruction
     Instruction::Invokevirtual(short_at(code, i), signature_at(code, i + 2))
 }
 
+// The point that a branch names: its offset counts from the start of the method's code, not from the branch.
+fn target_at(code: &[u8], place: usize) -> u16
+    requires { ⌜ place ≤ length (now code) ⌝ }
+    ensures { λ r. ⌜ r ≡ shortAt (now (code .entry)) place ⌝ }
+{
+    short_at(code, place)
+}
+
 // The instruction of n bytes whose inline bytes begin at place i.
 fn instruction_of(code: &[u8], i: usize, o: Opcode, n: usize) -> Reading
     requires { ⌜ i ≤ length (now code) ⌝ }
@@ -136,6 +162,7 @@ fn instruction_of(code: &[u8], i: usize, o: Opcode, n: usize) -> Reading
         Opcode::OpInvokevirtual => Reading::At(invokevirtual_at(code, i), n),
         Opcode::OpNew => Reading::At(Instruction::New(short_at(code, i)), n),
         Opcode::OpReturn(k) => Reading::At(Instruction::Return(k), n),
+        Opcode::OpBranch(k) => Reading::At(Instruction::Branch(k, target_at(code, i)), n),
         Opcode::OpUnknown => Reading::Unreadable,
     }
 }

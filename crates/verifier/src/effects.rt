@@ -8,6 +8,7 @@ use crate::types::UNSET;
 use crate::types::local;
 use crate::types::pop;
 use crate::types::type_of_name;
+use definition::Condition;
 use definition::Instruction;
 use definition::Kind;
 use definition::Operator;
@@ -17,6 +18,7 @@ use definition::numbers::SHORT_RANGE;
 ghost use mathlib.Core.Bool.{_&&_};
 ghost use mathlib.Core.Option.{some};
 ghost use mathlib.Core.Path.{_≡_};
+ghost use Prim.Native.Nat.{ℕ};
 ghost use lib.Dec.{leb};
 ghost use Rattle.definition.specs.Numbers.{nameObject};
 ghost use Rattle.definition.specs.Maybe.{need};
@@ -71,7 +73,7 @@ fn meet_int(t: u32) -> Meeting
 }
 
 // A type where name b is demanded.
-fn meet_name(t: u32, b: u16) -> Meeting
+pub(crate) fn meet_name(t: u32, b: u16) -> Meeting
     ensures { λ r. ⌜ notesIn r ≡ meets (typeOf t) b ⌝ }
 {
     if b == 1 {
@@ -245,6 +247,48 @@ fn new(types: Types, c: u16) -> Effect
     push(types, cells::from16(c))
 }
 
+// An int goes, and it is compared with 0.
+fn compared_with_zero(types: Types) -> Effect
+    ensures { λ r. ⌜ ((p : ℕ) → outcomeOf types r ≡ going (effect (Instruction.Branch Condition.IfZero p) (typesOf types))) ⌝ }
+{
+    let Popped::Top(x, d) = pop(types, types.depth) else {
+        return Effect::Rejected;
+    };
+    if x != INT {
+        return Effect::Rejected;
+    }
+    Effect::Kept(d, Meeting::Met, Meeting::Met)
+}
+
+// Two ints go, and they are compared.
+fn compared(types: Types) -> Effect
+    ensures { λ r. ⌜ ((p : ℕ) → outcomeOf types r ≡ going (effect (Instruction.Branch Condition.IfLess p) (typesOf types))) ⌝ }
+{
+    let Popped::Top(x, d) = pop(types, types.depth) else {
+        return Effect::Rejected;
+    };
+    let Popped::Top(y, e) = pop(types, d) else {
+        return Effect::Rejected;
+    };
+    if x != INT {
+        return Effect::Rejected;
+    }
+    if y != INT {
+        return Effect::Rejected;
+    }
+    Effect::Kept(e, Meeting::Met, Meeting::Met)
+}
+
+fn branch(types: Types, condition: Condition) -> Effect
+    ensures { λ r. ⌜ ((p : ℕ) → outcomeOf types r ≡ going (effect (Instruction.Branch condition p) (typesOf types))) ⌝ }
+{
+    match condition {
+        Condition::Always => Effect::Kept(types.depth, Meeting::Met, Meeting::Met),
+        Condition::IfZero => compared_with_zero(types),
+        Condition::IfLess => compared(types),
+    }
+}
+
 // A value of the kind given back, where the result type is of the kind too.
 fn give_back(types: Types, kind: Kind, result: u16) -> Effect
     ensures { λ r. ⌜ outcomeOf types r ≡ ending (returns kind result (typesOf types)) ⌝ }
@@ -275,5 +319,6 @@ pub(crate) fn effect_of(types: Types, i: Instruction, result: u16) -> Effect
         Instruction::Invokevirtual(c, s) => invokevirtual(types, c, s),
         Instruction::New(c) => new(types, c),
         Instruction::Return(k) => give_back(types, k, result),
+        Instruction::Branch(c, _) => branch(types, c),
     }
 }

@@ -1,161 +1,217 @@
-// One turn of the walk over a method's code: the instruction at a point, and the types after it.
+// One turn of the walk over a method's code: the instruction at a point, the flow into its target, and that into the next point.
+use crate::changes::Change;
+use crate::changes::carried_out;
 use crate::decoding::Reading;
 use crate::decoding::decode;
-use crate::effects::Effect;
-use crate::effects::Meeting;
 use crate::effects::effect_of;
-use crate::types::LOCALS;
-use crate::types::OPERANDS;
+use crate::flows::is_fitting;
+use crate::flows::mapped_types;
+use crate::flows::meet_map;
+use crate::lookups::Target;
+use crate::lookups::find_map;
+use crate::lookups::goes_on;
+use crate::lookups::target_of;
+use crate::notes::Verified;
+use crate::notes::post_meeting;
+use crate::notes::rejected;
 use crate::types::Types;
+use definition::Instruction;
 ghost use mathlib.Core.Path.{_≡_};
-ghost use Rattle.definition.specs.Lists.{isSome};
+ghost use mathlib.Core.List.{_++_};
+ghost use lib.ListN.{length};
+ghost use Prim.Native.Nat.{ℕ};
+ghost use Rattle.classfile.specs.Reading.{mapsOf};
+ghost use Rattle.constraints.specs.Posting.{noted, postNotes};
+ghost use Rattle.verifier.specs.Lookups.{Indexed, targetOf};
 ghost use Rattle.verifier.specs.Types.{typesOf};
-ghost use Rattle.verifier.specs.Effects.{notesIn, going, outcomeOf};
-ghost use Rattle.verifier.specs.Trace.{halted, settle, turned, turnOf, madeFlow};
+ghost use Rattle.verifier.specs.Trace.{verification, posting, turning, taking, bound, refused, targetTrace, intoTurn, startTurn, nextTurn, flowing, turnedTo, turned};
+ghost use Rattle.verifier.specs.Answers.{made, nextOf, changeOf};
 
-// Where the walk goes: nowhere, as it is rejected; to the method's end; or to the next point.
+// Where the walk goes: nowhere, as it is rejected; to the code's end; or to the next point.
 pub enum Step {
     Stop,
     End,
     Next(usize),
 }
 
-// What an instruction leaves: where the walk goes, the meetings of the receiver and of the value, and the types.
+// What a turn leaves: where the walk goes, how many rows there are with its notes, and the types.
 pub struct Turn {
-    pub step: Step,
-    pub receiver: Meeting,
-    pub value: Meeting,
     pub types: Types,
+    pub step: Step,
+    pub count: u16,
 }
 
-fn met(m: Meeting) -> bool
-    ensures { λ r. ⌜ r ≡ isSome (notesIn m) ⌝ }
-{
-    match m {
-        Meeting::Unmet => false,
-        Meeting::Met => true,
-        Meeting::Noted(_, _) => true,
-    }
-}
-
-fn stop(types: Types) -> Turn
-    ensures { λ r. ⌜ turnOf r ≡ halted ⌝ }
+fn stop(types: Types, count: u16) -> Turn
+    ensures { λ r. ⌜ ((t : _) → turning (nextOf (r .step) (typesOf (r .types))) (noted t (r .count)) ≡ turning refused (noted t count)) ⌝ }
 {
     Turn {
         step: Step::Stop,
-        receiver: Meeting::Met,
-        value: Meeting::Met,
+        count,
         types,
     }
 }
 
-// On to a point, with these types, if both meetings are met.
-fn go_on(types: Types, receiver: Meeting, value: Meeting, end: usize, last: bool) -> Turn
-    ensures { λ r. ⌜ turnOf r ≡ settle end last (going (madeFlow (typesOf types) receiver value)) ⌝ }
-{
-    if !met(receiver) {
-        return stop(types);
-    }
-    if !met(value) {
-        return stop(types);
-    }
-    Turn {
-        step: Step::Next(end),
-        receiver,
-        value,
-        types,
-    }
-}
-
-// The lowest d operands are kept.
-fn kept(types: Types, d: usize, receiver: Meeting, value: Meeting, end: usize, last: bool) -> Turn
-    ensures { λ r. ⌜ turnOf r ≡ settle end last (outcomeOf types (Effect.Kept d receiver value)) ⌝ }
-{
-    if OPERANDS < d {
-        return stop(types);
-    }
-    let mut next = types;
-    next.depth = d;
-    go_on(next, receiver, value, end, last)
-}
-
-// A type is pushed on the lowest d operands.
-fn pushed(
+// The types flow into point q.
+pub(crate) fn flow_into(
+    maps: &[u8],
+    places: &[u32],
+    q: usize,
     types: Types,
-    d: usize,
-    t: u32,
-    receiver: Meeting,
-    value: Meeting,
-    end: usize,
-    last: bool,
+    loader: u8,
+    subtypes: &mut [u16],
+    count: u16,
 ) -> Turn
-    ensures { λ r. ⌜ turnOf r ≡ settle end last (outcomeOf types (Effect.Pushed d t receiver value)) ⌝ }
+    requires { ⌜ Indexed (now maps) (now places) ⌝ }
+    ensures { λ r. ⌜ ((n : ℕ) → turning (nextOf (r .step) (typesOf (r .types))) (noted (now (subtypes .exit)) (r .count)) ≡ taking loader (intoTurn n (mapsOf (now (maps .entry))) q (typesOf types)) (noted (now (subtypes .entry)) count)) ⌝ }
 {
-    if OPERANDS <= d {
-        return stop(types);
+    let place = find_map(maps, places, q);
+    if place == 0 {
+        return Turn {
+            step: Step::Next(q),
+            count,
+            types,
+        };
     }
-    let mut next = types;
-    next.operands[d] = t;
-    next.depth = d + 1;
-    go_on(next, receiver, value, end, last)
+    let met = meet_map(maps, place, types, loader, subtypes, count);
+    if !met.accepts {
+        return stop(types, met.count);
+    }
+    let mapped = mapped_types(maps, place);
+    Turn {
+        step: Step::Next(q),
+        count: met.count,
+        types: mapped,
+    }
 }
 
-// The lowest d operands are kept, and a local is set.
-fn stored(types: Types, d: usize, i: usize, t: u32, end: usize, last: bool) -> Turn
-    ensures { λ r. ⌜ turnOf r ≡ settle end last (outcomeOf types (Effect.Stored d i t)) ⌝ }
+// Nothing flows into point q of code of n bytes.
+fn start_at(n: usize, maps: &[u8], places: &[u32], q: usize, types: Types, count: u16) -> Turn
+    requires { ⌜ Indexed (now maps) (now places) ⌝ }
+    ensures { λ r. ⌜ ((l : ℕ) (t : _) → turning (nextOf (r .step) (typesOf (r .types))) (noted t (r .count)) ≡ taking l (startTurn n (mapsOf (now (maps .entry))) q) (noted t count)) ⌝ }
 {
-    if OPERANDS < d {
-        return stop(types);
+    if q == n {
+        return Turn {
+            step: Step::End,
+            count,
+            types,
+        };
     }
-    let mut next = types;
-    next.depth = d;
-    if LOCALS <= i {
-        return go_on(next, Meeting::Met, Meeting::Met, end, last);
+    let place = find_map(maps, places, q);
+    if place == 0 {
+        return stop(types, count);
     }
-    next.locals[i] = t;
-    go_on(next, Meeting::Met, Meeting::Met, end, last)
-}
-
-// A return that is met, if it is the last instruction.
-fn ended(types: Types, m: Meeting, end: usize, last: bool) -> Turn
-    ensures { λ r. ⌜ turnOf r ≡ settle end last (outcomeOf types (Effect.Ended m)) ⌝ }
-{
-    if !last {
-        return stop(types);
-    }
-    if !met(m) {
-        return stop(types);
+    if !is_fitting(maps, place) {
+        return stop(types, count);
     }
     Turn {
-        step: Step::End,
-        receiver: m,
-        value: Meeting::Met,
-        types,
+        step: Step::Next(q),
+        count,
+        types: mapped_types(maps, place),
     }
 }
 
-// An effect carried out, of an instruction that ends at a place, which may be the code's last.
-fn carried_out(types: Types, e: Effect, end: usize, last: bool) -> Turn
-    ensures { λ r. ⌜ turnOf r ≡ settle end last (outcomeOf types e) ⌝ }
+// The flow into the target, if there is one.
+fn flow_to_target(
+    maps: &[u8],
+    places: &[u32],
+    target: Target,
+    types: Types,
+    loader: u8,
+    subtypes: &mut [u16],
+    count: u16,
+) -> Verified
+    requires { ⌜ Indexed (now maps) (now places) ⌝ }
+    ensures { λ r. ⌜ ((n : ℕ) → verification (r .accepts) (noted (now (subtypes .exit)) (r .count)) ≡ posting loader (targetTrace n (mapsOf (now (maps .entry))) (targetOf target) (typesOf types)) (noted (now (subtypes .entry)) count)) ⌝ }
 {
-    match e {
-        Effect::Rejected => stop(types),
-        Effect::Kept(d, receiver, value) => kept(types, d, receiver, value, end, last),
-        Effect::Pushed(d, t, receiver, value) => pushed(types, d, t, receiver, value, end, last),
-        Effect::Stored(d, i, t) => stored(types, d, i, t, end, last),
-        Effect::Ended(m) => ended(types, m, end, last),
+    match target {
+        Target::Nowhere => Verified {
+            accepts: true,
+            count,
+        },
+        Target::To(q) => {
+            let place = find_map(maps, places, cells::wide16(q));
+            if place == 0 {
+                return rejected(count);
+            }
+            meet_map(maps, place, types, loader, subtypes, count)
+        }
     }
+}
+
+// An instruction that ends at q, in code of n bytes, and leaves these types.
+fn flow(
+    n: usize,
+    maps: &[u8],
+    places: &[u32],
+    i: Instruction,
+    q: usize,
+    types: Types,
+    loader: u8,
+    subtypes: &mut [u16],
+    count: u16,
+) -> Turn
+    requires { ⌜ Indexed (now maps) (now places) ⌝ }
+    ensures { λ r. ⌜ turning (nextOf (r .step) (typesOf (r .types))) (noted (now (subtypes .exit)) (r .count)) ≡ taking loader (flowing n (mapsOf (now (maps .entry))) i q (typesOf types)) (noted (now (subtypes .entry)) count) ⌝ }
+{
+    let target = target_of(i);
+    let met = flow_to_target(maps, places, target, types, loader, subtypes, count);
+    if !met.accepts {
+        return stop(types, met.count);
+    }
+    if goes_on(i) {
+        flow_into(maps, places, q, types, loader, subtypes, met.count)
+    } else {
+        start_at(n, maps, places, q, types, met.count)
+    }
+}
+
+// What an instruction leaves: its own notes, then the flows.
+fn flow_from(
+    n: usize,
+    maps: &[u8],
+    places: &[u32],
+    i: Instruction,
+    q: usize,
+    change: Change,
+    loader: u8,
+    subtypes: &mut [u16],
+    count: u16,
+) -> Turn
+    requires { ⌜ Indexed (now maps) (now places) ⌝ }
+    ensures { λ r. ⌜ turning (nextOf (r .step) (typesOf (r .types))) (noted (now (subtypes .exit)) (r .count)) ≡ taking loader (turnedTo n (mapsOf (now (maps .entry))) i q (changeOf change)) (noted (now (subtypes .entry)) count) ⌝ }
+{
+    let types = change.types;
+    if !change.fits {
+        return stop(types, count);
+    }
+    let receiver = change.receiver;
+    let value = change.value;
+    let first = post_meeting(receiver, loader, subtypes, count);
+    let second = post_meeting(value, loader, subtypes, first);
+    flow(n, maps, places, i, q, types, loader, subtypes, second)
 }
 
 // The instruction at point p of a method with that result type.
-pub(crate) fn turn_at(version: u8, code: &[u8], p: usize, result: u16, types: Types) -> Turn
-    ensures { λ r. ⌜ turnOf r ≡ turned version (now (code .entry)) result p (typesOf types) ⌝ }
+pub(crate) fn turn_at(
+    version: u8,
+    code: &[u8],
+    maps: &[u8],
+    places: &[u32],
+    p: usize,
+    result: u16,
+    types: Types,
+    loader: u8,
+    subtypes: &mut [u16],
+    count: u16,
+) -> Turn
+    requires { ⌜ Indexed (now maps) (now places) ⌝ }
+    ensures { λ r. ⌜ turning (nextOf (r .step) (typesOf (r .types))) (noted (now (subtypes .exit)) (r .count)) ≡ taking loader (turned version (now (code .entry)) (mapsOf (now (maps .entry))) result p (typesOf types)) (noted (now (subtypes .entry)) count) ⌝ }
 {
     let Reading::At(i, size) = decode(version, code, p) else {
-        return stop(types);
+        return stop(types, count);
     };
-    let e = effect_of(types, i, result);
+    let change = carried_out(types, effect_of(types, i, result));
     let end = p + size;
-    let last = end == code.len();
-    carried_out(types, e, end, last)
+    let n = code.len();
+    flow_from(n, maps, places, i, end, change, loader, subtypes, count)
 }

@@ -23,11 +23,12 @@ pub(crate) const NULL: u32 = SHORT_RANGE + 1;
 // A local that holds nothing.
 pub(crate) const UNSET: u32 = SHORT_RANGE + 2;
 
-// The types at a point: of the operands, from the lowest, as many as depth says, and of the locals.
+// The types at a point: of the operands, from the lowest, as many as depth says, and of the locals. The long fields come first here and in what
+// holds them, so that a copy reads what was written at the same places.
 pub struct Types {
     pub operands: [u32; OPERANDS],
-    pub depth: usize,
     pub locals: [u32; LOCALS],
+    pub depth: usize,
 }
 
 // The last operand's type, and how many are left below it.

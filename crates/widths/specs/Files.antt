@@ -1,4 +1,4 @@
--- What is read of bytes has its width: names of a file 16 bits, bytes of a method's code 8, and an instruction's inline numbers their own.
+-- What is read of bytes has its width: names of a file, those in its maps too, 16 bits, bytes of a method's code 8, and an instruction's inline numbers their own.
 use mathlib.Core.Path.{_≡_, refl}
 use mathlib.Core.Bool.{Bool, true, false, _&&_}
 use mathlib.Core.Option.{Option, none, some}
@@ -10,12 +10,12 @@ use lib.Dec.{leb, ltb}
 use borrow.Author.Tests.{leb-true}
 use Rattle.definition.specs.declared.Signature.{Signature}
 use Rattle.definition.specs.declared.Opcode.{Opcode}
-use Rattle.definition.specs.declared.Opcode.the-variants.{OpAconstNull, OpSipush, OpLoad, OpStore, OpPop, OpDup, OpArithmetic, OpGetfield, OpPutfield, OpInvokevirtual, OpNew, OpReturn, OpUnknown}
+use Rattle.definition.specs.declared.Opcode.the-variants.{OpAconstNull, OpSipush, OpLoad, OpStore, OpPop, OpDup, OpArithmetic, OpGetfield, OpPutfield, OpInvokevirtual, OpNew, OpReturn, OpBranch, OpUnknown}
 use Rattle.definition.specs.declared.Instruction.{Instruction}
-use Rattle.definition.specs.declared.Instruction.the-variants.{AconstNull, Sipush, Load, Store, Pop, Dup, Arithmetic, Getfield, Putfield, Invokevirtual, New, Return}
+use Rattle.definition.specs.declared.Instruction.the-variants.{AconstNull, Sipush, Load, Store, Pop, Dup, Arithmetic, Getfield, Putfield, Invokevirtual, New, Return, Branch}
 use Rattle.definition.specs.Maybe.{_>>=_, need}
-use Rattle.definition.specs.Classes.{Base, Class, Method, methodsOf, signatureTypes}
-use Rattle.definition.specs.File.{File, Got, byte, short, name, count, fieldsIn, methodsIn, readFile, classOf, objectClass, signatureIn}
+use Rattle.definition.specs.Classes.{Base, Class, Map, Method, methodsOf, signatureTypes}
+use Rattle.definition.specs.File.{File, Got, byte, short, name, count, fieldsIn, namesIn, mapIn, mapsFrom, mapsIn, methodsIn, readFile, classOf, objectClass, signatureIn}
 use Rattle.definition.specs.Instructions.{opcodeOf, inlineLength, shortAt, extend, instructionOf, Decoded, sizedAs, decode}
 use Rattle.definition.specs.Tables.{ClassRow, fileAt, classAt}
 use Rattle.definition.specs.Widths.{EachBelow}
@@ -97,11 +97,18 @@ fields-fit (suc k) bs h =
 abbrev pub SignatureFits : Signature → Type 0
 SignatureFits s = All Short (signatureTypes s)
 
--- a method: types of 16 bits, code of at most 512 bytes
+-- a map: an offset and types of 16 bits
+pub record MapFits (m : Map) : Type 0 where
+  pub offset : m .offset < 65536
+  pub locals : All Short (m .locals)
+  pub operands : All Short (m .operands)
+
+-- a method: types of 16 bits, code of at most 512 bytes, and maps that fit
 pub record MethodFits (m : Method) : Type 0 where
   pub types : SignatureFits (m .signature)
   pub code : EachBelow 256 (m .code)
   pub short : length (m .code) ≤ 512
+  pub maps : All MapFits (m .maps)
 
 -- so many methods, each of which fits
 pub record MethodsFit (k : ℕ) (ms : List Method) : Type 0 where
@@ -115,14 +122,46 @@ signature-fits bs h =
     read-on (GotFits Short) (GotFits SignatureFits) _ _ (name-fits 1 (n .more) (x .more)) (λ a y.
     read-on (GotFits Short) (GotFits SignatureFits) _ _ (name-fits 1 (a .more) (y .more)) (λ r z. record { value = (y .value, (z .value, tt)); more = z .more })))
 
-methods-fit : (k : ℕ) (bs : List ℕ) → EachBelow 256 bs → Read (methodsIn k bs) (GotFits (MethodsFit k))
+names-fit : (n k : ℕ) (bs : List ℕ) → EachBelow 256 bs → Read (namesIn n k bs) (GotFits (All Short))
+unfolding namesIn
+names-fit n zero bs h = record { value = tt; more = h }
+names-fit n (suc k) bs h =
+    read-on (GotFits Short) (GotFits (All Short)) _ _ (name-fits n bs h) (λ t x.
+    read-on (GotFits (All Short)) (GotFits (All Short)) _ _ (names-fit n k (t .more) (x .more)) (λ ts y. record { value = (x .value, y .value); more = y .more }))
+
+map-fits : (o : ℕ) (bs : List ℕ) → EachBelow 256 bs → Read (mapIn o bs) (GotFits MapFits)
+unfolding mapIn
+map-fits o bs h =
+    read-on (GotFits Short) (GotFits MapFits) _ _ (name-fits o bs h) (λ p x.
+    read-on (GotFits (All Short)) (GotFits MapFits) _ _ (names-fit 0 8 (p .more) (x .more)) (λ ls y.
+    read-on (GotFits (λ b. b < 256)) (GotFits MapFits) _ _ (byte-fits (ls .more) (y .more)) (λ d z. read-need (GotFits MapFits) _ _ (λ _.
+    read-on (GotFits (All Short)) (GotFits MapFits) _ _ (names-fit 1 (d .value) (d .more) (z .more)) (λ os w.
+    record { value = record { offset = x .value; locals = y .value; operands = w .value }; more = w .more })))))
+
+maps-from-fit : (o k : ℕ) (bs : List ℕ) → EachBelow 256 bs → Read (mapsFrom o k bs) (GotFits (All MapFits))
+unfolding mapsFrom
+maps-from-fit o zero bs h = record { value = tt; more = h }
+maps-from-fit o (suc k) bs h =
+    read-on (GotFits MapFits) (GotFits (All MapFits)) _ _ (map-fits o bs h) (λ m x.
+    read-on (GotFits (All MapFits)) (GotFits (All MapFits)) _ _ (maps-from-fit (suc (m .value .offset)) k (m .more) (x .more)) (λ ms y. record { value = (x .value, y .value); more = y .more }))
+
+maps-fit : (version : ℕ) (bs : List ℕ) → EachBelow 256 bs → Read (mapsIn version bs) (GotFits (All MapFits))
+unfolding mapsIn
+maps-fit version bs h = go (leb 2 version)
+  where
+    go : (b : Bool) → Read (elim b as (λ _. Option (Got (List Map))) [ true ↦ byte bs >>= λ k. mapsFrom 0 (k .value) (k .more) | false ↦ some (record { value = []; more = bs }) ]) (GotFits (All MapFits))
+    go true = read-on (GotFits (λ b. b < 256)) (GotFits (All MapFits)) _ _ (byte-fits bs h) (λ k x. maps-from-fit 0 (k .value) (k .more) (x .more))
+    go false = record { value = tt; more = h }
+
+methods-fit : (version k : ℕ) (bs : List ℕ) → EachBelow 256 bs → Read (methodsIn version k bs) (GotFits (MethodsFit k))
 unfolding methodsIn
-methods-fit zero bs h = record { value = record { many = omega arith; each = tt }; more = h }
-methods-fit (suc k) bs h =
+methods-fit version zero bs h = record { value = record { many = omega arith; each = tt }; more = h }
+methods-fit version (suc k) bs h =
     read-on (GotFits SignatureFits) G _ _ (signature-fits bs h) (λ s x.
     read-on (GotFits Short) G _ _ (short-fits (s .more) (x .more)) (λ l w.
     read-need G _ _ (λ e.
-    read-on (GotFits (MethodsFit k)) G _ _ (methods-fit k (drop (l .value) (l .more)) (below-drop 256 (l .value) (l .more) (w .more))) (λ ms v.
+    read-on (GotFits (All MapFits)) G _ _ (maps-fit version (drop (l .value) (l .more)) (below-drop 256 (l .value) (l .more) (w .more))) (λ maps z.
+    read-on (GotFits (MethodsFit k)) G _ _ (methods-fit version k (maps .more) (z .more)) (λ ms v.
     let q : l .value ≤ 512 = at-most (l .value) (length (l .more)) e in
     record {
       value = record {
@@ -132,12 +171,13 @@ methods-fit (suc k) bs h =
             types = x .value;
             code = below-take 256 (l .value) (l .more) (w .more);
             short = omega (arith, length-take (l .value) (l .more));
+            maps = z .value;
           },
           v .value .each,
         );
       };
       more = v .more;
-    }))))
+    })))))
   where
     G : Got (List Method) → Type 0
     G = GotFits (MethodsFit (suc k))
@@ -161,7 +201,7 @@ file-fits l bs h =
     read-on (GotFits (λ n. n ≤ 8)) Q _ _ (count-fits (s .more) (xs .more)) (λ k xk.
     read-on (GotFits Any) Q _ _ (fields-fit (k .value) (k .more) (xk .more)) (λ fs xf.
     read-on (GotFits (λ n. n ≤ 8)) Q _ _ (count-fits (fs .more) (xf .more)) (λ j xj.
-    read-on (GotFits (MethodsFit (j .value))) Q _ _ (methods-fit (j .value) (j .more) (xj .more)) (λ ms xm.
+    read-on (GotFits (MethodsFit (j .value))) Q _ _ (methods-fit (v .value) (j .value) (j .more) (xj .more)) (λ ms xm.
     read-need Q _ _ (λ _. read-need Q _ _ (λ _. read-need Q _ _ (λ _.
     record { name = xc .value; methods = record { many = omega (arith, xm .value .many, xj .value); each = xm .value .each } }))))))))))))))
   where
@@ -211,6 +251,7 @@ InstructionFits (Getfield c f t) = (c < 65536) × (t < 65536)
 InstructionFits (Putfield c f t) = (c < 65536) × (t < 65536)
 InstructionFits (Invokevirtual c s) = (c < 65536) × SignatureFits s
 InstructionFits (New c) = c < 65536
+InstructionFits (Branch c p) = p < 65536
 InstructionFits (Return kind) = Unit {0}
 
 module _ (code : List ℕ) (h : EachBelow 256 code) where
@@ -240,6 +281,7 @@ module _ (code : List ℕ) (h : EachBelow 256 code) where
   instruction-fits i OpInvokevirtual = (short-at i, (short-at (i + 2 + 2), (short-at (i + 2 + 4), tt)))
   instruction-fits i OpNew = short-at i
   instruction-fits i (OpReturn kind) = tt
+  instruction-fits i (OpBranch c) = short-at i
   instruction-fits i OpUnknown = tt
 
   -- what is decoded at point p ends within the code

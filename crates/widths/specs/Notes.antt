@@ -1,22 +1,24 @@
--- The verifier's notes are between names of 16 bits: every type that it gives comes from the class's name, a method's types or an inline name.
+-- The verifier's notes are between names of 16 bits: every type that it gives comes from the class's name, a method's types, an inline
+-- name or a map.
 use mathlib.Core.Path.{_≡_, refl}
 use mathlib.Core.Bool.{Bool, true, false}
 use mathlib.Core.Option.{Option, none, some, Option·none-ne-some, Option·some-injective}
-use mathlib.Core.List.{List, [], _∷_, _++_}
+use mathlib.Core.List.{List, [], _∷_, _++_, map, reverse, reverseAux}
 use Prim.Native.Nat.{ℕ, zero, suc, _+_, _<_}
 use lib.ListN.{length, set}
 use lib.Dec.{eqb}
 use Rattle.definition.specs.declared.Kind.{Kind}
 use Rattle.definition.specs.declared.Instruction.{Instruction}
-use Rattle.definition.specs.declared.Instruction.the-variants.{AconstNull, Sipush, Load, Store, Pop, Dup, Arithmetic, Getfield, Putfield, Invokevirtual, New, Return}
+use Rattle.definition.specs.declared.Condition.the-variants.{Always, IfZero, IfLess}
+use Rattle.definition.specs.declared.Instruction.the-variants.{AconstNull, Sipush, Load, Store, Pop, Dup, Arithmetic, Getfield, Putfield, Invokevirtual, New, Return, Branch}
 use Rattle.definition.specs.Maybe.{_>>=_, need}
-use Rattle.definition.specs.Classes.{Class, Method}
+use Rattle.definition.specs.Classes.{Class, Map, Method}
 use Rattle.definition.specs.Instructions.{decode}
-use Rattle.definition.specs.Verifier.{VerifierType, typeInt, typeNull, typeClass, Note, TypeState, Flow, typeOfName, entryTypes, meetClass, meetInt, meets, pop, flow, effect, returns, notesOfMethod, notesOf}
+use Rattle.definition.specs.Verifier.{VerifierType, typeInt, typeNull, typeClass, Note, TypeState, Flow, typeOfName, entryTypes, meetClass, meetInt, meets, pop, flow, effect, returns, mapAt, localType, mapTypes, meetLocal, meetAll, meetMap, notesOfMethod, notesOf}
 use Rattle.laws.specs.Walk.{notes-have}
 use Rattle.layout.specs.Tests.{All, all-both}
 use Rattle.unbroken.specs.Steps.{all-set}
-use Rattle.widths.specs.Files.{Read, read-on, read-past, read-need, read-nth, InstructionFits, DecodedFits, decode-fits, MethodFits}
+use Rattle.widths.specs.Files.{Read, read-on, read-past, read-need, read-nth, InstructionFits, DecodedFits, decode-fits, MapFits, MethodFits}
 
 -- a class name has 16 bits
 abbrev TypeFits : VerifierType → Type 0
@@ -107,6 +109,10 @@ module _ (s : TypeState) (h : StateFits s) where
       read-on (All NoteFits) FlowFits _ _ (class-met c (q .top) (f .0) (hq .0)) (λ a ha. read-on (All NoteFits) FlowFits _ _ (met (p .top) (m .argument) (f .1 .0) (hp .0)) (λ b hb.
       flows (typeOfName (m .result) ∷ q .more) (s .locals) (a ++ b) (name-type (m .result) (f .1 .1 .0), hq .1) (h .locals) (all-both NoteFits a b ha hb))))))
   effect-fits (New c) f = read-need FlowFits _ _ (λ _. flows (typeClass c ∷ s .operands) (s .locals) [] (f, h .operands) (h .locals) tt)
+  effect-fits (Branch Always p) f = flows (s .operands) (s .locals) [] (h .operands) (h .locals) tt
+  effect-fits (Branch IfZero p) f = read-on Popped FlowFits _ _ (popped (s .operands) (h .operands)) (λ p hp. read-past FlowFits _ _ (λ _. flows (p .more) (s .locals) [] (hp .1) (h .locals) tt))
+  effect-fits (Branch IfLess p) f = read-on Popped FlowFits _ _ (popped (s .operands) (h .operands)) (λ p hp. read-on Popped FlowFits _ _ (popped (p .more) (hp .1)) (λ q hq.
+      read-past FlowFits _ _ (λ _. read-past FlowFits _ _ (λ _. flows (q .more) (s .locals) [] (hq .1) (h .locals) tt))))
   effect-fits (Return kind) f = tt
 
   returns-fit : (kind : Kind) (r : ℕ) → r < 65536 → Read (returns kind r s) (All NoteFits)
@@ -116,6 +122,67 @@ module _ (s : TypeState) (h : StateFits s) where
 
 entry-fits : (k : Class) (m : Method) → k .name < 65536 → MethodFits m → StateFits (entryTypes k m)
 entry-fits k m l h = record { operands = tt; locals = (l, (name-type (m .signature .argument) (h .types .0), (tt, (tt, (tt, (tt, (tt, (tt, tt)))))))) }
+
+-- Maps
+
+all-reverse : {A : Type 0} (P : A → Type 0) (xs : List A) → All P xs → All P (reverse xs)
+all-reverse {A} P xs h = go xs [] h tt
+  where
+    go : (xs ys : List A) → All P xs → All P ys → All P (reverseAux xs ys)
+    go [] ys h k = k
+    go (x ∷ xs) ys h k = go xs (x ∷ ys) (h .1) (h .0, k)
+
+all-mapped : {A B : Type 0} (P : A → Type 0) (Q : B → Type 0) (f : A → B) → ((x : A) → P x → Q (f x)) → (xs : List A) → All P xs → All Q (map f xs)
+all-mapped P Q f k [] h = tt
+all-mapped P Q f k (x ∷ xs) h = (k x (h .0), all-mapped P Q f k xs (h .1))
+
+local-type : (n : ℕ) → n < 65536 → LocalFits (localType n)
+unfolding localType
+local-type n l = go (eqb n 0)
+  where
+    go : (b : Bool) → LocalFits (elim b as (λ _. Option VerifierType) [ true ↦ none | false ↦ some (typeOfName n) ])
+    go true = tt
+    go false = name-type n l
+
+map-types-fit : (m : Map) → MapFits m → StateFits (mapTypes m)
+map-types-fit m h = record {
+  operands = all-reverse TypeFits (map typeOfName (m .operands)) (all-mapped (λ n. n < 65536) TypeFits typeOfName name-type (m .operands) (h .operands));
+  locals = all-mapped (λ n. n < 65536) LocalFits localType local-type (m .locals) (h .locals);
+}
+
+local-met : (t : Option VerifierType) (n : ℕ) → n < 65536 → LocalFits t → Read (meetLocal t n) (All NoteFits)
+unfolding meetLocal
+local-met t n l h = go (eqb n 0)
+  where
+    go : (b : Bool) → Read (elim b as (λ _. Option (List Note)) [ true ↦ some [] | false ↦ t >>= λ u. meets u n ]) (All NoteFits)
+    go true = tt
+    go false = read-on TypeFits (All NoteFits) t _ h (λ u x. met u n l x)
+
+all-met : {A : Type 0} (P : A → Type 0) (f : A → ℕ → Option (List Note)) → ((x : A) (n : ℕ) → n < 65536 → P x → Read (f x n) (All NoteFits))
+    → (xs : List A) (ns : List ℕ) → All P xs → All (λ n. n < 65536) ns → Read (meetAll f xs ns) (All NoteFits)
+unfolding meetAll
+all-met P f k [] [] h l = tt
+all-met P f k [] (n ∷ ns) h l = tt
+all-met P f k (x ∷ xs) [] h l = tt
+all-met P f k (x ∷ xs) (n ∷ ns) h l =
+    read-on (All NoteFits) (All NoteFits) _ _ (k x n (l .0) (h .0)) (λ a ha.
+    read-on (All NoteFits) (All NoteFits) _ _ (all-met P f k xs ns (h .1) (l .1)) (λ b hb. all-both NoteFits a b ha hb))
+
+map-met : (s : TypeState) (m : Map) → StateFits s → MapFits m → Read (meetMap s m) (All NoteFits)
+unfolding meetMap
+map-met s m h l =
+    read-on (All NoteFits) (All NoteFits) _ _ (all-met LocalFits meetLocal local-met (s .locals) (m .locals) (h .locals) (l .locals)) (λ a ha.
+    read-on (All NoteFits) (All NoteFits) _ _ (all-met TypeFits meets met (reverse (s .operands)) (m .operands) (all-reverse TypeFits (s .operands) (h .operands)) (l .operands)) (λ b hb.
+    all-both NoteFits a b ha hb))
+
+map-at-fits : (ms : List Map) → All MapFits ms → (p : ℕ) → Read (mapAt ms p) MapFits
+unfolding mapAt
+map-at-fits [] h p = tt
+map-at-fits (m ∷ ms) h p = go (eqb (m .offset) p) (map-at-fits ms (h .1) p)
+  where
+    go : (b : Bool) → Read (mapAt ms p) MapFits → Read (elim b as (λ _. Option Map) [ true ↦ some m | false ↦ mapAt ms p ]) MapFits
+    go true x = h .0
+    go false x = x
 
 -- a reading that has a value
 read-some : {A : Type 0} (P : A → Type 0) (o : Option A) (a : A) → Read o P → o ≡ some a → P a
@@ -127,12 +194,17 @@ some-read P none h = tt
 some-read P (some a) h = h a refl
 
 method-notes-fit : (k : Class) (m : Method) → k .name < 65536 → MethodFits m → Read (notesOfMethod k m) (All NoteFits)
-method-notes-fit k m l h = some-read (All NoteFits) (notesOfMethod k m) (λ ns v. notes-have k m ns v StateFits (All NoteFits) (λ a b x y. all-both NoteFits a b x y)
+method-notes-fit k m l h = some-read (All NoteFits) (notesOfMethod k m) (λ ns v. notes-have k m ns v StateFits (All NoteFits) tt (λ a b x y. all-both NoteFits a b x y)
     (λ p i s f r hs e.
     let x = read-some (DecodedFits (m .code) (h .code) p) (decode (k .version) (m .code) p) i (decode-fits (m .code) (h .code) (k .version) p) r in
     let y = read-some FlowFits (effect (i .instruction) s) f (effect-fits s hs (i .instruction) (x .instruction)) e in
     (y .types, y .notes))
-    (λ kind s a hs e. read-some (All NoteFits) (returns kind (m .signature .result) s) a (returns-fit s hs kind (m .signature .result) (h .types .1 .0)) e) (entry-fits k m l h))
+    (λ kind s a hs e. read-some (All NoteFits) (returns kind (m .signature .result) s) a (returns-fit s hs kind (m .signature .result) (h .types .1 .0)) e)
+    (λ p x e. map-types-fit x (at-map p x e))
+    (λ p x s a e hs d. read-some (All NoteFits) (meetMap s x) a (map-met s x hs (at-map p x e)) d) (entry-fits k m l h))
+  where
+    at-map : (p : ℕ) (x : Map) → mapAt (m .maps) p ≡ some x → MapFits x
+    at-map p x e = read-some MapFits (mapAt (m .maps) p) x (map-at-fits (m .maps) (h .maps) p) e
 
 pub notes-fit : (k : Class) → k .name < 65536 → (ms : List Method) → All MethodFits ms → Read (notesOf k ms) (All NoteFits)
 unfolding notesOf

@@ -11,16 +11,18 @@ use Rattle.definition.specs.declared.Operator.{Operator}
 use Rattle.definition.specs.declared.Operator.the-variants.{Add, Subtract}
 use Rattle.definition.specs.declared.Signature.{Signature}
 use Rattle.definition.specs.declared.Instruction.{Instruction}
-use Rattle.definition.specs.declared.Instruction.the-variants.{AconstNull, Sipush, Load, Store, Pop, Dup, Arithmetic, Getfield, Putfield, Invokevirtual, New, Return}
+use Rattle.definition.specs.declared.Condition.{Condition}
+use Rattle.definition.specs.declared.Condition.the-variants.{Always, IfZero, IfLess}
+use Rattle.definition.specs.declared.Instruction.the-variants.{AconstNull, Sipush, Load, Store, Pop, Dup, Arithmetic, Getfield, Putfield, Invokevirtual, New, Return, Branch}
 use Rattle.definition.specs.declared.Refusal.{Refusal}
 use Rattle.definition.specs.declared.Refusal.the-variants.{Word}
 use Rattle.definition.specs.Answers.{Result, refused, ok, _>>=_, take?}
 use Rattle.definition.specs.Lists.{any, indexOf}
 use Rattle.definition.specs.Classes.{Base, Class, slots, loaderOf, methodsOf, alike, Selected, selected, signatureTypes}
 use Rattle.definition.specs.Constraints.{Tie, World, tieIs, newTie, post, newTies, signatureTies}
-use Rattle.definition.specs.Instructions.{Decoded}
+use Rattle.definition.specs.Instructions.{Decoded, pick}
 use Rattle.definition.specs.Verifier.{pop}
-use Rattle.definition.specs.Machine.{Value, emptyValue, intValue, nullValue, objectValue, unlistedValue, Object, Frame, existing, initialValue, newObject, entryFrame, pop!, compute, object!, Progress, Now, now, past, give, execute, step, ObjectRow, free, owned, Objects, objectHeld, unused, made, rewritten, changed}
+use Rattle.definition.specs.Machine.{Value, emptyValue, intValue, nullValue, objectValue, unlistedValue, Object, Frame, existing, initialValue, newObject, entryFrame, pop!, compute, jumps, object!, Progress, Now, now, past, give, execute, step, ObjectRow, free, owned, Objects, objectHeld, unused, made, rewritten, changed}
 use Rattle.laws.specs.Wrapped.{Ok, then}
 use Rattle.layout.specs.Tests.{All, all-both}
 use Rattle.unbroken.specs.Steps.{all-set}
@@ -56,6 +58,21 @@ compute-fits : (o : Operator) (a b : ℕ) → Ok (compute o a b) (λ n. n < 4294
 unfolding compute
 compute-fits Add a b = mod-lt (a + b) (omega arith)
 compute-fits Subtract a b = mod-lt (a + 4294967296 - b) (omega arith)
+
+-- Branches
+
+jumps-fit : (c : Condition) (vs : List Value) → All IntFits vs → Ok (jumps c vs) (λ j. All IntFits (j .more))
+unfolding jumps
+jumps-fit Always vs h = h
+jumps-fit IfZero vs h = then-on Popped (λ j. All IntFits (j .more)) _ _ (pop-fits vs h) (λ p hp. then (λ j. All IntFits (j .more)) _ _ (λ _ _. hp .1))
+jumps-fit IfLess vs h =
+    then-on Popped (λ j. All IntFits (j .more)) _ _ (pop-fits vs h) (λ p hp. then-on Popped (λ j. All IntFits (j .more)) _ _ (pop-fits (p .more) (hp .1)) (λ q hq.
+    then (λ j. All IntFits (j .more)) _ _ (λ _ _. then (λ j. All IntFits (j .more)) _ _ (λ _ _. hq .1))))
+
+picked : (b : Bool) (p q n : ℕ) → p < n → q < n → pick b p q < n
+unfolding pick
+picked true p q n x y = x
+picked false p q n x y = y
 
 -- Objects
 
@@ -250,6 +267,11 @@ module _ (task : ℕ) (w : World) (os : Objects) (classes : All ClassFits (w .ba
           objects = made-fits task (newObject (w .base) e) os (new-fits (w .base) e) objects;
           frames = (moved (objectValue (unused os) ∷ f .operands) (f .locals) (tt, top .operands) (top .locals), rest);
         }))
+    execute-fits (Branch c p) x = then-on (λ j. All IntFits (j .more)) Q _ _ (jumps-fit c (f .operands) (top .operands)) (λ j h. record {
+      ties = ties;
+      objects = objects;
+      frames = (record { method = top .method; point = picked (j .taken) p (f .point + i .size) 4294967296 (omega arith) point; operands = h; locals = top .locals }, rest);
+    })
     execute-fits (Return kind) x = then Q _ _ (λ _ _. then-on Popped Q _ _ (pop-fits (f .operands) (top .operands)) (λ p h.
         then Q _ _ (λ _ _. give-fits fs (p .top) rest (h .0))))
 

@@ -6,6 +6,7 @@ use reference::answer::{denied, word};
 use reference::broken::unbroken;
 use reference::classes::Classes;
 use reference::code::Instruction;
+use reference::gen::plain::{Slip, SLIPS};
 use reference::gen::reach::{reached, Without};
 use reference::gen::Call;
 use reference::step::{instruction_of, take_step};
@@ -14,13 +15,17 @@ use reference::{step, Answer, Refusal, Reply, Store};
 
 use crate::judged::{agrees, Judge};
 use crate::made::{post, write};
-use crate::swept;
+use crate::{mapped, swept};
 
 /// The name of the fault and the calls that have it.
-type Fault = (&'static str, fn(&Call, &mut Store) -> Option<Reply>);
+pub type Fault = (&'static str, fn(&Call, &mut Store) -> Option<Reply>);
 
-/// The fault of the desk's check: it lets by what the verifier rejects.
-const DESK: &str = "desk-skips-the-verifier";
+/// The faults of the desk's check alone, and what it says in place of a number.
+const DESKS: [(&str, fn(u8) -> u8); 3] = [
+    ("desk-skips-the-verifier", |number| if number == word::UNVERIFIED { 0 } else { number }),
+    ("desk-skips-the-maps", |number| if number == word::UNMAPPED { 0 } else { number }),
+    ("desk-knows-no-maps", |number| if number == word::UNMAPPED { word::UNVERIFIED } else { number }),
+];
 
 /// Each takes over the calls that it answers wrongly. First the machines that document 01 bars, with a table that is called full where one
 /// row, byte or field is left for each that has a limit, then what learners do, and last what they do about dead objects.
@@ -233,16 +238,22 @@ fn chosen() -> Option<&'static str> {
     CHOSEN.get_or_init(|| std::env::var("MIRROR_FAULT").ok()).as_deref()
 }
 
+/// The slip of plain.rs that is the fault.
+fn slip() -> Option<Slip> {
+    SLIPS.iter().find(|slip| Some(slip.0) == chosen()).map(|slip| slip.1)
+}
+
 /// The desk's check, wrongly if that is the fault.
 pub fn check(bytes: &[u8]) -> u8 {
-    let number = reference::check(bytes);
-    let is_wrong = number == word::UNVERIFIED && chosen() == Some(DESK);
-    if is_wrong { 0 } else { number }
+    let number = slip().map_or_else(|| reference::check(bytes), |slip| mapped::slipped_check(bytes, slip));
+    DESKS.iter().find(|desk| Some(desk.0) == chosen()).map_or(number, |desk| desk.1(number))
 }
 
 /// Makes the call, wrongly if a fault is named and has it.
 pub fn make(call: &Call, store: &mut Store) -> Reply {
-    let fault = FAULTS.iter().find(|fault| Some(fault.0) == chosen());
-    assert!(fault.is_some() || matches!(chosen(), None | Some(DESK)), "no such fault");
-    fault.and_then(|fault| fault.1(call, store)).unwrap_or_else(|| call.apply(store))
+    let fault = FAULTS.iter().chain(&mapped::FAULTS).find(|fault| Some(fault.0) == chosen());
+    let is_desks = DESKS.iter().any(|desk| Some(desk.0) == chosen());
+    assert!(fault.is_some() || slip().is_some() || is_desks || chosen().is_none(), "no such fault");
+    let wrong = fault.and_then(|fault| fault.1(call, store));
+    wrong.or_else(|| mapped::slipped(call, store, slip()?)).unwrap_or_else(|| call.apply(store))
 }

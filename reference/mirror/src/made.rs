@@ -4,7 +4,7 @@ use reference::agree::Added;
 use reference::broken::unbroken;
 use reference::file::File;
 use reference::gen::Call;
-use reference::load::{new_subtypes, overriding_ties};
+use reference::load::{overriding_ties, Notes};
 use reference::verifier::verify;
 use reference::{Reply, Store};
 
@@ -12,10 +12,10 @@ use reference::{Reply, Store};
 pub fn post(store: &mut Store, loader: u16, bytes: &[u8]) -> Option<()> {
     let classes = unbroken(store)?;
     let file = File::read(bytes)?;
-    let mut notes = Vec::new();
-    verify(file, &mut |lower, higher| notes.push([loader, lower, higher])).ok()?;
+    let mut notes = Notes::new(store, loader);
+    verify(file, &mut |lower, higher| notes.take(lower, higher)).ok()?;
     let superclass = store.cached(loader, file.superclass())?;
-    let (ties, subtypes) = (overriding_ties(store, &classes, loader, superclass, file), new_subtypes(store, &notes));
+    let (ties, subtypes) = (overriding_ties(store, &classes, loader, superclass, file), notes.new_rows());
     Added { entry: None, ties: &ties, subtypes: &subtypes }.write(store);
     Some(())
 }

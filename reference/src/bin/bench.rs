@@ -7,8 +7,8 @@
 use std::time::{Duration, Instant};
 
 use reference::gen::large::{
-    chain, chain_define, chain_record, full, grid, grid_record, making, objects, posting, tall_tree, tree, usual, usual_define,
-    usual_record, Held, Repeated,
+    chain, chain_define, chain_record, full, grid, grid_record, long_files, looping, making, objects, posting, tall_tree, tree, usual,
+    usual_define, usual_record, Held, Repeated, Round,
 };
 use reference::gen::{Call, Trial};
 use reference::host::{self, CELLS};
@@ -75,13 +75,14 @@ impl Case {
         Case { times: Some(100), goes_on: true, ..Case::new(name, store, Call::Step) }
     }
 
-    /// A case of a whole run, by its steps.
+    /// A case of a whole run, by its steps. It finishes, or goes on for longer.
     fn run(name: &str, store: Store) -> Case {
         let call = Call::Run { n: 65_535 };
-        let Reply::RanFor(ran, Answer::Finished(..)) = call.apply(&mut store.clone()) else {
-            panic!("{name} does not finish");
+        let steps = match call.apply(&mut store.clone()) {
+            Reply::RanFor(ran, Answer::Finished(..)) => f64::from(ran) + 1.0,
+            Reply::RanFor(ran, Answer::Ran(_)) => ran.into(),
+            reply => panic!("{name}: {reply:?}"),
         };
-        let steps = f64::from(ran) + 1.0;
         Case { times: Some(1), units: steps, ..Case::new(format!("{name}, a step of {steps}"), store, call) }
     }
 
@@ -135,6 +136,8 @@ fn runs() -> Vec<Case> {
         Case::run("tall tree", tall_tree()),
         Case::run("254 objects in new rows", making(false)),
         Case::run("254 objects in freed rows", making(true)),
+        Case::run("loop of ints", looping(Round::Ints)),
+        Case::run("loop with a field", looping(Round::Field)),
     ]
 }
 
@@ -159,6 +162,12 @@ fn loads() -> Vec<Case> {
         Case::new("define, longest chain", chain(256, 256), chain_define()),
         Case::new("record, grid", grid(), grid_record()),
     ]
+}
+
+/// Defines of the longest files.
+fn long_defines() -> Vec<Case> {
+    let store = Trial::ready([1]).store;
+    long_files().into_iter().map(|(what, file)| Case::new(what, store.clone(), Call::Define { loader: 1, file })).collect()
 }
 
 /// A sweep of 256 objects, and beside it a step on the same store, which looks at the store and pushes a null or takes it off, or is idle.
@@ -207,10 +216,10 @@ fn profile(side: &str, name: &str) {
 }
 
 /// Every table with its cases.
-fn tables() -> [(&'static str, Vec<Case>); 5] {
+fn tables() -> [(&'static str, Vec<Case>); 6] {
     [
         ("run", runs()), ("step", steps()), ("sweep of 256 objects", sweeps()), ("record and define", loads()),
-        ("record, one chain", growth()),
+        ("define of 4,096 bytes", long_defines()), ("record, one chain", growth()),
     ]
 }
 

@@ -1,7 +1,7 @@
 //! A blueprint says what the classes of one list are like, so that files of several loaders fit each other
 //! mostly, and differ where it is of interest.
 
-use super::build::{Code, Draft};
+use super::build::Draft;
 use super::rng::Rng;
 use super::walk;
 use crate::store::{INT, OBJECT};
@@ -86,11 +86,12 @@ impl Blueprint {
         };
         let mut sketch = sketch.clone();
         self.vary(rng, &mut sketch);
-        let mut draft = Draft::new(name).under(sketch.superclass);
+        let draft = if rng.percent(50) { Draft::mapped(name) } else { Draft::new(name) };
+        let mut draft = draft.under(sketch.superclass);
         draft.fields = sketch.fields;
         for (method, argument, result) in sketch.methods {
-            let code = walk::method(rng, self, name, argument, result);
-            draft = draft.method(method, argument, result, &Code { bytes: code });
+            let code = walk::method(rng, self, draft.version, name, argument, result);
+            draft = draft.method(method, argument, result, &code);
         }
         draft
     }

@@ -1,11 +1,13 @@
 //! Files and code, written out by hand.
 
 use crate::code::op;
-use crate::store::{INT, OBJECT};
+use crate::file::MAPPED;
+use crate::store::{INT, LOCALS, OBJECT};
 
 /// A class before it is a file.
 #[derive(Clone, Debug)]
 pub struct Draft {
+    pub version: u8,
     pub name: u16,
     pub superclass: u16,
     pub fields: Vec<(u16, u16)>,
@@ -18,11 +20,34 @@ pub struct MethodDraft {
     pub argument: u16,
     pub result: u16,
     pub code: Vec<u8>,
+    pub maps: Vec<MapDraft>,
+}
+
+/// A map before it is bytes; local type 0 is unset.
+#[derive(Clone, Debug, Default, PartialEq, Eq)]
+pub struct MapDraft {
+    pub offset: u16,
+    pub locals: [u16; LOCALS],
+    pub operands: Vec<u16>,
+}
+
+impl MapDraft {
+    /// The locals that aren't given are unset.
+    pub fn new(offset: u16, locals: &[u16], operands: &[u16]) -> MapDraft {
+        let mut map = MapDraft { offset, operands: operands.to_vec(), ..MapDraft::default() };
+        map.locals[..locals.len()].copy_from_slice(locals);
+        map
+    }
 }
 
 impl Draft {
     pub fn new(name: u16) -> Draft {
-        Draft { name, superclass: OBJECT, fields: Vec::new(), methods: Vec::new() }
+        Draft { version: 1, name, superclass: OBJECT, fields: Vec::new(), methods: Vec::new() }
+    }
+
+    /// A class of version 2.
+    pub fn mapped(name: u16) -> Draft {
+        Draft { version: MAPPED, ..Draft::new(name) }
     }
 
     pub fn under(mut self, superclass: u16) -> Draft {
@@ -36,7 +61,7 @@ impl Draft {
     }
 
     pub fn method(mut self, name: u16, argument: u16, result: u16, code: &Code) -> Draft {
-        self.methods.push(MethodDraft { name, argument, result, code: code.bytes.clone() });
+        self.methods.push(MethodDraft { name, argument, result, code: code.bytes.clone(), maps: code.maps.clone() });
         self
     }
 
@@ -47,7 +72,7 @@ impl Draft {
 
     /// The file. Only the length bytes are worked out; the rest is written as it is.
     pub fn file(&self) -> Vec<u8> {
-        let mut bytes = vec![1, 0, 0];
+        let mut bytes = vec![self.version, 0, 0];
         put(&mut bytes, self.name);
         put(&mut bytes, self.superclass);
         bytes.push(self.fields.len() as u8);
@@ -62,10 +87,21 @@ impl Draft {
             put(&mut bytes, method.result);
             put(&mut bytes, method.code.len() as u16);
             bytes.extend_from_slice(&method.code);
+            if self.version >= MAPPED {
+                bytes.push(method.maps.len() as u8);
+                method.maps.iter().for_each(|map| put_map(&mut bytes, map));
+            }
         }
         set_length(&mut bytes);
         bytes
     }
+}
+
+fn put_map(bytes: &mut Vec<u8>, map: &MapDraft) {
+    put(bytes, map.offset);
+    map.locals.iter().for_each(|&of| put(bytes, of));
+    bytes.push(map.operands.len() as u8);
+    map.operands.iter().for_each(|&of| put(bytes, of));
 }
 
 fn put(bytes: &mut Vec<u8>, word: u16) {
@@ -80,15 +116,76 @@ pub fn set_length(bytes: &mut [u8]) {
     }
 }
 
-/// Code under way: each call adds an instruction.
+/// Code under way: each call adds an instruction, a label or a map.
 #[derive(Clone, Debug, Default)]
 pub struct Code {
     pub bytes: Vec<u8>,
+    pub maps: Vec<MapDraft>,
+    /// The labels that are placed, and where.
+    labels: Vec<(u16, u16)>,
+    /// The jumps to labels that aren't placed yet, by the place of their inline bytes.
+    waiting: Vec<(u16, usize)>,
 }
 
 impl Code {
     pub fn new() -> Code {
         Code::default()
+    }
+
+    /// These bytes, without maps.
+    pub fn of(bytes: Vec<u8>) -> Code {
+        Code { bytes, ..Code::default() }
+    }
+
+    /// The offset of what comes next.
+    pub fn here(&self) -> u16 {
+        self.bytes.len() as u16
+    }
+
+    /// Places a label here. Jumps to it may stand before or behind.
+    pub fn label(mut self, label: u16) -> Code {
+        let here = self.here();
+        self.labels.push((label, here));
+        for (_, at) in self.waiting.iter().filter(|(waiting, _)| *waiting == label) {
+            self.bytes[*at..at + 2].copy_from_slice(&here.to_be_bytes());
+        }
+        self
+    }
+
+    /// A map here: the locals that aren't given are unset.
+    pub fn map(mut self, locals: &[u16], operands: &[u16]) -> Code {
+        self.maps.push(MapDraft::new(self.here(), locals, operands));
+        self
+    }
+
+    /// These maps, whatever their offsets, in place of others.
+    pub fn with_maps(self, maps: &[MapDraft]) -> Code {
+        Code { maps: maps.to_vec(), ..self }
+    }
+
+    /// A label and a map.
+    pub fn point(self, label: u16, locals: &[u16], operands: &[u16]) -> Code {
+        self.label(label).map(locals, operands)
+    }
+
+    pub fn jump(mut self, opcode: u8, label: u16) -> Code {
+        let placed = self.labels.iter().rfind(|(placed, _)| *placed == label).map(|(_, at)| *at);
+        if placed.is_none() {
+            self.waiting.push((label, self.bytes.len() + 1));
+        }
+        self.names(opcode, &[placed.unwrap_or(0)])
+    }
+
+    pub fn goto(self, label: u16) -> Code {
+        self.jump(op::GOTO, label)
+    }
+
+    pub fn ifeq(self, label: u16) -> Code {
+        self.jump(op::IFEQ, label)
+    }
+
+    pub fn if_icmplt(self, label: u16) -> Code {
+        self.jump(op::IF_ICMPLT, label)
     }
 
     pub fn plain(mut self, opcode: u8) -> Code {

@@ -15,7 +15,7 @@ fn main(code: Code) -> Draft {
 
 pub fn rejected() -> Vec<Draft> {
     let c = Code::new;
-    let unknown = (0..=255u8).filter(|opcode| !op::ALL.contains(opcode));
+    let unknown = (0..=255u8).filter(|opcode| !op::of(1).contains(opcode));
     let mut all: Vec<Draft> = unknown.map(|opcode| main(c().plain(opcode).end(INT))).collect();
     all.extend(locals_and_operands().into_iter().chain(kinds()).chain(inline_names()).map(main));
     all.push(method(INT, 11, c().end(INT)));
@@ -81,7 +81,7 @@ fn cut_off() -> Vec<Code> {
         c().null().getfield(10, 30, INT), c().null().int(0).putfield(10, 30, INT),
         c().null().int(0).invoke(10, 20, INT, INT),
     ];
-    let cut = |code: &Code, less: usize| Code { bytes: code.bytes[..code.bytes.len() - less].to_vec() };
+    let cut = |code: &Code, less: usize| Code::of(code.bytes[..code.bytes.len() - less].to_vec());
     whole.iter().flat_map(|code| (0..code.bytes.len()).map(move |less| cut(code, less))).collect()
 }
 

@@ -6,25 +6,27 @@ use super::cases::{self, MAIN};
 use super::graphs::graphs;
 use super::large;
 use super::list::busy_list;
+use super::loops::{spinning, unset_at_a_join, waiting};
 use super::objects::{all_in_use, an_owner, free_rows, links, many_objects, unused_number};
 use super::rng::Rng;
-use super::Call;
+use super::unverified::{has_unverified, jumps_out, map_bytes, other_version, unseen_jumps};
+use super::{Call, Trial};
 use crate::file::File;
 use crate::store::{cell, count, frame_base, Store, FIELDS, FRAME_ROW, INT, LENGTHS, LIMITS, OBJECT, OBJECT_ROW, ROW, TASKS};
 
 /// Kinds of damage, each a way to change a good store.
-const KINDS: [fn(&mut Rng, &mut Store); 27] = [
+const KINDS: [fn(&mut Rng, &mut Store); 31] = [
     any_cells, a_count, uniform_table, wrong_length, second_cache_row, overlapping_files, superclass_not_lower,
     code_bytes, kept_byte, top_frame, operand_count, a_value, constraints, full_frames, uniform_store, file_place,
     nested_file, full_rows, many_fields, repeated_field, many_classes, report_past_its_code, an_owner, free_rows,
-    unused_number, links, many_objects,
+    unused_number, links, many_objects, unseen_jumps, unseen_jumps, other_version, map_bytes,
 ];
 
 /// What a damaged store may have, and the test for it.
 pub type Shape = (&'static str, fn(&Store) -> bool);
 
 /// What damaged stores must have among them.
-pub const SHAPES: [Shape; 10] = [
+pub const SHAPES: [Shape; 12] = [
     ("a class of more than 16 fields", |store| classes(store).iter().any(|&class| field_names(store, class).len() > FIELDS)),
     ("a field's name repeated below", has_repeated_field),
     ("19 and more classes", |store| store.counts.first() >= Some(&19) && is_whole(store)),
@@ -35,6 +37,8 @@ pub const SHAPES: [Shape; 10] = [
     ("a free row with any cells", |store| is_whole(store) && crate::broken(&all_in_use(store, false))),
     ("a value that names a free row", |store| looked_at(store) && crate::broken(store) && is_whole(&all_in_use(store, true))),
     ("256 objects in use", |store| is_whole(store) && store.unused_object().is_none()),
+    ("a file of version 2 that define refuses", has_unverified),
+    ("a jump out of the code", jumps_out),
 ];
 
 /// A store from a boot with some damage, from one change to three.
@@ -57,6 +61,11 @@ fn good(seed: u64, rng: &mut Rng) -> Store {
     if rng.percent(20) {
         return graphs(seed, rng.within(5, 60)).store;
     }
+    if rng.percent(5) {
+        // Waiting frames before maps, unset locals, loops under way.
+        let trial = [waiting(), unset_at_a_join(), spinning()][rng.below(3)].clone();
+        return after(&trial, rng.within(4, trial.calls.len()));
+    }
     if rng.percent(80) {
         return busy_list(seed, rng.within(20, 90)).store;
     }
@@ -66,6 +75,15 @@ fn good(seed: u64, rng: &mut Rng) -> Store {
         trial.step();
     }
     trial.store
+}
+
+/// The store after the first calls of a list.
+fn after(trial: &Trial, calls: usize) -> Store {
+    let mut store = Store::zeros();
+    for call in &trial.calls[..calls] {
+        call.apply(&mut store);
+    }
+    store
 }
 
 /// Calls of each kind to try on a store, with arguments that mostly make sense there.
@@ -485,7 +503,7 @@ fn has_high_value(store: &Store) -> bool {
 }
 
 /// Adds a class that no define has looked at, of a loader that knows its superclass. Nothing if there is no room.
-fn add_unseen(store: &mut Store, loader: u16, draft: &Draft) -> Option<u16> {
+pub fn add_unseen(store: &mut Store, loader: u16, draft: &Draft) -> Option<u16> {
     let file = draft.file();
     let room = store.count(count::KEPT) + file.len() <= usize::from(LIMITS[count::KEPT]);
     if !room || store.is_full(count::CLASSES) || store.is_full(count::CACHE) {
@@ -497,12 +515,12 @@ fn add_unseen(store: &mut Store, loader: u16, draft: &Draft) -> Option<u16> {
 }
 
 /// A name that no class has.
-fn unused_name(store: &Store) -> u16 {
+pub fn unused_name(store: &Store) -> u16 {
     50_000 + store.counts[count::CLASSES]
 }
 
 /// The frames of a task that starts in a method of this class, if it has room for its object, and then the object.
-fn start_in(rng: &mut Rng, store: &mut Store, loader: u16, name: u16) -> Option<u32> {
+pub fn start_in(rng: &mut Rng, store: &mut Store, loader: u16, name: u16) -> Option<u32> {
     let (task, object) = (rng.below(2), store.unused_object());
     store.counts[count::FRAMES..count::OWNERS].fill(0);
     crate::start(store, task as u32, loader.into(), name, MAIN, 7);

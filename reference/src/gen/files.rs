@@ -1,15 +1,17 @@
 //! Files: good ones, mutated, cut off, random, and at the edges of the file rules.
 
-use super::blueprint::Blueprint;
-use super::build::{set_length, Code, Draft};
+use super::blueprint::{Blueprint, FIRST};
+use super::build::{set_length, Code, Draft, MapDraft};
 use super::rng::Rng;
+use super::spoils::spoil;
+use super::walk;
 use crate::code::op;
 use crate::store::INT;
 
 /// A file, or bytes that might have been one.
 pub fn file(seed: u64) -> Vec<u8> {
     let mut rng = Rng::new(seed ^ 0x66_69_6C_65);
-    match rng.weighted(&[3, 5, 2, 2, 3, 3]) {
+    match rng.weighted(&[3, 5, 2, 1, 3, 3, 4, 2]) {
         0 => good(&mut rng),
         1 => mutated(&mut rng),
         2 => cut(&mut rng),
@@ -18,7 +20,9 @@ pub fn file(seed: u64) -> Vec<u8> {
             rng.bytes(length)
         }
         4 => edge(&mut rng),
-        _ => random_code(&mut rng),
+        5 => random_code(&mut rng),
+        6 => spoiled(&mut rng),
+        _ => random_jumps(&mut rng),
     }
 }
 
@@ -27,6 +31,21 @@ fn good(rng: &mut Rng) -> Vec<u8> {
     let names = blueprint.names();
     let name = rng.pick(&names);
     blueprint.draft(rng, name).file()
+}
+
+/// A class of version 2 with two methods, spoiled or not.
+fn spoiled(rng: &mut Rng) -> Vec<u8> {
+    let blueprint = Blueprint::new(rng);
+    let (own, argument) = (blueprint.names()[0], rng.pick(&[INT, FIRST, FIRST + 1]));
+    let mut codes: Vec<Code> = (0..2).map(|_| walk::method(rng, &blueprint, 2, own, argument, INT)).collect();
+    for _ in 0..rng.below(3) {
+        let at = rng.below(2);
+        spoil(rng, &mut codes[at]);
+    }
+    let [one, other] = &codes[..] else {
+        unreachable!("two methods")
+    };
+    Draft::mapped(own).method(20, argument, INT, one).method(21, argument, INT, other).file()
 }
 
 fn mutated(rng: &mut Rng) -> Vec<u8> {
@@ -68,7 +87,7 @@ fn cut(rng: &mut Rng) -> Vec<u8> {
 pub fn edge(rng: &mut Rng) -> Vec<u8> {
     let end = Code::new().end(INT);
     let many = |count: u16| (0..count).fold(Draft::new(10), |draft, i| draft.main(20 + i, &end));
-    match rng.below(12) {
+    match rng.below(13) {
         0 => (0..rng.within(7, 9) as u16).fold(Draft::new(10), |draft, i| draft.field(30 + i, INT)).file(),
         1 => many(rng.within(7, 9) as u16).file(),
         2 => Draft::new(rng.below(4) as u16).under(rng.below(4) as u16).file(),
@@ -83,12 +102,35 @@ pub fn edge(rng: &mut Rng) -> Vec<u8> {
             let length = rng.within(4_094, 4_098);
             of_length(10, length)
         }
+        11 => edge_of_maps(rng).file(),
         _ => {
             let mut bytes = many(1).file();
-            bytes[0] = rng.below(3) as u8;
+            bytes[0] = rng.below(4) as u8;
             bytes
         }
     }
+}
+
+/// Maps at one edge of the file rules: none or many, offsets that rise or don't, 15 to 17 operands, type 0.
+fn edge_of_maps(rng: &mut Rng) -> Draft {
+    let offset = rng.pick(&[0, 1, 2, 3, 0xFFFE, 0xFFFF]);
+    let mut code = (0..rng.within(15, 17)).fold(Code::new(), |code, _| code.iload(1));
+    match rng.below(5) {
+        0 => code = of_maps(rng.within(192, 196)),
+        1 => {
+            let operands = vec![INT; code.bytes.len() / 2];
+            code = code.map(&[10, INT], &operands);
+        }
+        2 => code.maps = [0, offset].map(|at| MapDraft::new(at, &[], &[])).to_vec(),
+        3 => code.maps = [offset, 3].map(|at| MapDraft::new(at, &[], &[])).to_vec(),
+        _ => code.maps = vec![MapDraft::new(0, &[10, INT], &[rng.below(2) as u16])],
+    }
+    Draft::mapped(10).main(20, &code.end(INT))
+}
+
+/// Code with so many maps: 194 are as many as a file has room for.
+pub fn of_maps(count: usize) -> Code {
+    (0..count).fold(Code::new(), |code, _| code.map(&[10, INT], &[]).null().pop())
 }
 
 /// Code of exactly so many bytes, 5 or more, that returns an int.
@@ -122,10 +164,12 @@ pub fn of_length(name: u16, length: usize) -> Vec<u8> {
 fn random_code(rng: &mut Rng) -> Vec<u8> {
     let mut code = Code::new();
     for _ in 0..rng.within(1, 8) {
-        let opcode = rng.pick(&op::ALL);
+        let version = if rng.percent(95) { 1 } else { 2 };
+        let opcode = rng.pick(op::of(version));
         let mut name = || rng.pick(&[1, 2, 10, 11, 30]) - u16::from(rng.percent(3));
         code = match opcode {
             op::SIPUSH | op::NEW => code.names(opcode, &[name()]),
+            op::IFEQ | op::IF_ICMPLT | op::GOTO => code.names(opcode, &[rng.below(12) as u16]),
             op::ILOAD | op::ALOAD | op::ISTORE | op::ASTORE => code.local(opcode, rng.below(9) as u8),
             op::GETFIELD | op::PUTFIELD => code.names(opcode, &[name(), name(), name()]),
             op::INVOKEVIRTUAL => code.names(opcode, &[name(), name(), name(), name()]),
@@ -134,4 +178,29 @@ fn random_code(rng: &mut Rng) -> Vec<u8> {
     }
     let result = rng.pick(&[INT, 11]);
     Draft::new(10).method(20, rng.pick(&[INT, 10]), result, &code.end(result)).file()
+}
+
+/// Readable files of version 2 with a map at most instructions, each with names of its own, so that most flows make notes.
+fn random_jumps(rng: &mut Rng) -> Vec<u8> {
+    let mut code = Code::new().object(11).astore(2).object(12).astore(3);
+    let count = rng.within(2, 7) as u16;
+    for label in 0..count {
+        let mut of = |usual: u16| if rng.percent(75) { usual } else { rng.pick(&[0, 1, 2, 11, 12, 13, 14]) };
+        let locals = [of(10), of(INT), of(11), of(12)];
+        code = if rng.percent(85) { code.point(label, &locals, &[]) } else { code.label(label) };
+        let to = rng.below(usize::from(count)) as u16;
+        code = match rng.below(8) {
+            0 => code.goto(to),
+            1 => code.iload(1).ifeq(to),
+            2 => code.iload(1).int(rng.below(5) as i16).if_icmplt(to),
+            3 => code.object(rng.pick(&[10, 11, 12])).astore(2),
+            4 => code.null().astore(rng.pick(&[2, 3])),
+            5 => code.aload(2).pop(),
+            6 => code.aload(0).null().putfield(rng.pick(&[12, 13]), 30, 12),
+            _ => code.end(INT),
+        };
+    }
+    code = if rng.percent(90) { code.end(INT) } else { code };
+    code = if rng.percent(20) { code.plain(0xFF) } else { code };
+    Draft::mapped(10).main(20, &code).file()
 }

@@ -1,7 +1,8 @@
 //! Stores to measure on: call trees, chains of constraints, a usual store, a full one, stores full of objects. None is broken; all agree.
 
 use super::build::{Code, Draft};
-use super::files::of_length;
+use super::files::{of_length, of_maps};
+use super::loops::repeating;
 use super::{Call, Trial};
 use crate::broken::unbroken;
 use crate::store::{cell, count, frame_base, Store, Value, INT, MOST_OBJECTS, OPERANDS};
@@ -57,7 +58,7 @@ pub fn tall_tree() -> Store {
     for level in 6..11 {
         let code = inner(TREE, ROOT + level + 1);
         let made = Code::new().object(TREE).astore(2);
-        let code = if level == 6 { Code { bytes: [made.bytes, code.bytes].concat() } } else { code };
+        let code = if level == 6 { Code::of([made.bytes, code.bytes].concat()) } else { code };
         lower = lower.main(ROOT + level, &code);
     }
     started(&[lower.main(ROOT + 11, &leaf(Code::new())), upper], UPPER)
@@ -177,7 +178,7 @@ pub enum Repeated {
 
 /// A method that repeats these instructions.
 fn fifty_times(part: Code) -> Code {
-    Code { bytes: part.bytes.repeat(50) }.end(INT)
+    Code::of(part.bytes.repeat(50)).end(INT)
 }
 
 /// Every table full: 64 classes of 16 fields below each other, all bytes, entries, constraints, objects and frames, 15 operands in each
@@ -287,6 +288,34 @@ pub fn making(freed: bool) -> Store {
     store
 }
 
+/// What the loops of ten instructions do in a round.
+#[derive(Clone, Copy)]
+pub enum Round {
+    /// Adds its counter to a local, counts down, and jumps by a local that is 0.
+    Ints,
+    /// Puts its counter into a field, counts down, and jumps if 0 is less than the counter.
+    Field,
+}
+
+/// The quote before a loop of ten instructions that goes on for more steps than a run has.
+pub fn looping(round: Round) -> Store {
+    const AGAIN: u16 = 1;
+    let zeros = Code::new().int(7_000).istore(1).int(0).istore(2).int(0).istore(3);
+    let code = zeros.point(AGAIN, &[TREE, INT, INT, INT], &[]);
+    let count = |code: Code| code.iload(1).int(1).isub().istore(1);
+    let code = match round {
+        Round::Ints => count(code.iload(2).iload(1).iadd().istore(2)).iload(3).ifeq(AGAIN),
+        Round::Field => count(code.aload(0).iload(1).putfield(TREE, TOTAL, INT)).int(0).iload(1).if_icmplt(AGAIN),
+    };
+    started(&[Draft::mapped(TREE).field(TOTAL, INT).main(ROOT, &code.iload(2).ireturn())], TREE)
+}
+
+/// Files of 4,096 bytes or a little less: of version 1, with as many maps as fit, with as many notes as fit.
+pub fn long_files() -> [(&'static str, Vec<u8>); 3] {
+    let maps = Draft::mapped(TREE).main(ROOT, &of_maps(194).end(INT));
+    [("version 1", of_length(TREE, 4_096)), ("194 maps", maps.file()), ("12,236 notes", repeating(TREE).file())]
+}
+
 #[cfg(test)]
 mod tests {
     use super::*;
@@ -304,6 +333,19 @@ mod tests {
             sound(&store, "a tree");
             let reply = crate::run(&mut store, 65_535);
             assert!(matches!(reply, Reply::RanFor(ran, Answer::Finished(0, _)) if ran == steps - 1), "{reply:?}");
+        }
+    }
+
+    #[test]
+    fn loops_go_on() {
+        for round in [Round::Ints, Round::Field] {
+            let mut store = looping(round);
+            sound(&store, "a loop");
+            assert_eq!(crate::run(&mut store, 65_535), Reply::RanFor(65_535, Answer::Ran(0)));
+        }
+        for (what, file) in long_files() {
+            assert!((3_900..=4_096).contains(&file.len()), "{what}: {} bytes", file.len());
+            assert_eq!(crate::define(&mut Trial::ready([1]).store, 1, &file), Reply::Defined(1), "{what}");
         }
     }
 

@@ -22,10 +22,19 @@ const SEVEN: Value = Value::Int(7);
 /// Loader 1 has class 10 with field 30 (int), 31 (class 10), the code as method 20, and method 21 from 10 to
 /// 10; and class 11. The quote is at the start of the code with these operands.
 pub fn holding(code: &Code, operands: &[Value]) -> Store {
+    drafted(Draft::new(10), code, operands)
+}
+
+/// The same with a class of version 2, whose code has no map.
+fn mapped(code: &Code, operands: &[Value]) -> Store {
+    drafted(Draft::mapped(10), code, operands)
+}
+
+fn drafted(draft: Draft, code: &Code, operands: &[Value]) -> Store {
     let mut store = Store::zeros();
     crate::boot(&mut store);
     store.add_cached([1, 2, 0]);
-    let ten = Draft::new(10).field(30, INT).field(31, 10).main(MAIN, code);
+    let ten = draft.field(30, INT).field(31, 10).main(MAIN, code);
     let ten = ten.method(21, 10, 10, &Code::new().aload(1).areturn()).main(22, &Code::new().iload(1).ireturn());
     for (name, draft) in [(10, ten), (11, Draft::new(11))] {
         let class = store.add_class(1, &draft.file());
@@ -73,6 +82,32 @@ pub fn stuck() -> Vec<Stuck> {
     all.extend(wrong_kinds());
     all.extend(no_room());
     all.extend(names_that_no_verifier_takes());
+    all.extend(jumps());
+    all
+}
+
+/// Jumps that can't be read, or lack what they compare.
+fn jumps() -> Vec<Stuck> {
+    let mut all = Vec::new();
+    for opcode in (0..=255).filter(|opcode| !op::ALL.contains(opcode)) {
+        all.push((format!("unknown opcode {opcode:02X} in version 2"), mapped(&Code::new().plain(opcode), &[SEVEN, SEVEN]), STUCK));
+    }
+    for opcode in [op::GOTO, op::IFEQ, op::IF_ICMPLT] {
+        let whole = names(opcode, &[0]);
+        for there in 1..3 {
+            let code = Code::of(whole.bytes[..there].to_vec());
+            all.push((format!("{opcode:02X} cut off"), mapped(&code, &[SEVEN, SEVEN]), STUCK));
+        }
+        all.push((format!("{opcode:02X} in version 1"), holding(&whole, &[SEVEN, SEVEN]), STUCK));
+    }
+    let rows: [(u8, Vec<Value>); 9] = [
+        (op::IFEQ, vec![]), (op::IFEQ, vec![TEN]), (op::IFEQ, vec![Value::Null]), (op::IFEQ, vec![SEVEN, TEN]),
+        (op::IF_ICMPLT, vec![]), (op::IF_ICMPLT, vec![SEVEN]), (op::IF_ICMPLT, vec![SEVEN, TEN]), (op::IF_ICMPLT, vec![TEN, SEVEN]),
+        (op::IF_ICMPLT, vec![Value::Null, Value::Null]),
+    ];
+    for (opcode, operands) in rows {
+        all.push((format!("{opcode:02X} of {operands:?}"), mapped(&names(opcode, &[0]), &operands), STUCK));
+    }
     all
 }
 
@@ -89,7 +124,7 @@ fn unreadable() -> Vec<Stuck> {
         ("point at the end".into(), frame(cell::POINT, 2), STUCK),
         ("point past the code".into(), frame(cell::POINT, u32::MAX), STUCK),
     ];
-    for opcode in (0..=255).filter(|opcode| !op::ALL.contains(opcode)) {
+    for opcode in (0..=255).filter(|opcode| !op::of(1).contains(opcode)) {
         all.push((format!("unknown opcode {opcode:02X}"), holding(&Code::new().plain(opcode), &[SEVEN, SEVEN]), STUCK));
     }
     let inline = [

@@ -1,38 +1,57 @@
-//! Code that the verifier takes, mostly: a walk over points that keeps the types in mind.
+//! Code that the verifier takes, mostly: a walk over points that keeps the types in mind. The jumps are in jumps.rs.
 
 use super::blueprint::Blueprint;
 use super::build::Code;
 use super::rng::Rng;
+use super::spoils;
 use crate::code::op;
+use crate::file::MAPPED;
 use crate::store::{INT, OBJECT};
 use crate::verifier::Type;
 
 const COMFORTABLE: usize = 12;
 
-struct Walk<'a> {
-    rng: &'a mut Rng,
-    blueprint: &'a Blueprint,
-    code: Code,
-    operands: Vec<Type>,
-    locals: [Type; 8],
+pub struct Walk<'a> {
+    pub rng: &'a mut Rng,
+    pub blueprint: &'a Blueprint,
+    pub code: Code,
+    pub operands: Vec<Type>,
+    pub locals: [Type; 8],
+    pub version: u8,
+    pub result: u16,
+    /// Operands below this one stay.
+    pub floor: usize,
+    /// Bit n: local n stays.
+    pub fixed: u8,
+    /// How many branches the walk is in, and how many labels it has used.
+    pub depth: usize,
+    pub labels: u16,
 }
 
-/// The code of a method of class `own`.
-pub fn method(rng: &mut Rng, blueprint: &Blueprint, own: u16, argument: u16, result: u16) -> Vec<u8> {
+/// The code of a method of class `own`, with its maps if the version has them.
+pub fn method(rng: &mut Rng, blueprint: &Blueprint, version: u8, own: u16, argument: u16, result: u16) -> Code {
     let mut locals = [Type::Unset; 8];
     locals[0] = Type::Class(own);
     locals[1] = Type::named(argument);
     let length = rng.within(0, 7);
-    let mut walk = Walk { rng, blueprint, code: Code::new(), operands: Vec::new(), locals };
+    let (code, operands) = (Code::new(), Vec::new());
+    let mut walk =
+        Walk { rng, blueprint, code, operands, locals, version, result, floor: 0, fixed: 0, depth: 0, labels: 0 };
+    if version >= MAPPED && walk.rng.percent(10) {
+        walk.map_at_entry();
+    }
     for _ in 0..length {
         walk.action();
     }
-    walk.give_back(result);
-    let mut bytes = walk.code.bytes;
+    walk.give_back();
+    let mut code = walk.code;
     if rng.percent(2) {
-        spoil(rng, &mut bytes);
+        spoil(rng, &mut code.bytes);
     }
-    bytes
+    if version >= MAPPED && rng.percent(4) {
+        spoils::spoil(rng, &mut code);
+    }
+    code
 }
 
 /// A byte changed or cut off: mostly the verifier rejects it.
@@ -46,13 +65,16 @@ fn spoil(rng: &mut Rng, code: &mut Vec<u8>) {
 }
 
 impl Walk<'_> {
-    fn emit(&mut self, change: impl FnOnce(Code) -> Code) {
+    pub fn emit(&mut self, change: impl FnOnce(Code) -> Code) {
         self.code = change(std::mem::take(&mut self.code));
     }
 
-    fn action(&mut self) {
+    pub fn action(&mut self) {
         if self.operands.len() > COMFORTABLE {
             return self.pop();
+        }
+        if self.version >= MAPPED && self.depth < 3 && self.code.bytes.len() < 250 && self.rng.percent(22) {
+            return self.branch();
         }
         match self.rng.weighted(&[2, 2, 3, 1, 1, 2, 3, 4, 2]) {
             0 => self.int(),
@@ -67,11 +89,11 @@ impl Walk<'_> {
         }
     }
 
-    fn locals_of(&self, fits: impl Fn(Type) -> bool) -> Vec<u8> {
+    pub fn locals_of(&self, fits: impl Fn(Type) -> bool) -> Vec<u8> {
         (0..8).filter(|&local| fits(self.locals[usize::from(local)])).collect()
     }
 
-    fn int(&mut self) {
+    pub fn int(&mut self) {
         let locals = self.locals_of(|of| of == Type::Int);
         if !locals.is_empty() && self.rng.percent(60) {
             let local = self.rng.pick(&locals);
@@ -110,12 +132,12 @@ impl Walk<'_> {
         self.operands.push(of);
     }
 
-    fn some_reference(&mut self) {
+    pub fn some_reference(&mut self) {
         let name = self.some_class();
         self.reference(name);
     }
 
-    fn some_class(&mut self) -> u16 {
+    pub fn some_class(&mut self) -> u16 {
         let names = self.blueprint.names();
         match self.rng.below(12) {
             0 => OBJECT,
@@ -137,10 +159,13 @@ impl Walk<'_> {
 
     /// Stores the top operand in a local; there is one if there was none.
     fn keep(&mut self) {
-        if self.operands.is_empty() {
+        let local = self.rng.within(1, 7) as u8;
+        if self.fixed >> local & 1 == 1 {
+            return self.pop();
+        }
+        if self.operands.len() <= self.floor {
             self.some_reference();
         }
-        let local = self.rng.within(1, 7) as u8;
         let Some(of) = self.operands.pop() else {
             return;
         };
@@ -148,8 +173,9 @@ impl Walk<'_> {
         self.emit(|code| if of == Type::Int { code.istore(local) } else { code.astore(local) });
     }
 
-    fn pop(&mut self) {
-        if self.operands.pop().is_some() {
+    pub fn pop(&mut self) {
+        if self.operands.len() > self.floor {
+            self.operands.pop();
             self.emit(|code| code.pop());
         }
     }
@@ -219,7 +245,8 @@ impl Walk<'_> {
         self.operands.push(Type::named(result));
     }
 
-    fn give_back(&mut self, result: u16) {
+    pub fn give_back(&mut self) {
+        let result = self.result;
         match self.operands.last() {
             Some(Type::Int) if result == INT => {}
             _ => self.value(result),

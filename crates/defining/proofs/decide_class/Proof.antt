@@ -6,19 +6,28 @@ use borrow.Author.Needs.{needs}
 use Rattle.defining.proofs.decide_class.Statement.{statement}
 use Rattle.defining.proofs.decide_class.Tie as tie
 
+-- the superclass that was found
+module _ (c : tie.After-find-super) where
+  abbrev start : tie.Start
+  start = c .before .before .before .before .before .before .before .before .before .before
+
 decide-constraints-requires : tie.Need-decide-constraints-requires
 unfolding aboveOf quickFile
 decide-constraints-requires c κs =
-    let at16 = c .before .before .before .before .before .before .before .before .before .before .before .before .before .before .before .before in
-    (at16 .pre .0, at16 .pre .1, at16 .pre .2, at16 .pre .3, at16 .pre .4, super-cached _ _ _ (rw (c .before .before .before .above2 .given .1) at (c .before .before .before .before .before .find-super .ensures)))
+    let call : tie.After-find-super = c .before .before .before .before in
+    let pre = start call .pre in
+    (pre .0, pre .1, pre .2, pre .3, super-cached _ _ _ (rw (c .before .before .above2 .given .1) at (call .find-super .ensures)))
 
 returns : tie.Need-returns
 unfolding aboveOf Decided
-returns c = placed-refused _ _ _ _ _ (rw (c .before .above .given .1) at (c .before .before .before .find-super .ensures))
+returns c = λ ns e. placed-refused _ _ _ _ _ (rw (c .before .above .given .1) at (c .before .before .before .find-super .ensures))
 
 returns-2 : tie.Need-returns-2
 unfolding aboveOf
-returns-2 c = decided-same _ _ _ _ _ _ _ _ (placed-below _ _ _ _ _ (rw (c .before .before .before .before .before .before .before .before .above2 .given .1) at (c .before .before .before .before .before .before .before .before .before .before .find-super .ensures))) (c .before .before .before .before .decide-constraints .ensures)
+returns-2 c =
+    let last = c .before .before in
+    let told = last .before .before .before in
+    λ ns e. decided-same _ _ _ _ _ _ _ _ (placed-below _ _ _ _ _ (rw (told .above2 .given .1) at (told .before .before .find-super .ensures))) (last .decide-constraints .ensures ns e)
 
 pub decide-class-spec : {M : Type 1} → statement M
-decide-class-spec = tie.close (tie.spec (λ c κs. search needs) (λ c. search needs) (λ c. search needs) decide-constraints-requires returns (λ c. search needs) (λ c. search needs) returns-2)
+decide-class-spec = tie.close (tie.spec (λ c κs. search needs) (λ c. search needs) (λ c. search needs) decide-constraints-requires returns (λ c. search needs) returns-2)

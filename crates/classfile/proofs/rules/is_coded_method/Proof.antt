@@ -2,7 +2,7 @@
 use mathlib.Core.Path.{sym, _∙_}
 use borrow.Author.Tests.{le-leb, lt-leb}
 use Rattle.classfile.specs.Lists.{every-first, every-fails, every-last}
-use Rattle.classfile.specs.Reading.{nextPlace}
+use Rattle.classfile.specs.Reading.{codeEnd}
 use Rattle.classfile.specs.Rules.{codedMethod}
 use borrow.Author.Needs.{needs}
 use Rattle.classfile.proofs.rules.is_coded_method.Statement.{statement}
@@ -20,7 +20,7 @@ returns-2 c =
     sym (every-first _ _ some ∙ every-fails _ _ many)
 
 returns-3 : tie.Need-returns-3
-unfolding codedMethod nextPlace
+unfolding codedMethod codeEnd
 returns-3 c =
     let at4 = c .before .before .before .before in
     let some = le-leb _ _ (rw (at4 .code-length .ensures) at (c .before .before .before .if1 .left)) in

@@ -73,6 +73,9 @@ returns-11 c =
 returns-12 : tie.Need-returns-12
 returns-12 c = rw (c .plain9 .ensures .0, c .plain9 .ensures .1, c .before .before .before .i9 .given .1) (acted-return _ _ _ _ _ _ _ _ _ _ _ _ _ _ _ (c .before .before .before .before .before .before .before .before .before .before .before .before .before .pre .0 .counts .ties) (c .before .give-back .ensures))
 
+returns-13 : tie.Need-returns-13
+returns-13 c = rw (c .plain10 .ensures .0, c .plain10 .ensures .1, c .before .before .before .i10 .given .1) (acted-frame _ _ _ _ _ _ _ _ _ _ _ _ _ _ _ (c .before .before .before .before .before .before .before .before .before .before .before .before .before .pre .0 .counts .ties) (c .before .branch .ensures))
+
 pub act-spec : {M : Type 1} → statement M
 act-spec =
     tie.close
@@ -115,6 +118,9 @@ act-spec =
     (λ c. search needs)
     (λ c κs. search needs)
     (λ c κs. search needs)
+    (λ c. search needs)
+    (λ c κs. search needs)
+    (λ c κs. search needs)
     returns
     returns-2
     returns-3
@@ -126,4 +132,5 @@ act-spec =
     returns-9
     returns-10
     returns-11
-    returns-12)
+    returns-12
+    returns-13)

@@ -1,0 +1,289 @@
+-- Files of version 1 are read, verified and defined as they were. A file of a later version begins with a 2.
+use mathlib.Core.Path.{_≡_, refl, sym, ap, _∙_}
+use mathlib.Core.Bool.{Bool, true, false, _&&_}
+use mathlib.Core.Option.{Option, none, some, Option·none-ne-some, Option·some-injective}
+use mathlib.Core.List.{List, [], _∷_, _++_, append-nil}
+use Prim.Native.Nat.{ℕ, zero, suc, _+_}
+use native.Mathlib.Omega.{arith}
+use lib.ListN.{length, drop, getD}
+use lib.Dec.{eqb, leb}
+use borrow.Author.Tests.{eqb-true, eqb-false, leb-true}
+use Rattle.definition.specs.declared.Kind.{Kind}
+use Rattle.definition.specs.declared.Opcode.{Opcode}
+use Rattle.definition.specs.declared.Opcode.the-variants.{OpAconstNull, OpSipush, OpLoad, OpStore, OpPop, OpDup, OpArithmetic, OpGetfield, OpPutfield, OpInvokevirtual, OpNew, OpReturn, OpBranch, OpUnknown}
+use Rattle.definition.specs.declared.Instruction.{Instruction}
+use Rattle.definition.specs.Numbers.{versionOne, versionTwo}
+use Rattle.definition.specs.Lists.{any}
+use Rattle.definition.specs.Maybe.{_>>=_, need}
+use Rattle.definition.specs.Answers as Answers
+use Rattle.definition.specs.Classes.{Class, Map, Method}
+use Rattle.definition.specs.Constraints.{World}
+use Rattle.definition.specs.File.{File, Got, byte, mapsIn, methodsIn, readFile, classOf}
+use Rattle.definition.specs.Instructions.{pick, opcodeOf, inlineLength, instructionOf, Decoded, sizedAs, decode}
+use Rattle.definition.specs.Verifier.{Flow, Note, Onward, Turn, TypeState, after, effect, entryTypes, finished, flowInto, flowToTarget, goesOn, mapAt, mapTypes, mapsPast, notesOf, notesOfMethod, onto, returnKind, returns, startAt, target, turn, unmapped, verify}
+use Rattle.definition.specs.Loading.{define}
+use Rattle.laws.specs.Options.{bind-some, need-true, Holds, holds-past, holds-on, holds-need, holds-at}
+use Rattle.layout.specs.Tests.{All}
+use Rattle.first.specs.Files.{firstMethodsIn, firstReadFile, firstOpcodeOf, firstDecode}
+use Rattle.first.specs.Verifier.{firstVerify, firstNotesOfMethod, firstNotesOf, firstDefine}
+
+-- the bytes begin with version 2
+unfoldable pub laterFile : List ℕ → Bool
+laterFile [] = false
+laterFile (b ∷ bs) = eqb b versionTwo
+
+-- a version before 2
+abbrev pub Old : ℕ → Type 0
+Old version = leb versionTwo version ≡ false
+
+abbrev pub NoMaps : Method → Type 0
+NoMaps m = m .maps ≡ []
+
+abbrev pub OldClass : Class → Type 0
+OldClass k = Old (k .version) × All NoMaps (k .methods)
+
+-- In sequence
+
+pub bind-eq : {A B : Type 0} (o p : Option A) → o ≡ p → (f g : A → Option B) → ((a : A) → f a ≡ g a) → (o >>= f) ≡ (p >>= g)
+unfolding _>>=_
+bind-eq none p e f g k = rw (← e) refl
+bind-eq (some a) p e f g k = rw (← e) (k a)
+
+bind-same : {A B : Type 0} (o : Option A) (f g : A → Option B) → ((a : A) → f a ≡ g a) → (o >>= f) ≡ (o >>= g)
+bind-same o = bind-eq o o refl
+
+pub bind-in : {A B : Type 0} (o : Option A) (f g : A → Option B) → ((a : A) → o ≡ some a → f a ≡ g a) → (o >>= f) ≡ (o >>= g)
+unfolding _>>=_
+bind-in none f g k = refl
+bind-in (some a) f g k = k a refl
+
+bind-known : {A B : Type 0} (o : Option A) (a : A) → o ≡ some a → (f : A → Option B) (x : Option B) → x ≡ f a → x ≡ (o >>= f)
+unfolding _>>=_
+bind-known o a e f x k = rw e k
+
+need-eq : {B : Type 0} (t u : Bool) → u ≡ t → (f g : Unit {0} → Option B) → (t ≡ true → f tt ≡ g tt) → (need t >>= f) ≡ (need u >>= g)
+unfolding _>>=_ need
+need-eq true u e f g k = rw e (k refl)
+need-eq false u e f g k = rw e refl
+
+-- Reading
+
+no-maps : (bs : List ℕ) → mapsIn versionOne bs ≡ some (record { value = []; more = bs })
+unfolding mapsIn
+no-maps bs = refl
+
+same-methods : (k : ℕ) (bs : List ℕ) → firstMethodsIn k bs ≡ methodsIn versionOne k bs
+unfolding firstMethodsIn methodsIn
+same-methods zero bs = refl
+same-methods (suc k) bs = bind-same _ _ _ (λ s. bind-same _ _ _ (λ (l : Got ℕ). bind-same _ _ _ (λ _.
+    bind-known _ _ (no-maps (drop (l .value) (l .more))) _ _ (bind-eq _ _ (same-methods k (drop (l .value) (l .more))) _ _ (λ ms. refl)))))
+
+tested : (b : ℕ) (t : Bool) → eqb b versionOne ≡ t → eqb b versionTwo ≡ false → (leb versionOne b && leb b versionTwo) ≡ t
+tested b true e n = rw (eqb-true b versionOne e) refl
+tested b false e n = go (leb versionOne b) refl (leb b versionTwo) refl
+  where
+    go : (x : Bool) → leb versionOne b ≡ x → (y : Bool) → leb b versionTwo ≡ y → (x && y) ≡ false
+    go true q true r = absurd (eqb-false b versionTwo n (omega (arith, leb-true versionOne b q, leb-true b versionTwo r, eqb-false b versionOne e)))
+    go true q false r = refl
+    go false q y r = refl
+
+not-two : (bs : List ℕ) (v : Got ℕ) → laterFile bs ≡ false → byte bs ≡ some v → eqb (v .value) versionTwo ≡ false
+unfolding laterFile byte
+not-two [] v h e = absurd (Option·none-ne-some v e)
+not-two (b ∷ bs) v h e = rw (sym (Option·some-injective _ _ e)) h
+
+pub same-read : (bs : List ℕ) → laterFile bs ≡ false → firstReadFile bs ≡ readFile bs
+unfolding firstReadFile readFile
+same-read bs h = bind-same _ _ _ (λ _. bind-in _ _ _ (λ v q. need-eq (eqb (v .value) versionOne) _ (tested (v .value) (eqb (v .value) versionOne) refl (not-two bs v h q)) _ _ (λ e.
+    bind-same _ _ _ (λ n. bind-same _ _ _ (λ _. bind-same _ _ _ (λ c. bind-same _ _ _ (λ s. bind-same _ _ _ (λ k. bind-same _ _ _ (λ fs. bind-same _ _ _ (λ (j : Got ℕ).
+    bind-eq _ _ (same-methods (j .value) (j .more) ∙ ap (λ (y : ℕ). methodsIn y (j .value) (j .more)) (sym (eqb-true (v .value) versionOne e))) _ _ (λ ms. refl)))))))))))
+
+-- what the first document reads as a file is of version 1
+pub read-early : (bs : List ℕ) (f : File) → firstReadFile bs ≡ some f → laterFile bs ≡ false
+unfolding firstReadFile laterFile byte
+read-early [] f e = refl
+read-early (b ∷ bs) f e =
+    let a = bind-some _ _ e in
+    let v = bind-some _ _ (a .2) in
+    let n = bind-some _ _ (v .2) in
+    let z : b ≡ v .0 .value = ap (λ (g : Got ℕ). g .value) (Option·some-injective _ _ (v .1)) in
+    rw (z ∙ eqb-true (v .0 .value) versionOne (need-true _ (n .1))) refl
+
+methods-old : (k : ℕ) (bs : List ℕ) → Holds (firstMethodsIn k bs) (λ g. All NoMaps (g .value))
+unfolding firstMethodsIn
+methods-old zero bs = tt
+methods-old (suc k) bs = holds-past Q _ _ (λ s. holds-past Q _ _ (λ l. holds-past Q _ _ (λ _. holds-on Q Q _ _ (methods-old k (drop (l .value) (l .more))) (λ ms h. (refl, h)))))
+  where
+    Q : Got (List Method) → Type 0
+    Q g = All NoMaps (g .value)
+
+file-old : (l : ℕ) (bs : List ℕ) → Holds (firstReadFile bs) (λ f. OldClass (classOf l f))
+unfolding firstReadFile
+file-old l bs =
+    holds-past Q _ _ (λ _. holds-past Q _ _ (λ v. holds-need Q _ _ (λ e. holds-past Q _ _ (λ n. holds-past Q _ _ (λ _. holds-past Q _ _ (λ c. holds-past Q _ _ (λ s.
+    holds-past Q _ _ (λ k. holds-past Q _ _ (λ fs. holds-past Q _ _ (λ j. holds-on (λ g. All NoMaps (g .value)) Q _ _ (methods-old (j .value) (j .more)) (λ ms h.
+    holds-past Q _ _ (λ _. holds-past Q _ _ (λ _. holds-past Q _ _ (λ _. (old (v .value) e, h)))))))))))))))
+  where
+    Q : File → Type 0
+    Q f = OldClass (classOf l f)
+
+    old : (v : ℕ) → eqb v versionOne ≡ true → Old v
+    old v e = rw (eqb-true v versionOne e) refl
+
+-- a class of such a file
+pub read-old : (l : ℕ) (bs : List ℕ) → laterFile bs ≡ false → (f : File) → readFile bs ≡ some f → OldClass (classOf l f)
+read-old l bs h f e = holds-at (λ g. OldClass (classOf l g)) (firstReadFile bs) f (file-old l bs) (same-read bs h ∙ e)
+
+-- Instructions: no branch
+
+same-opcode : (version b : ℕ) → Old version → firstOpcodeOf b ≡ opcodeOf version b
+unfolding firstOpcodeOf opcodeOf
+same-opcode version b h = rw h (unfold pick in refl)
+
+pub same-decode : (version : ℕ) (code : List ℕ) (p : ℕ) → Old version → firstDecode code p ≡ decode version code p
+unfolding firstDecode decode
+same-decode version code p h = ap
+    (λ (o : Opcode). elim (leb (p + suc (inlineLength o)) (length code)) as (λ _. Option Decoded) [ true ↦ sizedAs (suc (inlineLength o)) (instructionOf code (p + 1) o) | false ↦ none ])
+    (same-opcode version (getD code p 0) h)
+
+abbrev PlainCode : Opcode → Type 0
+PlainCode OpAconstNull = Unit {0}
+PlainCode OpSipush = Unit {0}
+PlainCode (OpLoad k) = Unit {0}
+PlainCode (OpStore k) = Unit {0}
+PlainCode OpPop = Unit {0}
+PlainCode OpDup = Unit {0}
+PlainCode (OpArithmetic o) = Unit {0}
+PlainCode OpGetfield = Unit {0}
+PlainCode OpPutfield = Unit {0}
+PlainCode OpInvokevirtual = Unit {0}
+PlainCode OpNew = Unit {0}
+PlainCode (OpReturn k) = Unit {0}
+PlainCode (OpBranch c) = ⊥
+PlainCode OpUnknown = Unit {0}
+
+-- it goes on to the next point alone, if it is no return
+pub record Straight (i : Instruction) : Type 0 where
+  pub nowhere : target i ≡ none
+  pub on : returnKind i ≡ none → goesOn i ≡ true
+
+pick-plain : (t : Bool) (a b : Opcode) → PlainCode a → PlainCode b → PlainCode (pick t a b)
+unfolding pick
+pick-plain true a b x y = x
+pick-plain false a b x y = y
+
+opcode-plain : (b : ℕ) → PlainCode (firstOpcodeOf b)
+unfolding firstOpcodeOf
+opcode-plain b =
+    pick-plain _ _ _ tt (pick-plain _ _ _ tt (pick-plain _ _ _ tt (pick-plain _ _ _ tt (pick-plain _ _ _ tt (pick-plain _ _ _ tt (pick-plain _ _ _ tt (pick-plain _ _ _ tt
+    (pick-plain _ _ _ tt (pick-plain _ _ _ tt (pick-plain _ _ _ tt (pick-plain _ _ _ tt (pick-plain _ _ _ tt (pick-plain _ _ _ tt (pick-plain _ _ _ tt (pick-plain _ _ _ tt tt)))))))))))))))
+
+instruction-straight : (s : List ℕ) (i : ℕ) (o : Opcode) → PlainCode o → Holds (instructionOf s i o) Straight
+unfolding instructionOf target goesOn returnKind
+instruction-straight s i OpAconstNull h = record { nowhere = refl; on = λ _. refl }
+instruction-straight s i OpSipush h = record { nowhere = refl; on = λ _. refl }
+instruction-straight s i (OpLoad k) h = record { nowhere = refl; on = λ _. refl }
+instruction-straight s i (OpStore k) h = record { nowhere = refl; on = λ _. refl }
+instruction-straight s i OpPop h = record { nowhere = refl; on = λ _. refl }
+instruction-straight s i OpDup h = record { nowhere = refl; on = λ _. refl }
+instruction-straight s i (OpArithmetic o) h = record { nowhere = refl; on = λ _. refl }
+instruction-straight s i OpGetfield h = record { nowhere = refl; on = λ _. refl }
+instruction-straight s i OpPutfield h = record { nowhere = refl; on = λ _. refl }
+instruction-straight s i OpInvokevirtual h = record { nowhere = refl; on = λ _. refl }
+instruction-straight s i OpNew h = record { nowhere = refl; on = λ _. refl }
+instruction-straight s i (OpReturn k) h = record { nowhere = refl; on = λ e. absurd (Option·none-ne-some k (sym e)) }
+instruction-straight s i (OpBranch c) h = absurd h
+instruction-straight s i OpUnknown h = tt
+
+pub decode-straight : (code : List ℕ) (p : ℕ) → Holds (firstDecode code p) (λ i. Straight (i .instruction))
+unfolding firstDecode
+decode-straight code p = go (leb (p + suc (inlineLength o)) (length code)) (instructionOf code (p + 1) o) (instruction-straight code (p + 1) o (opcode-plain (getD code p 0)))
+  where
+    o : Opcode
+    o = firstOpcodeOf (getD code p 0)
+
+    go : (t : Bool) (x : Option Instruction) → Holds x Straight → Holds {A = Decoded} (elim t as (λ _. Option Decoded) [ true ↦ sizedAs (suc (inlineLength o)) x | false ↦ none ]) (λ i. Straight (i .instruction))
+    go true none h = unfold sizedAs in tt
+    go true (some j) h = unfold sizedAs in h
+    go false x h = tt
+
+-- The verifier, without maps
+
+module _ (version : ℕ) (code : List ℕ) (result : ℕ) (old : Old version) where
+  -- what the walk does with a turn
+  abbrev onwards : ℕ → Turn → Option (List Note)
+  onwards n t = elim (t .next) as (λ _. Option (List Note)) [
+    | finished ↦ need (leb (length {A = Map} []) 0) >>= λ _. some (t .notes)
+    | onto q u ↦ verify version code [] result n q [] u >>= λ ns. some (t .notes ++ ns)
+  ]
+
+  same-return : (n p : ℕ) (t : Bool) (r : Option (List Note)) → (need t >>= λ _. r)
+      ≡ ((r >>= λ ns. (elim t as (λ _. Option Onward) [ true ↦ some finished | false ↦ mapAt [] p >>= λ m. some (onto p (mapTypes m)) ]) >>= λ o. some (record { notes = ns; next = o })) >>= onwards n)
+  unfolding _>>=_ need mapAt
+  same-return n p true none = refl
+  same-return n p true (some ns) = refl
+  same-return n p false none = refl
+  same-return n p false (some ns) = refl
+
+  pub after-straight : (i : Instruction) (p : ℕ) (f : Flow) → Straight i → returnKind i ≡ none → after version code [] result i p f ≡ some (record { notes = f .notes ++ []; next = onto p (f .types) })
+  unfolding after
+  after-straight i p f h e = rw (h .nowhere, h .on e) (unfold flowToTarget flowInto mapAt _>>=_ in refl)
+
+  same-verify : (n p : ℕ) (s : TypeState) → firstVerify code result n p s ≡ verify version code [] result n p [] s
+  unfolding firstVerify verify mapsPast turn startAt _>>=_
+  same-verify zero p s = refl
+  same-verify (suc n) p s = rw (sym (same-decode version code p old)) (go (firstDecode code p) (decode-straight code p) (λ q u. same-verify n q u))
+    where
+      effects : (i : Decoded) → Straight (i .instruction) → returnKind (i .instruction) ≡ none → ((q : ℕ) (u : TypeState) → firstVerify code result n q u ≡ verify version code [] result n q [] u) → (x : Option Flow)
+          → (x >>= λ f. firstVerify code result n (p + i .size) (f .types) >>= λ ns. some (f .notes ++ ns)) ≡ ((x >>= λ f. after version code [] result (i .instruction) (p + i .size) f) >>= onwards n)
+      effects i h e ih none = unfold _>>=_ in refl
+      effects i h e ih (some f) = unfold _>>=_ in rw (after-straight (i .instruction) (p + i .size) f h e)
+          (bind-eq _ _ (ih (p + i .size) (f .types)) _ _ (λ ns. ap (λ (z : List Note). some (z ++ ns)) (sym (append-nil (f .notes)))))
+
+      kinds : (i : Decoded) → Straight (i .instruction) → ((q : ℕ) (u : TypeState) → firstVerify code result n q u ≡ verify version code [] result n q [] u) → (x : Option Kind) → returnKind (i .instruction) ≡ x
+          → (elim x as (λ _. Option (List Note)) [
+            | some kind ↦ need (eqb (p + i .size) (length code)) >>= λ _. returns kind result s
+            | none ↦ effect (i .instruction) s >>= λ f. firstVerify code result n (p + i .size) (f .types) >>= λ ns. some (f .notes ++ ns)
+          ]) ≡ ((elim x as (λ _. Option Turn) [
+            | some kind ↦ returns kind result s >>= λ ns. startAt version code [] result (p + i .size) >>= λ o. some (record { notes = ns; next = o })
+            | none ↦ effect (i .instruction) s >>= λ f. after version code [] result (i .instruction) (p + i .size) f
+          ]) >>= onwards n)
+      kinds i h ih (some kind) e = same-return n (p + i .size) (eqb (p + i .size) (length code)) (returns kind result s)
+      kinds i h ih none e = effects i h e ih (effect (i .instruction) s)
+
+      go : (x : Option Decoded) → Holds x (λ i. Straight (i .instruction)) → ((q : ℕ) (u : TypeState) → firstVerify code result n q u ≡ verify version code [] result n q [] u)
+          → (x >>= λ i. elim (returnKind (i .instruction)) as (λ _. Option (List Note)) [
+            | some kind ↦ need (eqb (p + i .size) (length code)) >>= λ _. returns kind result s
+            | none ↦ effect (i .instruction) s >>= λ f. firstVerify code result n (p + i .size) (f .types) >>= λ ns. some (f .notes ++ ns)
+          ]) ≡ ((x >>= λ i. elim (returnKind (i .instruction)) as (λ _. Option Turn) [
+            | some kind ↦ returns kind result s >>= λ ns. startAt version code [] result (p + i .size) >>= λ o. some (record { notes = ns; next = o })
+            | none ↦ effect (i .instruction) s >>= λ f. after version code [] result (i .instruction) (p + i .size) f
+          ]) >>= onwards n)
+      go none h ih = unfold _>>=_ in refl
+      go (some i) h ih = unfold _>>=_ in kinds i h ih (returnKind (i .instruction)) refl
+
+pub same-notes : (k : Class) (m : Method) → Old (k .version) → NoMaps m → firstNotesOfMethod k m ≡ notesOfMethod k m
+unfolding firstNotesOfMethod notesOfMethod
+same-notes k m old e = rw (e, same-verify (k .version) (m .code) (m .signature .result) old (length (m .code)) 0 (entryTypes k m)) (unfold flowInto mapAt _>>=_ in go _)
+  where
+    go : (x : Option (List Note)) → x ≡ (x >>= λ ns. some ([] ++ ns))
+    go none = unfold _>>=_ in refl
+    go (some ns) = unfold _>>=_ in refl
+
+pub same-all-notes : (k : Class) (ms : List Method) → Old (k .version) → All NoMaps ms → firstNotesOf k ms ≡ notesOf k ms
+unfolding firstNotesOf notesOf
+same-all-notes k [] old h = refl
+same-all-notes k (m ∷ ms) old h = bind-eq _ _ (same-notes k m old (h .0)) _ _ (λ ns. bind-eq _ _ (same-all-notes k ms old (h .1)) _ _ (λ rs. refl))
+
+pub is-mapped : (k : Class) (m : Method) → Old (k .version) → unmapped k m ≡ false
+unfolding unmapped
+is-mapped k m old = rw old refl
+
+pub none-unmapped : (k : Class) (ms : List Method) → Old (k .version) → any (unmapped k) ms ≡ false
+unfolding any
+none-unmapped k [] old = refl
+none-unmapped k (m ∷ ms) old = rw (is-mapped k m old, any) (none-unmapped k ms old)
+
+pub same-define : (room : Bool) (k : Class) (w : World) → OldClass k → firstDefine room k w ≡ define room k w
+unfolding firstDefine define
+same-define room k w h = rw (none-unmapped k (k .methods) (h .0), same-all-notes k (k .methods) (h .0) (h .1)) (unfold Answers._>>=_ Answers.need in refl)

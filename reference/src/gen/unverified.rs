@@ -1,0 +1,102 @@
+//! Damage to classes of version 2: jumps and maps that no verifier has seen, and frames among them.
+
+use super::build::{Code, Draft, MapDraft};
+use super::cases::MAIN;
+use super::damage::{add_unseen, is_whole, start_in, unused_name};
+use super::rng::Rng;
+use crate::code::op;
+use crate::file::MAPPED;
+use crate::store::{cell, frame_base, Store, INT, OBJECT};
+
+/// Does some class have a file of version 2 that define would refuse?
+pub fn has_unverified(store: &Store) -> bool {
+    let classes = if is_whole(store) { 1..store.counts[0].max(1) } else { 1..1 };
+    classes.into_iter().filter_map(|class| store.file(class)).any(|file| {
+        file.version() >= MAPPED && crate::verifier::refused(file, &mut |_, _| ()).is_err()
+    })
+}
+
+/// Is a task before a jump out of its code?
+pub fn jumps_out(store: &Store) -> bool {
+    let out = |task: usize| {
+        let target = crate::step::instruction_of(store, task)?.0.target()?;
+        let base = frame_base(task, store.frame_count(task) - 1);
+        let method = store.file(store.frames[base + cell::CLASS] as u16)?.method(store.frames[base + cell::METHOD] as usize)?;
+        Some(target >= method.code.len())
+    };
+    is_whole(store) && store.turn().and_then(out) == Some(true)
+}
+
+/// Code with jumps to anywhere, some of it counting, and maps at any offsets that rise.
+fn anywhere(rng: &mut Rng) -> Code {
+    let mut code = Code::new();
+    for _ in 0..rng.within(1, 9) {
+        let target = if rng.percent(85) { rng.below(30) as u16 } else { rng.word() };
+        code = match rng.below(7) {
+            0 => code.names(op::GOTO, &[target]),
+            1 => code.iload(1).names(op::IFEQ, &[target]),
+            2 => code.iload(1).int(rng.below(9) as i16).names(op::IF_ICMPLT, &[target]),
+            3 => code.iload(1).int(1).isub().istore(1),
+            4 => code.object(OBJECT).astore(2),
+            5 => code.iload(1).iload(1),
+            _ => code.aload(0).iload(1).invoke(OBJECT, MAIN, INT, INT),
+        };
+    }
+    let code = if rng.percent(60) { code.iload(1).ireturn() } else { code };
+    let mut offsets: Vec<u16> = (0..rng.below(4)).map(|_| rng.below(30) as u16).collect();
+    offsets.sort_unstable();
+    offsets.dedup();
+    let maps: Vec<MapDraft> = offsets.into_iter().map(|offset| MapDraft::new(offset, &[OBJECT, INT], &[])).collect();
+    code.with_maps(&maps)
+}
+
+/// A class of version 2 that no verifier has seen, and a task in it.
+pub fn unseen_jumps(rng: &mut Rng, store: &mut Store) {
+    if !is_whole(store) || store.cached(0, OBJECT) != Some(0) {
+        return;
+    }
+    let name = unused_name(store);
+    let code = if rng.percent(15) { Code::new().names(op::GOTO, &[rng.pick(&[3, 4, 500, 0xFFFF])]) } else { anywhere(rng) };
+    let draft = if rng.percent(90) { Draft::mapped(name) } else { Draft::new(name) };
+    if add_unseen(store, 0, &draft.main(MAIN, &code)).is_some() {
+        start_in(rng, store, 0, name);
+    }
+}
+
+/// The version byte of a class's file, which then may read by the other version's rules.
+pub fn other_version(rng: &mut Rng, store: &mut Store) {
+    let classes = store.counts.first().map_or(0, |&classes| usize::from(classes));
+    if !is_whole(store) || classes < 2 {
+        return;
+    }
+    let class = rng.within(1, classes - 1);
+    let start = usize::from(store.classes[3 * class + 1]);
+    store.kept[start] = rng.pick(&[1, 2, 3, 0]);
+}
+
+/// Bytes of a map, wherever they stand in it.
+pub fn map_bytes(rng: &mut Rng, store: &mut Store) {
+    let Some(class) = mapped_class(rng, store) else {
+        return;
+    };
+    let start = usize::from(store.classes[3 * class + 1]);
+    let end = start + usize::from(store.classes[3 * class + 2]);
+    let Some(method) = store.file(class as u16).and_then(|file| file.methods().find(|method| method.maps().next().is_some())) else {
+        return;
+    };
+    let behind = method.code.as_ptr() as usize - store.kept.as_ptr() as usize + method.code.len() + 1;
+    for _ in 0..rng.within(1, 3) {
+        let at = rng.within(behind, end.min(behind + 40) - 1);
+        store.kept[at] = rng.pick(&[0, 1, 2, 3, 10, 11, 12, 255]);
+    }
+}
+
+/// A class of version 2, one of a frame mostly.
+fn mapped_class(rng: &mut Rng, store: &Store) -> Option<usize> {
+    if !is_whole(store) {
+        return None;
+    }
+    let is_mapped = |&class: &u16| store.file(class).is_some_and(|file| file.version() >= MAPPED);
+    let all: Vec<u16> = (1..store.counts[0].max(1)).filter(is_mapped).collect();
+    (!all.is_empty()).then(|| usize::from(rng.pick(&all)))
+}
