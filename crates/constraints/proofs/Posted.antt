@@ -1,6 +1,6 @@
 -- Posting: when a constraint is there already, and what is written where one is added.
-use mathlib.Core.Path.{_≡_, refl}
-use mathlib.Core.Bool.{Bool, true, false, _&&_, _||_}
+use mathlib.Core.Path.{_≡_, refl, sym, _∙_}
+use mathlib.Core.Bool.{Bool, true, false, true≢false, _&&_, _||_}
 use mathlib.Core.List.{List, [], _∷_, _++_}
 use Prim.Native.Nat.{ℕ, _+_, _*_}
 use native.Mathlib.Omega.{arith}
@@ -31,21 +31,34 @@ module _ (t : List ℕ) (i l m n : ℕ) where
   tie-turned h e = rw (eq-eqb (getD t (i * 3 + 2) 0) n h, e) refl
 
 module _ (t : List ℕ) (i l a b : ℕ) where
-  pub subtype-not : (getD t (i * 3 + 1) 0 ≡ a → ⊥) → subtypeIs l (note a b) (subtypeAt t i) ≡ false
-  unfolding subtypeIs subtypeAt
-  subtype-not h = rw (ne-eqb (getD t (i * 3 + 1) 0) a h) (go (eqb (getD t (i * 3) 0) l))
-    where
-      go : (x : Bool) → (x && false && eqb (getD t (i * 3 + 2) 0) b) ≡ false
-      go true = refl
-      go false = refl
+  -- the names first, then the loader
+  turned : (x y z : Bool) → (x && y && z) ≡ (y && z && x)
+  turned true true true = refl
+  turned true true false = refl
+  turned true false z = refl
+  turned false true true = refl
+  turned false true false = refl
+  turned false false z = refl
 
-  pub subtype-low : getD t (i * 3 + 1) 0 ≡ a → subtypeIs l (note a b) (subtypeAt t i) ≡ (eqb (getD t (i * 3) 0) l && eqb (getD t (i * 3 + 2) 0) b)
+  names-first : subtypeIs l (note a b) (subtypeAt t i) ≡ (eqb (getD t (i * 3 + 1) 0) a && eqb (getD t (i * 3 + 2) 0) b && eqb (getD t (i * 3) 0) l)
   unfolding subtypeIs subtypeAt
-  subtype-low h = rw (eq-eqb (getD t (i * 3 + 1) 0) a h) (go (eqb (getD t (i * 3) 0) l))
+  names-first = turned (eqb (getD t (i * 3) 0) l) (eqb (getD t (i * 3 + 1) 0) a) (eqb (getD t (i * 3 + 2) 0) b)
+
+  pub subtype-not : (eqb (getD t (i * 3 + 1) 0) a && eqb (getD t (i * 3 + 2) 0) b) ≡ false → subtypeIs l (note a b) (subtypeAt t i) ≡ false
+  subtype-not h = names-first ∙ go (eqb (getD t (i * 3 + 1) 0) a) (eqb (getD t (i * 3 + 2) 0) b) h
     where
-      go : (x : Bool) → (x && true && eqb (getD t (i * 3 + 2) 0) b) ≡ (x && eqb (getD t (i * 3 + 2) 0) b)
-      go true = refl
-      go false = refl
+      go : (y z : Bool) → (y && z) ≡ false → (y && z && eqb (getD t (i * 3) 0) l) ≡ false
+      go true true q = absurd (true≢false q)
+      go true false q = refl
+      go false z q = refl
+
+  pub subtype-named : (eqb (getD t (i * 3 + 1) 0) a && eqb (getD t (i * 3 + 2) 0) b) ≡ true → subtypeIs l (note a b) (subtypeAt t i) ≡ eqb (getD t (i * 3) 0) l
+  subtype-named h = names-first ∙ go (eqb (getD t (i * 3 + 1) 0) a) (eqb (getD t (i * 3 + 2) 0) b) h
+    where
+      go : (y z : Bool) → (y && z) ≡ true → (y && z && eqb (getD t (i * 3) 0) l) ≡ eqb (getD t (i * 3) 0) l
+      go true true q = refl
+      go true false q = absurd (true≢false (sym q))
+      go false z q = absurd (true≢false (sym q))
 
 -- A tie
 

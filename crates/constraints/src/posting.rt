@@ -83,15 +83,13 @@ fn subtype_is(subtypes: &[u16], i: usize, loader: u8, low: u16, high: u16) -> bo
     requires { ⌜ i < shortRange ⌝ }
     ensures { λ r. ⌜ r ≡ subtypeIs loader (note low high) (subtypeAt (now (subtypes .entry)) i) ⌝ }
 {
-    if at16(subtypes, i * ROW_CELLS + 1) != low {
-        return false;
+    let first = at16(subtypes, i * ROW_CELLS + 1);
+    let second = at16(subtypes, i * ROW_CELLS + 2);
+    if are_equal(first, second, low, high) {
+        at16(subtypes, i * ROW_CELLS) == from8(loader)
+    } else {
+        false
     }
-    are_equal(
-        at16(subtypes, i * ROW_CELLS),
-        at16(subtypes, i * ROW_CELLS + 2),
-        from8(loader),
-        high,
-    )
 }
 
 // A subtype constraint is among the first rows.

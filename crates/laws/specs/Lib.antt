@@ -9,6 +9,7 @@ pub mod Growth
 pub mod Slots
 pub mod Members
 pub mod Sized
+pub mod WalkTurns
 pub mod Walk
 pub mod Points
 pub mod InOrder

@@ -6,7 +6,7 @@ use mathlib.Core.Bool.{Bool, true, false, false≢true}
 use mathlib.Core.Option.{Option, none, some, Option·none-ne-some, Option·some-injective}
 use mathlib.Core.List.{List, [], _∷_, _++_, List·Memᴰ, List·Memᴰ·head, List·Memᴰ·tail, Memᴰ·append-left, Memᴰ·append-right}
 use mathlib.Core.Logic.{_⊎_, inl, inr}
-use Prim.Native.Nat.{ℕ, zero, suc, _+_, _≤_, _<_}
+use Prim.Native.Nat.{ℕ, zero, suc, _+_, _≤_}
 use native.Mathlib.Omega.{arith}
 use lib.ListN.{length}
 use lib.Dec.{eqb, leb, ltb}
@@ -15,50 +15,14 @@ use Rattle.definition.specs.Classes.{Class, Map, Method}
 use Rattle.definition.specs.Instructions.{Decoded, decode}
 use Rattle.definition.specs.Maybe.{_>>=_, need}
 use Rattle.definition.specs.Lists.{toList}
-use Rattle.definition.specs.Verifier.{Flow, Note, Onward, Turn, TypeState, after, effect, entryTypes, finished, flowInto, flowToTarget, goesOn, mapAt, mapTypes, mapsPast, meetMap, notesOfMethod, onto, returnKind, returns, startAt, target, turn, typesAt, typesIn, verify}
+use Rattle.definition.specs.Verifier.{Flow, Note, Onward, Turn, TypeState, after, effect, entryTypes, finished, flowInto, flowToTarget, goesOn, mapAt, mapTypes, mapsPast, meetMap, notesOfMethod, onto, returns, startAt, target, turn, typesAt, typesIn, verify}
 use Rattle.definition.specs.declared.Kind.{Kind}
 use Rattle.definition.specs.declared.Instruction.{Instruction}
-use Rattle.definition.specs.declared.Instruction.the-variants.{AconstNull, Sipush, Load, Store, Pop, Dup, Arithmetic, Getfield, Putfield, Invokevirtual, New, Return, Branch}
+use Rattle.definition.specs.declared.Instruction.the-variants.{Return}
 use Rattle.laws.specs.Options.{bind-some, some-bind, need-true}
-use Rattle.laws.specs.Sized.{sized}
 
--- an instruction with a return's kind is that return
-pub return-is : (i : Instruction) (kind : Kind) → returnKind i ≡ some kind → i ≡ Return kind
-unfolding returnKind
-return-is AconstNull kind h = absurd (Option·none-ne-some kind h)
-return-is (Sipush n) kind h = absurd (Option·none-ne-some kind h)
-return-is (Load a n) kind h = absurd (Option·none-ne-some kind h)
-return-is (Store a n) kind h = absurd (Option·none-ne-some kind h)
-return-is Pop kind h = absurd (Option·none-ne-some kind h)
-return-is Dup kind h = absurd (Option·none-ne-some kind h)
-return-is (Arithmetic o) kind h = absurd (Option·none-ne-some kind h)
-return-is (Getfield c f t) kind h = absurd (Option·none-ne-some kind h)
-return-is (Putfield c f t) kind h = absurd (Option·none-ne-some kind h)
-return-is (Invokevirtual c s) kind h = absurd (Option·none-ne-some kind h)
-return-is (New c) kind h = absurd (Option·none-ne-some kind h)
-return-is (Branch c p) kind h = absurd (Option·none-ne-some kind h)
-return-is (Return a) kind h = ap Return (Option·some-injective a kind h)
-
--- the points to which an instruction that is no return goes on from point q
-abbrev pub successors : Decoded → ℕ → List ℕ
-successors i q = toList (target (i .instruction)) ++ elim (goesOn (i .instruction)) as (λ _. List ℕ) [ true ↦ (q + i .size) ∷ [] | false ↦ [] ]
-
-nothing : (left : List Map) → length left ≤ 0 → (q : ℕ) (m : Map) → mapAt left q ≡ some m → ⊥
-unfolding mapAt
-nothing [] l q m e = Option·none-ne-some m e
-nothing (x ∷ xs) l q m e = omega arith
-
-eqb-differs : (p q : ℕ) → eqb p q ≡ false → p ≡ q → ⊥
-eqb-differs p q z e = false≢true (sym z ∙ eq-eqb p q e)
-
--- where the walk goes on, and the types there
-pointOf : Onward → ℕ
-pointOf finished = 0
-pointOf (onto p s) = p
-
-typesOf : Onward → Option TypeState
-typesOf finished = none
-typesOf (onto p s) = some s
+pub use Rattle.laws.specs.WalkTurns.{return-is, successors, Turns, Types, Notes, Returned, Effected, turn-cases}
+use Rattle.laws.specs.WalkTurns.{After, after-cases, into-mapped, landed, nothing, eqb-differs, pointOf, typesOf}
 
 -- What is known of point q, where the types are τ, in code whose points have the types `types` and whose notes are ns
 
@@ -96,149 +60,6 @@ module _ (version : ℕ) (code : List ℕ) (maps : List Map) (result : ℕ) (typ
     pub next : (r : ℕ) (u : TypeState) → t .next ≡ onto r u → types r ≡ some u
 
 module _ (version : ℕ) (code : List ℕ) (maps : List Map) (result : ℕ) where
-  abbrev pub Turns : ℕ → TypeState → Turn → Type 0
-  Turns p s t = turn version code maps result p s ≡ some t
-
-  abbrev pub Types : ℕ → ℕ → List Map → TypeState → ℕ → Option TypeState
-  Types = typesAt version code maps result
-
-  abbrev pub Notes : ℕ → ℕ → List Map → TypeState → Option (List Note)
-  Notes = verify version code maps result
-
-  -- What a turn is: a return, or an effect and its flows
-
-  pub record Returned (p : ℕ) (s : TypeState) (t : Turn) (i : Decoded) : Type 0 where
-    pub kind : Kind
-    pub is : returnKind (i .instruction) ≡ some kind
-    pub does : returns kind result s ≡ some (t .notes)
-    pub then : startAt version code maps result (p + i .size) ≡ some (t .next)
-
-  pub record Effected (p : ℕ) (s : TypeState) (t : Turn) (i : Decoded) : Type 0 where
-    pub is : returnKind (i .instruction) ≡ none
-    pub f : Flow
-    pub does : effect (i .instruction) s ≡ some f
-    pub then : after version code maps result (i .instruction) (p + i .size) f ≡ some t
-
-  pub turn-cases : (p : ℕ) (s : TypeState) (t : Turn) → Turns p s t → (i : Decoded) × (decode version code p ≡ some i) × (Returned p s t i ⊎ Effected p s t i)
-  unfolding turn
-  turn-cases p s t h = let a = bind-some _ _ h in (a .0, a .1, go (a .0) (returnKind (a .0 .instruction)) refl (a .2))
-    where
-      go : (i : Decoded) (o : Option Kind) → returnKind (i .instruction) ≡ o → (elim o as (λ _. Option Turn) [
-        | some kind ↦ returns kind result s >>= λ ns. startAt version code maps result (p + i .size) >>= λ w. some (record { notes = ns; next = w })
-        | none ↦ effect (i .instruction) s >>= λ f. after version code maps result (i .instruction) (p + i .size) f
-      ]) ≡ some t → Returned p s t i ⊎ Effected p s t i
-      go i (some kind) e r =
-          let a = bind-some _ _ r in
-          let b = bind-some _ _ (a .2) in
-          let z : record { notes = a .0; next = b .0 } ≡ t = Option·some-injective _ _ (b .2) in
-          let zn : a .0 ≡ t .notes = ap (λ (x : Turn). x .notes) z in
-          let zo : b .0 ≡ t .next = ap (λ (x : Turn). x .next) z in
-          inl (record { kind = kind; is = e; does = rw zn at (a .1); then = rw zo at (b .1) })
-      go i none e r = let a = bind-some _ _ r in inr (record { is = e; f = a .0; does = a .1; then = a .2 })
-
-  -- after an effect: the notes into the target, and those into the next point or none
-  record Target (f : Flow) (t : Turn) (i : Decoded) : Type 0 where
-    ts : List Note
-    does : flowToTarget version code maps result (target (i .instruction)) (f .types) ≡ some ts
-    posted : (n : Note) → List·Memᴰ n ts → List·Memᴰ n (t .notes)
-
-  record Next (p : ℕ) (f : Flow) (t : Turn) : Type 0 where
-    g : Flow
-    does : flowInto version code maps result p (f .types) ≡ some g
-    posted : (n : Note) → List·Memᴰ n (g .notes) → List·Memᴰ n (t .notes)
-    onward : t .next ≡ onto p (g .types)
-
-  record After (p : ℕ) (f : Flow) (t : Turn) (i : Decoded) : Type 0 where
-    own : (n : Note) → List·Memᴰ n (f .notes) → List·Memᴰ n (t .notes)
-    there : Target f t i
-    then : ((goesOn (i .instruction) ≡ true) × Next p f t) ⊎ ((goesOn (i .instruction) ≡ false) × (startAt version code maps result p ≡ some (t .next)))
-
-  after-cases : (p : ℕ) (f : Flow) (t : Turn) (i : Decoded) → after version code maps result (i .instruction) p f ≡ some t → After p f t i
-  unfolding after
-  after-cases p f t i h = let a = bind-some _ _ h in go (a .0) (a .1) (goesOn (i .instruction)) refl (a .2)
-    where
-      go : (ts : List Note) → flowToTarget version code maps result (target (i .instruction)) (f .types) ≡ some ts → (b : Bool) → goesOn (i .instruction) ≡ b → (elim b as (λ _. Option Turn) [
-        | true ↦ flowInto version code maps result p (f .types) >>= λ g. some (record { notes = f .notes ++ (ts ++ g .notes); next = onto p (g .types) })
-        | false ↦ startAt version code maps result p >>= λ o. some (record { notes = f .notes ++ ts; next = o })
-      ]) ≡ some t → After p f t i
-      go ts d true e r =
-          let a = bind-some _ _ r in
-          let z : record { notes = f .notes ++ (ts ++ a .0 .notes); next = onto p (a .0 .types) } ≡ t = Option·some-injective _ _ (a .2) in
-          let zn : f .notes ++ (ts ++ a .0 .notes) ≡ t .notes = ap (λ (x : Turn). x .notes) z in
-          let zo : onto p (a .0 .types) ≡ t .next = ap (λ (x : Turn). x .next) z in
-          record {
-            own = λ n m. rw zn at (Memᴰ·append-left (ts ++ a .0 .notes) m);
-            there = record { ts = ts; does = d; posted = λ n m. rw zn at (Memᴰ·append-right (f .notes) (Memᴰ·append-left (a .0 .notes) m)) };
-            then = inl (e, record { g = a .0; does = a .1; posted = λ n m. rw zn at (Memᴰ·append-right (f .notes) (Memᴰ·append-right ts m)); onward = sym zo });
-          }
-      go ts d false e r =
-          let a = bind-some _ _ r in
-          let z : record { notes = f .notes ++ ts; next = a .0 } ≡ t = Option·some-injective _ _ (a .2) in
-          let zn : f .notes ++ ts ≡ t .notes = ap (λ (x : Turn). x .notes) z in
-          let zo : a .0 ≡ t .next = ap (λ (x : Turn). x .next) z in
-          record {
-            own = λ n m. rw zn at (Memᴰ·append-left ts m);
-            there = record { ts = ts; does = d; posted = λ n m. rw zn at (Memᴰ·append-right (f .notes) m) };
-            then = inr (e, rw zo at (a .1));
-          }
-
-  -- Where a turn goes on: behind its point, and with the types of the map that is there
-
-  record Landed (p q : ℕ) (u : TypeState) : Type 0 where
-    behind : p < q
-    mapped : (m : Map) → mapAt maps q ≡ some m → u ≡ mapTypes m
-
-  into-mapped : (q : ℕ) (s : TypeState) (g : Flow) → flowInto version code maps result q s ≡ some g → (m : Map) → mapAt maps q ≡ some m → g .types ≡ mapTypes m
-  unfolding flowInto
-  into-mapped q s g h m e = go (mapAt maps q) e h
-    where
-      go : (o : Option Map) → o ≡ some m → (elim o as (λ _. Option Flow) [
-        | none ↦ some (record { types = s; notes = [] })
-        | some x ↦ meetMap s x >>= λ ns. some (record { types = mapTypes x; notes = ns })
-      ]) ≡ some g → g .types ≡ mapTypes m
-      go none a r = absurd (Option·none-ne-some m a)
-      go (some x) a r =
-          let b = bind-some _ _ r in
-          let z : record { types = mapTypes x; notes = b .0 } ≡ g = Option·some-injective _ _ (b .2) in
-          let zt : mapTypes x ≡ g .types = ap (λ (y : Flow). y .types) z in
-          let zm : x ≡ m = Option·some-injective x m a in
-          rw zm at (sym zt)
-
-  start-cases : (p : ℕ) (q : ℕ) (u : TypeState) → startAt version code maps result p ≡ some (onto q u) → (p ≡ q) × ((m : Map) → mapAt maps q ≡ some m → u ≡ mapTypes m)
-  unfolding startAt pointOf typesOf
-  start-cases p q u h = go (eqb p (length code)) h
-    where
-      inner : (m : Map) → mapAt maps p ≡ some m → onto p (mapTypes m) ≡ onto q u → (p ≡ q) × ((x : Map) → mapAt maps q ≡ some x → u ≡ mapTypes x)
-      inner m e z =
-          let zp : p ≡ q = ap pointOf z in
-          let zt : some (mapTypes m) ≡ some u = ap typesOf z in
-          (zp, λ x d. let zx : m ≡ x = Option·some-injective m x (rw (zp, d) at (sym e)) in rw zx at (sym (Option·some-injective _ _ zt)))
-
-      go : (b : Bool) → (elim b as (λ _. Option Onward) [ true ↦ some finished | false ↦ mapAt maps p >>= λ m. some (onto p (mapTypes m)) ]) ≡ some (onto q u) → (p ≡ q) × ((m : Map) → mapAt maps q ≡ some m → u ≡ mapTypes m)
-      go true r = let z : none ≡ some u = ap typesOf (Option·some-injective _ _ r) in absurd (Option·none-ne-some u z)
-      go false r = let a = bind-some _ _ r in inner (a .0) (a .1) (Option·some-injective _ _ (a .2))
-
-  landed : (p : ℕ) (s : TypeState) (t : Turn) → Turns p s t → (q : ℕ) (u : TypeState) → t .next ≡ onto q u → Landed p q u
-  unfolding pointOf typesOf
-  landed p s t h q u e = let a = turn-cases p s t h in go (a .0) (a .1) (a .2)
-    where
-      behind : (i : Decoded) → decode version code p ≡ some i → p + i .size ≡ q → p < q
-      behind i r z = omega (arith, sized version code p i r)
-
-      starts : (i : Decoded) → decode version code p ≡ some i → startAt version code maps result (p + i .size) ≡ some (t .next) → Landed p q u
-      starts i r d = let a = start-cases (p + i .size) q u (rw e at d) in record { behind = behind i r (a .0); mapped = a .1 }
-
-      go : (i : Decoded) → decode version code p ≡ some i → Returned p s t i ⊎ Effected p s t i → Landed p q u
-      go i r (inl d) = starts i r (d .then)
-      go i r (inr d) = let a = after-cases (p + i .size) (d .f) t i (d .then) in elim (a .then) [
-        | inl (b, n) ↦
-            let z : onto (p + i .size) (n .g .types) ≡ onto q u = cc in
-            let zp : p + i .size ≡ q = ap pointOf z in
-            let zt : n .g .types ≡ u = Option·some-injective _ _ (ap typesOf z) in
-            record { behind = behind i r zp; mapped = λ m x. rw zt at (into-mapped (p + i .size) (d .f .types) (n .g) (n .does) m (rw zp x)) }
-        | inr (b, n) ↦ starts i r n
-      ]
-
   -- What is verified from a point on: a turn, at which all ends or which goes on to what is verified after it
 
   pub record Stops (left : List Map) (t : Turn) (ns : List Note) : Type 0 where
@@ -251,17 +72,17 @@ module _ (version : ℕ) (code : List ℕ) (maps : List Map) (result : ℕ) wher
     pub u : TypeState
     pub rest : List Note
     pub onward : t .next ≡ onto r u
-    pub then : Notes k r left u ≡ some rest
+    pub then : Notes version code maps result k r left u ≡ some rest
     pub all : t .notes ++ rest ≡ ns
 
   pub record Went (k p : ℕ) (left : List Map) (s : TypeState) (ns : List Note) : Type 0 where
     pub more : List Map
     pub t : Turn
     pub passes : mapsPast version code maps result p left ≡ some more
-    pub does : Turns p s t
+    pub does : Turns version code maps result p s t
     pub way : Stops more t ns ⊎ Continues k more t ns
 
-  pub went : (k p : ℕ) (left : List Map) (s : TypeState) (ns : List Note) → Notes (suc k) p left s ≡ some ns → Went k p left s ns
+  pub went : (k p : ℕ) (left : List Map) (s : TypeState) (ns : List Note) → Notes version code maps result (suc k) p left s ≡ some ns → Went k p left s ns
   unfolding verify
   went k p left s ns h =
       let a = bind-some _ _ h in
@@ -270,7 +91,7 @@ module _ (version : ℕ) (code : List ℕ) (maps : List Map) (result : ℕ) wher
     where
       go : (more : List Map) (t : Turn) (o : Onward) → t .next ≡ o → (elim o as (λ _. Option (List Note)) [
         | finished ↦ need (leb (length more) 0) >>= λ _. some (t .notes)
-        | onto q u ↦ Notes k q more u >>= λ ns. some (t .notes ++ ns)
+        | onto q u ↦ Notes version code maps result k q more u >>= λ ns. some (t .notes ++ ns)
       ]) ≡ some ns → Stops more t ns ⊎ Continues k more t ns
       go more t finished e r = let a = bind-some _ _ r in inl (record { ended = e; none = leb-true (length more) 0 (need-true _ (a .1)); all = Option·some-injective _ _ (a .2) })
       go more t (onto q u) e r = let a = bind-some _ _ r in inr (record { r = q; u = u; rest = a .0; onward = e; then = a .1; all = Option·some-injective _ _ (a .2) })
@@ -282,43 +103,43 @@ module _ (version : ℕ) (code : List ℕ) (maps : List Map) (result : ℕ) wher
     pub r : ℕ
     pub u : TypeState
     pub passes : mapsPast version code maps result p left ≡ some more
-    pub does : Turns p s t
+    pub does : Turns version code maps result p s t
     pub onward : t .next ≡ onto r u
-    pub then : Types k r more u q ≡ some τ
+    pub then : Types version code maps result k r more u q ≡ some τ
 
-  pub types-cases : (k p : ℕ) (left : List Map) (s : TypeState) (q : ℕ) (τ : TypeState) → Types (suc k) p left s q ≡ some τ → ((p ≡ q) × (s ≡ τ)) ⊎ On k p left s q τ
+  pub types-cases : (k p : ℕ) (left : List Map) (s : TypeState) (q : ℕ) (τ : TypeState) → Types version code maps result (suc k) p left s q ≡ some τ → ((p ≡ q) × (s ≡ τ)) ⊎ On k p left s q τ
   unfolding typesAt
   types-cases k p left s q τ h = let a = bind-some _ _ h in go (a .0) (a .1) (eqb p q) refl (a .2)
     where
-      further : (more : List Map) → mapsPast version code maps result p left ≡ some more → (t : Turn) → Turns p s t → (o : Onward) → t .next ≡ o
-          → (elim o as (λ _. Option TypeState) [ finished ↦ none | onto r u ↦ Types k r more u q ]) ≡ some τ → On k p left s q τ
+      further : (more : List Map) → mapsPast version code maps result p left ≡ some more → (t : Turn) → Turns version code maps result p s t → (o : Onward) → t .next ≡ o
+          → (elim o as (λ _. Option TypeState) [ finished ↦ none | onto r u ↦ Types version code maps result k r more u q ]) ≡ some τ → On k p left s q τ
       further more m t d finished e x = absurd (Option·none-ne-some τ x)
       further more m t d (onto r u) e x = record { more = more; t = t; r = r; u = u; passes = m; does = d; onward = e; then = x }
 
       go : (more : List Map) → mapsPast version code maps result p left ≡ some more → (b : Bool) → eqb p q ≡ b
-          → (elim b as (λ _. Option TypeState) [ true ↦ some s | false ↦ turn version code maps result p s >>= λ t. elim (t .next) as (λ _. Option TypeState) [ finished ↦ none | onto r u ↦ Types k r more u q ] ]) ≡ some τ
+          → (elim b as (λ _. Option TypeState) [ true ↦ some s | false ↦ turn version code maps result p s >>= λ t. elim (t .next) as (λ _. Option TypeState) [ finished ↦ none | onto r u ↦ Types version code maps result k r more u q ] ]) ≡ some τ
           → ((p ≡ q) × (s ≡ τ)) ⊎ On k p left s q τ
       go more m true e x = inl (eqb-true p q e, Option·some-injective s τ x)
       go more m false e x = let a = bind-some _ _ x in inr (further more m (a .0) (a .1) (a .0 .next) refl (a .2))
 
-  pub types-here : (k p : ℕ) (left more : List Map) (s : TypeState) → mapsPast version code maps result p left ≡ some more → Types (suc k) p left s p ≡ some s
+  pub types-here : (k p : ℕ) (left more : List Map) (s : TypeState) → mapsPast version code maps result p left ≡ some more → Types version code maps result (suc k) p left s p ≡ some s
   unfolding typesAt
   types-here k p left more s m = some-bind _ _ m (rw (eq-eqb p p refl) refl)
 
-  pub types-on : (k p : ℕ) (left : List Map) (s : TypeState) (q : ℕ) (τ : TypeState) → (p ≡ q → ⊥) → On k p left s q τ → Types (suc k) p left s q ≡ some τ
+  pub types-on : (k p : ℕ) (left : List Map) (s : TypeState) (q : ℕ) (τ : TypeState) → (p ≡ q → ⊥) → On k p left s q τ → Types version code maps result (suc k) p left s q ≡ some τ
   unfolding typesAt
   types-on k p left s q τ l o = some-bind _ _ (o .passes) (rw (ne-eqb p q l) (some-bind _ _ (o .does) (rw (o .onward) (o .then))))
 
-  pub types-first : (k p : ℕ) (left : List Map) (s : TypeState) (ns : List Note) → Notes k p left s ≡ some ns → Types k p left s p ≡ some s
+  pub types-first : (k p : ℕ) (left : List Map) (s : TypeState) (ns : List Note) → Notes version code maps result k p left s ≡ some ns → Types version code maps result k p left s p ≡ some s
   types-first zero p left s ns h = absurd (Option·none-ne-some ns (unfold verify in h))
   types-first (suc k) p left s ns h = let w = went k p left s ns h in types-here k p left (w .more) s (w .passes)
 
   -- no point before the one where the walk stands has types
-  types-le : (k p : ℕ) (left : List Map) (s : TypeState) (q : ℕ) (τ : TypeState) → Types k p left s q ≡ some τ → p ≤ q
+  types-le : (k p : ℕ) (left : List Map) (s : TypeState) (q : ℕ) (τ : TypeState) → Types version code maps result k p left s q ≡ some τ → p ≤ q
   types-le zero p left s q τ h = absurd (Option·none-ne-some τ (unfold typesAt in h))
   types-le (suc k) p left s q τ h = elim (types-cases k p left s q τ h) [
     | inl e ↦ omega (arith, e .0)
-    | inr o ↦ omega (arith, types-le k (o .r) (o .more) (o .u) q τ (o .then), landed p s (o .t) (o .does) (o .r) (o .u) (o .onward) .behind)
+    | inr o ↦ omega (arith, types-le k (o .r) (o .more) (o .u) q τ (o .then), landed version code maps result p s (o .t) (o .does) (o .r) (o .u) (o .onward) .behind)
   ]
 
   -- The maps left are the method's from the point on where the walk stands, which has its map's types
@@ -339,27 +160,27 @@ module _ (version : ℕ) (code : List ℕ) (maps : List Map) (result : ℕ) wher
           rw (← z, ne, mapAt) refl
       go false e x = let a = bind-some _ _ x in rw (← Option·some-injective _ _ (a .2)) refl
 
-  stands-on : (p : ℕ) (left more : List Map) (s : TypeState) (t : Turn) (r : ℕ) (u : TypeState) → mapsPast version code maps result p left ≡ some more → Turns p s t → t .next ≡ onto r u
+  stands-on : (p : ℕ) (left more : List Map) (s : TypeState) (t : Turn) (r : ℕ) (u : TypeState) → mapsPast version code maps result p left ≡ some more → Turns version code maps result p s t → t .next ≡ onto r u
       → Standing p left s → Standing r more u
   stands-on p left more s t r u m d e st =
-      let l = landed p s t d r u e in
+      let l = landed version code maps result p s t d r u e in
       let same : (q : ℕ) → r ≤ q → mapAt more q ≡ mapAt maps q = λ q x. let b = l .behind in past-same p left more m q (λ y. omega arith) ∙ st .left-there q (omega arith) in
       record { left-there = same; mapped = λ x y. l .mapped x (sym (same r (omega arith)) ∙ y) }
 
   -- every map's point has its types
-  visited : (k p : ℕ) (left : List Map) (s : TypeState) (ns : List Note) → Notes k p left s ≡ some ns → Standing p left s
-      → (q : ℕ) (m : Map) → mapAt left q ≡ some m → Types k p left s q ≡ some (mapTypes m)
+  visited : (k p : ℕ) (left : List Map) (s : TypeState) (ns : List Note) → Notes version code maps result k p left s ≡ some ns → Standing p left s
+      → (q : ℕ) (m : Map) → mapAt left q ≡ some m → Types version code maps result k p left s q ≡ some (mapTypes m)
   visited zero p left s ns h st q m e = absurd (Option·none-ne-some ns (unfold verify in h))
   visited (suc k) p left s ns h st q m e = let w = went k p left s ns h in go w (w .way) (eqb p q) refl (λ r more u rest. visited k r more u rest)
     where
       go : (w : Went k p left s ns) → Stops (w .more) (w .t) ns ⊎ Continues k (w .more) (w .t) ns → (b : Bool) → eqb p q ≡ b
-          → ((r : ℕ) (more : List Map) (u : TypeState) (rest : List Note) → Notes k r more u ≡ some rest → Standing r more u → (x : ℕ) (y : Map) → mapAt more x ≡ some y → Types k r more u x ≡ some (mapTypes y))
-          → Types (suc k) p left s q ≡ some (mapTypes m)
+          → ((r : ℕ) (more : List Map) (u : TypeState) (rest : List Note) → Notes version code maps result k r more u ≡ some rest → Standing r more u → (x : ℕ) (y : Map) → mapAt more x ≡ some y → Types version code maps result k r more u x ≡ some (mapTypes y))
+          → Types version code maps result (suc k) p left s q ≡ some (mapTypes m)
       go w c true z ih =
           let pq : p ≡ q = eqb-true p q z in
-          let here : Types (suc k) p left s p ≡ some s = types-here k p left (w .more) s (w .passes) in
+          let here : Types version code maps result (suc k) p left s p ≡ some s = types-here k p left (w .more) s (w .passes) in
           let sm : s ≡ mapTypes m = st .mapped m (rw (← pq) at e) in
-          subst (λ x. Types (suc k) p left s x ≡ some (mapTypes m)) pq (here ∙ ap some sm)
+          subst (λ x. Types version code maps result (suc k) p left s x ≡ some (mapTypes m)) pq (here ∙ ap some sm)
       go w (inl c) false z ih = absurd (nothing (w .more) (c .none) q m (past-same p left (w .more) (w .passes) q (eqb-differs p q z) ∙ e))
       go w (inr c) false z ih =
           let d : p ≡ q → ⊥ = eqb-differs p q z in
@@ -375,19 +196,19 @@ module _ (version : ℕ) (code : List ℕ) (maps : List Map) (result : ℕ) wher
           })
 
   -- where the walk has been, a turn was made, its notes are posted, and its next point has types
-  turns : (k p : ℕ) (left : List Map) (s : TypeState) (ns : List Note) (q : ℕ) (τ : TypeState) → Notes k p left s ≡ some ns → Types k p left s q ≡ some τ
-      → Turned version code maps result (Types k p left s) ns q τ
+  turns : (k p : ℕ) (left : List Map) (s : TypeState) (ns : List Note) (q : ℕ) (τ : TypeState) → Notes version code maps result k p left s ≡ some ns → Types version code maps result k p left s q ≡ some τ
+      → Turned version code maps result (Types version code maps result k p left s) ns q τ
   unfolding pointOf typesOf
   turns zero p left s ns q τ v h = absurd (Option·none-ne-some τ (unfold typesAt in h))
   turns (suc k) p left s ns q τ v h = let w = went k p left s ns v in go w (w .way) (types-cases k p left s q τ h) (λ r more u rest. turns k r more u rest q τ)
     where
-      later : (w : Went k p left s ns) (r : ℕ) (u : TypeState) → w .t .next ≡ onto r u → (x : ℕ) (σ : TypeState) → Types k r (w .more) u x ≡ some σ → Types (suc k) p left s x ≡ some σ
+      later : (w : Went k p left s ns) (r : ℕ) (u : TypeState) → w .t .next ≡ onto r u → (x : ℕ) (σ : TypeState) → Types version code maps result k r (w .more) u x ≡ some σ → Types version code maps result (suc k) p left s x ≡ some σ
       later w r u e x σ a =
-          let b = landed p s (w .t) (w .does) r u e .behind in
+          let b = landed version code maps result p s (w .t) (w .does) r u e .behind in
           let c = types-le k r (w .more) u x σ a in
           types-on k p left s x σ (λ y. omega arith) (record { more = w .more; t = w .t; r = r; u = u; passes = w .passes; does = w .does; onward = e; then = a })
 
-      here : (w : Went k p left s ns) → Stops (w .more) (w .t) ns ⊎ Continues k (w .more) (w .t) ns → Turned version code maps result (Types (suc k) p left s) ns p s
+      here : (w : Went k p left s ns) → Stops (w .more) (w .t) ns ⊎ Continues k (w .more) (w .t) ns → Turned version code maps result (Types version code maps result (suc k) p left s) ns p s
       here w (inl c) = record {
         t = w .t;
         does = w .does;
@@ -406,9 +227,9 @@ module _ (version : ℕ) (code : List ℕ) (maps : List Map) (result : ℕ) wher
       }
 
       go : (w : Went k p left s ns) → Stops (w .more) (w .t) ns ⊎ Continues k (w .more) (w .t) ns → ((p ≡ q) × (s ≡ τ)) ⊎ On k p left s q τ
-          → ((r : ℕ) (more : List Map) (u : TypeState) (rest : List Note) → Notes k r more u ≡ some rest → Types k r more u q ≡ some τ → Turned version code maps result (Types k r more u) rest q τ)
-          → Turned version code maps result (Types (suc k) p left s) ns q τ
-      go w c (inl e) ih = subst₂ (λ x y. Turned version code maps result (Types (suc k) p left s) ns x y) (e .0) (e .1) (here w c)
+          → ((r : ℕ) (more : List Map) (u : TypeState) (rest : List Note) → Notes version code maps result k r more u ≡ some rest → Types version code maps result k r more u q ≡ some τ → Turned version code maps result (Types version code maps result k r more u) rest q τ)
+          → Turned version code maps result (Types version code maps result (suc k) p left s) ns q τ
+      go w c (inl e) ih = subst₂ (λ x y. Turned version code maps result (Types version code maps result (suc k) p left s) ns x y) (e .0) (e .1) (here w c)
       go w (inl c) (inr o) ih =
           let zt : w .t ≡ o .t = Option·some-injective _ _ (sym (w .does) ∙ o .does) in
           let z : some (o .u) ≡ none = ap typesOf (sym (o .onward) ∙ (rw zt at (c .ended))) in
@@ -438,9 +259,9 @@ module _ (version : ℕ) (code : List ℕ) (maps : List Map) (result : ℕ) wher
 
     known-of : (q : ℕ) (τ : TypeState) → Turned version code maps result types ns q τ → Known version code maps result types ns q τ
     unfolding toList
-    known-of q τ d = let a = turn-cases q τ (d .t) (d .does) in record { at = a .0; reads = a .1; way = go (a .0) (a .2) }
+    known-of q τ d = let a = turn-cases version code maps result q τ (d .t) (d .does) in record { at = a .0; reads = a .1; way = go (a .0) (a .2) }
       where
-        flows : (i : Decoded) (e : Effected q τ (d .t) i) → After (q + i .size) (e .f) (d .t) i → (p : ℕ) → List·Memᴰ p (successors i q) → Into version code maps result types ns p (e .f .types)
+        flows : (i : Decoded) (e : Effected version code maps result q τ (d .t) i) → After version code maps result (q + i .size) (e .f) (d .t) i → (p : ℕ) → List·Memᴰ p (successors i q) → Into version code maps result types ns p (e .f .types)
         flows i e a = each (target (i .instruction)) refl (goesOn (i .instruction)) refl
           where
             straight : (p : ℕ) (b : Bool) → goesOn (i .instruction) ≡ b → List·Memᴰ p (elim b as (λ _. List ℕ) [ true ↦ (q + i .size) ∷ [] | false ↦ [] ]) → Into version code maps result types ns p (e .f .types)
@@ -455,10 +276,10 @@ module _ (version : ℕ) (code : List ℕ) (maps : List Map) (result : ℕ) wher
             each (some x) t b g p (List·Memᴰ·head z) = rw z (into-target x (e .f .types) (a .there .ts) (rw t at (a .there .does)) (λ n m. d .posted n (a .there .posted n m)))
             each (some x) t b g p (List·Memᴰ·tail m) = straight p b g m
 
-        go : (i : Decoded) → Returned q τ (d .t) i ⊎ Effected q τ (d .t) i → Ends version code maps result types ns τ i ⊎ Goes version code maps result types ns q τ i
+        go : (i : Decoded) → Returned version code maps result q τ (d .t) i ⊎ Effected version code maps result q τ (d .t) i → Ends version code maps result types ns τ i ⊎ Goes version code maps result types ns q τ i
         go i (inl e) = inl (record { kind = e .kind; is = return-is (i .instruction) (e .kind) (e .is); made = d .t .notes; does = e .does; posted = d .posted })
         go i (inr e) =
-            let a = after-cases (q + i .size) (e .f) (d .t) i (e .then) in
+            let a = after-cases version code maps result (q + i .size) (e .f) (d .t) i (e .then) in
             inr (record { flows = e .f; does = e .does; posted = λ n m. d .posted n (a .own n m); next = flows i e a })
 
   -- Types that have P throughout, the entry's, those of maps and those that effects leave, make notes that have N
@@ -516,23 +337,23 @@ module _ (version : ℕ) (code : List ℕ) (maps : List Map) (result : ℕ) wher
             subst TurnHas (Option·some-injective _ _ (a .2)) (join (f .notes) (ts ++ a .0 .notes) (h .1) (join ts (a .0 .notes) n (g .1)), g .0)
         go ts n false r = let a = bind-some _ _ r in subst TurnHas (Option·some-injective _ _ (a .2)) (join (f .notes) ts (h .1) n, start-has p (a .0) (a .1))
 
-    turn-has : (p : ℕ) (s : TypeState) (t : Turn) → P s → Turns p s t → TurnHas t
-    turn-has p s t h d = let a = turn-cases p s t d in elim (a .2) [
+    turn-has : (p : ℕ) (s : TypeState) (t : Turn) → P s → Turns version code maps result p s t → TurnHas t
+    turn-has p s t h d = let a = turn-cases version code maps result p s t d in elim (a .2) [
       | inl r ↦ (last (r .kind) s (t .notes) h (r .does), start-has (p + a .0 .size) (t .next) (r .then))
       | inr e ↦ after-has (a .0 .instruction) (p + a .0 .size) (e .f) t (on p (a .0) s (e .f) (a .1) h (e .does)) (e .then)
     ]
 
-    verify-has : (k p : ℕ) (left : List Map) (s : TypeState) (ns : List Note) → P s → Notes k p left s ≡ some ns → N ns
+    verify-has : (k p : ℕ) (left : List Map) (s : TypeState) (ns : List Note) → P s → Notes version code maps result k p left s ≡ some ns → N ns
     verify-has zero p left s ns h v = absurd (Option·none-ne-some ns (unfold verify in v))
     verify-has (suc k) p left s ns h v = let w = went k p left s ns v in go w (turn-has p s (w .t) h (w .does)) (w .way) (λ r more u rest. verify-has k r more u rest)
       where
         go : (w : Went k p left s ns) → TurnHas (w .t) → Stops (w .more) (w .t) ns ⊎ Continues k (w .more) (w .t) ns
-            → ((r : ℕ) (more : List Map) (u : TypeState) (rest : List Note) → P u → Notes k r more u ≡ some rest → N rest) → N ns
+            → ((r : ℕ) (more : List Map) (u : TypeState) (rest : List Note) → P u → Notes version code maps result k r more u ≡ some rest → N rest) → N ns
         go w x (inl c) ih = subst N (c .all) (x .0)
         go w x (inr c) ih = subst N (c .all) (join (w .t .notes) (c .rest) (x .0) (ih (c .r) (w .more) (c .u) (c .rest) (subst OnwardHas (c .onward) (x .1)) (c .then)))
 
   standing : (s : TypeState) (f : Flow) → flowInto version code maps result 0 s ≡ some f → Standing 0 maps (f .types)
-  standing s f h = record { left-there = λ q l. refl; mapped = λ m e. into-mapped 0 s f h m e }
+  standing s f h = record { left-there = λ q l. refl; mapped = λ m e. into-mapped version code maps result 0 s f h m e }
 
 -- What is verified of a method
 
