@@ -3,7 +3,7 @@
 //! Every table passes as pointer and length, in the order of docs/STORE.md, then the call's own arguments, then the answer table. A call
 //! returns its refusal's number, 0 if it is accepted. What the answer table receives is said by `expected` alone.
 
-use crate::answer::{Answer, Refusal, Reply};
+use crate::answer::{word, Answer, Refusal, Reply};
 
 #[cfg(feature = "host")]
 pub use library::make;
@@ -29,7 +29,7 @@ pub struct Told {
 /// | 1 | defined | class | 0 | 0 | 0 |
 /// | 2 | a step's: idle, ran, finished | 0, 1, 2 | task | int | 0 |
 /// | 3 | a run's | as of its last step | the same | the same | steps that ran |
-/// | 4 | denied | 0 | 0 | 0 | 0 |
+/// | 4 | denied | 0 | 0 | 0 | 0; of a tried load that clashes, the rows of the chain |
 /// | 5 | swept | objects freed | 0 | 0 | 0 |
 ///
 /// Where a class is wanted, one is the loader, two the name, three the task at its turn if a step wants it. The number in the cells is the
@@ -43,6 +43,7 @@ pub fn expected(reply: Reply, turn: u32) -> Told {
         Reply::Stepped(answer) => stepped(2, answer, turn, 0),
         Reply::RanFor(ran, answer) => stepped(3, answer, turn, ran.into()),
         Reply::Denied(refusal) => refused(4, refusal, 0, 0),
+        Reply::Clashed(rows) => refused(4, Refusal::Word(word::CLASH), 0, rows.into()),
         Reply::Swept(freed) => [5, 0, freed.into(), 0, 0, 0],
     };
     Told { number, cells }
