@@ -101,6 +101,12 @@ mod library {
         tariff_sweep();
     }
 
+    #[cfg(feature = "tries")]
+    declare! {
+        tariff_try_define(loader: u32, file: *const u8, file_length: usize, list: *mut u16, list_length: usize);
+        tariff_try_record(loader: u32, name: u32, class: u32, list: *mut u16, list_length: usize);
+    }
+
     /// Calls a function with the tables of a store, these arguments and an answer table.
     macro_rules! lend {
         ($name:ident, $store:ident, $answer:ident $(, $argument:expr)*) => {
@@ -119,8 +125,8 @@ mod library {
         };
     }
 
-    /// Makes the call by the library, with this answer table: the number that it returns.
-    pub fn make(call: &Call, store: &mut Store, answer: &mut [u32]) -> u8 {
+    /// Makes the call by the library, with this answer table, and for a try with this list: the number that it returns.
+    pub fn make(call: &Call, store: &mut Store, answer: &mut [u32], list: &mut [u16]) -> u8 {
         // SAFETY: every pointer comes with the length of a slice that lives through the call.
         unsafe {
             match *call {
@@ -136,6 +142,16 @@ mod library {
                 Call::Run { n } => lend!(tariff_run, store, answer, n),
                 Call::Drop { task } => lend!(tariff_drop, store, answer, task),
                 Call::Sweep => lend!(tariff_sweep, store, answer),
+                #[cfg(feature = "tries")]
+                Call::TryDefine { loader, ref file, .. } => {
+                    lend!(tariff_try_define, store, answer, loader, file.as_ptr(), file.len(), list.as_mut_ptr(), list.len())
+                }
+                #[cfg(feature = "tries")]
+                Call::TryRecord { loader, name, class, .. } => {
+                    lend!(tariff_try_record, store, answer, loader, name, class, list.as_mut_ptr(), list.len())
+                }
+                #[cfg(not(feature = "tries"))]
+                Call::TryDefine { .. } | Call::TryRecord { .. } => panic!("a library without tries, lent {} cells", list.len()),
             }
         }
     }

@@ -5,6 +5,7 @@ pub mod build;
 pub mod cases;
 pub mod cells;
 pub mod chains;
+pub mod clashes;
 pub mod codes;
 pub mod damage;
 pub mod drives;
@@ -16,6 +17,7 @@ pub mod limits;
 pub mod list;
 pub mod loops;
 pub mod mapped;
+pub mod numbers;
 pub mod objects;
 pub mod plain;
 pub mod reach;
@@ -28,7 +30,9 @@ pub mod unverified;
 pub mod walk;
 
 use crate::answer::Reply;
-use crate::store::Store;
+use crate::breaks::breaks;
+use crate::load::{judge, plan_define, plan_record, Plan};
+use crate::store::{Store, MOST_ROWS};
 use crate::{boot, define, drop_task, record, run, start, step, sweep, try_define, try_record};
 
 /// One call with its arguments.
@@ -47,7 +51,7 @@ pub enum Call {
     TryRecord { loader: u32, name: u32, class: u32, cells: usize },
 }
 
-pub const CALLS: [&str; 10] = ["boot", "define", "record", "start", "step", "run", "drop", "sweep", "trydefine", "tryrecord"];
+pub const CALLS: [&str; 10] = ["boot", "define", "record", "start", "step", "run", "drop", "sweep", "try define", "try record"];
 
 impl Call {
     /// The call's place in `CALLS`.
@@ -82,6 +86,24 @@ impl Call {
             Call::TryRecord { loader, name, class, .. } => Some(Call::Record { loader, name, class }),
             _ => None,
         }
+    }
+
+    /// What a load, or a try's load, would add, if no word before 9 refuses it and it adds anything.
+    pub fn plan(&self, store: &Store) -> Option<Plan> {
+        match *self {
+            Call::Define { loader, ref file } | Call::TryDefine { loader, ref file, .. } => {
+                plan_define(store, loader, file, MOST_ROWS, judge).ok()
+            }
+            Call::Record { loader, name, class } | Call::TryRecord { loader, name, class, .. } => {
+                plan_record(store, loader, name, class, MOST_ROWS).ok()?
+            }
+            _ => None,
+        }
+    }
+
+    /// Are these the rows of a chain that breaks agreement after the load?
+    pub fn is_reason(&self, store: &Store, list: &[u16]) -> bool {
+        self.plan(store).is_some_and(|plan| breaks(store, &plan.added(), &plan.classes, list))
     }
 
     /// How many cells the list has that the call is lent.
