@@ -63,7 +63,7 @@ pub const FAULTS: [Listing; 20] = [
             }
         })
     }),
-    ("a-clash-yields-no-chain", |call, store, list| match call.apply_listing(store, &mut list.to_vec()) {
+    ("a-clash-yields-no-chain", |call, store, list| match call.apply_listing(&mut store.clone(), &mut list.to_vec()) {
         Reply::Clashed(_) => Some(Reply::Clashed(0)),
         _ => None,
     }),
@@ -139,6 +139,7 @@ fn downward(constraint: Constraint) -> Vec<(Request, Request)> {
 
 /// A try whose chain is changed before it is listed.
 fn relisted(call: &Call, store: &mut Store, list: &mut [u16], change: impl Fn(&Store, &Plan, &mut Vec<u16>)) -> Option<Reply> {
+    call.load()?;
     let mut own = list.to_vec();
     let Reply::Clashed(rows) = call.apply_listing(store, &mut own) else {
         return None;
@@ -203,7 +204,7 @@ fn new_rows(call: &Call, store: &Store) -> Option<[u16; 2]> {
 
 /// A define whose rows get another number, by the right one, the row's place in its table, and the first cell of the table's numbers.
 fn defined(call: &Call, store: &mut Store, number: impl Fn(u16, u16, usize) -> u16) -> Option<Reply> {
-    if !has_numbers(store) {
+    if !has_numbers(store) || !matches!(call, Call::Define { .. }) {
         return None;
     }
     let before = [store.count(count::TIES), store.count(count::SUBTYPES)];
