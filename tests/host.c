@@ -215,9 +215,15 @@ static void tie_by_a_step(void)
     accepts("loader 2 asks for it", record(2, 10, 1));
     defines("its caller", define(2, 13, 2, 0, 1, CODE(0xBB, 0, 10, 0x01, 0xB6, 0, 10, 0, 20, 0, 12, 0, 1, 0xAC)), 2);
     accepts("a quote", start(TARIFF_QUOTE, 2, 13, 20, 7));
+#ifdef TARIFF_TRY
+    set(0, TIE_NUMBERS, 77);
+#endif
     keep(&first);
     expect("a call across loaders", run(9), 0, SIX(TARIFF_RAN_FOR, 0, TARIFF_FINISHED, TARIFF_QUOTE, 0, 5));
     check("its tie", ((uint16_t *)table[0])[3] == 1 && memcmp(table[4], tie, sizeof tie) == 0);
+#ifdef TARIFF_TRY
+    check("its tie's number", ((uint16_t *)table[0])[TIE_NUMBERS] == 0);
+#endif
     put_back(&first);
     defines("loader 1's 12", define(1, 12, 2, 0, 0, 0, NULL), 3);
     defines("loader 2's 12", define(2, 12, 2, 0, 0, 0, NULL), 4);
@@ -546,7 +552,7 @@ static void long_list(void)
     refuses("a file cut off", tried(cut), TARIFF_FILE);
 }
 
-/* Notes that 14 is below 12, by a class that uses one for the other. */
+/* Notes that a name is below another, by using one for the other. */
 #define BELOW(low, high) CODE(0xBB, 0, low, 0xB4, 0, high, 0, 5, 0, 1, 0xAC)
 
 /* A subtype constraint before a tie, the load's own row behind them, and an answer table without a cell for the length. */
@@ -579,6 +585,21 @@ static void mixed_chains(void)
         set(0, SUBTYPE_NUMBERS + row, 65535);
     }
     clashes("numbers of rows that aren't used", define(2, 14, 2, 0, 0, 0, NULL), ROWS(0, 1), 0);
+}
+
+/* A define posts its notes, then its ties, and both are numbered so. */
+static void numbers(void)
+{
+    const uint16_t *counts = table[0];
+    tied();
+    accepts("loader 3 asks for class 10", record(3, 10, 1));
+    defines("a note and a tie", define(3, 17, 10, 0, 12, BELOW(18, 19)), 4);
+    check("the note, then the tie", counts[3] == 2 && counts[4] == 1 && counts[SUBTYPE_NUMBERS] == 1 && counts[TIE_NUMBERS + 1] == 2);
+    clashes("loader 3's own 12", define(3, 12, 2, 0, 0, 0, NULL), ROWS(2), 1);
+    tied();
+    accepts("loader 3 asks for class 10", record(3, 10, 1));
+    defines("loader 3's own 12", define(3, 12, 2, 0, 0, 0, NULL), 4);
+    clashes("the tie behind the note", define(3, 17, 10, 0, 12, BELOW(18, 19)), ROWS(2), 1);
 }
 
 /* 256 ties and 256 subtype constraints in turn, from name 300 of loader 0 up to name 556 of loader 0, which is loaded. */
@@ -620,6 +641,7 @@ static void trying(void)
     short_list();
     lend_all();
     mixed_chains();
+    numbers();
     longest_chain();
 }
 #endif

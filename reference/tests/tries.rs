@@ -9,7 +9,7 @@ use reference::broken::unbroken;
 use reference::classes::Classes;
 use reference::gen::build::{Code, Draft};
 use reference::gen::chains::chains;
-use reference::gen::clashes::{cases, clash};
+use reference::gen::clashes::{below_and_tied, cases, clash};
 use reference::gen::damage::{damaged, probes};
 use reference::gen::list::list;
 use reference::gen::numbers::{renumber, WRONG};
@@ -100,6 +100,22 @@ fn clashes_with_a_purpose() {
     for (what, store, call, rows) in cases() {
         let chain = all_lists(&store, &call, what).unwrap_or_else(|| panic!("{what}: no clash"));
         assert!(rows.is_none_or(|rows| rows == chain.len()), "{what}: {chain:?}");
+    }
+}
+
+/// What breaks is the chain that is listed. A chain of ties alone may be listed from either end.
+#[test]
+fn a_chain_that_agrees_is_no_reason() {
+    let (store, load) = below_and_tied();
+    for (rows, is_reason) in [
+        (&[3][..], true), (&[0, 1, 2], false), (&[3, 0], true), (&[0, 3], false), (&[2, 3], true), (&[3, 2], false), (&[3, 0, 1], true),
+        (&[2, 1, 0], false), (&[3, 3], false), (&[], false), (&[4], false), (&[3, 0, 1, 2], false),
+    ] {
+        assert_eq!(load.is_reason(&store, rows), is_reason, "{rows:?}");
+    }
+    let (store, load) = cases().into_iter().find(|case| case.0 == "an unloaded middle").map(|case| (case.1, case.2)).expect("a case");
+    for (rows, is_reason) in [([0, 1], true), ([1, 0], true), ([0, 0], false)] {
+        assert_eq!(load.is_reason(&store, &rows), is_reason, "{rows:?}");
     }
 }
 

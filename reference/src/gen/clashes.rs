@@ -110,25 +110,30 @@ fn stored() -> Vec<Clash> {
     ]
 }
 
+/// Loader 2's 13 is below its 12, and loader 1 has it too. A 12 of loader 1 below that 13 is below loader 2's 12, as the mixed chain of rows 0 to
+/// 2 demands, but it isn't the same, as row 3 does: the mixed chain is no reason, though the tie joins its ends.
+pub fn below_and_tied() -> (Store, Call) {
+    let mut trial = defined(&[2], 12);
+    trial.define(2, &Draft::new(13).under(12));
+    trial.record(1, 13, 2);
+    let rows = [subtype(1, 12, 13), tie(1, 2, 13), subtype(2, 13, 12), tie(1, 2, 12)];
+    (with(trial, &rows), define(1, &Draft::new(12).under(13)))
+}
+
 /// Chains in which the first class is below the last, though others break.
 fn agreeing() -> Vec<Clash> {
-    // Loader 1's 11 is below its 12. Under loader 2, 11 is recorded as loader 1's 11.
-    let family = || {
-        let mut trial = defined(&[1], 12);
-        trial.define(1, &Draft::new(11).under(12));
-        trial.define(3, &Draft::new(12));
-        trial
-    };
-    let mixed = [subtype(1, 11, 12), tie(1, 2, 11), subtype(2, 11, 12), tie(2, 3, 12)];
-    // A class of loader 4 named 12 below loader 1's 12: tied to it, they are two; led to it, they agree.
-    let mut below = defined(&[1], 12);
-    below.record(4, 12, 1);
-    below.define(5, &Draft::new(13));
-    let lower = [tie(5, 6, 12), subtype(5, 13, 12), tie(1, 6, 12)];
+    let (both, lower) = below_and_tied();
+    // Loader 1's 11 is below its 12, and loader 3 has a 12 of its own.
+    let mut family = defined(&[1, 3], 12);
+    family.define(1, &Draft::new(11).under(12));
+    let mixed = [subtype(1, 11, 12), subtype(2, 11, 12), tie(2, 3, 12)];
+    let mut one = defined(&[1], 12);
+    one.define(1, &Draft::new(13).under(12));
+    one.record(2, 13, 2);
     vec![
-        ("a mixed chain that agrees beside one that breaks", with(family(), &mixed), record(2, 11, 2), None),
-        ("a class tied to one above it", with(family(), &[tie(1, 2, 12)]), define(2, &Draft::new(12)), Some(1)),
-        ("a lower class through ties and below", with(below, &lower), define(5, &Draft::new(12).under(13)), None),
+        ("a mixed chain that agrees between tied requests", both, lower, None),
+        ("a mixed chain that agrees beside one that breaks", with(family, &mixed), record(2, 11, 3), Some(2)),
+        ("a class tied to one above it", with(one, &[tie(1, 2, 12)]), define(2, &Draft::new(12).under(13)), Some(1)),
     ]
 }
 
