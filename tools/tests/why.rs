@@ -41,7 +41,6 @@ fn the_chain_is_said_row_by_row() {
         "row 1: a tie, Discount is one class under loaders 3 and 2; on to",
         "Discount of loader 2 (not loaded)",
         "row 2: a subtype constraint, Bonus is below Discount under loader 2; on to Discount of loader 2",
-        "why: 1 row leads from Discount of loader 2 (class 4) to Bonus of loader 2 (class 6)",
         "row 3, the load's own: a subtype constraint, Discount is below Bonus under loader 2; on to Bonus of loader 2 (class 6)",
         "so the first must be the last or below it, and class 4 isn't class 6 or below",
     ] {
