@@ -18,7 +18,7 @@ use crate::faults::stepping;
 pub type Listing = (&'static str, fn(&Call, &mut Store, &mut [u16]) -> Option<Reply>);
 
 /// Chains that are no reasons first, then how they are listed and told, when word 16 is given, and last the numbers of rows.
-pub const FAULTS: [Listing; 20] = [
+pub const FAULTS: [Listing; 23] = [
     ("a-subtype-is-walked-downward", |call, store, list| replaced(call, store, list, downward, |_, classes, a, b| !classes.below(a, b))),
     ("a-chain-between-requests-that-agree", |call, store, list| {
         replaced(call, store, list, breaks::ways, |chain, _, a, b| chain.iter().all(is_tie) && a == b)
@@ -66,6 +66,15 @@ pub const FAULTS: [Listing; 20] = [
     ("a-clash-yields-no-chain", |call, store, list| match call.apply_listing(&mut store.clone(), &mut list.to_vec()) {
         Reply::Clashed(_) => Some(Reply::Clashed(0)),
         _ => None,
+    }),
+    ("no-chain-without-the-newcomer", |call, store, list| {
+        unlisted(call, store, list, |_, plan, requests| !requests.contains(&(plan.entry[0], plan.entry[1])))
+    }),
+    ("no-chain-through-an-unloaded-request", |call, store, list| {
+        unlisted(call, store, list, |store, plan, requests| {
+            let is_loaded = |at: &Request| entries(store, &plan.added()).any(|row| (row[0], row[1]) == *at);
+            !requests.iter().all(is_loaded)
+        })
     }),
     ("a-list-is-written-without-a-clash", |call, store, list| {
         let reply = call.load().map(|_| call.apply_listing(store, list))?;
@@ -118,6 +127,13 @@ pub const FAULTS: [Listing; 20] = [
             answer
         })
     }),
+    ("boot-clears-the-numbers", |call, store, _| {
+        let is_booted = *call == Call::Boot && call.apply(store) == Reply::Accepted;
+        is_booted.then(|| {
+            store.counts[count::TIE_NUMBERS..].fill(0);
+            Reply::Accepted
+        })
+    }),
     ("constraints-are-numbered-by-table", |call, store, _| {
         defined(call, store, |_, place, _| place)
     }),
@@ -148,6 +164,20 @@ fn relisted(call: &Call, store: &mut Store, list: &mut [u16], change: impl Fn(&S
     change(store, &call.plan(store)?, &mut chain);
     list[..chain.len()].copy_from_slice(&chain);
     Some(Reply::Clashed(chain.len() as u16))
+}
+
+/// A try that finds no chain for a clash, where the requests along the right one are such.
+fn unlisted(call: &Call, store: &mut Store, list: &[u16], is_missed: fn(&Store, &Plan, &[Request]) -> bool) -> Option<Reply> {
+    call.load()?;
+    let mut own = list.to_vec();
+    let Reply::Clashed(rows) = call.apply_listing(store, &mut own) else {
+        return None;
+    };
+    let plan = call.plan(store)?;
+    let constraints = numbered(store, &plan.added());
+    let chain: Vec<Constraint> = own[..rows.into()].iter().map(|&row| constraints[usize::from(row)]).collect();
+    let requests = breaks::ways(chain[0]).into_iter().find_map(|(start, _)| breaks::walked(start, &chain))?;
+    is_missed(store, &plan, &requests).then_some(Reply::Clashed(0))
 }
 
 /// A try that lists another chain, if there is one: the first between loaded requests, by these ways, that is wanted for its rows and the
