@@ -16,9 +16,14 @@
 extern "C" {
 #endif
 
-/* How many cells each table has. */
+/* How many cells each table has. With TARIFF_TRY the library has the two calls that try a load, and the counts have the numbers of rows. */
 enum {
+#ifdef TARIFF_TRY
+    TARIFF_COUNTS = 776,
+    TARIFF_LIST = 512,      /* the least that a list has */
+#else
     TARIFF_COUNTS = 264,
+#endif
     TARIFF_CLASSES = 192,
     TARIFF_KEPT = 16384,
     TARIFF_CACHE = 768,
@@ -29,7 +34,7 @@ enum {
     TARIFF_ANSWER = 6
 };
 
-/* A store in one piece, 69,008 bytes. A program may as well keep its tables apart. */
+/* A store in one piece, 69,008 bytes, with TARIFF_TRY 70,032. A program may as well keep its tables apart. */
 struct tariff_store {
     uint16_t counts[TARIFF_COUNTS];
     uint16_t classes[TARIFF_CLASSES];
@@ -93,7 +98,8 @@ enum tariff_word {
     TARIFF_BUSY = 12,       /* start on a task with frames */
     TARIFF_MISNAMED = 13,   /* record: the class has another name */
     TARIFF_STUCK = 14,      /* step: no instruction, or no operand, local, class or method, as the instruction needs it */
-    TARIFF_UNMAPPED = 15    /* define: a jump's target, or an instruction after a goto or return, without a map */
+    TARIFF_UNMAPPED = 15,   /* define: a jump's target, or an instruction after a goto or return, without a map */
+    TARIFF_SHORT_LIST = 16  /* a try: a list of fewer than 512 numbers */
 };
 
 /* boot: makes a store of the tables, whatever they held. Class 0 is Object, known to loader 0 alone. Refusal: 1, for the lengths. */
@@ -162,6 +168,25 @@ uint8_t tariff_sweep(uint16_t *counts, size_t counts_length, const uint16_t *cla
                      const uint16_t *ties, size_t ties_length, const uint16_t *subtypes, size_t subtypes_length,
                      const uint32_t *objects, size_t objects_length, const uint32_t *frames, size_t frames_length,
                      uint32_t *answer, size_t answer_length);
+
+#ifdef TARIFF_TRY
+/* The tries of a define and a record: what the load itself would get, while no table changes. If that is TARIFF_CLASH, the list receives the
+   row numbers, upward, of one chain of constraints that breaks agreement, and TARIFF_CELL_STEPS says how many they are; the list past them is
+   left, and all of it on any other answer. Refusals: as the load's, with 16 straight after 3. */
+uint8_t tariff_try_define(const uint16_t *counts, size_t counts_length, const uint16_t *classes, size_t classes_length,
+                          const uint8_t *kept, size_t kept_length, const uint16_t *cache, size_t cache_length,
+                          const uint16_t *ties, size_t ties_length, const uint16_t *subtypes, size_t subtypes_length,
+                          const uint32_t *objects, size_t objects_length, const uint32_t *frames, size_t frames_length,
+                          uint32_t loader, const uint8_t *file, size_t file_length, uint16_t *list, size_t list_length,
+                          uint32_t *answer, size_t answer_length);
+
+uint8_t tariff_try_record(const uint16_t *counts, size_t counts_length, const uint16_t *classes, size_t classes_length,
+                          const uint8_t *kept, size_t kept_length, const uint16_t *cache, size_t cache_length,
+                          const uint16_t *ties, size_t ties_length, const uint16_t *subtypes, size_t subtypes_length,
+                          const uint32_t *objects, size_t objects_length, const uint32_t *frames, size_t frames_length,
+                          uint32_t loader, uint32_t name, uint32_t class_number, uint16_t *list, size_t list_length,
+                          uint32_t *answer, size_t answer_length);
+#endif
 
 #ifdef __cplusplus
 }

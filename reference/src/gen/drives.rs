@@ -39,6 +39,7 @@ impl Encoded {
             Call::Run { n } => [5, n, 0, 0, 0, 0],
             Call::Drop { task } => [6, task, 0, 0, 0, 0],
             Call::Sweep => [7, 0, 0, 0, 0, 0],
+            Call::TryDefine { .. } | Call::TryRecord { .. } => panic!("the form has no place for a list of rows"),
         };
         self.rows.push(row);
     }
