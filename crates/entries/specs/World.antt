@@ -49,7 +49,7 @@ quick-world t h =
 -- What a decision asks of the tables that it reads: lengths, counts within their limits, loaders that are there, cached classes that are there
 
 pub record Searchable (counts classes kept cache : List ℕ) : Type 0 where
-  pub countsLong : length counts ≡ 264
+  pub countsLong : length counts ≡ 776
   pub cacheLong : length cache ≡ 768
   pub classesFew : getD counts 0 0 ≤ 64
   pub keptFew : getD counts 1 0 ≤ 16384

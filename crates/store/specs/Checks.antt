@@ -1,4 +1,4 @@
--- Word 1 as tests in an order in which they can be made: lengths and counts, then the classes' files, and after these, with classes read at once
+-- Word 1 as tests in an order in which they can be made: lengths, counts and the numbers of rows, then the classes' files, and after these, with classes read at once
 -- off files that are known to read, superclasses and sizes, rows and values.
 use mathlib.Core.Bool.{Bool, true, false}
 use mathlib.Core.List.{List, [], _∷_}
@@ -12,8 +12,8 @@ use Rattle.definition.specs.Lists.{every, all, isSome, rows, stack}
 use Rattle.definition.specs.Classes.{Base, superOf}
 use Rattle.definition.specs.Machine.{Value, emptyValue, intValue, nullValue, objectValue, unlistedValue, Object, ObjectRow, free, owned, Frame}
 use Rattle.definition.specs.File.{readFile}
-use Rattle.definition.specs.Tables.{Tables, shaped, ClassRow, classRowAt, entryAt, tieAt, subtypeAt, fieldAt, ownedBy, ownerAt, objectRowAt, frameIn, sizeOf, viewBase}
-use Rattle.definition.specs.Broken.{within, isObject, entryFits, tieFits, subtypeFits, broken}
+use Rattle.definition.specs.Tables.{Tables, shaped, ClassRow, rowNumbers, numberAt, classRowAt, entryAt, tieAt, subtypeAt, fieldAt, ownedBy, ownerAt, objectRowAt, frameIn, sizeOf, viewBase}
+use Rattle.definition.specs.Broken.{within, isObject, entryFits, tieFits, subtypeFits, numbered, broken}
 use Rattle.classfile.specs.Reading.{partOf}
 use Rattle.resolution.specs.Quick.{quickOf}
 use Rattle.store.specs.declared.Fields.{Fields}
@@ -86,6 +86,10 @@ frameFit n X f = every (ltb (f .class) n ∷ leb (length (f .operands)) 16 ∷ a
 
 -- The rows of a store
 
+-- the numbers of the used rows are in turn
+unfoldable pub numbersFit : List ℕ → Bool
+numbersFit counts = numbered (rowNumbers (rows (numberAt 264 counts) (getD counts 3 0) 0) (rows (numberAt 520 counts) (getD counts 4 0) 0))
+
 unfoldable pub rowsFit : List ℕ → List ℕ → List ℕ → List ℕ → Bool
 rowsFit counts cache ties subtypes = every
     (all (entryFits (getD counts 0 0)) (rows (entryAt cache) (getD counts 2 0) 0)
@@ -110,11 +114,12 @@ valuesFit b counts objects frames = every
 
 -- All together
 
--- lengths, counts, files and rows: after these, classes are read at once
+-- lengths, counts, numbers of rows, files and rows: after these, classes are read at once
 unfoldable pub readable : Tables → Bool
 readable t = every
     (shaped t
     ∷ within (t .counts)
+    ∷ numbersFit (t .counts)
     ∷ sourcesFit (getD (t .counts) 1 0) (t .kept) (rows (classRowAt (t .classes)) (getD (t .counts) 0 0) 0)
     ∷ rowsFit (t .counts) (t .cache) (t .ties) (t .subtypes)
     ∷ [])
