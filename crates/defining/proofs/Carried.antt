@@ -3,21 +3,23 @@ use mathlib.Core.Path.{_≡_, refl, sym, ap, _∙_}
 use mathlib.Core.Bool.{Bool, true, false}
 use mathlib.Core.Option.{Option, none, some}
 use mathlib.Core.List.{List, [], _∷_}
-use Prim.Native.Nat.{ℕ, _+_, _≤_}
+use Prim.Native.Nat.{ℕ, _+_, _-_, _≤_}
+use native.Mathlib.Omega.{arith}
 use lib.ListN.{length, set, take}
 use lib.Seq.{sets}
 use lib.Dec.{leb, ltb}
 use Rattle.definition.specs.declared.Refusal.the-variants.{Word}
 use Rattle.definition.specs.declared.Reply.the-variants.{Defined, Denied}
+use Rattle.definition.specs.Numbers.{tieNumbersCell, subtypeNumbersCell}
 use Rattle.definition.specs.Lists.{writeRows}
 use Rattle.definition.specs.Classes.{Class}
 use Rattle.definition.specs.Constraints.{World, Tie, Subtype}
 use Rattle.definition.specs.Answers.{Result, refused, ok, _>>=_, need, take?}
 use Rattle.definition.specs.File.{File, readFile, classOf}
 use Rattle.definition.specs.Loading.{define, withClass}
-use Rattle.definition.specs.Tables.{Tables, tables, putThree, putTie, putSubtype, Rows, worldOf, view, viewOver, viewBase}
+use Rattle.definition.specs.Tables.{Tables, tables, putThree, putTie, putSubtype, putNumber, Rows, worldOf, view, viewOver, viewBase}
 use Rattle.definition.specs.Broken.{broken}
-use Rattle.definition.specs.Calls.{done, addFile, given, defineRows, callDefine, perform}
+use Rattle.definition.specs.Calls.{numbersFrom, done, addFile, given, defineRows, callDefine, perform}
 use Rattle.laws.specs.Results.{bind-ok, take-ok}
 use Rattle.layout.specs.Places.{writeRows-length}
 use Rattle.layout.specs.Cells.{tie-rows, subtype-rows, cells-sets}
@@ -28,7 +30,7 @@ use Rattle.defining.specs.declared.constraining.Defining.{Defining}
 use Rattle.defining.specs.declared.constraining.Defining.the-variants.{Refuse, Add}
 use Rattle.entries.specs.World.{quickWorld, quick-world, loadable}
 use Rattle.defining.specs.Stages.{definedFrom, Adding, Decided}
-use Rattle.defining.specs.Writing.{classWritten, defineDone, Room, Planned}
+use Rattle.defining.specs.Writing.{numbersOn, classWritten, defineDone, Room, Grows, Planned}
 use Rattle.entries.proofs.Laws.{copied}
 use Rattle.entries.proofs.Calls.{wrap-broken, wrap-refused, wrap-given}
 
@@ -58,8 +60,8 @@ file-fits l bs room w v h =
 
 module _ (t : Tables) (l : ℕ) (bs u v : List ℕ) where
   pub plan-broken : broken t ≡ true → Planned (Refuse (Word 1)) t l bs u v
-  unfolding perform defineDone Room
-  plan-broken h = record { whole = wrap-broken Denied (defineRows l bs) t h; room = tt }
+  unfolding perform defineDone Room Grows
+  plan-broken h = record { whole = wrap-broken Denied (defineRows l bs) t h; room = tt; grows = tt }
 
   module _ (sound : broken t ≡ false) where
     abbrev room : Bool
@@ -82,11 +84,11 @@ module _ (t : Tables) (l : ℕ) (bs u v : List ℕ) where
     -- what was written is what is put
     written : (x i j : ℕ) → Adding (definedFrom l bs room (quickWorld t)) (quickWorld t) (classOf l (quickFile bs)) (t .counts) (t .ties) (t .subtypes) u v x i j
         → done (Defined (countAt t 0)) (classWritten t x bs u i v j) ≡ perform (callDefine l bs) t
-    unfolding perform classWritten quickFile view _>>=_
+    unfolding perform classWritten numbersOn quickFile view _>>=_
     written x i j a =
         ap (done (Defined (countAt t 0))) cells
         ∙ wrap-given Denied (defineRows l bs) t sound (Defined (countAt t 0)) (addFile l bs (view t) (withClass (worldOf (view t)) k us ss)) left
-        (from (ok (withClass (quickWorld t) k us ss)) (a .whole) ∙ made) (class-writes (viewBase t) t l bs k us ss)
+        (from (ok (withClass (quickWorld t) k us ss)) (a .whole) ∙ made) (class-writes (viewBase t) t l bs k us ss (loadable t sound .tiesFew))
       where
         k : Class
         k = classOf l (quickFile bs)
@@ -104,9 +106,14 @@ module _ (t : Tables) (l : ℕ) (bs u v : List ℕ) where
         counts : List ℕ
         counts = (countAt t 0 + 1) ∷ (countAt t 1 + length bs) ∷ (countAt t 2 + 1) ∷ (countAt t 3 + length us) ∷ (countAt t 4 + length ss) ∷ []
 
+        numbered : ℕ → ℕ → ℕ → List ℕ → List ℕ
+        numbered a m n c =
+            writeRows (putNumber tieNumbersCell) (numbersFrom a m) (countAt t 3)
+            (writeRows (putNumber subtypeNumbersCell) (numbersFrom (countAt t 3 + countAt t 4) n) (countAt t 4) c)
+
         left : Tables
         left =
-            tables (sets (t .counts) 0 counts)
+            tables (numbered (countAt t 3 + countAt t 4 + length ss) (length us) (length ss) (sets (t .counts) 0 counts))
             (putThree (t .classes) (countAt t 0) l (countAt t 1) (length bs)) (writeRows set bs (countAt t 1) (t .kept))
             (putThree (t .cache) (countAt t 2) (k .loader) (k .name) (countAt t 0)) (writeRows putTie us (countAt t 3) (t .ties))
             (writeRows putSubtype ss (countAt t 4) (t .subtypes)) (t .objects) (t .frames)
@@ -126,18 +133,27 @@ module _ (t : Tables) (l : ℕ) (bs u v : List ℕ) where
             (λ z. writeRows set ((countAt t 0 + 1) ∷ (countAt t 1 + length bs) ∷ (countAt t 2 + 1) ∷ a .tied z ∷ a .noted z ∷ []) 0 (t .counts))
             ∙ cells-sets counts 0 (t .counts)
 
+        numbersOf : numbersOn (t .counts) i j (writeRows set ((countAt t 0 + 1) ∷ (countAt t 1 + length bs) ∷ (countAt t 2 + 1) ∷ i ∷ j ∷ []) 0 (t .counts))
+            ≡ numbered (countAt t 3 + countAt t 4 + length ss) (length us) (length ss) (sets (t .counts) 0 counts)
+        numbersOf =
+            let p : countAt t 3 + j ≡ countAt t 3 + countAt t 4 + length ss = omega (arith, a .noted) in
+            let q : i - countAt t 3 ≡ length us = omega (arith, a .tied) in
+            let r : j - countAt t 4 ≡ length ss = omega (arith, a .noted) in
+            λ z. numbered (p z) (q z) (r z) (numbers z)
+
         cells : classWritten t x bs u i v j ≡ left
-        cells = λ z. tables (numbers z)
+        cells = λ z. tables (numbersOf z)
             (putThree (t .classes) (countAt t 0) (a .loader z) (countAt t 1) (length bs)) (writeRows set bs (countAt t 1) (t .kept))
             (putThree (t .cache) (countAt t 2) (a .loader z) (className bs) (countAt t 0)) (ties z) (subtypes z) (t .objects) (t .frames)
 
     pub plan : (d : Defining)
         → Decided d (definedFrom l bs room (quickWorld t)) (t .counts) (t .ties) (t .subtypes) u v (quickWorld t) (classOf l (quickFile bs)) → Planned d t l bs u v
-    unfolding Decided defineDone Room perform _>>=_
-    plan (Refuse w) h = record { whole = wrap-refused Denied (defineRows l bs) t sound w (from (refused w) h); room = tt }
+    unfolding Decided defineDone Room Grows perform _>>=_
+    plan (Refuse w) h = record { whole = wrap-refused Denied (defineRows l bs) t sound w (from (refused w) h); room = tt; grows = tt }
     plan (Add x i j) h =
         let ready = loadable t sound .base in
         record {
           whole = written x i j h;
           room = (ready .classesFew, ready .keptFew, ready .entriesFew, file-fits l bs room (quickWorld t) (withClass (quickWorld t) (classOf l (quickFile bs)) (h .ties) (h .subtypes)) (h .whole));
+          grows = record { ties = omega (arith, h .tied); tiesFew = h .few .0; subtypes = omega (arith, h .noted); subtypesFew = h .few .1 };
         }

@@ -1,4 +1,5 @@
 -- Laws that the proofs of several functions cite.
+pub mod Numbered
 pub mod Posted
 pub mod Defined
 pub mod Constrained

@@ -1,22 +1,36 @@
 -- What define writes, and what the whole call is by a decision.
 use mathlib.Core.Path.{_≡_}
 use mathlib.Core.List.{List, [], _∷_}
-use Prim.Native.Nat.{ℕ, _+_, _≤_}
+use Prim.Native.Nat.{ℕ, _+_, _-_, _≤_}
 use lib.ListN.{length, getD, set, take}
+use Rattle.definition.specs.Numbers.{tieNumbersCell, subtypeNumbersCell}
 use Rattle.definition.specs.Lists.{writeRows}
-use Rattle.definition.specs.Tables.{Tables, tables, putThree}
+use Rattle.definition.specs.Tables.{Tables, tables, putThree, putNumber}
 use Rattle.definition.specs.declared.Reply.{Reply}
 use Rattle.definition.specs.declared.Reply.the-variants.{Defined, Denied}
-use Rattle.definition.specs.Calls.{Done, done, callDefine, perform}
+use Rattle.definition.specs.Calls.{numbersFrom, Done, done, callDefine, perform}
 use Rattle.classfile.specs.Reading.{className}
 use Rattle.defining.specs.declared.constraining.Defining.{Defining}
 use Rattle.defining.specs.declared.constraining.Defining.the-variants.{Refuse, Add}
 
--- the next class, of loader l, with its file bs behind the kept ones, its entry, and the tables of constraints u and v, of i and j rows
+-- rows posted behind those of n are numbered on, where there are now i ties and j subtype constraints: subtype constraints first, then ties
+unfoldable pub numbersOn : List ℕ → ℕ → ℕ → List ℕ → List ℕ
+numbersOn n i j c =
+    writeRows (putNumber tieNumbersCell) (numbersFrom (getD n 3 0 + j) (i - getD n 3 0)) (getD n 3 0)
+    (writeRows (putNumber subtypeNumbersCell) (numbersFrom (getD n 3 0 + getD n 4 0) (j - getD n 4 0)) (getD n 4 0) c)
+
+-- there are no fewer than there were, and all have room
+pub record Grown (n : List ℕ) (i j : ℕ) : Type 0 where
+  pub ties : getD n 3 0 ≤ i
+  pub tiesFew : i ≤ 256
+  pub subtypes : getD n 4 0 ≤ j
+  pub subtypesFew : j ≤ 256
+
+-- the next class, of loader l, with its file bs behind the kept ones, its entry, and the tables of constraints u and v, of i and j rows, with their numbers
 unfoldable pub classWritten : Tables → ℕ → List ℕ → List ℕ → ℕ → List ℕ → ℕ → Tables
 classWritten t l bs u i v j =
     let n = t .counts in
-    tables (writeRows set ((getD n 0 0 + 1) ∷ (getD n 1 0 + length bs) ∷ (getD n 2 0 + 1) ∷ i ∷ j ∷ []) 0 n)
+    tables (numbersOn n i j (writeRows set ((getD n 0 0 + 1) ∷ (getD n 1 0 + length bs) ∷ (getD n 2 0 + 1) ∷ i ∷ j ∷ []) 0 n))
     (putThree (t .classes) (getD n 0 0) l (getD n 1 0) (length bs))
     (writeRows set bs (getD n 1 0) (t .kept))
     (putThree (t .cache) (getD n 2 0) l (className bs) (getD n 0 0))
@@ -35,7 +49,13 @@ unfoldable pub Room : Defining → List ℕ → List ℕ → Type 0
 Room (Refuse r) n bs = Unit {0}
 Room (Add l i j) n bs = (getD n 0 0 ≤ 64) × (getD n 1 0 ≤ 16384) × (getD n 2 0 ≤ 256) × (length bs ≤ 4096)
 
+-- and it only adds constraints
+unfoldable pub Grows : Defining → List ℕ → Type 0
+Grows (Refuse r) n = Unit {0}
+Grows (Add l i j) n = Grown n i j
+
 -- a decision on the tables t, with constraints in u and v: carried out, it is the call
 pub record Planned (d : Defining) (t : Tables) (l : ℕ) (bs u v : List ℕ) : Type 0 where
   pub whole : defineDone d t bs u v ≡ perform (callDefine l bs) t
   pub room : Room d (t .counts) bs
+  pub grows : Grows d (t .counts)

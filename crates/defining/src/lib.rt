@@ -1,6 +1,7 @@
 // define: a class from its file.
 mod superclasses; // superclasses.rt: the direct superclass of a new class
 mod overrides; // overrides.rt: the ties of methods that override
+mod numbering; // numbering.rt: the numbers that posted rows get
 mod constraining; // constraining.rt: a new class's constraints, limits and agreement
 
 use constraining::Defining;
@@ -22,6 +23,7 @@ use definition::numbers::WORD_FILE;
 use definition::numbers::WORD_UNKNOWN;
 use definition::numbers::WORD_UNMAPPED;
 use definition::numbers::WORD_UNVERIFIED;
+use numbering::write_counts;
 use superclasses::Above;
 use superclasses::find_super;
 ghost use mathlib.Core.Path.{_≡_};
@@ -189,7 +191,7 @@ pub fn define(
             let next = class + 1;
             let end = start + size;
             let rows = row + 1;
-            entries::write_cells(counts, 0, &[next, end, rows, tied, noted]);
+            write_counts(counts, &[next, end, rows, tied, noted]);
             let number = class as u8;
             Reply::Defined(number)
         }
