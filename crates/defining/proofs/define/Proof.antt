@@ -9,7 +9,7 @@ use Rattle.definition.specs.declared.Reply.the-variants.{Defined}
 use Rattle.definition.specs.Lists.{writeRows}
 use Rattle.definition.specs.Tables.{tables, putThree}
 use Rattle.definition.specs.Calls.{done}
-use Rattle.defining.specs.Writing.{classWritten, defineDone, Room}
+use Rattle.defining.specs.Writing.{numbersOn, classWritten, defineDone, Room, Grows, Grown}
 use borrow.Author.Needs.{needs}
 use Rattle.defining.proofs.define.Statement.{statement}
 use Rattle.defining.proofs.define.Tie as tie
@@ -102,7 +102,7 @@ returns-2 c =
     let at59 = at41 .before .before .before .before .before .before .before .before .before .before .before .before .before .before .before .before .before .before in
     let file = now (at59 .args .file) in
     (λ i. done (Defined (at23 .at16 .ensures i)) (tables
-    ((c .before .before .write-counts .ensures ∙ (λ j. writeRows set ((at23 .at16 .ensures j + 1) ∷ (at21 .at162 .ensures j + length file) ∷ (at19 .at163 .ensures j + 1) ∷ at37 .plan2 .given .0 .1 .0 ∷ at37 .plan2 .given .0 .1 .1 .0 ∷ []) 0 (now (at59 .args .counts)))) i)
+    ((c .before .before .write-counts .ensures ∙ (λ j. numbersOn (now (at59 .args .counts)) (at37 .plan2 .given .0 .1 .0) (at37 .plan2 .given .0 .1 .1 .0) (writeRows set ((at23 .at16 .ensures j + 1) ∷ (at21 .at162 .ensures j + length file) ∷ (at19 .at163 .ensures j + 1) ∷ at37 .plan2 .given .0 .1 .0 ∷ at37 .plan2 .given .0 .1 .1 .0 ∷ []) 0 (now (at59 .args .counts))))) i)
     ((at16 .put-three .ensures ∙ (λ j. putThree (now (at59 .args .classes)) (at23 .at16 .ensures j) (at18 .from8 .ensures .0 j) (at21 .at162 .ensures j) (length file))) i)
     ((at12 .write-bytes .ensures ∙ (λ j. writeRows set file (at21 .at162 .ensures j) (now (at59 .args .kept)))) i)
     ((c .before .before .before .before .before .before .before .put-three2 .ensures ∙ (λ j. putThree (now (at59 .args .cache)) (at19 .at163 .ensures j) (at18 .from8 .ensures .0 j) (at8 .class-name .ensures j) (at23 .at16 .ensures j))) i)
