@@ -53,6 +53,12 @@ add-rows c =
     let counts = now (at54 .args .counts) in
     let room : (getD counts 0 0 ≤ 64) × (getD counts 1 0 ≤ 16384) × (getD counts 2 0 ≤ 256) × (length (now (at54 .args .file)) ≤ 4096) = rw (at32 .plan2 .given .1) at (at36 .decide-define .ensures .room) in omega (arith, at14 .at163 .ensures, room .2)
 
+write-counts-requires : tie.Need-write-counts-requires
+unfolding Grows
+write-counts-requires c κs =
+    let at34 = c .before .before .before .before .before .before .before .before .before .before .before .before .before .before .before .before .before .before .before .before .before .before .before .before .before .before .before .before .before .before .before .before .before .before in
+    rw (at34 .plan2 .given .1) at (at34 .before .before .before .before .decide-define .ensures .grows)
+
 cast-number : tie.Need-cast-number
 unfolding Room
 cast-number c =
@@ -112,4 +118,4 @@ returns-2 c =
     ∙ rw (at37 .plan2 .given .1) at (at41 .decide-define .ensures .whole)
 
 pub define-spec : {M : Type 1} → statement M
-define-spec = tie.close (tie.spec (λ c. search needs) (λ c. search needs) (λ c κs. search needs) (λ c. search needs) (λ c. search needs) (λ c. search needs) (λ c. search needs) (λ c. search needs) (λ c κs. search needs) (λ c. search needs) (λ c κs. search needs) (λ c κs. search needs) (λ c κs. search needs) (λ c κs. search needs) cast-size (λ c κs. search needs) (λ c κs. search needs) (λ c κs. search needs) (λ c κs. search needs) (λ c κs. search needs) add-next add-end add-rows (λ c. search needs) (λ c κs. search needs) cast-number (λ c. search needs) (λ c. search needs) (λ c. search needs) (λ c. search needs) (λ c. search needs) (λ c. search needs) returns same-length-7 same-length-8 same-length-9 same-length-10 same-length-11 same-length-12 returns-2)
+define-spec = tie.close (tie.spec (λ c. search needs) (λ c. search needs) (λ c κs. search needs) (λ c. search needs) (λ c. search needs) (λ c. search needs) (λ c. search needs) (λ c. search needs) (λ c κs. search needs) (λ c. search needs) (λ c κs. search needs) (λ c κs. search needs) (λ c κs. search needs) (λ c κs. search needs) cast-size (λ c κs. search needs) (λ c κs. search needs) (λ c κs. search needs) (λ c κs. search needs) (λ c κs. search needs) add-next add-end add-rows (λ c. search needs) write-counts-requires cast-number (λ c. search needs) (λ c. search needs) (λ c. search needs) (λ c. search needs) (λ c. search needs) (λ c. search needs) returns same-length-7 same-length-8 same-length-9 same-length-10 same-length-11 same-length-12 returns-2)
