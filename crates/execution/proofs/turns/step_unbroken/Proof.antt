@@ -43,7 +43,7 @@ number-ties-requires c κs =
     let at15 = c .before .before .before .before .before .before .before .before .before .before .before .before .before .before .before in
     let at39 = at15 .before .before .before .before .before .before .before .before .before .before .before .before .before .before .before .before .before .before .before .before .before .before .before .before in
     let few = unbroken _ (at39 .pre .0) .counts in
-    (omega (arith, at15 .post-ties .ensures .2 .0, few .ties), omega (arith, at15 .post-ties .ensures .2 .1, few .subtypes))
+    (omega (arith, at15 .post-ties .ensures .1 .1 .0, few .ties), omega (arith, at15 .post-ties .ensures .1 .1 .1, few .subtypes))
 
 returns-2 : tie.Need-returns-2
 returns-2 c =
@@ -54,7 +54,7 @@ returns-2 c =
     let at30 = at29 .before in
     let at32 = at30 .before .before in
     let at42 = at32 .before .before .before .before .before .before .before .before .before .before in
-    top-carried _ _ _ _ _ _ _ _ (at42 .pre .0) _ _ (at32 .turn .ensures) (at30 .frame-count .ensures) (at29 .if1 .left) _ _ (at26 .top-frame .ensures .0) (at26 .top-frame .ensures .1) _ _ _ _ (at21 .choose .ensures) _ _ (at18 .post-ties .ensures .0) (at18 .post-ties .ensures .1) _ _ _ _ (c .before .before .before .before .before .before .before .before .before .before .carry-out .ensures) _ _ (at18 .post-ties .ensures .2 .0) (at18 .post-ties .ensures .2 .1) _ (c .before .before .number-ties .ensures)
+    top-carried _ _ _ _ _ _ _ _ (at42 .pre .0) _ _ (at32 .turn .ensures) (at30 .frame-count .ensures) (at29 .if1 .left) _ _ (at26 .top-frame .ensures .0) (at26 .top-frame .ensures .1) _ _ _ _ (at21 .choose .ensures) _ _ (at18 .post-ties .ensures .0) (at18 .post-ties .ensures .1 .0) _ _ _ _ (c .before .before .before .before .before .before .before .before .before .before .carry-out .ensures) _ _ (at18 .post-ties .ensures .1 .1 .0) (at18 .post-ties .ensures .1 .1 .1) _ (c .before .before .number-ties .ensures)
 
 pub step-unbroken-spec : {M : Type 1} → statement M
 step-unbroken-spec =
