@@ -50,6 +50,14 @@ wordStuck = 14
 abbrev pub wordUnmapped : ℕ
 wordUnmapped = 15
 
+-- short list
+abbrev pub wordShort : ℕ
+wordShort = 16
+
+-- the numbers that the list of a tried load must have room for: every row's
+abbrev pub listLimit : ℕ
+listLimit = 512
+
 -- Names: 0 is none; others than these are free
 
 abbrev pub nameInt : ℕ

@@ -5,6 +5,9 @@ pub mod Chains
 pub mod Upward
 pub mod Agreement
 pub mod Tests
+pub mod Earlier
+pub mod Clashes
+pub mod Chosen
 pub mod Growth
 pub mod Slots
 pub mod Members
