@@ -7,7 +7,7 @@ use mathlib.Core.Logic.{_⊎_, inl, inr}
 use Prim.Native.Nat.{ℕ}
 use native.Mathlib.Omega.{arith}
 use lib.Dec.{ltb}
-use borrow.Author.Tests.{ltb-true, ltb-false, lt-ltb}
+use borrow.Author.Tests.{ltb-true, ltb-false, lt-ltb, le-ltb}
 use Rattle.definition.specs.Reasons.{precedes, earlier, firstOf}
 
 -- an order: of two numbers one goes before the other, or they are one
@@ -58,15 +58,15 @@ module _ {before : ℕ → ℕ → Bool} (order : Order before) where
   not-before-on [] [] os h k = k
   not-before-on [] (m ∷ ms) os h k = absurd (false≢true (sym h))
   not-before-on (n ∷ ns) [] [] h k = refl
-  not-before-on (n ∷ ns) ms [] h k = refl
+  not-before-on (n ∷ ns) (m ∷ ms) [] h k = refl
   not-before-on (n ∷ ns) [] (o ∷ os) h k = absurd (false≢true (sym k))
-  not-before-on (n ∷ ns) (m ∷ ms) (o ∷ os) h k = go (heads n m ns ms h) (heads m o ms os k)
+  not-before-on (n ∷ ns) (m ∷ ms) (o ∷ os) h k = go (heads n m ns ms h) (heads m o ms os k) (not-before-on ns ms os)
     where
-      go : (before m n ≡ true) ⊎ ((n ≡ m) × NotBefore ns ms) → (before o m ≡ true) ⊎ ((m ≡ o) × NotBefore ms os) → NotBefore (n ∷ ns) (o ∷ os)
-      go (inl a) (inl b) = later-head n o ns os (order .onward o m n b a)
-      go (inl a) (inr b) = later-head n o ns os (rw (b .0) at a)
-      go (inr a) (inl b) = later-head n o ns os (rw (a .0) b)
-      go (inr a) (inr b) = rw (a .0 ∙ b .0) (same-head o ns os (not-before-on ns ms os (a .1) (b .1)))
+      go : (before m n ≡ true) ⊎ ((n ≡ m) × NotBefore ns ms) → (before o m ≡ true) ⊎ ((m ≡ o) × NotBefore ms os) → (NotBefore ns ms → NotBefore ms os → NotBefore ns os) → NotBefore (n ∷ ns) (o ∷ os)
+      go (inl a) (inl b) f = later-head n o ns os (order .onward o m n b a)
+      go (inl a) (inr b) f = later-head n o ns os (rw (b .0) at a)
+      go (inr a) (inl b) f = later-head n o ns os (rw (a .0) b)
+      go (inr a) (inr b) f = rw (a .0 ∙ b .0) (same-head o ns os (f (a .1) (b .1)))
 
   -- two of which neither is before the other are one list
   pub neither-before : (ns ms : List ℕ) → NotBefore ns ms → NotBefore ms ns → ns ≡ ms
@@ -74,28 +74,28 @@ module _ {before : ℕ → ℕ → Bool} (order : Order before) where
   neither-before [] [] h k = refl
   neither-before [] (m ∷ ms) h k = absurd (false≢true (sym h))
   neither-before (n ∷ ns) [] h k = absurd (false≢true (sym k))
-  neither-before (n ∷ ns) (m ∷ ms) h k = go (heads n m ns ms h) (heads m n ms ns k)
+  neither-before (n ∷ ns) (m ∷ ms) h k = go (heads n m ns ms h) (heads m n ms ns k) (neither-before ns ms)
     where
-      go : (before m n ≡ true) ⊎ ((n ≡ m) × NotBefore ns ms) → (before n m ≡ true) ⊎ ((m ≡ n) × NotBefore ms ns) → (n ∷ ns) ≡ (m ∷ ms)
-      go (inl a) (inl b) = absurd (false≢true (sym (order .onlyOne m n a) ∙ b))
-      go (inl a) (inr b) = absurd (false≢true (sym (itself n) ∙ rw (b .0) at a))
-      go (inr a) (inl b) = absurd (false≢true (sym (itself m) ∙ rw (a .0) at b))
-      go (inr a) (inr b) = λ i. a .0 i ∷ neither-before ns ms (a .1) (b .1) i
+      go : (before m n ≡ true) ⊎ ((n ≡ m) × NotBefore ns ms) → (before n m ≡ true) ⊎ ((m ≡ n) × NotBefore ms ns) → (NotBefore ns ms → NotBefore ms ns → ns ≡ ms) → (n ∷ ns) ≡ (m ∷ ms)
+      go (inl a) (inl b) f = absurd (false≢true (sym (order .onlyOne m n a) ∙ b))
+      go (inl a) (inr b) f = absurd (false≢true (sym (itself n) ∙ rw (b .0) at a))
+      go (inr a) (inl b) f = absurd (false≢true (sym (itself m) ∙ rw (a .0) at b))
+      go (inr a) (inr b) f = λ i. a .0 i ∷ f (a .1) (b .1) i
 
   before-not : (ns ms : List ℕ) → precedes before ns ms ≡ true → NotBefore ms ns
   unfolding precedes
   before-not [] [] h = refl
   before-not [] (m ∷ ms) h = refl
   before-not (n ∷ ns) [] h = absurd (false≢true h)
-  before-not (n ∷ ns) (m ∷ ms) h = go (before n m) (before m n) refl refl h
+  before-not (n ∷ ns) (m ∷ ms) h = go (before n m) (before m n) refl refl (before-not ns ms) h
     where
-      go : (s t : Bool) → before n m ≡ s → before m n ≡ t → (elim s as (λ _. Bool) [ true ↦ true | false ↦ elim t as (λ _. Bool) [ true ↦ false | false ↦ precedes before ns ms ] ]) ≡ true → NotBefore (m ∷ ms) (n ∷ ns)
-      go true t p q r = later-head m n ms ns p
-      go false true p q r = absurd (false≢true r)
-      go false false p q r = rw (order .total n m p q) (same-head m ms ns (before-not ns ms r))
+      go : (s t : Bool) → before n m ≡ s → before m n ≡ t → (precedes before ns ms ≡ true → NotBefore ms ns) → (elim s as (λ _. Bool) [ true ↦ true | false ↦ elim t as (λ _. Bool) [ true ↦ false | false ↦ precedes before ns ms ] ]) ≡ true → NotBefore (m ∷ ms) (n ∷ ns)
+      go true t p q f r = later-head m n ms ns p
+      go false true p q f r = absurd (false≢true r)
+      go false false p q f r = rw (order .total n m p q) (same-head m ms ns (f r))
 
   -- a choice has a first, and ns isn't before it
-  pub Has : Option (List ℕ) → List ℕ → Type 0
+  abbrev pub Has : Option (List ℕ) → List ℕ → Type 0
   Has o ns = (ms : List ℕ) × (o ≡ some ms) × NotBefore ns ms
 
   pub earlier-from : (o p : Option (List ℕ)) (ns : List ℕ) → earlier before o p ≡ some ns → (o ≡ some ns) ⊎ (p ≡ some ns)
@@ -109,7 +109,7 @@ module _ {before : ℕ → ℕ → Bool} (order : Order before) where
       go false r = inl r
 
   pub earlier-one : (o p : Option (List ℕ)) (ns : List ℕ) → o ≡ some ns → Has (earlier before o p) ns
-  unfolding earlier Has
+  unfolding earlier
   earlier-one none p ns h = absurd (Option·none-ne-some ns h)
   earlier-one (some a) none ns h = (ns, h, not-itself ns)
   earlier-one (some a) (some b) ns h = go (precedes before b a) refl
@@ -119,7 +119,7 @@ module _ {before : ℕ → ℕ → Bool} (order : Order before) where
       go false e = (ns, h, not-itself ns)
 
   pub earlier-two : (o p : Option (List ℕ)) (ns : List ℕ) → p ≡ some ns → Has (earlier before o p) ns
-  unfolding earlier Has
+  unfolding earlier
   earlier-two none p ns h = (ns, h, not-itself ns)
   earlier-two (some a) none ns h = absurd (Option·none-ne-some ns h)
   earlier-two (some a) (some b) ns h = go (precedes before b a) refl
@@ -129,7 +129,6 @@ module _ {before : ℕ → ℕ → Bool} (order : Order before) where
       go false e = (a, refl, rw (Option·some-injective b ns h) at e)
 
   pub has-on : (o : Option (List ℕ)) (ns ms : List ℕ) → NotBefore ns ms → Has o ms → Has o ns
-  unfolding Has
   has-on o ns ms h k = (k .0, k .1, not-before-on ns ms (k .0) h (k .2))
 
   module _ {A : Type 0} (f : A → Option (List ℕ)) where
@@ -142,14 +141,14 @@ module _ {before : ℕ → ℕ → Bool} (order : Order before) where
     ]
 
     pub first-has : (xs : List A) (x : A) (ns : List ℕ) → List·Memᴰ x xs → f x ≡ some ns → Has (firstOf before f xs) ns
-    unfolding firstOf Has
+    unfolding firstOf
     first-has (y ∷ xs) x ns (List·Memᴰ·head e) h = earlier-one (f y) (firstOf before f xs) ns (rw e at h)
     first-has (y ∷ xs) x ns (List·Memᴰ·tail m) h = let r = first-has xs x ns m h in has-on (earlier before (f y) (firstOf before f xs)) ns (r .0) (r .2) (earlier-two (f y) (firstOf before f xs) (r .0) (r .1))
 
 -- the lower number first
 pub lower-first : Order ltb
 lower-first = record {
-  onlyOne = λ m n h. not-lt n m (λ l. omega (arith, ltb-true m n h));
+  onlyOne = λ m n h. le-ltb n m (omega (arith, ltb-true m n h));
   onward = λ m n o h k. lt-ltb m o (omega (arith, ltb-true m n h, ltb-true n o k));
   total = λ m n h k. omega (arith, ltb-false m n h, ltb-false n m k);
 }
