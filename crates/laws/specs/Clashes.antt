@@ -120,6 +120,14 @@ module _ {before : ℕ → ℕ → Bool} (order : Order before) (w : World) (m :
     pub least : (ms : List ℕ) → Clashing w m ms → n ≤ length ms → length ns ≤ length ms
     pub notLater : (ms : List ℕ) → Clashing w m ms → length ms ≡ length ns → NotBefore order ms ns
 
+  -- where no list of n rows is found, one that clashes is longer
+  longer : (n : ℕ) → ofLength before w m n ≡ none → (ms : List ℕ) → Clashing w m ms → n ≤ length ms → suc n ≤ length ms
+  longer n e ms c l = go (eqb n (length ms)) refl (length-has ms c)
+    where
+      go : (t : Bool) → eqb n (length ms) ≡ t → Has order (ofLength before w m (length ms)) ms → suc n ≤ length ms
+      go true q r = absurd (Option·none-ne-some (r .0) (sym e ∙ (ap (ofLength before w m) (eqb-true n (length ms) q) ∙ r .1)))
+      go false q r = omega (arith, eqb-false n (length ms) q)
+
   pub shortest-first : (k n : ℕ) (ns : List ℕ) → shortest before w m k n ≡ some ns → First n ns
   unfolding shortest
   shortest-first zero n ns h = absurd (Option·none-ne-some ns h)
@@ -127,18 +135,21 @@ module _ {before : ℕ → ℕ → Bool} (order : Order before) (w : World) (m :
     where
       go : (o : Option (List ℕ)) → ofLength before w m n ≡ o → (elim o as (λ _. Option (List ℕ)) [ none ↦ shortest before w m k (suc n) | some x ↦ some x ]) ≡ some ns
           → (shortest before w m k (suc n) ≡ some ns → First (suc n) ns) → First n ns
-      go none e r f = let g = f r in record { clashes = g .clashes; least = λ ms c l. g .least ms c (longer ms (length-has ms c) l); notLater = g .notLater }
-        where
-          longer : (ms : List ℕ) → Has order (ofLength before w m (length ms)) ms → n ≤ length ms → suc n ≤ length ms
-          longer ms c l = at (eqb n (length ms)) refl
-            where
-              at : (t : Bool) → eqb n (length ms) ≡ t → suc n ≤ length ms
-              at true q = absurd (Option·none-ne-some (c .0) (sym e ∙ (ap (ofLength before w m) (eqb-true n (length ms) q) ∙ c .1)))
-              at false q = omega (arith, eqb-false n (length ms) q)
+      go none e r f = let g = f r in record { clashes = g .clashes; least = λ ms c l. g .least ms c (longer n e ms c l); notLater = g .notLater }
       go (some x) e r f =
-          let q = Option·some-injective x ns r in
           let g = length-from n ns (e ∙ r) in
           record { clashes = g .0; least = λ ms c l. omega (arith, g .1); notLater = λ ms c l. found ms (length-has ms c) (ap (ofLength before w m) (l ∙ g .1) ∙ (e ∙ r)) }
         where
           found : (ms : List ℕ) → Has order (ofLength before w m (length ms)) ms → ofLength before w m (length ms) ≡ some ns → NotBefore order ms ns
-          found ms c k = rw (Option·some-injective (c .0) ns (sym (c .1) ∙ k)) at (c .2)
+          found ms c q = rw (Option·some-injective (c .0) ns (sym (c .1) ∙ q)) at (c .2)
+
+  -- where none is found, none of those lengths clashes
+  pub shortest-none : (k n : ℕ) → shortest before w m k n ≡ none → (ms : List ℕ) → Clashing w m ms → n ≤ length ms → n + k ≤ length ms
+  unfolding shortest
+  shortest-none zero n h ms c l = omega arith
+  shortest-none (suc k) n h ms c l = go (ofLength before w m n) refl h (λ r q. shortest-none k (suc n) r ms c q)
+    where
+      go : (o : Option (List ℕ)) → ofLength before w m n ≡ o → _≡_ {A = Option (List ℕ)} (elim o as (λ _. Option (List ℕ)) [ none ↦ shortest before w m k (suc n) | some x ↦ some x ]) none
+          → (shortest before w m k (suc n) ≡ none → suc n ≤ length ms → suc n + k ≤ length ms) → n + suc k ≤ length ms
+      go none e r f = omega (arith, f r (longer n e ms c l))
+      go (some x) e r f = absurd (Option·none-ne-some x (sym r))
