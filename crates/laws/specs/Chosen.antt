@@ -234,13 +234,13 @@ module _ {before : ℕ → ℕ → Bool} (order : Order before) (w : World) (m :
       tied′ : (a b : Request) (c d : ℕ) → find (w .base .cache) a ≡ some c → find (w .base .cache) b ≡ some d → Chain (tieEdges (w .ties)) a b → (t : Bool) → eqb c d ≡ t → c ≡ d
       tied′ a b c d p q k true e = eqb-true c d e
       tied′ a b c d p q k false e =
-          let u = chain-up (tiesOnly w m) {a} {b} (rw (tie-edges (w .ties) (m .ties) (numbered .ties)) k) in
+          let u = chain-up (tiesOnly w m) {a = a} {b = b} (rw (tie-edges (w .ties) (m .ties) (numbered .ties)) k) in
           absurd (reason-none order w m h (u .1) (inl (record { first = a; low = c; means = p; led = record { through = u .0; last = b; high = d; upward = u .2; means = q; isBad = ap not e } })))
 
       led′ : (a b : Request) (c d : ℕ) → find (w .base .cache) a ≡ some c → find (w .base .cache) b ≡ some d → Chain (edges w) a b → (t : Bool) → below (superOf (w .base)) c d ≡ t → Below (superOf (w .base)) c d
       led′ a b c d p q k true e = below-true (superOf (w .base)) (super-falls (w .base)) c d e
       led′ a b c d p q k false e =
-          let u = chain-up (links w m) {a} {b} (rw (all-edges w m numbered) k) in
+          let u = chain-up (links w m) {a = a} {b = b} (rw (all-edges w m numbered) k) in
           absurd (reason-none order w m h (u .1) (inr (record { first = a; low = c; means = p; led = record { through = u .0; last = b; high = d; upward = u .2; means = q; isBad = ap not e } })))
 
   -- where a chain breaks agreement, the world doesn't agree

@@ -66,8 +66,8 @@ module _ (ss : List Subtype) (ms : List ℕ) where
 
   subtypes-paired : (us : List Subtype) (ns : List ℕ) → Distinct ns → Paired (subtypeLinks us ns)
   unfolding subtypeLinks
-  subtypes-paired [] ns d l k m o e = absurd (List·Memᴰ·not-nil m)
-  subtypes-paired (s ∷ us) [] d l k m o e = absurd (List·Memᴰ·not-nil m)
+  subtypes-paired [] ns d = λ l k m o e. absurd (List·Memᴰ·not-nil m)
+  subtypes-paired (s ∷ us) [] d = λ l k m o e. absurd (List·Memᴰ·not-nil m)
   subtypes-paired (s ∷ us) (n ∷ ns) d = paired-on (subtypeLinks us ns) (subtypeLinks (s ∷ us) (n ∷ ns)) n (at (s .loader) (s .low)) (at (s .loader) (s .high)) (subtypes-paired us ns (d .1))
       (λ l m e. d .0 (rw e (subtype-number us ns l m))) (λ l m. from l m)
     where
