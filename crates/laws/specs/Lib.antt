@@ -27,6 +27,7 @@ pub mod Objects
 pub mod Sweeps
 pub mod Stable
 pub mod Refusals
+pub mod Tried
 pub mod Causes
 pub mod Wrapped
 pub mod Runs
