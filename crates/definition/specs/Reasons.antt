@@ -7,7 +7,7 @@ use mathlib.Core.Logic.{_⊎_}
 use Prim.Native.Nat.{ℕ, zero, suc}
 use lib.ListN.{length, set}
 use lib.Dec.{eqb, ltb}
-use Rattle.definition.specs.Numbers.{wordUnknown, wordClash, wordShort, listLimit}
+use Rattle.definition.specs.Numbers.{wordBroken, wordUnknown, wordClash, wordShort, listLimit}
 use Rattle.definition.specs.Lists.{writeRows}
 use Rattle.definition.specs.Maybe.{_>>=_}
 use Rattle.definition.specs.Chains.{Edge}
@@ -19,7 +19,8 @@ use Rattle.definition.specs.File.{readFile, classOf}
 use Rattle.definition.specs.Verifier.{notesOf}
 use Rattle.definition.specs.Loading.{newSubtypes, overrideTies, withClass, withEntry}
 use Rattle.definition.specs.Answers.{Word, Reply, Denied, Result, refused, ok, number}
-use Rattle.definition.specs.Tables.{RowNumbers, Rows, worldOf}
+use Rattle.definition.specs.Tables.{Tables, RowNumbers, Rows, worldOf, view}
+use Rattle.definition.specs.Broken.{broken}
 use Rattle.definition.specs.Calls.{Given, numberedOn, defineRows, recordRows}
 
 -- A link: a row's number, with the request that the row leads from and the one that it leads to. Upward a tie is walked either way, a subtype constraint from
@@ -179,3 +180,14 @@ tryDefineRows l bs out r = tried r (afterDefine l bs (worldOf r)) (defineRows l 
 -- 3 16 13 4 10 9
 unfoldable pub tryRecordRows : ℕ → ℕ → ℕ → List ℕ → Rows → Tried
 tryRecordRows l n c out r = tried r (afterRecord l n c (worldOf r)) (recordRows l n c r) out
+
+-- On tables: 1 comes first, and the tables stay as they were
+
+unfoldable pub tryTables : (List ℕ → Rows → Tried) → List ℕ → Tables → Tried
+tryTables f out t = elim (broken t) [ true ↦ unlisted (Denied (Word wordBroken)) out | false ↦ f out (view t) ]
+
+abbrev pub tryDefine : ℕ → List ℕ → List ℕ → Tables → Tried
+tryDefine l bs out t = tryTables (tryDefineRows l bs) out t
+
+abbrev pub tryRecord : ℕ → ℕ → ℕ → List ℕ → Tables → Tried
+tryRecord l n c out t = tryTables (tryRecordRows l n c) out t

@@ -1,20 +1,25 @@
 -- The tried loads on a store that isn't broken. One that would clash lists a chain of the store as it would be after the load: the chain breaks agreement, repeats
 -- no request and no row, and has at most 512 rows; no chain that breaks agreement is shorter, and none as long goes before it.
 use mathlib.Core.Path.{_≡_, refl, sym, ap, _∙_}
-use mathlib.Core.Bool.{Bool, true, false}
-use mathlib.Core.Option.{Option, some}
+use mathlib.Core.Bool.{Bool, true, false, not, _&&_}
+use mathlib.Core.Option.{Option, none, some}
 use mathlib.Core.List.{List, [], _∷_, _++_, List·Memᴰ, List·Memᴰ·head, List·Memᴰ·tail}
 use mathlib.Core.Logic.{_⊎_, inl, inr}
 use Prim.Native.Nat.{ℕ, suc, _+_, _≤_, _<_}
 use native.Mathlib.Omega.{arith}
-use lib.ListN.{length, length-append}
-use lib.Dec.{ltb}
+use lib.ListN.{length, length-append, set}
+use lib.Dec.{eqb, ltb}
+use borrow.Author.Tests.{lt-ltb, le-ltb, ne-eqb, eq-eqb}
+use Rattle.definition.specs.Lists.{writeRows}
 use Rattle.definition.specs.Constraints.{World}
 use Rattle.definition.specs.Tables.{RowNumbers, Rows, worldOf}
-use Rattle.definition.specs.Calls.{numberedOn, defineRows, recordRows}
-use Rattle.definition.specs.Answers.{Result, refused, number}
+use Rattle.definition.specs.Calls.{Given, numberedOn, defineRows, recordRows}
+use Rattle.definition.specs.Answers.{Result, ok, refused, number}
+use Rattle.definition.specs.declared.Reply.{Reply}
+use Rattle.definition.specs.declared.Reply.the-variants.{Denied}
+use Rattle.definition.specs.declared.Refusal.the-variants.{Word}
 use Rattle.definition.specs.declared.Refusal.{Refusal}
-use Rattle.definition.specs.Reasons.{Distinct, Breaks, reason, reasonAfter, afterDefine, afterRecord}
+use Rattle.definition.specs.Reasons.{Distinct, Breaks, reason, reasonAfter, Tried, unlisted, listed, tried, afterDefine, afterRecord}
 use Rattle.laws.specs.Options.{some-bind}
 use Rattle.laws.specs.Earlier.{NotBefore, lower-first}
 use Rattle.laws.specs.Chosen.{Numbered, clash-reason, reason-breaks, reason-shortest, reason-not-later}
@@ -89,3 +94,72 @@ define-reasoned l bs r w x e h = clash-reasoned r w (afterDefine l bs (worldOf r
 
 pub record-reasoned : (l n c : ℕ) (r : Rows) → Whole r → (x : Refusal) → recordRows l n c r ≡ refused x → number x ≡ 9 → Reasoned r (afterRecord l n c (worldOf r))
 record-reasoned l n c r w x e h = clash-reasoned r w (afterRecord l n c (worldOf r)) (refuses-at _ (recordRows l n c r) (record-clash l n c r) x e h)
+
+-- What a tried load answers, and what it writes
+
+-- what the load itself answers
+abbrev pub replyOf : Result (Given Reply) → Reply
+replyOf (ok g) = g .answer
+replyOf (refused x) = Denied x
+
+module _ (r : Rows) (after : Option World) where
+  -- a refused load by three tests: the list is short, the word is 3, the word is 9
+  abbrev way : Refusal → List ℕ → Bool → Bool → Bool → Tried
+  way x out s u c = elim (s && not u) as (λ _. Tried) [
+    | true ↦ unlisted (Denied (Word 16)) out
+    | false ↦ elim c as (λ _. Tried) [ true ↦ listed (Denied x) (reasonAfter r after) out | false ↦ unlisted (Denied x) out ]
+  ]
+
+  its-way : (x : Refusal) (out : List ℕ) {s u c : Bool} → ltb (length out) 512 ≡ s → eqb (number x) 3 ≡ u → eqb (number x) 9 ≡ c → tried r after (refused x) out ≡ way x out s u c
+  unfolding tried
+  its-way x out p q z = λ i. way x out (p i) (q i) (z i)
+
+  -- with a list of 512 numbers or more it is what the load itself would get
+  pub tried-answer : (o : Result (Given Reply)) (out : List ℕ) → 512 ≤ length out → tried r after o out .answer ≡ replyOf o
+  unfolding tried listed
+  tried-answer (ok g) out h = rw (le-ltb (length out) 512 h, tried) refl
+  tried-answer (refused x) out h = ap (λ (z : Tried). z .answer) (its-way x out (le-ltb (length out) 512 h) refl refl) ∙ go (eqb (number x) 9) (reasonAfter r after)
+    where
+      go : (t : Bool) (c : Option (List ℕ)) → (elim t as (λ _. Tried) [ true ↦ listed (Denied x) c out | false ↦ unlisted (Denied x) out ]) .answer ≡ Denied x
+      go true none = refl
+      go true (some ns) = refl
+      go false c = refl
+
+  -- with a shorter list it is 16, but for 3, and nothing is written
+
+  pub tried-short : (o : Result (Given Reply)) (out : List ℕ) → length out < 512 → ((x : Refusal) → o ≡ refused x → number x ≡ 3 → ⊥) → tried r after o out ≡ unlisted (Denied (Word 16)) out
+  unfolding tried
+  tried-short (ok g) out h k = rw (lt-ltb (length out) 512 h, tried) refl
+  tried-short (refused x) out h k = its-way x out (lt-ltb (length out) 512 h) (ne-eqb (number x) 3 (k x refl)) refl
+
+  pub tried-unknown : (x : Refusal) (out : List ℕ) → number x ≡ 3 → tried r after (refused x) out ≡ unlisted (Denied x) out
+  tried-unknown x out e = its-way x out refl (eq-eqb (number x) 3 e) (ne-eqb (number x) 9 (λ q. omega arith)) ∙ go (ltb (length out) 512)
+    where
+      go : (t : Bool) → way x out t true false ≡ unlisted (Denied x) out
+      go true = refl
+      go false = refl
+
+  -- without a clash nothing is written
+  pub tried-unlisted : (o : Result (Given Reply)) (out : List ℕ) → ((x : Refusal) → o ≡ refused x → number x ≡ 9 → ⊥) → (tried r after o out .count ≡ 0) × (tried r after o out .list ≡ out)
+  unfolding tried
+  tried-unlisted (ok g) out k = go (ltb (length out) 512)
+    where
+      go : (t : Bool) → ((elim t as (λ _. Tried) [ true ↦ unlisted (Denied (Word 16)) out | false ↦ unlisted (g .answer) out ]) .count ≡ 0)
+          × ((elim t as (λ _. Tried) [ true ↦ unlisted (Denied (Word 16)) out | false ↦ unlisted (g .answer) out ]) .list ≡ out)
+      go true = (refl, refl)
+      go false = (refl, refl)
+  tried-unlisted (refused x) out k =
+      let w = its-way x out refl refl (ne-eqb (number x) 9 (k x refl)) in
+      let g = go (ltb (length out) 512) (eqb (number x) 3) in
+      (ap (λ (z : Tried). z .count) w ∙ g .0, ap (λ (z : Tried). z .list) w ∙ g .1)
+    where
+      go : (s u : Bool) → (way x out s u false .count ≡ 0) × (way x out s u false .list ≡ out)
+      go true true = (refl, refl)
+      go true false = (refl, refl)
+      go false u = (refl, refl)
+
+  -- on a clash the chain is written first, and its length is told
+  pub tried-listed : (x : Refusal) (out ns : List ℕ) → number x ≡ 9 → 512 ≤ length out → reasonAfter r after ≡ some ns
+      → tried r after (refused x) out ≡ record { answer = Denied x; count = length ns; list = writeRows set ns 0 out }
+  unfolding listed
+  tried-listed x out ns e h f = its-way x out (le-ltb (length out) 512 h) refl (eq-eqb (number x) 9 e) ∙ ap (λ (c : Option (List ℕ)). listed (Denied x) c out) f
