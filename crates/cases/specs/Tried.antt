@@ -1,10 +1,8 @@
 -- Why a load clashed, paper 3: the chains of P5, P6 and P7, from a boot of any tables that boot accepts.
-use mathlib.Core.Path.{_≡_, refl, sym, ap, _∙_}
-use mathlib.Core.Bool.{true, false}
+use mathlib.Core.Path.{_≡_, refl, ap, _∙_}
 use mathlib.Core.List.{List, [], _∷_, _++_, map}
 use Prim.Native.Nat.{ℕ}
-use lib.ListN.{length, replicate, take}
-use Rattle.definition.specs.declared.Reply.{Reply}
+use lib.ListN.{replicate, take}
 use Rattle.definition.specs.declared.Reply.the-variants.{Accepted}
 use Rattle.definition.specs.Lists.{every, all, any, doubled, indexOf, isSome, isNone, toList, rows, writeRows}
 use Rattle.definition.specs.Maybe as Maybe
@@ -19,13 +17,12 @@ use Rattle.definition.specs.Instructions.{pick, opcodeOf, inlineLength, shortAt
 use Rattle.definition.specs.Verifier.{typeOfName, meetClass, meetInt, meets, meetKind, pop, effect, returns, returnKind, target, goesOn, mapAt, localType, meetLocal, meetAll, meetMap, flowInto, flowToTarget, startAt, after, mapsPast, verify, typesAt, unmappedFrom, unmapped, notesOfMethod, notesOf}
 use Rattle.definition.specs.Verifier as Verifier
 use Rattle.definition.specs.Loading.{subtypeIs, newSubtypes, overrideTie, overrideTies, hides, define, recorded}
-use Rattle.definition.specs.Tables.{Tables, Rows, fileAt, classAt, view}
-use Rattle.definition.specs.Broken.{broken}
+use Rattle.definition.specs.Tables.{Tables, Rows, fileAt, classAt}
 use Rattle.definition.specs.Calls.{Call, callDefine, callRecord, numberedOn, bootRows, boot, performAll, defineRows, recordRows}
 use Rattle.definition.specs.Reasons.{Tried, tieLinks, subtypeLinks, precedes, earlier, firstOf, ended, along, best, bestFrom, ofLength, shortest, reasonBy, reason, listed, afterDefine, reasonAfter, tried, tryDefineRows, tryTables, tryDefine}
 use Rattle.definition.specs.Computing.OnRows.{settle, onRows, performRows, performAllRows}
 use Rattle.definition.specs.Computing.Samples.{two, method, fileOf, plain, taker, lifts, ready, tied12, tied123}
-use Rattle.unbroken.specs.OnRows.{Shows, accepted-shaped, same-booted}
+use Rattle.unbroken.specs.OnRows.{accepted-shaped, same-booted}
 
 -- a case's number, what goes before, the define that is tried, its word, and the rows of the chain
 pub record TriedCase : Type 0 where

@@ -2,17 +2,17 @@
 -- shorter, and none as long goes before it.
 use mathlib.Core.Path.{_≡_, refl, sym, ap, _∙_}
 use mathlib.Core.Bool.{Bool, true, false, false≢true, not}
-use mathlib.Core.Option.{Option, none, some, Option·none-ne-some, Option·some-injective}
+use mathlib.Core.Option.{Option, none, some}
 use mathlib.Core.List.{List, [], _∷_, _++_, map, List·Memᴰ, List·Memᴰ·head, List·Memᴰ·tail, List·Memᴰ·not-nil}
 use mathlib.Core.Logic.{_⊎_, inl, inr}
-use Prim.Native.Nat.{ℕ, zero, suc, _+_, _≤_, _<_}
+use Prim.Native.Nat.{ℕ, suc, _+_, _≤_, _<_}
 use native.Mathlib.Omega.{arith}
 use lib.ListN.{length, length-map}
 use lib.Dec.{eqb}
-use borrow.Author.Tests.{eqb-true, eqb-false, ne-eqb, eq-eqb}
+use borrow.Author.Tests.{eqb-true, eqb-false, ne-eqb}
 use Rattle.definition.specs.Chains.{Chain, Edge, stay, hop}
 use Rattle.definition.specs.Requests.{Request, at}
-use Rattle.definition.specs.Classes.{Entry, find, superOf}
+use Rattle.definition.specs.Classes.{find, superOf}
 use Rattle.definition.specs.Constraints.{Tie, Subtype, World, Agrees, agrees, edges, tieEdges, subtypeEdges}
 use Rattle.definition.specs.Superclasses.{Below, below}
 use Rattle.definition.specs.Tables.{RowNumbers}
@@ -21,7 +21,7 @@ use Rattle.laws.specs.Chains.{chain-join}
 use Rattle.laws.specs.Upward.{below-true, true-below}
 use Rattle.laws.specs.Agreement.{super-falls, agrees-true, true-agrees}
 use Rattle.laws.specs.Earlier.{Order, NotBefore, neither-before}
-use Rattle.laws.specs.Clashes.{Led, Leads, Clashing, First, other, notBelow, shortest-first, shortest-none}
+use Rattle.laws.specs.Clashes.{Clashing, First, other, shortest-first, shortest-none}
 
 -- A list none of which stands twice is no longer than one that has all of it
 
@@ -154,14 +154,26 @@ module _ {before : ℕ → ℕ → Bool} (order : Order before) (w : World) (m :
     where
       go : Clashing w m ns → Breaks w m ns
       go (inl l) = let k = l .led in record {
-        first = l .first; through = k .through; last = k .last; low = l .low; high = k .high; firstMeans = l .means; lastMeans = k .means;
+        first = l .first;
+        through = k .through;
+        last = k .last;
+        low = l .low;
+        high = k .high;
+        firstMeans = l .means;
+        lastMeans = k .means;
         upward = up-more (tiesOnly w m) (links w m) (l .first) (k .through) ns (k .last) (tie-link w m) (k .upward);
         once = least-distinct (tiesOnly w m) (l .first) (k .through) ns (k .last) (k .upward) (λ ps ms u.
             f .least ms (inl (record { first = l .first; low = l .low; means = l .means; led = record { through = ps; last = k .last; high = k .high; upward = u; means = k .means; isBad = k .isBad } })) (omega arith));
         breaks = inl (k .upward, eqb-false (l .low) (k .high) (not-true (eqb (l .low) (k .high)) (k .isBad)));
       }
       go (inr l) = let k = l .led in record {
-        first = l .first; through = k .through; last = k .last; low = l .low; high = k .high; firstMeans = l .means; lastMeans = k .means;
+        first = l .first;
+        through = k .through;
+        last = k .last;
+        low = l .low;
+        high = k .high;
+        firstMeans = l .means;
+        lastMeans = k .means;
         upward = k .upward;
         once = least-distinct (links w m) (l .first) (k .through) ns (k .last) (k .upward) (λ ps ms u.
             f .least ms (inr (record { first = l .first; low = l .low; means = l .means; led = record { through = ps; last = k .last; high = k .high; upward = u; means = k .means; isBad = k .isBad } })) (omega arith));

@@ -1,12 +1,12 @@
 -- The tried loads: a load that is refused with 9 would leave a store that doesn't agree, with its entry and its constraints behind the stored ones.
-use mathlib.Core.Path.{_≡_, refl, sym, ap, _∙_}
+use mathlib.Core.Path.{_≡_, refl, sym}
 use mathlib.Core.Bool.{Bool, true, false, false≢true}
 use mathlib.Core.Option.{Option, none, some}
 use mathlib.Core.List.{List, [], _∷_, _++_, append-nil}
 use Prim.Native.Nat.{ℕ, _≤_}
 use native.Mathlib.Omega.{arith}
 use lib.ListN.{length}
-use lib.Dec.{eqb, leb, ltb}
+use lib.Dec.{eqb, ltb}
 use borrow.Author.Tests.{leb-true}
 use Rattle.definition.specs.declared.Refusal.{Refusal}
 use Rattle.definition.specs.declared.Refusal.the-variants.{Word}
@@ -15,9 +15,8 @@ use Rattle.definition.specs.Answers.{Result, ok, refused, need, _>>=_, number}
 use Rattle.definition.specs.Requests.{at}
 use Rattle.definition.specs.Classes.{find}
 use Rattle.definition.specs.Constraints.{Tie, Subtype, World, agrees}
-use Rattle.definition.specs.Loading.{define, recorded, newSubtypes, overrideTies, withClass, withEntry}
-use Rattle.definition.specs.File.{readFile, classOf}
-use Rattle.definition.specs.Verifier.{notesOf}
+use Rattle.definition.specs.Loading.{define, recorded, newSubtypes, withEntry}
+use Rattle.definition.specs.File.{readFile}
 use Rattle.definition.specs.Tables.{Rows, worldOf}
 use Rattle.definition.specs.Calls.{defineRows, recordRows}
 use Rattle.definition.specs.Reasons.{afterDefine, afterRecord}
@@ -51,22 +50,22 @@ define-clash l bs r =
     (on-test P _ _ _ (λ _ e. absurd (omega arith)) (λ _. on-take P _ _ _ (λ _ e. absurd (omega arith)) (λ ns en. on-test P _ _ _ (λ _ e. absurd (omega arith)) (λ _.
     on-take P _ _ _ (λ _ e. absurd (omega arith)) (λ p ep. on-test P _ _ _ (λ _ e. absurd (omega arith)) (λ _. on-test P _ _ _ (λ _ e. absurd (omega arith)) (λ full.
     on-test P _ _ _ (λ a _.
-        let x = every-on _ _ full in
-        let y = every-on _ _ (x .1) in
-        let z = every-on _ _ (y .1) in
-        let u = every-on _ _ (z .1) in
-        let v = every-on _ _ (u .1) in
-        record {
-          world = _;
-          left = some-bind (readFile bs) _ ef (some-bind _ _ en (some-bind _ _ ep refl));
-          disagrees = a;
-          newTies = _;
-          newSubtypes = _;
-          ties = refl;
-          subtypes = refl;
-          tieRoom = λ _. leb-true _ _ (u .0);
-          subtypeRoom = λ _. leb-true _ _ (v .0);
-        }) (λ _. tt)))))))) (λ _ _. tt)))
+    let x = every-on _ _ full in
+    let y = every-on _ _ (x .1) in
+    let z = every-on _ _ (y .1) in
+    let u = every-on _ _ (z .1) in
+    let v = every-on _ _ (u .1) in
+    record {
+      world = _;
+      left = some-bind (readFile bs) _ ef (some-bind _ _ en (some-bind _ _ ep refl));
+      disagrees = a;
+      newTies = _;
+      newSubtypes = _;
+      ties = refl;
+      subtypes = refl;
+      tieRoom = λ _. leb-true _ _ (u .0);
+      subtypeRoom = λ _. leb-true _ _ (v .0);
+    }) (λ _. tt)))))))) (λ _ _. tt)))
   where
     P : Refusal → Type 0
     P = On9 r (afterDefine l bs (worldOf r))

@@ -1,32 +1,36 @@
 -- The tried loads on a store that isn't broken. One that would clash lists a chain of the store as it would be after the load: the chain breaks agreement, repeats
 -- no request and no row, and has at most 512 rows; no chain that breaks agreement is shorter, and none as long goes before it.
-use mathlib.Core.Path.{_≡_, refl, sym, ap, _∙_}
+use mathlib.Core.Path.{_≡_, refl, ap, _∙_}
 use mathlib.Core.Bool.{Bool, true, false, not, _&&_}
 use mathlib.Core.Option.{Option, none, some}
 use mathlib.Core.List.{List, [], _∷_, _++_, List·Memᴰ, List·Memᴰ·head, List·Memᴰ·tail}
-use mathlib.Core.Logic.{_⊎_, inl, inr}
 use Prim.Native.Nat.{ℕ, suc, _+_, _≤_, _<_}
 use native.Mathlib.Omega.{arith}
-use lib.ListN.{length, length-append, set}
+use lib.ListN.{length, length-append, length-set, getD, set}
+use lib.Seq.{getD-set-same, getD-set-other}
 use lib.Dec.{eqb, ltb}
 use borrow.Author.Tests.{lt-ltb, le-ltb, ne-eqb, eq-eqb}
-use Rattle.definition.specs.Lists.{writeRows}
+use Rattle.definition.specs.Lists.{rows, writeRows}
 use Rattle.definition.specs.Constraints.{World}
-use Rattle.definition.specs.Tables.{RowNumbers, Rows, worldOf}
-use Rattle.definition.specs.Calls.{Given, numberedOn, defineRows, recordRows}
+use Rattle.definition.specs.Tables.{Tables, RowNumbers, Rows, worldOf, view}
+use Rattle.definition.specs.Broken.{broken}
+use Rattle.definition.specs.Calls.{Given, Done, done, carried, wrap, numberedOn, defineRows, recordRows, callDefine, callRecord, perform}
 use Rattle.definition.specs.Answers.{Result, ok, refused, number}
 use Rattle.definition.specs.declared.Reply.{Reply}
 use Rattle.definition.specs.declared.Reply.the-variants.{Denied}
 use Rattle.definition.specs.declared.Refusal.the-variants.{Word}
 use Rattle.definition.specs.declared.Refusal.{Refusal}
-use Rattle.definition.specs.Reasons.{Distinct, Breaks, reason, reasonAfter, Tried, unlisted, listed, tried, afterDefine, afterRecord}
+use Rattle.definition.specs.Reasons.{Distinct, Breaks, reason, reasonAfter, Tried, unlisted, listed, tried, afterDefine, afterRecord, tryDefineRows, tryRecordRows, tryTables, tryDefine, tryRecord}
 use Rattle.laws.specs.Options.{some-bind}
 use Rattle.laws.specs.Earlier.{NotBefore, lower-first}
-use Rattle.laws.specs.Chosen.{Numbered, clash-reason, reason-breaks, reason-shortest, reason-not-later}
+use Rattle.laws.specs.Chosen.{clash-reason, reason-breaks, reason-shortest, reason-not-later}
 use Rattle.laws.specs.Listed.{breaks-once, breaks-count}
 use Rattle.laws.specs.Refusals.{Refuses}
 use Rattle.laws.specs.Tried.{Clashed, define-clash, record-clash}
 use Rattle.layout.specs.Whole.{Whole}
+use Rattle.layout.specs.Places.{rows-written, writeRows-length}
+use Rattle.layout.specs.Rows.{Anything, all-anything}
+use Rattle.layout.specs.Unbroken.{broken-false}
 use Rattle.layout.specs.InTurn.{RisesFrom, InWords, in-turn-words, numbering-on}
 
 -- Numbers in turn are distinct
@@ -68,7 +72,7 @@ unfolding reasonAfter reason
 clash-reasoned r w after c =
     let m : RowNumbers = numberedOn (c .world .ties) (c .world .subtypes) r in
     let n = numbering-on r (w .numbers) (c .world .ties) (c .world .subtypes)
-        (omega (arith, ap length (c .ties), length-append (r .ties) (c .newTies))) (omega (arith, ap length (c .subtypes), length-append (r .subtypes) (c .newSubtypes))) in
+    (omega (arith, ap length (c .ties), length-append (r .ties) (c .newTies))) (omega (arith, ap length (c .subtypes), length-append (r .subtypes) (c .newSubtypes))) in
     let d = words-distinct m (in-turn-words m (n .turn)) in
     let e = clash-reason lower-first (c .world) m (record { ties = n .ties; subtypes = n .subtypes }) (c .disagrees) in
     let b = reason-breaks lower-first (c .world) m (e .0) (e .1) in
@@ -163,3 +167,63 @@ module _ (r : Rows) (after : Option World) where
       → tried r after (refused x) out ≡ record { answer = Denied x; count = length ns; list = writeRows set ns 0 out }
   unfolding listed
   tried-listed x out ns e h f = its-way x out (le-ltb (length out) 512 h) refl (eq-eqb (number x) 9 e) ∙ ap (λ (c : Option (List ℕ)). listed (Denied x) c out) f
+
+-- The lent list: it begins with the chain, and is past it as it was
+
+pub listed-chain : (ns out : List ℕ) → length ns ≤ length out → rows (λ i. getD (writeRows set ns 0 out) i 0) (length ns) 0 ≡ ns
+listed-chain ns out h =
+    rows-written set length-set (λ t i. getD t i 0) Anything (length out) (length ns) (λ u i x e l p. getD-set-same u i x 0 (omega arith)) (λ u i j x l p q. getD-set-other u j i x 0 (λ e. omega arith))
+    ns 0 (omega arith) (all-anything ns) out refl
+
+past-from : (ns : List ℕ) (i : ℕ) (out : List ℕ) (j : ℕ) → i + length ns ≤ j → getD (writeRows set ns i out) j 0 ≡ getD out j 0
+unfolding writeRows
+past-from [] i out j h = refl
+past-from (n ∷ ns) i out j h = getD-set-other (writeRows set ns (suc i) out) i j n 0 (λ e. omega arith) ∙ past-from ns (suc i) out j (omega arith)
+
+pub listed-past : (ns out : List ℕ) (j : ℕ) → length ns ≤ j → getD (writeRows set ns 0 out) j 0 ≡ getD out j 0
+listed-past ns out j h = past-from ns 0 out j (omega arith)
+
+pub listed-length : (ns out : List ℕ) → length (writeRows set ns 0 out) ≡ length out
+listed-length ns out = writeRows-length set length-set ns 0 out
+
+-- On tables
+
+module _ (t : Tables) (out : List ℕ) (long : 512 ≤ length out) where
+  -- broken or not, the answer is what the load itself gets
+  answer-same : (f : Rows → Result (Given Reply)) (after : Rows → Option World) → tryTables (λ o r. tried r (after r) (f r) o) out t .answer ≡ wrap Denied f t .answer
+  unfolding tryTables wrap carried
+  answer-same f after = go (broken t)
+    where
+      reply : (o : Result (Given Reply)) → replyOf o ≡ carried Denied t o .answer
+      reply (refused x) = refl
+      reply (ok g) = refl
+
+      go : (b : Bool) → (elim b as (λ _. Tried) [ true ↦ unlisted (Denied (Word 1)) out | false ↦ tried (view t) (after (view t)) (f (view t)) out ]) .answer
+          ≡ (elim b as (λ _. Done Reply) [ true ↦ done (Denied (Word 1)) t | false ↦ carried Denied t (f (view t)) ]) .answer
+      go true = refl
+      go false = tried-answer (view t) (after (view t)) (f (view t)) out long ∙ reply (f (view t))
+
+  pub try-define-answer : (l : ℕ) (bs : List ℕ) → tryDefine l bs out t .answer ≡ perform (callDefine l bs) t .answer
+  unfolding tryDefineRows perform
+  try-define-answer l bs = answer-same (defineRows l bs) (λ r. afterDefine l bs (worldOf r))
+
+  pub try-record-answer : (l n c : ℕ) → tryRecord l n c out t .answer ≡ perform (callRecord l n c) t .answer
+  unfolding tryRecordRows perform
+  try-record-answer l n c = answer-same (recordRows l n c) (λ r. afterRecord l n c (worldOf r))
+
+  -- every clash lists a chain that breaks agreement
+  module _ (whole : broken t ≡ false) (x : Refusal) (clash : number x ≡ 9) where
+    abbrev pub Lists : Option World → Tried → Type 0
+    Lists after d = (c : Reasoned (view t) after) × (d ≡ record { answer = Denied x; count = length (c .chain); list = writeRows set (c .chain) 0 out })
+
+    pub try-define-lists : (l : ℕ) (bs : List ℕ) → defineRows l bs (view t) ≡ refused x → Lists (afterDefine l bs (worldOf (view t))) (tryDefine l bs out t)
+    unfolding tryTables tryDefineRows
+    try-define-lists l bs e =
+        let c = define-reasoned l bs (view t) (broken-false t whole .1) x e clash in
+        (c, rw (whole, tryTables) (rw e (tried-listed (view t) (afterDefine l bs (worldOf (view t))) x out (c .chain) clash long (c .found))))
+
+    pub try-record-lists : (l n c : ℕ) → recordRows l n c (view t) ≡ refused x → Lists (afterRecord l n c (worldOf (view t))) (tryRecord l n c out t)
+    unfolding tryTables tryRecordRows
+    try-record-lists l n k e =
+        let c = record-reasoned l n k (view t) (broken-false t whole .1) x e clash in
+        (c, rw (whole, tryTables) (rw e (tried-listed (view t) (afterRecord l n k (worldOf (view t))) x out (c .chain) clash long (c .found))))
