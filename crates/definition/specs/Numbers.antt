@@ -50,6 +50,9 @@ wordStuck = 14
 abbrev pub wordUnmapped : ℕ
 wordUnmapped = 15
 
+abbrev pub wordShort : ℕ
+wordShort = 16
+
 -- Names: 0 is none; others than these are free
 
 abbrev pub nameInt : ℕ
@@ -102,6 +105,10 @@ localCount = 8
 -- steps of a run
 abbrev pub runLimit : ℕ
 runLimit = 65535
+
+-- the numbers that the list lent to a tried load has room for: one for each row of ties and of subtype constraints
+abbrev pub listLimit : ℕ
+listLimit = 512
 
 -- The file: its version, its bytes, the fields or methods that it declares, the bytes of a method's code
 
@@ -250,9 +257,9 @@ abbrev pub allNumbers : List ℕ
 allNumbers =
     wordBroken ∷ wordFile ∷ wordUnknown ∷ wordTaken ∷ wordWanted ∷ wordUnverified
     ∷ wordAbsent ∷ wordHidden ∷ wordClash ∷ wordFull ∷ wordNull ∷ wordBusy
-    ∷ wordMisnamed ∷ wordStuck ∷ wordUnmapped ∷ nameInt ∷ nameObject ∷ loaderLimit ∷ taskLimit
+    ∷ wordMisnamed ∷ wordStuck ∷ wordUnmapped ∷ wordShort ∷ nameInt ∷ nameObject ∷ loaderLimit ∷ taskLimit
     ∷ classLimit ∷ keptLimit ∷ cacheLimit ∷ tieLimit ∷ subtypeLimit ∷ objectLimit
-    ∷ fieldLimit ∷ frameLimit ∷ operandLimit ∷ localCount ∷ runLimit ∷ versionOne ∷ versionTwo
+    ∷ fieldLimit ∷ frameLimit ∷ operandLimit ∷ localCount ∷ runLimit ∷ listLimit ∷ versionOne ∷ versionTwo
     ∷ fileLimit ∷ memberLimit ∷ codeLimit ∷ countClasses ∷ countKept ∷ countCache
     ∷ countTies ∷ countSubtypes ∷ countObjects ∷ countFrames ∷ ownersCell ∷ tieNumbersCell ∷ subtypeNumbersCell ∷ rowCells ∷ valueCells
     ∷ fieldsCell ∷ objectCells ∷ methodCell ∷ pointCell ∷ depthCell ∷ localsCell

@@ -34,6 +34,8 @@ pub const WORD_STUCK: u8 = 14;
 
 pub const WORD_UNMAPPED: u8 = 15;
 
+pub const WORD_SHORT: u8 = 16;
+
 // Names: 0 is none; others than these are free.
 pub const NAME_INT: u16 = 1;
 
@@ -65,6 +67,8 @@ pub const OPERAND_LIMIT: u32 = 16;
 pub const LOCAL_COUNT: u8 = 8;
 // Steps of a run.
 pub const RUN_LIMIT: u32 = 65535;
+// The numbers that the list lent to a tried load has room for.
+pub const LIST_LIMIT: usize = 512;
 
 // The file: its version, its bytes, the fields or methods that it declares, the bytes of a method's code.
 pub const VERSION_ONE: u8 = 1;
@@ -158,7 +162,7 @@ pub const INT_RANGE: usize = 4294967296;
 pub const SIGN_BIT: u32 = 2147483648;
 
 // Every number above, in the order of their names in specs/Numbers.antt.
-pub fn all_numbers() -> [u64; 71]
+pub fn all_numbers() -> [u64; 73]
     ensures { λ r. ⌜ r ≡ allNumbers ⌝ }
 {
     [
@@ -177,6 +181,7 @@ pub fn all_numbers() -> [u64; 71]
         WORD_MISNAMED as u64,
         WORD_STUCK as u64,
         WORD_UNMAPPED as u64,
+        WORD_SHORT as u64,
         NAME_INT as u64,
         NAME_OBJECT as u64,
         LOADER_LIMIT as u64,
@@ -192,6 +197,7 @@ pub fn all_numbers() -> [u64; 71]
         OPERAND_LIMIT as u64,
         LOCAL_COUNT as u64,
         RUN_LIMIT as u64,
+        LIST_LIMIT as u64,
         VERSION_ONE as u64,
         VERSION_TWO as u64,
         FILE_LIMIT as u64,

@@ -51,7 +51,7 @@ classIn (Branch c p) = none
 classIn (Return kind) = none
 
 module _ (P : Refusal → Type 0) where
-  on-bind : {A B : Type 0} (o : Result A) (f : A → Result B) → Refuses P o → ((a : A) → o ≡ ok a → Refuses P (f a)) → Refuses P (o >>= f)
+  pub on-bind : {A B : Type 0} (o : Result A) (f : A → Result B) → Refuses P o → ((a : A) → o ≡ ok a → Refuses P (f a)) → Refuses P (o >>= f)
   unfolding _>>=_
   on-bind (refused w) f h k = h
   on-bind (ok a) f h k = k a refl
@@ -61,7 +61,12 @@ module _ (P : Refusal → Type 0) where
   on-need true w f h k = k tt
   on-need false w f h k = h
 
-  on-take : {A B : Type 0} (o : Option A) (w : Refusal) (f : A → Result B) → (o ≡ none → P w) → ((a : A) → o ≡ some a → Refuses P (f a)) → Refuses P (take? o w >>= f)
+  pub on-test : {B : Type 0} (t : Bool) (w : Refusal) (f : Unit {0} → Result B) → (t ≡ false → P w) → (t ≡ true → Refuses P (f tt)) → Refuses P (need t w >>= f)
+  unfolding _>>=_ need
+  on-test true w f h k = k refl
+  on-test false w f h k = h refl
+
+  pub on-take : {A B : Type 0} (o : Option A) (w : Refusal) (f : A → Result B) → (o ≡ none → P w) → ((a : A) → o ≡ some a → Refuses P (f a)) → Refuses P (take? o w >>= f)
   unfolding _>>=_ take?
   on-take none w f h k = h refl
   on-take (some a) w f h k = k a refl

@@ -17,6 +17,7 @@ pub mod Loaded
 pub mod Tasks
 pub mod Parts
 pub mod Numbers
+pub mod Tried
 pub mod Lasting
 pub mod Resolution
 pub mod Waiting

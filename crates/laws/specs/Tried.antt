@@ -1,0 +1,96 @@
+-- The tried loads: a load that is refused with 9 would leave a store that doesn't agree, with its entry and its constraints behind the stored ones.
+use mathlib.Core.Path.{_≡_, refl, sym}
+use mathlib.Core.Bool.{Bool, true, false, false≢true}
+use mathlib.Core.Option.{Option, none, some}
+use mathlib.Core.List.{List, [], _∷_, _++_, append-nil}
+use Prim.Native.Nat.{ℕ, _≤_}
+use native.Mathlib.Omega.{arith}
+use lib.ListN.{length}
+use lib.Dec.{eqb, ltb}
+use borrow.Author.Tests.{leb-true}
+use Rattle.definition.specs.declared.Refusal.{Refusal}
+use Rattle.definition.specs.declared.Refusal.the-variants.{Word}
+use Rattle.definition.specs.Lists.{every}
+use Rattle.definition.specs.Answers.{Result, ok, refused, need, _>>=_, number}
+use Rattle.definition.specs.Requests.{at}
+use Rattle.definition.specs.Classes.{find}
+use Rattle.definition.specs.Constraints.{Tie, Subtype, World, agrees}
+use Rattle.definition.specs.Loading.{define, recorded, newSubtypes, withEntry}
+use Rattle.definition.specs.File.{readFile}
+use Rattle.definition.specs.Tables.{Rows, worldOf}
+use Rattle.definition.specs.Calls.{defineRows, recordRows}
+use Rattle.definition.specs.Reasons.{afterDefine, afterRecord}
+use Rattle.laws.specs.Options.{some-bind}
+use Rattle.laws.specs.Refusals.{Refuses, on-bind, on-test, on-take}
+
+-- what the load would leave
+pub record Clashed (r : Rows) (after : Option World) : Type 0 where
+  pub world : World
+  pub left : after ≡ some world
+  pub disagrees : agrees world ≡ false
+  pub newTies : List Tie
+  pub newSubtypes : List Subtype
+  pub ties : world .ties ≡ r .ties ++ newTies
+  pub subtypes : world .subtypes ≡ r .subtypes ++ newSubtypes
+  pub tieRoom : length (r .ties) ≤ 256 → length (world .ties) ≤ 256
+  pub subtypeRoom : length (r .subtypes) ≤ 256 → length (world .subtypes) ≤ 256
+
+abbrev On9 : Rows → Option World → Refusal → Type 0
+On9 r after w = number w ≡ 9 → Clashed r after
+
+every-on : (b : Bool) (bs : List Bool) → every (b ∷ bs) ≡ true → (b ≡ true) × (every bs ≡ true)
+unfolding every
+every-on true bs h = (refl, h)
+every-on false bs h = absurd (false≢true h)
+
+pub define-clash : (l : ℕ) (bs : List ℕ) (r : Rows) → Refuses (On9 r (afterDefine l bs (worldOf r))) (defineRows l bs r)
+unfolding defineRows define afterDefine number
+define-clash l bs r =
+    on-test P _ _ _ (λ _ e. absurd (omega arith)) (λ _. on-take P _ _ _ (λ _ e. absurd (omega arith)) (λ f ef. on-bind P _ _
+    (on-test P _ _ _ (λ _ e. absurd (omega arith)) (λ _. on-take P _ _ _ (λ _ e. absurd (omega arith)) (λ ns en. on-test P _ _ _ (λ _ e. absurd (omega arith)) (λ _.
+    on-take P _ _ _ (λ _ e. absurd (omega arith)) (λ p ep. on-test P _ _ _ (λ _ e. absurd (omega arith)) (λ _. on-test P _ _ _ (λ _ e. absurd (omega arith)) (λ full.
+    on-test P _ _ _ (λ a _.
+    let x = every-on _ _ full in
+    let y = every-on _ _ (x .1) in
+    let z = every-on _ _ (y .1) in
+    let u = every-on _ _ (z .1) in
+    let v = every-on _ _ (u .1) in
+    record {
+      world = _;
+      left = some-bind (readFile bs) _ ef (some-bind _ _ en (some-bind _ _ ep refl));
+      disagrees = a;
+      newTies = _;
+      newSubtypes = _;
+      ties = refl;
+      subtypes = refl;
+      tieRoom = λ _. leb-true _ _ (u .0);
+      subtypeRoom = λ _. leb-true _ _ (v .0);
+    }) (λ _. tt)))))))) (λ _ _. tt)))
+  where
+    P : Refusal → Type 0
+    P = On9 r (afterDefine l bs (worldOf r))
+
+pub record-clash : (l n c : ℕ) (r : Rows) → Refuses (On9 r (afterRecord l n c (worldOf r))) (recordRows l n c r)
+unfolding recordRows recorded number
+record-clash l n c r =
+    on-bind P _ _ (on-test P _ _ _ (λ _ e. absurd (omega arith)) (λ _. on-take P _ _ _ (λ _ e. absurd (omega arith)) (λ _ _. on-test P _ _ _ (λ _ e. absurd (omega arith)) (λ _. go (find (r .cache) (at l n)))))) (λ _ _. tt)
+  where
+    P : Refusal → Type 0
+    P = On9 r (afterRecord l n c (worldOf r))
+
+    go : (o : Option ℕ) → Refuses {A = World} P (elim o as (λ _. Result World) [
+      | some d ↦ need (eqb d c) (Word 4) >>= λ _. ok (worldOf r)
+      | none ↦ need (ltb (length (r .cache)) 256) (Word 10) >>= λ _. need (agrees (withEntry (worldOf r) (at l n) c)) (Word 9) >>= λ _. ok (withEntry (worldOf r) (at l n) c)
+    ])
+    go none = on-test P _ _ _ (λ _ e. absurd (omega arith)) (λ _. on-test P _ _ _ (λ a _. record {
+      world = withEntry (worldOf r) (at l n) c;
+      left = refl;
+      disagrees = a;
+      newTies = [];
+      newSubtypes = [];
+      ties = sym (append-nil (r .ties));
+      subtypes = sym (append-nil (r .subtypes));
+      tieRoom = λ h. h;
+      subtypeRoom = λ h. h;
+    }) (λ _. tt))
+    go (some d) = on-test P _ _ _ (λ _ e. absurd (omega arith)) (λ _. tt)
