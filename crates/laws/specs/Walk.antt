@@ -20,7 +20,6 @@ use Rattle.definition.specs.declared.Kind.{Kind}
 use Rattle.definition.specs.declared.Instruction.{Instruction}
 use Rattle.definition.specs.declared.Instruction.the-variants.{Return}
 use Rattle.laws.specs.Options.{bind-some, some-bind, need-true}
-
 pub use Rattle.laws.specs.WalkTurns.{return-is, successors, Turns, Types, Notes, Returned, Effected, turn-cases}
 use Rattle.laws.specs.WalkTurns.{After, after-cases, into-mapped, landed, nothing, eqb-differs, pointOf, typesOf}
 

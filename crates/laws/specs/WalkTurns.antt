@@ -20,7 +20,6 @@ use Rattle.definition.specs.declared.Instruction.the-variants.{AconstNull, Sipu
 use Rattle.laws.specs.Options.{bind-some}
 use Rattle.laws.specs.Sized.{sized}
 
-
 -- an instruction with a return's kind is that return
 pub return-is : (i : Instruction) (kind : Kind) → returnKind i ≡ some kind → i ≡ Return kind
 unfolding returnKind
@@ -58,7 +57,6 @@ pointOf (onto p s) = p
 unfoldable pub typesOf : Onward → Option TypeState
 typesOf finished = none
 typesOf (onto p s) = some s
-
 
 module _ (version : ℕ) (code : List ℕ) (maps : List Map) (result : ℕ) where
   abbrev pub Turns : ℕ → TypeState → Turn → Type 0
