@@ -1,13 +1,13 @@
 -- Why a load clashed: the chains of rows that break agreement, the one that is listed, and the tried loads.
 use mathlib.Core.Path.{_≡_}
-use mathlib.Core.Bool.{Bool, true, false, not, _&&_}
+use mathlib.Core.Bool.{Bool, true, false, not}
 use mathlib.Core.Option.{Option, none, some}
 use mathlib.Core.List.{List, [], _∷_, _++_, List·Memᴰ}
 use mathlib.Core.Logic.{_⊎_}
 use Prim.Native.Nat.{ℕ, zero, suc}
 use lib.ListN.{length, set}
 use lib.Dec.{eqb, ltb}
-use Rattle.definition.specs.Numbers.{wordBroken, wordUnknown, wordClash, wordShort, listLimit}
+use Rattle.definition.specs.Numbers.{wordBroken, wordClash}
 use Rattle.definition.specs.Lists.{writeRows}
 use Rattle.definition.specs.Maybe.{_>>=_}
 use Rattle.definition.specs.Chains.{Edge}
@@ -21,7 +21,7 @@ use Rattle.definition.specs.Loading.{newSubtypes, overrideTies, withClas
 use Rattle.definition.specs.Answers.{Word, Reply, Denied, Result, refused, ok, number}
 use Rattle.definition.specs.Tables.{Tables, RowNumbers, Rows, worldOf, view}
 use Rattle.definition.specs.Broken.{broken}
-use Rattle.definition.specs.Calls.{Given, numberedOn, defineRows, recordRows}
+use Rattle.definition.specs.Calls.{Given, Load, loadDefine, loadRecord, tryRows, numberedOn}
 
 -- A link: a row's number, with the request that the row leads from and the one that it leads to. Upward a tie is walked either way, a subtype constraint from
 -- its lower name to its higher.
@@ -115,26 +115,29 @@ module _ (before : ℕ → ℕ → Bool) where
     unfoldable pub bestFrom : ℕ → Entry → Option (List ℕ)
     bestFrom n e = find cache (e .request) >>= λ c. best n c (e .request)
 
-  -- the first list of n rows that breaks agreement: by ties alone between different classes, or to a class that the first isn't or isn't below
-  unfoldable pub ofLength : World → RowNumbers → ℕ → Option (List ℕ)
-  ofLength w m n = earlier
-      (firstOf (bestFrom (w .base .cache) (tiesOnly w m) (λ c d. not (eqb c d)) n) (w .base .cache))
-      (firstOf (bestFrom (w .base .cache) (links w m) (λ c d. not (below (superOf (w .base)) c d)) n) (w .base .cache))
+  -- Of a cache, by direct superclasses, ties T and all links L
+  module _ (sup : ℕ → Option ℕ) (cache : List Entry) (T L : List Link) where
+    -- the first list of n rows that breaks agreement: by ties alone between different classes, or to a class that the first isn't or isn't below
+    unfoldable pub ofLength : ℕ → Option (List ℕ)
+    ofLength n = earlier (firstOf (bestFrom cache T (λ c d. not (eqb c d)) n) cache) (firstOf (bestFrom cache L (λ c d. not (below sup c d)) n) cache)
 
-  -- at the least length from n on, of k lengths
-  unfoldable pub shortest : World → RowNumbers → ℕ → ℕ → Option (List ℕ)
-  shortest w m zero n = none
-  shortest w m (suc k) n = elim (ofLength w m n) [ none ↦ shortest w m k (suc n) | some ns ↦ some ns ]
+    -- at the least length from n on, of k lengths
+    unfoldable pub shortest : ℕ → ℕ → Option (List ℕ)
+    shortest zero n = none
+    shortest (suc k) n = elim (ofLength n) [ none ↦ shortest k (suc n) | some ns ↦ some ns ]
 
-  -- no chain without a repeated request has more rows than there are links
-  unfoldable pub reasonBy : World → RowNumbers → Option (List ℕ)
-  reasonBy w m = shortest w m (suc (length (links w m))) 0
+    -- no chain without a repeated request has more rows than there are links
+    unfoldable pub reasonOver : Option (List ℕ)
+    reasonOver = shortest (suc (length L)) 0
+
+  abbrev pub reasonBy : World → RowNumbers → Option (List ℕ)
+  reasonBy w m = reasonOver (superOf (w .base)) (w .base .cache) (tiesOnly w m) (links w m)
 
 -- the lower number goes first
 unfoldable pub reason : World → RowNumbers → Option (List ℕ)
 reason w m = reasonBy ltb w m
 
--- The tried loads: what the load itself would answer, the length of the chain, and the lent list. The store never changes.
+-- The tried loads: what the call answers, the length of the chain, and the lent list. The store never changes.
 
 pub record Tried : Type 0 where
   pub answer : Reply
@@ -158,36 +161,22 @@ afterDefine l bs w =
     find (w .base .cache) (at l (k .super)) >>= λ p.
     some (withClass w k (overrideTies (w .base) l p (w .ties) (k .methods)) (newSubtypes (w .subtypes) l ns)))
 
-abbrev pub afterRecord : ℕ → ℕ → ℕ → World → Option World
-afterRecord l n c w = some (withEntry w (at l n) c)
+abbrev pub afterLoad : Load → World → Option World
+afterLoad (loadDefine l bs) w = afterDefine l bs w
+afterLoad (loadRecord l n c) w = some (withEntry w (at l n) c)
 
 -- its own rows numbered after the stored ones
 unfoldable pub reasonAfter : Rows → Option World → Option (List ℕ)
 reasonAfter r after = after >>= λ w. reason w (numberedOn (w .ties) (w .subtypes) r)
 
--- word 16 comes straight after 3, a load's first test
+-- a chain is listed on a clash alone
 unfoldable pub tried : Rows → Option World → Result (Given Reply) → List ℕ → Tried
-tried r after (ok g) out = elim (ltb (length out) listLimit) [ true ↦ unlisted (Denied (Word wordShort)) out | false ↦ unlisted (g .answer) out ]
-tried r after (refused w) out = elim (ltb (length out) listLimit && not (eqb (number w) wordUnknown)) [
-  | true ↦ unlisted (Denied (Word wordShort)) out
-  | false ↦ elim (eqb (number w) wordClash) [ true ↦ listed (Denied w) (reasonAfter r after) out | false ↦ unlisted (Denied w) out ]
-]
+tried r after (ok g) out = unlisted (g .answer) out
+tried r after (refused w) out = elim (eqb (number w) wordClash) [ true ↦ listed (Denied w) (reasonAfter r after) out | false ↦ unlisted (Denied w) out ]
 
--- Refusals: 3 16 2 15 6 4 5 8 10 9
-unfoldable pub tryDefineRows : ℕ → List ℕ → List ℕ → Rows → Tried
-tryDefineRows l bs out r = tried r (afterDefine l bs (worldOf r)) (defineRows l bs r) out
+unfoldable pub tryLoadRows : Load → List ℕ → Rows → Tried
+tryLoadRows c out r = tried r (afterLoad c (worldOf r)) (tryRows c (length out) r) out
 
--- 3 16 13 4 10 9
-unfoldable pub tryRecordRows : ℕ → ℕ → ℕ → List ℕ → Rows → Tried
-tryRecordRows l n c out r = tried r (afterRecord l n c (worldOf r)) (recordRows l n c r) out
-
--- On tables: 1 comes first, and the tables stay as they were
-
-unfoldable pub tryTables : (List ℕ → Rows → Tried) → List ℕ → Tables → Tried
-tryTables f out t = elim (broken t) [ true ↦ unlisted (Denied (Word wordBroken)) out | false ↦ f out (view t) ]
-
-abbrev pub tryDefine : ℕ → List ℕ → List ℕ → Tables → Tried
-tryDefine l bs out t = tryTables (tryDefineRows l bs) out t
-
-abbrev pub tryRecord : ℕ → ℕ → ℕ → List ℕ → Tables → Tried
-tryRecord l n c out t = tryTables (tryRecordRows l n c) out t
+-- On tables: 1 comes first
+unfoldable pub tryLoad : Load → List ℕ → Tables → Tried
+tryLoad c out t = elim (broken t) [ true ↦ unlisted (Denied (Word wordBroken)) out | false ↦ tryLoadRows c out (view t) ]
