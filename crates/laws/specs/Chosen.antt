@@ -16,7 +16,7 @@ use Rattle.definition.specs.Classes.{find, superOf}
 use Rattle.definition.specs.Constraints.{Tie, Subtype, World, Agrees, agrees, edges, tieEdges, subtypeEdges}
 use Rattle.definition.specs.Superclasses.{Below, below}
 use Rattle.definition.specs.Tables.{RowNumbers}
-use Rattle.definition.specs.Reasons.{Link, link, Upward, Distinct, Breaks, tiesOnly, links, tieLinks, subtypeLinks, shortest, reasonBy}
+use Rattle.definition.specs.Reasons.{Link, link, Upward, Distinct, Breaks, tiesOnly, links, tieLinks, subtypeLinks, shortest, reasonOver, reasonBy}
 use Rattle.laws.specs.Chains.{chain-join}
 use Rattle.laws.specs.Upward.{below-true, true-below}
 use Rattle.laws.specs.Agreement.{super-falls, agrees-true, true-agrees}
@@ -149,7 +149,7 @@ breaks-length w m ns b =
 
 module _ {before : ℕ → ℕ → Bool} (order : Order before) (w : World) (m : RowNumbers) where
   -- the shortest that the search is for breaks agreement
-  pub first-breaks : (ns : List ℕ) → First order w m 0 ns → Breaks w m ns
+  pub first-breaks : (ns : List ℕ) → First order (superOf (w .base)) (w .base .cache) (tiesOnly w m) (links w m) 0 ns → Breaks w m ns
   first-breaks ns f = go (f .clashes)
     where
       go : Clashing w m ns → Breaks w m ns
@@ -181,23 +181,23 @@ module _ {before : ℕ → ℕ → Bool} (order : Order before) (w : World) (m :
       }
 
   -- The reason is the first
-  pub reason-first : (ns : List ℕ) → reasonBy before w m ≡ some ns → First order w m 0 ns
-  unfolding reasonBy
-  reason-first ns h = shortest-first order w m (suc (length (links w m))) 0 ns h
+  pub reason-first : (ns : List ℕ) → reasonBy before w m ≡ some ns → First order (superOf (w .base)) (w .base .cache) (tiesOnly w m) (links w m) 0 ns
+  unfolding reasonOver
+  reason-first ns h = shortest-first order (superOf (w .base)) (w .base .cache) (tiesOnly w m) (links w m) (suc (length (links w m))) 0 ns h
 
   pub reason-breaks : (ns : List ℕ) → reasonBy before w m ≡ some ns → Breaks w m ns
   reason-breaks ns h = first-breaks ns (reason-first ns h)
 
   -- where there is none, nothing that the search is for is there at all
   reason-none : reasonBy before w m ≡ none → (ns : List ℕ) → Clashing w m ns → ⊥
-  unfolding reasonBy
-  reason-none h ns c = go (shortest before w m (suc (length ns)) 0) refl
+  unfolding reasonOver
+  reason-none h ns c = go (shortest before (superOf (w .base)) (w .base .cache) (tiesOnly w m) (links w m) (suc (length ns)) 0) refl
     where
-      go : (o : Option (List ℕ)) → shortest before w m (suc (length ns)) 0 ≡ o → ⊥
-      go none e = omega (arith, shortest-none order w m (suc (length ns)) 0 e ns c (omega arith))
+      go : (o : Option (List ℕ)) → shortest before (superOf (w .base)) (w .base .cache) (tiesOnly w m) (links w m) (suc (length ns)) 0 ≡ o → ⊥
+      go none e = omega (arith, shortest-none order (superOf (w .base)) (w .base .cache) (tiesOnly w m) (links w m) (suc (length ns)) 0 e ns c (omega arith))
       go (some ms) e =
-          let f = shortest-first order w m (suc (length ns)) 0 ms e in
-          omega (arith, shortest-none order w m (suc (length (links w m))) 0 h ms (f .clashes) (omega arith), breaks-length w m ms (first-breaks ms f))
+          let f = shortest-first order (superOf (w .base)) (w .base .cache) (tiesOnly w m) (links w m) (suc (length ns)) 0 ms e in
+          omega (arith, shortest-none order (superOf (w .base)) (w .base .cache) (tiesOnly w m) (links w m) (suc (length (links w m))) 0 h ms (f .clashes) (omega arith), breaks-length w m ms (first-breaks ms f))
 
   -- Length first, then the order
 

@@ -94,62 +94,65 @@ module _ {before : ℕ → ℕ → Bool} (order : Order before) (cache : List En
 abbrev pub other : ℕ → ℕ → Bool
 other c d = not (eqb c d)
 
-abbrev pub notBelow : World → ℕ → ℕ → Bool
-notBelow w c d = not (below (superOf (w .base)) c d)
+abbrev pub notBelow : (ℕ → Option ℕ) → ℕ → ℕ → Bool
+notBelow sup c d = not (below sup c d)
+
+abbrev pub ClashingOver : (ℕ → Option ℕ) → List Entry → List Link → List Link → List ℕ → Type 0
+ClashingOver sup cache T L ns = Leads cache T other ns ⊎ Leads cache L (notBelow sup) ns
 
 abbrev pub Clashing : World → RowNumbers → List ℕ → Type 0
-Clashing w m ns = Leads (w .base .cache) (tiesOnly w m) other ns ⊎ Leads (w .base .cache) (links w m) (notBelow w) ns
+Clashing w m ns = ClashingOver (superOf (w .base)) (w .base .cache) (tiesOnly w m) (links w m) ns
 
-module _ {before : ℕ → ℕ → Bool} (order : Order before) (w : World) (m : RowNumbers) where
-  pub length-from : (n : ℕ) (ns : List ℕ) → ofLength before w m n ≡ some ns → Clashing w m ns × (length ns ≡ n)
+module _ {before : ℕ → ℕ → Bool} (order : Order before) (sup : ℕ → Option ℕ) (cache : List Entry) (T L : List Link) where
+  pub length-from : (n : ℕ) (ns : List ℕ) → ofLength before sup cache T L n ≡ some ns → ClashingOver sup cache T L ns × (length ns ≡ n)
   unfolding ofLength
   length-from n ns h = elim (earlier-from order _ _ ns h) [
-    | inl e ↦ (let r = leads-from order (w .base .cache) (tiesOnly w m) other n ns e in (inl (r .0), r .1))
-    | inr e ↦ (let r = leads-from order (w .base .cache) (links w m) (notBelow w) n ns e in (inr (r .0), r .1))
+    | inl e ↦ (let r = leads-from order cache T other n ns e in (inl (r .0), r .1))
+    | inr e ↦ (let r = leads-from order cache L (notBelow sup) n ns e in (inr (r .0), r .1))
   ]
 
-  pub length-has : (ns : List ℕ) → Clashing w m ns → Has order (ofLength before w m (length ns)) ns
+  pub length-has : (ns : List ℕ) → ClashingOver sup cache T L ns → Has order (ofLength before sup cache T L (length ns)) ns
   unfolding ofLength
-  length-has ns (inl l) = let r = leads-has order (w .base .cache) (tiesOnly w m) other ns l in has-on order (ofLength before w m (length ns)) ns (r .0) (r .2) (earlier-one order _ _ (r .0) (r .1))
-  length-has ns (inr l) = let r = leads-has order (w .base .cache) (links w m) (notBelow w) ns l in has-on order (ofLength before w m (length ns)) ns (r .0) (r .2) (earlier-two order _ _ (r .0) (r .1))
+  length-has ns (inl l) = let r = leads-has order cache T other ns l in has-on order (ofLength before sup cache T L (length ns)) ns (r .0) (r .2) (earlier-one order _ _ (r .0) (r .1))
+  length-has ns (inr l) = let r = leads-has order cache L (notBelow sup) ns l in has-on order (ofLength before sup cache T L (length ns)) ns (r .0) (r .2) (earlier-two order _ _ (r .0) (r .1))
 
   -- The shortest: none that clashes is shorter, and none as long is before it
 
   pub record First (n : ℕ) (ns : List ℕ) : Type 0 where
-    pub clashes : Clashing w m ns
-    pub least : (ms : List ℕ) → Clashing w m ms → n ≤ length ms → length ns ≤ length ms
-    pub notLater : (ms : List ℕ) → Clashing w m ms → length ms ≡ length ns → NotBefore order ms ns
+    pub clashes : ClashingOver sup cache T L ns
+    pub least : (ms : List ℕ) → ClashingOver sup cache T L ms → n ≤ length ms → length ns ≤ length ms
+    pub notLater : (ms : List ℕ) → ClashingOver sup cache T L ms → length ms ≡ length ns → NotBefore order ms ns
 
   -- where no list of n rows is found, one that clashes is longer
-  longer : (n : ℕ) → ofLength before w m n ≡ none → (ms : List ℕ) → Clashing w m ms → n ≤ length ms → suc n ≤ length ms
+  longer : (n : ℕ) → ofLength before sup cache T L n ≡ none → (ms : List ℕ) → ClashingOver sup cache T L ms → n ≤ length ms → suc n ≤ length ms
   longer n e ms c l = go (eqb n (length ms)) refl (length-has ms c)
     where
-      go : (t : Bool) → eqb n (length ms) ≡ t → Has order (ofLength before w m (length ms)) ms → suc n ≤ length ms
-      go true q r = absurd (Option·none-ne-some (r .0) (sym e ∙ (ap (ofLength before w m) (eqb-true n (length ms) q) ∙ r .1)))
+      go : (t : Bool) → eqb n (length ms) ≡ t → Has order (ofLength before sup cache T L (length ms)) ms → suc n ≤ length ms
+      go true q r = absurd (Option·none-ne-some (r .0) (sym e ∙ (ap (ofLength before sup cache T L) (eqb-true n (length ms) q) ∙ r .1)))
       go false q r = omega (arith, eqb-false n (length ms) q)
 
-  pub shortest-first : (k n : ℕ) (ns : List ℕ) → shortest before w m k n ≡ some ns → First n ns
+  pub shortest-first : (k n : ℕ) (ns : List ℕ) → shortest before sup cache T L k n ≡ some ns → First n ns
   unfolding shortest
   shortest-first zero n ns h = absurd (Option·none-ne-some ns h)
-  shortest-first (suc k) n ns h = go (ofLength before w m n) refl h (shortest-first k (suc n) ns)
+  shortest-first (suc k) n ns h = go (ofLength before sup cache T L n) refl h (shortest-first k (suc n) ns)
     where
-      go : (o : Option (List ℕ)) → ofLength before w m n ≡ o → (elim o as (λ _. Option (List ℕ)) [ none ↦ shortest before w m k (suc n) | some x ↦ some x ]) ≡ some ns
-          → (shortest before w m k (suc n) ≡ some ns → First (suc n) ns) → First n ns
+      go : (o : Option (List ℕ)) → ofLength before sup cache T L n ≡ o → (elim o as (λ _. Option (List ℕ)) [ none ↦ shortest before sup cache T L k (suc n) | some x ↦ some x ]) ≡ some ns
+          → (shortest before sup cache T L k (suc n) ≡ some ns → First (suc n) ns) → First n ns
       go none e r f = let g = f r in record { clashes = g .clashes; least = λ ms c l. g .least ms c (longer n e ms c l); notLater = g .notLater }
       go (some x) e r f =
           let g = length-from n ns (e ∙ r) in
-          record { clashes = g .0; least = λ ms c l. omega (arith, g .1); notLater = λ ms c l. found ms (length-has ms c) (ap (ofLength before w m) (l ∙ g .1) ∙ (e ∙ r)) }
+          record { clashes = g .0; least = λ ms c l. omega (arith, g .1); notLater = λ ms c l. found ms (length-has ms c) (ap (ofLength before sup cache T L) (l ∙ g .1) ∙ (e ∙ r)) }
         where
-          found : (ms : List ℕ) → Has order (ofLength before w m (length ms)) ms → ofLength before w m (length ms) ≡ some ns → NotBefore order ms ns
+          found : (ms : List ℕ) → Has order (ofLength before sup cache T L (length ms)) ms → ofLength before sup cache T L (length ms) ≡ some ns → NotBefore order ms ns
           found ms c q = rw (Option·some-injective (c .0) ns (sym (c .1) ∙ q)) at (c .2)
 
   -- where none is found, none of those lengths clashes
-  pub shortest-none : (k n : ℕ) → shortest before w m k n ≡ none → (ms : List ℕ) → Clashing w m ms → n ≤ length ms → n + k ≤ length ms
+  pub shortest-none : (k n : ℕ) → shortest before sup cache T L k n ≡ none → (ms : List ℕ) → ClashingOver sup cache T L ms → n ≤ length ms → n + k ≤ length ms
   unfolding shortest
   shortest-none zero n h ms c l = omega arith
-  shortest-none (suc k) n h ms c l = go (ofLength before w m n) refl h (λ r q. shortest-none k (suc n) r ms c q)
+  shortest-none (suc k) n h ms c l = go (ofLength before sup cache T L n) refl h (λ r q. shortest-none k (suc n) r ms c q)
     where
-      go : (o : Option (List ℕ)) → ofLength before w m n ≡ o → _≡_ {A = Option (List ℕ)} (elim o as (λ _. Option (List ℕ)) [ none ↦ shortest before w m k (suc n) | some x ↦ some x ]) none
-          → (shortest before w m k (suc n) ≡ none → suc n ≤ length ms → suc n + k ≤ length ms) → n + suc k ≤ length ms
+      go : (o : Option (List ℕ)) → ofLength before sup cache T L n ≡ o → _≡_ {A = Option (List ℕ)} (elim o as (λ _. Option (List ℕ)) [ none ↦ shortest before sup cache T L k (suc n) | some x ↦ some x ]) none
+          → (shortest before sup cache T L k (suc n) ≡ none → suc n ≤ length ms → suc n + k ≤ length ms) → n + suc k ≤ length ms
       go none e r f = omega (arith, f r (longer n e ms c l))
       go (some x) e r f = absurd (Option·none-ne-some x (sym r))
