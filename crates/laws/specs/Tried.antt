@@ -1,6 +1,7 @@
--- The tried loads: a load that is refused with 9 would leave a store that doesn't agree, with its entry and its constraints behind the stored ones.
+-- The tried loads: one that is accepted answers what the load does and leaves the rows as they are. A load that is refused with 9 would leave a store that
+-- doesn't agree, with its entry and its constraints behind the stored ones.
 use mathlib.Core.Path.{_≡_, refl, sym}
-use mathlib.Core.Bool.{Bool, true, false, false≢true}
+use mathlib.Core.Bool.{Bool, true, false, not, _&&_, false≢true}
 use mathlib.Core.Option.{Option, none, some}
 use mathlib.Core.List.{List, [], _∷_, _++_, append-nil}
 use Prim.Native.Nat.{ℕ, _≤_}
@@ -10,6 +11,7 @@ use lib.Dec.{eqb, ltb}
 use borrow.Author.Tests.{leb-true}
 use Rattle.definition.specs.declared.Refusal.{Refusal}
 use Rattle.definition.specs.declared.Refusal.the-variants.{Word}
+use Rattle.definition.specs.declared.Reply.{Reply}
 use Rattle.definition.specs.Lists.{every}
 use Rattle.definition.specs.Answers.{Result, ok, refused, need, _>>=_, number}
 use Rattle.definition.specs.Requests.{at}
@@ -18,10 +20,39 @@ use Rattle.definition.specs.Constraints.{Tie, Subtype, World, agrees}
 use Rattle.definition.specs.Loading.{define, recorded, newSubtypes, withEntry}
 use Rattle.definition.specs.File.{readFile}
 use Rattle.definition.specs.Tables.{Rows, worldOf}
-use Rattle.definition.specs.Calls.{defineRows, recordRows}
-use Rattle.definition.specs.Reasons.{afterDefine, afterRecord}
+use Rattle.definition.specs.Calls.{Given, Load, loadDefine, loadRecord, loadRows, triedWith, tryRows, defineRows, recordRows}
+use Rattle.definition.specs.Reasons.{afterDefine, afterLoad}
 use Rattle.laws.specs.Options.{some-bind}
+use Rattle.laws.specs.Wrapped.{Ok}
 use Rattle.laws.specs.Refusals.{Refuses, on-bind, on-test, on-take}
+
+-- the load's answer, with the rows as they are
+abbrev pub unmoved : Rows → Given Reply → Given Reply
+unmoved r g = record { answer = g .answer; rows = r }
+
+pub try-ok : (P : Given Reply → Type 0) (c : Load) (n : ℕ) (r : Rows) → Ok (loadRows c r) (λ g. P (unmoved r g)) → Ok (tryRows c n r) P
+unfolding tryRows triedWith
+try-ok P c n r h = go (loadRows c r) h
+  where
+    go : (o : Result (Given Reply)) → Ok o (λ g. P (unmoved r g)) → Ok (triedWith n r o) P
+    go (ok g) h = by (ltb n 512)
+      where
+        by : (b : Bool) → Ok {A = Given Reply} (elim b as (λ _. Result (Given Reply)) [ true ↦ refused (Word 16) | false ↦ ok (unmoved r g) ]) P
+        by true = tt
+        by false = h
+    go (refused w) h = by (ltb n 512 && not (eqb (number w) 3))
+      where
+        by : (b : Bool) → Ok {A = Given Reply} (elim b as (λ _. Result (Given Reply)) [ true ↦ refused (Word 16) | false ↦ refused w ]) P
+        by true = tt
+        by false = tt
+
+-- so what holds of the rows holds of those that a try leaves
+pub try-leaves : (Q : Rows → Type 0) (c : Load) (n : ℕ) (r : Rows) → Q r → Ok (tryRows c n r) (λ g. Q (g .rows))
+try-leaves Q c n r h = try-ok (λ g. Q (g .rows)) c n r (go (loadRows c r))
+  where
+    go : (o : Result (Given Reply)) → Ok o (λ g. Q r)
+    go (ok g) = h
+    go (refused w) = tt
 
 -- what the load would leave
 pub record Clashed (r : Rows) (after : Option World) : Type 0 where
@@ -43,7 +74,7 @@ unfolding every
 every-on true bs h = (refl, h)
 every-on false bs h = absurd (false≢true h)
 
-pub define-clash : (l : ℕ) (bs : List ℕ) (r : Rows) → Refuses (On9 r (afterDefine l bs (worldOf r))) (defineRows l bs r)
+define-clash : (l : ℕ) (bs : List ℕ) (r : Rows) → Refuses (On9 r (afterLoad (loadDefine l bs) (worldOf r))) (defineRows l bs r)
 unfolding defineRows define afterDefine number
 define-clash l bs r =
     on-test P _ _ _ (λ _ e. absurd (omega arith)) (λ _. on-take P _ _ _ (λ _ e. absurd (omega arith)) (λ f ef. on-bind P _ _
@@ -68,15 +99,15 @@ define-clash l bs r =
     }) (λ _. tt)))))))) (λ _ _. tt)))
   where
     P : Refusal → Type 0
-    P = On9 r (afterDefine l bs (worldOf r))
+    P = On9 r (afterLoad (loadDefine l bs) (worldOf r))
 
-pub record-clash : (l n c : ℕ) (r : Rows) → Refuses (On9 r (afterRecord l n c (worldOf r))) (recordRows l n c r)
+record-clash : (l n c : ℕ) (r : Rows) → Refuses (On9 r (afterLoad (loadRecord l n c) (worldOf r))) (recordRows l n c r)
 unfolding recordRows recorded number
 record-clash l n c r =
     on-bind P _ _ (on-test P _ _ _ (λ _ e. absurd (omega arith)) (λ _. on-take P _ _ _ (λ _ e. absurd (omega arith)) (λ _ _. on-test P _ _ _ (λ _ e. absurd (omega arith)) (λ _. go (find (r .cache) (at l n)))))) (λ _ _. tt)
   where
     P : Refusal → Type 0
-    P = On9 r (afterRecord l n c (worldOf r))
+    P = On9 r (afterLoad (loadRecord l n c) (worldOf r))
 
     go : (o : Option ℕ) → Refuses {A = World} P (elim o as (λ _. Result World) [
       | some d ↦ need (eqb d c) (Word 4) >>= λ _. ok (worldOf r)
@@ -94,3 +125,7 @@ record-clash l n c r =
       subtypeRoom = λ h. h;
     }) (λ _. tt))
     go (some d) = on-test P _ _ _ (λ _ e. absurd (omega arith)) (λ _. tt)
+
+pub load-clash : (c : Load) (r : Rows) → Refuses (On9 r (afterLoad c (worldOf r))) (loadRows c r)
+load-clash (loadDefine l bs) r = define-clash l bs r
+load-clash (loadRecord l n c) r = record-clash l n c r
