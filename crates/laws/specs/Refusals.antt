@@ -295,6 +295,10 @@ abbrev pub loadCall : Offer → RowCall
 loadCall (loadDefine l bs) = rowDefine l bs
 loadCall (loadRecord l n c) = rowRecord l n c
 
+pub load-rows : (c : Offer) → onRowCall (loadCall c) ≡ loadRows c
+load-rows (loadDefine l bs) = refl
+load-rows (loadRecord l n c) = refl
+
 pub try-refuses : (P : Refusal → Type 0) (c : Offer) (n : ℕ) (r : Rows) → P (Word 16) → Refuses P (loadRows c r) → Refuses P (tryRows c n r)
 unfolding tryRows triedWith
 try-refuses P c n r short h = go (loadRows c r) h

@@ -1,17 +1,18 @@
 -- The tried loads: one that is accepted answers what the load does and leaves the rows as they are. A load that is refused with 9 would leave a store that
 -- doesn't agree, with its entry and its constraints behind the stored ones.
-use mathlib.Core.Path.{_≡_, refl, sym}
+use mathlib.Core.Path.{_≡_, refl, sym, ap, _∙_}
 use mathlib.Core.Bool.{Bool, true, false, not, _&&_, false≢true}
 use mathlib.Core.Option.{Option, none, some}
 use mathlib.Core.List.{List, [], _∷_, _++_, append-nil}
-use Prim.Native.Nat.{ℕ, _≤_}
+use Prim.Native.Nat.{ℕ, _≤_, _<_}
 use native.Mathlib.Omega.{arith}
 use lib.ListN.{length}
 use lib.Dec.{eqb, ltb}
-use borrow.Author.Tests.{leb-true}
+use borrow.Author.Tests.{leb-true, lt-ltb, le-ltb, ltb-false, eqb-true, ne-eqb, eq-eqb}
 use Rattle.definition.specs.declared.Refusal.{Refusal}
 use Rattle.definition.specs.declared.Refusal.the-variants.{Word}
 use Rattle.definition.specs.declared.Reply.{Reply}
+use Rattle.definition.specs.declared.Reply.the-variants.{Denied}
 use Rattle.definition.specs.Lists.{every}
 use Rattle.definition.specs.Answers.{Result, ok, refused, need, _>>=_, number}
 use Rattle.definition.specs.Requests.{at}
@@ -53,6 +54,57 @@ try-leaves Q c n r h = try-ok (λ g. Q (g .rows)) c n r (go (loadRows c r))
     go : (o : Result (Given Reply)) → Ok o (λ g. Q r)
     go (ok g) = h
     go (refused w) = tt
+
+-- What a try answers, by what the load does
+
+-- the answer of a call on rows
+abbrev pub replyOf : Result (Given Reply) → Reply
+replyOf (ok g) = g .answer
+replyOf (refused x) = Denied x
+
+module _ (n : ℕ) (r : Rows) where
+  -- a refused load by two tests: the list is short, the word is 3
+  abbrev refusedWith : Refusal → Bool → Bool → Result (Given Reply)
+  refusedWith x s u = elim (s && not u) as (λ _. Result (Given Reply)) [ true ↦ refused (Word 16) | false ↦ refused x ]
+
+  refused-with : (x : Refusal) {s u : Bool} → ltb n 512 ≡ s → eqb (number x) 3 ≡ u → triedWith n r (refused x) ≡ refusedWith x s u
+  unfolding triedWith
+  refused-with x p q = λ i. refusedWith x (p i) (q i)
+
+  -- with a list of 512 numbers or more, what the load answers
+  pub tried-long : (o : Result (Given Reply)) → 512 ≤ n → replyOf (triedWith n r o) ≡ replyOf o
+  unfolding triedWith
+  tried-long (ok g) h = rw (le-ltb n 512 h, triedWith) refl
+  tried-long (refused x) h = ap replyOf (refused-with x (le-ltb n 512 h) refl)
+
+  -- with a shorter list 16, but for 3, which comes first whatever the list
+
+  pub tried-short : (o : Result (Given Reply)) → n < 512 → ((x : Refusal) → o ≡ refused x → number x ≡ 3 → ⊥) → triedWith n r o ≡ refused (Word 16)
+  unfolding triedWith
+  tried-short (ok g) h k = rw (lt-ltb n 512 h, triedWith) refl
+  tried-short (refused x) h k = refused-with x (lt-ltb n 512 h) (ne-eqb (number x) 3 (k x refl))
+
+  pub tried-unknown : (x : Refusal) → number x ≡ 3 → triedWith n r (refused x) ≡ refused x
+  tried-unknown x e = refused-with x refl (eq-eqb (number x) 3 e) ∙ go (ltb n 512)
+    where
+      go : (s : Bool) → refusedWith x s true ≡ refused x
+      go true = refl
+      go false = refl
+
+  -- any other word is the load's, and the list is long enough or the word is 3
+  pub tried-other : (o : Result (Given Reply)) (x : Refusal) → triedWith n r o ≡ refused x → (number x ≡ 16 → ⊥) → (number x ≡ 3 → ⊥) → (512 ≤ n) × (o ≡ refused x)
+  unfolding triedWith number
+  tried-other (ok g) x e short unknown = go (ltb n 512) refl e
+    where
+      go : (s : Bool) → ltb n 512 ≡ s → _≡_ {A = Result (Given Reply)} (elim s as (λ _. Result (Given Reply)) [ true ↦ refused (Word 16) | false ↦ ok (unmoved r g) ]) (refused x) → (512 ≤ n) × (ok g ≡ refused x)
+      go true q e = absurd (short (let z : x ≡ Word 16 = cc in ap number z))
+      go false q e = absurd (let z : _≡_ {A = ℕ} 0 1 = cc in omega arith)
+  tried-other (refused w) x e short unknown = go (ltb n 512) (eqb (number w) 3) refl refl e
+    where
+      go : (s u : Bool) → ltb n 512 ≡ s → eqb (number w) 3 ≡ u → refusedWith w s u ≡ refused x → (512 ≤ n) × (_≡_ {A = Result (Given Reply)} (refused w) (refused x))
+      go true false q p e = absurd (short (let z : x ≡ Word 16 = cc in ap number z))
+      go true true q p e = absurd (unknown (let z : w ≡ x = cc in sym (ap number z) ∙ eqb-true (number w) 3 p))
+      go false u q p e = (ltb-false n 512 q, e)
 
 -- what the load would leave
 pub record Clashed (r : Rows) (after : Option World) : Type 0 where
