@@ -10,7 +10,7 @@ use lib.Dec.{leb}
 use borrow.Author.Tests.{leb-true, ltb-true}
 use Rattle.definition.specs.Answers.{ok}
 use Rattle.definition.specs.Broken.{inTurn, numbered}
-use Rattle.definition.specs.Calls.{Given, addEntry, addFile, bootRows, defineRows, dropRows, recordRows, startRows, sweepRows, stepOn, stepRows, stepTask, RowCall, rowDefine, rowRecord, rowStart, rowDrop, rowSweep, onRowCall}
+use Rattle.definition.specs.Calls.{Given, addEntry, addFile, bootRows, defineRows, dropRows, recordRows, startRows, sweepRows, stepOn, stepRows, stepTask, RowCall, rowDefine, rowRecord, rowStart, rowDrop, rowSweep, rowTry, onRowCall}
 use Rattle.definition.specs.Classes.{Base, Class, Entry, find, ownSlots, slots, superOf}
 use Rattle.definition.specs.Constraints.{Subtype, Tie, World}
 use Rattle.definition.specs.File.{File, classOf, readFile}
@@ -28,6 +28,7 @@ use Rattle.layout.specs.InTurn.{numbering-on}
 use Rattle.layout.specs.Tests.{All, all-both}
 use Rattle.layout.specs.Whole.{Between, Classes, Framed, Listed, RowSound, Whole}
 use Rattle.unbroken.specs.Steps.{class-found, step-moves}
+use Rattle.laws.specs.Tried.{try-leaves}
 use Rattle.laws.specs.Wrapped.{Ok, ok-at, then}
 use Rattle.unbroken.specs.Accepted.{recorded-is, defined-is}
 use Rattle.unbroken.specs.Swept.{objects-whole}
@@ -200,6 +201,7 @@ module _ (r : Rows) (w : Whole r) where
   rows-whole (rowStart k l n m v) = start-whole k l n m v
   rows-whole (rowDrop k) = drop-whole k
   rows-whole rowSweep = sweep-whole
+  rows-whole (rowTry c n) = try-leaves Whole c n r w
 
 pub boot-whole : Whole bootRows
 boot-whole = record {

@@ -15,9 +15,10 @@ use Rattle.definition.specs.Loading.{started}
 use Rattle.definition.specs.Machine.{Objects, Exists, Frame, Progress}
 use Rattle.definition.specs.Tables.{Tables, shaped, rowNumbers, Rows, framesIn, worldOf, view}
 use Rattle.definition.specs.Broken.{broken}
-use Rattle.definition.specs.Calls.{Given, bootRows, boot, numbersFrom, numberedOn, progressed, defineRows, recordRows, startRows, dropRows, sweepRows, stepTask, stepOn, stepRows, RowCall, rowDefine, rowRecord, rowStart, rowDrop, rowSweep, onRowCall, callRows, stepTables, run, perform}
+use Rattle.definition.specs.Calls.{Given, bootRows, boot, numbersFrom, numberedOn, progressed, defineRows, recordRows, startRows, dropRows, sweepRows, stepTask, stepOn, stepRows, RowCall, rowDefine, rowRecord, rowStart, rowDrop, rowSweep, rowTry, onRowCall, callRows, stepTables, run, perform}
 use Rattle.laws.specs.Runs.{run-keeps}
 use Rattle.laws.specs.Wrapped.{Ok, ok-at, then}
+use Rattle.laws.specs.Tried.{try-leaves}
 use Rattle.layout.specs.Tests.{All}
 use Rattle.layout.specs.Places.{rows-both}
 use Rattle.layout.specs.Whole.{Framed, Whole}
@@ -163,6 +164,7 @@ NumbersBy (rowRecord l n c) r s = s .numbers ≡ r .numbers
 NumbersBy (rowStart k l n m v) r s = s .numbers ≡ r .numbers
 NumbersBy (rowDrop k) r s = s .numbers ≡ r .numbers
 NumbersBy rowSweep r s = s .numbers ≡ r .numbers
+NumbersBy (rowTry c n) r s = s .numbers ≡ r .numbers
 
 numbers-same : (c : RowCall) (r : Rows) → NumbersBy c r r
 numbers-same (rowDefine l bs) r = posts-none r
@@ -170,6 +172,7 @@ numbers-same (rowRecord l n c) r = refl
 numbers-same (rowStart k l n m v) r = refl
 numbers-same (rowDrop k) r = refl
 numbers-same rowSweep r = refl
+numbers-same (rowTry c n) r = refl
 
 pub rows-numbers : (c : RowCall) (r : Rows) → Ok (onRowCall c r) (λ g. NumbersBy c r (g .rows))
 rows-numbers (rowDefine l bs) r = define-posts l bs r
@@ -177,6 +180,7 @@ rows-numbers (rowRecord l n c) r = record-numbers l n c r
 rows-numbers (rowStart k l n m v) r = start-numbers k l n m v r
 rows-numbers (rowDrop k) r = drop-numbers k r
 rows-numbers rowSweep r = sweep-numbers r
+rows-numbers (rowTry c n) r = try-leaves (λ s. s .numbers ≡ r .numbers) c n r refl
 
 pub call-numbers : (c : RowCall) (t : Tables) → NumbersBy c (view t) (view (perform (callRows c) t .tables))
 unfolding perform

@@ -1,37 +1,45 @@
--- The tried loads on a store that isn't broken. One that would clash lists a chain of the store as it would be after the load: the chain breaks agreement, repeats
--- no request and no row, and has at most 512 rows; no chain that breaks agreement is shorter, and none as long goes before it.
-use mathlib.Core.Path.{_≡_, refl, ap, _∙_}
-use mathlib.Core.Bool.{Bool, true, false, not, _&&_}
+-- The tried loads, whatever the store. A try changes nothing. With a list of 512 numbers or more it answers what the load would; with a shorter one 16, but for 1
+-- and 3. One that would clash lists a chain of the store as it would be after the load: the chain breaks agreement, repeats no request and no row, and has at most
+-- 512 rows; no chain that breaks agreement is shorter, and none as long goes before it. Without a clash nothing is listed.
+use mathlib.Core.Path.{_≡_, refl, sym, ap, _∙_}
+use mathlib.Core.Bool.{Bool, true, false}
 use mathlib.Core.Option.{Option, none, some}
 use mathlib.Core.List.{List, [], _∷_, _++_, List·Memᴰ, List·Memᴰ·head, List·Memᴰ·tail}
+use mathlib.Core.Logic.{_⊎_, inl, inr}
 use Prim.Native.Nat.{ℕ, suc, _+_, _≤_, _<_}
 use native.Mathlib.Omega.{arith}
 use lib.ListN.{length, length-append, length-set, getD, set}
 use lib.Seq.{getD-set-same, getD-set-other}
-use lib.Dec.{eqb, ltb}
-use borrow.Author.Tests.{lt-ltb, le-ltb, ne-eqb, eq-eqb}
-use Rattle.definition.specs.Lists.{rows, writeRows}
+use lib.Dec.{eqb}
+use borrow.Author.Tests.{eqb-false, ne-eqb, eq-eqb}
+use Rattle.definition.specs.Lists.{any, rows, writeRows}
 use Rattle.definition.specs.Constraints.{World}
-use Rattle.definition.specs.Tables.{Tables, RowNumbers, Rows, worldOf, view}
+use Rattle.definition.specs.Tables.{Tables, RowNumbers, Rows, worldOf, view, put}
 use Rattle.definition.specs.Broken.{broken}
-use Rattle.definition.specs.Calls.{Given, Done, done, carried, wrap, numberedOn, defineRows, recordRows, callDefine, callRecord, perform}
-use Rattle.definition.specs.Answers.{Result, ok, refused, number}
+use Rattle.definition.specs.Calls.{Given, Done, carried, numberedOn, Load, loadDefine, loadRecord, loadRows, triedWith, tryRows, onRowCall, RowCall, rowTry, callRows, callTry, perform}
+use Rattle.definition.specs.Answers.{Result, ok, refused, number, numberOf}
 use Rattle.definition.specs.declared.Reply.{Reply}
 use Rattle.definition.specs.declared.Reply.the-variants.{Denied}
 use Rattle.definition.specs.declared.Refusal.the-variants.{Word}
 use Rattle.definition.specs.declared.Refusal.{Refusal}
-use Rattle.definition.specs.Reasons.{Distinct, Breaks, reason, reasonAfter, Tried, unlisted, listed, tried, afterDefine, afterRecord, tryDefineRows, tryRecordRows, tryTables, tryDefine, tryRecord}
+use Rattle.definition.specs.Reasons.{Distinct, Breaks, reason, reasonAfter, Tried, unlisted, listed, tried, afterLoad, tryLoadRows, tryLoad}
 use Rattle.laws.specs.Options.{some-bind}
 use Rattle.laws.specs.Earlier.{NotBefore, lower-first}
 use Rattle.laws.specs.Chosen.{clash-reason, reason-breaks, reason-shortest, reason-not-later}
 use Rattle.laws.specs.Listed.{breaks-once, breaks-count}
-use Rattle.laws.specs.Refusals.{Refuses}
-use Rattle.laws.specs.Tried.{Clashed, define-clash, record-clash}
+use Rattle.laws.specs.Wrapped.{ok-at, wrapped, wrap-broken, wrap-carried}
+use Rattle.laws.specs.Causes.{cause, first, rowCauses, defineCauses, recordCauses, causes}
+use Rattle.laws.specs.Refusals.{Refuses, loadCall, load-rows}
+use Rattle.laws.specs.Refused.{Taken, rows-taken}
+use Rattle.laws.specs.Tried.{Clashed, load-clash, replyOf, try-leaves, tried-long, tried-short, tried-unknown, tried-other}
 use Rattle.layout.specs.Whole.{Whole}
+use Rattle.layout.specs.View.{put-view}
 use Rattle.layout.specs.Places.{rows-written, writeRows-length}
 use Rattle.layout.specs.Rows.{Anything, all-anything}
 use Rattle.layout.specs.Unbroken.{broken-false}
 use Rattle.layout.specs.InTurn.{RisesFrom, InWords, in-turn-words, numbering-on}
+use Rattle.unbroken.specs.Refusing.{first-skip, first-other}
+use Rattle.unbroken.specs.First.{zero-number, first-applies}
 
 -- Numbers in turn are distinct
 
@@ -88,85 +96,45 @@ clash-reasoned r w after c =
       first = λ ms x l. reason-not-later lower-first (c .world) m (e .0) ms (e .1) x l;
     }
 
--- Every clash of a define or a record yields one
+-- Every clash of a load yields one
 
 refuses-at : {A : Type 0} (P : Refusal → Type 0) (o : Result A) → Refuses P o → (x : Refusal) → o ≡ refused x → P x
 refuses-at P o h x e = rw e at h
 
-pub define-reasoned : (l : ℕ) (bs : List ℕ) (r : Rows) → Whole r → (x : Refusal) → defineRows l bs r ≡ refused x → number x ≡ 9 → Reasoned r (afterDefine l bs (worldOf r))
-define-reasoned l bs r w x e h = clash-reasoned r w (afterDefine l bs (worldOf r)) (refuses-at _ (defineRows l bs r) (define-clash l bs r) x e h)
+pub load-reasoned : (c : Load) (r : Rows) → Whole r → (x : Refusal) → loadRows c r ≡ refused x → number x ≡ 9 → Reasoned r (afterLoad c (worldOf r))
+load-reasoned c r w x e h = clash-reasoned r w (afterLoad c (worldOf r)) (refuses-at _ (loadRows c r) (load-clash c r) x e h)
 
-pub record-reasoned : (l n c : ℕ) (r : Rows) → Whole r → (x : Refusal) → recordRows l n c r ≡ refused x → number x ≡ 9 → Reasoned r (afterRecord l n c (worldOf r))
-record-reasoned l n c r w x e h = clash-reasoned r w (afterRecord l n c (worldOf r)) (refuses-at _ (recordRows l n c r) (record-clash l n c r) x e h)
-
--- What a tried load answers, and what it writes
-
--- what the load itself answers
-abbrev pub replyOf : Result (Given Reply) → Reply
-replyOf (ok g) = g .answer
-replyOf (refused x) = Denied x
+-- What is told and written, by what the try on rows gives
 
 module _ (r : Rows) (after : Option World) where
-  -- a refused load by three tests: the list is short, the word is 3, the word is 9
-  abbrev way : Refusal → List ℕ → Bool → Bool → Bool → Tried
-  way x out s u c = elim (s && not u) as (λ _. Tried) [
-    | true ↦ unlisted (Denied (Word 16)) out
-    | false ↦ elim c as (λ _. Tried) [ true ↦ listed (Denied x) (reasonAfter r after) out | false ↦ unlisted (Denied x) out ]
-  ]
+  abbrev told : Refusal → List ℕ → Bool → Tried
+  told x out c = elim c as (λ _. Tried) [ true ↦ listed (Denied x) (reasonAfter r after) out | false ↦ unlisted (Denied x) out ]
 
-  its-way : (x : Refusal) (out : List ℕ) {s u c : Bool} → ltb (length out) 512 ≡ s → eqb (number x) 3 ≡ u → eqb (number x) 9 ≡ c → tried r after (refused x) out ≡ way x out s u c
+  its-told : (x : Refusal) (out : List ℕ) {c : Bool} → eqb (number x) 9 ≡ c → tried r after (refused x) out ≡ told x out c
   unfolding tried
-  its-way x out p q z = λ i. way x out (p i) (q i) (z i)
+  its-told x out q = λ i. told x out (q i)
 
-  -- with a list of 512 numbers or more it is what the load itself would get
-  pub tried-answer : (o : Result (Given Reply)) (out : List ℕ) → 512 ≤ length out → tried r after o out .answer ≡ replyOf o
+  pub tried-reply : (o : Result (Given Reply)) (out : List ℕ) → tried r after o out .answer ≡ replyOf o
   unfolding tried listed
-  tried-answer (ok g) out h = rw (le-ltb (length out) 512 h, tried) refl
-  tried-answer (refused x) out h = ap (λ (z : Tried). z .answer) (its-way x out (le-ltb (length out) 512 h) refl refl) ∙ go (eqb (number x) 9) (reasonAfter r after)
+  tried-reply (ok g) out = refl
+  tried-reply (refused x) out = go (eqb (number x) 9) (reasonAfter r after)
     where
       go : (t : Bool) (c : Option (List ℕ)) → (elim t as (λ _. Tried) [ true ↦ listed (Denied x) c out | false ↦ unlisted (Denied x) out ]) .answer ≡ Denied x
       go true none = refl
       go true (some ns) = refl
       go false c = refl
 
-  -- with a shorter list it is 16, but for 3, and nothing is written
-
-  pub tried-short : (o : Result (Given Reply)) (out : List ℕ) → length out < 512 → ((x : Refusal) → o ≡ refused x → number x ≡ 3 → ⊥) → tried r after o out ≡ unlisted (Denied (Word 16)) out
-  unfolding tried
-  tried-short (ok g) out h k = rw (lt-ltb (length out) 512 h, tried) refl
-  tried-short (refused x) out h k = its-way x out (lt-ltb (length out) 512 h) (ne-eqb (number x) 3 (k x refl)) refl
-
-  pub tried-unknown : (x : Refusal) (out : List ℕ) → number x ≡ 3 → tried r after (refused x) out ≡ unlisted (Denied x) out
-  tried-unknown x out e = its-way x out refl (eq-eqb (number x) 3 e) (ne-eqb (number x) 9 (λ q. omega arith)) ∙ go (ltb (length out) 512)
-    where
-      go : (t : Bool) → way x out t true false ≡ unlisted (Denied x) out
-      go true = refl
-      go false = refl
-
   -- without a clash nothing is written
-  pub tried-unlisted : (o : Result (Given Reply)) (out : List ℕ) → ((x : Refusal) → o ≡ refused x → number x ≡ 9 → ⊥) → (tried r after o out .count ≡ 0) × (tried r after o out .list ≡ out)
+  pub tried-unlisted : (o : Result (Given Reply)) (out : List ℕ) → ((x : Refusal) → o ≡ refused x → number x ≡ 9 → ⊥) → tried r after o out ≡ unlisted (replyOf o) out
   unfolding tried
-  tried-unlisted (ok g) out k = go (ltb (length out) 512)
-    where
-      go : (t : Bool) → ((elim t as (λ _. Tried) [ true ↦ unlisted (Denied (Word 16)) out | false ↦ unlisted (g .answer) out ]) .count ≡ 0)
-          × ((elim t as (λ _. Tried) [ true ↦ unlisted (Denied (Word 16)) out | false ↦ unlisted (g .answer) out ]) .list ≡ out)
-      go true = (refl, refl)
-      go false = (refl, refl)
-  tried-unlisted (refused x) out k =
-      let w = its-way x out refl refl (ne-eqb (number x) 9 (k x refl)) in
-      let g = go (ltb (length out) 512) (eqb (number x) 3) in
-      (ap (λ (z : Tried). z .count) w ∙ g .0, ap (λ (z : Tried). z .list) w ∙ g .1)
-    where
-      go : (s u : Bool) → (way x out s u false .count ≡ 0) × (way x out s u false .list ≡ out)
-      go true true = (refl, refl)
-      go true false = (refl, refl)
-      go false u = (refl, refl)
+  tried-unlisted (ok g) out k = refl
+  tried-unlisted (refused x) out k = its-told x out (ne-eqb (number x) 9 (k x refl))
 
   -- on a clash the chain is written first, and its length is told
-  pub tried-listed : (x : Refusal) (out ns : List ℕ) → number x ≡ 9 → 512 ≤ length out → reasonAfter r after ≡ some ns
+  pub tried-listed : (x : Refusal) (out ns : List ℕ) → number x ≡ 9 → reasonAfter r after ≡ some ns
       → tried r after (refused x) out ≡ record { answer = Denied x; count = length ns; list = writeRows set ns 0 out }
   unfolding listed
-  tried-listed x out ns e h f = its-way x out (le-ltb (length out) 512 h) refl (eq-eqb (number x) 9 e) ∙ ap (λ (c : Option (List ℕ)). listed (Denied x) c out) f
+  tried-listed x out ns e f = its-told x out (eq-eqb (number x) 9 e) ∙ ap (λ (c : Option (List ℕ)). listed (Denied x) c out) f
 
 -- The lent list: it begins with the chain, and is past it as it was
 
@@ -186,44 +154,151 @@ listed-past ns out j h = past-from ns 0 out j (omega arith)
 pub listed-length : (ns out : List ℕ) → length (writeRows set ns 0 out) ≡ length out
 listed-length ns out = writeRows-length set length-set ns 0 out
 
--- On tables
+-- On tables, whatever they hold
 
-module _ (t : Tables) (out : List ℕ) (long : 512 ≤ length out) where
-  -- broken or not, the answer is what the load itself gets
-  answer-same : (f : Rows → Result (Given Reply)) (after : Rows → Option World) → tryTables (λ o r. tried r (after r) (f r) o) out t .answer ≡ wrap Denied f t .answer
-  unfolding tryTables wrap carried
-  answer-same f after = go (broken t)
+-- a call on rows
+
+row-broken : (k : RowCall) (t : Tables) → broken t ≡ true → perform (callRows k) t .answer ≡ Denied (Word 1)
+unfolding perform
+row-broken k t h = ap (λ (d : Done Reply). d .answer) (wrap-broken Denied (onRowCall k) t h)
+
+row-answer : (k : RowCall) (t : Tables) → broken t ≡ false → perform (callRows k) t .answer ≡ replyOf (onRowCall k (view t))
+unfolding perform carried
+row-answer k t h = ap (λ (d : Done Reply). d .answer) (wrap-carried Denied (onRowCall k) t h) ∙ go (onRowCall k (view t))
+  where
+    go : (o : Result (Given Reply)) → carried Denied t o .answer ≡ replyOf o
+    go (refused x) = refl
+    go (ok g) = refl
+
+-- what is accepted has no number of refusal
+accepted-number : (k : RowCall) (r : Rows) (g : Given Reply) → onRowCall k r ≡ ok g → numberOf (g .answer) ≡ 0
+accepted-number k r g e = zero-number (g .answer) (ok-at Taken _ (rows-taken k r) g e)
+
+by-broken : {P : Type 0} (t : Tables) → (broken t ≡ true → P) → (broken t ≡ false → P) → P
+by-broken {P} t x y = go (broken t) refl
+  where
+    go : (b : Bool) → broken t ≡ b → P
+    go true e = x e
+    go false e = y e
+
+try-broken : (c : Load) (out : List ℕ) (t : Tables) → broken t ≡ true → tryLoad c out t ≡ unlisted (Denied (Word 1)) out
+unfolding tryLoad
+try-broken c out t h = rw (h, tryLoad) refl
+
+try-unbroken : (c : Load) (out : List ℕ) (t : Tables) → broken t ≡ false → tryLoad c out t ≡ tried (view t) (afterLoad c (worldOf (view t))) (tryRows c (length out) (view t)) out
+unfolding tryLoad tryLoadRows
+try-unbroken c out t h = rw (h, tryLoad) refl
+
+-- what is told is what the call answers, and the call changes nothing
+
+pub try-answer : (c : Load) (out : List ℕ) (t : Tables) → tryLoad c out t .answer ≡ perform (callTry c (length out)) t .answer
+try-answer c out t = by-broken t
+    (λ h. ap (λ (z : Tried). z .answer) (try-broken c out t h) ∙ sym (row-broken (rowTry c (length out)) t h))
+    (λ h. ap (λ (z : Tried). z .answer) (try-unbroken c out t h) ∙ (tried-reply (view t) (afterLoad c (worldOf (view t))) (tryRows c (length out) (view t)) out ∙ sym (row-answer (rowTry c (length out)) t h)))
+
+pub try-changes-none : (c : Load) (n : ℕ) (t : Tables) → perform (callTry c n) t .tables ≡ t
+unfolding perform
+try-changes-none c n t = wrapped Denied (tryRows c n) t (λ _ s. s ≡ t) (λ _. refl) (λ _ _. refl)
+    (λ _ g e. ap (λ (s : Rows). put s t) (ok-at (λ (g : Given Reply). g .rows ≡ view t) _ (try-leaves (λ s. s ≡ view t) c n (view t) refl) g e) ∙ put-view t)
+
+-- The answer is the load's own, 16 apart
+
+module _ (c : Load) (n : ℕ) (t : Tables) where
+  -- what the load itself answers
+  abbrev pub ownAnswer : Reply
+  ownAnswer = perform (callRows (loadCall c)) t .answer
+
+  own-answer : broken t ≡ false → ownAnswer ≡ replyOf (loadRows c (view t))
+  own-answer h = row-answer (loadCall c) t h ∙ ap (λ (f : Rows → Result (Given Reply)). replyOf (f (view t))) (load-rows c)
+
+  -- on a store that isn't broken it is never 1
+  not-one : broken t ≡ false → numberOf ownAnswer ≡ 1 → ⊥
+  unfolding causes rowCauses defineCauses recordCauses any
+  not-one h e = eqb-false (first (rowCauses (loadCall c) (view t))) 1 (go c) (sym is ∙ e)
     where
-      reply : (o : Result (Given Reply)) → replyOf o ≡ carried Denied t o .answer
-      reply (refused x) = refl
-      reply (ok g) = refl
+      is : numberOf ownAnswer ≡ first (rowCauses (loadCall c) (view t))
+      is = first-applies (callRows (loadCall c)) t ∙ (ap (λ (b : Bool). first (cause 1 b ∷ rowCauses (loadCall c) (view t))) h ∙ first-skip 1 (rowCauses (loadCall c) (view t)))
 
-      go : (b : Bool) → (elim b as (λ _. Tried) [ true ↦ unlisted (Denied (Word 1)) out | false ↦ tried (view t) (after (view t)) (f (view t)) out ]) .answer
-          ≡ (elim b as (λ _. Done Reply) [ true ↦ done (Denied (Word 1)) t | false ↦ carried Denied t (f (view t)) ]) .answer
-      go true = refl
-      go false = tried-answer (view t) (after (view t)) (f (view t)) out long ∙ reply (f (view t))
+      go : (c : Load) → eqb (first (rowCauses (loadCall c) (view t))) 1 ≡ false
+      go (loadDefine l bs) = first-other 1 (rowCauses (loadCall (loadDefine l bs)) (view t)) refl refl
+      go (loadRecord l x d) = first-other 1 (rowCauses (loadCall (loadRecord l x d)) (view t)) refl refl
 
-  pub try-define-answer : (l : ℕ) (bs : List ℕ) → tryDefine l bs out t .answer ≡ perform (callDefine l bs) t .answer
-  unfolding tryDefineRows perform
-  try-define-answer l bs = answer-same (defineRows l bs) (λ r. afterDefine l bs (worldOf r))
+  -- with a list of 512 numbers or more
+  pub try-own : 512 ≤ n → perform (callTry c n) t .answer ≡ ownAnswer
+  unfolding tryRows
+  try-own l = by-broken t
+      (λ h. row-broken (rowTry c n) t h ∙ sym (row-broken (loadCall c) t h))
+      (λ h. row-answer (rowTry c n) t h ∙ (tried-long n (view t) (loadRows c (view t)) l ∙ sym (own-answer h)))
 
-  pub try-record-answer : (l n c : ℕ) → tryRecord l n c out t .answer ≡ perform (callRecord l n c) t .answer
-  unfolding tryRecordRows perform
-  try-record-answer l n c = answer-same (recordRows l n c) (λ r. afterRecord l n c (worldOf r))
+  -- with a shorter one it is 16
+  pub try-short : n < 512 → (numberOf ownAnswer ≡ 1 → ⊥) → (numberOf ownAnswer ≡ 3 → ⊥) → perform (callTry c n) t .answer ≡ Denied (Word 16)
+  unfolding tryRows numberOf number
+  try-short l one three = by-broken t
+      (λ h. absurd (one (ap numberOf (row-broken (loadCall c) t h))))
+      (λ h. row-answer (rowTry c n) t h ∙ ap replyOf (tried-short n (view t) (loadRows c (view t)) l (λ x e q. three (ap numberOf (own-answer h ∙ ap replyOf e) ∙ q))))
 
-  -- every clash lists a chain that breaks agreement
-  module _ (whole : broken t ≡ false) (x : Refusal) (clash : number x ≡ 9) where
-    abbrev pub Lists : Option World → Tried → Type 0
-    Lists after d = (c : Reasoned (view t) after) × (d ≡ record { answer = Denied x; count = length (c .chain); list = writeRows set (c .chain) 0 out })
+  -- unless the load's is 1 or 3, which come first
+  pub try-first : (numberOf ownAnswer ≡ 1) ⊎ (numberOf ownAnswer ≡ 3) → perform (callTry c n) t .answer ≡ ownAnswer
+  unfolding tryRows numberOf
+  try-first k = by-broken t
+      (λ h. row-broken (rowTry c n) t h ∙ sym (row-broken (loadCall c) t h))
+      (λ h. row-answer (rowTry c n) t h ∙ (go (loadRows c (view t)) refl (elim k [ inl e ↦ absurd (not-one h e) | inr e ↦ ap numberOf (sym (own-answer h)) ∙ e ]) ∙ sym (own-answer h)))
+    where
+      go : (o : Result (Given Reply)) → loadRows c (view t) ≡ o → numberOf (replyOf o) ≡ 3 → replyOf (triedWith n (view t) o) ≡ replyOf o
+      go (ok g) z e = absurd (omega (arith, accepted-number (loadCall c) (view t) g (ap (λ (f : Rows → Result (Given Reply)). f (view t)) (load-rows c) ∙ z)))
+      go (refused x) z e = ap replyOf (tried-unknown n (view t) x e)
 
-    pub try-define-lists : (l : ℕ) (bs : List ℕ) → defineRows l bs (view t) ≡ refused x → Lists (afterDefine l bs (worldOf (view t))) (tryDefine l bs out t)
-    unfolding tryTables tryDefineRows
-    try-define-lists l bs e =
-        let c = define-reasoned l bs (view t) (broken-false t whole .1) x e clash in
-        (c, rw (whole, tryTables) (rw e (tried-listed (view t) (afterDefine l bs (worldOf (view t))) x out (c .chain) clash long (c .found))))
+-- What is listed
 
-    pub try-record-lists : (l n c : ℕ) → recordRows l n c (view t) ≡ refused x → Lists (afterRecord l n c (worldOf (view t))) (tryRecord l n c out t)
-    unfolding tryTables tryRecordRows
-    try-record-lists l n k e =
-        let c = record-reasoned l n k (view t) (broken-false t whole .1) x e clash in
-        (c, rw (whole, tryTables) (rw e (tried-listed (view t) (afterRecord l n k (worldOf (view t))) x out (c .chain) clash long (c .found))))
+-- a chain that breaks agreement, of the store as it would be after the load: the list begins with its rows, `count` of them, and is past them as it was
+pub record Lists (c : Load) (out : List ℕ) (t : Tables) : Type 0 where
+  pub reasoned : Reasoned (view t) (afterLoad c (worldOf (view t)))
+  pub count : tryLoad c out t .count ≡ length (reasoned .chain)
+  pub begins : rows (λ i. getD (tryLoad c out t .list) i 0) (tryLoad c out t .count) 0 ≡ reasoned .chain
+  pub past : (j : ℕ) → tryLoad c out t .count ≤ j → getD (tryLoad c out t .list) j 0 ≡ getD out j 0
+  pub asLong : length (tryLoad c out t .list) ≡ length out
+
+module _ (c : Load) (out : List ℕ) (t : Tables) where
+  -- the try on rows
+  abbrev tryResult : Result (Given Reply)
+  tryResult = tryRows c (length out) (view t)
+
+  told-reply : broken t ≡ false → tryLoad c out t .answer ≡ replyOf tryResult
+  told-reply h = try-answer c out t ∙ row-answer (rowTry c (length out)) t h
+
+  lists-chain : (r : Reasoned (view t) (afterLoad c (worldOf (view t)))) (x : Refusal) → 512 ≤ length out
+      → tryLoad c out t ≡ record { answer = Denied x; count = length (r .chain); list = writeRows set (r .chain) 0 out } → Lists c out t
+  lists-chain r x l e = record {
+    reasoned = r;
+    count = rw e refl;
+    begins = rw e (listed-chain (r .chain) out (omega (arith, r .count)));
+    past = rw e (λ j h. listed-past (r .chain) out j h);
+    asLong = rw e (listed-length (r .chain) out);
+  }
+
+  -- every answer 9 lists one
+  pub try-lists : numberOf (tryLoad c out t .answer) ≡ 9 → Lists c out t
+  unfolding numberOf number
+  try-lists e = by-broken t
+      (λ h. absurd (let z = ap (λ (d : Tried). numberOf (d .answer)) (try-broken c out t h) in omega arith))
+      (λ h. go h tryResult refl (ap numberOf (sym (told-reply h)) ∙ e))
+    where
+      go : broken t ≡ false → (o : Result (Given Reply)) → tryResult ≡ o → numberOf (replyOf o) ≡ 9 → Lists c out t
+      go h (ok g) q k = absurd (omega (arith, accepted-number (rowTry c (length out)) (view t) g q))
+      go h (refused x) q k =
+          let p = tried-other (length out) (view t) (loadRows c (view t)) x (unfold tryRows in q) (λ z. omega arith) (λ z. omega arith) in
+          let r = load-reasoned c (view t) (broken-false t h .1) x (p .1) k in
+          lists-chain r x (p .0) (try-unbroken c out t h ∙ (ap (λ (o : Result (Given Reply)). tried (view t) (afterLoad c (worldOf (view t))) o out) q
+          ∙ tried-listed (view t) (afterLoad c (worldOf (view t))) x out (r .chain) k (r .found)))
+
+  -- any other answer lists nothing, and writes nothing
+  pub try-lists-none : (numberOf (tryLoad c out t .answer) ≡ 9 → ⊥) → tryLoad c out t ≡ unlisted (tryLoad c out t .answer) out
+  unfolding numberOf
+  try-lists-none k = by-broken t
+      (λ h. let q = try-broken c out t h in q ∙ ap (λ (a : Reply). unlisted a out) (sym (ap (λ (d : Tried). d .answer) q)))
+      (λ h. try-unbroken c out t h ∙ (tried-unlisted (view t) (afterLoad c (worldOf (view t))) tryResult out (λ x q z. k (ap numberOf (told-reply h ∙ ap replyOf q) ∙ z))
+      ∙ ap (λ (a : Reply). unlisted a out) (sym (told-reply h))))
+
+  -- so every clash of the load is told, where the list has 512 numbers or more
+  pub clash-lists : 512 ≤ length out → numberOf (perform (callRows (loadCall c)) t .answer) ≡ 9 → Lists c out t
+  clash-lists l e = try-lists (ap numberOf (try-answer c out t ∙ try-own c (length out) t l) ∙ e)

@@ -20,10 +20,11 @@ use Rattle.definition.specs.Machine.{Frame, Progress, free, Objects, newObject,
 use Rattle.definition.specs.Sweeping.{sweptFrom}
 use Rattle.definition.specs.Loading.{subtypeIs, subtypeOf, newSubtypes, overrideTie, overrideTies, define, recorded, started}
 use Rattle.definition.specs.Tables.{Rows, worldOf, withTies, withObjects, withFrames, framesIn, withNumbers}
-use Rattle.definition.specs.Calls.{Given, bootRows, progressed, defineRows, recordRows, startRows, dropRows, sweepRows, stepTask, stepOn, stepRows, RowCall, rowDefine, rowRecord, rowStart, rowDrop, rowSweep, onRowCall, numberedOn}
+use Rattle.definition.specs.Calls.{Given, bootRows, progressed, defineRows, recordRows, startRows, dropRows, sweepRows, stepTask, stepOn, stepRows, RowCall, rowDefine, rowRecord, rowStart, rowDrop, rowSweep, rowTry, onRowCall, numberedOn}
 use Rattle.definition.specs.Widths.{EachBelow, FittingRows}
 use Rattle.laws.specs.Tasks.{of-task}
 use Rattle.laws.specs.Wrapped.{Ok, then}
+use Rattle.laws.specs.Tried.{try-leaves}
 use Rattle.layout.specs.Tests.{All, all-both}
 use Rattle.unbroken.specs.Accepted.{recorded-is}
 use Rattle.widths.specs.Below.{below-both}
@@ -201,6 +202,7 @@ module _ (r : Rows) (f : RowsFit r) where
   rows-fit (rowStart k l n m v) h = start-fits k l n m v h
   rows-fit (rowDrop k) h = drop-fits k
   rows-fit rowSweep h = sweep-fits
+  rows-fit (rowTry c n) h = try-leaves RowsFit c n r f
 
 pub boot-fits : RowsFit bootRows
 boot-fits = record { kept = tt; cache = (omega arith, tt); ties = tt; subtypes = tt; objects = tt; quote = tt; report = tt }
