@@ -179,7 +179,7 @@ pub(crate) fn seed(
 ) -> usize
     requires { ⌜ (cached ≤ placeLimit) × Zeroed (now dists) × (length (now queue) ≡ placeLimit) ⌝ }
     ensures { λ r. ⌜ ((ways : List ℕ) → length ways ≡ placeLimit → Seeded (endsIn only (now (aboves .entry)) stamp (now (classes .entry)) cached c) (found (now (dists .exit)) ways (now (queue .exit)) r)) ⌝ }
-    ensures { λ r. ⌜ (i : ℕ) → i < r → getD (now (queue .exit)) i 0 < placeLimit ⌝ }
+    ensures { λ r. ⌜ ((i : ℕ) → i < r → getD (now (queue .exit)) i 0 < placeLimit) ⌝ }
 {
     let mut tail = 0;
     let mut q = 0;

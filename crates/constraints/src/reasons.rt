@@ -19,11 +19,11 @@ use definition::numbers::COUNT_TIES;
 ghost use mathlib.Core.Path.{_≡_};
 ghost use mathlib.Core.Bool.{true};
 ghost use Prim.Native.Nat.{_≤_};
-ghost use lib.ListN.{length, set};
+ghost use lib.ListN.{length, getD, set};
 ghost use Rattle.definition.specs.Numbers.{cacheLimit, tieLimit, subtypeLimit, countCache, countTies, countSubtypes};
 ghost use Rattle.definition.specs.Answers.{Reply};
 ghost use Rattle.definition.specs.Lists.{rows, writeRows};
-ghost use Rattle.definition.specs.Reasons.{listed};
+ghost use Rattle.definition.specs.Reasons.{tries, listed};
 ghost use Rattle.constraints.specs.Nodes.{placeLimit};
 ghost use Rattle.constraints.specs.Agreement.{atMost};
 ghost use Rattle.constraints.specs.Choosing.{held, Holds};
@@ -104,7 +104,7 @@ pub fn reason(
     subtypes: &[u16],
     list: &mut [u16],
 ) -> u16
-    ensures { λ r. ⌜ (a : Reply) → record { answer = a; count = r; list = now (list .exit) } ≡ listed a (reasonIn (now (supers .entry)) (now (counts .entry)) (now (cache .entry)) (now (ties .entry)) (now (subtypes .entry))) (now (list .entry)) ⌝ }
+    ensures { λ r. ⌜ ((a : Reply) → tries a r (now (list .exit)) ≡ listed a (reasonIn (now (supers .entry)) (now (counts .entry)) (now (cache .entry)) (now (ties .entry)) (now (subtypes .entry))) (now (list .entry))) ⌝ }
 {
     if !numbers_fit(counts) {
         return 0;

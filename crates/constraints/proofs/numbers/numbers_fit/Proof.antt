@@ -7,10 +7,10 @@ use borrow.Author.Tests.{not-false, not-true}
 use Rattle.definition.specs.Broken.{inTurn}
 use Rattle.definition.specs.Lists.{rows}
 use Rattle.definition.specs.Tables.{numberAt}
-use Rattle.store.proofs.Laws.{next-there, turn-start, turn-tie, turn-subtype, turn-neither, turn-end}
-use Rattle.store.specs.Checks.{numbersFit}
-use Rattle.store.proofs.numbers.numbers_fit.Statement.{statement}
-use Rattle.store.proofs.numbers.numbers_fit.Tie as tie
+use Rattle.constraints.proofs.Laws.{next-there, turn-start, turn-tie, turn-subtype, turn-neither, turn-end}
+use Rattle.constraints.specs.Linking.{numbersFit}
+use Rattle.constraints.proofs.numbers.numbers_fit.Statement.{statement}
+use Rattle.constraints.proofs.numbers.numbers_fit.Tie as tie
 
 abbrev Inv-loop : tie.InvT-loop
 Inv-loop counts ties subtypes n t₀ s₀ k₀ t s k = (t + s ≡ k) × (t ≤ ties) × (s ≤ subtypes) × (n ≡ ties + subtypes) × (inTurn (n - k) k (rows (numberAt 264 counts) (ties - t) t) (rows (numberAt 520 counts) (subtypes - s) s) ≡ numbersFit counts)
