@@ -2,19 +2,19 @@
 -- that leads to a node of one layer, the next layer is found: all nodes from which the shortest walk is one row longer. A search that meets an empty layer has
 -- found every node from which there is a walk.
 use mathlib.Core.Path.{_≡_, refl, sym, ap, _∙_}
-use mathlib.Core.Bool.{Bool, true, false, not}
+use mathlib.Core.Bool.{Bool, true, false, false≢true, not, _&&_}
 use mathlib.Core.List.{List, [], _∷_, List·Memᴰ, List·Memᴰ·head, List·Memᴰ·tail, List·Memᴰ·not-nil, _++_, Memᴰ·append-left, Memᴰ·append-right, List·Memᴰ·append-cases}
 use mathlib.Core.Logic.{_⊎_, inl, inr}
 use Prim.Native.Nat.{ℕ, zero, suc, _+_, _<_, _≤_}
 use native.Mathlib.Omega.{arith}
-use lib.ListN.{length, getD, set, length-set, List·getD-eq-default}
+use lib.ListN.{length, getD, set, length-set, List·getD-eq-default, replicate, length-replicate}
 use lib.Seq.{getD-set-same, getD-set-other}
 use lib.Dec.{eqb, ltb}
-use borrow.Author.Tests.{eqb-true, eqb-false, ltb-true, ltb-false, eq-eqb, ne-eqb}
+use borrow.Author.Tests.{eqb-true, eqb-false, ltb-true, ltb-false, lt-ltb, eq-eqb, ne-eqb}
 use Rattle.constraints.specs.Nodes.{placeLimit}
 use Rattle.constraints.specs.Joining.{Last}
 use Rattle.constraints.specs.Search.{marked, startOf}
-use Rattle.constraints.specs.Walks.{Found, found, distOf, wayOf, nodeAt, Room, Sized, look, looks, Those, Walk, Onward, Exact, Beyond, Layer, Spread, Seeded, badIn}
+use Rattle.constraints.specs.Walks.{Found, found, distOf, wayOf, nodeAt, Room, Sized, look, looks, Those, Walk, Onward, Exact, Beyond, Layer, Spread, Seeded, Zeroed, badIn, endsIn, seedOne}
 use Rattle.constraints.proofs.Rows.{Order, less, equal, more, order}
 use Rattle.constraints.proofs.Supers.{above-same, above-other}
 
@@ -92,7 +92,8 @@ module _ (froms labels : List ℕ) (layer : ℕ) where
   fresh-sized : (e : ℕ) (s : Found) → 0 < layer → getD froms e 0 < placeLimit → Sized s → (p : distOf s (getD froms e 0) ≡ 0)
       → Sized (found (set (s .dists) (getD froms e 0) layer) (set (s .ways) (getD froms e 0) e) (set (s .queue) (s .tail) (getD froms e 0)) (s .tail + 1))
       × Grows s (found (set (s .dists) (getD froms e 0) layer) (set (s .ways) (getD froms e 0) e) (set (s .queue) (s .tail) (getD froms e 0)) (s .tail + 1))
-  fresh-sized e s l h z p = (record {
+  fresh-sized e s l h z p = (
+    record {
       room = record {
         distsLong = length-set (s .dists) (getD froms e 0) layer ∙ z .room .distsLong;
         waysLong = length-set (s .ways) (getD froms e 0) e ∙ z .room .waysLong;
@@ -100,7 +101,9 @@ module _ (froms labels : List ℕ) (layer : ℕ) where
         few = omega (arith, z .room .few, unmarked (s .dists) (getD froms e 0) layer (omega (arith, z .room .distsLong)) p l);
       };
       nodes = λ i k. node i k (written (s .queue) (s .tail) (getD froms e 0) i (omega (arith, left, z .room .queueLong)));
-    }, record { more = omega arith; old = λ i k. getD-set-other (s .queue) (s .tail) i (getD froms e 0) 0 (λ r. omega arith) })
+    },
+    record { more = omega arith; old = λ i k. getD-set-other (s .queue) (s .tail) i (getD froms e 0) 0 (λ r. omega arith) },
+  )
     where
       left : s .tail < placeLimit
       left = room-left s (getD froms e 0) (z .room) h p l
@@ -120,10 +123,13 @@ module _ (froms labels : List ℕ) (layer : ℕ) where
 
       go : Looked e s → Both (look froms labels layer e s)
       go (fresh p q) = rw q (fresh-sized e s l h z p)
-      go (lower p m q) = rw q (record {
+      go (lower p m q) = rw q (
+        record {
           room = record { distsLong = z .room .distsLong; waysLong = length-set (s .ways) (getD froms e 0) e ∙ z .room .waysLong; queueLong = z .room .queueLong; few = z .room .few };
           nodes = z .nodes;
-        }, record { more = omega arith; old = λ i k. refl })
+        },
+        record { more = omega arith; old = λ i k. refl },
+      )
       go (same p m q) = rw q (z, stays)
 
   pub looks-sized : (es : List ℕ) (s : Found) → 0 < layer → ((e : ℕ) → List·Memᴰ e es → getD froms e 0 < placeLimit) → Sized s
@@ -679,8 +685,194 @@ module _ (froms tos labels : List ℕ) (count layer low : ℕ) (s₀ : Found) wh
 
   pub backward-all : (high i : ℕ) (s : Found) → i ≤ high → high ≤ i → Backward i s
       → (es : List ℕ) × Those count (λ e. (j : ℕ) × (low ≤ j) × (j < high) × (getD tos e 0 ≡ nodeAt s₀ j)) es × (s ≡ looks froms labels layer es s₀)
-  backward-all high i s l h b = (b .links, record {
-    fit = b .those .fit;
-    only = λ e m. (let r = b .those .only e m in (r .0, r .1, omega (arith, r .2), r .3));
-    all = λ e k q. b .those .all e k (q .0, q .1, omega (arith, q .2), q .3);
-  }, b .is)
+  backward-all high i s l h b = (
+    b .links,
+    record {
+      fit = b .those .fit;
+      only = λ e m. (let r = b .those .only e m in (r .0, r .1, omega (arith, r .2), r .3));
+      all = λ e k q. b .those .all e k (q .0, q .1, omega (arith, q .2), q .3);
+    },
+    b .is,
+  )
+
+-- The search, layer after layer: n of them, the last of which is queued from `low` on
+
+module _ (froms tos labels : List ℕ) (count limit : ℕ) (s₀ : Found) where
+  pub record Spreads (n low : ℕ) (s : Found) : Type 0 where
+    pub fits : low ≤ s .tail
+    pub few : n ≤ low
+    pub near : n ≤ limit
+    pub sized : Sized s
+    pub layer : (ends : ℕ → Bool) → Seeded ends s₀ → Layer froms tos labels count ends n low s
+
+  pub spreads-first : Sized s₀ → Spreads 0 0 s₀
+  spreads-first z = record { fits = omega arith; few = omega arith; near = omega arith; sized = z; layer = λ ends e. layer-first froms tos labels count ends s₀ e }
+
+  pub spreads-next : (n low high : ℕ) (s u : Found) → high ≡ s .tail → ((e : ℕ) → e < count → getD froms e 0 < placeLimit) → Spreads n low s → low < high → n < limit
+      → (es : List ℕ) × Those count (λ e. (j : ℕ) × (low ≤ j) × (j < high) × (getD tos e 0 ≡ nodeAt s j)) es × (u ≡ looks froms labels (n + 2) es s)
+      → Spreads (n + 1) high u
+  spreads-next n low high s u i h k l m o =
+      let two : n + 2 ≡ suc (suc n) = omega arith in
+      let one : n + 1 ≡ suc n = omega arith in
+      let is : u ≡ looks froms labels (suc (suc n)) (o .0) s = o .2 ∙ ap (λ (x : ℕ). looks froms labels x (o .0) s) two in
+      rw (one, is, i) (made (rw i at (o .1)) (rw i at l))
+    where
+      made : Those count (λ e. (j : ℕ) × (low ≤ j) × (j < s .tail) × (getD tos e 0 ≡ nodeAt s j)) (o .0) → low < s .tail → Spreads (suc n) (s .tail) (looks froms labels (suc (suc n)) (o .0) s)
+      made t l =
+          let b = looks-sized froms labels (suc (suc n)) (o .0) s (omega arith) (λ e z. h e (t .fit e z)) (k .sized) in
+          record {
+            fits = b .1 .more;
+            few = omega (arith, k .few);
+            near = omega arith;
+            sized = b .0;
+            layer = λ ends e. layer-next froms tos labels count ends n low s (k .layer ends e) (k .sized) l (o .0) t h;
+          }
+
+  pub spreads-far : (n low : ℕ) (s : Found) → Spreads n low s → limit ≤ n → (ends : ℕ → Bool) → Seeded ends s₀
+      → (r : ℕ) × Spread froms tos labels count ends limit (found (s .dists) (s .ways) (s .queue) r)
+  spreads-far n low s k l ends e = (s .tail, spread-far froms tos labels count ends n low s (k .layer ends e) limit (omega (arith, k .near)))
+
+  pub spreads-all : (n low : ℕ) (s : Found) → Spreads n low s → s .tail ≤ low → (ends : ℕ → Bool) → Seeded ends s₀
+      → (r : ℕ) × Spread froms tos labels count ends limit (found (s .dists) (s .ways) (s .queue) r)
+  spreads-all n low s k l ends e = (s .tail, spread-all froms tos labels count ends n low s (k .layer ends e) limit (k .near) l)
+
+-- The ends, found one after another
+
+both-true : (s t : Bool) → s && t ≡ true → (s ≡ true) × (t ≡ true)
+both-true true true h = (refl, refl)
+both-true true false h = absurd (false≢true h)
+both-true false t h = absurd (false≢true h)
+
+module _ (only : Bool) (aboves : List ℕ) (stamp : ℕ) (classes : List ℕ) (c : ℕ) where
+  abbrev endsTo : ℕ → ℕ → Bool
+  endsTo n q = endsIn only aboves stamp classes n c q
+
+  ends-true : (n q : ℕ) → endsIn only aboves stamp classes n c q ≡ true → (q < n) × (badIn only aboves stamp c (getD classes q 0) ≡ true)
+  unfolding endsIn
+  ends-true n q h = let r = both-true (ltb q n) (badIn only aboves stamp c (getD classes q 0)) h in (ltb-true q n (r .0), r .1)
+
+  true-ends : (n q : ℕ) → q < n → badIn only aboves stamp c (getD classes q 0) ≡ true → endsIn only aboves stamp classes n c q ≡ true
+  unfolding endsIn
+  true-ends n q h b = rw (lt-ltb q n h, b) refl
+
+  pub seeded-none : (dists ways queue : List ℕ) → Zeroed dists → length queue ≡ placeLimit → length ways ≡ placeLimit → Seeded (endsTo 0) (found dists ways queue 0)
+  seeded-none dists ways queue z l w = record {
+    sized = record { room = record { distsLong = z .long; waysLong = w; queueLong = l; few = omega (arith, z .none) }; nodes = λ i h. absurd (omega arith) };
+    isEnd = λ q e. absurd (omega (arith, e, z .zeros q));
+    all = λ q e. absurd (omega (arith, ends-true 0 q e .0));
+    only = λ q k e. absurd (omega (arith, e, z .zeros q));
+    isQueued = λ q e. absurd (omega (arith, e, z .zeros q));
+    isSeed = λ i h. absurd (omega arith);
+  }
+
+  -- a class that isn't bad ends no walk
+  pub seeded-skip : (q : ℕ) (s : Found) → badIn only aboves stamp c (getD classes q 0) ≡ false → Seeded (endsTo q) s → Seeded (endsTo (q + 1)) s
+  seeded-skip q s b e = record {
+    sized = e .sized;
+    isEnd = λ x f. (let r = ends-true q x (e .isEnd x f) in true-ends (q + 1) x (omega (arith, r .0)) (r .1));
+    all = λ x f. (let r = ends-true (q + 1) x f in e .all x (true-ends q x (below x (r .0) (r .1)) (r .1)));
+    only = e .only;
+    isQueued = e .isQueued;
+    isSeed = e .isSeed;
+  }
+    where
+      below : (x : ℕ) → x < q + 1 → badIn only aboves stamp c (getD classes x 0) ≡ true → x < q
+      below x h f = omega (arith, h, other)
+        where
+          other : x ≡ q → ⊥
+          other r = false≢true (sym b ∙ (ap (λ (y : ℕ). badIn only aboves stamp c (getD classes y 0)) (sym r) ∙ f))
+
+  module _ (q : ℕ) (s : Found) (h : q < placeLimit) (b : badIn only aboves stamp c (getD classes q 0) ≡ true) (e : Seeded (endsTo q) s) where
+    fresh-end : distOf s q ≡ 0
+    fresh-end = elim (zero-or (distOf s q)) [ inl z ↦ z | inr z ↦ absurd (omega (arith, ends-true q q (e .isEnd q (z .1 ∙ ap suc (e .only q (z .0) (z .1)))) .0)) ]
+
+    left : s .tail < placeLimit
+    left = omega (arith, e .sized .room .few, unmarked (s .dists) q 1 (omega (arith, e .sized .room .distsLong)) fresh-end (omega arith))
+
+    dist : (x : ℕ) → Written (s .dists) q 1 x
+    dist x = written (s .dists) q 1 x (omega (arith, e .sized .room .distsLong))
+
+    node : (i : ℕ) → Written (s .queue) (s .tail) q i
+    node i = written (s .queue) (s .tail) q i (omega (arith, left, e .sized .room .queueLong))
+
+    pub seeded-tail : s .tail < placeLimit
+    seeded-tail = left
+
+    pub seeded-one : Seeded (endsTo (q + 1)) (found (set (s .dists) q 1) (s .ways) (set (s .queue) (s .tail) q) (s .tail + 1))
+    seeded-one = record {
+      sized = record {
+        room = record {
+          distsLong = length-set (s .dists) q 1 ∙ e .sized .room .distsLong;
+          waysLong = e .sized .room .waysLong;
+          queueLong = length-set (s .queue) (s .tail) q ∙ e .sized .room .queueLong;
+          few = omega (arith, e .sized .room .few, unmarked (s .dists) q 1 (omega (arith, e .sized .room .distsLong)) fresh-end (omega arith));
+        };
+        nodes = λ i k. nodes i k (node i);
+      };
+      isEnd = λ x f. ends x f (dist x);
+      all = λ x f. alls x (ends-true (q + 1) x f) (dist x);
+      only = λ x k f. onlys x k f (dist x);
+      isQueued = λ x f. queues x f (dist x);
+      isSeed = λ i k. seeds i k (node i);
+    }
+      where
+        nodes : (i : ℕ) → i < s .tail + 1 → Written (s .queue) (s .tail) q i → getD (set (s .queue) (s .tail) q) i 0 < placeLimit
+        nodes i k (here r w) = omega (arith, w)
+        nodes i k (there r w) = omega (arith, w, e .sized .nodes i (omega (arith, k, r)))
+
+        ends : (x : ℕ) → getD (set (s .dists) q 1) x 0 ≡ 1 → Written (s .dists) q 1 x → endsTo (q + 1) x ≡ true
+        ends x f (here r w) = true-ends (q + 1) x (omega arith) (ap (λ (y : ℕ). badIn only aboves stamp c (getD classes y 0)) r ∙ b)
+        ends x f (there r w) = let o = ends-true q x (e .isEnd x (sym w ∙ f)) in true-ends (q + 1) x (omega (arith, o .0)) (o .1)
+
+        alls : (x : ℕ) → (x < q + 1) × (badIn only aboves stamp c (getD classes x 0) ≡ true) → Written (s .dists) q 1 x → getD (set (s .dists) q 1) x 0 ≡ 1
+        alls x o (here r w) = w
+        alls x o (there r w) = w ∙ e .all x (true-ends q x (omega (arith, o .0, r)) (o .1))
+
+        onlys : (x k : ℕ) → getD (set (s .dists) q 1) x 0 ≡ suc k → Written (s .dists) q 1 x → k ≡ 0
+        onlys x k f (here r w) = omega (arith, f, w)
+        onlys x k f (there r w) = e .only x k (sym w ∙ f)
+
+        queues : (x : ℕ) → getD (set (s .dists) q 1) x 0 ≡ 1 → Written (s .dists) q 1 x → (i : ℕ) × (i < s .tail + 1) × (getD (set (s .queue) (s .tail) q) i 0 ≡ x)
+        queues x f (here r w) = (s .tail, omega arith, getD-set-same (s .queue) (s .tail) q 0 (omega (arith, left, e .sized .room .queueLong)) ∙ sym r)
+        queues x f (there r w) = let o = e .isQueued x (sym w ∙ f) in (o .0, omega (arith, o .1), getD-set-other (s .queue) (s .tail) (o .0) q 0 (λ z. omega (arith, o .1)) ∙ o .2)
+
+        seeds : (i : ℕ) → i < s .tail + 1 → Written (s .queue) (s .tail) q i → getD (set (s .dists) q 1) (getD (set (s .queue) (s .tail) q) i 0) 0 ≡ 1
+        seeds i k (here r w) = ap (λ (x : ℕ). getD (set (s .dists) q 1) x 0) w ∙ getD-set-same (s .dists) q 1 0 (omega (arith, e .sized .room .distsLong))
+        seeds i k (there r w) = ap (λ (x : ℕ). getD (set (s .dists) q 1) x 0) w ∙ found-is (dist (nodeAt s i))
+          where
+            found-is : Written (s .dists) q 1 (nodeAt s i) → getD (set (s .dists) q 1) (nodeAt s i) 0 ≡ 1
+            found-is (here a b) = b
+            found-is (there a b) = b ∙ e .isSeed i (omega (arith, k, r))
+
+  -- whatever the links are that lead on
+  abbrev pub Seeds : ℕ → List ℕ → List ℕ → ℕ → Type 0
+  Seeds n dists queue tail = (ways : List ℕ) → length ways ≡ placeLimit → Seeded (endsTo n) (found dists ways queue tail)
+
+  pub seeds-next : (q : ℕ) (dists queue dists′ queue′ : List ℕ) (tail tail′ : ℕ) → q < placeLimit → Seeds q dists queue tail
+      → ((ways : List ℕ) → found dists′ ways queue′ tail′ ≡ seedOne (badIn only aboves stamp c (getD classes q 0)) q (found dists ways queue tail))
+      → Seeds (q + 1) dists′ queue′ tail′
+  unfolding seedOne
+  seeds-next q dists queue dists′ queue′ tail tail′ h e f ways l = rw (f ways) (go (badIn only aboves stamp c (getD classes q 0)) refl)
+    where
+      go : (t : Bool) → badIn only aboves stamp c (getD classes q 0) ≡ t → Seeded (endsTo (q + 1)) (seedOne t q (found dists ways queue tail))
+      go true b = seeded-one q (found dists ways queue tail) h b (e ways l)
+      go false b = seeded-skip q (found dists ways queue tail) b (e ways l)
+
+  -- there is room for what is queued next
+  pub seeds-room : (n : ℕ) (dists queue : List ℕ) (tail : ℕ) → Seeds n dists queue tail → (length dists ≡ placeLimit) × (length queue ≡ placeLimit) × (tail ≤ placeLimit)
+  seeds-room n dists queue tail e =
+      let r = e (replicate {A = ℕ} placeLimit 0) (length-replicate {A = ℕ} placeLimit 0) .sized .room in (r .distsLong, r .queueLong, omega (arith, r .few))
+
+  pub seeds-end : (n q : ℕ) (dists queue : List ℕ) (tail : ℕ) → q ≤ n → n ≤ q → Seeds q dists queue tail → Seeds n dists queue tail
+  seeds-end n q dists queue tail l h e = let z : q ≡ n = omega arith in rw (sym z) e
+
+-- One end, by the steps of its test: r is whether the class is bad
+
+module _ (only : Bool) (aboves : List ℕ) (stamp c x y q : ℕ) (s : Found) (is : x ≡ y) (r : Bool) (test : r ≡ badIn only aboves stamp c x) where
+  pub seed-not : r ≡ false → s ≡ seedOne (badIn only aboves stamp c y) q s
+  unfolding seedOne
+  seed-not h = rw (sym is, sym test, h, seedOne) refl
+
+  pub seed-put : r ≡ true → found (set (s .dists) q 1) (s .ways) (set (s .queue) (s .tail) q) (s .tail + 1) ≡ seedOne (badIn only aboves stamp c y) q s
+  unfolding seedOne
+  seed-put h = rw (sym is, sym test, h, seedOne) refl

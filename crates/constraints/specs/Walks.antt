@@ -130,6 +130,10 @@ badOver only sup c d = elim only [ true ↦ not (eqb c d) | false ↦ not (below
 unfoldable pub endsOver : Bool → (ℕ → Option ℕ) → List ℕ → ℕ → ℕ → ℕ → Bool
 endsOver only sup classes cached c q = ltb q cached && badOver only sup c (getD classes q 0)
 
+-- one of them
+unfoldable pub seedOne : Bool → ℕ → Found → Found
+seedOne bad q s = elim bad [ true ↦ found (set (s .dists) q 1) (s .ways) (set (s .queue) (s .tail) q) (s .tail + 1) | false ↦ s ]
+
 -- a table of zeros
 pub record Zeroed (dists : List ℕ) : Type 0 where
   pub long : length dists ≡ placeLimit

@@ -8,7 +8,7 @@ ghost use mathlib.Core.List.{List};
 ghost use Prim.Native.Nat.{ℕ, _<_, _≤_};
 ghost use lib.ListN.{length, getD};
 ghost use Rattle.constraints.specs.Nodes.{placeLimit};
-ghost use Rattle.constraints.specs.Walks.{found, Sized, look, looks, Those, Joint, Spread, badIn, endsIn, Zeroed, Seeded};
+ghost use Rattle.constraints.specs.Walks.{found, Sized, look, looks, Those, Joint, Spread, badIn, endsIn, seedOne, Zeroed, Seeded};
 
 // A look at a link that leads to a node of the layer before. Answers how many nodes are queued.
 fn look_at(
@@ -166,7 +166,30 @@ fn is_bad(aboves: &[u16], stamp: u16, only: bool, c: u16, class: u16) -> bool
     at16(aboves, cells::wide16(class)) != stamp
 }
 
-// The cached requests whose class is bad for class c are found, at distance 0, and queued. Answers how many.
+// Cached request q is found, at distance 0, and queued, if its class is bad for class c. Answers how many are queued.
+fn seed_one(
+    classes: &[u16],
+    aboves: &[u16],
+    stamp: u16,
+    only: bool,
+    c: u16,
+    q: usize,
+    dists: &mut [u16],
+    queue: &mut [u16],
+    tail: usize,
+) -> usize
+    requires { ⌜ (q < placeLimit) × (tail ≤ placeLimit) ⌝ }
+    ensures { λ r. ⌜ ((ways : List ℕ) → found (now (dists .exit)) ways (now (queue .exit)) r ≡ seedOne (badIn only (now (aboves .entry)) stamp c (getD (now (classes .entry)) q 0)) q (found (now (dists .entry)) ways (now (queue .entry)) tail)) ⌝ }
+{
+    if !is_bad(aboves, stamp, only, c, at16(classes, q)) {
+        return tail;
+    }
+    put16(dists, q, 1);
+    put16(queue, tail, q as u16);
+    tail + 1
+}
+
+// The cached requests whose class is bad for class c. Answers how many.
 pub(crate) fn seed(
     classes: &[u16],
     cached: usize,
@@ -183,11 +206,7 @@ pub(crate) fn seed(
     let mut tail = 0;
     let mut q = 0;
     while q < cached {
-        if is_bad(aboves, stamp, only, c, at16(classes, q)) {
-            put16(dists, q, 1);
-            put16(queue, tail, q as u16);
-            tail += 1;
-        }
+        tail = seed_one(classes, aboves, stamp, only, c, q, dists, queue, tail);
         q += 1;
     }
     tail
