@@ -40,6 +40,12 @@ pub(crate) fn write_counts(counts: &mut [u16], new: &[u16])
     let tied = cells::at16(new, COUNT_TIES);
     let noted = cells::at16(new, COUNT_SUBTYPES);
     entries::write_cells(counts, 0, new);
-    number_rows(counts, SUBTYPE_NUMBERS, subtypes, ties + subtypes, noted - subtypes);
+    number_rows(
+        counts,
+        SUBTYPE_NUMBERS,
+        subtypes,
+        ties + subtypes,
+        noted - subtypes,
+    );
     number_rows(counts, TIE_NUMBERS, ties, ties + noted, tied - ties);
 }
