@@ -299,21 +299,23 @@ pub load-rows : (c : Offer) → onRowCall (loadCall c) ≡ loadRows c
 load-rows (loadDefine l bs) = refl
 load-rows (loadRecord l n c) = refl
 
-pub try-refuses : (P : Refusal → Type 0) (c : Offer) (n : ℕ) (r : Rows) → P (Word 16) → Refuses P (loadRows c r) → Refuses P (tryRows c n r)
+-- what a call on rows gives, with the rows as they were
+abbrev pub unmoved : Rows → Result (Given Reply) → Result (Given Reply)
+unmoved r (refused w) = refused w
+unmoved r (ok g) = ok (record { answer = g .answer; rows = r })
+
+-- a try gives what the load does, with the rows as they were, or 16
+pub try-either : (P : Result (Given Reply) → Type 0) (c : Offer) (n : ℕ) (r : Rows) → P (refused (Word 16)) → P (unmoved r (loadRows c r)) → P (tryRows c n r)
 unfolding tryRows triedWith
-try-refuses P c n r short h = go (loadRows c r) h
+try-either P c n r short h = go (loadRows c r) h
   where
-    go : (o : Result (Given Reply)) → Refuses P o → Refuses P (triedWith n r o)
-    go (ok g) h = by (ltb n 512)
-      where
-        by : (b : Bool) → Refuses {A = Given Reply} P (elim b as (λ _. Result (Given Reply)) [ true ↦ refused (Word 16) | false ↦ ok (record { answer = g .answer; rows = r }) ])
-        by true = short
-        by false = tt
-    go (refused w) h = by (ltb n 512 && not (eqb (number w) 3))
-      where
-        by : (b : Bool) → Refuses {A = Given Reply} P (elim b as (λ _. Result (Given Reply)) [ true ↦ refused (Word 16) | false ↦ refused w ])
-        by true = short
-        by false = h
+    by : (b : Bool) (o : Result (Given Reply)) → P o → P (elim b as (λ _. Result (Given Reply)) [ true ↦ refused (Word 16) | false ↦ o ])
+    by true o h = short
+    by false o h = h
+
+    go : (o : Result (Given Reply)) → P (unmoved r o) → P (triedWith n r o)
+    go (ok g) h = by (ltb n 512) (unmoved r (ok g)) h
+    go (refused w) h = by (ltb n 512 && not (eqb (number w) 3)) (refused w) h
 
 -- a word of the load's is one of the try's
 any-further : (n : ℕ) (ws : List ℕ) → any (eqb n) (1 ∷ 3 ∷ ws) ≡ true → any (eqb n) (1 ∷ 3 ∷ 16 ∷ ws) ≡ true
@@ -334,17 +336,17 @@ due-tried (loadRecord l x c) n r (Wanted k m) d = absurd (d .1)
 due-tried (loadDefine l bs) n r (Word m) d = any-further m _ d
 due-tried (loadRecord l x c) n r (Word m) d = any-further m _ d
 
-refuses-map : {A : Type 0} (P Q : Refusal → Type 0) (o : Result A) → ((w : Refusal) → P w → Q w) → Refuses P o → Refuses Q o
-refuses-map P Q (refused w) f h = f w h
-refuses-map P Q (ok a) f h = tt
-
 load-due : (c : Offer) (r : Rows) → Refuses (Due (callRows (loadCall c)) r) (loadRows c r)
 load-due (loadDefine l bs) r = define-due l bs r
 load-due (loadRecord l n c) r = record-due l n c r
 
 try-due : (c : Offer) (n : ℕ) (r : Rows) → Refuses (Due (callTry c n) r) (tryRows c n r)
 unfolding refusalsOf rowRefusals any
-try-due c n r = try-refuses (Due (callTry c n) r) c n r refl (refuses-map (Due (callRows (loadCall c)) r) (Due (callTry c n) r) (loadRows c r) (due-tried c n r) (load-due c r))
+try-due c n r = try-either (Refuses (Due (callTry c n) r)) c n r refl (go (loadRows c r) (load-due c r))
+  where
+    go : (o : Result (Given Reply)) → Refuses (Due (callRows (loadCall c)) r) o → Refuses (Due (callTry c n) r) (unmoved r o)
+    go (refused w) h = due-tried c n r w h
+    go (ok g) h = tt
 
 pub rows-due : (c : RowCall) (r : Rows) → Refuses (Due (callRows c) r) (onRowCall c r)
 rows-due (rowDefine l bs) r = define-due l bs r

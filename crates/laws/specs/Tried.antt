@@ -25,33 +25,13 @@ use Rattle.definition.specs.Calls.{Given, Load, loadDefine, loadRecord, loadRow
 use Rattle.definition.specs.Reasons.{afterDefine, afterLoad}
 use Rattle.laws.specs.Options.{some-bind}
 use Rattle.laws.specs.Wrapped.{Ok}
-use Rattle.laws.specs.Refusals.{Refuses, on-bind, on-test, on-take}
+use Rattle.laws.specs.Refusals.{Refuses, unmoved, try-either, on-bind, on-test, on-take}
 
--- the load's answer, with the rows as they are
-abbrev pub unmoved : Rows → Given Reply → Given Reply
-unmoved r g = record { answer = g .answer; rows = r }
-
-pub try-ok : (P : Given Reply → Type 0) (c : Load) (n : ℕ) (r : Rows) → Ok (loadRows c r) (λ g. P (unmoved r g)) → Ok (tryRows c n r) P
-unfolding tryRows triedWith
-try-ok P c n r h = go (loadRows c r) h
-  where
-    go : (o : Result (Given Reply)) → Ok o (λ g. P (unmoved r g)) → Ok (triedWith n r o) P
-    go (ok g) h = by (ltb n 512)
-      where
-        by : (b : Bool) → Ok {A = Given Reply} (elim b as (λ _. Result (Given Reply)) [ true ↦ refused (Word 16) | false ↦ ok (unmoved r g) ]) P
-        by true = tt
-        by false = h
-    go (refused w) h = by (ltb n 512 && not (eqb (number w) 3))
-      where
-        by : (b : Bool) → Ok {A = Given Reply} (elim b as (λ _. Result (Given Reply)) [ true ↦ refused (Word 16) | false ↦ refused w ]) P
-        by true = tt
-        by false = tt
-
--- so what holds of the rows holds of those that a try leaves
+-- what holds of the rows holds of those that a try leaves
 pub try-leaves : (Q : Rows → Type 0) (c : Load) (n : ℕ) (r : Rows) → Q r → Ok (tryRows c n r) (λ g. Q (g .rows))
-try-leaves Q c n r h = try-ok (λ g. Q (g .rows)) c n r (go (loadRows c r))
+try-leaves Q c n r h = try-either (λ o. Ok o (λ g. Q (g .rows))) c n r tt (go (loadRows c r))
   where
-    go : (o : Result (Given Reply)) → Ok o (λ g. Q r)
+    go : (o : Result (Given Reply)) → Ok (unmoved r o) (λ g. Q (g .rows))
     go (ok g) = h
     go (refused w) = tt
 
@@ -91,12 +71,12 @@ module _ (n : ℕ) (r : Rows) where
       go true = refl
       go false = refl
 
-  -- any other word is the load's, and the list is long enough or the word is 3
+  -- where it is refused with another word, the list is long enough, and the load is refused so
   pub tried-other : (o : Result (Given Reply)) (x : Refusal) → triedWith n r o ≡ refused x → (number x ≡ 16 → ⊥) → (number x ≡ 3 → ⊥) → (512 ≤ n) × (o ≡ refused x)
   unfolding triedWith number
   tried-other (ok g) x e short unknown = go (ltb n 512) refl e
     where
-      go : (s : Bool) → ltb n 512 ≡ s → _≡_ {A = Result (Given Reply)} (elim s as (λ _. Result (Given Reply)) [ true ↦ refused (Word 16) | false ↦ ok (unmoved r g) ]) (refused x) → (512 ≤ n) × (ok g ≡ refused x)
+      go : (s : Bool) → ltb n 512 ≡ s → _≡_ {A = Result (Given Reply)} (elim s as (λ _. Result (Given Reply)) [ true ↦ refused (Word 16) | false ↦ unmoved r (ok g) ]) (refused x) → (512 ≤ n) × (ok g ≡ refused x)
       go true q e = absurd (short (let z : x ≡ Word 16 = cc in ap number z))
       go false q e = absurd (let z : _≡_ {A = ℕ} 0 1 = cc in omega arith)
   tried-other (refused w) x e short unknown = go (ltb n 512) (eqb (number w) 3) refl refl e

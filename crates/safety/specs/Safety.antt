@@ -24,10 +24,9 @@ use Rattle.definition.specs.Calls.{Given, bootRows, progressed, defineRows, rec
 use Rattle.definition.specs.Misplaced.{misplaced}
 use Rattle.definition.specs.Safety.{Safe}
 use Rattle.laws.specs.Results.{NotStuck, Wp, not-word, ok-inj, wp-need, wp-take}
-use Rattle.laws.specs.Refusals.{Refuses, try-refuses}
+use Rattle.laws.specs.Refusals.{unmoved, try-either}
 use Rattle.laws.specs.Runs.{runs-end}
 use Rattle.laws.specs.Tasks.{of-task}
-use Rattle.laws.specs.Tried.{unmoved, try-ok}
 use Rattle.laws.specs.Wrapped.{wrapped, Ok, ok-at}
 use Rattle.layout.specs.Tests.{All}
 use Rattle.layout.specs.Whole.{Whole, Framed}
@@ -68,16 +67,6 @@ wp-on : {A B : Type 0} (P : A → Type 0) (Q : B → Type 0) (o : Result A) (f :
 unfolding _>>=_
 wp-on P Q (refused w) f h k = h
 wp-on P Q (ok a) f h k = k a refl h
-
--- by its two parts
-
-wp-refuses : {A : Type 0} (Q : A → Type 0) (o : Result A) → Wp o Q → Refuses NotStuck o
-wp-refuses Q (refused w) h = h
-wp-refuses Q (ok a) h = tt
-
-wp-both : {A : Type 0} (Q : A → Type 0) (o : Result A) → Refuses NotStuck o → Ok o Q → Wp o Q
-wp-both Q (refused w) n h = n
-wp-both Q (ok a) n h = h
 
 abbrev Good : Rows → Type 0
 Good r = Valid (storeOf r)
@@ -158,13 +147,11 @@ module _ (r : Rows) (w : Whole r) (v : Good r) where
 
   -- a try answers as the load, or 16, and leaves the rows as they are
   try-good : (c : Load) (n : ℕ) → Wp (tryRows c n r) Q
-  try-good c n = wp-both Q (tryRows c n r)
-      (try-refuses NotStuck c n r (not-word 16 (omega arith)) (wp-refuses Q (loadRows c r) (load-good c)))
-      (try-ok Q c n r (answers (loadRows c r) (load-good c)))
+  try-good c n = try-either (λ o. Wp o Q) c n r (not-word 16 (omega arith)) (go (loadRows c r) (load-good c))
     where
-      answers : (o : Result (Given Reply)) → Wp o Q → Ok o (λ g. Q (unmoved r g))
-      answers (refused x) h = tt
-      answers (ok g) h = (v, h .1)
+      go : (o : Result (Given Reply)) → Wp o Q → Wp (unmoved r o) Q
+      go (refused x) h = h
+      go (ok g) h = (v, h .1)
 
   rows-good : (c : RowCall) → Wp (onRowCall c r) Q
   rows-good (rowDefine l bs) = define-good l bs

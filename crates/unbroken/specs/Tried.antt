@@ -181,11 +181,11 @@ by-broken {P} t x y = go (broken t) refl
     go true e = x e
     go false e = y e
 
-try-broken : (c : Load) (out : List ℕ) (t : Tables) → broken t ≡ true → tryLoad c out t ≡ unlisted (Denied (Word 1)) out
+pub try-broken : (c : Load) (out : List ℕ) (t : Tables) → broken t ≡ true → tryLoad c out t ≡ unlisted (Denied (Word 1)) out
 unfolding tryLoad
 try-broken c out t h = rw (h, tryLoad) refl
 
-try-unbroken : (c : Load) (out : List ℕ) (t : Tables) → broken t ≡ false → tryLoad c out t ≡ tried (view t) (afterLoad c (worldOf (view t))) (tryRows c (length out) (view t)) out
+pub try-unbroken : (c : Load) (out : List ℕ) (t : Tables) → broken t ≡ false → tryLoad c out t ≡ tried (view t) (afterLoad c (worldOf (view t))) (tryRows c (length out) (view t)) out
 unfolding tryLoad tryLoadRows
 try-unbroken c out t h = rw (h, tryLoad) refl
 
@@ -203,20 +203,20 @@ try-changes-none c n t = wrapped Denied (tryRows c n) t (λ _ s. s ≡ t) (λ _.
 
 -- The answer is the load's own, 16 apart
 
-module _ (c : Load) (n : ℕ) (t : Tables) where
-  -- what the load itself answers
-  abbrev pub ownAnswer : Reply
-  ownAnswer = perform (callRows (loadCall c)) t .answer
+-- what the load itself answers
+abbrev pub ownAnswer : Load → Tables → Reply
+ownAnswer c t = perform (callRows (loadCall c)) t .answer
 
-  own-answer : broken t ≡ false → ownAnswer ≡ replyOf (loadRows c (view t))
+module _ (c : Load) (n : ℕ) (t : Tables) where
+  own-answer : broken t ≡ false → ownAnswer c t ≡ replyOf (loadRows c (view t))
   own-answer h = row-answer (loadCall c) t h ∙ ap (λ (f : Rows → Result (Given Reply)). replyOf (f (view t))) (load-rows c)
 
   -- on a store that isn't broken it is never 1
-  not-one : broken t ≡ false → numberOf ownAnswer ≡ 1 → ⊥
+  not-one : broken t ≡ false → numberOf (ownAnswer c t) ≡ 1 → ⊥
   unfolding causes rowCauses defineCauses recordCauses any
   not-one h e = eqb-false (first (rowCauses (loadCall c) (view t))) 1 (go c) (sym is ∙ e)
     where
-      is : numberOf ownAnswer ≡ first (rowCauses (loadCall c) (view t))
+      is : numberOf (ownAnswer c t) ≡ first (rowCauses (loadCall c) (view t))
       is = first-applies (callRows (loadCall c)) t ∙ (ap (λ (b : Bool). first (cause 1 b ∷ rowCauses (loadCall c) (view t))) h ∙ first-skip 1 (rowCauses (loadCall c) (view t)))
 
       go : (c : Load) → eqb (first (rowCauses (loadCall c) (view t))) 1 ≡ false
@@ -224,21 +224,21 @@ module _ (c : Load) (n : ℕ) (t : Tables) where
       go (loadRecord l x d) = first-other 1 (rowCauses (loadCall (loadRecord l x d)) (view t)) refl refl
 
   -- with a list of 512 numbers or more
-  pub try-own : 512 ≤ n → perform (callTry c n) t .answer ≡ ownAnswer
+  pub try-own : 512 ≤ n → perform (callTry c n) t .answer ≡ ownAnswer c t
   unfolding tryRows
   try-own l = by-broken t
       (λ h. row-broken (rowTry c n) t h ∙ sym (row-broken (loadCall c) t h))
       (λ h. row-answer (rowTry c n) t h ∙ (tried-long n (view t) (loadRows c (view t)) l ∙ sym (own-answer h)))
 
   -- with a shorter one it is 16
-  pub try-short : n < 512 → (numberOf ownAnswer ≡ 1 → ⊥) → (numberOf ownAnswer ≡ 3 → ⊥) → perform (callTry c n) t .answer ≡ Denied (Word 16)
+  pub try-short : n < 512 → (numberOf (ownAnswer c t) ≡ 1 → ⊥) → (numberOf (ownAnswer c t) ≡ 3 → ⊥) → perform (callTry c n) t .answer ≡ Denied (Word 16)
   unfolding tryRows numberOf number
   try-short l one three = by-broken t
       (λ h. absurd (one (ap numberOf (row-broken (loadCall c) t h))))
       (λ h. row-answer (rowTry c n) t h ∙ ap replyOf (tried-short n (view t) (loadRows c (view t)) l (λ x e q. three (ap numberOf (own-answer h ∙ ap replyOf e) ∙ q))))
 
   -- unless the load's is 1 or 3, which come first
-  pub try-first : (numberOf ownAnswer ≡ 1) ⊎ (numberOf ownAnswer ≡ 3) → perform (callTry c n) t .answer ≡ ownAnswer
+  pub try-first : (numberOf (ownAnswer c t) ≡ 1) ⊎ (numberOf (ownAnswer c t) ≡ 3) → perform (callTry c n) t .answer ≡ ownAnswer c t
   unfolding tryRows numberOf
   try-first k = by-broken t
       (λ h. row-broken (rowTry c n) t h ∙ sym (row-broken (loadCall c) t h))
@@ -299,6 +299,6 @@ module _ (c : Load) (out : List ℕ) (t : Tables) where
       (λ h. try-unbroken c out t h ∙ (tried-unlisted (view t) (afterLoad c (worldOf (view t))) tryResult out (λ x q z. k (ap numberOf (told-reply h ∙ ap replyOf q) ∙ z))
       ∙ ap (λ (a : Reply). unlisted a out) (sym (told-reply h))))
 
-  -- so every clash of the load is told, where the list has 512 numbers or more
-  pub clash-lists : 512 ≤ length out → numberOf (perform (callRows (loadCall c)) t .answer) ≡ 9 → Lists c out t
+  -- so every clash of the load lists one, where the list has 512 numbers or more
+  pub clash-lists : 512 ≤ length out → numberOf (ownAnswer c t) ≡ 9 → Lists c out t
   clash-lists l e = try-lists (ap numberOf (try-answer c out t ∙ try-own c (length out) t l) ∙ e)
