@@ -10,3 +10,4 @@ pub mod Searching
 pub mod Supers
 pub mod Pairing
 pub mod Posted
+pub mod Turns
