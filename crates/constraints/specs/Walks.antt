@@ -76,7 +76,7 @@ module _ (froms tos labels : List ℕ) (count : ℕ) (ends : ℕ → Bool) where
 
   -- what is found is so: ends, links that lead on, and no walk is shorter than a node's distance
   pub record Exact (s : Found) : Type 0 where
-    pub ends : (q : ℕ) → distOf s q ≡ 1 → ends q ≡ true
+    pub isEnd : (q : ℕ) → distOf s q ≡ 1 → ends q ≡ true
     pub onward : (q j : ℕ) → distOf s q ≡ suc (suc j) → Onward s q j (wayOf s q)
     pub least : (q k : ℕ) → distOf s q ≡ suc k → (ns : List ℕ) → Walk q ns → k ≤ length ns
 
@@ -99,7 +99,9 @@ module _ (froms tos labels : List ℕ) (count : ℕ) (ends : ℕ → Bool) where
   pub record Spread (limit : ℕ) (s : Found) : Type 0 where
     pub exact : Exact s
     pub bound : (q k : ℕ) → distOf s q ≡ suc k → k ≤ placeLimit
+    pub near : (q k : ℕ) → distOf s q ≡ suc k → k ≤ limit
     pub beyond : Beyond limit s
+    pub exhausted : placeLimit < limit → (q : ℕ) → distOf s q ≡ 0 → (ns : List ℕ) → Walk q ns → ⊥
 
 -- the rows of the links that lead on, k of them
 module _ (tos labels ways : List ℕ) where
@@ -132,7 +134,7 @@ pub record Zeroed (dists : List ℕ) : Type 0 where
 -- the ends, and nothing else, are found, at distance 0, and queued
 pub record Seeded (ends : ℕ → Bool) (s : Found) : Type 0 where
   pub room : Room s
-  pub ends : (q : ℕ) → distOf s q ≡ 1 → ends q ≡ true
+  pub isEnd : (q : ℕ) → distOf s q ≡ 1 → ends q ≡ true
   pub all : (q : ℕ) → ends q ≡ true → distOf s q ≡ 1
   pub only : (q k : ℕ) → distOf s q ≡ suc k → k ≡ 0
   pub isQueued : (q : ℕ) → distOf s q ≡ 1 → (i : ℕ) × (i < s .tail) × (nodeAt s i ≡ q)
