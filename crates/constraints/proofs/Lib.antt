@@ -11,3 +11,5 @@ pub mod Supers
 pub mod Pairing
 pub mod Posted
 pub mod Turns
+pub mod Linked
+pub mod Writing
