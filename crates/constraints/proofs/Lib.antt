@@ -4,6 +4,7 @@ pub mod Renaming
 pub mod Edges
 pub mod Filling
 pub mod Rooting
+pub mod Named
 pub mod Agreeing
 pub mod Marking
 pub mod Searching
