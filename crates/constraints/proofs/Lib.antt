@@ -14,3 +14,4 @@ pub mod Posted
 pub mod Turns
 pub mod Linked
 pub mod Writing
+pub mod Bridges
