@@ -1,11 +1,10 @@
--- Laws that the proofs of the tests share: of joined tests, of a value's cells, of files, of sizes, of the verdict and of numbers in turn.
+-- Laws that the proofs of the tests share: of joined tests, of a value's cells, of files, of sizes and of the verdict.
 use mathlib.Core.Path.{_≡_, refl, sym, ap, subst, _∙_}
 use mathlib.Core.Bool.{Bool, true, false, not, false≢true}
 use mathlib.Core.Option.{Option, none, some}
 use mathlib.Core.List.{List, [], _∷_}
 use Prim.Native.Nat.{ℕ, zero, suc, _+_, _*_, _-_, _≤_, _<_}
 use native.Mathlib.Omega.{arith}
-use native.Mathlib.Numerals.{add-one}
 use lib.ListN.{length, length-replicate, getD, replicate, set}
 use lib.Seq.{ext-getD, getD-set-same, getD-set-other}
 use lib.Dec.{eqb, leb, ltb}
@@ -15,11 +14,11 @@ use Rattle.definition.specs.Lists.{every, all, isSome, rows, stack}
 use Rattle.definition.specs.Instructions.{pick}
 use Rattle.definition.specs.Classes.{Base, superOf}
 use Rattle.definition.specs.Machine.{Value, emptyValue, intValue, nullValue, objectValue, unlistedValue, Object}
-use Rattle.definition.specs.Tables.{Tables, ClassRow, sizeOf, viewBase, valueOf, numberAt, classRowAt, usedFields, objectAt, ownedBy, ownerAt, objectRowAt, localAt, operandAt, frameOf, frameAt}
-use Rattle.definition.specs.Broken.{isObject, next, others, inTurn, numbered, broken}
+use Rattle.definition.specs.Tables.{Tables, ClassRow, sizeOf, viewBase, valueOf, classRowAt, usedFields, objectAt, ownedBy, ownerAt, objectRowAt, localAt, operandAt, frameOf, frameAt}
+use Rattle.definition.specs.Broken.{isObject, broken}
 use Rattle.laws.specs.Agreement.{super-falls}
 use Rattle.layout.specs.Tests.{every-true}
-use Rattle.layout.specs.Places.{rows-getD, rows-length, rows-none, rows-step, rows-start, stack-length}
+use Rattle.layout.specs.Places.{rows-getD, rows-length, stack-length}
 use Rattle.layout.specs.Unbroken.{within-true}
 use Rattle.classfile.specs.Lists.{every-first, every-fails, every-last}
 use Rattle.classfile.specs.Reading.{fieldCount}
@@ -28,7 +27,7 @@ use Rattle.resolution.specs.Slots.{size-none, size-some, own-size, slots-past}
 use Rattle.resolution.specs.Unbroken.{part-none, quick-base}
 use Rattle.store.specs.declared.Fields.{Fields}
 use Rattle.store.specs.declared.Fields.the-variants.{Count, Unfit}
-use Rattle.store.specs.Checks.{fileFits, sourcesFit, linked, linkedSize, Blank, Sized, sizedObject, objectSized, exists, valueIn, localIn, objectIn, frameFit, linksFit, numbersFit, valuesFit, readable, checks, sizesOf, Measured}
+use Rattle.store.specs.Checks.{fileFits, sourcesFit, linked, linkedSize, Blank, Sized, sizedObject, objectSized, exists, valueIn, localIn, objectIn, frameFit, linksFit, valuesFit, readable, checks, sizesOf, Measured}
 use Rattle.store.specs.Same.{sources-first, checks-broken, zeros-at}
 
 -- Whether an object exists
