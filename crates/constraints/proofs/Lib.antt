@@ -15,3 +15,4 @@ pub mod Turns
 pub mod Linked
 pub mod Writing
 pub mod Bridges
+pub mod Finding
