@@ -2,11 +2,10 @@
 -- if a request of the one leads to a request of the other, and a cached request means the class of the first row with its node.
 use mathlib.Core.Path.{_≡_, refl, sym, ap, _∙_}
 use mathlib.Core.Bool.{Bool}
-use mathlib.Core.Option.{Option, some}
+use mathlib.Core.Option.{Option}
 use mathlib.Core.List.{List, _++_, List·Memᴰ, Memᴰ·append-left, Memᴰ·append-right, List·Memᴰ·append-cases}
 use mathlib.Core.Logic.{_⊎_, inl, inr}
-use Prim.Native.Nat.{ℕ, _+_, _*_, _<_, _/_, _%_}
-use native.Mathlib.Nat.{add-zero}
+use Prim.Native.Nat.{ℕ, _+_, _<_}
 use native.Mathlib.Omega.{arith}
 use lib.ListN.{getD}
 use lib.Dec.{eqb}
@@ -14,18 +13,18 @@ use borrow.Author.Tests.{eqb-true, eq-eqb}
 use Rattle.definition.specs.Lists.{rows, all}
 use Rattle.definition.specs.Chains.{Edge, Chain, stay, hop, has, leads, reach}
 use Rattle.definition.specs.Requests.{Request, at, sameRequest}
-use Rattle.definition.specs.Classes.{Entry, find}
+use Rattle.definition.specs.Classes.{Entry}
 use Rattle.definition.specs.Constraints.{Subtype, tieEdges, subtypeEdges, pairAgrees, rowAgrees, agreesOver}
 use Rattle.definition.specs.Tables.{entryAt, tieAt, subtypeAt}
 use Rattle.laws.specs.Chains.{requests, leads-chain, chain-leads, chain-join, chain-more}
 use Rattle.layout.specs.Tests.{same-test}
-use Rattle.constraints.specs.Nodes.{requestOf, requestIn, AllNumbered, First, NodesOf, ClassesOf}
+use Rattle.constraints.specs.Nodes.{requestOf, AllNumbered, NodesOf, ClassesOf}
 use Rattle.constraints.specs.Groups.{Tied, same, node, tie, back, on, GroupsOf}
 use Rattle.constraints.specs.Search.{startOf, endOf, linkOf, linksOf, leadsOn}
 use Rattle.constraints.specs.Pairs.{pairIs, pairOn, agreeOn}
-use Rattle.constraints.proofs.Rows.{Order, less, equal, more, order, in-rows, rows-in, all-same}
+use Rattle.constraints.proofs.Rows.{in-rows, rows-in, all-same}
 use Rattle.constraints.proofs.Renaming.{Carried, carried}
-use Rattle.constraints.proofs.Edges.{edge-at, forward, turned, upward, forward-in, turned-in, upward-in, OfTie, of-tie, OfSubtype, of-subtype, find-at}
+use Rattle.constraints.proofs.Edges.{edge-at, forward, turned, upward, forward-in, turned-in, upward-in, OfTie, of-tie, OfSubtype, of-subtype}
 use Rattle.constraints.proofs.Named.{number-eq, first-unique, low-at, high-at, one-at, two-at, cached-at, found}
 
 -- A store as groups

@@ -7,8 +7,8 @@ use mathlib.Core.Logic.{_⊎_, inl, inr}
 use Prim.Native.Nat.{ℕ, _+_, _≤_}
 use native.Mathlib.Omega.{arith}
 use lib.ListN.{getD, set}
-use lib.Dec.{eqb, leb, ltb}
-use borrow.Author.Tests.{leb-false, eqb-false, ne-eqb}
+use lib.Dec.{leb, ltb}
+use borrow.Author.Tests.{leb-false, ne-eqb}
 use Rattle.definition.specs.Numbers.{cacheLimit, tieLimit, subtypeLimit, countCache, countTies, countSubtypes, tieNumbersCell, subtypeNumbersCell}
 use Rattle.definition.specs.Lists.{rows, writeRows}
 use Rattle.definition.specs.declared.Reply.{Reply}

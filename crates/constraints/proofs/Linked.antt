@@ -1,8 +1,7 @@
 -- The links of a store's rows: each block of their table is copied behind the one before; they are links between places; and from one node a row leads to one.
 use mathlib.Core.Path.{_≡_, refl, sym, ap, _∙_}
 use mathlib.Core.Bool.{true}
-use mathlib.Core.List.{List, List·Memᴰ}
-use mathlib.Core.Logic.{_⊎_, inl, inr}
+use mathlib.Core.List.{List}
 use Prim.Native.Nat.{ℕ, zero, suc, _+_, _-_, _<_, _≤_}
 use native.Mathlib.Omega.{arith}
 use lib.ListN.{getD}
@@ -10,7 +9,7 @@ use Rattle.definition.specs.Numbers.{cacheLimit, tieLimit, subtypeLimit, countT
 use Rattle.definition.specs.Lists.{rows}
 use Rattle.definition.specs.Tables.{numberAt, rowNumbers}
 use Rattle.layout.specs.InTurn.{RisesFrom, Exactly, in-turn-words}
-use Rattle.constraints.specs.Nodes.{placeLimit, First, NodesOf}
+use Rattle.constraints.specs.Nodes.{placeLimit, NodesOf}
 use Rattle.constraints.specs.Walks.{InRange, Sole}
 use Rattle.constraints.specs.Linking.{Copied, Linked, Labelled, numbersFit}
 use Rattle.constraints.proofs.Rows.{Order, less, equal, more, order, in-rows}

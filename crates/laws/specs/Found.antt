@@ -1,9 +1,9 @@
 -- What is the first of the chains that the search is for is the reason, and where there are none, there is no reason.
-use mathlib.Core.Path.{_≡_, refl, sym, ap, _∙_}
+use mathlib.Core.Path.{_≡_, refl, sym, ap}
 use mathlib.Core.Bool.{Bool}
-use mathlib.Core.Option.{Option, none, some, Option·none-ne-some}
+use mathlib.Core.Option.{Option, none, some}
 use mathlib.Core.List.{List, _∷_, map, List·Memᴰ}
-use mathlib.Core.Logic.{_⊎_, inl, inr}
+use mathlib.Core.Logic.{inl, inr}
 use Prim.Native.Nat.{ℕ, suc, _≤_}
 use native.Mathlib.Omega.{arith}
 use lib.ListN.{length, length-map}
@@ -11,7 +11,7 @@ use Rattle.definition.specs.Requests.{Request}
 use Rattle.definition.specs.Classes.{Entry}
 use Rattle.definition.specs.Reasons.{Link, Upward, Distinct, shortest, reasonOver}
 use Rattle.laws.specs.Earlier.{Order, neither-before}
-use Rattle.laws.specs.Clashes.{Led, Leads, ClashingOver, First, other, notBelow, shortest-first, shortest-none}
+use Rattle.laws.specs.Clashes.{ClashingOver, First, shortest-first, shortest-none}
 use Rattle.laws.specs.Chosen.{distinct-length, up-more, least-distinct, up-ends}
 
 -- rows that lead upward through requests none of which stands twice are no more than the links

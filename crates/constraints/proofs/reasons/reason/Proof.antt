@@ -1,9 +1,9 @@
 -- The chain that is kept, if there is one, is written into the list.
-use mathlib.Core.Path.{_≡_, sym, _∙_}
+use mathlib.Core.Path.{sym, _∙_}
 use native.Mathlib.Omega.{arith}
 use denote.Ref.{now}
 use borrow.Author.Needs.{needs}
-use borrow.Author.Tests.{eqb-true, eqb-false, not-true, not-false}
+use borrow.Author.Tests.{not-true, not-false}
 use Rattle.constraints.proofs.Finding.{list-unfit, list-none, list-some, held-fits}
 use Rattle.constraints.proofs.reasons.reason.Statement.{statement}
 use Rattle.constraints.proofs.reasons.reason.Tie as tie
