@@ -21,6 +21,7 @@ use Rattle.constraints.specs.Choosing.{noSize, held, Holds, Chosen}
 use Rattle.constraints.specs.Linking.{Linked, Labelled, numbersFit, reasonIn}
 use Rattle.constraints.proofs.Bridges.{chosen-reason}
 
+-- a count that is held to a limit is no more than it was
 pub at-most-low : (limit n : ℕ) → atMost limit n ≤ n
 unfolding atMost
 at-most-low limit n = go (leb n limit) refl
@@ -29,10 +30,12 @@ at-most-low limit n = go (leb n limit) refl
     go true e = omega arith
     go false e = omega (arith, leb-false n limit e)
 
+-- the size of no chain
 pub held-none : (best : List ℕ) → held best noSize ≡ none
 unfolding held
 held-none best = refl
 
+-- the reason of so many rows
 abbrev reasonFor : List ℕ → List ℕ → List ℕ → List ℕ → List ℕ → ℕ → ℕ → ℕ → Option (List ℕ)
 reasonFor supers counts cache ties subtypes n tied noted =
     let T = tieLinks (rows (tieAt ties) tied 0) (rows (numberAt tieNumbersCell counts) tied 0) in
@@ -48,6 +51,7 @@ reason-fits supers counts cache ties subtypes h = rw (h, reasonIn)
 module _ {cache ties subtypes numbers : List ℕ} {n tied noted : ℕ} (put : AllNumbered cache n ties tied subtypes noted numbers) (nodes classes : List ℕ)
     (isNode : NodesOf numbers (n + noted + noted + tied + tied) nodes) (isClass : ClassesOf cache nodes n classes) (counts froms tos labels : List ℕ)
     (linked : Linked nodes n noted tied froms tos) (labelled : Labelled counts noted tied labels) where
+  -- the searches by ties, from none on, and then by all links, leave the reason
   pub held-reason : (supers : List ℕ) → n ≡ atMost cacheLimit (getD counts countCache 0) → tied ≡ atMost tieLimit (getD counts countTies 0)
       → noted ≡ atMost subtypeLimit (getD counts countSubtypes 0) → numbersFit counts ≡ true → (old mid new : Option (List ℕ)) → old ≡ none
       → Chosen froms tos labels (tied + tied) classes n true (superIn supers) old mid → Chosen froms tos labels (tied + tied + noted) classes n false (superIn supers) mid new
@@ -59,23 +63,27 @@ module _ {cache ties subtypes numbers : List ℕ} {n tied noted : ℕ} (put : Al
 
 -- What is listed
 
+-- where the numbers don't fit, there is no reason
 reason-unfit : (supers counts cache ties subtypes : List ℕ) → numbersFit counts ≡ false → reasonIn supers counts cache ties subtypes ≡ none
 unfolding reasonIn
 reason-unfit supers counts cache ties subtypes h = rw (h, reasonIn)
 
--- none, as a size or by the numbers of rows
+-- then nothing is listed
 pub list-unfit : (supers counts cache ties subtypes list : List ℕ) → numbersFit counts ≡ false → (a : Reply) → tries a 0 list ≡ listed a (reasonIn supers counts cache ties subtypes) list
 unfolding listed
 list-unfit supers counts cache ties subtypes list h a = ap (λ (x : Option (List ℕ)). listed a x list) (sym (reason-unfit supers counts cache ties subtypes h))
 
+-- nor where no chain is kept
 pub list-none : (best list : List ℕ) (size : ℕ) (o : Option (List ℕ)) → size ≡ noSize → held best size ≡ o → (a : Reply) → tries a 0 list ≡ listed a o list
 unfolding listed
 list-none best list size o e h a = ap (λ (x : Option (List ℕ)). listed a x list) (sym (held-none best) ∙ ap (held best) (sym e) ∙ h)
 
+-- any other size is that of a chain
 held-some : (best : List ℕ) (size : ℕ) → (size ≡ noSize → ⊥) → held best size ≡ some (rows (λ i. getD best i 0) size 0)
 unfolding held
 held-some best size h = rw (ne-eqb size noSize h, held)
 
+-- which is listed as it was written
 pub list-some : (best list new : List ℕ) (size wide : ℕ) (o : Option (List ℕ)) → (size ≡ noSize → ⊥) → held best size ≡ o → wide ≡ size
     → new ≡ writeRows set (rows (λ i. getD best i 0) wide 0) 0 list → (a : Reply) → tries a size new ≡ listed a o list
 unfolding listed
@@ -84,6 +92,7 @@ list-some best list new size wide o h e w q a =
     let cells : new ≡ writeRows set (rows (λ i. getD best i 0) size 0) 0 list = q ∙ ap (λ (x : ℕ). writeRows set (rows (λ i. getD best i 0) x 0) 0 list) w in
     (λ i. tries a (count i) (cells i)) ∙ ap (λ (x : Option (List ℕ)). listed a x list) (sym (held-some best size h) ∙ e)
 
+-- and there was room for it
 pub held-fits : {best : List ℕ} {size : ℕ} → Holds best size → (size ≡ noSize → ⊥) → size ≤ placeLimit
 held-fits {best} {size} h d = go (h .fits)
   where

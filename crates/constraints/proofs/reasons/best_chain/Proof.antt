@@ -22,7 +22,7 @@ list-classes-requires c κs =
 -- Once the links and their rows' numbers are listed
 
 module _ (c : tie.After-label-links) where
-  -- before the numbers of places
+  -- where the three counts are known
   abbrev at19 : tie.After-at-most3
   at19 = c .before .before .before .before .before .before .before .before .before .before .before .before .before .before .before .before .before .before .before
 
