@@ -4,6 +4,7 @@ pub mod Renaming
 pub mod Edges
 pub mod Filling
 pub mod Rooting
+pub mod Named
 pub mod Agreeing
 pub mod Marking
 pub mod Searching
@@ -11,3 +12,8 @@ pub mod Supers
 pub mod Pairing
 pub mod Spreading
 pub mod Posted
+pub mod Turns
+pub mod Linked
+pub mod Writing
+pub mod Bridges
+pub mod Finding
