@@ -9,4 +9,5 @@ pub mod Marking
 pub mod Searching
 pub mod Supers
 pub mod Pairing
+pub mod Choices
 pub mod Posted
