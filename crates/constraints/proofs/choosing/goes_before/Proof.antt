@@ -22,13 +22,16 @@ loop-holds : tie.Need-loop-holds Inv-loop μ-loop
 loop-holds c = (omega arith, goes-start _ _ _ _ _ _)
 
 returns : tie.Need-returns Inv-loop μ-loop
-returns c = ?
+returns c =
+    sym (goes-before _ _ _ _ _ _ _ _ _ _ (c .before .before .before .before .loop-test .taken) (c .before .before .before .place .ensures .0) (c .before .before .at16 .ensures) (c .before .at162 .ensures) (c .if1 .taken)) ∙ c .before .before .before .before .before .loop .inv .1
 
 returns-2 : tie.Need-returns-2 Inv-loop μ-loop
-returns-2 c = ?
+returns-2 c =
+    sym (goes-after _ _ _ _ _ _ _ _ _ _ (c .before .before .before .before .before .loop-test .taken) (c .before .before .before .before .place .ensures .0) (c .before .before .before .at16 .ensures) (c .before .before .at162 .ensures) (c .if2 .taken)) ∙ c .before .before .before .before .before .before .loop .inv .1
 
 loop-again : tie.Need-loop-again Inv-loop μ-loop
-loop-again c = ?
+loop-again c =
+    (omega arith, goes-on _ _ _ _ _ _ _ _ _ _ (c .before .before .before .before .before .before .loop-test .taken) (c .before .before .before .before .before .place .ensures .0) (c .before .before .before .before .at16 .ensures) (c .before .before .before .at162 .ensures) _ (c .place2 .ensures .0) (c .before .before .if1 .left) (c .before .if2 .left) ∙ c .before .before .before .before .before .before .before .loop .inv .1)
 
 returns-3 : tie.Need-returns-3 Inv-loop μ-loop
 returns-3 c = sym (goes-none _ _ _ _ _ _ _ (c .loop-test .left)) ∙ c .before .loop .inv .1
