@@ -1,25 +1,30 @@
 -- The chain that is kept. Each chain that a search leaves is a walk, and of the walks from its node none is shorter or, being as long, goes before it. Of those
 -- and what was held before, the one that is kept is no worse than any; and so for every class, one after the other.
 use mathlib.Core.Path.{_≡_, refl, sym, ap, subst, _∙_}
-use mathlib.Core.Bool.{Bool, true, false, not, _&&_, false≢true}
-use mathlib.Core.Option.{Option, none, some, Option·none-ne-some, Option·some-injective}
+use mathlib.Core.Bool.{Bool, true, false}
+use mathlib.Core.Option.{Option, none, some, Option·some-injective}
 use mathlib.Core.List.{List, [], _∷_, _++_, append-assoc, append-nil}
 use mathlib.Core.Logic.{_⊎_, inl, inr}
 use Prim.Native.Nat.{ℕ, zero, suc, _+_, _-_, _<_, _≤_}
 use native.Mathlib.Nat.{eq-or-lt-of-le}
 use native.Mathlib.Numerals.{add-one}
 use native.Mathlib.Omega.{arith}
-use lib.ListN.{length, getD, set}
+use lib.ListN.{length, getD, set, replicate, length-replicate}
 use lib.Seq.{getD-set-same, getD-set-other}
 use lib.Dec.{eqb, ltb}
 use borrow.Author.Tests.{eqb-true, eqb-false, eq-eqb, ne-eqb, ltb-true, ltb-false, lt-ltb, le-ltb}
 use Rattle.definition.specs.Lists.{rows}
+use Rattle.definition.specs.Superclasses.{Falls}
 use Rattle.definition.specs.Reasons.{precedes}
 use Rattle.laws.specs.Earlier.{lower-first, later-head, same-head, not-itself, not-before-on, before-not}
-use Rattle.layout.specs.Places.{rows-length, rows-step, rows-none, rows-start, rows-last, rows-cong}
+use Rattle.layout.specs.Places.{rows-length, rows-step, rows-none, rows-last, rows-cong}
 use Rattle.constraints.specs.Nodes.{placeLimit}
-use Rattle.constraints.specs.Walks.{Found, distOf, wayOf, Walk, Onward, Exact, Spread, Sole, trail}
-use Rattle.constraints.specs.Choosing.{noSize, held, Holds, pick, considered, consideredAll, NoBetter, ChosenFor, Chosen}
+use Rattle.constraints.specs.Walks.{Found, distOf, wayOf, Walk, Onward, Exact, Spread, Sole, trail, badIn, endsIn, badOver, endsOver, Zeroed, InRange}
+use Rattle.constraints.specs.Choosing.{noSize, held, Holds, pick, considered, consideredAll, NoBetter, ChosenFor, WalkFrom, Chosen}
+use Rattle.constraints.specs.Search.{startOf, marked}
+use Rattle.constraints.specs.Upward.{Raised}
+use Rattle.constraints.proofs.Marking.{stamped-none}
+use Rattle.constraints.proofs.Supers.{above-below}
 
 -- lists with the same first go by the rest
 same-first : (m n : ℕ) (ms ns : List ℕ) → n ≤ m → m ≤ n → precedes ltb (m ∷ ms) (n ∷ ns) ≡ precedes ltb ms ns
@@ -29,7 +34,7 @@ same-first m n ms ns h l = rw (le-ltb m n h, precedes) (rw (le-ltb n m l) refl)
 -- The rows of the links that lead on
 
 module _ (tos labels ways : List ℕ) where
-  pub trail-length : (k q : ℕ) → length (trail tos labels ways k q) ≡ k
+  trail-length : (k q : ℕ) → length (trail tos labels ways k q) ≡ k
   unfolding trail
   trail-length zero q = refl
   trail-length (suc k) q = ap suc (trail-length k (getD tos (getD ways q 0) 0))
@@ -43,7 +48,7 @@ module _ (tos labels ways : List ℕ) where
   unfolding trail
   trail-none k i q h = let z : k - i ≡ 0 = omega arith in rw z
 
-  pub trail-start : (k q : ℕ) → trail tos labels ways (k - 0) q ≡ trail tos labels ways k q
+  trail-start : (k q : ℕ) → trail tos labels ways (k - 0) q ≡ trail tos labels ways k q
   trail-start k q = let z : k - 0 ≡ k = omega arith in rw z
 
   -- compared with the first cells of a table, from place i on
@@ -105,7 +110,7 @@ module _ (tos labels ways : List ℕ) where
 
 module _ (froms tos labels : List ℕ) (count : ℕ) (ends : ℕ → Bool) (s : Found) (exact : Exact froms tos labels count ends s) where
   -- the rows that lead on are a walk
-  pub trail-walk : (k q : ℕ) → distOf s q ≡ suc k → Walk froms tos labels count ends q (trail tos labels (s .ways) k q)
+  trail-walk : (k q : ℕ) → distOf s q ≡ suc k → Walk froms tos labels count ends q (trail tos labels (s .ways) k q)
   unfolding trail
   trail-walk zero q e = exact .isEnd q e
   trail-walk (suc k) q e = let o = exact .onward q k e in (wayOf s q, o .fits, o .from, refl, trail-walk k (getD tos (wayOf s q) 0) (o .nearer))
@@ -126,7 +131,7 @@ module _ (froms tos labels : List ℕ) (count : ℕ) (ends : ℕ → Bool) (s : 
             z ∙ ap suc same
 
     -- no walk of a node's distance goes before them
-    pub trail-first : (ms : List ℕ) (q k : ℕ) → distOf s q ≡ suc k → Walk froms tos labels count ends q ms → length ms ≡ k → precedes ltb ms (trail tos labels (s .ways) k q) ≡ false
+    trail-first : (ms : List ℕ) (q k : ℕ) → distOf s q ≡ suc k → Walk froms tos labels count ends q ms → length ms ≡ k → precedes ltb ms (trail tos labels (s .ways) k q) ≡ false
     unfolding trail precedes
     trail-first [] q zero e w l = refl
     trail-first [] q (suc k) e w l = absurd (omega arith)
@@ -217,7 +222,7 @@ module _ (tos labels dists ways : List ℕ) where
   unfolding considered
   considered-none q o e = rw (e, considered) refl
 
-  pub considered-found : (q k : ℕ) (o : Option (List ℕ)) → getD dists q 0 ≡ suc k → considered tos labels dists ways q o ≡ pick o (trail tos labels ways k q)
+  considered-found : (q k : ℕ) (o : Option (List ℕ)) → getD dists q 0 ≡ suc k → considered tos labels dists ways q o ≡ pick o (trail tos labels ways k q)
   unfolding considered
   considered-found q k o e = rw (e, considered) refl
 
@@ -233,10 +238,10 @@ module _ (tos labels dists ways : List ℕ) where
       subst (λ (x : Option (List ℕ)). NoBetter x (trail tos labels ways k q)) (sym (considered-found q k o e)) (pick-new o (trail tos labels ways k q))
 
   -- the chain from node q was found, and is ns
-  pub record Comes (q : ℕ) (ns : List ℕ) : Type 0 where
-    pub size : ℕ
-    pub dist : getD dists q 0 ≡ suc size
-    pub is : trail tos labels ways size q ≡ ns
+  record Comes (q : ℕ) (ns : List ℕ) : Type 0 where
+    size : ℕ
+    dist : getD dists q 0 ≡ suc size
+    is : trail tos labels ways size q ≡ ns
 
   considered-from : (q : ℕ) (o : Option (List ℕ)) (ns : List ℕ) → considered tos labels dists ways q o ≡ some ns → (o ≡ some ns) ⊎ Comes q ns
   considered-from q o ns e = go (getD dists q 0) refl
@@ -288,12 +293,12 @@ module _ (tos labels dists ways : List ℕ) where
         go (inr a) false r f = subst (λ (x : Option (List ℕ)). NoBetter x t) (sym (all-past n q o (eqb-false (getD classes q 0) c r))) (f o (omega arith))
 
     -- of n nodes from q on, one of class c has the chain ns
-    pub record ComesOf (n q : ℕ) (ns : List ℕ) : Type 0 where
-      pub node : ℕ
-      pub low : q ≤ node
-      pub high : node < q + n
-      pub class : getD classes node 0 ≡ c
-      pub comes : Comes node ns
+    record ComesOf (n q : ℕ) (ns : List ℕ) : Type 0 where
+      node : ℕ
+      low : q ≤ node
+      high : node < q + n
+      class : getD classes node 0 ≡ c
+      comes : Comes node ns
 
     all-from : (n q : ℕ) (o : Option (List ℕ)) (ns : List ℕ) → consideredAll tos labels dists ways classes c n q o ≡ some ns → (o ≡ some ns) ⊎ ComesOf n q ns
     unfolding consideredAll
@@ -383,3 +388,162 @@ module _ (tos labels dists ways best : List ℕ) (q k size : ℕ) (dist : getD d
       go : (size ≤ placeLimit) ⊎ (size ≡ noSize) → pick (held best size) new ≡ some new
       go (inl l) = rw (held-some best size l) (less (eq-or-lt-of-le h))
       go (inr e) = rw (held-none best size e) refl
+
+-- What a search for one class chooses
+
+module _ (froms tos labels : List ℕ) (count : ℕ) (ends : ℕ → Bool) (sole : Sole froms tos labels count) (size : ℕ) (s : Found) (spread : Spread froms tos labels count ends size s) where
+  -- a walk from a node that was found is no better than the chain from it
+  found-first : (q k : ℕ) (ms : List ℕ) → distOf s q ≡ suc k → Walk froms tos labels count ends q ms → NoBetter (some (trail tos labels (s .ways) k q)) ms
+  found-first q k ms d w =
+      let l = trail-length tos labels (s .ways) k q in
+      (omega (arith, spread .exact .least q k d ms w), λ e. trail-first froms tos labels count ends s (spread .exact) sole size (spread .near) (spread .beyond) ms q k d w (e ∙ l))
+
+  -- distances are few
+  pub dist-low : (q : ℕ) → distOf s q ≤ placeLimit + 1
+  dist-low q = go (distOf s q) refl
+    where
+      go : (d : ℕ) → distOf s q ≡ d → d ≤ placeLimit + 1
+      go zero e = omega arith
+      go (suc k) e = omega (arith, spread .bound q k e)
+
+  module _ (best : List ℕ) (holds : Holds best size) where
+    -- and one from a node that wasn't is no better than what was held
+    unfound-held : (q : ℕ) (ms : List ℕ) → distOf s q ≡ 0 → Walk froms tos labels count ends q ms → NoBetter (held best size) ms
+    unfound-held q ms d w = go (holds .fits)
+      where
+        go : (size ≤ placeLimit) ⊎ (size ≡ noSize) → NoBetter (held best size) ms
+        go (inl l) =
+            let e = rows-length (λ i. getD best i 0) size 0 in
+            let b = spread .beyond q d ms w in
+            subst (λ (x : Option (List ℕ)). NoBetter x ms) (sym (held-some best size l)) (omega arith, λ f. absurd (omega arith))
+        go (inr e) = absurd (spread .exhausted (omega arith) q d ms w)
+
+    pub chosen-for : (classes : List ℕ) (cached c : ℕ)
+        → ChosenFor froms tos labels count classes cached c ends (held best size) (consideredAll tos labels (s .dists) (s .ways) classes c cached 0 (held best size))
+    chosen-for classes cached c = record {
+      sound = λ ns e. from ns (all-from tos labels (s .dists) (s .ways) classes c cached 0 (held best size) ns e);
+      all = λ q ms h k w. each q ms h k w (distOf s q) refl;
+      still = λ ms b. all-still tos labels (s .dists) (s .ways) classes c cached 0 (held best size) ms b;
+    }
+      where
+        from : (ns : List ℕ) → (held best size ≡ some ns) ⊎ ComesOf tos labels (s .dists) (s .ways) classes c cached 0 ns
+            → (held best size ≡ some ns) ⊎ ((q : ℕ) × (q < cached) × (getD classes q 0 ≡ c) × Walk froms tos labels count ends q ns)
+        from ns (inl e) = inl e
+        from ns (inr r) = inr (
+          r .node,
+          omega (arith, r .high),
+          r .class,
+          rw (r .comes .is) at (trail-walk froms tos labels count ends s (spread .exact) (r .comes .size) (r .node) (r .comes .dist)),
+        )
+
+        each : (q : ℕ) (ms : List ℕ) → q < cached → getD classes q 0 ≡ c → Walk froms tos labels count ends q ms → (d : ℕ) → distOf s q ≡ d
+            → NoBetter (consideredAll tos labels (s .dists) (s .ways) classes c cached 0 (held best size)) ms
+        each q ms h k w zero d = all-still tos labels (s .dists) (s .ways) classes c cached 0 (held best size) ms (unfound-held q ms d w)
+        each q ms h k w (suc j) d =
+            better-on (consideredAll tos labels (s .dists) (s .ways) classes c cached 0 (held best size)) (trail tos labels (s .ways) j q) ms
+            (all-new tos labels (s .dists) (s .ways) classes c cached 0 (held best size) q j (omega arith) (omega arith) k d) (found-first q j ms d w)
+
+-- a table of zeros
+
+all-zero : (n : ℕ) → marked 0 (replicate n 0) ≡ n
+unfolding marked
+all-zero zero = refl
+all-zero (suc n) = ap suc (all-zero n)
+
+pub zeroed : Zeroed (replicate 1280 0)
+zeroed = record { long = length-replicate {A = ℕ} 1280 0; zeros = λ q. omega (arith, stamped-none 1280 0 .most q); none = all-zero 1280 }
+
+-- links that are in range may be joined by where they lead
+pub starts-low : {froms tos : List ℕ} {count : ℕ} → InRange froms tos count → (e : ℕ) → e < count → startOf tos 0 e < placeLimit
+unfolding startOf
+starts-low r e h = let z : 0 + e ≡ e = omega arith in rw z (r .to e h)
+
+-- Ends by marks are ends by direct superclasses
+
+walk-same : (froms tos labels : List ℕ) (count : ℕ) (one two : ℕ → Bool) → ((q : ℕ) → one q ≡ two q) → (ns : List ℕ) (q : ℕ) → Walk froms tos labels count one q ns
+    → Walk froms tos labels count two q ns
+walk-same froms tos labels count one two same [] q w = sym (same q) ∙ w
+walk-same froms tos labels count one two same (r ∷ ns) q w =
+    (w .0, w .1, w .2, w .3, walk-same froms tos labels count one two same ns (getD tos (w .0) 0) (w .4))
+
+ends-same : (only : Bool) (sup : ℕ → Option ℕ) → Falls sup → (aboves : List ℕ) (stamp : ℕ) (classes : List ℕ) (cached c : ℕ) → Raised sup c stamp aboves → (q : ℕ)
+    → endsIn only aboves stamp classes cached c q ≡ endsOver only sup classes cached c q
+unfolding endsIn endsOver badIn badOver
+ends-same true sup falls aboves stamp classes cached c r q = refl
+ends-same false sup falls aboves stamp classes cached c r q = rw (above-below aboves stamp c (getD classes q 0) sup falls r)
+
+-- One class after the other: those of the first p cached requests were searched for
+
+-- the classes that are marked as met are some of theirs
+abbrev pub Met : List ℕ → ℕ → List ℕ → Type 0
+Met classes p met = (c : ℕ) → getD met c 0 ≡ 1 → (m : ℕ) × (m < p) × (getD classes m 0 ≡ c)
+
+pub met-none : (classes : List ℕ) → Met classes 0 (replicate 256 0)
+met-none classes c e = absurd (omega (arith, stamped-none 256 0 .most c))
+
+pub met-more : (classes : List ℕ) (p : ℕ) (met : List ℕ) → Met classes p met → Met classes (p + 1) (set met (getD classes p 0) 1)
+met-more classes p met f c e = go (eqb c (getD classes p 0)) refl
+  where
+    wider : (m : ℕ) × (m < p) × (getD classes m 0 ≡ c) → (m : ℕ) × (m < p + 1) × (getD classes m 0 ≡ c)
+    wider r = (r .0, omega (arith, r .1), r .2)
+
+    go : (t : Bool) → eqb c (getD classes p 0) ≡ t → (m : ℕ) × (m < p + 1) × (getD classes m 0 ≡ c)
+    go true q = (p, omega arith, sym (eqb-true c (getD classes p 0) q))
+    go false q = wider (f c (sym (getD-set-other met (getD classes p 0) c 1 0 (eqb-false c (getD classes p 0) q)) ∙ e))
+
+module _ (froms tos labels : List ℕ) (count : ℕ) (classes : List ℕ) (cached : ℕ) (only : Bool) (sup : ℕ → Option ℕ) where
+  abbrev From : ℕ → List ℕ → Type 0
+  From q ns = WalkFrom froms tos labels count classes cached only sup q ns
+
+  -- what is kept is what was kept or a walk from a cached request, and no walk from one of these classes is better, nor any list that wasn't before
+  pub record Swept (p : ℕ) (old new : Option (List ℕ)) : Type 0 where
+    pub sound : (ns : List ℕ) → new ≡ some ns → (old ≡ some ns) ⊎ ((q : ℕ) × (q < cached) × From q ns)
+    pub all : (q : ℕ) (ms : List ℕ) → q < cached → (m : ℕ) → m < p → getD classes q 0 ≡ getD classes m 0 → From q ms → NoBetter new ms
+    pub still : (ms : List ℕ) → NoBetter old ms → NoBetter new ms
+
+  pub swept-none : (o : Option (List ℕ)) → Swept 0 o o
+  swept-none o = record { sound = λ ns e. inl e; all = λ q ms h m l. absurd (omega arith); still = λ ms b. b }
+
+  -- of a class that was met nothing is left to be searched for
+  pub swept-met : {p : ℕ} {old new : Option (List ℕ)} (met : List ℕ) → Met classes p met → getD met (getD classes p 0) 0 ≡ 1 → Swept p old new → Swept (p + 1) old new
+  swept-met {p} {old} {new} met f e s = record { sound = s .sound; all = λ q ms h m l k w. go q ms h m k w (eq-or-lt-of-le (omega arith)); still = s .still }
+    where
+      go : (q : ℕ) (ms : List ℕ) → q < cached → (m : ℕ) → getD classes q 0 ≡ getD classes m 0 → From q ms → (m ≡ p) ⊎ (m < p) → NoBetter new ms
+      go q ms h m k w (inl a) = let r = f (getD classes p 0) e in s .all q ms h (r .0) (r .1) (k ∙ rw a (sym (r .2))) w
+      go q ms h m k w (inr l) = s .all q ms h m l k w
+
+  -- another is searched for
+  pub swept-one : {p : ℕ} {old mid new : Option (List ℕ)} (aboves : List ℕ) (stamp : ℕ) → Falls sup → Raised sup (getD classes p 0) stamp aboves → Swept p old mid
+      → ChosenFor froms tos labels count classes cached (getD classes p 0) (endsIn only aboves stamp classes cached (getD classes p 0)) mid new → Swept (p + 1) old new
+  swept-one {p} {old} {mid} {new} aboves stamp falls r s f = record {
+    sound = λ ns e. came ns (f .sound ns e);
+    all = λ q ms h m l k w. go q ms h m k w (eq-or-lt-of-le (omega arith));
+    still = λ ms b. f .still ms (s .still ms b);
+  }
+    where
+      class : ℕ
+      class = getD classes p 0
+
+      same : (q : ℕ) → endsIn only aboves stamp classes cached class q ≡ endsOver only sup classes cached class q
+      same = ends-same only sup falls aboves stamp classes cached class r
+
+      came : (ns : List ℕ) → (mid ≡ some ns) ⊎ ((q : ℕ) × (q < cached) × (getD classes q 0 ≡ class) × Walk froms tos labels count (endsIn only aboves stamp classes cached class) q ns)
+          → (old ≡ some ns) ⊎ ((q : ℕ) × (q < cached) × From q ns)
+      came ns (inl e) = s .sound ns e
+      came ns (inr (q, h, e, w)) = inr (
+        q,
+        h,
+        subst (λ (x : ℕ). Walk froms tos labels count (endsOver only sup classes cached x) q ns) (sym e)
+            (walk-same froms tos labels count (endsIn only aboves stamp classes cached class) (endsOver only sup classes cached class) same ns q w),
+      )
+
+      go : (q : ℕ) (ms : List ℕ) → q < cached → (m : ℕ) → getD classes q 0 ≡ getD classes m 0 → From q ms → (m ≡ p) ⊎ (m < p) → NoBetter new ms
+      go q ms h m k w (inl a) =
+          let e : getD classes q 0 ≡ class = k ∙ ap (λ (x : ℕ). getD classes x 0) a in
+          f .all q ms h e
+          (walk-same froms tos labels count (endsOver only sup classes cached class) (endsIn only aboves stamp classes cached class) (λ x. sym (same x)) ms q
+          (subst (λ (x : ℕ). Walk froms tos labels count (endsOver only sup classes cached x) q ms) e w))
+      go q ms h m k w (inr l) = f .still ms (s .all q ms h m l k w)
+
+  pub swept-all : {p : ℕ} {old new : Option (List ℕ)} → cached ≤ p → Swept p old new → Chosen froms tos labels count classes cached only sup old new
+  swept-all h s = record { sound = s .sound; all = λ q ms l w. s .all q ms l q (omega arith) refl w; still = s .still }

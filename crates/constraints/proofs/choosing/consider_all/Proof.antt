@@ -1,9 +1,8 @@
 -- What is left to be considered makes what all of it does.
 use Prim.Native.Nat.{_-_, _≤_}
 use mathlib.Core.Logic.{⊎-elim}
-use mathlib.Core.Path.{_≡_, sym, ap, _∙_}
+use mathlib.Core.Path.{_≡_, sym, _∙_}
 use native.Mathlib.Omega.{arith}
-use denote.Ref.{now}
 use Rattle.constraints.specs.Choosing.{held, Holds, consideredAll}
 use Rattle.constraints.proofs.Choices.{left-start, left-here, left-past, left-none}
 use borrow.Author.Needs.{needs}
