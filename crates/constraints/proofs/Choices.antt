@@ -177,13 +177,16 @@ module _ (ns t : List ℕ) where
   pick-alike u h e = rw (le-ltb (length t) (length ns) (omega arith), eq-eqb (length t) (length ns) h, e, pick)
 
 -- t is taken, or what is held stays
-picked : (o : Option (List ℕ)) (t : List ℕ) → ((pick o t ≡ some t) × ((ms : List ℕ) → NoBetter o ms → NoBetter (some t) ms)) ⊎ ((pick o t ≡ o) × NoBetter o t)
+abbrev Picked : Option (List ℕ) → List ℕ → Type 0
+Picked o t = ((pick o t ≡ some t) × ((ms : List ℕ) → NoBetter o ms → NoBetter (some t) ms)) ⊎ ((pick o t ≡ o) × NoBetter o t)
+
+picked : (o : Option (List ℕ)) (t : List ℕ) → Picked o t
 unfolding pick
 picked none t = inl (refl, λ ms b. absurd b)
 picked (some ns) t = go (eqb (length t) (length ns)) refl (ltb (length t) (length ns)) refl (precedes ltb t ns) refl
   where
     go : (u : Bool) → eqb (length t) (length ns) ≡ u → (v : Bool) → ltb (length t) (length ns) ≡ v → (w : Bool) → precedes ltb t ns ≡ w
-        → ((pick (some ns) t ≡ some t) × ((ms : List ℕ) → NoBetter (some ns) ms → NoBetter (some t) ms)) ⊎ ((pick (some ns) t ≡ some ns) × NoBetter (some ns) t)
+        → Picked (some ns) t
     go true p v q true r =
         let e = eqb-true (length t) (length ns) p in
         inl (pick-alike ns t true e r, λ ms b. (omega arith, λ f. not-before-on lower-first ms ns t (b .1 (omega arith)) (before-not lower-first t ns r)))
@@ -197,21 +200,21 @@ picked (some ns) t = go (eqb (length t) (length ns)) refl (ltb (length t) (lengt
 pick-new : (o : Option (List ℕ)) (t : List ℕ) → NoBetter (pick o t) t
 pick-new o t = go (picked o t)
   where
-    go : ((pick o t ≡ some t) × ((ms : List ℕ) → NoBetter o ms → NoBetter (some t) ms)) ⊎ ((pick o t ≡ o) × NoBetter o t) → NoBetter (pick o t) t
+    go : Picked o t → NoBetter (pick o t) t
     go (inl p) = subst (λ (x : Option (List ℕ)). NoBetter x t) (sym (p .0)) (no-worse t)
     go (inr p) = subst (λ (x : Option (List ℕ)). NoBetter x t) (sym (p .0)) (p .1)
 
 pick-still : (o : Option (List ℕ)) (t ms : List ℕ) → NoBetter o ms → NoBetter (pick o t) ms
 pick-still o t ms b = go (picked o t)
   where
-    go : ((pick o t ≡ some t) × ((ms : List ℕ) → NoBetter o ms → NoBetter (some t) ms)) ⊎ ((pick o t ≡ o) × NoBetter o t) → NoBetter (pick o t) ms
+    go : Picked o t → NoBetter (pick o t) ms
     go (inl p) = subst (λ (x : Option (List ℕ)). NoBetter x ms) (sym (p .0)) (p .1 ms b)
     go (inr p) = subst (λ (x : Option (List ℕ)). NoBetter x ms) (sym (p .0)) b
 
 pick-from : (o : Option (List ℕ)) (t ns : List ℕ) → pick o t ≡ some ns → (o ≡ some ns) ⊎ (t ≡ ns)
 pick-from o t ns e = go (picked o t)
   where
-    go : ((pick o t ≡ some t) × ((ms : List ℕ) → NoBetter o ms → NoBetter (some t) ms)) ⊎ ((pick o t ≡ o) × NoBetter o t) → (o ≡ some ns) ⊎ (t ≡ ns)
+    go : Picked o t → (o ≡ some ns) ⊎ (t ≡ ns)
     go (inl p) = inr (Option·some-injective t ns (sym (p .0) ∙ e))
     go (inr p) = inl (sym (p .0) ∙ e)
 
