@@ -9,5 +9,6 @@ pub mod Marking
 pub mod Searching
 pub mod Supers
 pub mod Pairing
+pub mod Spreading
 pub mod Choices
 pub mod Posted
