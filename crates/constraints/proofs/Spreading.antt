@@ -2,20 +2,21 @@
 -- that leads to a node of one layer, the next layer is found: all nodes from which the shortest walk is one row longer. A search that meets an empty layer has
 -- found every node from which there is a walk.
 use mathlib.Core.Path.{_≡_, refl, sym, ap, _∙_}
-use mathlib.Core.Bool.{Bool, true, false, _&&_}
-use mathlib.Core.List.{List, [], _∷_, List·Memᴰ, List·Memᴰ·head, List·Memᴰ·tail, List·Memᴰ·not-nil}
+use mathlib.Core.Bool.{Bool, true, false, not}
+use mathlib.Core.List.{List, [], _∷_, List·Memᴰ, List·Memᴰ·head, List·Memᴰ·tail, List·Memᴰ·not-nil, _++_, Memᴰ·append-left, Memᴰ·append-right, List·Memᴰ·append-cases}
 use mathlib.Core.Logic.{_⊎_, inl, inr}
 use Prim.Native.Nat.{ℕ, zero, suc, _+_, _<_, _≤_}
-use native.Mathlib.Nat.{eq-or-lt-of-le}
 use native.Mathlib.Omega.{arith}
 use lib.ListN.{length, getD, set, length-set, List·getD-eq-default}
 use lib.Seq.{getD-set-same, getD-set-other}
 use lib.Dec.{eqb, ltb}
 use borrow.Author.Tests.{eqb-true, eqb-false, ltb-true, ltb-false, eq-eqb, ne-eqb}
 use Rattle.constraints.specs.Nodes.{placeLimit}
-use Rattle.constraints.specs.Search.{marked}
-use Rattle.constraints.specs.Walks.{Found, found, distOf, wayOf, nodeAt, Room, look, looks, Those, Walk, Onward, Exact, Beyond, Layer, Spread, Seeded}
-use Rattle.constraints.proofs.Marking.{marked-le}
+use Rattle.constraints.specs.Joining.{Last}
+use Rattle.constraints.specs.Search.{marked, startOf}
+use Rattle.constraints.specs.Walks.{Found, found, distOf, wayOf, nodeAt, Room, Sized, look, looks, Those, Walk, Onward, Exact, Beyond, Layer, Spread, Seeded, badIn}
+use Rattle.constraints.proofs.Rows.{Order, less, equal, more, order}
+use Rattle.constraints.proofs.Supers.{above-same, above-other}
 
 -- One cell written
 
@@ -54,12 +55,7 @@ zero-or : (n : ℕ) → (n ≡ 0) ⊎ ((k : ℕ) × (n ≡ suc k))
 zero-or zero = inl refl
 zero-or (suc n) = inr (n, refl)
 
--- Room, and what is queued
-
--- what is queued are places
-pub record Sized (s : Found) : Type 0 where
-  pub room : Room s
-  pub nodes : (i : ℕ) → i < s .tail → nodeAt s i < placeLimit
+-- What is queued grows
 
 pub record Grows (s t : Found) : Type 0 where
   pub more : s .tail ≤ t .tail
@@ -455,7 +451,7 @@ module _ (froms tos labels : List ℕ) (count : ℕ) (ends : ℕ → Bool) where
   -- the ends are the first layer
   pub layer-first : (s : Found) → Seeded ends s → Layer froms tos labels count ends 0 0 s
   layer-first s e = record {
-    room = e .room;
+    room = e .sized .room;
     exact = record {
       isEnd = e .isEnd;
       onward = λ q j f. absurd (omega (arith, e .only q (suc j) f));
@@ -511,3 +507,180 @@ module _ (froms tos labels : List ℕ) (count : ℕ) (ends : ℕ → Bool) where
       beyond = λ q f ns w. absurd (layer-empty l ns q f w);
       exhausted = λ h q f ns w. layer-empty l ns q f w;
     }
+
+-- A look, by its steps: a is the node that the link leads from
+
+module _ (froms labels dists ways queue : List ℕ) (layer e tail a : ℕ) (is : a ≡ getD froms e 0) where
+  at-node : (d : ℕ) → getD dists a 0 ≡ d → getD dists (getD froms e 0) 0 ≡ d
+  at-node d h = ap (λ (x : ℕ). getD dists x 0) (sym is) ∙ h
+
+  pub look-fresh : getD dists a 0 ≡ 0 → found (set dists a layer) (set ways a e) (set queue tail a) (tail + 1) ≡ look froms labels layer e (found dists ways queue tail)
+  unfolding look
+  look-fresh h = rw (is, at-node 0 h, look) refl
+
+  look-same : (getD dists a 0 ≡ 0 → ⊥) → (getD dists a 0 ≡ layer → getD labels (getD ways a 0) 0 ≤ getD labels e 0)
+      → found dists ways queue tail ≡ look froms labels layer e (found dists ways queue tail)
+  look-same n l = go (looked froms labels layer e (found dists ways queue tail))
+    where
+      go : Looked froms labels layer e (found dists ways queue tail) → found dists ways queue tail ≡ look froms labels layer e (found dists ways queue tail)
+      go (fresh p q) = absurd (n (ap (λ (x : ℕ). getD dists x 0) is ∙ p))
+      go (lower p m q) = absurd (omega (arith, l (ap (λ (x : ℕ). getD dists x 0) is ∙ p), m, ap (λ (x : ℕ). getD labels (getD ways x 0) 0) is))
+      go (same p m q) = sym q
+
+  pub look-old : (getD dists a 0 ≡ 0 → ⊥) → (getD dists a 0 ≡ layer → ⊥) → found dists ways queue tail ≡ look froms labels layer e (found dists ways queue tail)
+  look-old n l = look-same n (λ q. absurd (l q))
+
+  -- x is the link's row, and y that of the link w that is kept
+
+  pub look-lower : {x y w : ℕ} → x ≡ getD labels e 0 → y ≡ getD labels w 0 → w ≡ getD ways a 0 → (getD dists a 0 ≡ 0 → ⊥) → getD dists a 0 ≡ layer → x < y
+      → found dists (set ways a e) queue tail ≡ look froms labels layer e (found dists ways queue tail)
+  look-lower i j k n h l = go (looked froms labels layer e (found dists ways queue tail))
+    where
+      go : Looked froms labels layer e (found dists ways queue tail) → found dists (set ways a e) queue tail ≡ look froms labels layer e (found dists ways queue tail)
+      go (fresh p q) = absurd (n (ap (λ (x : ℕ). getD dists x 0) is ∙ p))
+      go (lower p m q) = (λ i. found dists (set ways (is i) e) queue tail) ∙ sym q
+      go (same p m q) = absurd (omega (arith, i, j, ap (λ (x : ℕ). getD labels x 0) k, m (at-node layer h), ap (λ (x : ℕ). getD labels (getD ways x 0) 0) is))
+
+  pub look-higher : {x y w : ℕ} → x ≡ getD labels e 0 → y ≡ getD labels w 0 → w ≡ getD ways a 0 → (getD dists a 0 ≡ 0 → ⊥) → y ≤ x
+      → found dists ways queue tail ≡ look froms labels layer e (found dists ways queue tail)
+  look-higher i j k n l = look-same n (λ _. omega (arith, i, j, ap (λ (x : ℕ). getD labels x 0) k))
+
+-- Bad classes, by the steps of their test
+
+module _ (aboves : List ℕ) (stamp c d : ℕ) where
+  pub bad-one : (only : Bool) → c ≡ d → badIn only aboves stamp c d ≡ false
+  unfolding badIn
+  bad-one true e = ap not (eq-eqb c d e)
+  bad-one false e = ap not (above-same aboves stamp c d e)
+
+  pub bad-other : (only : Bool) → only ≡ true → (c ≡ d → ⊥) → badIn only aboves stamp c d ≡ true
+  unfolding badIn
+  bad-other only h n = rw (h, badIn) (ap not (ne-eqb c d n))
+
+  pub bad-marked : (only : Bool) → only ≡ false → (c ≡ d → ⊥) → badIn only aboves stamp c d ≡ not (eqb (getD aboves d 0) stamp)
+  unfolding badIn
+  bad-marked only h n = rw (h, badIn) (ap not (above-other aboves stamp c d n))
+
+-- The links that lead to a node, looked at from the last on: those from `follow` on were
+
+module _ (froms tos labels : List ℕ) (count layer node : ℕ) (s₀ : Found) where
+  pub record Looking (follow : ℕ) (s : Found) : Type 0 where
+    pub links : List ℕ
+    pub high : follow ≤ count
+    pub here : (e : ℕ) → follow ≡ suc e → getD tos e 0 ≡ node
+    pub fit : (e : ℕ) → List·Memᴰ e links → e < count
+    pub only : (e : ℕ) → List·Memᴰ e links → getD tos e 0 ≡ node
+    pub all : (e : ℕ) → follow ≤ e → e < count → getD tos e 0 ≡ node → List·Memᴰ e links
+    pub is : s ≡ looks froms labels layer links s₀
+
+  -- a key of the list is where the link leads
+  key : (e : ℕ) → startOf tos 0 e ≡ getD tos e 0
+  unfolding startOf
+  key e = let z : 0 + e ≡ e = omega arith in ap (λ (x : ℕ). getD tos x 0) z
+
+  pub looking-none : {f : ℕ} → Last (startOf tos 0) node count f → Looking f s₀
+  unfolding looks
+  looking-none l = record {
+    links = [];
+    high = l .high;
+    here = λ e q. sym (key e) ∙ l .here e q;
+    fit = λ e m. absurd (List·Memᴰ·not-nil m);
+    only = λ e m. absurd (List·Memᴰ·not-nil m);
+    all = λ e h k q. absurd (l .none e h k (key e ∙ q));
+    is = refl;
+  }
+
+  pub looking-one : {f g e : ℕ} (s u : Found) → f ≡ suc e → Last (startOf tos 0) (startOf tos 0 e) e g → Looking f s → u ≡ look froms labels layer e s → Looking g u
+  unfolding looks
+  looking-one {f} {g} {e} s u i l k q = record {
+    links = e ∷ k .links;
+    high = omega (arith, l .high, k .high);
+    here = λ d r. sym (key d) ∙ (l .here d r ∙ (key e ∙ k .here e i));
+    fit = λ d m. fits d m;
+    only = λ d m. onlys d m;
+    all = λ d h b r. alls d h b r (order d e);
+    is = q ∙ ap (λ (x : Found). look froms labels layer e x) (k .is);
+  }
+    where
+      fits : (d : ℕ) → List·Memᴰ d (e ∷ k .links) → d < count
+      fits d (List·Memᴰ·head r) = omega (arith, k .high)
+      fits d (List·Memᴰ·tail m) = k .fit d m
+
+      onlys : (d : ℕ) → List·Memᴰ d (e ∷ k .links) → getD tos d 0 ≡ node
+      onlys d (List·Memᴰ·head r) = ap (λ (x : ℕ). getD tos x 0) r ∙ k .here e i
+      onlys d (List·Memᴰ·tail m) = k .only d m
+
+      alls : (d : ℕ) → g ≤ d → d < count → getD tos d 0 ≡ node → Order d e → List·Memᴰ d (e ∷ k .links)
+      alls d h b r (less o) = absurd (l .none d h o (key d ∙ (r ∙ (sym (k .here e i) ∙ sym (key e)))))
+      alls d h b r (equal o) = List·Memᴰ·head o
+      alls d h b r (more o) = List·Memᴰ·tail (k .all d (omega arith) b r)
+
+  -- what is found meanwhile has its size
+  pub looking-sized : {f : ℕ} (s : Found) → 0 < layer → ((e : ℕ) → e < count → getD froms e 0 < placeLimit) → Sized s₀ → Looking f s → Sized s
+  looking-sized s l h z k = rw (k .is) (looks-sized froms labels layer (k .links) s₀ l (λ e m. h e (k .fit e m)) z .0)
+
+  pub looking-all : {f : ℕ} (s : Found) → f ≤ 0 → Looking f s → (es : List ℕ) × Those count (λ e. getD tos e 0 ≡ node) es × (s ≡ looks froms labels layer es s₀)
+  looking-all s n k = (k .links, record { fit = k .fit; only = k .only; all = λ e h q. k .all e (omega (arith, n)) h q }, k .is)
+
+-- The nodes of one layer, looked back from one after another: those before place i were
+
+module _ (froms tos labels : List ℕ) (count layer low : ℕ) (s₀ : Found) where
+  pub record Backward (i : ℕ) (s : Found) : Type 0 where
+    pub links : List ℕ
+    pub those : Those count (λ e. (j : ℕ) × (low ≤ j) × (j < i) × (getD tos e 0 ≡ nodeAt s₀ j)) links
+    pub is : s ≡ looks froms labels layer links s₀
+
+  pub backward-none : Backward low s₀
+  unfolding looks
+  backward-none = record {
+    links = [];
+    those = record { fit = λ e m. absurd (List·Memᴰ·not-nil m); only = λ e m. absurd (List·Memᴰ·not-nil m); all = λ e h q. absurd (omega (arith, q .1, q .2)) };
+    is = refl;
+  }
+
+  looks-on : (es ds : List ℕ) (s : Found) → looks froms labels layer (es ++ ds) s ≡ looks froms labels layer es (looks froms labels layer ds s)
+  unfolding looks
+  looks-on [] ds s = refl
+  looks-on (e ∷ es) ds s = ap (λ (x : Found). look froms labels layer e x) (looks-on es ds s)
+
+  pub backward-one : (i node : ℕ) (s u : Found) → low ≤ i → node ≡ nodeAt s₀ i → Backward i s
+      → (es : List ℕ) × Those count (λ e. getD tos e 0 ≡ node) es × (u ≡ looks froms labels layer es s) → Backward (i + 1) u
+  backward-one i node s u l n b o = record {
+    links = o .0 ++ b .links;
+    those = record { fit = λ e m. fits e (List·Memᴰ·append-cases (o .0) m); only = λ e m. onlys e (List·Memᴰ·append-cases (o .0) m); all = λ e h q. alls e h q (eqb (q .0) i) refl };
+    is = o .2 ∙ (ap (λ (x : Found). looks froms labels layer (o .0) x) (b .is) ∙ sym (looks-on (o .0) (b .links) s₀));
+  }
+    where
+      fits : (e : ℕ) → List·Memᴰ e (o .0) ⊎ List·Memᴰ e (b .links) → e < count
+      fits e (inl m) = o .1 .fit e m
+      fits e (inr m) = b .those .fit e m
+
+      onlys : (e : ℕ) → List·Memᴰ e (o .0) ⊎ List·Memᴰ e (b .links) → (j : ℕ) × (low ≤ j) × (j < i + 1) × (getD tos e 0 ≡ nodeAt s₀ j)
+      onlys e (inl m) = (i, l, omega arith, o .1 .only e m ∙ n)
+      onlys e (inr m) = let r = b .those .only e m in (r .0, r .1, omega (arith, r .2), r .3)
+
+      alls : (e : ℕ) → e < count → (q : (j : ℕ) × (low ≤ j) × (j < i + 1) × (getD tos e 0 ≡ nodeAt s₀ j)) → (t : Bool) → eqb (q .0) i ≡ t → List·Memᴰ e (o .0 ++ b .links)
+      alls e h q true r = Memᴰ·append-left (b .links) (o .1 .all e h (q .3 ∙ (ap (λ (x : ℕ). nodeAt s₀ x) (eqb-true (q .0) i r) ∙ sym n)))
+      alls e h q false r = Memᴰ·append-right (o .0) (b .those .all e h (q .0, q .1, omega (arith, q .2, eqb-false (q .0) i r), q .3))
+
+  module _ (i : ℕ) (s : Found) (l : 0 < layer) (h : (e : ℕ) → e < count → getD froms e 0 < placeLimit) (z : Sized s₀) (b : Backward i s) where
+    both : Sized (looks froms labels layer (b .links) s₀) × Grows s₀ (looks froms labels layer (b .links) s₀)
+    both = looks-sized froms labels layer (b .links) s₀ l (λ e m. h e (b .those .fit e m)) z
+
+    pub backward-sized : Sized s
+    backward-sized = rw (b .is) (both .0)
+
+    -- the layer's own nodes stand where they stood
+    pub backward-node : (j : ℕ) → j < s₀ .tail → nodeAt s j ≡ nodeAt s₀ j
+    backward-node j k = ap (λ (x : Found). nodeAt x j) (b .is) ∙ both .1 .old j k
+
+    pub backward-tail : s₀ .tail ≤ s .tail
+    backward-tail = omega (arith, both .1 .more, ap (λ (x : Found). x .tail) (b .is))
+
+  pub backward-all : (high i : ℕ) (s : Found) → i ≤ high → high ≤ i → Backward i s
+      → (es : List ℕ) × Those count (λ e. (j : ℕ) × (low ≤ j) × (j < high) × (getD tos e 0 ≡ nodeAt s₀ j)) es × (s ≡ looks froms labels layer es s₀)
+  backward-all high i s l h b = (b .links, record {
+    fit = b .those .fit;
+    only = λ e m. (let r = b .those .only e m in (r .0, r .1, omega (arith, r .2), r .3));
+    all = λ e k q. b .those .all e k (q .0, q .1, omega (arith, q .2), q .3);
+  }, b .is)

@@ -41,6 +41,11 @@ pub record Room (s : Found) : Type 0 where
   pub queueLong : length (s .queue) ≡ placeLimit
   pub few : s .tail + marked 0 (s .dists) ≤ placeLimit
 
+-- and what is queued are places
+pub record Sized (s : Found) : Type 0 where
+  pub room : Room s
+  pub nodes : (i : ℕ) → i < s .tail → nodeAt s i < placeLimit
+
 -- A look at link e, which leads to a node of the layer before: the node that it leads from is found, with this distance, or was; of two links that lead on from
 -- it, the one with the lower row is kept.
 module _ (froms labels : List ℕ) (layer : ℕ) where
@@ -133,7 +138,7 @@ pub record Zeroed (dists : List ℕ) : Type 0 where
 
 -- the ends, and nothing else, are found, at distance 0, and queued
 pub record Seeded (ends : ℕ → Bool) (s : Found) : Type 0 where
-  pub room : Room s
+  pub sized : Sized s
   pub isEnd : (q : ℕ) → distOf s q ≡ 1 → ends q ≡ true
   pub all : (q : ℕ) → ends q ≡ true → distOf s q ≡ 1
   pub only : (q k : ℕ) → distOf s q ≡ suc k → k ≡ 0

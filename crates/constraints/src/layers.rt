@@ -8,7 +8,7 @@ ghost use mathlib.Core.List.{List};
 ghost use Prim.Native.Nat.{ℕ, _<_, _≤_};
 ghost use lib.ListN.{length, getD};
 ghost use Rattle.constraints.specs.Nodes.{placeLimit};
-ghost use Rattle.constraints.specs.Walks.{found, Room, look, looks, Those, Joint, Spread, badIn, endsIn, Zeroed, Seeded};
+ghost use Rattle.constraints.specs.Walks.{found, Sized, look, looks, Those, Joint, Spread, badIn, endsIn, Zeroed, Seeded};
 
 // A look at a link that leads to a node of the layer before. Answers how many nodes are queued.
 fn look_at(
@@ -55,7 +55,7 @@ fn look_back(
     queue: &mut [u16],
     tail: usize,
 ) -> usize
-    requires { ⌜ (node < placeLimit) × (0 < layer) × Joint (now froms) (now tos) count (now heads) (now nexts) × Room (found (now dists) (now ways) (now queue) tail) ⌝ }
+    requires { ⌜ (node < placeLimit) × (0 < layer) × Joint (now froms) (now tos) count (now heads) (now nexts) × Sized (found (now dists) (now ways) (now queue) tail) ⌝ }
     ensures { λ r. ⌜ ((es : List ℕ) × Those count (λ e. getD (now (tos .entry)) e 0 ≡ node) es × (found (now (dists .exit)) (now (ways .exit)) (now (queue .exit)) r ≡ looks (now (froms .entry)) (now (labels .entry)) layer es (found (now (dists .entry)) (now (ways .entry)) (now (queue .entry)) tail))) ⌝ }
 {
     let mut queued = tail;
@@ -83,7 +83,7 @@ fn next_layer(
     ways: &mut [u16],
     queue: &mut [u16],
 ) -> usize
-    requires { ⌜ (low ≤ high) × (0 < layer) × Joint (now froms) (now tos) count (now heads) (now nexts) × Room (found (now dists) (now ways) (now queue) high) × ((i : ℕ) → i < high → getD (now queue) i 0 < placeLimit) ⌝ }
+    requires { ⌜ (low ≤ high) × (0 < layer) × Joint (now froms) (now tos) count (now heads) (now nexts) × Sized (found (now dists) (now ways) (now queue) high) ⌝ }
     ensures { λ r. ⌜ ((es : List ℕ) × Those count (λ e. (i : ℕ) × (low ≤ i) × (i < high) × (getD (now (tos .entry)) e 0 ≡ getD (now (queue .entry)) i 0)) es × (found (now (dists .exit)) (now (ways .exit)) (now (queue .exit)) r ≡ looks (now (froms .entry)) (now (labels .entry)) layer es (found (now (dists .entry)) (now (ways .entry)) (now (queue .entry)) high))) ⌝ }
 {
     let mut tail = high;
@@ -123,7 +123,7 @@ pub(crate) fn spread(
     queue: &mut [u16],
     seeds: usize,
 )
-    requires { ⌜ Joint (now froms) (now tos) count (now heads) (now nexts) × Room (found (now dists) (now ways) (now queue) seeds) × ((i : ℕ) → i < seeds → getD (now queue) i 0 < placeLimit) ⌝ }
+    requires { ⌜ Joint (now froms) (now tos) count (now heads) (now nexts) × Sized (found (now dists) (now ways) (now queue) seeds) ⌝ }
     ensures { λ _. ⌜ ((ends : ℕ → Bool) → Seeded ends (found (now (dists .entry)) (now (ways .entry)) (now (queue .entry)) seeds) → (r : ℕ) × Spread (now (froms .entry)) (now (tos .entry)) (now (labels .entry)) count ends limit (found (now (dists .exit)) (now (ways .exit)) (now (queue .exit)) r)) ⌝ }
 {
     let mut low = 0;
@@ -179,7 +179,6 @@ pub(crate) fn seed(
 ) -> usize
     requires { ⌜ (cached ≤ placeLimit) × Zeroed (now dists) × (length (now queue) ≡ placeLimit) ⌝ }
     ensures { λ r. ⌜ ((ways : List ℕ) → length ways ≡ placeLimit → Seeded (endsIn only (now (aboves .entry)) stamp (now (classes .entry)) cached c) (found (now (dists .exit)) ways (now (queue .exit)) r)) ⌝ }
-    ensures { λ r. ⌜ ((i : ℕ) → i < r → getD (now (queue .exit)) i 0 < placeLimit) ⌝ }
 {
     let mut tail = 0;
     let mut q = 0;
