@@ -92,7 +92,8 @@ module _ (froms labels : List ℕ) (layer : ℕ) where
   fresh-sized : (e : ℕ) (s : Found) → 0 < layer → getD froms e 0 < placeLimit → Sized s → (p : distOf s (getD froms e 0) ≡ 0)
       → Sized (found (set (s .dists) (getD froms e 0) layer) (set (s .ways) (getD froms e 0) e) (set (s .queue) (s .tail) (getD froms e 0)) (s .tail + 1))
       × Grows s (found (set (s .dists) (getD froms e 0) layer) (set (s .ways) (getD froms e 0) e) (set (s .queue) (s .tail) (getD froms e 0)) (s .tail + 1))
-  fresh-sized e s l h z p = (record {
+  fresh-sized e s l h z p = (
+    record {
       room = record {
         distsLong = length-set (s .dists) (getD froms e 0) layer ∙ z .room .distsLong;
         waysLong = length-set (s .ways) (getD froms e 0) e ∙ z .room .waysLong;
@@ -100,7 +101,9 @@ module _ (froms labels : List ℕ) (layer : ℕ) where
         few = omega (arith, z .room .few, unmarked (s .dists) (getD froms e 0) layer (omega (arith, z .room .distsLong)) p l);
       };
       nodes = λ i k. node i k (written (s .queue) (s .tail) (getD froms e 0) i (omega (arith, left, z .room .queueLong)));
-    }, record { more = omega arith; old = λ i k. getD-set-other (s .queue) (s .tail) i (getD froms e 0) 0 (λ r. omega arith) })
+    },
+    record { more = omega arith; old = λ i k. getD-set-other (s .queue) (s .tail) i (getD froms e 0) 0 (λ r. omega arith) },
+  )
     where
       left : s .tail < placeLimit
       left = room-left s (getD froms e 0) (z .room) h p l
@@ -120,10 +123,13 @@ module _ (froms labels : List ℕ) (layer : ℕ) where
 
       go : Looked e s → Both (look froms labels layer e s)
       go (fresh p q) = rw q (fresh-sized e s l h z p)
-      go (lower p m q) = rw q (record {
+      go (lower p m q) = rw q (
+        record {
           room = record { distsLong = z .room .distsLong; waysLong = length-set (s .ways) (getD froms e 0) e ∙ z .room .waysLong; queueLong = z .room .queueLong; few = z .room .few };
           nodes = z .nodes;
-        }, record { more = omega arith; old = λ i k. refl })
+        },
+        record { more = omega arith; old = λ i k. refl },
+      )
       go (same p m q) = rw q (z, stays)
 
   pub looks-sized : (es : List ℕ) (s : Found) → 0 < layer → ((e : ℕ) → List·Memᴰ e es → getD froms e 0 < placeLimit) → Sized s
@@ -679,8 +685,12 @@ module _ (froms tos labels : List ℕ) (count layer low : ℕ) (s₀ : Found) wh
 
   pub backward-all : (high i : ℕ) (s : Found) → i ≤ high → high ≤ i → Backward i s
       → (es : List ℕ) × Those count (λ e. (j : ℕ) × (low ≤ j) × (j < high) × (getD tos e 0 ≡ nodeAt s₀ j)) es × (s ≡ looks froms labels layer es s₀)
-  backward-all high i s l h b = (b .links, record {
-    fit = b .those .fit;
-    only = λ e m. (let r = b .those .only e m in (r .0, r .1, omega (arith, r .2), r .3));
-    all = λ e k q. b .those .all e k (q .0, q .1, omega (arith, q .2), q .3);
-  }, b .is)
+  backward-all high i s l h b = (
+    b .links,
+    record {
+      fit = b .those .fit;
+      only = λ e m. (let r = b .those .only e m in (r .0, r .1, omega (arith, r .2), r .3));
+      all = λ e k q. b .those .all e k (q .0, q .1, omega (arith, q .2), q .3);
+    },
+    b .is,
+  )

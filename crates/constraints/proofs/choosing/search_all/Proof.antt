@@ -34,23 +34,29 @@ join-requires c κs = (omega arith, c .before .before .before .before .before .b
 
 loop-holds : tie.Need-loop-holds Inv-loop μ-loop
 loop-holds c =
-    (omega arith, c .before .before .before .before .before .before .before .before .before .before .before .pre .2, stamped-none 256 0, met-none (now (c .before .before .before .before .before .before .before .before .before .before .before .args .classes)), length-replicate {A = ℕ} 256 0, swept-none _ _ _ _ _ _ _ _ _)
+    let at11 = c .before .before .before .before .before .before .before .before .before .before .before in
+    (omega arith, at11 .pre .2, stamped-none 256 0, met-none (now (at11 .args .classes)), length-replicate {A = ℕ} 256 0, swept-none _ _ _ _ _ _ _ _ _)
 
 mark-above-requires : tie.Need-mark-above-requires Inv-loop μ-loop
 mark-above-requires c κs = (omega arith, c .before .before .before .before .before .before .before .before .loop .inv .2)
 
 search-class-requires : tie.Need-search-class-requires Inv-loop μ-loop
 search-class-requires c κs =
-    let pre = c .before .before .before .before .before .before .before .before .before .before .before .before .before .before .before .before .before .before .before .before .before .before .before .before .before .before .pre in
-    (omega (arith, pre .0), record { inRange = pre .1; joined = c .before .before .before .before .before .before .before .before .before .before .before .before .before .before .before .before .before .join .ensures }, c .before .before .before .before .before .before .before .before .before .before .before .before .before .before .loop .inv .1, pre .3)
+    let at14 = c .before .before .before .before .before .before .before .before .before .before .before .before .before .before in
+    let at17 = at14 .before .before .before in
+    let pre = at17 .before .before .before .before .before .before .before .before .before .pre in
+    (omega (arith, pre .0), record { inRange = pre .1; joined = at17 .join .ensures }, at14 .loop .inv .1, pre .3)
 
 loop-again : tie.Need-loop-again Inv-loop μ-loop
 loop-again c =
-    let args = c .before .before .before .before .before .before .before .before .before .before .before .before .before .before .before .before .before .before .before .args in
-    let loop = c .before .before .before .before .before .before .before .loop in
-    let test = c .before .before .before .before .before .before .loop-test in
-    let class : c .before .before .before .wide16 .result ≡ getD (now (args .classes)) (loop .p) 0 = c .before .before .before .wide16 .ensures .0 ∙ c .before .before .before .before .before .at16 .ensures in
-    let met : c .before .before .was-met .last .0 ≡ set (loop .met) (getD (now (args .classes)) (loop .p) 0) 1 = rw class at (c .before .before .was-met .ensures .1) in
+    let at5 = c .before .before .before .before .before in
+    let at7 = at5 .before .before in
+    let args = at7 .before .before .before .before .before .before .before .before .before .before .before .before .args in
+    let wide16 = c .before .before .before .wide16 in
+    let was-met = c .before .before .was-met in
+    let loop = at7 .loop in
+    let class : wide16 .result ≡ getD (now (args .classes)) (loop .p) 0 = wide16 .ensures .0 ∙ at5 .at16 .ensures in
+    let met : was-met .last .0 ≡ set (loop .met) (getD (now (args .classes)) (loop .p) 0) 1 = rw class at (was-met .ensures .1) in
     rw met
     (⊎-elim
     (λ w. rw (w .11, w .12, w .13) (
@@ -59,7 +65,7 @@ loop-again c =
       w .2 .ensures .stamped,
       met-more (now (args .classes)) (loop .p) (loop .met) (loop .inv .3),
       length-set (loop .met) _ _ ∙ loop .inv .4,
-      swept-one _ _ _ _ _ _ _ _ _ _ (super-falls (now (args .supers))) (w .2 .ensures) (loop .inv .5) (rw (c .before .before .before .before .before .at16 .ensures) at (w .8 .ensures .1)),
+      swept-one _ _ _ _ _ _ _ _ _ _ (super-falls (now (args .supers))) (w .2 .ensures) (loop .inv .5) (rw (at5 .at16 .ensures) at (w .8 .ensures .1)),
     ))
     (λ w. rw (w .1, w .2, w .3) (
       omega arith,
@@ -67,7 +73,7 @@ loop-again c =
       stamped-more (omega arith) (loop .inv .2),
       met-more (now (args .classes)) (loop .p) (loop .met) (loop .inv .3),
       length-set (loop .met) _ _ ∙ loop .inv .4,
-      swept-met _ _ _ _ _ _ _ _ (loop .met) (loop .inv .3) (rw class at (eqb-true (getD (loop .met) (c .before .before .before .wide16 .result) 0) 1 (sym (c .before .before .was-met .ensures .0) ∙ not-false _ (w .0 .left)))) (loop .inv .5),
+      swept-met _ _ _ _ _ _ _ _ (loop .met) (loop .inv .3) (rw class at (eqb-true (getD (loop .met) (wide16 .result) 0) 1 (sym (was-met .ensures .0) ∙ not-false _ (w .0 .left)))) (loop .inv .5),
     ))
     (c .if1 .came))
 

@@ -12,22 +12,27 @@ seed-requires : tie.Need-seed-requires
 seed-requires c κs = (c .before .before .before .before .before .before .before .before .before .before .pre .0, zeroed, length-replicate {A = ℕ} 1280 0)
 
 spread-requires : tie.Need-spread-requires
-spread-requires c κs = (c .before .before .before .before .before .before .before .before .before .before .before .before .before .before .before .before .pre .1, c .before .before .before .before .before .seed .ensures .0 (replicate 1280 0) (length-replicate {A = ℕ} 1280 0) .room, c .before .before .before .before .before .seed .ensures .1)
+spread-requires c κs = (c .before .before .before .before .before .before .before .before .before .before .before .before .before .before .before .before .pre .1, c .before .before .before .before .before .seed .ensures (replicate 1280 0) (length-replicate {A = ℕ} 1280 0) .sized)
 
 consider-all-requires : tie.Need-consider-all-requires
 consider-all-requires c κs =
-    let args = c .before .before .before .before .before .before .before .before .before .before .before .before .before .before .before .before .before .before .before .before .before .before .before .args in
+    let at12 = c .before .before .before .before .before .before .before .before .before .before .before .before in
+    let at23 = at12 .before .before .before .before .before .before .before .before .before .before .before in
+    let args = at23 .args in
     let ends = endsIn (args .only) (now (args .aboves)) (args .stamp) (now (args .classes)) (args .cached) (args .c) in
-    let r = c .before .before .before .before .before .before .spread .ensures ends (c .before .before .before .before .before .before .before .before .before .before .before .before .seed .ensures .0 (replicate 1280 0) (length-replicate {A = ℕ} 1280 0)) in
-    (c .before .before .before .before .before .before .before .before .before .before .before .before .before .before .before .before .before .before .before .before .before .before .before .pre .2, dist-low _ _ _ _ _ (c .before .before .before .before .before .before .before .before .before .before .before .before .before .before .before .before .before .before .before .before .before .before .before .pre .3) _ _ (r .1))
+    let r = c .before .before .before .before .before .before .spread .ensures ends (at12 .seed .ensures (replicate 1280 0) (length-replicate {A = ℕ} 1280 0)) in
+    (at23 .pre .2, dist-low _ _ _ _ _ (at23 .pre .3) _ _ (r .1))
 
 returns : tie.Need-returns
 returns c =
-    let args = c .before .before .before .before .before .before .before .before .before .before .before .before .before .before .before .before .before .before .before .before .before .before .before .before .before .before .args in
-    let pre = c .before .before .before .before .before .before .before .before .before .before .before .before .before .before .before .before .before .before .before .before .before .before .before .before .before .before .pre in
+    let at15 = c .before .before .before .before .before .before .before .before .before .before .before .before .before .before .before in
+    let at26 = at15 .before .before .before .before .before .before .before .before .before .before .before in
+    let args = at26 .args in
+    let pre = at26 .pre in
+    let consider-all = c .before .before .consider-all in
     let ends = endsIn (args .only) (now (args .aboves)) (args .stamp) (now (args .classes)) (args .cached) (args .c) in
-    let r = c .before .before .before .before .before .before .before .before .before .spread .ensures ends (c .before .before .before .before .before .before .before .before .before .before .before .before .before .before .before .seed .ensures .0 (replicate 1280 0) (length-replicate {A = ℕ} 1280 0)) in
-    (c .before .before .consider-all .ensures .0, rw (c .before .before .consider-all .ensures .1) (chosen-for _ _ _ _ _ (pre .3) _ _ (r .1) _ (pre .2) _ _ _))
+    let r = c .before .before .before .before .before .before .before .before .before .spread .ensures ends (at15 .seed .ensures (replicate 1280 0) (length-replicate {A = ℕ} 1280 0)) in
+    (consider-all .ensures .0, rw (consider-all .ensures .1) (chosen-for _ _ _ _ _ (pre .3) _ _ (r .1) _ (pre .2) _ _ _))
 
 pub search-class-spec : {M : Type 1} → statement M
 search-class-spec =
