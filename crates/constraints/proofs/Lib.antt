@@ -11,6 +11,7 @@ pub mod Searching
 pub mod Supers
 pub mod Pairing
 pub mod Spreading
+pub mod Choices
 pub mod Posted
 pub mod Turns
 pub mod Linked
