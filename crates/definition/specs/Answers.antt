@@ -1,7 +1,7 @@
 -- Answers and refusals: this paper's number and values for each case, and calls as sequences of tests, the first that fails refusing.
 use mathlib.Core.Bool.{Bool, true, false}
 use mathlib.Core.Option.{Option, none, some}
-use Prim.Native.Nat.{ℕ, _-_}
+use Prim.Native.Nat.{ℕ, _-_, _%_}
 use lib.IntN.{ℤ, pos, negsuc}
 use lib.Dec.{ltb}
 use Rattle.definition.specs.Numbers.{wordWanted, intRange, signBit}
@@ -18,6 +18,11 @@ pub use Rattle.definition.specs.declared.Details.{Details}
 
 unfoldable pub signed : ℕ → ℤ
 signed n = elim (ltb n signBit) [ true ↦ pos n | false ↦ negsuc (intRange - 1 - n) ]
+
+-- the 32 bits of an integer, which wraps: it equals them modulo 2^32
+unfoldable pub intBits : ℤ → ℕ
+intBits (pos n) = n % intRange
+intBits (negsuc n) = intRange - 1 - n % intRange
 
 -- as ints, a is less than b
 unfoldable pub less : ℤ → ℤ → Bool

@@ -9,7 +9,7 @@ use Rattle.definition.specs.Numbers.{versionTwo, byteRange}
 pub use Rattle.definition.specs.declared.Kind.{Kind}
 pub use Rattle.definition.specs.declared.Kind.the-variants.{IntKind, ReferenceKind}
 pub use Rattle.definition.specs.declared.Operator.{Operator}
-pub use Rattle.definition.specs.declared.Operator.the-variants.{Add, Subtract}
+pub use Rattle.definition.specs.declared.Operator.the-variants.{Add, Subtract, Multiply, Divide}
 pub use Rattle.definition.specs.declared.Condition.{Condition}
 pub use Rattle.definition.specs.declared.Condition.the-variants.{Always, IfZero, IfLess}
 use Rattle.definition.specs.Classes.{Signature, signature}
@@ -18,7 +18,7 @@ pub use Rattle.definition.specs.declared.Opcode.the-variants.{OpAconstNu
 pub use Rattle.definition.specs.declared.Instruction.{Instruction}
 pub use Rattle.definition.specs.declared.Instruction.the-variants.{AconstNull, Sipush, Load, Store, Pop, Dup, Arithmetic, Getfield, Putfield, Invokevirtual, New, Return, Branch}
 
--- The decision over opcode bytes, by the version of the class's file: branches are there from version 2 on
+-- The decision over opcode bytes, by the version of the class's file: imul, idiv and branches are there from version 2 on
 
 unfoldable pub pick : {A : Type 0} → Bool → A → A → A
 pick true a b = a
@@ -31,7 +31,9 @@ opcodeOf version b =
     (pick (eqb b 0x57) OpPop (pick (eqb b 0x59) OpDup (pick (eqb b 0x60) (OpArithmetic Add) (pick (eqb b 0x64) (OpArithmetic Subtract)
     (pick (eqb b 0xB4) OpGetfield (pick (eqb b 0xB5) OpPutfield (pick (eqb b 0xB6) OpInvokevirtual (pick (eqb b 0xBB) OpNew
     (pick (eqb b 0xAC) (OpReturn IntKind) (pick (eqb b 0xB0) (OpReturn ReferenceKind)
-    (pick (leb versionTwo version) (pick (eqb b 0x99) (OpBranch IfZero) (pick (eqb b 0xA1) (OpBranch IfLess) (pick (eqb b 0xA7) (OpBranch Always) OpUnknown))) OpUnknown))))))))))))))))
+    (pick (leb versionTwo version)
+    (pick (eqb b 0x68) (OpArithmetic Multiply) (pick (eqb b 0x6C) (OpArithmetic Divide)
+    (pick (eqb b 0x99) (OpBranch IfZero) (pick (eqb b 0xA1) (OpBranch IfLess) (pick (eqb b 0xA7) (OpBranch Always) OpUnknown))))) OpUnknown))))))))))))))))
 
 -- how many bytes follow inline
 unfoldable pub inlineLength : Opcode → ℕ

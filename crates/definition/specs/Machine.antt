@@ -6,15 +6,17 @@ use mathlib.Core.List.{List, [], _∷_, map}
 use Prim.Native.Nat.{ℕ, suc, _+_, _-_, _%_}
 use lib.ListN.{length, getElem?, set}
 use lib.Dec.{eqb, leb, ltb}
-use Rattle.definition.specs.Numbers.{wordAbsent, wordFull, wordNull, wordStuck, nameInt, objectLimit, frameLimit, operandLimit, intRange}
+use lib.IntN.{_*ℤ_}
+use lib.Signed.{quotZ}
+use Rattle.definition.specs.Numbers.{wordAbsent, wordFull, wordNull, wordStuck, wordDivisor, nameInt, objectLimit, frameLimit, operandLimit, intRange}
 use Rattle.definition.specs.Lists.{indexOf}
 use Rattle.definition.specs.Requests.{at}
 use Rattle.definition.specs.Superclasses.{nearest, below}
 use Rattle.definition.specs.Classes.{Base, Class, Method, find, superOf, loaderOf, Slot, slots, slotIs, hasField, selected}
 use Rattle.definition.specs.Constraints.{World, newTie, signatureTies, post}
-use Rattle.definition.specs.Instructions.{Kind, IntKind, ReferenceKind, Operator, Add, Subtract, Instruction, AconstNull, Sipush, Load, Store, Pop, Dup, Arithmetic, Getfield, Putfield, Invokevirtual, New, Return, Condition, Always, IfZero, IfLess, Branch, Decoded, decode, pick}
+use Rattle.definition.specs.Instructions.{Kind, IntKind, ReferenceKind, Operator, Add, Subtract, Multiply, Divide, Instruction, AconstNull, Sipush, Load, Store, Pop, Dup, Arithmetic, Getfield, Putfield, Invokevirtual, New, Return, Condition, Always, IfZero, IfLess, Branch, Decoded, decode, pick}
 use Rattle.definition.specs.Verifier.{pop}
-use Rattle.definition.specs.Answers.{signed, less, Word, wanted, Result, refused, ok, _>>=_, need, take?}
+use Rattle.definition.specs.Answers.{signed, intBits, less, Word, wanted, Result, refused, ok, _>>=_, need, take?}
 
 -- an empty local, an int's 32 bits, null, an object's number, or a pair of cells that docs/STORE.md doesn't list
 pub data Value : Type 0 where
@@ -130,10 +132,13 @@ ofKind! ReferenceKind v = reference! v >>= λ _. ok tt
 unfoldable pub kind! : ℕ → Value → Result (Unit {0})
 kind! t v = elim (eqb t nameInt) [ true ↦ ofKind! IntKind v | false ↦ ofKind! ReferenceKind v ]
 
--- The 32 bits that an operator makes of the lower operand a and the upper operand b, or its refusal; these two wrap and never refuse
+-- The 32 bits that an operator makes of the lower operand a and the upper operand b, or its refusal. All wrap. imul and idiv go by signed ints, idiv toward zero (`quotZ`),
+-- so that the least int divided by −1 wraps to itself; a divisor 0 is refused 17.
 unfoldable pub compute : Operator → ℕ → ℕ → Result ℕ
 compute Add a b = ok ((a + b) % intRange)
 compute Subtract a b = ok ((a + intRange - b) % intRange)
+compute Multiply a b = ok (intBits (signed a *ℤ signed b))
+compute Divide a b = need (not (eqb b 0)) (Word wordDivisor) >>= λ _. ok (intBits (quotZ (signed a) (signed b)))
 
 -- Whether a branch jumps, and the operands that it leaves
 unfoldable pub jumps : Condition → List Value → Result (record { taken : Bool; more : List Value })
@@ -196,7 +201,7 @@ give (g ∷ gs) w os v = ok (record {
   result = none;
 })
 
--- An instruction of frame f, of class k, above the frames fs of its task. Refusals in order: 5 7 10 9, then 14, then 11.
+-- An instruction of frame f, of class k, above the frames fs of its task. Refusals in order: 5 7 10 9, then 14, then 11 and 17, which no instruction can both meet.
 module _ (task : ℕ) (w : World) (os : Objects) (f : Frame) (fs : List Frame) (k : Class) (i : Decoded) where
   -- nothing but the frame changes
   abbrev pub on : List Value → List Value → Result Progress

@@ -53,6 +53,9 @@ wordUnmapped = 15
 abbrev pub wordShort : ℕ
 wordShort = 16
 
+abbrev pub wordDivisor : ℕ
+wordDivisor = 17
+
 -- Names: 0 is none; others than these are free
 
 abbrev pub nameInt : ℕ
@@ -115,7 +118,7 @@ listLimit = 512
 abbrev pub versionOne : ℕ
 versionOne = 1
 
--- the first with branches and maps
+-- the first with branches and maps, imul and idiv
 abbrev pub versionTwo : ℕ
 versionTwo = 2
 
@@ -257,7 +260,7 @@ abbrev pub allNumbers : List ℕ
 allNumbers =
     wordBroken ∷ wordFile ∷ wordUnknown ∷ wordTaken ∷ wordWanted ∷ wordUnverified
     ∷ wordAbsent ∷ wordHidden ∷ wordClash ∷ wordFull ∷ wordNull ∷ wordBusy
-    ∷ wordMisnamed ∷ wordStuck ∷ wordUnmapped ∷ wordShort ∷ nameInt ∷ nameObject ∷ loaderLimit ∷ taskLimit
+    ∷ wordMisnamed ∷ wordStuck ∷ wordUnmapped ∷ wordShort ∷ wordDivisor ∷ nameInt ∷ nameObject ∷ loaderLimit ∷ taskLimit
     ∷ classLimit ∷ keptLimit ∷ cacheLimit ∷ tieLimit ∷ subtypeLimit ∷ objectLimit
     ∷ fieldLimit ∷ frameLimit ∷ operandLimit ∷ localCount ∷ runLimit ∷ listLimit ∷ versionOne ∷ versionTwo
     ∷ fileLimit ∷ memberLimit ∷ codeLimit ∷ countClasses ∷ countKept ∷ countCache

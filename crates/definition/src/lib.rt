@@ -51,6 +51,8 @@ pub enum Kind {
 pub enum Operator {
     Add,
     Subtract,
+    Multiply,
+    Divide,
 }
 
 // When a branch jumps: always; if the int on top is 0; if the lower of two ints is less than the upper.

@@ -36,6 +36,8 @@ pub const WORD_UNMAPPED: u8 = 15;
 
 pub const WORD_SHORT: u8 = 16;
 
+pub const WORD_DIVISOR: u8 = 17;
+
 // Names: 0 is none; others than these are free.
 pub const NAME_INT: u16 = 1;
 
@@ -72,7 +74,7 @@ pub const LIST_LIMIT: usize = 512;
 
 // The file: its version, its bytes, the fields or methods that it declares, the bytes of a method's code.
 pub const VERSION_ONE: u8 = 1;
-// The first with branches and maps.
+// The first with branches and maps, imul and idiv.
 pub const VERSION_TWO: u8 = 2;
 
 pub const FILE_LIMIT: usize = 4096;
@@ -162,7 +164,7 @@ pub const INT_RANGE: usize = 4294967296;
 pub const SIGN_BIT: u32 = 2147483648;
 
 // Every number above, in the order of their names in specs/Numbers.antt.
-pub fn all_numbers() -> [u64; 73]
+pub fn all_numbers() -> [u64; 74]
     ensures { λ r. ⌜ r ≡ allNumbers ⌝ }
 {
     [
@@ -182,6 +184,7 @@ pub fn all_numbers() -> [u64; 73]
         WORD_STUCK as u64,
         WORD_UNMAPPED as u64,
         WORD_SHORT as u64,
+        WORD_DIVISOR as u64,
         NAME_INT as u64,
         NAME_OBJECT as u64,
         LOADER_LIMIT as u64,
