@@ -10,6 +10,8 @@ use Rattle.definition.specs.declared.Kind.{Kind}
 use Rattle.definition.specs.declared.Kind.the-variants.{IntKind, ReferenceKind}
 use Rattle.definition.specs.declared.Signature.{Signature}
 use Rattle.definition.specs.declared.Instruction.{Instruction}
+use Rattle.definition.specs.declared.Operator.{Operator}
+use Rattle.definition.specs.declared.Operator.the-variants.{Add, Subtract, Multiply, Divide}
 use Rattle.definition.specs.declared.Condition.{Condition}
 use Rattle.definition.specs.declared.Condition.the-variants.{Always, IfZero, IfLess}
 use Rattle.definition.specs.declared.Instruction.the-variants.{AconstNull, Sipush, Load, Store, Pop, Dup, Arithmetic, Getfield, Putfield, Invokevirtual, New, Return, Branch}
@@ -104,7 +106,7 @@ startCauses k l n m r =
     ∷ cause 10 (roomless k (r .objects))
     ∷ []
 
--- step: unreadable 14, 5 7 10 9, other 14, 11
+-- step: unreadable 14, 5 7 10 9, other 14, 11, 17
 
 abbrev pub anInt : Value → Bool
 anInt emptyValue = false
@@ -112,6 +114,13 @@ anInt (intValue n) = true
 anInt nullValue = false
 anInt (objectValue o) = false
 anInt (unlistedValue k b) = false
+
+abbrev pub aZero : Value → Bool
+aZero emptyValue = false
+aZero (intValue n) = eqb n 0
+aZero nullValue = false
+aZero (objectValue o) = false
+aZero (unlistedValue k b) = false
 
 abbrev pub aNull : Value → Bool
 aNull emptyValue = false
@@ -172,7 +181,7 @@ module _ (w : World) (os : Objects) where
 
 -- of an instruction that names no class
 abbrev pub plainly : Bool → Bool → List Cause
-plainly full stuck = cause 5 false ∷ cause 7 false ∷ cause 10 full ∷ cause 9 false ∷ cause 14 stuck ∷ cause 11 false ∷ []
+plainly full stuck = cause 5 false ∷ cause 7 false ∷ cause 10 full ∷ cause 9 false ∷ cause 14 stuck ∷ cause 11 false ∷ cause 17 false ∷ []
 
 module _ (w : World) (k : Class) where
   -- what class c means under the loader of k
@@ -200,6 +209,7 @@ module _ (w : World) (k : Class) where
       ∷ cause 9 (isSomeAnd declares (λ d. not (agreesAfter w (ties d))))
       ∷ cause 14 (isSomeAnd means (λ e. not (fits e)))
       ∷ cause 11 null
+      ∷ cause 17 false
       ∷ []
 
 -- an instruction of the frame f above the frames fs of its task, in class k; operands are counted from the last pushed
@@ -216,6 +226,13 @@ module _ (task : ℕ) (w : World) (os : Objects) (f : Frame) (fs : List Frame) (
   branches IfZero = isSomeAnd (operand 0) anInt
   branches IfLess = isSomeAnd (operand 0) anInt && isSomeAnd (operand 1) anInt
 
+  -- it divides, and its divisor, the upper operand, is 0
+  unfoldable pub zeroDivisor : Operator → Bool
+  zeroDivisor Add = false
+  zeroDivisor Subtract = false
+  zeroDivisor Multiply = false
+  zeroDivisor Divide = isSomeAnd (operand 0) aZero
+
   unfoldable pub instructionCauses : Instruction → List Cause
   instructionCauses AconstNull = plainly (noRoom (f .operands)) false
   instructionCauses (Sipush n) = plainly (noRoom (f .operands)) false
@@ -223,7 +240,15 @@ module _ (task : ℕ) (w : World) (os : Objects) (f : Frame) (fs : List Frame) (
   instructionCauses (Store kind j) = plainly false (not (isSomeAnd (operand 0) (aValueOf kind) && isSome (local j)))
   instructionCauses Pop = plainly false (isNone (operand 0))
   instructionCauses Dup = plainly (noRoom (f .operands)) (isNone (operand 0))
-  instructionCauses (Arithmetic o) = plainly false (not (isSomeAnd (operand 0) anInt && isSomeAnd (operand 1) anInt))
+  instructionCauses (Arithmetic o) =
+      cause 5 false
+      ∷ cause 7 false
+      ∷ cause 10 false
+      ∷ cause 9 false
+      ∷ cause 14 (not (isSomeAnd (operand 0) anInt && isSomeAnd (operand 1) anInt))
+      ∷ cause 11 false
+      ∷ cause 17 (zeroDivisor o)
+      ∷ []
   instructionCauses (Getfield c n t) =
       accessing w k (named w k c) (upward w k (hasField (w .base) n t)) (fieldTies w k t) true
       (λ e. isSomeAnd (operand 0) (receives w os e)) (isSomeAnd (operand 0) aNull)
@@ -234,14 +259,14 @@ module _ (task : ℕ) (w : World) (os : Objects) (f : Frame) (fs : List Frame) (
       accessing w k (named w k c) (selected (w .base) s) (methodTies w k s) (ltb (suc (length fs)) 32)
       (λ e. isSomeAnd (operand 0) (ofKind (s .argument)) && isSomeAnd (operand 1) (λ v. receives w os e v && selects w os s v)) (isSomeAnd (operand 1) aNull)
   instructionCauses (New c) =
-      cause 5 (isNone (named w k c)) ∷ cause 7 false ∷ cause 10 (not (not (roomless task os) && ltb (length (f .operands)) 16)) ∷ cause 9 false ∷ cause 14 false ∷ cause 11 false ∷ []
+      cause 5 (isNone (named w k c)) ∷ cause 7 false ∷ cause 10 (not (not (roomless task os) && ltb (length (f .operands)) 16)) ∷ cause 9 false ∷ cause 14 false ∷ cause 11 false ∷ cause 17 false ∷ []
   instructionCauses (Branch c p) = plainly false (not (branches c))
   instructionCauses (Return kind) =
       plainly (noRoomBelow fs) (not (isSomeAnd (operand 0) (aValueOf kind) && (not (isEmpty fs) || isSomeAnd (operand 0) anInt)))
 
 -- of an idle step, and of what can't be read, nothing more applies
 abbrev pub nothing : List Cause
-nothing = cause 5 false ∷ cause 7 false ∷ cause 10 false ∷ cause 9 false ∷ cause 14 false ∷ cause 11 false ∷ []
+nothing = cause 5 false ∷ cause 7 false ∷ cause 10 false ∷ cause 9 false ∷ cause 14 false ∷ cause 11 false ∷ cause 17 false ∷ []
 
 abbrev pub readCauses : ℕ → World → Objects → Frame → List Frame → Option Now → List Cause
 readCauses task w os f fs none = cause 14 true ∷ nothing
@@ -282,14 +307,14 @@ causes (callRun n) t = cause 1 (broken t) ∷ cause 3 (not (leb 1 n && leb n 655
 unfoldable pub order : Call → List ℕ
 order callBoot = refusalsOf callBoot
 order (callRows c) = refusalsOf (callRows c)
-order callStep = 1 ∷ 14 ∷ 5 ∷ 7 ∷ 10 ∷ 9 ∷ 14 ∷ 11 ∷ []
+order callStep = 1 ∷ 14 ∷ 5 ∷ 7 ∷ 10 ∷ 9 ∷ 14 ∷ 11 ∷ 17 ∷ []
 order (callRun n) = refusalsOf (callRun n)
 
 -- their words
 abbrev pub words : List Cause → List ℕ
 words cs = map (λ c. c .word) cs
 
-instruction-order : (task : ℕ) (w : World) (os : Objects) (f : Frame) (fs : List Frame) (k : Class) (i : Instruction) → words (instructionCauses task w os f fs k i) ≡ 5 ∷ 7 ∷ 10 ∷ 9 ∷ 14 ∷ 11 ∷ []
+instruction-order : (task : ℕ) (w : World) (os : Objects) (f : Frame) (fs : List Frame) (k : Class) (i : Instruction) → words (instructionCauses task w os f fs k i) ≡ 5 ∷ 7 ∷ 10 ∷ 9 ∷ 14 ∷ 11 ∷ 17 ∷ []
 unfolding instructionCauses accessing
 instruction-order task w os f fs k AconstNull = refl
 instruction-order task w os f fs k (Sipush n) = refl
@@ -305,11 +330,11 @@ instruction-order task w os f fs k (New c) = refl
 instruction-order task w os f fs k (Branch c p) = refl
 instruction-order task w os f fs k (Return kind) = refl
 
-frame-order : (task : ℕ) (w : World) (os : Objects) (fs : List Frame) → words (frameCauses task w os fs) ≡ 14 ∷ 5 ∷ 7 ∷ 10 ∷ 9 ∷ 14 ∷ 11 ∷ []
+frame-order : (task : ℕ) (w : World) (os : Objects) (fs : List Frame) → words (frameCauses task w os fs) ≡ 14 ∷ 5 ∷ 7 ∷ 10 ∷ 9 ∷ 14 ∷ 11 ∷ 17 ∷ []
 frame-order task w os [] = refl
 frame-order task w os (f ∷ fs) = go (reading w f)
   where
-    go : (o : Option Now) → words (readCauses task w os f fs o) ≡ 14 ∷ 5 ∷ 7 ∷ 10 ∷ 9 ∷ 14 ∷ 11 ∷ []
+    go : (o : Option Now) → words (readCauses task w os f fs o) ≡ 14 ∷ 5 ∷ 7 ∷ 10 ∷ 9 ∷ 14 ∷ 11 ∷ 17 ∷ []
     go none = refl
     go (some n) = rw (instruction-order task w os f fs (n .theClass) (n .at .instruction)) refl
 

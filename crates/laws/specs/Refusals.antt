@@ -13,7 +13,7 @@ use Rattle.definition.specs.declared.Reply.{Reply}
 use Rattle.definition.specs.declared.Kind.{Kind}
 use Rattle.definition.specs.declared.Kind.the-variants.{IntKind, ReferenceKind}
 use Rattle.definition.specs.declared.Operator.{Operator}
-use Rattle.definition.specs.declared.Operator.the-variants.{Add, Subtract}
+use Rattle.definition.specs.declared.Operator.the-variants.{Add, Subtract, Multiply, Divide}
 use Rattle.definition.specs.declared.Instruction.{Instruction}
 use Rattle.definition.specs.declared.Condition.{Condition}
 use Rattle.definition.specs.declared.Condition.the-variants.{Always, IfZero, IfLess}
@@ -72,9 +72,9 @@ module _ (P : Refusal → Type 0) where
   on-take none w f h k = h refl
   on-take (some a) w f h k = k a refl
 
--- One instruction: 14, 10, 9, 7, 11, or 5 with the class that it names, which isn't cached
+-- One instruction: 14, 10, 9, 7, 11, 17, or 5 with the class that it names, which isn't cached
 
-module _ (P : Refusal → Type 0) (stuck : P (Word 14)) (full : P (Word 10)) (clash : P (Word 9)) (absent : P (Word 7)) (null : P (Word 11)) where
+module _ (P : Refusal → Type 0) (stuck : P (Word 14)) (full : P (Word 10)) (clash : P (Word 9)) (absent : P (Word 7)) (null : P (Word 11)) (divisor : P (Word 17)) where
   int-refuses : (v : Value) → Refuses P (int! v)
   unfolding int!
   int-refuses emptyValue = stuck
@@ -108,6 +108,8 @@ module _ (P : Refusal → Type 0) (stuck : P (Word 14)) (full : P (Word 10)) (cl
   unfolding compute
   compute-refuses Add a b = tt
   compute-refuses Subtract a b = tt
+  compute-refuses Multiply a b = tt
+  compute-refuses Divide a b = on-need P _ _ _ divisor (λ _. tt)
 
   object-refuses : (w : Base) (os : Objects) (e : ℕ) (v : Value) → Refuses P (object! w os e v)
   unfolding object!
@@ -246,7 +248,7 @@ step-due r = go (r .quote) (r .report) (λ f fs e. e)
 
     task : (k : ℕ) (f : Frame) (fs : List Frame) → running (r .quote) (r .report) ≡ f ∷ fs → Refuses P (stepTask k (worldOf r) f fs r)
     task k f fs q = unfold stepTask in on-bind P (step k (worldOf r) (r .objects) f fs) _
-        (step-refuses P refl refl refl refl refl k (worldOf r) (r .objects) f fs (λ n c e i m. (refl, record { frame = f; others = fs; turn = q; reads = n; isNow = e; names = i; loader = refl }, m))) (λ _ _. tt)
+        (step-refuses P refl refl refl refl refl refl k (worldOf r) (r .objects) f fs (λ n c e i m. (refl, record { frame = f; others = fs; turn = q; reads = n; isNow = e; names = i; loader = refl }, m))) (λ _ _. tt)
 
     go : (q p : List Frame) → ((f : Frame) (fs : List Frame) → running q p ≡ f ∷ fs → running (r .quote) (r .report) ≡ f ∷ fs) → Refuses P (stepOn q p (worldOf r) r)
     go (f ∷ fs) p s = unfold stepOn in task 0 f fs (s f fs refl)
