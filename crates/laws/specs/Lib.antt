@@ -35,3 +35,4 @@ pub mod Runs
 pub mod Turns
 pub mod Tasks
 pub mod Refused
+pub mod Rates
