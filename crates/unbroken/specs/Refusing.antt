@@ -38,7 +38,7 @@ module _ {B : Type 0} (cs : List Cause) where
   first-need true w f h = h refl
   first-need false w f h = refl
 
-  first-unless : (t : Bool) (w : Refusal) (f : Unit {0} → Result B) → numberIn (f tt) ≡ first cs → numberIn (need (not t) w >>= f) ≡ first (cause (number w) t ∷ cs)
+  pub first-unless : (t : Bool) (w : Refusal) (f : Unit {0} → Result B) → numberIn (f tt) ≡ first cs → numberIn (need (not t) w >>= f) ≡ first (cause (number w) t ∷ cs)
   unfolding numberIn first need _>>=_
   first-unless true w f h = refl
   first-unless false w f h = h

@@ -12,7 +12,7 @@ use Rattle.definition.specs.declared.Refusal.the-variants.{Word}
 use Rattle.definition.specs.declared.Kind.{Kind}
 use Rattle.definition.specs.declared.Kind.the-variants.{IntKind, ReferenceKind}
 use Rattle.definition.specs.declared.Operator.{Operator}
-use Rattle.definition.specs.declared.Operator.the-variants.{Add, Subtract}
+use Rattle.definition.specs.declared.Operator.the-variants.{Add, Subtract, Multiply, Divide}
 use Rattle.definition.specs.declared.Instruction.{Instruction}
 use Rattle.definition.specs.declared.Condition.{Condition}
 use Rattle.definition.specs.declared.Condition.the-variants.{Always, IfZero, IfLess}
@@ -31,11 +31,11 @@ use Rattle.laws.specs.Agreement.{super-falls}
 use Rattle.laws.specs.Growth.{nth-lt}
 use Rattle.laws.specs.Members.{FieldPlace, field-place}
 use Rattle.laws.specs.Upward.{nearest-below, below-true, below-trans}
-use Rattle.laws.specs.Causes.{Cause, cause, first, isSomeAnd, anInt, aNull, aReference, aValueOf, ofKind, isEmpty, noRoom, noRoomBelow, receives, selects, fieldTies, methodTies, plainly, branches, accessing, reading, readCauses, frameCauses, instructionCauses}
+use Rattle.laws.specs.Causes.{Cause, cause, first, isSomeAnd, anInt, aNull, aReference, aValueOf, ofKind, isEmpty, noRoom, noRoomBelow, receives, selects, fieldTies, methodTies, plainly, branches, zeroDivisor, accessing, reading, readCauses, frameCauses, instructionCauses}
 use Rattle.layout.specs.Whole.{ObjectSound}
 use Rattle.unbroken.specs.Steps.{Ready, object-at}
 use Rattle.unbroken.specs.WholeRows.{nth-there}
-use Rattle.unbroken.specs.Refusing.{numberIn, first-need, first-take, first-skip, number-on, number-ok, number-there}
+use Rattle.unbroken.specs.Refusing.{numberIn, first-need, first-unless, first-take, first-skip, number-on, number-ok, number-there}
 
 -- Two causes of one word, and the causes of an instruction that names no class
 
@@ -84,12 +84,6 @@ module _ {B : Type 0} (cs : List Cause) where
           ≡ first (cause 14 (not (elim b as (λ _. Bool) [ true ↦ anInt v | false ↦ aReference v ])) ∷ cs)
       go true = first-of-kind IntKind v g h
       go false = first-of-kind ReferenceKind v g h
-
-  -- an operator that doesn't refuse
-  first-compute : (o : Operator) (a b : ℕ) (g : ℕ → Result B) → ((n : ℕ) → numberIn (g n) ≡ first cs) → numberIn (compute o a b >>= g) ≡ first cs
-  unfolding compute _>>=_
-  first-compute Add a b g h = h _
-  first-compute Subtract a b g h = h _
 
   -- what is there, said by isSome
   first-there : {A : Type 0} (o : Option A) (g : A → Result B) → ((a : A) → o ≡ some a → numberIn (g a) ≡ first cs) → numberIn (take? o (Word 14) >>= g) ≡ first (cause 14 (not (isSome o)) ∷ cs)
@@ -166,12 +160,16 @@ module _ {B : Type 0} (w : World) (os : Objects) where
 -- One instruction
 
 module _ (task : ℕ) (w : World) (n : ℕ) (os : Objects) (rd : Ready w n os) (f : Frame) (fs : List Frame) (k : Class) (i : Decoded) where
+  no-divisor : (stuck null : Bool) → first (cause 14 stuck ∷ cause 11 null ∷ []) ≡ first (cause 14 stuck ∷ cause 11 null ∷ cause 17 false ∷ [])
+  unfolding first
+  no-divisor stuck null = refl
+
   -- it names a class and looks upward from it
   first-access : {A B : Type 0} (o : Option ℕ) (looks : ℕ → Option A) (ties : A → List Tie) (room : Bool) (fits : ℕ → Bool) (null : Bool) (r : Request) (g : ℕ → A → World → Result B)
       → ((e : ℕ) (d : A) → looks e ≡ some d → numberIn (g e d (posted w (ties d))) ≡ first (cause 14 (not (fits e)) ∷ cause 11 null ∷ []))
       → numberIn (take? o (wanted r) >>= λ e. take? (looks e) (Word 7) >>= λ d. post w room (ties d) >>= g e d) ≡ first (accessing w k o looks ties room fits null)
   unfolding accessing Maybe._>>=_ number
-  first-access o looks ties room fits null r g h = first-take _ o (wanted r) _ (λ e q. rw q (first-take _ (looks e) (Word 7) _ (λ d p. rw p (first-post w os _ room (ties d) (g e d) (h e d p)))))
+  first-access o looks ties room fits null r g h = first-take _ o (wanted r) _ (λ e q. rw q (first-take _ (looks e) (Word 7) _ (λ d p. rw p (first-post w os _ room (ties d) (g e d) (h e d p ∙ no-divisor (not (fits e)) null)))))
 
   -- the operand on top, and the one below it, is there and passes
   abbrev upper : (Value → Bool) → Bool
@@ -189,9 +187,22 @@ module _ (task : ℕ) (w : World) (n : ℕ) (os : Objects) (rd : Ready w n os) (
   unfolding first
   plain-stuck stuck = refl
 
-  only-full : (full : Bool) → first (cause 7 false ∷ cause 10 full ∷ cause 9 false ∷ cause 14 false ∷ cause 11 false ∷ []) ≡ first (cause 10 full ∷ [])
+  only-full : (full : Bool) → first (cause 7 false ∷ cause 10 full ∷ cause 9 false ∷ cause 14 false ∷ cause 11 false ∷ cause 17 false ∷ []) ≡ first (cause 10 full ∷ [])
   unfolding first
   only-full full = refl
+
+  -- an operator, which refuses a divisor 0 alone
+  plain-divisor : (stuck zero : Bool)
+      → first (cause 5 false ∷ cause 7 false ∷ cause 10 false ∷ cause 9 false ∷ cause 14 stuck ∷ cause 11 false ∷ cause 17 zero ∷ []) ≡ first (cause 14 stuck ∷ cause 17 zero ∷ [])
+  unfolding first
+  plain-divisor stuck zero = refl
+
+  compute-first : (o : Operator) (a b : ℕ) (us : List Value) → f .operands ≡ intValue b ∷ us → numberIn (compute o a b) ≡ first (cause 17 (zeroDivisor task w os f fs k o) ∷ [])
+  unfolding compute zeroDivisor number
+  compute-first Add a b us e = number-ok _ ∙ sym (first-skip 17 [])
+  compute-first Subtract a b us e = number-ok _ ∙ sym (first-skip 17 [])
+  compute-first Multiply a b us e = number-ok _ ∙ sym (first-skip 17 [])
+  compute-first Divide a b us e = rw e (first-unless [] (eqb b 0) (Word 17) _ (number-ok _))
 
   -- a value given back
   first-under : (gs : List Frame) (cs : List Cause) (g : Unit {0} → Result Progress) → numberIn (g tt) ≡ first cs → numberIn (under! gs >>= g) ≡ first (cause 10 (noRoomBelow gs) ∷ cs)
@@ -260,8 +271,10 @@ module _ (task : ℕ) (w : World) (n : ℕ) (os : Objects) (rd : Ready w n os) (
   execute-first Pop = first-pop [] (f .operands) _ (λ _. number-ok _) ∙ sym (plain-stuck _)
   execute-first Dup = first-need _ (ltb (length (f .operands)) 16) (Word 10) _ (λ _. first-pop [] (f .operands) _ (λ _. number-ok _)) ∙ sym (plain _ _)
   execute-first (Arithmetic o) =
-      first-two [] (f .operands) anInt anInt _ (λ v u us _. first-int _ v _ (λ b _. first-int [] u _ (λ a _. first-compute [] o a b _ (λ _. number-ok _))))
-      ∙ sym (first-and 14 (upper anInt) (lower anInt) []) ∙ sym (plain-stuck _)
+      let cs : List Cause = cause 17 (zeroDivisor task w os f fs k o) ∷ [] in
+      first-two cs (f .operands) anInt anInt _
+      (λ v u us q. first-int _ v _ (λ b e. first-int cs u _ (λ a _. number-on (compute o a b) _ ∙ compute-first o a b (u ∷ us) (q ∙ ap (λ (x : Value). x ∷ u ∷ us) e))))
+      ∙ sym (first-and 14 (upper anInt) (lower anInt) cs) ∙ sym (plain-divisor _ _)
   execute-first (Getfield c x t) = first-access _ _ _ true _ _ _ _ (λ e d p. getfield-first x t e d p (posted w (fieldTies w k t d)))
   execute-first (Putfield c x t) = first-access _ _ _ true _ _ _ _ (λ e d p. putfield-first x t e d p (posted w (fieldTies w k t d)))
   execute-first (Invokevirtual c s) = first-access _ _ _ _ _ _ _ _ (λ e d p. invoke-first s e (posted w (methodTies w k s d)))
