@@ -21,3 +21,4 @@ pub mod Tried
 pub mod Lasting
 pub mod Resolution
 pub mod Waiting
+pub mod Rates

@@ -291,7 +291,7 @@ unfolding take? _>>=_ Maybe._>>=_
 read-join none f g h = refl
 read-join (some a) f g h = h a
 
-now-reading : (w : World) (f : Frame) → now w f ≡ take? (reading w f) (Word 14)
+pub now-reading : (w : World) (f : Frame) → now w f ≡ take? (reading w f) (Word 14)
 unfolding now reading take?
 now-reading w f = read-join _ _ _ (λ k. read-join _ _ _ (λ m. read-join _ _ _ (λ i. refl)))
 

@@ -8,7 +8,7 @@ use native.Mathlib.Omega.{arith}
 use lib.ListN.{length, getElem?, set}
 use lib.Dec.{eqb}
 use Rattle.definition.specs.declared.Operator.{Operator}
-use Rattle.definition.specs.declared.Operator.the-variants.{Add, Subtract}
+use Rattle.definition.specs.declared.Operator.the-variants.{Add, Subtract, Multiply, Divide}
 use Rattle.definition.specs.declared.Signature.{Signature}
 use Rattle.definition.specs.declared.Instruction.{Instruction}
 use Rattle.definition.specs.declared.Condition.{Condition}
@@ -24,6 +24,7 @@ use Rattle.definition.specs.Instructions.{Decoded, pick}
 use Rattle.definition.specs.Verifier.{pop}
 use Rattle.definition.specs.Machine.{Value, emptyValue, intValue, nullValue, objectValue, unlistedValue, Object, Frame, existing, initialValue, newObject, entryFrame, pop!, compute, jumps, object!, Progress, Now, now, past, give, execute, step, ObjectRow, free, owned, Objects, objectHeld, unused, made, rewritten, changed}
 use Rattle.laws.specs.Wrapped.{Ok, then}
+use Rattle.laws.specs.Rates.{bits-below}
 use Rattle.layout.specs.Tests.{All, all-both}
 use Rattle.unbroken.specs.Steps.{all-set}
 use Rattle.widths.specs.Below.{all-map}
@@ -58,6 +59,8 @@ compute-fits : (o : Operator) (a b : ℕ) → Ok (compute o a b) (λ n. n < 4294
 unfolding compute
 compute-fits Add a b = mod-lt (a + b) (omega arith)
 compute-fits Subtract a b = mod-lt (a + 4294967296 - b) (omega arith)
+compute-fits Multiply a b = bits-below _
+compute-fits Divide a b = then (λ n. n < 4294967296) _ _ (λ _ _. bits-below _)
 
 -- Branches
 
