@@ -1,4 +1,4 @@
--- The first document's files and opcodes: of version 1 alone, whose methods have no maps, and without branches.
+-- The first document's files and opcodes: of version 1 alone, whose methods have no maps, and without imul, idiv and branches.
 use mathlib.Core.Bool.{true, false, not, _&&_}
 use mathlib.Core.Option.{Option, none, some}
 use mathlib.Core.List.{List, [], _∷_}

@@ -1,23 +1,25 @@
 -- The first document's machine on rows: objects, and one instruction. Where a later paper changed nothing its definitions are today's; where one changed a
 -- definition, the old text stands in this crate with what stands on it. Since paper 1 a row of objects may be free, and each object has an owner: here an object
--- is the next row of a list, for good. Since paper 2 there are branches: here none is read.
+-- is the next row of a list, for good. Since paper 2 there are branches, since paper 4 imul and idiv: here none is read.
 use mathlib.Core.Bool.{true, _&&_}
 use mathlib.Core.Option.{Option, none, some}
 use mathlib.Core.List.{List, [], _∷_, _++_}
-use Prim.Native.Nat.{ℕ, suc}
+use Prim.Native.Nat.{ℕ, suc, _+_, _-_, _%_}
 use lib.ListN.{length, getElem?, set}
 use lib.Dec.{leb, ltb}
 use Rattle.definition.specs.declared.Refusal.the-variants.{Word}
+use Rattle.definition.specs.declared.Operator.{Operator}
+use Rattle.definition.specs.declared.Operator.the-variants.{Add, Subtract, Multiply, Divide}
 use Rattle.definition.specs.declared.Instruction.{Instruction}
 use Rattle.definition.specs.declared.Instruction.the-variants.{AconstNull, Sipush, Load, Store, Pop, Dup, Arithmetic, Getfield, Putfield, Invokevirtual, New, Return, Branch}
-use Rattle.definition.specs.Numbers.{wordUnknown, wordAbsent, wordFull, wordNull, wordBusy, wordStuck, nameObject, loaderLimit, objectLimit, frameLimit, operandLimit}
+use Rattle.definition.specs.Numbers.{wordUnknown, wordAbsent, wordFull, wordNull, wordBusy, wordStuck, nameObject, loaderLimit, objectLimit, frameLimit, operandLimit, intRange}
 use Rattle.definition.specs.Lists.{indexOf}
 use Rattle.definition.specs.Requests.{at}
 use Rattle.definition.specs.Superclasses.{nearest, below}
 use Rattle.definition.specs.Classes.{Base, Class, find, superOf, loaderOf, slots, slotIs, hasField, selected, startSignature}
 use Rattle.definition.specs.Constraints.{World, newTie, signatureTies, post}
 use Rattle.definition.specs.Instructions.{Decoded}
-use Rattle.definition.specs.Machine.{Value, emptyValue, intValue, nullValue, objectValue, unlistedValue, Object, Frame, newObject, entryFrame, pop!, int!, ofKind!, kind!, compute, room!, under!, Now, past}
+use Rattle.definition.specs.Machine.{Value, emptyValue, intValue, nullValue, objectValue, unlistedValue, Object, Frame, newObject, entryFrame, pop!, int!, ofKind!, kind!, room!, under!, Now, past}
 use Rattle.first.specs.Files.{firstDecode}
 use Rattle.definition.specs.Answers.{wanted, Result, refused, ok, _>>=_, need, take?}
 
@@ -33,6 +35,13 @@ firstObject! w os e nullValue = refused (Word wordNull)
 firstObject! w os e (objectValue o) =
     take? (firstExisting os o) (Word wordStuck) >>= λ k. need (below (superOf w) (k .class) e) (Word wordStuck) >>= λ _. ok (record { number = o; object = k })
 firstObject! w os e (unlistedValue k b) = refused (Word wordStuck)
+
+-- the 32 bits that an operator makes of the lower operand a and the upper operand b; both wrap
+unfoldable pub firstCompute : Operator → ℕ → ℕ → Result ℕ
+firstCompute Add a b = ok ((a + b) % intRange)
+firstCompute Subtract a b = ok ((a + intRange - b) % intRange)
+firstCompute Multiply a b = refused (Word wordStuck)
+firstCompute Divide a b = refused (Word wordStuck)
 
 -- What a step leaves: constraints, objects, the task's frames, and a first frame's result
 
@@ -74,7 +83,7 @@ module _ (w : World) (os : List Object) (f : Frame) (fs : List Frame) (k : Class
   firstExecute Pop = pop! (f .operands) >>= λ p. firstOn (p .more) (f .locals)
   firstExecute Dup = room! (f .operands) >>= λ _. pop! (f .operands) >>= λ p. firstOn (p .top ∷ p .top ∷ p .more) (f .locals)
   firstExecute (Arithmetic o) =
-      pop! (f .operands) >>= λ p. pop! (p .more) >>= λ q. int! (p .top) >>= λ b. int! (q .top) >>= λ a. compute o a b >>= λ n.
+      pop! (f .operands) >>= λ p. pop! (p .more) >>= λ q. int! (p .top) >>= λ b. int! (q .top) >>= λ a. firstCompute o a b >>= λ n.
       firstOn (intValue n ∷ q .more) (f .locals)
   firstExecute (Getfield c n t) =
       take? (find (w .base .cache) (at (k .loader) c)) (wanted (at (k .loader) c)) >>= λ e.

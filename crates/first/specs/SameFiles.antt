@@ -9,9 +9,12 @@ use lib.ListN.{length, drop, getD}
 use lib.Dec.{eqb, leb}
 use borrow.Author.Tests.{eqb-true, eqb-false, leb-true}
 use Rattle.definition.specs.declared.Kind.{Kind}
+use Rattle.definition.specs.declared.Operator.{Operator}
+use Rattle.definition.specs.declared.Operator.the-variants.{Add, Subtract, Multiply, Divide}
 use Rattle.definition.specs.declared.Opcode.{Opcode}
 use Rattle.definition.specs.declared.Opcode.the-variants.{OpAconstNull, OpSipush, OpLoad, OpStore, OpPop, OpDup, OpArithmetic, OpGetfield, OpPutfield, OpInvokevirtual, OpNew, OpReturn, OpBranch, OpUnknown}
 use Rattle.definition.specs.declared.Instruction.{Instruction}
+use Rattle.definition.specs.declared.Instruction.the-variants.{AconstNull, Sipush, Load, Store, Pop, Dup, Arithmetic, Getfield, Putfield, Invokevirtual, New, Return, Branch}
 use Rattle.definition.specs.Numbers.{versionOne, versionTwo}
 use Rattle.definition.specs.Lists.{any}
 use Rattle.definition.specs.Maybe.{_>>=_, need}
@@ -134,7 +137,7 @@ file-old l bs =
 pub read-old : (l : ℕ) (bs : List ℕ) → laterFile bs ≡ false → (f : File) → readFile bs ≡ some f → OldClass (classOf l f)
 read-old l bs h f e = holds-at (λ g. OldClass (classOf l g)) (firstReadFile bs) f (file-old l bs) (same-read bs h ∙ e)
 
--- Instructions: no branch
+-- Instructions: no branch, imul or idiv
 
 same-opcode : (version b : ℕ) → Old version → firstOpcodeOf b ≡ opcodeOf version b
 unfolding firstOpcodeOf opcodeOf
@@ -146,6 +149,13 @@ same-decode version code p h = ap
     (λ (o : Opcode). elim (leb (p + suc (inlineLength o)) (length code)) as (λ _. Option Decoded) [ true ↦ sizedAs (suc (inlineLength o)) (instructionOf code (p + 1) o) | false ↦ none ])
     (same-opcode version (getD code p 0) h)
 
+-- an operator of version 1
+abbrev pub Early : Operator → Type 0
+Early Add = Unit {0}
+Early Subtract = Unit {0}
+Early Multiply = ⊥
+Early Divide = ⊥
+
 abbrev PlainCode : Opcode → Type 0
 PlainCode OpAconstNull = Unit {0}
 PlainCode OpSipush = Unit {0}
@@ -153,7 +163,7 @@ PlainCode (OpLoad k) = Unit {0}
 PlainCode (OpStore k) = Unit {0}
 PlainCode OpPop = Unit {0}
 PlainCode OpDup = Unit {0}
-PlainCode (OpArithmetic o) = Unit {0}
+PlainCode (OpArithmetic o) = Early o
 PlainCode OpGetfield = Unit {0}
 PlainCode OpPutfield = Unit {0}
 PlainCode OpInvokevirtual = Unit {0}
@@ -162,10 +172,27 @@ PlainCode (OpReturn k) = Unit {0}
 PlainCode (OpBranch c) = ⊥
 PlainCode OpUnknown = Unit {0}
 
--- it goes on to the next point alone, if it is no return
+-- if it computes, then with such an operator
+abbrev pub EarlyIn : Instruction → Type 0
+EarlyIn AconstNull = Unit {0}
+EarlyIn (Sipush n) = Unit {0}
+EarlyIn (Load kind j) = Unit {0}
+EarlyIn (Store kind j) = Unit {0}
+EarlyIn Pop = Unit {0}
+EarlyIn Dup = Unit {0}
+EarlyIn (Arithmetic o) = Early o
+EarlyIn (Getfield c n t) = Unit {0}
+EarlyIn (Putfield c n t) = Unit {0}
+EarlyIn (Invokevirtual c s) = Unit {0}
+EarlyIn (New c) = Unit {0}
+EarlyIn (Branch c p) = Unit {0}
+EarlyIn (Return kind) = Unit {0}
+
+-- it goes on to the next point alone, if it is no return, and is no imul or idiv
 pub record Straight (i : Instruction) : Type 0 where
   pub nowhere : target i ≡ none
   pub on : returnKind i ≡ none → goesOn i ≡ true
+  pub early : EarlyIn i
 
 pick-plain : (t : Bool) (a b : Opcode) → PlainCode a → PlainCode b → PlainCode (pick t a b)
 unfolding pick
@@ -180,18 +207,18 @@ opcode-plain b =
 
 instruction-straight : (s : List ℕ) (i : ℕ) (o : Opcode) → PlainCode o → Holds (instructionOf s i o) Straight
 unfolding instructionOf target goesOn returnKind
-instruction-straight s i OpAconstNull h = record { nowhere = refl; on = λ _. refl }
-instruction-straight s i OpSipush h = record { nowhere = refl; on = λ _. refl }
-instruction-straight s i (OpLoad k) h = record { nowhere = refl; on = λ _. refl }
-instruction-straight s i (OpStore k) h = record { nowhere = refl; on = λ _. refl }
-instruction-straight s i OpPop h = record { nowhere = refl; on = λ _. refl }
-instruction-straight s i OpDup h = record { nowhere = refl; on = λ _. refl }
-instruction-straight s i (OpArithmetic o) h = record { nowhere = refl; on = λ _. refl }
-instruction-straight s i OpGetfield h = record { nowhere = refl; on = λ _. refl }
-instruction-straight s i OpPutfield h = record { nowhere = refl; on = λ _. refl }
-instruction-straight s i OpInvokevirtual h = record { nowhere = refl; on = λ _. refl }
-instruction-straight s i OpNew h = record { nowhere = refl; on = λ _. refl }
-instruction-straight s i (OpReturn k) h = record { nowhere = refl; on = λ e. absurd (Option·none-ne-some k (sym e)) }
+instruction-straight s i OpAconstNull h = record { nowhere = refl; on = λ _. refl; early = tt }
+instruction-straight s i OpSipush h = record { nowhere = refl; on = λ _. refl; early = tt }
+instruction-straight s i (OpLoad k) h = record { nowhere = refl; on = λ _. refl; early = tt }
+instruction-straight s i (OpStore k) h = record { nowhere = refl; on = λ _. refl; early = tt }
+instruction-straight s i OpPop h = record { nowhere = refl; on = λ _. refl; early = tt }
+instruction-straight s i OpDup h = record { nowhere = refl; on = λ _. refl; early = tt }
+instruction-straight s i (OpArithmetic o) h = record { nowhere = refl; on = λ _. refl; early = h }
+instruction-straight s i OpGetfield h = record { nowhere = refl; on = λ _. refl; early = tt }
+instruction-straight s i OpPutfield h = record { nowhere = refl; on = λ _. refl; early = tt }
+instruction-straight s i OpInvokevirtual h = record { nowhere = refl; on = λ _. refl; early = tt }
+instruction-straight s i OpNew h = record { nowhere = refl; on = λ _. refl; early = tt }
+instruction-straight s i (OpReturn k) h = record { nowhere = refl; on = λ e. absurd (Option·none-ne-some k (sym e)); early = tt }
 instruction-straight s i (OpBranch c) h = absurd h
 instruction-straight s i OpUnknown h = tt
 

@@ -4,20 +4,22 @@ use mathlib.Core.Option.{some, Option·none-ne-some}
 use mathlib.Core.List.{List, [], _∷_}
 use Prim.Native.Nat.{ℕ, _<_}
 use lib.ListN.{getElem?}
+use Rattle.definition.specs.declared.Operator.{Operator}
+use Rattle.definition.specs.declared.Operator.the-variants.{Add, Subtract, Multiply, Divide}
 use Rattle.definition.specs.declared.Instruction.{Instruction}
 use Rattle.definition.specs.declared.Instruction.the-variants.{AconstNull, Sipush, Load, Store, Pop, Dup, Arithmetic, Getfield, Putfield, Invokevirtual, New, Return, Branch}
 use Rattle.definition.specs.Numbers.{taskLimit}
 use Rattle.definition.specs.Classes.{Base, Class}
 use Rattle.definition.specs.Constraints.{World}
 use Rattle.definition.specs.Instructions.{Decoded}
-use Rattle.definition.specs.Machine.{Value, emptyValue, intValue, nullValue, objectValue, unlistedValue, Object, Objects, Frame, object!, Progress, give, execute, step}
+use Rattle.definition.specs.Machine.{Value, emptyValue, intValue, nullValue, objectValue, unlistedValue, Object, Objects, Frame, compute, object!, Progress, give, execute, step}
 use Rattle.definition.specs.Verifier.{target}
 use Rattle.definition.specs.Loading.{started}
 use Rattle.definition.specs.Answers.{Result, _>>=_}
-use Rattle.first.specs.Machine.{firstObject!, FirstProgress, firstGive, firstExecute, firstStep, firstStarted}
+use Rattle.first.specs.Machine.{firstObject!, firstCompute, FirstProgress, firstGive, firstExecute, firstStep, firstStarted}
 use Rattle.first.specs.SameObjects.{SameObjects, same-existing, same-next, same-room, same-made, same-changed}
 use Rattle.first.specs.Likewise.{Likewise, after, after-in}
-use Rattle.first.specs.SameFiles.{Old, Straight}
+use Rattle.first.specs.SameFiles.{Old, Early, Straight}
 use Rattle.first.specs.SameBases.{same-now, now-straight}
 
 -- today's progress, but for the objects
@@ -39,6 +41,14 @@ then o = after SameProgress o o refl
 then-by : {A : Type 0} (o p : Result A) → o ≡ p → (f : A → Result FirstProgress) (g : A → Result Progress)
     → ((a : A) → Likewise SameProgress (f a) (g a)) → Likewise SameProgress (o >>= f) (p >>= g)
 then-by = after SameProgress
+
+-- sum and difference are as they were
+same-compute : (o : Operator) → Early o → (a b : ℕ) → firstCompute o a b ≡ compute o a b
+unfolding firstCompute compute
+same-compute Add e a b = refl
+same-compute Subtract e a b = refl
+same-compute Multiply e a b = absurd e
+same-compute Divide e a b = absurd e
 
 module _ (os : List Object) (qs : Objects) (h : SameObjects os qs) where
   same-receiver : (b : Base) (e : ℕ) (v : Value) → firstObject! b os e v ≡ object! b qs e v
@@ -63,7 +73,7 @@ module _ (os : List Object) (qs : Objects) (h : SameObjects os qs) where
     same-execute (Store kind j) z = then _ _ _ (λ p. then _ _ _ (λ _. then _ _ _ (λ _. record { rest = refl; objects = h })))
     same-execute Pop z = then _ _ _ (λ p. record { rest = refl; objects = h })
     same-execute Dup z = then _ _ _ (λ _. then _ _ _ (λ p. record { rest = refl; objects = h }))
-    same-execute (Arithmetic o) z = then _ _ _ (λ p. then _ _ _ (λ q. then _ _ _ (λ b. then _ _ _ (λ a. then _ _ _ (λ n. record { rest = refl; objects = h })))))
+    same-execute (Arithmetic o) z = then _ _ _ (λ p. then _ _ _ (λ q. then _ _ _ (λ b. then _ _ _ (λ a. then-by _ _ (same-compute o (z .early) a b) _ _ (λ n. record { rest = refl; objects = h })))))
     same-execute (Getfield c n t) z =
         then _ _ _ (λ e. then _ _ _ (λ _. then _ _ _ (λ _. then _ _ _ (λ (p : Popped).
         then-by _ _ (same-receiver (w .base) e (p .top)) _ _ (λ o. then _ _ _ (λ j. then _ _ _ (λ v. record { rest = refl; objects = h })))))))
