@@ -16,11 +16,11 @@ use Rattle.definition.specs.Superclasses.{Below}
 use Rattle.definition.specs.declared.Kind.{Kind}
 use Rattle.definition.specs.declared.Kind.the-variants.{IntKind, ReferenceKind}
 use Rattle.definition.specs.declared.Operator.{Operator}
-use Rattle.definition.specs.declared.Operator.the-variants.{Add, Subtract}
+use Rattle.definition.specs.declared.Operator.the-variants.{Add, Subtract, Multiply, Divide}
 use Rattle.definition.specs.Verifier.{Flow, Note, VerifierType, flow, meetInt, meetKind, pop, typeClass, typeInt, typeNull, typeOfName}
 use Rattle.laws.specs.Agreement.{super-falls}
 use Rattle.laws.specs.Options.{bind-some, each-at}
-use Rattle.laws.specs.Results.{Wp, not-word, wp-need, wp-sure, wp-there}
+use Rattle.laws.specs.Results.{Wp, not-word, wp-bind, wp-need, wp-sure, wp-there}
 use Rattle.laws.specs.Upward.{true-below}
 use Rattle.safety.specs.Conform.{fits-below}
 use Rattle.safety.specs.Places.{agrees-after, of-int}
@@ -91,9 +91,14 @@ kind-of w os l t v h = go (eqb t 1) h
 
 -- an operator isn't stuck
 pub wp-compute : {B : Type 0} (Q : B → Type 0) (o : Operator) (a b : ℕ) (f : ℕ → Result B) → ((n : ℕ) → Wp (f n) Q) → Wp (compute o a b >>= f) Q
-unfolding compute _>>=_
-wp-compute Q Add a b f h = h _
-wp-compute Q Subtract a b f h = h _
+unfolding compute
+wp-compute Q o a b f h = wp-bind Q (compute o a b) f (go o)
+  where
+    go : (o : Operator) → Wp (compute o a b) (λ n. Wp (f n) Q)
+    go Add = h _
+    go Subtract = h _
+    go Multiply = h _
+    go Divide = wp-need (λ n. Wp (f n) Q) _ _ _ (not-word 17 (omega arith)) (λ _. h _)
 
 pub wp-room : {B : Type 0} (Q : B → Type 0) (vs : List Value) (f : Unit {0} → Result B) → Wp (f tt) Q → Wp (room! vs >>= f) Q
 unfolding room!
