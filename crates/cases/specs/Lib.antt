@@ -4,4 +4,5 @@ pub mod Computed
 pub mod Proved
 pub mod Sweeps
 pub mod Branches
+pub mod Rates
 pub mod Tried
