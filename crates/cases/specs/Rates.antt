@@ -32,18 +32,19 @@ use Rattle.cases.specs.Computed.{rowsBefore, rowsAfter, answeredRows, si
 use Rattle.cases.specs.Proved.{right}
 use Rattle.cases.specs.Branches.{class2, later}
 
--- local 1, then n, then one operator, whose result is given back
+-- local 1 and n under an operator, whose result is given back
 unfoldable pub with : ℕ → ℕ → List ℕ
 with n o = 0x15 ∷ 1 ∷ 0x11 ∷ two n ++ (o ∷ 0xAC ∷ [])
 
--- local 1 by itself
+-- local 1 times itself
 unfoldable pub squared : List ℕ
 squared = 0x15 ∷ 1 ∷ 0x15 ∷ 1 ∷ 0x68 ∷ 0xAC ∷ []
 
--- class 10 of version 2 whose method 20 has that code, started with v and up to its operator or its return
+-- v divided by n in a file of version 2, up to its idiv
 unfoldable pub dividing : ℕ → ℕ → List Call
 dividing v n = ready ++ callDefine 1 (later 1 (with n 0x6C) 0 []) ∷ callStart 0 1 10 20 v ∷ callRun 2 ∷ []
 
+-- and past it
 unfoldable pub divided : ℕ → ℕ → List Call
 divided v n = dividing v n ++ callRun 1 ∷ []
 
@@ -64,7 +65,7 @@ rates =
     -- in version 1 both are unknown opcodes
     ∷ case 5 ready [] [] [] (callDefine 1 (coded squared)) (no 6) [] true
     ∷ case 5 ready [] [] [] (callDefine 1 (coded (with 2 0x6C))) (no 6) [] true
-    -- two ints, and an int for them: too few operands, and this for an int, are rejected
+    -- one operand alone, and a reference for an int, are rejected
     ∷ case 6 ready [] [] [] (callDefine 1 (later 1 (0x15 ∷ 1 ∷ 0x68 ∷ 0xAC ∷ []) 0 [])) (no 6) [] true
     ∷ case 6 ready [] [] [] (callDefine 1 (later 1 (0x19 ∷ 0 ∷ 0x15 ∷ 1 ∷ 0x6C ∷ 0xAC ∷ []) 0 [])) (no 6) [] true
     ∷ []

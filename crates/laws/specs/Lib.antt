@@ -35,4 +35,6 @@ pub mod Runs
 pub mod Turns
 pub mod Tasks
 pub mod Refused
+pub mod Ints
+pub mod Quotients
 pub mod Rates

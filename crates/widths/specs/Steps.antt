@@ -24,7 +24,7 @@ use Rattle.definition.specs.Instructions.{Decoded, pick}
 use Rattle.definition.specs.Verifier.{pop}
 use Rattle.definition.specs.Machine.{Value, emptyValue, intValue, nullValue, objectValue, unlistedValue, Object, Frame, existing, initialValue, newObject, entryFrame, pop!, compute, jumps, object!, Progress, Now, now, past, give, execute, step, ObjectRow, free, owned, Objects, objectHeld, unused, made, rewritten, changed}
 use Rattle.laws.specs.Wrapped.{Ok, then}
-use Rattle.laws.specs.Rates.{bits-below}
+use Rattle.laws.specs.Ints.{bits-below}
 use Rattle.layout.specs.Tests.{All, all-both}
 use Rattle.unbroken.specs.Steps.{all-set}
 use Rattle.widths.specs.Below.{all-map}
