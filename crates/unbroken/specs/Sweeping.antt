@@ -294,6 +294,11 @@ pub record Turns (t : Tables) (f : Frame) (fs : List Frame) (n : Now) : Type 0 w
   pub frames : running (view t .quote) (view t .report) ≡ f ∷ fs
   pub reads : now (worldOf (view t)) f ≡ ok n
 
+-- the frames that a step leaves its task
+pub progressed-frames : (j : ℕ) (r : Rows) (o : Progress) → framesIn j (progressed j r o) ≡ o .frames
+progressed-frames zero r o = refl
+progressed-frames (suc j) r o = refl
+
 abbrev Made : Tables → Frame → List Frame → Now → Rows → Type 0
 Made t f fs n s =
     Takes (turn (view t)) (view t .objects) (s .objects) (unused (view t .objects))
@@ -319,11 +324,7 @@ new-takes t f fs n c k r i = shown Refused stepRows (λ a s. a ≡ Ran k → Mad
         let rows : progressed j (view t) (a .0) ≡ g .rows = ap (λ (x : Given Answer). x .rows) (ok-inj (a .2)) in
         subst (λ (x : ℕ). Takes x (view t .objects) (g .rows .objects) (unused (view t .objects)) × (framesIn x (g .rows) ≡ past f (n .at) (objectValue (unused (view t .objects)) ∷ f .operands) (f .locals) ∷ fs)) (sym q)
         (subst (λ (s : Rows). Takes j (view t .objects) (s .objects) (unused (view t .objects)) × (framesIn j s ≡ past f (n .at) (objectValue (unused (view t .objects)) ∷ f .operands) (f .locals) ∷ fs)) rows
-        (m .0, frames-are j (a .0) ∙ m .1))
-      where
-        frames-are : (j : ℕ) (o : Progress) → framesIn j (progressed j (view t) o) ≡ o .frames
-        frames-are zero o = refl
-        frames-are (suc j) o = refl
+        (m .0, progressed-frames j (view t) (a .0) ∙ m .1))
 
     go : (q p : List Frame) → view t .quote ≡ q → view t .report ≡ p → running q p ≡ f ∷ fs → (g : Given Answer) → stepOn q p (worldOf (view t)) (view t) ≡ ok g → Made t f fs n (g .rows)
     go (h ∷ hs) p x y z g e = task 0 (ap turnOf x) g (subst (λ (us : List Frame). stepOn us p (worldOf (view t)) (view t) ≡ ok g) z e)
