@@ -1,4 +1,4 @@
--- Rates, paper 4, on tables. A step is refused with 17 exactly if it divides by 0 (`divisor-refused`, `refused-divisor`), changes nothing and is refused so again (`divisor-again`). An operator that
+-- Rates, paper 4, on tables. A step is refused with 17 exactly if it divides by 0 (`divisor-refused`, `refused-divisor`); such a step changes nothing and is refused so again (`divisor-again`). An operator that
 -- lacks an operand or finds one that is no int is refused with 14 first (`operator-stuck`); else what it makes of the two, where it doesn't refuse, stands in their place (`operator-runs`).
 use mathlib.Core.Path.{_≡_, refl, sym, ap, _∙_}
 use mathlib.Core.Logic.{_≢_}
