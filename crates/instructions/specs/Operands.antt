@@ -20,7 +20,7 @@ use Rattle.definition.specs.Machine.{Value, emptyValue, intValue, nullValue, ob
 use Rattle.definition.specs.Tables.{valueOf, operandAt, frameAt, frameOf, frameBase, frameIn}
 use Rattle.layout.specs.Places.{rows-at, rows-past, stack-length, stack-top}
 
-positive : (d : ℕ) → d ≢ 0 → 0 < d
+pub positive : (d : ℕ) → d ≢ 0 → 0 < d
 positive zero h = absurd (h refl)
 positive (suc d) h = omega arith
 

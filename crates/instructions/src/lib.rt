@@ -1,7 +1,10 @@
 // Instructions that touch their own frame alone, and returns: each function decides on the frame's cells and answers a plan.
+mod ints; // ints.rt: products and quotients of ints, by their bits
+
 ghost use mathlib.Core.Path.{_≡_};
 ghost use mathlib.Core.List.{List};
 ghost use Prim.Native.Nat.{ℕ};
+ghost use Rattle.definition.specs.Answers.{ok};
 ghost use Rattle.definition.specs.Machine.{compute};
 ghost use Rattle.instructions.specs.Plans.{computed, jumped, FrameOnly, Returning};
 ghost use Rattle.instructions.specs.Operands.{isReference, isOfKind, isKind, roomBelow};
@@ -16,6 +19,7 @@ use definition::numbers::KIND_OBJECT;
 use definition::numbers::LOCAL_COUNT;
 use definition::numbers::NAME_INT;
 use definition::numbers::OPERAND_LIMIT;
+use definition::numbers::WORD_DIVISOR;
 use definition::numbers::WORD_FULL;
 use definition::numbers::WORD_STUCK;
 use frames::Cell;
@@ -184,25 +188,33 @@ pub fn dup(frames: &[u32], top: Top) -> Plan
     Plan::Above(d, v)
 }
 
+// An int above d operands.
+fn int_above(d: u32, n: u32) -> Plan
+    ensures { λ r. ⌜ r ≡ computed d (ok n) ⌝ }
+{
+    Plan::Above(
+        d,
+        Cell {
+            kind: KIND_INT,
+            bits: n,
+        },
+    )
+}
+
 // What an operator makes of the ints x and y, above d operands.
 fn compute(o: Operator, d: u32, x: u32, y: u32) -> Plan
     ensures { λ r. ⌜ r ≡ computed d (compute o x y) ⌝ }
 {
     match o {
-        Operator::Add => Plan::Above(
-            d,
-            Cell {
-                kind: KIND_INT,
-                bits: std::num::wrapping_add_u32(x, y),
-            },
-        ),
-        Operator::Subtract => Plan::Above(
-            d,
-            Cell {
-                kind: KIND_INT,
-                bits: std::num::wrapping_sub_u32(x, y),
-            },
-        ),
+        Operator::Add => int_above(d, std::num::wrapping_add_u32(x, y)),
+        Operator::Subtract => int_above(d, std::num::wrapping_sub_u32(x, y)),
+        Operator::Multiply => int_above(d, ints::product(x, y)),
+        Operator::Divide => {
+            if y == 0 {
+                return refuse(WORD_DIVISOR);
+            }
+            int_above(d, ints::quotient(x, y))
+        }
     }
 }
 

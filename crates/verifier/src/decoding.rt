@@ -4,7 +4,7 @@ ghost use mathlib.Core.Option.{some};
 ghost use Prim.Native.Nat.{_+_, _≤_};
 ghost use lib.ListN.{length};
 ghost use Rattle.definition.specs.Instructions.{opcodeOf, inlineLength, shortAt, signatureAt, extend, instructionOf, sizedAs, decode};
-ghost use Rattle.verifier.specs.Decoding.{branchOf, readingOf};
+ghost use Rattle.verifier.specs.Decoding.{laterOf, readingOf};
 use cells::short_at;
 use definition::Condition;
 use definition::Instruction;
@@ -20,14 +20,16 @@ pub enum Reading {
     Unreadable,
 }
 
-// The branches, which are there from version 2 on.
-fn branch_of(version: u8, b: u8) -> Opcode
-    ensures { λ r. ⌜ r ≡ branchOf version b ⌝ }
+// The opcodes that are there from version 2 on.
+fn later_of(version: u8, b: u8) -> Opcode
+    ensures { λ r. ⌜ r ≡ laterOf version b ⌝ }
 {
     if version < VERSION_TWO {
         return Opcode::OpUnknown;
     }
     match b {
+        0x68 => Opcode::OpArithmetic(Operator::Multiply),
+        0x6C => Opcode::OpArithmetic(Operator::Divide),
         0x99 => Opcode::OpBranch(Condition::IfZero),
         0xA1 => Opcode::OpBranch(Condition::IfLess),
         0xA7 => Opcode::OpBranch(Condition::Always),
@@ -35,7 +37,7 @@ fn branch_of(version: u8, b: u8) -> Opcode
     }
 }
 
-// The one decision over opcode bytes, by the version of the class's file: every version has these and its branches.
+// The one decision over opcode bytes, by the version of the class's file: every version has these; the later ones come with version 2.
 pub fn opcode_of(version: u8, b: u8) -> Opcode
     ensures { λ r. ⌜ r ≡ opcodeOf version b ⌝ }
 {
@@ -56,7 +58,7 @@ pub fn opcode_of(version: u8, b: u8) -> Opcode
         0xBB => Opcode::OpNew,
         0xAC => Opcode::OpReturn(Kind::IntKind),
         0xB0 => Opcode::OpReturn(Kind::ReferenceKind),
-        _ => branch_of(version, b),
+        _ => later_of(version, b),
     }
 }
 

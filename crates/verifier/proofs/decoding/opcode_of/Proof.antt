@@ -1,13 +1,13 @@
--- Each opcode byte is told from the others, and any other byte is a branch or unknown.
+-- Each opcode byte is told from the others, and any other byte is one of the later opcodes or unknown.
 use borrow.Author.Tests.{ne-eqb}
 use Rattle.definition.specs.Instructions.{pick, opcodeOf}
-use Rattle.verifier.specs.Decoding.{branchOf}
+use Rattle.verifier.specs.Decoding.{laterOf}
 use borrow.Author.Needs.{needs}
 use Rattle.verifier.proofs.decoding.opcode_of.Statement.{statement}
 use Rattle.verifier.proofs.decoding.opcode_of.Tie as tie
 
 returns-17 : tie.Need-returns-17
-unfolding opcodeOf branchOf pick
+unfolding opcodeOf laterOf pick
 returns-17 c =
     rw (
       ne-eqb _ _ (c .before .match .rest .0 .0 .0 .0 .0 .0 .0 .0 .0 .0 .0 .0 .0 .0 .0 .1),
@@ -27,7 +27,7 @@ returns-17 c =
       ne-eqb _ _ (c .before .match .rest .0 .1),
       ne-eqb _ _ (c .before .match .rest .1),
     )
-    (c .branch-of .ensures)
+    (c .later-of .ensures)
 
 pub opcode-of-spec : {M : Type 1} → statement M
 opcode-of-spec =
