@@ -189,14 +189,14 @@ pub fn dup(frames: &[u32], top: Top) -> Plan
 }
 
 // An int above d operands.
-fn int_above(d: u32, n: u32) -> Plan
-    ensures { λ r. ⌜ r ≡ computed d (ok n) ⌝ }
+fn int_above(d: u32, bits: u32) -> Plan
+    ensures { λ r. ⌜ r ≡ computed d (ok bits) ⌝ }
 {
     Plan::Above(
         d,
         Cell {
             kind: KIND_INT,
-            bits: n,
+            bits,
         },
     )
 }
