@@ -1,5 +1,6 @@
 -- Agreement over tables, the search behind it, and what posting writes.
 pub mod Agreement
+pub mod Linking
 pub mod Nodes
 pub mod Joining
 pub mod Groups

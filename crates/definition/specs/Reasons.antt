@@ -144,13 +144,16 @@ pub record Tried : Type 0 where
   pub count : ℕ
   pub list : List ℕ
 
+abbrev pub tries : Reply → ℕ → List ℕ → Tried
+tries a n out = record { answer = a; count = n; list = out }
+
 abbrev pub unlisted : Reply → List ℕ → Tried
-unlisted a out = record { answer = a; count = 0; list = out }
+unlisted a out = tries a 0 out
 
 -- the chain's numbers stand first in the list, which is else as it was
 unfoldable pub listed : Reply → Option (List ℕ) → List ℕ → Tried
 listed a none out = unlisted a out
-listed a (some ns) out = record { answer = a; count = length ns; list = writeRows set ns 0 out }
+listed a (some ns) out = tries a (length ns) (writeRows set ns 0 out)
 
 -- the store that a load would leave, were it not for agreement: its entry and its constraints included
 
