@@ -30,24 +30,13 @@ use Rattle.constraints.specs.Linking.{numbersFit, reasonIn}
 use Rattle.constraints.specs.Laws.{within, agree-store}
 use Rattle.entries.specs.World.{worldIn, numbersIn, baseWith, Searchable, Loadable}
 use Rattle.entries.specs.Entering.{Entered}
-use Rattle.entries.proofs.Laws.{copied}
+use Rattle.entries.proofs.Laws.{written-front, copied}
 
 -- the cache with one more row
 pub entries-more : (t : List ℕ) (n l m c : ℕ) → suc n * 3 ≤ length t
     → rows (entryAt (putThree t n l m c)) (n + 1) 0 ≡ rows (entryAt t) n 0 ++ (entry l m c ∷ [])
 unfolding putEntry
 entries-more t n l m c h = ap (λ (k : ℕ). rows (entryAt (putThree t n l m c)) k 0) (add-one n) ∙ rows-after-last entry-rows t n (entry l m c) h
-
--- a cell of a table with the cells of another written over its front, as far as it has room
-front : (xs : List ℕ) (j i : ℕ) (t : List ℕ) → i < length xs → j + i < length t → getD (writeRows set xs j t) (j + i) 0 ≡ getD xs i 0
-unfolding writeRows
-front [] j i t l h = absurd (omega arith)
-front (x ∷ xs) j zero t l h =
-    let z : j + 0 ≡ j = omega arith in
-    rw z (getD-set-same (writeRows set xs (suc j) t) j x 0 (omega (arith, writeRows-length set length-set xs (suc j) t)))
-front (x ∷ xs) j (suc i) t l h =
-    let z : j + suc i ≡ suc j + i = omega arith in
-    rw z (getD-set-other (writeRows set xs (suc j) t) j (suc j + i) x 0 (λ e. omega arith) ∙ front xs (suc j) i t (omega arith) (omega arith))
 
 -- Direct superclasses by a table
 
@@ -145,7 +134,7 @@ module _ (counts classes kept cache : List ℕ) (ready : Searchable counts class
 
   -- the counts that are copied: those of the classes, and of the entries with one more
   counted-front : (i : ℕ) → i < 8 → getD (writeRows set counts 0 zeros) i 0 ≡ getD counts i 0
-  counted-front i h = let z : 0 + i ≡ i = omega arith in rw z at (front counts 0 i zeros (omega (arith, ready .countsLong)) (omega arith))
+  counted-front i h = let z : 0 + i ≡ i = omega arith in rw z at (written-front counts 0 i zeros (omega (arith, ready .countsLong)) (omega arith))
 
   counted-classes : getD counted 0 0 ≡ getD counts 0 0
   counted-classes =
