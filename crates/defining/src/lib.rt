@@ -276,8 +276,8 @@ pub fn try_define(
     match plan {
         Defining::Refuse(r) => entries::unlisted(Reply::Denied(r)),
         Defining::Add(_, _, _) => {
-            let number = cells::at16(counts, COUNT_CLASSES) as u8;
-            entries::unlisted(Reply::Defined(number))
+            let class = cells::at16(counts, COUNT_CLASSES) as u8;
+            entries::unlisted(Reply::Defined(class))
         }
         Defining::Clash(under, p, tied, noted) => {
             let count = class_reason(

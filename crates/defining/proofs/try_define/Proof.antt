@@ -29,9 +29,9 @@ module _ (c : tie.After-decide-define) where
   abbrev store : Tables
   store = tables (now (start .args .counts)) (now (start .args .classes)) (now (start .args .kept)) (now (start .args .cache)) (now (start .args .ties)) (now (start .args .subtypes)) (now (start .args .objects)) (now (start .args .frames))
 
-cast-number : tie.Need-cast-number
+cast-class : tie.Need-cast-class
 unfolding Room
-cast-number c = let call = c .before .before .before .before .before in
+cast-class c = let call = c .before .before .before .before .before in
     let s = start call in
     let counts = now (s .args .counts) in
     let room : (getD counts 0 0 ≤ 64) × (getD counts 1 0 ≤ 16384) × (getD counts 2 0 ≤ 256) × (length (now (s .args .file)) ≤ 4096) =
@@ -65,4 +65,4 @@ returns-3 c = let p = c .before .before .before .before .before .before .before 
     ∙ try-clash (loadDefine (s .args .loader) (now (s .args .file))) (now (s .args .list)) (store call) (r .unbroken) (r .long) (r .refuses))
 
 pub try-define-spec : {M : Type 1} → statement M
-try-define-spec = tie.close (tie.spec (λ c. search needs) (λ c. search needs) (λ c κs. search needs) (λ c. search needs) (λ c κs. search needs) (λ c. search needs) (λ c κs. search needs) cast-number (λ c κs. search needs) (λ c. search needs) (λ c. search needs) (λ c. search needs) class-reason-requires returns returns-2 (λ c. search needs) returns-3)
+try-define-spec = tie.close (tie.spec (λ c. search needs) (λ c. search needs) (λ c κs. search needs) (λ c. search needs) (λ c κs. search needs) (λ c. search needs) (λ c κs. search needs) cast-class (λ c κs. search needs) (λ c. search needs) (λ c. search needs) (λ c. search needs) class-reason-requires returns returns-2 (λ c. search needs) returns-3)
