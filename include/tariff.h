@@ -16,13 +16,11 @@
 extern "C" {
 #endif
 
-/* How many cells each table has. With TARIFF_TRY the library has the two calls that try a load, and the counts have the numbers of rows. */
+/* How many cells each table has. With TARIFF_TRY the library has the two calls that try a load. */
 enum {
-#ifdef TARIFF_TRY
     TARIFF_COUNTS = 776,
+#ifdef TARIFF_TRY
     TARIFF_LIST = 512,      /* the least that a list has */
-#else
-    TARIFF_COUNTS = 264,
 #endif
     TARIFF_CLASSES = 192,
     TARIFF_KEPT = 16384,
@@ -34,7 +32,7 @@ enum {
     TARIFF_ANSWER = 6
 };
 
-/* A store in one piece, 69,008 bytes, with TARIFF_TRY 70,032. A program may as well keep its tables apart. */
+/* A store in one piece, 70,032 bytes. A program may as well keep its tables apart. */
 struct tariff_store {
     uint16_t counts[TARIFF_COUNTS];
     uint16_t classes[TARIFF_CLASSES];

@@ -113,9 +113,7 @@ static void damage(void)
     for (int t = TIES; t <= SUBTYPES; t++) {
         put_back(&first);
         set(COUNTS, t == TIES ? 3 : 4, 1);
-#ifdef TARIFF_TRY
         set(COUNTS, t == TIES ? TIE_NUMBERS : SUBTYPE_NUMBERS, 0);
-#endif
         set(t, 0, 16);
         for (int name = 1; name < CALLS; name++)
             refuses("a constraint of loader 16", each(name), TARIFF_BROKEN);
@@ -215,15 +213,11 @@ static void tie_by_a_step(void)
     accepts("loader 2 asks for it", record(2, 10, 1));
     defines("its caller", define(2, 13, 2, 0, 1, CODE(0xBB, 0, 10, 0x01, 0xB6, 0, 10, 0, 20, 0, 12, 0, 1, 0xAC)), 2);
     accepts("a quote", start(TARIFF_QUOTE, 2, 13, 20, 7));
-#ifdef TARIFF_TRY
     set(0, TIE_NUMBERS, 77);
-#endif
     keep(&first);
     expect("a call across loaders", run(9), 0, SIX(TARIFF_RAN_FOR, 0, TARIFF_FINISHED, TARIFF_QUOTE, 0, 5));
     check("its tie", ((uint16_t *)table[0])[3] == 1 && memcmp(table[4], tie, sizeof tie) == 0);
-#ifdef TARIFF_TRY
     check("its tie's number", ((uint16_t *)table[0])[TIE_NUMBERS] == 0);
-#endif
     put_back(&first);
     defines("loader 1's 12", define(1, 12, 2, 0, 0, 0, NULL), 3);
     defines("loader 2's 12", define(2, 12, 2, 0, 0, 0, NULL), 4);

@@ -8,11 +8,7 @@
 #include "desk.h"
 #include "tariff.h"
 
-#ifdef TARIFF_TRY
 _Static_assert(sizeof(struct tariff_store) == 70032, "a store's bytes, as published");
-#else
-_Static_assert(sizeof(struct tariff_store) == 69008, "a store's bytes, as published");
-#endif
 
 static int checked = 0;
 static int wrong = 0;
@@ -33,10 +29,8 @@ enum { TABLES = 8, ANSWER = 8, LIST = 9, LENT_TABLES = 10, PAGE = 4096 };
 /* Where the objects' owners stand among the counts. */
 enum { OWNERS = 8 };
 
-#ifdef TARIFF_TRY
 /* Where the numbers of ties and of subtype constraints stand among them. */
 enum { TIE_NUMBERS = 264, SUBTYPE_NUMBERS = 520 };
-#endif
 
 static const size_t width[] = {2, 2, 1, 2, 2, 2, 4, 4, 4, 2};
 static const size_t cells[] = {TARIFF_COUNTS, TARIFF_CLASSES, TARIFF_KEPT,   TARIFF_CACHE, TARIFF_TIES,

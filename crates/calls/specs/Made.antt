@@ -1,10 +1,13 @@
--- A call as code makes it is one of the definition's eight; a define's file is the bytes lent beside it.
+-- A call as code makes it is one of the definition's nine; a define's file, tried or not, is the bytes lent beside it.
+use mathlib.Core.Path.{_≡_}
 use mathlib.Core.List.{List}
 use Prim.Native.Nat.{ℕ}
+use lib.Dec.{ltb}
+use Rattle.definition.specs.Numbers.{listLimit}
 use Rattle.definition.specs.Calls as calls
-use Rattle.definition.specs.Calls.{callBoot, callDefine, callRecord, callStart, callStep, callRun, callDrop, callSweep}
+use Rattle.definition.specs.Calls.{callBoot, callDefine, callRecord, callStart, callStep, callRun, callDrop, callSweep, callTry, loadDefine, loadRecord}
 pub use Rattle.calls.specs.declared.Call.{Call}
-pub use Rattle.calls.specs.declared.Call.the-variants.{Boot, Define, Record, Start, Step, Run, Drop, Sweep}
+pub use Rattle.calls.specs.declared.Call.the-variants.{Boot, Define, Record, Start, Step, Run, Drop, Sweep, TryDefine, TryRecord}
 
 unfoldable pub callOf : Call → List ℕ → calls.Call
 callOf Boot bs = callBoot
@@ -15,3 +18,9 @@ callOf Step bs = callStep
 callOf (Run n) bs = callRun n
 callOf (Drop k) bs = callDrop k
 callOf Sweep bs = callSweep
+callOf (TryDefine l n) bs = callTry (loadDefine l bs) n
+callOf (TryRecord l m c n) bs = callTry (loadRecord l m c) n
+
+-- a list of m numbers serves a try as one of n does: both are too short, or neither is
+abbrev pub Serves : ℕ → ℕ → Type 0
+Serves m n = ltb m listLimit ≡ ltb n listLimit

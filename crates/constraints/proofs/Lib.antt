@@ -4,9 +4,17 @@ pub mod Renaming
 pub mod Edges
 pub mod Filling
 pub mod Rooting
+pub mod Named
 pub mod Agreeing
 pub mod Marking
 pub mod Searching
 pub mod Supers
 pub mod Pairing
+pub mod Spreading
+pub mod Choices
 pub mod Posted
+pub mod Turns
+pub mod Linked
+pub mod Writing
+pub mod Bridges
+pub mod Finding

@@ -80,7 +80,7 @@ chain-up : (L : List Link) {a b : Request} → Chain (edgesOf L) a b → (qs : L
 chain-up L (stay e) = ([], [], e)
 chain-up L {a} (hop {b} {c} k m) = let r = chain-up L k in let l = edge-link L _ m in (r .0 ++ (c ∷ []), r .1 ++ (l .0 ∷ []), up-on L a (r .0) (r .1) b c (l .0) (r .2) (l .1))
 
-up-more : (L M : List Link) (a : Request) (qs : List Request) (ns : List ℕ) (b : Request) → ((l : Link) → List·Memᴰ l L → List·Memᴰ l M) → Upward L a qs ns b → Upward M a qs ns b
+pub up-more : (L M : List Link) (a : Request) (qs : List Request) (ns : List ℕ) (b : Request) → ((l : Link) → List·Memᴰ l L → List·Memᴰ l M) → Upward L a qs ns b → Upward M a qs ns b
 up-more L M a [] [] b s u = u
 up-more L M a [] (n ∷ ns) b s u = absurd u
 up-more L M a (q ∷ qs) [] b s u = absurd u
@@ -94,7 +94,7 @@ behind L a (q ∷ qs) [] b x u m = absurd u
 behind L a (q ∷ qs) (n ∷ ns) b x u (List·Memᴰ·head e) = (qs, ns, rw e (u .1), omega arith)
 behind L a (q ∷ qs) (n ∷ ns) b x u (List·Memᴰ·tail m) = let r = behind L q qs ns b x (u .1) m in (r .0, r .1, r .2, omega (arith, r .3))
 
-least-distinct : (L : List Link) (a : Request) (qs : List Request) (ns : List ℕ) (b : Request) → Upward L a qs ns b
+pub least-distinct : (L : List Link) (a : Request) (qs : List Request) (ns : List ℕ) (b : Request) → Upward L a qs ns b
     → ((ps : List Request) (ms : List ℕ) → Upward L a ps ms b → length ns ≤ length ms) → Distinct (a ∷ qs)
 least-distinct L a [] ns b u h = (λ m. List·Memᴰ·not-nil m, tt)
 least-distinct L a (q ∷ qs) [] b u h = absurd u
@@ -104,7 +104,7 @@ least-distinct L a (q ∷ qs) (n ∷ ns) b u h = (
 )
 
 -- each request past the first is where a link leads, and they are as many as the rows
-up-ends : (L : List Link) (a : Request) (qs : List Request) (ns : List ℕ) (b : Request) → Upward L a qs ns b → (length qs ≡ length ns) × ((x : Request) → List·Memᴰ x qs → List·Memᴰ x (map (λ (l : Link). l .edge .to) L))
+pub up-ends : (L : List Link) (a : Request) (qs : List Request) (ns : List ℕ) (b : Request) → Upward L a qs ns b → (length qs ≡ length ns) × ((x : Request) → List·Memᴰ x qs → List·Memᴰ x (map (λ (l : Link). l .edge .to) L))
 up-ends L a [] [] b u = (refl, λ x m. absurd (List·Memᴰ·not-nil m))
 up-ends L a [] (n ∷ ns) b u = absurd u
 up-ends L a (q ∷ qs) [] b u = absurd u

@@ -30,7 +30,7 @@ module _ {before : ℕ → ℕ → Bool} (order : Order before) where
 
   -- the first difference decides
 
-  later-head : (n m : ℕ) (ns ms : List ℕ) → before m n ≡ true → NotBefore (n ∷ ns) (m ∷ ms)
+  pub later-head : (n m : ℕ) (ns ms : List ℕ) → before m n ≡ true → NotBefore (n ∷ ns) (m ∷ ms)
   unfolding precedes
   later-head n m ns ms h = rw (order .onlyOne m n h, h, precedes) refl
 
@@ -82,7 +82,7 @@ module _ {before : ℕ → ℕ → Bool} (order : Order before) where
       go (inr a) (inl b) f = absurd (false≢true (sym (itself m) ∙ rw (a .0) at b))
       go (inr a) (inr b) f = λ i. a .0 i ∷ f (a .1) (b .1) i
 
-  before-not : (ns ms : List ℕ) → precedes before ns ms ≡ true → NotBefore ms ns
+  pub before-not : (ns ms : List ℕ) → precedes before ns ms ≡ true → NotBefore ms ns
   unfolding precedes
   before-not [] [] h = refl
   before-not [] (m ∷ ms) h = refl

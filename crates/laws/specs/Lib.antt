@@ -8,6 +8,7 @@ pub mod Tests
 pub mod Earlier
 pub mod Clashes
 pub mod Chosen
+pub mod Found
 pub mod Listed
 pub mod Growth
 pub mod Slots

@@ -1,11 +1,10 @@
--- Laws that the proofs of the tests share: of joined tests, of a value's cells, of files, of sizes, of the verdict and of numbers in turn.
+-- Laws that the proofs of the tests share: of joined tests, of a value's cells, of files, of sizes and of the verdict.
 use mathlib.Core.Path.{_≡_, refl, sym, ap, subst, _∙_}
-use mathlib.Core.Bool.{Bool, true, false, not, false≢true}
+use mathlib.Core.Bool.{Bool, true, false, not}
 use mathlib.Core.Option.{Option, none, some}
 use mathlib.Core.List.{List, [], _∷_}
 use Prim.Native.Nat.{ℕ, zero, suc, _+_, _*_, _-_, _≤_, _<_}
 use native.Mathlib.Omega.{arith}
-use native.Mathlib.Numerals.{add-one}
 use lib.ListN.{length, length-replicate, getD, replicate, set}
 use lib.Seq.{ext-getD, getD-set-same, getD-set-other}
 use lib.Dec.{eqb, leb, ltb}
@@ -15,11 +14,11 @@ use Rattle.definition.specs.Lists.{every, all, isSome, rows, stack}
 use Rattle.definition.specs.Instructions.{pick}
 use Rattle.definition.specs.Classes.{Base, superOf}
 use Rattle.definition.specs.Machine.{Value, emptyValue, intValue, nullValue, objectValue, unlistedValue, Object}
-use Rattle.definition.specs.Tables.{Tables, ClassRow, sizeOf, viewBase, valueOf, numberAt, classRowAt, usedFields, objectAt, ownedBy, ownerAt, objectRowAt, localAt, operandAt, frameOf, frameAt}
-use Rattle.definition.specs.Broken.{isObject, next, others, inTurn, numbered, broken}
+use Rattle.definition.specs.Tables.{Tables, ClassRow, sizeOf, viewBase, valueOf, classRowAt, usedFields, objectAt, ownedBy, ownerAt, objectRowAt, localAt, operandAt, frameOf, frameAt}
+use Rattle.definition.specs.Broken.{isObject, broken}
 use Rattle.laws.specs.Agreement.{super-falls}
 use Rattle.layout.specs.Tests.{every-true}
-use Rattle.layout.specs.Places.{rows-getD, rows-length, rows-none, rows-step, rows-start, stack-length}
+use Rattle.layout.specs.Places.{rows-getD, rows-length, stack-length}
 use Rattle.layout.specs.Unbroken.{within-true}
 use Rattle.classfile.specs.Lists.{every-first, every-fails, every-last}
 use Rattle.classfile.specs.Reading.{fieldCount}
@@ -28,7 +27,7 @@ use Rattle.resolution.specs.Slots.{size-none, size-some, own-size, slots-past}
 use Rattle.resolution.specs.Unbroken.{part-none, quick-base}
 use Rattle.store.specs.declared.Fields.{Fields}
 use Rattle.store.specs.declared.Fields.the-variants.{Count, Unfit}
-use Rattle.store.specs.Checks.{fileFits, sourcesFit, linked, linkedSize, Blank, Sized, sizedObject, objectSized, exists, valueIn, localIn, objectIn, frameFit, linksFit, numbersFit, valuesFit, readable, checks, sizesOf, Measured}
+use Rattle.store.specs.Checks.{fileFits, sourcesFit, linked, linkedSize, Blank, Sized, sizedObject, objectSized, exists, valueIn, localIn, objectIn, frameFit, linksFit, valuesFit, readable, checks, sizesOf, Measured}
 use Rattle.store.specs.Same.{sources-first, checks-broken, zeros-at}
 
 -- Whether an object exists
@@ -326,48 +325,3 @@ pub measured : (t : Tables) (sizes : List ℕ) (v : Bool) → broken t ≡ false
 measured t sizes v h e s l =
     let sized = subst (λ (b : Base). Sized b (getD (t .counts) 0 0) sizes) (quick-base t h) (s (e ∙ unbroken-linked t h)) in
     record { verdict = sym h; fields = sizes-unbroken t sizes h sized l; sized = λ q. sized }
-
--- Numbers in turn: the next number, of n, is looked for in the rows from t on of one table and from s on of the other
-
--- a row that has it is one of them
-pub next-there : (k : ℕ) (g : ℕ → ℕ) (n i : ℕ) → next k (rows g (n - i) i) ≡ true → i < n
-unfolding next
-next-there k g n i h = either i n (λ l. l) (λ l. absurd (false≢true (sym (ap (next k) (rows-none g n i l)) ∙ h)))
-
-others-rows : (g : ℕ → ℕ) (n i : ℕ) → i < n → others (rows g (n - i) i) ≡ rows g (n - (i + 1)) (i + 1)
-unfolding others
-others-rows g n i l = rw (rows-step g n i l)
-
-module _ (f g : ℕ → ℕ) (a b n k t s : ℕ) (l : k < n) where
-  abbrev ts : List ℕ
-  ts = rows f (a - t) t
-
-  abbrev ss : List ℕ
-  ss = rows g (b - s) s
-
-  turn-step : inTurn (n - k) k ts ss ≡ inTurn (suc (n - (k + 1))) k ts ss
-  turn-step = let e : n - k ≡ suc (n - (k + 1)) = omega arith in ap (λ (m : ℕ). inTurn m k ts ss) e
-
-  pub turn-tie : next k ts ≡ true → inTurn (n - k) k ts ss ≡ inTurn (n - (k + 1)) (k + 1) (rows f (a - (t + 1)) (t + 1)) ss
-  unfolding inTurn
-  turn-tie h = turn-step ∙ rw (h, inTurn, others-rows f a t (next-there k f a t h), add-one k)
-
-  pub turn-subtype : next k ts ≡ false → next k ss ≡ true → inTurn (n - k) k ts ss ≡ inTurn (n - (k + 1)) (k + 1) ts (rows g (b - (s + 1)) (s + 1))
-  unfolding inTurn
-  turn-subtype e h = turn-step ∙ rw (e, h, inTurn, others-rows g b s (next-there k g b s h), add-one k)
-
-  pub turn-neither : next k ts ≡ false → next k ss ≡ false → inTurn (n - k) k ts ss ≡ false
-  unfolding inTurn
-  turn-neither e h = turn-step ∙ rw (e, h, inTurn)
-
-pub turn-end : (n k : ℕ) (ts ss : List ℕ) → n ≤ k → inTurn (n - k) k ts ss ≡ true
-unfolding inTurn
-turn-end n k ts ss l = let e : n - k ≡ 0 = omega arith in rw e
-
--- before the first
-pub turn-start : (c : List ℕ) (a b n : ℕ) → a ≡ getD c 3 0 → b ≡ getD c 4 0 → n ≡ a + b
-    → inTurn (n - 0) 0 (rows (numberAt 264 c) (a - 0) 0) (rows (numberAt 520 c) (b - 0) 0) ≡ numbersFit c
-unfolding numbersFit numbered
-turn-start c a b n e f q =
-    let z : n - 0 ≡ getD c 3 0 + getD c 4 0 = omega arith in
-    rw (z, rows-start (numberAt 264 c) a, rows-start (numberAt 520 c) b, e, f, rows-length (numberAt 264 c) (getD c 3 0) 0, rows-length (numberAt 520 c) (getD c 4 0) 0)

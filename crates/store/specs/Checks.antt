@@ -12,8 +12,9 @@ use Rattle.definition.specs.Lists.{every, all, isSome, rows, stack}
 use Rattle.definition.specs.Classes.{Base, superOf}
 use Rattle.definition.specs.Machine.{Value, emptyValue, intValue, nullValue, objectValue, unlistedValue, Object, ObjectRow, free, owned, Frame}
 use Rattle.definition.specs.File.{readFile}
-use Rattle.definition.specs.Tables.{Tables, shaped, ClassRow, rowNumbers, numberAt, classRowAt, entryAt, tieAt, subtypeAt, fieldAt, ownedBy, ownerAt, objectRowAt, frameIn, sizeOf, viewBase}
-use Rattle.definition.specs.Broken.{within, isObject, entryFits, tieFits, subtypeFits, numbered, broken}
+use Rattle.definition.specs.Tables.{Tables, shaped, ClassRow, classRowAt, entryAt, tieAt, subtypeAt, fieldAt, ownedBy, ownerAt, objectRowAt, frameIn, sizeOf, viewBase}
+use Rattle.definition.specs.Broken.{within, isObject, entryFits, tieFits, subtypeFits, broken}
+use Rattle.constraints.specs.Linking.{numbersFit}
 use Rattle.classfile.specs.Reading.{partOf}
 use Rattle.resolution.specs.Quick.{quickOf}
 use Rattle.store.specs.declared.Fields.{Fields}
@@ -85,10 +86,6 @@ unfoldable pub frameFit : ℕ → (ℕ → Bool) → Frame → Bool
 frameFit n X f = every (ltb (f .class) n ∷ leb (length (f .operands)) 16 ∷ all (valueIn X) (f .operands) ∷ all (localIn X) (f .locals) ∷ [])
 
 -- The rows of a store
-
--- the numbers of the used rows are in turn
-unfoldable pub numbersFit : List ℕ → Bool
-numbersFit counts = numbered (rowNumbers (rows (numberAt 264 counts) (getD counts 3 0) 0) (rows (numberAt 520 counts) (getD counts 4 0) 0))
 
 unfoldable pub rowsFit : List ℕ → List ℕ → List ℕ → List ℕ → Bool
 rowsFit counts cache ties subtypes = every

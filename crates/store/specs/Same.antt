@@ -19,13 +19,14 @@ use Rattle.layout.specs.Whole.{First, ClassSound, Classes, fits-classes, classe
 use Rattle.layout.specs.View.{object-there, object-past, object-free}
 use Rattle.layout.specs.Unbroken.{within-true}
 use Rattle.layout.specs.ReadBack.{shaped-true}
+use Rattle.constraints.specs.Linking.{numbersFit}
 use Rattle.classfile.specs.Reading.{quickFile, partOf}
 use Rattle.classfile.specs.Laws.{reads-some}
 use Rattle.classfile.specs.Searches.{file-part}
 use Rattle.classfile.specs.Lists.{every-first, every-fails}
 use Rattle.resolution.specs.Quick.{either}
 use Rattle.resolution.specs.Unbroken.{Sources, part-same, part-within, part-reads, quick-view, row-first, row-other}
-use Rattle.store.specs.Checks.{fileFits, sourcesFit, linked, linksFit, number, exists, valueIn, localIn, objectIn, frameFit, numbersFit, rowsFit, objectsFit, framesFit, valuesFit, readable, checks}
+use Rattle.store.specs.Checks.{fileFits, sourcesFit, linked, linksFit, number, exists, valueIn, localIn, objectIn, frameFit, rowsFit, objectsFit, framesFit, valuesFit, readable, checks}
 
 -- Values: an object exists exactly if its row has been used and has an owner
 

@@ -3,7 +3,6 @@ use crate::Fields;
 use crate::Sizes;
 use crate::counts::are_within;
 use crate::counts::is_shaped;
-use crate::numbers::numbers_fit;
 use crate::sources::rows_fit;
 use crate::sources::sources_fit;
 use crate::values::frames_fit;
@@ -121,7 +120,7 @@ fn is_readable(
     if !are_within(counts) {
         return false;
     }
-    if !numbers_fit(counts) {
+    if !constraints::numbers_fit(counts) {
         return false;
     }
     if !sources_fit(counts, classes, kept) {

@@ -1,7 +1,6 @@
 // Word 1: whether tables are no store. Lengths, counts and the numbers of rows are tested first, then the classes' files; after that classes are read at once, and
 // superclasses, sizes, rows and values are tested, each used row once.
 mod counts; // counts.rt: lengths of the tables, and counts within their limits
-mod numbers; // numbers.rt: the numbers of ties and subtype constraints
 mod sources; // sources.rt: classes with their files, entries and constraints
 mod values; // values.rt: values of objects' fields and of frames
 mod brokenness; // brokenness.rt: superclasses, whether a store is broken, and the sizes of its classes

@@ -4,8 +4,8 @@ use borrow.Author.Needs.{needs}
 use Rattle.definition.specs.Broken.{next}
 use Rattle.definition.specs.Tables.{numberAt}
 use Rattle.layout.specs.Places.{rows-none, rows-step}
-use Rattle.store.proofs.numbers.is_next.Statement.{statement}
-use Rattle.store.proofs.numbers.is_next.Tie as tie
+use Rattle.constraints.proofs.numbers.is_next.Statement.{statement}
+use Rattle.constraints.proofs.numbers.is_next.Tie as tie
 
 returns : tie.Need-returns
 unfolding next

@@ -8,7 +8,7 @@ ghost use Prim.Native.Nat.{_-_};
 ghost use Rattle.definition.specs.Lists.{rows};
 ghost use Rattle.definition.specs.Tables.{numberAt};
 ghost use Rattle.definition.specs.Broken.{next};
-ghost use Rattle.store.specs.Checks.{numbersFit};
+ghost use Rattle.constraints.specs.Linking.{numbersFit};
 
 // Where the numbers of each table begin, in 16 bits.
 const TIE_NUMBERS: u16 = TIE_NUMBERS_CELL as u16;
@@ -26,7 +26,7 @@ fn is_next(counts: &[u16], first: u16, n: u16, i: u16, k: usize) -> bool
 }
 
 // Each number is looked for once in each table, so at most 512 rows are read, a store's counts being within their limits.
-pub(crate) fn numbers_fit(counts: &[u16]) -> bool
+pub fn numbers_fit(counts: &[u16]) -> bool
     ensures { λ r. ⌜ r ≡ numbersFit (now (counts .entry)) ⌝ }
 {
     let ties = cells::at16(counts, COUNT_TIES);
