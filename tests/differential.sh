@@ -17,8 +17,7 @@ TARIFF_SECONDS=${1:-0} compare "$PWD/../target/staticlib" static=host,static=des
 
 mirror=$PWD/target/mirror/release
 cargo build --offline --release --quiet -p mirror --target-dir target/mirror
-# the mirror has the calls that try a load, the libraries don't yet
-mirrored() { compare "$mirror" dylib=tariff 40 --target-dir target/mirror --features tries >"$log" 2>&1; }
+mirrored() { compare "$mirror" dylib=tariff 40 --target-dir target/mirror >"$log" 2>&1; }
 mirrored || { cat "$log"; exit 1; }
 tables="mirror/src/faults.rs mirror/src/mapped.rs mirror/src/tried.rs src/gen/plain.rs"
 # shellcheck disable=SC2086
