@@ -20,12 +20,10 @@ ghost use mathlib.Core.Path.{_≡_};
 ghost use mathlib.Core.Bool.{true};
 ghost use Prim.Native.Nat.{_≤_};
 ghost use lib.ListN.{length, getD, set};
-ghost use Rattle.definition.specs.Numbers.{cacheLimit, tieLimit, subtypeLimit, countCache, countTies, countSubtypes};
 ghost use Rattle.definition.specs.declared.Reply.{Reply};
 ghost use Rattle.definition.specs.Lists.{rows, writeRows};
 ghost use Rattle.definition.specs.Reasons.{tries, listed};
 ghost use Rattle.constraints.specs.Nodes.{placeLimit};
-ghost use Rattle.constraints.specs.Agreement.{atMost};
 ghost use Rattle.constraints.specs.Choosing.{held, Holds};
 ghost use Rattle.constraints.specs.Linking.{numbersFit, reasonIn};
 

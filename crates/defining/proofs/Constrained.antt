@@ -6,7 +6,7 @@ use mathlib.Core.List.{List, [], _∷_, _++_}
 use Prim.Native.Nat.{ℕ, suc, _+_, _*_, _-_, _≤_, _<_}
 use native.Mathlib.Omega.{arith}
 use lib.ListN.{length, getD, set, take, drop, length-append, length-take, List·getD-append, length-set}
-use lib.Seq.{set-out, take-set-le, take-set-lt, take-at, take-all}
+use lib.Seq.{set-out, take-set-le, take-set-lt, take-at}
 use lib.Dec.{leb, ltb}
 use borrow.Author.Tests.{leb-true, leb-false, ltb-true, ltb-false, le-leb}
 use Rattle.definition.specs.declared.Refusal.the-variants.{Word}
@@ -15,7 +15,7 @@ use Rattle.definition.specs.Requests.{at}
 use Rattle.definition.specs.Classes.{Base, Class, find, slots}
 use Rattle.definition.specs.Constraints.{World, Tie, Subtype, agrees}
 use Rattle.definition.specs.Verifier.{Note}
-use Rattle.definition.specs.Answers.{Result, refused, ok, _>>=_, need}
+use Rattle.definition.specs.Answers.{Result, refused, _>>=_, need}
 use Rattle.definition.specs.Loading.{overrideTies, withClass}
 use Rattle.definition.specs.File.{classOf}
 use Rattle.definition.specs.Tables.{tieAt, putTie, subtypeAt, putSubtype, entryAt, classRowAt}

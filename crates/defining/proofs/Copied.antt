@@ -1,12 +1,11 @@
 -- A class tried on copies: what they hold, whether the store with the class agrees by them, and why not.
 use mathlib.Core.Path.{_≡_, refl, sym, ap, _∙_}
 use mathlib.Core.Bool.{Bool, true}
-use mathlib.Core.Option.{Option, some}
+use mathlib.Core.Option.{some}
 use mathlib.Core.List.{List, [], _∷_}
 use Prim.Native.Nat.{ℕ, _+_, _<_, _≤_}
 use native.Mathlib.Omega.{arith}
 use lib.ListN.{length, getD, set, length-set}
-use Rattle.definition.specs.Numbers.{tieNumbersCell}
 use Rattle.definition.specs.Lists.{rows, writeRows}
 use Rattle.definition.specs.Requests.{at}
 use Rattle.definition.specs.Classes.{Base, Class, find}

@@ -10,7 +10,7 @@ use Rattle.definition.specs.Lists.{writeRows}
 use Rattle.definition.specs.Tables.{tables, putThree}
 use Rattle.definition.specs.Calls.{done}
 use Rattle.entries.proofs.Offers.{offered-whole}
-use Rattle.defining.specs.Writing.{numbersOn, classWritten, defineDone, Room, Grows, Grown}
+use Rattle.defining.specs.Writing.{numbersOn, classWritten, defineDone, Room, Grows}
 use borrow.Author.Needs.{needs}
 use Rattle.defining.proofs.define.Statement.{statement}
 use Rattle.defining.proofs.define.Tie as tie

@@ -1,5 +1,5 @@
 -- The copies hold the new ties and subtype constraints; limits and agreement are tested of them.
-use mathlib.Core.Path.{_≡_, refl, sym, ap, _∙_}
+use mathlib.Core.Path.{_≡_, sym, ap, _∙_}
 use native.Mathlib.Omega.{arith}
 use denote.Ref.{now}
 use lib.ListN.{length, set, length-set}
@@ -8,7 +8,6 @@ use Rattle.definition.specs.Answers.{number}
 use Rattle.layout.specs.Places.{writeRows-length}
 use Rattle.classfile.specs.Reading.{quickFile}
 use Rattle.defining.specs.Stages.{Decided}
-use Rattle.defining.proofs.Posted.{posted-long}
 use Rattle.defining.proofs.Constrained.{posted-full, TiesMade, ties-made, posted-roomless, room-there, posted-clash, posted-fine}
 use borrow.Author.Needs.{needs}
 use Rattle.defining.proofs.constraining.decide_constraints.Statement.{statement}
