@@ -1,5 +1,6 @@
 // The calls of the machine for a host program in C. Each takes the eight tables, the call's numbers or file, and a table of six cells
-// for the answer: the kind of the reply, the refusal's number, three details as a script's line prints them, and the count of steps that ran.
+// for the answer: the kind of the reply, the refusal's number, three details as a script's line prints them, and the count of steps that ran,
+// or of a tried load the length of the chain that it listed.
 use definition::Reply;
 use definition::Trial;
 ghost use mathlib.Core.Path.{_≡_};
