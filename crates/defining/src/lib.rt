@@ -279,25 +279,19 @@ pub fn try_define(
             let class = cells::at16(counts, COUNT_CLASSES) as u8;
             entries::unlisted(Reply::Defined(class))
         }
-        Defining::Clash(under, p, tied, noted) => {
-            let count = class_reason(
-                counts,
-                classes,
-                kept,
-                cache,
-                under,
-                file,
-                p,
-                &new_ties,
-                tied,
-                &new_subtypes,
-                noted,
-                list,
-            );
-            Trial {
-                reply: Reply::Denied(Refusal::Word(WORD_CLASH)),
-                count: count,
-            }
-        }
+        Defining::Clash(under, p, tied, noted) => class_reason(
+            counts,
+            classes,
+            kept,
+            cache,
+            under,
+            file,
+            p,
+            &new_ties,
+            tied,
+            &new_subtypes,
+            noted,
+            list,
+        ),
     }
 }

@@ -1,6 +1,9 @@
 // A class that is to be defined, tried on copies: whether the store with it agrees, and why not.
 use crate::numbering::write_counts;
 use cells::at16;
+use definition::Refusal;
+use definition::Reply;
+use definition::Trial;
 use definition::numbers::CACHE_LENGTH;
 use definition::numbers::CLASS_LIMIT;
 use definition::numbers::COUNT_CACHE;
@@ -8,13 +11,15 @@ use definition::numbers::COUNT_CLASSES;
 use definition::numbers::COUNT_KEPT;
 use definition::numbers::COUNTS_LENGTH;
 use definition::numbers::OWNERS_CELL;
+use definition::numbers::WORD_CLASH;
 ghost use mathlib.Core.Path.{_≡_};
 ghost use mathlib.Core.Bool.{true};
 ghost use mathlib.Core.Option.{some};
 ghost use Prim.Native.Nat.{_<_, _≤_};
 ghost use lib.ListN.{getD};
-ghost use Rattle.definition.specs.Numbers.{classLimit, cacheLimit, tieLimit, subtypeLimit, countClasses, countCache};
-ghost use Rattle.definition.specs.declared.Reply.{Reply};
+ghost use Rattle.definition.specs.Numbers.{wordClash, classLimit, cacheLimit, tieLimit, subtypeLimit, countClasses, countCache};
+ghost use Rattle.definition.specs.declared.Refusal.the-variants.{Word};
+ghost use Rattle.definition.specs.declared.Reply.the-variants.{Denied};
 ghost use Rattle.definition.specs.Lists.{rows};
 ghost use Rattle.definition.specs.Tables.{tieAt, subtypeAt};
 ghost use Rattle.definition.specs.Broken.{numbered};
@@ -104,8 +109,8 @@ pub(crate) fn class_agrees(
     )
 }
 
-// Why the store with the file's class, below p, and with the rows of these tables doesn't agree: the numbers of a chain's rows, written into the list. Answers how
-// many. New rows are numbered on behind the stored ones.
+// The answer of a clash, where the store with the file's class, below p, and with the rows of these tables doesn't agree: why, by the numbers of a chain's rows,
+// written into the list, and how many. New rows are numbered on behind the stored ones.
 pub(crate) fn class_reason(
     counts: &[u16],
     classes: &[u16],
@@ -119,9 +124,9 @@ pub(crate) fn class_reason(
     subtypes: &[u16],
     noted: u16,
     list: &mut [u16],
-) -> u16
+) -> Trial
     requires { ⌜ Searchable (now counts) (now classes) (now kept) (now cache) × (getD (now counts) countClasses 0 < classLimit) × (getD (now counts) countCache 0 < cacheLimit) × Grown (now counts) tied noted × (find (quickBase (now counts) (now classes) (now kept) (now cache) .cache) (at loader (superName (now file))) ≡ some p) × (numbered (numbersAfter (now counts) tied noted) ≡ true) ⌝ }
-    ensures { λ r. ⌜ ((a : Reply) → tries a r (now (list .exit)) ≡ listed a (reason (world (baseWith (quickBase (now (counts .entry)) (now (classes .entry)) (now (kept .entry)) (now (cache .entry))) (classOf loader (quickFile (now (file .entry))))) (rows (tieAt (now (ties .entry))) tied 0) (rows (subtypeAt (now (subtypes .entry))) noted 0)) (numbersAfter (now (counts .entry)) tied noted)) (now (list .entry))) ⌝ }
+    ensures { λ r. ⌜ tries (r .reply) (r .count) (now (list .exit)) ≡ listed (Denied (Word wordClash)) (reason (world (baseWith (quickBase (now (counts .entry)) (now (classes .entry)) (now (kept .entry)) (now (cache .entry))) (classOf loader (quickFile (now (file .entry))))) (rows (tieAt (now (ties .entry))) tied 0) (rows (subtypeAt (now (subtypes .entry))) noted 0)) (numbersAfter (now (counts .entry)) tied noted)) (now (list .entry)) ⌝ }
 {
     let mut counted = [0u16; COUNTS_LENGTH];
     let mut trial = [0u16; CACHE_LENGTH];
@@ -142,5 +147,9 @@ pub(crate) fn class_reason(
     let end = at16(&counted, COUNT_KEPT);
     let entries = at16(&counted, COUNT_CACHE);
     write_counts(&mut counted, &[class, end, entries, tied, noted]);
-    constraints::reason(&supers, &counted, &trial, ties, subtypes, list)
+    let count = constraints::reason(&supers, &counted, &trial, ties, subtypes, list);
+    Trial {
+        reply: Reply::Denied(Refusal::Word(WORD_CLASH)),
+        count: count,
+    }
 }

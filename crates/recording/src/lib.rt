@@ -25,12 +25,13 @@ ghost use mathlib.Core.Path.{_≡_};
 ghost use mathlib.Core.Bool.{true};
 ghost use Prim.Native.Nat.{_<_};
 ghost use lib.ListN.{getD};
-ghost use Rattle.definition.specs.Numbers.{cacheLimit, countCache};
+ghost use Rattle.definition.specs.Numbers.{wordClash, cacheLimit, countCache};
 ghost use Rattle.definition.specs.Requests.{at};
 ghost use Rattle.definition.specs.Constraints.{agrees};
 ghost use Rattle.definition.specs.Loading.{withEntry};
 ghost use Rattle.definition.specs.Tables.{tables};
-ghost use Rattle.definition.specs.declared.Reply.{Reply};
+ghost use Rattle.definition.specs.declared.Refusal.the-variants.{Word};
+ghost use Rattle.definition.specs.declared.Reply.the-variants.{Denied};
 ghost use Rattle.definition.specs.Broken.{numbered};
 ghost use Rattle.definition.specs.Calls.{done, loadRecord, callRecord, perform};
 ghost use Rattle.definition.specs.Reasons.{reason, tries, listed, tryLoad};
@@ -89,7 +90,7 @@ fn entry_agrees(
     )
 }
 
-// Why the store with one more entry doesn't agree: the numbers of a chain's rows, written into the list. Answers how many.
+// The answer of a clash, where the store with one more entry doesn't agree: why, by the numbers of a chain's rows, written into the list, and how many.
 fn entry_reason(
     counts: &[u16],
     classes: &[u16],
@@ -101,9 +102,9 @@ fn entry_reason(
     name: u16,
     class: u16,
     list: &mut [u16],
-) -> u16
+) -> Trial
     requires { ⌜ Loadable (now counts) (now classes) (now kept) (now cache) (now ties) (now subtypes) × (getD (now counts) countCache 0 < cacheLimit) × (numbered (numbersIn (now counts)) ≡ true) ⌝ }
-    ensures { λ r. ⌜ ((a : Reply) → tries a r (now (list .exit)) ≡ listed a (reason (withEntry (worldIn (now (counts .entry)) (now (classes .entry)) (now (kept .entry)) (now (cache .entry)) (now (ties .entry)) (now (subtypes .entry))) (at loader name) class) (numbersIn (now (counts .entry)))) (now (list .entry))) ⌝ }
+    ensures { λ r. ⌜ tries (r .reply) (r .count) (now (list .exit)) ≡ listed (Denied (Word wordClash)) (reason (withEntry (worldIn (now (counts .entry)) (now (classes .entry)) (now (kept .entry)) (now (cache .entry)) (now (ties .entry)) (now (subtypes .entry))) (at loader name) class) (numbersIn (now (counts .entry)))) (now (list .entry)) ⌝ }
 {
     let mut counted = [0u16; COUNTS_LENGTH];
     let mut trial = [0u16; CACHE_LENGTH];
@@ -120,7 +121,11 @@ fn entry_reason(
         &mut trial,
         &mut supers,
     );
-    constraints::reason(&supers, &counted, &trial, ties, subtypes, list)
+    let count = constraints::reason(&supers, &counted, &trial, ties, subtypes, list);
+    Trial {
+        reply: Reply::Denied(Refusal::Word(WORD_CLASH)),
+        count: count,
+    }
 }
 
 // The entry of a class that bears the name.
@@ -301,23 +306,17 @@ pub fn try_record(
         Recording::Refuse(r) => entries::unlisted(Reply::Denied(r)),
         Recording::Keep => entries::unlisted(Reply::Accepted),
         Recording::Add(_, _, _) => entries::unlisted(Reply::Accepted),
-        Recording::Clash(under, own, number) => {
-            let count = entry_reason(
-                counts,
-                classes,
-                kept,
-                cache,
-                ties,
-                subtypes,
-                under,
-                own,
-                number,
-                list,
-            );
-            Trial {
-                reply: Reply::Denied(Refusal::Word(WORD_CLASH)),
-                count: count,
-            }
-        }
+        Recording::Clash(under, own, number) => entry_reason(
+            counts,
+            classes,
+            kept,
+            cache,
+            ties,
+            subtypes,
+            under,
+            own,
+            number,
+            list,
+        ),
     }
 }

@@ -60,7 +60,7 @@ returns-3 c = let p = c .before .before .before .before .before .before .before 
     let call = p .before .before .before .before in
     let s = start call in
     let r = clash-told _ _ _ _ (p .plan2 .given .1) (call .decide-define .ensures) in
-    c .before .before .class-reason .ensures (Denied (Word 9))
+    c .before .before .class-reason .ensures
     ∙ (ap (λ (o : Option (List ℕ)). listed (Denied (Word 9)) o (now (s .args .list))) (r .listed)
     ∙ try-clash (loadDefine (s .args .loader) (now (s .args .file))) (now (s .args .list)) (store call) (r .unbroken) (r .long) (r .refuses))
 

@@ -5,6 +5,8 @@ use mathlib.Core.List.{List}
 use Prim.Native.Nat.{ℕ}
 use native.Mathlib.Omega.{arith}
 use denote.Ref.{now}
+use Rattle.definition.specs.declared.Refusal.the-variants.{Word}
+use Rattle.definition.specs.declared.Reply.the-variants.{Denied}
 use Rattle.definition.specs.Reasons.{listed}
 use Rattle.entries.proofs.Trial.{entry-reasoned}
 use borrow.Author.Needs.{needs}
@@ -16,7 +18,7 @@ returns c = let told = c .before .before in
     let call = told .before .before .before .before .before .before .before .before in
     let start = call .before .before .before .before .before .before .before .before .before .before .before in
     let tried = call .try-entry .ensures in
-    λ a. told .reason .ensures a ∙ ap (λ (o : Option (List ℕ)). listed a o (now (start .args .list)))
+    told .reason .ensures (Denied (Word 9)) ∙ ap (λ (o : Option (List ℕ)). listed (Denied (Word 9)) o (now (start .args .list)))
     (entry-reasoned (now (start .args .counts)) (now (start .args .classes)) (now (start .args .kept)) (now (start .args .cache)) (start .pre .0 .base) (start .pre .1) _ _ _ _ _ _ _ 776 refl (omega arith) refl
     (tried .entered) _ _ refl (tried .above) _ _ refl (start .pre .0) (start .pre .2))
 

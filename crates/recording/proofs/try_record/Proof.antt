@@ -73,7 +73,7 @@ returns-4 : tie.Need-returns-4
 returns-4 c = let p = c .before .before .before .before .before in
     let s = start (p .before .before) in
     let e = the-entry p in
-    c .before .before .entry-reason .ensures (Denied (Word 9))
+    c .before .before .entry-reason .ensures
     ∙ (ap (λ (o : Option (List ℕ)). listed (Denied (Word 9)) o (now (s .args .list))) (entry-reason-after (store (p .before .before)) (broken-not p) _ _ _ _ _ _ (e .loader) (e .name) (e .class))
     ∙ try-clash (loadRecord (s .args .loader) (s .args .name) (s .args .class)) (now (s .args .list)) (store (p .before .before)) (broken-not p) (clashed p .1) (clashed p .2))
 

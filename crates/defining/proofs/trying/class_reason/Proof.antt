@@ -4,6 +4,8 @@ use mathlib.Core.Option.{Option}
 use mathlib.Core.List.{List}
 use Prim.Native.Nat.{ℕ}
 use denote.Ref.{now}
+use Rattle.definition.specs.declared.Refusal.the-variants.{Word}
+use Rattle.definition.specs.declared.Reply.the-variants.{Denied}
 use Rattle.definition.specs.Reasons.{listed}
 use Rattle.defining.proofs.Copied.{grown-kept, class-reason-as}
 use borrow.Author.Needs.{needs}
@@ -23,7 +25,7 @@ returns : tie.Need-returns
 returns c = let told = c .before .before in
     let call = told .before .before .before .before .before .before .before .before .before .before .before .before .before .before .before .before .before .before in
     let start = call .before .before .before .before .before .before .before .before .before .before .before .before in
-    λ a. told .reason .ensures a ∙ ap (λ (o : Option (List ℕ)). listed a o (now (start .args .list)))
+    told .reason .ensures (Denied (Word 9)) ∙ ap (λ (o : Option (List ℕ)). listed (Denied (Word 9)) o (now (start .args .list)))
     (class-reason-as (now (start .args .counts)) (now (start .args .classes)) (now (start .args .kept)) (now (start .args .cache)) (now (start .args .file)) (start .pre .0) (start .pre .1) (start .pre .2) _ _
     (start .pre .4) _ _ _ _ _ _ refl refl (call .try-class .ensures) refl _ _ (start .pre .3) _ _ _ (c .before .before .before .before .before .before .before .before .before .before .before .at163 .ensures) _ (c .before .before .before .before .before .before .before .before .write-counts .ensures) (start .pre .5) _ _)
 
