@@ -74,8 +74,9 @@ fn report(answer: &mut [u32], turn: u8, reply: Reply) -> u8
 fn report_trial(answer: &mut [u32], turn: u8, trial: Trial) -> u8
     ensures { λ r. ⌜ ((list : List ℕ) → now (answer .exit) ≡ writeRows set (triedCells turn (tries (trial .reply) (trial .count) list)) 0 (now (answer .entry))) × (r ≡ numberOf (trial .reply)) ⌝ }
 {
+    let reply = trial.reply;
     let count = trial.count;
-    let number = report(answer, turn, trial.reply);
+    let number = report(answer, turn, reply);
     cells::put32(answer, 5, cells::from16(count));
     number
 }
