@@ -8,14 +8,12 @@ use Prim.Native.Nat.{ℕ, zero, suc, _+_, _<_, _≤_}
 use native.Mathlib.Omega.{arith}
 use lib.ListN.{length, getD, set}
 use lib.Seq.{getD-set-same}
-use lib.Dec.{eqb, ltb}
-use borrow.Author.Tests.{eq-eqb, ne-eqb, lt-ltb, le-ltb, ltb-true, eqb-true, eqb-false}
+use lib.Dec.{ltb}
+use borrow.Author.Tests.{eq-eqb, ne-eqb, lt-ltb, le-ltb, ltb-true}
 use Rattle.definition.specs.Lists.{rows}
 use Rattle.definition.specs.Superclasses.{Below, Falls, below, same, up}
 use Rattle.definition.specs.Reasons.{precedes}
 use Rattle.laws.specs.Upward.{below-true, true-below}
-use Rattle.layout.specs.Tests.{same-test}
-use Rattle.constraints.specs.Nodes.{placeLimit}
 use Rattle.constraints.specs.Upward.{classOf}
 use Rattle.constraints.specs.Walks.{badOver, endsOver, InRange, Sole}
 use Rattle.constraints.specs.Choosing.{noSize, held, pick, NoBetter, OneSize, WalkFrom, Chosen, alone, consideredAlone, Alone, BestOf}

@@ -1,6 +1,6 @@
 -- The link breaks nothing by itself, its row is no lower than the one that is kept, or it is kept.
 use mathlib.Core.Logic.{inl, ⊎-elim}
-use mathlib.Core.Path.{refl, sym, _∙_}
+use mathlib.Core.Path.{refl}
 use native.Mathlib.Omega.{arith}
 use borrow.Author.Needs.{needs}
 use borrow.Author.Tests.{not-true, not-false}

@@ -1,6 +1,5 @@
 -- The class is the other or below it exactly if the next one upward is.
 use Prim.Native.Nat.{_-_}
-use mathlib.Core.Path.{sym, _∙_}
 use native.Mathlib.Omega.{arith}
 use borrow.Author.Needs.{needs}
 use Rattle.constraints.specs.Agreement.{superIn}
