@@ -1,6 +1,6 @@
-/* The eight calls from C: tables of wrong lengths, damaged stores, every word of refusal, numbers at their limits, answer tables of every
-   length, a run beside its steps, objects freed and their numbers used again, files of version 2; and the desk beside define. With
-   TARIFF_TRY also the two calls that try a load, for a library that has them. */
+/* The ten calls from C: tables of wrong lengths, damaged stores, every word of refusal, numbers at their limits, answer tables of every
+   length, a run beside its steps, objects freed and their numbers used again, files of version 2, loads tried on short and long lists, and the chains
+   of those that clash; and the desk beside define. */
 #define _GNU_SOURCE
 #include "host.h"
 
@@ -32,16 +32,12 @@ static struct call each(int name)
         run(65535),
         drop(TARIFF_QUOTE),
         sweep(),
-#ifdef TARIFF_TRY
         {.name = TRY_DEFINE},
         {.name = TRY_RECORD, .one = 2, .two = 10, .three = 1},
-#endif
     };
-#ifdef TARIFF_TRY
     /* the two files stand in one place, and are the same */
     calls[TRY_DEFINE] = calls[DEFINE];
     calls[TRY_DEFINE].name = TRY_DEFINE;
-#endif
     return calls[name];
 }
 
@@ -473,7 +469,6 @@ static void answer_tables(void)
     lend_all();
 }
 
-#ifdef TARIFF_TRY
 /* The try of a load. */
 static struct call tried(struct call load)
 {
@@ -638,15 +633,10 @@ static void trying(void)
     numbers();
     longest_chain();
 }
-#endif
 
 int main(void)
 {
-#ifdef TARIFF_TRY
     static const char *const names[] = {"boot", "define", "record", "start", "step", "run", "drop", "sweep", "try define", "try record", "check"};
-#else
-    static const char *const names[] = {"boot", "define", "record", "start", "step", "run", "drop", "sweep", "check"};
-#endif
     make_tables();
     booting();
     wrong_lengths();
@@ -663,9 +653,7 @@ int main(void)
     limits();
     runs_and_steps();
     answer_tables();
-#ifdef TARIFF_TRY
     trying();
-#endif
     printf("host: bytes of stack:");
     for (int i = 0; i < MEASURED; i++) {
         printf(" %s %zu", names[i], deepest[i]);

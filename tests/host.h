@@ -34,7 +34,7 @@ enum { TIE_NUMBERS = 264, SUBTYPE_NUMBERS = 520 };
 
 static const size_t width[] = {2, 2, 1, 2, 2, 2, 4, 4, 4, 2};
 static const size_t cells[] = {TARIFF_COUNTS, TARIFF_CLASSES, TARIFF_KEPT,   TARIFF_CACHE, TARIFF_TIES,
-                               TARIFF_SUBTYPES, TARIFF_OBJECTS, TARIFF_FRAMES, TARIFF_ANSWER, 512};
+                               TARIFF_SUBTYPES, TARIFF_OBJECTS, TARIFF_FRAMES, TARIFF_ANSWER, TARIFF_LIST};
 static uint8_t *memory[LENT_TABLES];
 static size_t room[LENT_TABLES];
 static void *table[LENT_TABLES];
@@ -111,11 +111,7 @@ static void make_tables(void)
 /* Calls */
 
 /* The calls on a store, and the desk's check, which takes none. */
-#ifdef TARIFF_TRY
 enum { BOOT, DEFINE, RECORD, START, STEP, RUN, DROP, SWEEP, TRY_DEFINE, TRY_RECORD, CALLS, CHECK = CALLS, MEASURED };
-#else
-enum { BOOT, DEFINE, RECORD, START, STEP, RUN, DROP, SWEEP, CALLS, CHECK = CALLS, MEASURED };
-#endif
 
 struct call {
     int name;
@@ -233,10 +229,8 @@ static uint8_t perform(const struct call *c)
     case STEP: return tariff_step(LENT, LEND(ANSWER));
     case RUN: return tariff_run(LENT, c->one, LEND(ANSWER));
     case SWEEP: return tariff_sweep(LENT, LEND(ANSWER));
-#ifdef TARIFF_TRY
     case TRY_DEFINE: return tariff_try_define(LENT, c->one, c->file, c->size, LEND(LIST), LEND(ANSWER));
     case TRY_RECORD: return tariff_try_record(LENT, c->one, c->two, c->three, LEND(LIST), LEND(ANSWER));
-#endif
     case CHECK: return tariff_check(c->file, c->size);
     default: return tariff_drop(LENT, c->one, LEND(ANSWER));
     }

@@ -106,11 +106,10 @@ fn both(ours: &mut Store, theirs: &mut Store, call: &Call, cells: usize, label: 
     reply
 }
 
-/// The tries of a load: on a list that is long enough, and on one that is longer or too short, in turn. A library without tries has none.
+/// The tries of a load: on a list that is long enough, and on one that is longer or too short, in turn.
 fn tries(load: &Call, turn: usize) -> Vec<Call> {
     let cells = [MOST_ROWS, [MOST_ROWS - 1, 600, 0, 1][turn % 4]];
-    let tried = cells.into_iter().filter_map(|cells| load.tried(cells));
-    tried.filter(|_| cfg!(feature = "tries")).collect()
+    cells.into_iter().filter_map(|cells| load.tried(cells)).collect()
 }
 
 /// What demand 3 says of a store from a boot, and what the call answered there.
@@ -287,8 +286,7 @@ impl Comparison {
     pub fn odd(&self) -> Vec<String> {
         let mut odd = Vec::new();
         let mut demand = |holds: bool, what: String| odd.extend((!holds).then_some(what));
-        let is_there = |call: &str| cfg!(feature = "tries") || !call.starts_with("try");
-        for ((call, words), (_, damage)) in FROM_A_BOOT.into_iter().zip(ONLY_DAMAGE).filter(|((call, _), _)| is_there(call)) {
+        for ((call, words), (_, damage)) in FROM_A_BOOT.into_iter().zip(ONLY_DAMAGE) {
             let (booted, damaged) = (self.booted.given(call), self.damaged.given(call));
             demand(booted == words, format!("{call} from a boot was given {booted:?}, not {words:?}"));
             let missing: Vec<_> = damage.iter().filter(|word| !damaged.contains(word)).collect();
@@ -302,11 +300,9 @@ impl Comparison {
         demand(self.booted.idle_opcodes().is_empty(), format!("never ran: {:?}", self.booted.idle_opcodes()));
         for (tally, what) in [(&self.booted, "from a boot"), (&self.damaged, "on damaged stores")] {
             demand(tally.unswept().is_empty(), format!("sweeps {what} never had {:?}", tally.unswept()));
-            let unreasoned = if cfg!(feature = "tries") { tally.unreasoned() } else { Vec::new() };
-            demand(unreasoned.is_empty(), format!("chains of clashes {what} never had {unreasoned:?}"));
+            demand(tally.unreasoned().is_empty(), format!("chains of clashes {what} never had {:?}", tally.unreasoned()));
         }
-        let calls = if cfg!(feature = "tries") { CALLS.len() } else { CALLS.len() - 2 };
-        demand(self.misshapen[..calls].iter().all(|&calls| calls > 0), format!("calls on misshapen tables: {:?}", self.misshapen));
+        demand(self.misshapen.iter().all(|&calls| calls > 0), format!("calls on misshapen tables: {:?}", self.misshapen));
         for ((what, _), &stores) in SHAPES.iter().zip(&self.shapes) {
             demand(stores > 0, format!("no damaged store has {what}"));
         }

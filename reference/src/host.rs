@@ -99,10 +99,6 @@ mod library {
         tariff_run(n: u32);
         tariff_drop(task: u32);
         tariff_sweep();
-    }
-
-    #[cfg(feature = "tries")]
-    declare! {
         tariff_try_define(loader: u32, file: *const u8, file_length: usize, list: *mut u16, list_length: usize);
         tariff_try_record(loader: u32, name: u32, class: u32, list: *mut u16, list_length: usize);
     }
@@ -142,16 +138,12 @@ mod library {
                 Call::Run { n } => lend!(tariff_run, store, answer, n),
                 Call::Drop { task } => lend!(tariff_drop, store, answer, task),
                 Call::Sweep => lend!(tariff_sweep, store, answer),
-                #[cfg(feature = "tries")]
                 Call::TryDefine { loader, ref file, .. } => {
                     lend!(tariff_try_define, store, answer, loader, file.as_ptr(), file.len(), list.as_mut_ptr(), list.len())
                 }
-                #[cfg(feature = "tries")]
                 Call::TryRecord { loader, name, class, .. } => {
                     lend!(tariff_try_record, store, answer, loader, name, class, list.as_mut_ptr(), list.len())
                 }
-                #[cfg(not(feature = "tries"))]
-                Call::TryDefine { .. } | Call::TryRecord { .. } => panic!("a library without tries, lent {} cells", list.len()),
             }
         }
     }

@@ -4,32 +4,17 @@ use reference::gen::Call;
 use reference::host::Told;
 use reference::Store;
 
-/// Makes the call on the store.
+/// Makes the call on the store, a try with this list.
 #[cfg(feature = "host")]
-pub fn make(call: &Call, store: &mut Store) -> Option<Told> {
+pub fn make(call: &Call, store: &mut Store, list: &mut [u16]) -> Option<Told> {
     let mut cells = [0; reference::host::CELLS];
-    let number = reference::host::make(call, store, &mut cells, &mut []);
+    let number = reference::host::make(call, store, &mut cells, list);
     Some(Told { number, cells })
 }
 
 #[cfg(not(feature = "host"))]
-pub fn make(_: &Call, _: &mut Store) -> Option<Told> {
+pub fn make(_: &Call, _: &mut Store, _: &mut [u16]) -> Option<Told> {
     None
-}
-
-/// Makes the call on the store, a try with this list: by the proved machine, if this build has one that tries loads.
-#[cfg(feature = "tries")]
-pub fn make_or_second(call: &Call, store: &mut Store, list: &mut [u16]) -> Told {
-    let mut cells = [0; reference::host::CELLS];
-    let number = reference::host::make(call, store, &mut cells, list);
-    Told { number, cells }
-}
-
-/// Makes the call on the store, a try with this list: by the second implementation, since this build has no machine that tries loads.
-#[cfg(not(feature = "tries"))]
-pub fn make_or_second(call: &Call, store: &mut Store, list: &mut [u16]) -> Told {
-    let turn = store.turn().unwrap_or(1) as u32;
-    reference::host::expected(call.apply_listing(store, list), turn)
 }
 
 /// The desk's number for a file.

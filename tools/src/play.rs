@@ -69,7 +69,7 @@ impl<'a> Play<'a> {
     pub fn run(source: &'a Source, lesson: &'a Lesson, show: Show, out: &'a mut dyn Write) -> io::Result<Outcome> {
         let outcome = Outcome { store: Store::zeros(), calls: 0, met: 0, failed: 0, reasons: 0, strip: Strip::default() };
         let mut play = Play { source, lesson, show, out, outcome, last: Last::Nothing };
-        play.make_call(&Call::Boot)
+        machine::make(&Call::Boot, &mut play.outcome.store, &mut [])
             .ok_or_else(|| io::Error::other("this build has no machine; use ./box"))?;
         for act in &lesson.acts {
             match act {
@@ -165,12 +165,6 @@ impl<'a> Play<'a> {
         }
     }
 
-    /// Makes the call on the lesson's store, if this build has a machine for it.
-    fn make_call(&mut self, call: &Call) -> Option<Told> {
-        let store = &mut self.outcome.store;
-        if self.show.why { Some(machine::make_or_second(call, store, &mut [])) } else { machine::make(call, store) }
-    }
-
     /// Says by which chain a load clashed, and draws it.
     fn say_why(&mut self, doing: &Doing, call: &Call, made: &mut Made) {
         let names = &self.lesson.names;
@@ -192,7 +186,7 @@ impl<'a> Play<'a> {
 
     fn call(&mut self, doing: &Doing, call: &Call, before: &Store, made: &mut Made) {
         let names = &self.lesson.names;
-        let Some(told) = self.make_call(call) else {
+        let Some(told) = machine::make(call, &mut self.outcome.store, &mut []) else {
             return;
         };
         let ran = rows::next_instruction(before, names);

@@ -24,7 +24,7 @@ pub struct Why {
 /// The chain of a load that clashes on this store; words for the reader if the list isn't one that breaks agreement.
 pub fn why(load: &Call, store: &Store) -> Option<Result<Why, String>> {
     let mut list = [0; MOST_ROWS];
-    let told = machine::make_or_second(&load.tried(MOST_ROWS)?, &mut store.clone(), &mut list);
+    let told = machine::make(&load.tried(MOST_ROWS)?, &mut store.clone(), &mut list)?;
     let (rows, plan) = (&list[..(told.cells[5] as usize).min(MOST_ROWS)], load.plan(store)?);
     if !load.is_reason(store, rows) {
         return Some(Err(format!("the machine lists the rows {rows:?}, which the second implementation takes for no reason")));

@@ -1,4 +1,4 @@
-//! Why loads clash, on the course's lessons: by the second implementation, or by a library that tries loads where this build has one.
+//! Why loads clash, on the course's lessons and by the proved machine: each load that clashes has its chain.
 
 mod common;
 

@@ -2,7 +2,7 @@
 -- request that links know. So what is chosen by ties and then by all links is the reason.
 use mathlib.Core.Path.{_≡_, refl, sym, ap, subst, _∙_}
 use mathlib.Core.Bool.{Bool, true, false, false≢true, _&&_}
-use mathlib.Core.Option.{Option, none, some, Option·none-ne-some, Option·some-injective}
+use mathlib.Core.Option.{Option, none, some, Option·some-injective}
 use mathlib.Core.List.{List, [], _∷_, _++_, List·Memᴰ, List·Memᴰ·head, List·Memᴰ·tail, List·Memᴰ·not-nil, Memᴰ·append-left, Memᴰ·append-right, List·Memᴰ·append-cases}
 use mathlib.Core.Logic.{_⊎_, inl, inr}
 use Prim.Native.Nat.{ℕ, zero, suc, _+_, _<_, _≤_}
@@ -24,7 +24,7 @@ use Rattle.laws.specs.Clashes.{Led, Leads, ClashingOver, other, notBelow}
 use Rattle.laws.specs.Found.{first-reason, none-reason}
 use Rattle.constraints.specs.Nodes.{requestOf, AllNumbered, First, NodesOf, ClassesOf}
 use Rattle.constraints.specs.Walks.{Walk, badOver, endsOver}
-use Rattle.constraints.specs.Choosing.{NoBetter, WalkFrom, Chosen}
+use Rattle.constraints.specs.Choosing.{NoBetter, WalkFrom, BestOf}
 use Rattle.constraints.specs.Linking.{Linked, Labelled}
 use Rattle.constraints.proofs.Rows.{rows-in}
 use Rattle.constraints.proofs.Edges.{forward, upward}
@@ -302,32 +302,26 @@ module _ {cache ties subtypes numbers : List ℕ} {n tied noted : ℕ} (put : Al
     unfolding badOver
     below-led ns l = l
 
-    abbrev ByTies : Option (List ℕ) → Option (List ℕ) → Type 0
-    ByTies = Chosen froms tos labels (tied + tied) classes n true sup
+    abbrev Best : Option (List ℕ) → Type 0
+    Best = BestOf froms tos labels (tied + tied) (tied + tied + noted) classes n sup
 
-    abbrev ByAll : Option (List ℕ) → Option (List ℕ) → Type 0
-    ByAll = Chosen froms tos labels (tied + tied + noted) classes n false sup
+    no-better : (new : Option (List ℕ)) → Best new → (ms : List ℕ) → ClashingOver sup theCache theTies (theTies ++ theSubtypes) ms → NoBetter new ms
+    no-better new b ms (inl l) = let r = leads-walk true sup tie-bridged ms (other-tied ms l) in b .ties (r .0) ms (r .1) (r .2)
+    no-better new b ms (inr l) = let r = leads-walk false sup any-bridged ms (below-led ms l) in b .all (r .0) ms (r .1) (r .2)
 
-    no-better : (mid new : Option (List ℕ)) → ByTies none mid → ByAll mid new → (ms : List ℕ) → ClashingOver sup theCache theTies (theTies ++ theSubtypes) ms → NoBetter new ms
-    no-better mid new a b ms (inl l) = let r = leads-walk true sup tie-bridged ms (other-tied ms l) in b .still ms (a .all (r .0) ms (r .1) (r .2))
-    no-better mid new a b ms (inr l) = let r = leads-walk false sup any-bridged ms (below-led ms l) in b .all (r .0) ms (r .1) (r .2)
-
-    clashes : (mid new : Option (List ℕ)) → ByTies none mid → ByAll mid new → (ns : List ℕ) → new ≡ some ns → ClashingOver sup theCache theTies (theTies ++ theSubtypes) ns
-    clashes mid new a b ns e = go (b .sound ns e)
+    clashes : (new : Option (List ℕ)) → Best new → (ns : List ℕ) → new ≡ some ns → ClashingOver sup theCache theTies (theTies ++ theSubtypes) ns
+    clashes new b ns e = go (b .sound ns e)
       where
-        first : (none ≡ some ns) ⊎ ((q : ℕ) × (q < n) × WalkFrom froms tos labels (tied + tied) classes n true sup q ns) → ClashingOver sup theCache theTies (theTies ++ theSubtypes) ns
-        first (inl q) = absurd (Option·none-ne-some ns q)
-        first (inr w) = inl (tied-other ns (walk-leads true sup tie-bridged (w .0) ns (w .1) (w .2)))
-
-        go : (mid ≡ some ns) ⊎ ((q : ℕ) × (q < n) × WalkFrom froms tos labels (tied + tied + noted) classes n false sup q ns) → ClashingOver sup theCache theTies (theTies ++ theSubtypes) ns
-        go (inl q) = first (a .sound ns q)
+        go : ((q : ℕ) × (q < n) × WalkFrom froms tos labels (tied + tied) classes n true sup q ns) ⊎ ((q : ℕ) × (q < n) × WalkFrom froms tos labels (tied + tied + noted) classes n false sup q ns)
+            → ClashingOver sup theCache theTies (theTies ++ theSubtypes) ns
+        go (inl w) = inl (tied-other ns (walk-leads true sup tie-bridged (w .0) ns (w .1) (w .2)))
         go (inr w) = inr (led-below ns (walk-leads false sup any-bridged (w .0) ns (w .1) (w .2)))
 
-    pub chosen-reason : (mid new : Option (List ℕ)) → ByTies none mid → ByAll mid new → new ≡ reasonOver ltb sup theCache theTies (theTies ++ theSubtypes)
-    chosen-reason mid none a b = sym (none-reason lower-first sup theCache theTies (theTies ++ theSubtypes) (no-better mid none a b))
-    chosen-reason mid (some ns) a b =
+    pub best-reason : (new : Option (List ℕ)) → Best new → new ≡ reasonOver ltb sup theCache theTies (theTies ++ theSubtypes)
+    best-reason none b = sym (none-reason lower-first sup theCache theTies (theTies ++ theSubtypes) (no-better none b))
+    best-reason (some ns) b =
         sym (first-reason lower-first sup theCache theTies (theTies ++ theSubtypes) (λ l m. Memᴰ·append-left theSubtypes m) ns (record {
-          clashes = clashes mid (some ns) a b ns refl;
-          least = λ ms c _. no-better mid (some ns) a b ms c .0;
-          notLater = λ ms c l. no-better mid (some ns) a b ms c .1 l;
+          clashes = clashes (some ns) b ns refl;
+          least = λ ms c _. no-better (some ns) b ms c .0;
+          notLater = λ ms c l. no-better (some ns) b ms c .1 l;
         }))

@@ -197,21 +197,21 @@ picked (some ns) t = go (eqb (length t) (length ns)) refl (ltb (length t) (lengt
         let l : length ns < length t = omega (arith, ltb-false (length t) (length ns) q) in
         inr (pick-longer ns t l, (omega arith, λ f. absurd (n f)))
 
-pick-new : (o : Option (List ℕ)) (t : List ℕ) → NoBetter (pick o t) t
+pub pick-new : (o : Option (List ℕ)) (t : List ℕ) → NoBetter (pick o t) t
 pick-new o t = go (picked o t)
   where
     go : Picked o t → NoBetter (pick o t) t
     go (inl p) = subst (λ (x : Option (List ℕ)). NoBetter x t) (sym (p .0)) (no-worse t)
     go (inr p) = subst (λ (x : Option (List ℕ)). NoBetter x t) (sym (p .0)) (p .1)
 
-pick-still : (o : Option (List ℕ)) (t ms : List ℕ) → NoBetter o ms → NoBetter (pick o t) ms
+pub pick-still : (o : Option (List ℕ)) (t ms : List ℕ) → NoBetter o ms → NoBetter (pick o t) ms
 pick-still o t ms b = go (picked o t)
   where
     go : Picked o t → NoBetter (pick o t) ms
     go (inl p) = subst (λ (x : Option (List ℕ)). NoBetter x ms) (sym (p .0)) (p .1 ms b)
     go (inr p) = subst (λ (x : Option (List ℕ)). NoBetter x ms) (sym (p .0)) b
 
-pick-from : (o : Option (List ℕ)) (t ns : List ℕ) → pick o t ≡ some ns → (o ≡ some ns) ⊎ (t ≡ ns)
+pub pick-from : (o : Option (List ℕ)) (t ns : List ℕ) → pick o t ≡ some ns → (o ≡ some ns) ⊎ (t ≡ ns)
 pick-from o t ns e = go (picked o t)
   where
     go : Picked o t → (o ≡ some ns) ⊎ (t ≡ ns)

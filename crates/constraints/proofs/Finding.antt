@@ -1,5 +1,5 @@
 -- What the two searches leave is why the store of the tables doesn't agree, and so is what is listed of it.
-use mathlib.Core.Path.{_≡_, refl, sym, ap, subst, _∙_}
+use mathlib.Core.Path.{_≡_, refl, sym, ap, _∙_}
 use mathlib.Core.Bool.{Bool, true, false}
 use mathlib.Core.Option.{Option, none, some}
 use mathlib.Core.List.{List, _++_}
@@ -17,9 +17,9 @@ use Rattle.definition.specs.Reasons.{tieLinks, subtypeLinks, reasonOver, tries,
 use Rattle.layout.specs.Places.{rows-length}
 use Rattle.constraints.specs.Agreement.{atMost, superIn}
 use Rattle.constraints.specs.Nodes.{placeLimit, AllNumbered, NodesOf, ClassesOf}
-use Rattle.constraints.specs.Choosing.{noSize, held, Holds, Chosen}
+use Rattle.constraints.specs.Choosing.{noSize, held, Holds, BestOf}
 use Rattle.constraints.specs.Linking.{Linked, Labelled, numbersFit, reasonIn}
-use Rattle.constraints.proofs.Bridges.{chosen-reason}
+use Rattle.constraints.proofs.Bridges.{best-reason}
 
 -- a count that is held to a limit is no more than it was
 pub at-most-low : (limit n : ℕ) → atMost limit n ≤ n
@@ -53,12 +53,11 @@ module _ {cache ties subtypes numbers : List ℕ} {n tied noted : ℕ} (put : Al
     (linked : Linked nodes n noted tied froms tos) (labelled : Labelled counts noted tied labels) where
   -- the searches by ties, from none on, and then by all links, leave the reason
   pub held-reason : (supers : List ℕ) → n ≡ atMost cacheLimit (getD counts countCache 0) → tied ≡ atMost tieLimit (getD counts countTies 0)
-      → noted ≡ atMost subtypeLimit (getD counts countSubtypes 0) → numbersFit counts ≡ true → (old mid new : Option (List ℕ)) → old ≡ none
-      → Chosen froms tos labels (tied + tied) classes n true (superIn supers) old mid → Chosen froms tos labels (tied + tied + noted) classes n false (superIn supers) mid new
+      → noted ≡ atMost subtypeLimit (getD counts countSubtypes 0) → numbersFit counts ≡ true → (new : Option (List ℕ))
+      → BestOf froms tos labels (tied + tied) (tied + tied + noted) classes n (superIn supers) new
       → new ≡ reasonIn supers counts cache ties subtypes
-  held-reason supers a b c fit old mid new e first second =
-      chosen-reason put nodes classes isNode isClass counts froms tos labels linked labelled (superIn supers) mid new
-      (subst (λ (o : Option (List ℕ)). Chosen froms tos labels (tied + tied) classes n true (superIn supers) o mid) e first) second
+  held-reason supers a b c fit new best =
+      best-reason put nodes classes isNode isClass counts froms tos labels linked labelled (superIn supers) new best
       ∙ ((λ i. reasonFor supers counts cache ties subtypes (a i) (b i) (c i)) ∙ sym (reason-fits supers counts cache ties subtypes fit))
 
 -- What is listed

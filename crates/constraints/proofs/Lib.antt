@@ -12,6 +12,7 @@ pub mod Supers
 pub mod Pairing
 pub mod Spreading
 pub mod Choices
+pub mod Alones
 pub mod Posted
 pub mod Turns
 pub mod Linked

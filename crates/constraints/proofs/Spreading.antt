@@ -14,7 +14,7 @@ use borrow.Author.Tests.{eqb-true, eqb-false, ltb-true, ltb-false, lt-ltb, eq-eq
 use Rattle.constraints.specs.Nodes.{placeLimit}
 use Rattle.constraints.specs.Joining.{Last}
 use Rattle.constraints.specs.Search.{marked, startOf}
-use Rattle.constraints.specs.Walks.{Found, found, distOf, wayOf, nodeAt, Room, Sized, look, looks, Those, Walk, Onward, Exact, Beyond, Layer, Spread, Seeded, Zeroed, badIn, endsIn, seedOne}
+use Rattle.constraints.specs.Walks.{Found, found, distOf, wayOf, nodeAt, Room, Sized, look, looks, Those, Walk, Onward, Exact, Layer, Spread, Seeded, Zeroed, badIn, endsIn, seedOne}
 use Rattle.constraints.proofs.Rows.{Order, less, equal, more, order}
 use Rattle.constraints.proofs.Supers.{above-same, above-other}
 

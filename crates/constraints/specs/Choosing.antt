@@ -2,7 +2,7 @@
 use mathlib.Core.Path.{_≡_}
 use mathlib.Core.Bool.{Bool, true, false, _&&_}
 use mathlib.Core.Option.{Option, none, some}
-use mathlib.Core.List.{List}
+use mathlib.Core.List.{List, [], _∷_}
 use mathlib.Core.Logic.{_⊎_}
 use Prim.Native.Nat.{ℕ, zero, suc, _<_, _≤_}
 use lib.ListN.{length, getD}
@@ -10,7 +10,7 @@ use lib.Dec.{eqb, ltb}
 use Rattle.definition.specs.Lists.{rows}
 use Rattle.definition.specs.Reasons.{precedes}
 use Rattle.constraints.specs.Nodes.{placeLimit}
-use Rattle.constraints.specs.Walks.{Walk, trail, endsOver}
+use Rattle.constraints.specs.Walks.{Walk, trail, badOver, endsOver}
 
 -- no chain yet, as a size
 abbrev pub noSize : ℕ
@@ -65,3 +65,34 @@ module _ (froms tos labels : List ℕ) (count : ℕ) (classes : List ℕ) (cache
       pub sound : (ns : List ℕ) → new ≡ some ns → (old ≡ some ns) ⊎ ((q : ℕ) × (q < cached) × WalkFrom q ns)
       pub all : (q : ℕ) (ms : List ℕ) → q < cached → WalkFrom q ms → NoBetter new ms
       pub still : (ms : List ℕ) → NoBetter old ms → NoBetter new ms
+
+-- Rows that break agreement by themselves
+
+-- one row is kept, or none
+abbrev pub OneSize : ℕ → Type 0
+OneSize size = (size ≡ 1) ⊎ (size ≡ noSize)
+
+-- link e leads from a cached request to one whose class is bad for its own
+unfoldable pub alone : List ℕ → List ℕ → List ℕ → ℕ → Bool → (ℕ → Option ℕ) → ℕ → Bool
+alone froms tos classes cached only sup e =
+    let a = getD froms e 0 in
+    let b = getD tos e 0 in
+    ltb a cached && (ltb b cached && badOver only sup (getD classes a 0) (getD classes b 0))
+
+module _ (froms tos labels : List ℕ) (classes : List ℕ) (cached : ℕ) (only : Bool) (sup : ℕ → Option ℕ) where
+  unfoldable pub consideredAlone : ℕ → Option (List ℕ) → Option (List ℕ)
+  consideredAlone e o = elim (alone froms tos classes cached only sup e) [ true ↦ pick o (getD labels e 0 ∷ []) | false ↦ o ]
+
+  -- of the first e links none that breaks agreement by itself is better than what is kept, which is one of them or what was kept
+  pub record Alone (count e : ℕ) (old new : Option (List ℕ)) : Type 0 where
+    pub sound : (ns : List ℕ) → new ≡ some ns → (old ≡ some ns) ⊎ ((d : ℕ) × (d < count) × (alone froms tos classes cached only sup d ≡ true) × (getD labels d 0 ∷ [] ≡ ns))
+    pub all : (d : ℕ) → d < e → alone froms tos classes cached only sup d ≡ true → NoBetter new (getD labels d 0 ∷ [])
+    pub still : (ms : List ℕ) → NoBetter old ms → NoBetter new ms
+
+-- The best chain of all: by ties alone, which are the first `turned` links, or by all links
+module _ (froms tos labels : List ℕ) (turned count : ℕ) (classes : List ℕ) (cached : ℕ) (sup : ℕ → Option ℕ) where
+  pub record BestOf (new : Option (List ℕ)) : Type 0 where
+    pub sound : (ns : List ℕ) → new ≡ some ns
+        → ((q : ℕ) × (q < cached) × WalkFrom froms tos labels turned classes cached true sup q ns) ⊎ ((q : ℕ) × (q < cached) × WalkFrom froms tos labels count classes cached false sup q ns)
+    pub ties : (q : ℕ) (ms : List ℕ) → q < cached → WalkFrom froms tos labels turned classes cached true sup q ms → NoBetter new ms
+    pub all : (q : ℕ) (ms : List ℕ) → q < cached → WalkFrom froms tos labels count classes cached false sup q ms → NoBetter new ms

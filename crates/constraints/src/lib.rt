@@ -10,6 +10,7 @@ mod numbers; // numbers.rt: the numbers of rows
 mod linking; // linking.rt: the links of rows between nodes
 mod layers; // layers.rt: the search backward from where walks end
 mod choosing; // choosing.rt: the best of the chains found
+mod singles; // singles.rt: rows that break agreement by themselves
 mod reasons; // reasons.rt: why a store doesn't agree
 
 pub use agreement::agree;

@@ -10,6 +10,7 @@ use crate::numbering::list_classes;
 use crate::numbering::number_nodes;
 use crate::numbering::number_places;
 use crate::numbers::numbers_fit;
+use crate::singles::lowest_alone;
 use cells::at16;
 use cells::put16;
 use definition::numbers::CACHE_LIMIT;
@@ -20,16 +21,86 @@ ghost use mathlib.Core.Path.{_≡_};
 ghost use mathlib.Core.Bool.{true};
 ghost use Prim.Native.Nat.{_≤_};
 ghost use lib.ListN.{length, getD, set};
-ghost use Rattle.definition.specs.Numbers.{cacheLimit, tieLimit, subtypeLimit, countCache, countTies, countSubtypes};
+ghost use Rattle.definition.specs.Numbers.{cacheLimit};
 ghost use Rattle.definition.specs.declared.Reply.{Reply};
 ghost use Rattle.definition.specs.Lists.{rows, writeRows};
 ghost use Rattle.definition.specs.Reasons.{tries, listed};
 ghost use Rattle.constraints.specs.Nodes.{placeLimit};
-ghost use Rattle.constraints.specs.Agreement.{atMost};
-ghost use Rattle.constraints.specs.Choosing.{held, Holds};
+ghost use Rattle.constraints.specs.Choosing.{held, Holds, BestOf};
+ghost use Rattle.constraints.specs.Walks.{InRange, Sole};
+ghost use Rattle.constraints.specs.Agreement.{superIn};
 ghost use Rattle.constraints.specs.Linking.{numbersFit, reasonIn};
 
-// The best chain of the store of these tables, by ties alone or by all links, into a table. Answers its size.
+// The best chain by links between cached requests, of which the first `turned` are ties, into a table. Answers its size. A row that breaks agreement by itself is looked
+// for first, since no chain is shorter; then chains by ties alone, and by all links.
+fn search_links(
+    supers: &[u8],
+    classes: &[u16],
+    cached: usize,
+    froms: &[u16],
+    tos: &[u16],
+    labels: &[u16],
+    turned: usize,
+    count: usize,
+    best: &mut [u16],
+) -> u16
+    requires { ⌜ (cached ≤ cacheLimit) × (turned ≤ count) × InRange (now froms) (now tos) count × Sole (now froms) (now tos) (now labels) count × (length (now best) ≡ placeLimit) ⌝ }
+    ensures { λ r. ⌜ Holds (now (best .exit)) r × BestOf (now (froms .entry)) (now (tos .entry)) (now (labels .entry)) turned count (now (classes .entry)) cached (superIn (now (supers .entry))) (held (now (best .exit)) r) ⌝ }
+{
+    let tie = lowest_alone(
+        supers,
+        classes,
+        cached,
+        froms,
+        tos,
+        labels,
+        turned,
+        true,
+        best,
+        NO_SIZE,
+    );
+    let row = lowest_alone(
+        supers,
+        classes,
+        cached,
+        froms,
+        tos,
+        labels,
+        count,
+        false,
+        best,
+        tie,
+    );
+    if row == 1 {
+        return row;
+    }
+    let tied = search_all(
+        supers,
+        classes,
+        cached,
+        froms,
+        tos,
+        labels,
+        turned,
+        true,
+        best,
+        NO_SIZE,
+    );
+    search_all(
+        supers,
+        classes,
+        cached,
+        froms,
+        tos,
+        labels,
+        count,
+        false,
+        best,
+        tied,
+    )
+}
+
+// The best chain of the store of these tables, into a table. Answers its size.
 fn best_chain(
     supers: &[u8],
     counts: &[u16],
@@ -56,7 +127,7 @@ fn best_chain(
     let mut labels = [0u16; LINK_LIMIT];
     link_nodes(&nodes, cached, noted, tied, &mut froms, &mut tos);
     label_links(counts, noted, tied, &mut labels);
-    let tied_size = search_all(
+    search_links(
         supers,
         &classes,
         cached,
@@ -64,21 +135,8 @@ fn best_chain(
         &tos,
         &labels,
         turned,
-        true,
-        best,
-        NO_SIZE,
-    );
-    search_all(
-        supers,
-        &classes,
-        cached,
-        &froms,
-        &tos,
-        &labels,
         turned + noted,
-        false,
         best,
-        tied_size,
     )
 }
 

@@ -1,5 +1,6 @@
 // The calls of the machine for a host program in C. Each takes the eight tables, the call's numbers or file, and a table of six cells
-// for the answer: the kind of the reply, the refusal's number, three details as a script's line prints them, and the count of steps that ran.
+// for the answer: the kind of the reply, the refusal's number, three details as a script's line prints them, and the count of steps that ran,
+// or of a tried load the length of the chain that it listed.
 use definition::Reply;
 use definition::Trial;
 ghost use mathlib.Core.Path.{_≡_};
@@ -73,8 +74,9 @@ fn report(answer: &mut [u32], turn: u8, reply: Reply) -> u8
 fn report_trial(answer: &mut [u32], turn: u8, trial: Trial) -> u8
     ensures { λ r. ⌜ ((list : List ℕ) → now (answer .exit) ≡ writeRows set (triedCells turn (tries (trial .reply) (trial .count) list)) 0 (now (answer .entry))) × (r ≡ numberOf (trial .reply)) ⌝ }
 {
+    let reply = trial.reply;
     let count = trial.count;
-    let number = report(answer, turn, trial.reply);
+    let number = report(answer, turn, reply);
     cells::put32(answer, 5, cells::from16(count));
     number
 }

@@ -21,7 +21,7 @@ use Rattle.laws.specs.Chains.{chain-join}
 use Rattle.laws.specs.Upward.{below-true, true-below}
 use Rattle.laws.specs.Agreement.{super-falls, agrees-true, true-agrees}
 use Rattle.laws.specs.Earlier.{Order, NotBefore, neither-before}
-use Rattle.laws.specs.Clashes.{Clashing, First, other, shortest-first, shortest-none}
+use Rattle.laws.specs.Clashes.{Clashing, First, shortest-first, shortest-none}
 
 -- A list none of which stands twice is no longer than one that has all of it
 

@@ -12,7 +12,7 @@ use Rattle.definition.specs.Numbers.{taskLimit, objectLimit, fieldLimit, frameL
 use Rattle.definition.specs.Lists.{rows, writeRows, stack, writeStack}
 use Rattle.definition.specs.Maybe.{_>>=_, need}
 use Rattle.definition.specs.Classes.{Base, Entry, slots, slotsIn, ownSlots}
-use Rattle.definition.specs.Machine.{Value, emptyValue, intValue, nullValue, objectValue, unlistedValue, Object, ObjectRow, free, owned, Objects, Exists, Frame}
+use Rattle.definition.specs.Machine.{Value, emptyValue, intValue, nullValue, objectValue, unlistedValue, ObjectRow, free, owned, Objects, Exists, Frame}
 use Rattle.definition.specs.File.{File, byte, readFile, objectClass}
 use Rattle.definition.specs.Tables.{Tables, shaped, ClassRow, RowNumbers, rowNumbers, Rows, rowsOf, fileAt, classAt, baseOf, worldOf, sizeOf, classRowAt, putClassRow, entryAt, putEntry, tieAt, putTie, subtypeAt, putSubtype, ownerAt, putOwner, objectRowAt, putObjectRow, numberAt, frameBase, frameIn, putFrameIn, viewBase, objectsOf, framesOf, viewOver, view, countsOf, putNumbers, put}
 use Rattle.layout.specs.Tests.{All, From, every-true, true-every, all-more}

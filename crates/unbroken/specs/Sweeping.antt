@@ -28,7 +28,7 @@ use Rattle.definition.specs.Machine.{Value, emptyValue, intValue, nullValue, ob
 use Rattle.definition.specs.Numbers.{ownersCell, tieNumbersCell}
 use Rattle.definition.specs.Sweeping.{named, roots, links, Reached, reached}
 use Rattle.definition.specs.Loading.{started}
-use Rattle.definition.specs.Tables.{Tables, tables, Rows, worldOf, viewBase, objectsOf, viewOver, view, put, ownerOf, ownerAt, putOwner, framesIn, withObjects}
+use Rattle.definition.specs.Tables.{Tables, tables, Rows, worldOf, viewBase, viewOver, view, put, ownerOf, ownerAt, putOwner, framesIn, withObjects}
 use Rattle.definition.specs.Broken.{broken}
 use Rattle.definition.specs.Calls.{Given, Done, done, carried, progressed, sweepRows, startRows, stepTask, stepOn, stepRows, stepTables, turnOf, turn, rowStart, Call, callStart, callSweep, perform}
 use Rattle.definition.specs.Answers.{ok}
@@ -38,7 +38,7 @@ use Rattle.laws.specs.Results.{bind-ok, ok-inj}
 use Rattle.laws.specs.Sweeps.{member-either, link-names, reached-found, swept-row, swept, freed, sweep-keeps, sweep-left, sweep-freed, sweep-again, sweep-rests, sweep-none}
 use Rattle.laws.specs.Wrapped.{wrap-broken, wrap-carried, Ok, ok-at, then}
 use Rattle.layout.specs.OwnedRows.{owners-behind, owners-past, owner-put, owner-past, swept-length}
-use Rattle.layout.specs.ReadBack.{Lengths, view-put}
+use Rattle.layout.specs.ReadBack.{view-put}
 use Rattle.layout.specs.Tests.{All, all-both}
 use Rattle.layout.specs.Unbroken.{unbroken, broken-false}
 use Rattle.layout.specs.View.{put-view, row-owner, sweep-writes}

@@ -10,19 +10,20 @@ use Prim.Native.Nat.{ℕ, suc, _+_, _≤_, _<_}
 use native.Mathlib.Omega.{arith}
 use lib.ListN.{length, length-append, length-set, getD, set}
 use lib.Seq.{getD-set-same, getD-set-other}
-use lib.Dec.{eqb}
+use lib.Dec.{eqb, ltb}
 use borrow.Author.Tests.{eqb-false, ne-eqb, eq-eqb}
+use Rattle.definition.specs.Numbers.{listLimit}
 use Rattle.definition.specs.Lists.{any, rows, writeRows}
 use Rattle.definition.specs.Constraints.{World}
 use Rattle.definition.specs.Tables.{Tables, RowNumbers, Rows, worldOf, view, put}
 use Rattle.definition.specs.Broken.{broken}
-use Rattle.definition.specs.Calls.{Given, Done, carried, numberedOn, Load, loadDefine, loadRecord, loadRows, triedWith, tryRows, onRowCall, RowCall, rowTry, callRows, callTry, perform}
+use Rattle.definition.specs.Calls.{Given, Done, done, carried, numberedOn, Load, loadDefine, loadRecord, loadRows, triedWith, tryRows, onRowCall, RowCall, rowTry, callRows, callTry, perform}
 use Rattle.definition.specs.Answers.{Result, ok, refused, number, numberOf}
 use Rattle.definition.specs.declared.Reply.{Reply}
 use Rattle.definition.specs.declared.Reply.the-variants.{Denied}
 use Rattle.definition.specs.declared.Refusal.the-variants.{Word}
 use Rattle.definition.specs.declared.Refusal.{Refusal}
-use Rattle.definition.specs.Reasons.{Distinct, Breaks, reason, reasonAfter, Tried, unlisted, listed, tried, afterLoad, tryLoadRows, tryLoad}
+use Rattle.definition.specs.Reasons.{Distinct, Breaks, reason, reasonAfter, Tried, tries, unlisted, listed, tried, afterLoad, tryLoadRows, tryLoad}
 use Rattle.laws.specs.Options.{some-bind}
 use Rattle.laws.specs.Earlier.{NotBefore, lower-first}
 use Rattle.laws.specs.Chosen.{clash-reason, reason-breaks, reason-shortest, reason-not-later}
@@ -200,6 +201,23 @@ pub try-changes-none : (c : Load) (n : ℕ) (t : Tables) → perform (callTry c 
 unfolding perform
 try-changes-none c n t = wrapped Denied (tryRows c n) t (λ _ s. s ≡ t) (λ _. refl) (λ _ _. refl)
     (λ _ g e. ap (λ (s : Rows). put s t) (ok-at (λ (g : Given Reply). g .rows ≡ view t) _ (try-leaves (λ s. s ≡ view t) c n (view t) refl) g e) ∙ put-view t)
+
+-- of a list's length only that counts, whether it is too short
+try-serves : (c : Load) (m n : ℕ) (t : Tables) → ltb m listLimit ≡ ltb n listLimit → perform (callTry c m) t .answer ≡ perform (callTry c n) t .answer
+unfolding tryRows triedWith
+try-serves c m n t e = by-broken t
+    (λ h. row-broken (rowTry c m) t h ∙ sym (row-broken (rowTry c n) t h))
+    (λ h. row-answer (rowTry c m) t h ∙ (ap replyOf (go (loadRows c (view t))) ∙ sym (row-answer (rowTry c n) t h)))
+  where
+    go : (o : Result (Given Reply)) → triedWith m (view t) o ≡ triedWith n (view t) o
+    go (ok g) = rw (e, triedWith) refl
+    go (refused x) = rw (e, triedWith) refl
+
+-- so what is told of a try with one list is the call with another
+pub try-done : (c : Load) (out list : List ℕ) (t : Tables) (n count : ℕ) (a : Reply) → tries a count list ≡ tryLoad c out t → ltb (length out) listLimit ≡ ltb n listLimit
+    → done a t ≡ perform (callTry c n) t
+try-done c out list t n count a e q =
+    λ i. done ((ap (λ (z : Tried). z .answer) e ∙ (try-answer c out t ∙ try-serves c (length out) n t q)) i) (sym (try-changes-none c n t) i)
 
 -- The answer is the load's own, 16 apart
 

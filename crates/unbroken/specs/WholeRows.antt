@@ -9,7 +9,7 @@ use native.Mathlib.Omega.{arith}
 use lib.ListN.{length, getElem?, drop, length-append, length-map, length-drop}
 use lib.Seq.{take-append-le, drop-append-le, drop-at, take-length}
 use lib.Dec.{leb}
-use borrow.Author.Tests.{leb-true, ltb-true, le-leb}
+use borrow.Author.Tests.{leb-true, le-leb}
 use Rattle.definition.specs.declared.Signature.{Signature}
 use Rattle.definition.specs.Answers.{need}
 use Rattle.definition.specs.Calls.{numberedOn, progressed}

@@ -1,4 +1,5 @@
-//! Wrong machines, which the comparison must tell from the right one. MIRROR_FAULT names the one to be; without it the mirror is right.
+//! Wrong machines, which the comparison must tell from the right one. MIRROR_FAULT names the one to be; without it the mirror is right, and
+//! with `another-chain` too.
 
 use std::sync::OnceLock;
 
@@ -254,7 +255,7 @@ pub fn make(call: &Call, store: &mut Store, list: &mut [u16]) -> Reply {
     let fault = FAULTS.iter().chain(&mapped::FAULTS).find(|fault| Some(fault.0) == chosen());
     // Those leave the list alone, so a try has none of them.
     let is_try = call.load().is_some();
-    let listing = tried::FAULTS.iter().find(|fault| Some(fault.0) == chosen());
+    let listing = tried::FAULTS.iter().chain([&tried::ANOTHER]).find(|fault| Some(fault.0) == chosen());
     let is_desks = DESKS.iter().any(|desk| Some(desk.0) == chosen());
     let is_there = fault.is_some() || listing.is_some() || slip().is_some() || is_desks;
     assert!(is_there || chosen().is_none(), "no such fault");

@@ -143,6 +143,17 @@ pub const FAULTS: [Listing; 23] = [
     }),
 ];
 
+/// No fault: a clash lists the longest chain that breaks agreement and that `walks` finds.
+pub const ANOTHER: Listing = ("another-chain", |call, store, list| {
+    relisted(call, store, list, |store, plan, chain| {
+        let added = plan.added();
+        let constraints = numbered(store, &added);
+        let walked = entries(store, &added).flat_map(|row| walks((row[0], row[1]), &constraints, breaks::ways)).map(|walk| walk.0);
+        let found = walked.filter(|rows| breaks::breaks(store, &added, &plan.classes, rows)).max_by_key(Vec::len);
+        *chain = found.unwrap_or_else(|| chain.clone());
+    })
+});
+
 fn is_tie(constraint: &Constraint) -> bool {
     matches!(constraint, Constraint::Tie(_))
 }

@@ -170,11 +170,8 @@ fn long_defines() -> Vec<Case> {
     long_files().into_iter().map(|(what, file)| Case::new(what, store.clone(), Call::Define { loader: 1, file })).collect()
 }
 
-/// Tries of loads, where the library has them: the longest chain there can be, and the grid, which clashes or takes the load.
+/// Tries of loads: the longest chain there can be, and the grid, which clashes or takes the load.
 fn tries() -> Vec<Case> {
-    if !cfg!(feature = "tries") {
-        return Vec::new();
-    }
     let cases = [
         ("define, a chain of 512 rows", longest_reason()), ("define, grid", grid_reason()), ("record, grid, accepted", (grid(), grid_record())),
         ("define, longest chain, accepted", (chain(256, 256), chain_define())),
@@ -245,7 +242,7 @@ fn main() {
         tables.iter_mut().flat_map(|(_, cases)| cases).for_each(Case::pass);
     }
     println!("Bytes of all tables: {}. Limits: {LIMITS:?}.", bytes());
-    for (what, cases) in tables.into_iter().filter(|(_, cases)| !cases.is_empty()) {
+    for (what, cases) in tables {
         println!("\n| {what} | verified | second | verified ÷ second |\n|---|---|---|---|");
         cases.iter().for_each(Case::print);
     }

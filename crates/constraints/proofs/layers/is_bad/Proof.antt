@@ -1,5 +1,5 @@
 -- A class is not bad for itself; by ties alone every other is, by all links one that isn't marked as above it.
-use mathlib.Core.Path.{sym, _∙_}
+use mathlib.Core.Path.{sym}
 use borrow.Author.Needs.{needs}
 use Rattle.constraints.proofs.Spreading.{bad-one, bad-other, bad-marked}
 use Rattle.constraints.proofs.layers.is_bad.Statement.{statement}

@@ -2,7 +2,6 @@
 use Prim.Native.Nat.{_-_}
 use mathlib.Core.Path.{refl, sym, _∙_}
 use native.Mathlib.Omega.{arith}
-use borrow.Author.Needs.{needs}
 use Rattle.constraints.specs.Walks.{found}
 use Rattle.constraints.proofs.Spreading.{Spreads, spreads-first, spreads-next, spreads-far, spreads-all}
 use Rattle.constraints.proofs.layers.spread.Statement.{statement}

@@ -1,7 +1,6 @@
--- The requests as nodes, the rows as links between them, and two searches: by ties alone, and then by all links.
-use mathlib.Core.Path.{_≡_, refl, ap, _∙_}
+-- The requests as nodes, the rows as links between them, and the search.
+use mathlib.Core.Path.{_≡_, ap, _∙_}
 use mathlib.Core.List.{List}
-use mathlib.Core.Logic.{inr}
 use Prim.Native.Nat.{ℕ, _+_, _≤_}
 use native.Mathlib.Omega.{arith}
 use lib.ListN.{getD}
@@ -10,7 +9,7 @@ use Rattle.definition.specs.Numbers.{cacheLimit, countCache, countTies, countSu
 use Rattle.constraints.specs.Agreement.{atMost}
 use Rattle.constraints.specs.Walks.{InRange, Sole}
 use Rattle.constraints.proofs.Linked.{in-range, sole}
-use Rattle.constraints.proofs.Finding.{at-most-low, held-none, held-reason}
+use Rattle.constraints.proofs.Finding.{at-most-low, held-reason}
 use borrow.Author.Needs.{needs}
 use Rattle.constraints.proofs.reasons.best_chain.Statement.{statement}
 use Rattle.constraints.proofs.reasons.best_chain.Tie as tie
@@ -63,26 +62,21 @@ module _ (c : tie.After-label-links) where
   alone = sole (c .before .before .before .before .link-nodes .ensures) (c .label-links .ensures) (c .before .before .before .before .before .before .before .before .before .before .before .before .before .before .before .before .before .before .before .before .before .before .before .before .before .before .before .before .before .before .before .pre .0)
       (omega (arith, tied-is, at-most-low cacheLimit (getD counts countTies 0))) (omega (arith, noted-is, at-most-low cacheLimit (getD counts countSubtypes 0)))
 
-search-all-requires : tie.Need-search-all-requires
-search-all-requires c κs =
+add-search-links : tie.Need-add-search-links
+add-search-links c = omega (arith, c .before .before .before .before .before .before .before .before .before .before .before .before .before .before .before .before .before .before .before .before .before .before .before .before .at-most3 .ensures .1, c .before .before .before .before .before .before .before .before .before .before .before .before .before .before .before .before .before .before .before .before .before .before .before .before .before .before .at-most2 .ensures .1)
+
+search-links-requires : tie.Need-search-links-requires
+search-links-requires c κs =
     let d = c .before .before .before .before .before .before in
-    (d .before .before .before .before .before .before .before .before .before .before .before .before .before .before .before .before .before .before .before .before .before .before .before .at-most .ensures .1, range d _ (omega arith), record { long = d .before .before .before .before .before .before .before .before .before .before .before .before .before .before .before .before .before .before .before .before .before .before .before .before .before .before .before .before .before .before .before .pre .1; fits = inr refl }, alone d _ (omega arith))
-
-add-search-all : tie.Need-add-search-all
-add-search-all c = omega (arith, c .before .before .before .before .before .before .before .before .before .before .before .before .before .before .before .before .before .before .before .before .before .before .before .before .before .before .before .before .before .before .before .before .at-most3 .ensures .1, c .before .before .before .before .before .before .before .before .before .before .before .before .before .before .before .before .before .before .before .before .before .before .before .before .before .before .before .before .before .before .before .before .before .before .at-most2 .ensures .1)
-
-search-all-requires-2 : tie.Need-search-all-requires-2
-search-all-requires-2 c κs =
-    let d = c .before .before .before .before .before .before .before .before .before .before .before .before .before .before in
-    (d .before .before .before .before .before .before .before .before .before .before .before .before .before .before .before .before .before .before .before .before .before .before .before .at-most .ensures .1, range d _ (omega arith), c .before .before .before .before .before .before .before .search-all .ensures .0, alone d _ (omega arith))
+    (d .before .before .before .before .before .before .before .before .before .before .before .before .before .before .before .before .before .before .before .before .before .before .before .at-most .ensures .1, omega arith, range d _ (omega arith), alone d _ (omega arith), d .before .before .before .before .before .before .before .before .before .before .before .before .before .before .before .before .before .before .before .before .before .before .before .before .before .before .before .before .before .before .before .pre .1)
 
 returns : tie.Need-returns
 returns c =
-    let d = c .before .before .before .before .before .before .before .before .before .before .before .before .before .before .before .before .before in (
-      c .before .before .search-all2 .ensures .0,
+    let d = c .before .before .before .before .before .before .before .before .before in (
+      c .before .before .search-links .ensures .0,
       held-reason (d .before .before .before .before .before .before .before .before .before .before .before .before .before .before .before .before .before .number-places .ensures) (d .before .before .before .before .before .before .before .before .before .before .before .before .before .number-nodes .last .1 .1 .0) (d .before .before .before .before .before .before .before .before .before .list-classes .last .1 .1 .1 .0) (d .before .before .before .before .before .before .before .before .before .before .before .before .before .number-nodes .ensures) (d .before .before .before .before .before .before .before .before .before .list-classes .ensures)
           (counts d) (froms d) (tos d) (labels d) (d .before .before .before .before .link-nodes .ensures) (d .label-links .ensures) (now (d .before .before .before .before .before .before .before .before .before .before .before .before .before .before .before .before .before .before .before .before .before .before .before .before .before .before .before .before .before .before .before .args .supers)) (cached-is d) (tied-is d) (noted-is d)
-          (d .before .before .before .before .before .before .before .before .before .before .before .before .before .before .before .before .before .before .before .before .before .before .before .before .before .before .before .before .before .before .before .pre .0) _ _ _ (held-none (now (d .before .before .before .before .before .before .before .before .before .before .before .before .before .before .before .before .before .before .before .before .before .before .before .before .before .before .before .before .before .before .before .args .best))) (c .before .before .before .before .before .before .before .before .before .before .search-all .ensures .1) (c .before .before .search-all2 .ensures .1),
+          (d .before .before .before .before .before .before .before .before .before .before .before .before .before .before .before .before .before .before .before .before .before .before .before .before .before .before .before .before .before .before .before .pre .0) _ (c .before .before .search-links .ensures .1),
     )
 
 pub best-chain-spec : {M : Type 1} → statement M
@@ -118,12 +112,7 @@ best-chain-spec =
     (λ c. search needs)
     (λ c. search needs)
     (λ c. search needs)
-    search-all-requires
-    (λ c. search needs)
-    (λ c. search needs)
-    (λ c. search needs)
-    (λ c. search needs)
-    add-search-all
-    search-all-requires-2
+    add-search-links
+    search-links-requires
     (λ c. search needs)
     returns)

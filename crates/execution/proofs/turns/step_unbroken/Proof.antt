@@ -4,7 +4,6 @@ use native.Mathlib.Omega.{arith}
 use Rattle.tasks.specs.Turns.{turn-two}
 use Rattle.layout.specs.Unbroken.{unbroken}
 use Rattle.execution.specs.Carried.{still-ready}
-use Rattle.definition.specs.Requests.{at}
 use Rattle.definition.specs.Tables.{tables}
 use Rattle.resolution.specs.Quick.{loader-quick}
 use Rattle.execution.specs.Steps.{usable}
