@@ -35,19 +35,19 @@ fn own_time() -> f64 {
     time.seconds as f64 * 1e9 + time.nanoseconds as f64
 }
 
-/// A side makes a call on a store.
-type Side = fn(&Call, &mut Store);
+/// A side makes a call on a store, with the list that a try is lent.
+type Side = fn(&Call, &mut Store, &mut [u16]);
 
 const SIDES: [(&str, Side); 2] = [("verified", verified), ("second", second)];
 
-fn verified(call: &Call, store: &mut Store) {
-    let (mut answer, mut list) = ([0; CELLS], [0; MOST_ROWS]);
-    host::make(call, store, &mut answer, &mut list[..call.cells()]);
-    std::hint::black_box((answer, list));
+fn verified(call: &Call, store: &mut Store, list: &mut [u16]) {
+    let mut answer = [0; CELLS];
+    host::make(call, store, &mut answer, list);
+    std::hint::black_box(answer);
 }
 
-fn second(call: &Call, store: &mut Store) {
-    std::hint::black_box(call.apply(store));
+fn second(call: &Call, store: &mut Store, list: &mut [u16]) {
+    std::hint::black_box(call.apply_listing(store, list));
 }
 
 /// What is measured: a call on a store, so many times in a row.
@@ -57,8 +57,9 @@ struct Case {
     call: Call,
     /// How often a round makes the call, if that is fixed; else as often as fits a quarter of a millisecond, at least once.
     times: Option<usize>,
-    /// Does the call go on from the store that it left? Otherwise counts, owners and numbers are set back before the next: rows past them are free.
-    goes_on: bool,
+    /// The cells of counts that are set back before the next call: those that the call changes, for rows past the counts are free. A call
+    /// that goes on from the store that it left has none.
+    set_back: Vec<usize>,
     /// By what the time of one call is divided.
     units: f64,
     /// The least times of both sides so far, in nanoseconds a unit.
@@ -67,12 +68,15 @@ struct Case {
 
 impl Case {
     fn new(name: impl Into<String>, store: Store, call: Call) -> Case {
-        Case { name: name.into(), store, call, times: None, goes_on: false, units: 1.0, least: [f64::MAX; 2] }
+        let mut after = store.clone();
+        call.apply(&mut after);
+        let set_back = (0..store.counts.len()).filter(|&cell| store.counts[cell] != after.counts[cell]).collect();
+        Case { name: name.into(), store, call, times: None, set_back, units: 1.0, least: [f64::MAX; 2] }
     }
 
     /// A case of a hundred steps in a row.
     fn steps(name: &str, store: Store) -> Case {
-        Case { times: Some(100), goes_on: true, ..Case::new(name, store, Call::Step) }
+        Case { times: Some(100), set_back: Vec::new(), ..Case::new(name, store, Call::Step) }
     }
 
     /// A case of a whole run, by its steps. It finishes, or goes on for longer.
@@ -89,11 +93,12 @@ impl Case {
     /// The time of a round of so many calls, in nanoseconds a unit.
     fn round(&self, side: Side, store: &mut Store, times: usize) -> f64 {
         store.clone_from(&self.store);
+        let mut list = vec![0; self.call.cells()];
         let before = own_time();
         for _ in 0..times {
-            side(&self.call, store);
-            if !self.goes_on {
-                store.counts.copy_from_slice(&self.store.counts);
+            side(&self.call, store, &mut list);
+            for &cell in &self.set_back {
+                store.counts[cell] = self.store.counts[cell];
             }
         }
         (own_time() - before) / times as f64 / self.units
