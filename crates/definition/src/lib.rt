@@ -32,6 +32,13 @@ pub struct Trial {
     pub count: u16,
 }
 
+// What the check of agreement answers: none, where the store agrees, or a pair of loaded requests that breaks agreement, from the one to the
+// other, each by its loader and its name.
+pub enum Check {
+    Agreed,
+    Breaking(u16, u16, u16, u16),
+}
+
 // A call's answer as numbers: the refusal's number, 0 if there is none, then three details. An int is its 32 bits.
 pub struct Details {
     pub refusal: u8,
