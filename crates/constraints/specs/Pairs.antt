@@ -1,15 +1,18 @@
--- Agreement of all pairs of cached requests, by their groups and classes.
+-- Pairs of cached requests, by their groups and classes: when one agrees, when all do, and which pairs are looked at.
 use mathlib.Core.Path.{_≡_}
 use mathlib.Core.Bool.{Bool, true, false}
 use mathlib.Core.Option.{Option}
 use mathlib.Core.List.{List}
+use mathlib.Core.Logic.{_⊎_}
 use Prim.Native.Nat.{ℕ, _<_, _≤_}
 use lib.ListN.{getD}
 use lib.Dec.{eqb}
 use Rattle.definition.specs.Lists.{rows, all}
 use Rattle.definition.specs.Superclasses.{below}
-use Rattle.constraints.specs.Search.{leadsOn}
+use Rattle.constraints.specs.Search.{leadsOn, Marked}
 use Rattle.constraints.specs.Upward.{isAbove}
+pub use Rattle.constraints.specs.declared.Found.{Found}
+pub use Rattle.constraints.specs.declared.Found.the-variants.{NoPair, Pair}
 
 -- a pair of classes c and d, whose requests are tied, or of which the one leads to the other, or neither
 unfoldable pub pairIs : (ℕ → Option ℕ) → Bool → Bool → ℕ → ℕ → Bool
@@ -25,17 +28,51 @@ pairOn sup groups classes cached noted a b =
 unfoldable pub agreeOn : (ℕ → Option ℕ) → List ℕ → List ℕ → ℕ → ℕ → Bool
 agreeOn sup groups classes n noted = all (λ a. all (pairOn sup groups classes n noted a) (rows (λ i. i) n 0)) (rows (λ i. i) n 0)
 
--- each cached request has the class of its group's first
-unfoldable pub tiedOn : List ℕ → List ℕ → ℕ → Bool
-tiedOn groups classes n = all (λ a. eqb (getD classes (getD groups a 0) 0) (getD classes a 0)) (rows (λ i. i) n 0)
+-- Pairs by marks
 
--- the pair of a and b, by the mark of b in the search from a, and the marks of the classes above a's
-unfoldable pub pairMarked : List ℕ → List ℕ → List ℕ → ℕ → ℕ → ℕ → Bool
-pairMarked marks aboves classes stamp a b =
-    elim (eqb (getD marks b 0) stamp) [ true ↦ isAbove aboves stamp (getD classes a 0) (getD classes b 0) | false ↦ true ]
+unfoldable pub isPair : Found → Bool
+isPair NoPair = false
+isPair (Pair a b) = true
 
--- r is the first of n places, from place `from` on, that is the first of its group and at which links start, or n
-pub record NextStart (groups heads : List ℕ) (n from r : ℕ) : Type 0 where
+-- b, of a group, by the group's mark among those that a leads to, and by the marks of the classes above a's
+unfoldable pub outMarked : List ℕ → List ℕ → List ℕ → ℕ → ℕ → ℕ → ℕ → Bool
+outMarked outs aboves classes stamp group a b =
+    elim (eqb (getD outs group 0) stamp) [ true ↦ isAbove aboves stamp (getD classes a 0) (getD classes b 0) | false ↦ true ]
+
+-- b, of a group, by the group's mark among those that lead to a
+unfoldable pub inMarked : (ℕ → Option ℕ) → List ℕ → List ℕ → ℕ → ℕ → ℕ → ℕ → Bool
+inMarked sup ins classes stamp group a b =
+    elim (eqb (getD ins group 0) stamp) [ true ↦ below sup (getD classes b 0) (getD classes a 0) | false ↦ true ]
+
+-- what is found of a and b: tied ones of two classes; else the way in which one that leads to the other isn't its class or below
+unfoldable pub pairFound : (ℕ → Option ℕ) → List ℕ → List ℕ → List ℕ → List ℕ → List ℕ → ℕ → ℕ → ℕ → Found
+pairFound sup groups classes outs ins aboves stamp a b = elim (eqb (getD groups a 0) (getD groups b 0)) [
+  | true ↦ elim (eqb (getD classes a 0) (getD classes b 0)) [ true ↦ NoPair | false ↦ Pair a b ]
+  | false ↦ elim (outMarked outs aboves classes stamp (getD groups b 0) a b) [
+    | true ↦ elim (inMarked sup ins classes stamp (getD groups b 0) a b) [ true ↦ NoPair | false ↦ Pair b a ]
+    | false ↦ Pair a b
+  ]
+]
+
+-- none is found of a and b: tied ones have one class, and where one is marked as led to from the other its class is that one's or above it
+pub record PairFine (sup : ℕ → Option ℕ) (groups classes outs ins aboves : List ℕ) (stamp a b : ℕ) : Type 0 where
+  pub tied : getD groups a 0 ≡ getD groups b 0 → getD classes a 0 ≡ getD classes b 0
+  pub out : (getD groups a 0 ≡ getD groups b 0 → ⊥) → Marked stamp outs (getD groups b 0) → isAbove aboves stamp (getD classes a 0) (getD classes b 0) ≡ true
+  pub into : (getD groups a 0 ≡ getD groups b 0 → ⊥) → Marked stamp ins (getD groups b 0) → below sup (getD classes b 0) (getD classes a 0) ≡ true
+
+-- r is not before `from`; between them no place is to be looked at: not all are, and they aren't marked
+pub record NextMet (marks : List ℕ) (stamp : ℕ) (everyOne : Bool) (from r : ℕ) : Type 0 where
   pub low : from ≤ r
-  pub here : r < n → getD groups r 0 ≡ r
-  pub none : (p : ℕ) → p < r → from ≤ p → getD groups p 0 ≡ p → getD heads p 0 ≡ 0
+  pub none : (p : ℕ) → p < r → from ≤ p → (everyOne ≡ true) ⊎ Marked stamp marks p → ⊥
+
+-- What is found of all pairs
+
+-- place `new` is in no pair that breaks agreement
+abbrev pub Fresh : (ℕ → Option ℕ) → List ℕ → List ℕ → ℕ → ℕ → ℕ → Type 0
+Fresh sup groups classes n noted new = (b : ℕ) → b < n → (pairOn sup groups classes n noted new b ≡ true) × (pairOn sup groups classes n noted b new ≡ true)
+
+-- none, and all pairs agree; or one of two of n places that doesn't, and `new` is in it or in none that doesn't
+pub data Finding (sup : ℕ → Option ℕ) (groups classes : List ℕ) (n noted new : ℕ) : Found → Type 0 where
+  agree : agreeOn sup groups classes n noted ≡ true → Finding sup groups classes n noted new NoPair
+  apart : (a b : ℕ) → a < n → b < n → pairOn sup groups classes n noted a b ≡ false
+      → ((a ≡ new) ⊎ (b ≡ new)) ⊎ (new < n → Fresh sup groups classes n noted new) → Finding sup groups classes n noted new (Pair a b)

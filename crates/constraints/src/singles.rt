@@ -1,33 +1,16 @@
 // Rows that break agreement by themselves: no chain is shorter, and most clashes have one.
 use crate::joining::place;
-use crate::upward::above;
+use crate::upward::is_below;
 use cells::at16;
 use cells::put16;
 ghost use mathlib.Core.Path.{_≡_};
 ghost use Prim.Native.Nat.{_<_, _≤_};
 ghost use lib.ListN.{length};
 ghost use Rattle.definition.specs.Numbers.{shortRange};
-ghost use Rattle.definition.specs.Superclasses.{below};
 ghost use Rattle.constraints.specs.Nodes.{placeLimit};
 ghost use Rattle.constraints.specs.Agreement.{superIn};
 ghost use Rattle.constraints.specs.Walks.{badOver};
 ghost use Rattle.constraints.specs.Choosing.{held, alone, OneSize, consideredAlone, Alone};
-
-// Class c is class d or below it.
-fn is_below(supers: &[u8], c: usize, d: usize) -> bool
-    requires { ⌜ c < shortRange ⌝ }
-    ensures { λ r. ⌜ r ≡ below (superIn (now (supers .entry))) c d ⌝ }
-{
-    let mut next = c + 1;
-    while 0 < next {
-        let class = next - 1;
-        if class == d {
-            return true;
-        }
-        next = above(supers, class);
-    }
-    false
-}
 
 // Class d is bad for class c.
 fn is_bad_for(supers: &[u8], only: bool, c: usize, d: usize) -> bool

@@ -9,7 +9,8 @@ ghost use lib.ListN.{getD};
 ghost use Rattle.constraints.specs.Agreement.{superIn};
 ghost use Rattle.constraints.specs.Search.{Stamped};
 ghost use Rattle.constraints.specs.Upward.{classOf, Raised};
-ghost use Rattle.definition.specs.Numbers.{byteRange};
+ghost use Rattle.definition.specs.Numbers.{byteRange, shortRange};
+ghost use Rattle.definition.specs.Superclasses.{below};
 
 // One more than the number of the class directly above a class, 0 if there is none.
 pub(crate) fn above(supers: &[u8], class: usize) -> usize
@@ -30,4 +31,20 @@ pub(crate) fn mark_above(supers: &[u8], classes: &[u16], a: usize, stamp: u16, a
         put16(aboves, class, stamp);
         next = above(supers, class);
     }
+}
+
+// Class c is class d or below it.
+pub(crate) fn is_below(supers: &[u8], c: usize, d: usize) -> bool
+    requires { ⌜ c < shortRange ⌝ }
+    ensures { λ r. ⌜ r ≡ below (superIn (now (supers .entry))) c d ⌝ }
+{
+    let mut next = c + 1;
+    while 0 < next {
+        let class = next - 1;
+        if class == d {
+            return true;
+        }
+        next = above(supers, class);
+    }
+    false
 }

@@ -5,8 +5,8 @@ use borrow.Author.Needs.{needs}
 use Rattle.constraints.specs.Agreement.{superIn}
 use Rattle.constraints.proofs.Supers.{super-falls}
 use Rattle.constraints.proofs.Alones.{Climbing, climbing-first, climbing-here, climbing-on, climbing-end}
-use Rattle.constraints.proofs.singles.is_below.Statement.{statement}
-use Rattle.constraints.proofs.singles.is_below.Tie as tie
+use Rattle.constraints.proofs.upward.is_below.Statement.{statement}
+use Rattle.constraints.proofs.upward.is_below.Tie as tie
 
 abbrev Inv-loop : tie.InvT-loop
 Inv-loop supers c d next₀ next = Climbing (superIn supers) (super-falls supers) c d next

@@ -1,0 +1,110 @@
+// Pairs of cached requests: whether one breaks agreement.
+use crate::joining::place;
+use crate::upward::is_below;
+use cells::at16;
+ghost use mathlib.Core.Path.{_≡_};
+ghost use Rattle.constraints.specs.Agreement.{superIn};
+ghost use Rattle.constraints.specs.Pairs.{outMarked, inMarked, pairFound, isPair, NextMet};
+
+// What is found: no pair that breaks agreement, or one, from a place to another.
+pub(crate) enum Found {
+    NoPair,
+    Pair(usize, usize),
+}
+
+// It is a pair.
+pub(crate) fn is_pair(found: Found) -> bool
+    ensures { λ r. ⌜ r ≡ isPair found ⌝ }
+{
+    match found {
+        Found::NoPair => false,
+        Found::Pair(a, b) => true,
+    }
+}
+
+// Request b, of that group, has a's class or one above it, if a leads to it: `outs` has the groups that a leads to, `aboves` the classes above a's.
+fn out_agrees(
+    outs: &[u16],
+    aboves: &[u16],
+    classes: &[u16],
+    stamp: u16,
+    group: usize,
+    a: usize,
+    b: usize,
+) -> bool
+    ensures { λ r. ⌜ r ≡ outMarked (now (outs .entry)) (now (aboves .entry)) (now (classes .entry)) stamp group a b ⌝ }
+{
+    if at16(outs, group) != stamp {
+        return true;
+    }
+    let class = place(classes, b);
+    if place(classes, a) == class {
+        return true;
+    }
+    at16(aboves, class) == stamp
+}
+
+// Request b, of that group, has a's class or one below it, if it leads to a: `ins` has the groups that lead to a.
+fn in_agrees(
+    supers: &[u8],
+    ins: &[u16],
+    classes: &[u16],
+    stamp: u16,
+    group: usize,
+    a: usize,
+    b: usize,
+) -> bool
+    ensures { λ r. ⌜ r ≡ inMarked (superIn (now (supers .entry))) (now (ins .entry)) (now (classes .entry)) stamp group a b ⌝ }
+{
+    if at16(ins, group) != stamp {
+        return true;
+    }
+    is_below(supers, place(classes, b), place(classes, a))
+}
+
+// The pair of requests a and b, tied, or one of which leads to the other: whether it breaks agreement, and which way.
+pub(crate) fn pair_at(
+    supers: &[u8],
+    groups: &[u16],
+    classes: &[u16],
+    outs: &[u16],
+    ins: &[u16],
+    aboves: &[u16],
+    stamp: u16,
+    a: usize,
+    b: usize,
+) -> Found
+    ensures { λ r. ⌜ r ≡ pairFound (superIn (now (supers .entry))) (now (groups .entry)) (now (classes .entry)) (now (outs .entry)) (now (ins .entry)) (now (aboves .entry)) stamp a b ⌝ }
+{
+    let group = place(groups, b);
+    if place(groups, a) == group {
+        if at16(classes, a) == at16(classes, b) {
+            return Found::NoPair;
+        }
+        return Found::Pair(a, b);
+    }
+    if !out_agrees(outs, aboves, classes, stamp, group, a, b) {
+        return Found::Pair(a, b);
+    }
+    if !in_agrees(supers, ins, classes, stamp, group, a, b) {
+        return Found::Pair(b, a);
+    }
+    Found::NoPair
+}
+
+// The next request from a place on, before the end, that is to be looked at: any, or only one that is marked.
+pub(crate) fn next_met(marks: &[u16], stamp: u16, all: bool, from: usize, end: usize) -> usize
+    ensures { λ r. ⌜ NextMet (now (marks .entry)) stamp all from r ⌝ }
+{
+    if all {
+        return from;
+    }
+    let mut b = from;
+    while b < end {
+        if at16(marks, b) == stamp {
+            return b;
+        }
+        b += 1;
+    }
+    b
+}
