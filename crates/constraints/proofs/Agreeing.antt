@@ -20,7 +20,7 @@ use Rattle.laws.specs.Chains.{requests, leads-chain, chain-leads, chain-join, c
 use Rattle.layout.specs.Tests.{same-test}
 use Rattle.constraints.specs.Nodes.{requestOf, AllNumbered, NodesOf, ClassesOf}
 use Rattle.constraints.specs.Groups.{Tied, same, node, tie, back, on, GroupsOf}
-use Rattle.constraints.specs.Search.{startOf, endOf, linkOf, linksOf, leadsOn}
+use Rattle.constraints.specs.Search.{startOf, linkOf, linksOf, leadsOn}
 use Rattle.constraints.specs.Pairs.{pairIs, pairOn, agreeOn}
 use Rattle.constraints.proofs.Rows.{in-rows, rows-in, all-same}
 use Rattle.constraints.proofs.Renaming.{Carried, carried}
@@ -54,7 +54,7 @@ module _ (cache : List ℕ) (n : ℕ) (ties : List ℕ) (tied : ℕ) (subtypes :
   theSubtypes = subtypeEdges (rows (subtypeAt subtypes) noted 0)
 
   abbrev theLinks : List (Edge Request)
-  theLinks = linksOf groups n noted
+  theLinks = linksOf groups n (n + noted) noted
 
   -- tied places are those whose requests ties join
 
@@ -119,8 +119,8 @@ module _ (cache : List ℕ) (n : ℕ) (ties : List ℕ) (tied : ℕ) (subtypes :
   tied-onward p q h k t = stay (ap (λ (x : ℕ). at 0 x) (isGroup .all p q h k t))
 
   link-of : (i : ℕ) → i < noted → Onward (n + i) (n + noted + i)
-  unfolding linksOf linkOf startOf endOf
-  link-of i h = hop (stay refl) (in-rows (linkOf groups n noted) noted 0 i (omega arith) (omega arith))
+  unfolding linksOf linkOf startOf
+  link-of i h = hop (stay refl) (in-rows (linkOf groups n (n + noted)) noted 0 i (omega arith) (omega arith))
 
   any-link : (d : Edge Request) → List·Memᴰ d (theTies ++ theSubtypes) → Carried named Onward places d
   any-link d m = elim (List·Memᴰ·append-cases theTies m) [ inl a ↦ one (tie-places d a) | inr b ↦ two (of-subtype (rows (subtypeAt subtypes) noted 0) d b) ]
@@ -159,9 +159,9 @@ module _ (cache : List ℕ) (n : ℕ) (ties : List ℕ) (tied : ℕ) (subtypes :
       chain-more (λ d m. Memᴰ·append-left theSubtypes m) (tied-chains (group-tied p q h k (ap (λ (r : Request). r .name) e)) .0)
 
   link-back : (d : Edge Request) → List·Memᴰ d theLinks → Carried grouped Leading places d
-  unfolding linksOf linkOf startOf endOf
+  unfolding linksOf linkOf startOf
   link-back d m =
-      let p = rows-in (linkOf groups n noted) noted 0 d m in
+      let p = rows-in (linkOf groups n (n + noted)) noted 0 d m in
       let h : p .number < noted = omega (arith, p .high) in
       record {
         start = n + p .number;

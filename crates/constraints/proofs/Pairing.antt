@@ -19,7 +19,7 @@ use Rattle.laws.specs.Chains.{requests, leads-chain, chain-leads}
 use Rattle.laws.specs.Upward.{below-true, true-below, below-trans}
 use Rattle.constraints.specs.Groups.{Rooted}
 use Rattle.constraints.specs.Joining.{Joined}
-use Rattle.constraints.specs.Search.{startOf, endOf, linkOf, linksOf, leadsOn, Led, Link, Marked, Stamped, Searched}
+use Rattle.constraints.specs.Search.{startOf, linkOf, linksOf, leadsOn, Led, Link, Marked, Stamped, Searched}
 use Rattle.constraints.specs.Upward.{Raised, isAbove}
 use Rattle.constraints.specs.Pairs.{pairIs, pairOn, agreeOn, tiedOn, pairMarked, NextStart}
 use Rattle.constraints.proofs.Rows.{Order, less, equal, more, order, in-rows, rows-in}
@@ -68,8 +68,8 @@ module _ (marks aboves classes : List ℕ) (stamp a b : ℕ) where
 pub record Passed (sup : ℕ → Option ℕ) (groups classes : List ℕ) (n noted a : ℕ) : Type 0 where
   pub stamp : ℕ
   pub marks : List ℕ
-  pub first : (y : ℕ) → Link groups n noted a y → Marked stamp marks y
-  pub closed : (x y : ℕ) → n ≤ x → Marked stamp marks x → Link groups n noted x y → Marked stamp marks y
+  pub first : (y : ℕ) → Link groups n (n + noted) noted a y → Marked stamp marks y
+  pub closed : (x y : ℕ) → n ≤ x → Marked stamp marks x → Link groups n (n + noted) noted x y → Marked stamp marks y
   pub fit : (b : ℕ) → b < n → Marked stamp marks b → Below sup (getD classes a 0) (getD classes b 0)
 
 -- the firsts of groups below a have passed, and a is one
@@ -81,7 +81,7 @@ pub record Tested (sup : ℕ → Option ℕ) (groups classes : List ℕ) (n note
   pub done : (m : ℕ) → m < a → m < n → getD groups m 0 ≡ m → Passed sup groups classes n noted m
 
 -- nothing is marked where no link starts
-passed-unlinked : (sup : ℕ → Option ℕ) (groups classes : List ℕ) (n noted a : ℕ) → ((y : ℕ) → Link groups n noted a y → ⊥)
+passed-unlinked : (sup : ℕ → Option ℕ) (groups classes : List ℕ) (n noted a : ℕ) → ((y : ℕ) → Link groups n (n + noted) noted a y → ⊥)
     → Passed sup groups classes n noted a
 passed-unlinked sup groups classes n noted a none = record {
   stamp = 1;
@@ -107,7 +107,7 @@ module _ (sup : ℕ → Option ℕ) (groups classes heads nexts : List ℕ) (n n
   }
 
   pub tested-next : {a c stamp : ℕ} {marks queue aboves marks′ queue′ aboves′ : List ℕ} → stamp ≡ a + 1 → a < n
-      → Tested sup groups classes n noted a marks queue aboves → Searched groups n noted stamp a marks′ → length queue′ ≡ 1280
+      → Tested sup groups classes n noted a marks queue aboves → Searched groups n n (n + noted) noted stamp a marks′ → length queue′ ≡ 1280
       → Raised sup (getD classes a 0) stamp aboves′
       → ((b : ℕ) → b < n → Marked stamp marks′ b → Below sup (getD classes a 0) (getD classes b 0)) → NextStart groups heads n (a + 1) c
       → Tested sup groups classes n noted c marks′ queue′ aboves′
@@ -140,11 +140,11 @@ module _ (sup : ℕ → Option ℕ) (falls : Falls sup) (groups classes : List �
 
   module _ (rooted : Rooted groups (n + noted + noted)) where
     -- a link and its ends
-    link-in : (x : ℕ) (z : Request) → List·Memᴰ (edge (at 0 x) z) (linksOf groups n noted) → (y : ℕ) × (z ≡ at 0 y) × Link groups n noted x y
+    link-in : (x : ℕ) (z : Request) → List·Memᴰ (edge (at 0 x) z) (linksOf groups n (n + noted) noted) → (y : ℕ) × (z ≡ at 0 y) × Link groups n (n + noted) noted x y
     unfolding linksOf linkOf
     link-in x z m =
-        let p = rows-in (linkOf groups n noted) noted 0 (edge (at 0 x) z) m in (
-          endOf groups n noted (p .number),
+        let p = rows-in (linkOf groups n (n + noted)) noted 0 (edge (at 0 x) z) m in (
+          startOf groups (n + noted) (p .number),
           ap (λ (k : Edge Request). k .to) (p .is),
           record {
             number = p .number;
@@ -154,23 +154,23 @@ module _ (sup : ℕ → Option ℕ) (falls : Falls sup) (groups classes : List �
           },
         )
 
-    start-own : {x y : ℕ} → Link groups n noted x y → group x ≡ x
+    start-own : {x y : ℕ} → Link groups n (n + noted) noted x y → group x ≡ x
     unfolding startOf
     start-own l = rw (l .start) at (rooted .top (n + l .number) (omega (arith, l .fits)))
 
-    end-own : {x y : ℕ} → Link groups n noted x y → group y ≡ y
-    unfolding endOf
+    end-own : {x y : ℕ} → Link groups n (n + noted) noted x y → group y ≡ y
+    unfolding startOf
     end-own l = rw (l .end) at (rooted .top (n + noted + l .number) (omega (arith, l .fits)))
 
     -- what a leads to, its end named by a group
-    pub led-own : {a : ℕ} {z : Request} → group a ≡ a → Chain (linksOf groups n noted) (at 0 a) z → (y : ℕ) × (z ≡ at 0 y) × (group y ≡ y)
+    pub led-own : {a : ℕ} {z : Request} → group a ≡ a → Chain (linksOf groups n (n + noted) noted) (at 0 a) z → (y : ℕ) × (z ≡ at 0 y) × (group y ≡ y)
     led-own {a} h (stay e) = (a, sym e, h)
     led-own {a} {z} h (hop c m) =
         let r = led-own h c in
         let l = link-in (r .0) z (rw (r .1) at m) in (l .0, l .1, end-own (l .2))
 
     -- a marked pair that does not agree
-    pair-false : (a b : ℕ) → group a ≡ a → Led groups n noted a b → below sup (class a) (class b) ≡ false
+    pair-false : (a b : ℕ) → group a ≡ a → Led groups n (n + noted) noted a b → below sup (class a) (class b) ≡ false
         → pairOn sup groups classes n noted a b ≡ false
     unfolding pairOn pairIs leadsOn
     pair-false a b o c h = go (eqb (group a) (group b)) refl
@@ -179,13 +179,13 @@ module _ (sup : ℕ → Option ℕ) (falls : Falls sup) (groups classes : List �
         end = let r = led-own o c in let e : b ≡ r .0 = ap (λ (k : Request). k .name) (r .1) in rw (sym e) at (r .2)
 
         go : (t : Bool) → eqb (group a) (group b) ≡ t
-            → (elim t as (λ _. Bool) [ true ↦ eqb (class a) (class b) | false ↦ elim (leads sameRequest (linksOf groups n noted) (at 0 (group a)) (at 0 (group b))) as (λ _. Bool) [ true ↦ below sup (class a) (class b) | false ↦ true ] ]) ≡ false
+            → (elim t as (λ _. Bool) [ true ↦ eqb (class a) (class b) | false ↦ elim (leads sameRequest (linksOf groups n (n + noted) noted) (at 0 (group a)) (at 0 (group b))) as (λ _. Bool) [ true ↦ below sup (class a) (class b) | false ↦ true ] ]) ≡ false
         go true q =
             let e : a ≡ b = sym o ∙ eqb-true (group a) (group b) q ∙ end in
             absurd (false≢true (sym h ∙ true-below sup falls (class a) (class b) (same (ap (λ (x : ℕ). class x) e))))
-        go false q = rw (o, end, chain-leads requests (linksOf groups n noted) (at 0 a) (at 0 b) c) h
+        go false q = rw (o, end, chain-leads requests (linksOf groups n (n + noted) noted) (at 0 a) (at 0 b) c) h
 
-    pub not-agreed : (a b : ℕ) → a < n → b < n → group a ≡ a → Led groups n noted a b → below sup (class a) (class b) ≡ false
+    pub not-agreed : (a b : ℕ) → a < n → b < n → group a ≡ a → Led groups n (n + noted) noted a b → below sup (class a) (class b) ≡ false
         → false ≡ agreeOn sup groups classes n noted
     unfolding agreeOn
     not-agreed a b f g o c h = go (agreeOn sup groups classes n noted) refl
@@ -223,7 +223,7 @@ module _ (sup : ℕ → Option ℕ) (falls : Falls sup) (groups classes : List �
         lower : Below sup (class a) (class m)
         reached : (y ≡ m) ⊎ Marked (all-passed m fits own .stamp) (all-passed m fits own .marks) y
 
-      held-on : {a x y : ℕ} → Link groups n noted x y → Held a x → Held a y
+      held-on : {a x y : ℕ} → Link groups n (n + noted) noted x y → Held a x → Held a y
       held-on {a} {x} {y} l h = go (h .reached) (ltb x n) refl
         where
           from : (m : ℕ) (f : m < n) (o : group m ≡ m) → Below sup (class a) (class m) → x ≡ m → Held a y
@@ -244,14 +244,14 @@ module _ (sup : ℕ → Option ℕ) (falls : Falls sup) (groups classes : List �
             reached = inr (all-passed (h .m) (h .fits) (h .own) .closed x y (ltb-false x n q) k l);
           }
 
-      held : {a : ℕ} {z : Request} → a < n → group a ≡ a → Chain (linksOf groups n noted) (at 0 a) z → (y : ℕ) × (z ≡ at 0 y) × Held a y
+      held : {a : ℕ} {z : Request} → a < n → group a ≡ a → Chain (linksOf groups n (n + noted) noted) (at 0 a) z → (y : ℕ) × (z ≡ at 0 y) × Held a y
       held {a} f o (stay e) = (a, sym e, record { m = a; fits = f; own = o; lower = same refl; reached = inl refl })
       held {a} {z} f o (hop c m) =
           let r = held f o c in
           let l = link-in (r .0) z (rw (r .1) at m) in (l .0, l .1, held-on (l .2) (r .2))
 
       -- what a leads to has its class or one above it
-      led-fits : (a b : ℕ) → a < n → b < n → group a ≡ a → Led groups n noted a b → Below sup (class a) (class b)
+      led-fits : (a b : ℕ) → a < n → b < n → group a ≡ a → Led groups n (n + noted) noted a b → Below sup (class a) (class b)
       led-fits a b f g o c = let r = held f o c in
           let e : b ≡ r .0 = ap (λ (k : Request). k .name) (r .1) in end (rw (sym e) at (r .2))
         where
@@ -265,7 +265,7 @@ module _ (sup : ℕ → Option ℕ) (falls : Falls sup) (groups classes : List �
 
       pair-agrees : (a b : ℕ) → a < n → b < n → pairOn sup groups classes n noted a b ≡ true
       unfolding pairOn pairIs leadsOn
-      pair-agrees a b f g = go (eqb (group a) (group b)) refl (leads sameRequest (linksOf groups n noted) (at 0 (group a)) (at 0 (group b))) refl
+      pair-agrees a b f g = go (eqb (group a) (group b)) refl (leads sameRequest (linksOf groups n (n + noted) noted) (at 0 (group a)) (at 0 (group b))) refl
         where
           low : (p : ℕ) → p < n → group p < n
           low p h = omega (arith, rooted .low p (omega arith))
@@ -273,13 +273,13 @@ module _ (sup : ℕ → Option ℕ) (falls : Falls sup) (groups classes : List �
           own : (p : ℕ) → p < n → group (group p) ≡ group p
           own p h = rooted .top p (omega arith)
 
-          go : (t : Bool) → eqb (group a) (group b) ≡ t → (l : Bool) → leads sameRequest (linksOf groups n noted) (at 0 (group a)) (at 0 (group b)) ≡ l
+          go : (t : Bool) → eqb (group a) (group b) ≡ t → (l : Bool) → leads sameRequest (linksOf groups n (n + noted) noted) (at 0 (group a)) (at 0 (group b)) ≡ l
               → (elim t as (λ _. Bool) [ true ↦ eqb (class a) (class b) | false ↦ elim l as (λ _. Bool) [ true ↦ below sup (class a) (class b) | false ↦ true ] ]) ≡ true
           go true q l r = eq-eqb (class a) (class b)
               (sym (classed a f) ∙ ap (λ (x : ℕ). class x) (eqb-true (group a) (group b) q) ∙ classed b g)
           go false q true r = true-below sup falls (class a) (class b) (rw (classed a f, classed b g) at
               (led-fits (group a) (group b) (low a f) (low b g) (own a f)
-              (leads-chain requests (linksOf groups n noted) (at 0 (group a)) (at 0 (group b)) r)))
+              (leads-chain requests (linksOf groups n (n + noted) noted) (at 0 (group a)) (at 0 (group b)) r)))
           go false q false r = refl
 
       pub all-agree : agreeOn sup groups classes n noted ≡ true

@@ -1,18 +1,19 @@
--- The search: a group is marked once, and queued once if it has no cached request; the links that start at a group are visited one after the
--- other; and once each queued group's links were visited, the marks hold only what is led to and are closed up to cached requests.
+-- The search: a group is marked once, and queued once if it is not below `stop`; the links that start at a group are visited one after the
+-- other; and once each queued group's links were visited, the marks hold only what is led to and are closed up to groups below `stop`.
 use mathlib.Core.Path.{_≡_, refl, sym, ap, _∙_}
 use mathlib.Core.List.{List, List·Memᴰ}
 use mathlib.Core.Logic.{_⊎_, inl, inr}
-use Prim.Native.Nat.{ℕ, suc, _+_, _<_, _≤_}
+use Prim.Native.Nat.{ℕ, suc, _+_, _-_, _<_, _≤_}
 use native.Mathlib.Nat.{eq-or-lt-of-le}
 use native.Mathlib.Omega.{arith}
 use lib.ListN.{length, getD, set, length-set}
 use lib.Seq.{getD-set-same, getD-set-other}
-use Rattle.definition.specs.Chains.{stay, hop}
-use Rattle.definition.specs.Requests.{at}
+use Rattle.definition.specs.Chains.{Edge, Chain, stay, hop}
+use Rattle.definition.specs.Requests.{Request, at}
+use Rattle.laws.specs.Chains.{chain-join}
 use Rattle.constraints.specs.Joining.{Last}
-use Rattle.constraints.specs.Search.{startOf, endOf, linkOf, linksOf, Led, Link, Marked, Stamped, Queued, Grown, Visited, Expanded, Searched}
-use Rattle.constraints.proofs.Rows.{Order, less, equal, more, order, in-rows}
+use Rattle.constraints.specs.Search.{startOf, linkOf, linksOf, Led, Link, Marked, Stamped, Queued, Grown, Visited, Expanded, Searched}
+use Rattle.constraints.proofs.Rows.{Order, less, equal, more, order, in-rows, rows-in}
 use Rattle.constraints.proofs.Edges.{edge, edge-at}
 use Rattle.constraints.proofs.Marking.{new-mark, set-mark, keep-mark, stamped-set, stamped-more, mark-low, marked-le, marked-set}
 
@@ -28,19 +29,19 @@ grown-on a b = record {
   place = λ p h. b .place p (omega (arith, a .more)) ∙ a .place p h;
 }
 
-pub tail-low : {cached stamp : ℕ} {marks queue : List ℕ} {tail : ℕ} → Queued cached stamp marks queue tail → tail ≤ 1280
-tail-low {cached} {stamp} {marks} s = omega (arith, marked-le stamp marks, s .few, s .stamped .long)
+pub tail-low : {stop stamp : ℕ} {marks queue : List ℕ} {tail : ℕ} → Queued stop stamp marks queue tail → tail ≤ 1280
+tail-low {stop} {stamp} {marks} s = omega (arith, marked-le stamp marks, s .few, s .stamped .long)
 
-module _ (cached stamp x : ℕ) (marks queue : List ℕ) (tail : ℕ) (s : Queued cached stamp marks queue tail) where
-  pub visit-old : Marked stamp marks x → Visited cached stamp x marks queue tail marks queue tail
+module _ (stop stamp x : ℕ) (marks queue : List ℕ) (tail : ℕ) (s : Queued stop stamp marks queue tail) where
+  pub visit-old : Marked stamp marks x → Visited stop stamp x marks queue tail marks queue tail
   visit-old m = record { queued = s; grown = grown-same; it = m; only = λ y k. inl k }
 
   module _ (h : x < 1280) (n : Marked stamp marks x → ⊥) where
     long : x < length marks
     long = omega (arith, s .stamped .long)
 
-    pub visit-cached : x < cached → Visited cached stamp x marks queue tail (set marks x stamp) queue tail
-    visit-cached l = record {
+    pub visit-low : x < stop → Visited stop stamp x marks queue tail (set marks x stamp) queue tail
+    visit-low l = record {
       queued = record {
         stamped = stamped-set stamp x marks long (s .stamped);
         queueLong = s .queueLong;
@@ -53,7 +54,7 @@ module _ (cached stamp x : ℕ) (marks queue : List ℕ) (tail : ℕ) (s : Queue
       only = set-mark stamp x marks long;
     }
       where
-        one : (y : ℕ) → cached ≤ y → Marked stamp marks y ⊎ (y ≡ x) → (p : ℕ) × (p < tail) × (getD queue p 0 ≡ y)
+        one : (y : ℕ) → stop ≤ y → Marked stamp marks y ⊎ (y ≡ x) → (p : ℕ) × (p < tail) × (getD queue p 0 ≡ y)
         one y c (inl m) = s .isQueued y c m
         one y c (inr e) = absurd (omega arith)
 
@@ -67,7 +68,7 @@ module _ (cached stamp x : ℕ) (marks queue : List ℕ) (tail : ℕ) (s : Queue
     queue-end : getD (set queue tail x) tail 0 ≡ x
     queue-end = getD-set-same queue tail x 0 (omega (arith, room, s .queueLong))
 
-    pub visit-new : Visited cached stamp x marks queue tail (set marks x stamp) (set queue tail x) (tail + 1)
+    pub visit-new : Visited stop stamp x marks queue tail (set marks x stamp) (set queue tail x) (tail + 1)
     visit-new = record {
       queued = record {
         stamped = stamped-set stamp x marks long (s .stamped);
@@ -88,22 +89,22 @@ module _ (cached stamp x : ℕ) (marks queue : List ℕ) (tail : ℕ) (s : Queue
         one p (inl e) = rw (e, queue-end) (new-mark stamp x marks long)
         one p (inr l) = rw (queue-at p l) (keep-mark stamp x marks long (getD queue p 0) (s .isMarked p l))
 
-        two : (y : ℕ) → cached ≤ y → Marked stamp marks y ⊎ (y ≡ x) → (p : ℕ) × (p < tail + 1) × (getD (set queue tail x) p 0 ≡ y)
+        two : (y : ℕ) → stop ≤ y → Marked stamp marks y ⊎ (y ≡ x) → (p : ℕ) × (p < tail + 1) × (getD (set queue tail x) p 0 ≡ y)
         two y c (inl m) = let r = s .isQueued y c m in (r .0, omega (arith, r .1), queue-at (r .0) (r .1) ∙ r .2)
         two y c (inr e) = (tail, omega arith, queue-end ∙ sym e)
 
 -- what is queued is a group
-pub queue-low : {cached stamp : ℕ} {marks queue : List ℕ} {tail : ℕ} → 0 < stamp → Queued cached stamp marks queue tail → (p : ℕ) → p < tail
+pub queue-low : {stop stamp : ℕ} {marks queue : List ℕ} {tail : ℕ} → 0 < stamp → Queued stop stamp marks queue tail → (p : ℕ) → p < tail
     → getD queue p 0 < 1280
-queue-low {cached} {stamp} {marks} {queue} h s p l = rw (s .stamped .long) at (mark-low stamp marks (getD queue p 0) h (s .isMarked p l))
+queue-low {stop} {stamp} {marks} {queue} h s p l = rw (s .stamped .long) at (mark-low stamp marks (getD queue p 0) h (s .isMarked p l))
 
 -- nothing is marked with a new stamp yet
-module _ (a stamp : ℕ) (marks queue : List ℕ) (new : a < stamp) (s : Stamped 1280 a marks) (long : length queue ≡ 1280) where
+module _ (stamp : ℕ) (marks queue : List ℕ) (new : 0 < stamp) (s : Stamped 1280 (stamp - 1) marks) (long : length queue ≡ 1280) where
   pub none-marked : (x : ℕ) → Marked stamp marks x → ⊥
   none-marked x m = omega (arith, s .most x)
 
-  pub queued-none : (cached : ℕ) → Queued cached stamp marks queue 0
-  queued-none cached = record {
+  pub queued-none : (stop : ℕ) → Queued stop stamp marks queue 0
+  queued-none stop = record {
     stamped = stamped-more (omega arith) s;
     queueLong = long;
     few = omega arith;
@@ -114,18 +115,18 @@ module _ (a stamp : ℕ) (marks queue : List ℕ) (new : a < stamp) (s : Stamped
 -- Visiting the ends of a group's links, the last link first
 
 -- the links from number f on were visited; f is 0, or one more than a link that starts at x
-pub record Expanding (groups : List ℕ) (cached noted stamp x f : ℕ) (marks queue : List ℕ) (tail : ℕ) (marks′ queue′ : List ℕ) (tail′ : ℕ)
+pub record Expanding (groups : List ℕ) (stop from to noted stamp x f : ℕ) (marks queue : List ℕ) (tail : ℕ) (marks′ queue′ : List ℕ) (tail′ : ℕ)
     : Type 0 where
   pub high : f ≤ noted
-  pub here : (e : ℕ) → f ≡ suc e → startOf groups cached e ≡ x
-  pub queued : Queued cached stamp marks′ queue′ tail′
+  pub here : (e : ℕ) → f ≡ suc e → startOf groups from e ≡ x
+  pub queued : Queued stop stamp marks′ queue′ tail′
   pub grown : Grown stamp marks queue tail marks′ queue′ tail′
-  pub all : (y : ℕ) (l : Link groups cached noted x y) → f ≤ l .number → Marked stamp marks′ y
-  pub only : (y : ℕ) → Marked stamp marks′ y → Marked stamp marks y ⊎ Link groups cached noted x y
+  pub all : (y : ℕ) (l : Link groups from to noted x y) → f ≤ l .number → Marked stamp marks′ y
+  pub only : (y : ℕ) → Marked stamp marks′ y → Marked stamp marks y ⊎ Link groups from to noted x y
 
-module _ (groups : List ℕ) (cached noted stamp x : ℕ) where
-  pub expanding-none : {f : ℕ} {marks queue : List ℕ} {tail : ℕ} → Last (startOf groups cached) x noted f → Queued cached stamp marks queue tail
-      → Expanding groups cached noted stamp x f marks queue tail marks queue tail
+module _ (groups : List ℕ) (stop from to noted stamp x : ℕ) where
+  pub expanding-none : {f : ℕ} {marks queue : List ℕ} {tail : ℕ} → Last (startOf groups from) x noted f → Queued stop stamp marks queue tail
+      → Expanding groups stop from to noted stamp x f marks queue tail marks queue tail
   expanding-none {f} last s = record {
     high = last .high;
     here = last .here;
@@ -135,9 +136,9 @@ module _ (groups : List ℕ) (cached noted stamp x : ℕ) where
     only = λ y m. inl m;
   }
 
-  pub expanding-one : {f e g : ℕ} {m q m′ q′ m″ q″ : List ℕ} {t t′ t″ : ℕ} → f ≡ suc e → Last (startOf groups cached) (startOf groups cached e) e g
-      → Expanding groups cached noted stamp x f m q t m′ q′ t′ → Visited cached stamp (endOf groups cached noted e) m′ q′ t′ m″ q″ t″
-      → Expanding groups cached noted stamp x g m q t m″ q″ t″
+  pub expanding-one : {f e g : ℕ} {m q m′ q′ m″ q″ : List ℕ} {t t′ t″ : ℕ} → f ≡ suc e → Last (startOf groups from) (startOf groups from e) e g
+      → Expanding groups stop from to noted stamp x f m q t m′ q′ t′ → Visited stop stamp (startOf groups to e) m′ q′ t′ m″ q″ t″
+      → Expanding groups stop from to noted stamp x g m q t m″ q″ t″
   expanding-one {f} {e} {g} {m} {q} {m′} {q′} {m″} {q″} i last s v = record {
     high = omega (arith, last .high, s .high);
     here = λ d k. last .here d k ∙ start;
@@ -147,40 +148,58 @@ module _ (groups : List ℕ) (cached noted stamp x : ℕ) where
     only = λ y k. new y (v .only y k);
   }
     where
-      start : startOf groups cached e ≡ x
+      start : startOf groups from e ≡ x
       start = s .here e i
 
-      later : (y : ℕ) (l : Link groups cached noted x y) → g ≤ l .number → Order (l .number) e → Marked stamp m″ y
+      later : (y : ℕ) (l : Link groups from to noted x y) → g ≤ l .number → Order (l .number) e → Marked stamp m″ y
       later y l h (less p) = absurd (last .none (l .number) h p (l .start ∙ sym start))
       later y l h (equal p) = rw (sym (l .end), p) (v .it)
       later y l h (more p) = v .grown .still y (s .all y l (omega arith))
 
-      new : (y : ℕ) → Marked stamp m′ y ⊎ (y ≡ endOf groups cached noted e) → Marked stamp m y ⊎ Link groups cached noted x y
+      new : (y : ℕ) → Marked stamp m′ y ⊎ (y ≡ startOf groups to e) → Marked stamp m y ⊎ Link groups from to noted x y
       new y (inl k) = s .only y k
       new y (inr k) = inr (record { number = e; fits = omega (arith, s .high); start = start; end = sym k })
 
-  pub expanding-all : {f : ℕ} {m q m′ q′ : List ℕ} {t t′ : ℕ} → f ≤ 0 → Expanding groups cached noted stamp x f m q t m′ q′ t′
-      → Expanded groups cached noted stamp x m q t m′ q′ t′
+  pub expanding-all : {f : ℕ} {m q m′ q′ : List ℕ} {t t′ : ℕ} → f ≤ 0 → Expanding groups stop from to noted stamp x f m q t m′ q′ t′
+      → Expanded groups stop from to noted stamp x m q t m′ q′ t′
   expanding-all h s = record { queued = s .queued; grown = s .grown; all = λ y l. s .all y l (omega arith); only = s .only }
 
--- Searching from a: its links and those of the queue's first `done` groups were visited
+-- Links as edges
 
-pub record Searching (groups : List ℕ) (cached noted stamp a done : ℕ) (marks queue : List ℕ) (tail : ℕ) : Type 0 where
-  pub high : done ≤ tail
-  pub queued : Queued cached stamp marks queue tail
-  pub sound : (y : ℕ) → Marked stamp marks y → Led groups cached noted a y
-  pub first : (y : ℕ) → Link groups cached noted a y → Marked stamp marks y
-  pub closed : (p : ℕ) → p < done → (y : ℕ) → Link groups cached noted (getD queue p 0) y → Marked stamp marks y
-
-module _ (groups : List ℕ) (n noted stamp a : ℕ) where
-  link-edge : (x y : ℕ) → Link groups n noted x y → List·Memᴰ (edge (at 0 x) (at 0 y)) (linksOf groups n noted)
+module _ (groups : List ℕ) (from to noted : ℕ) where
+  link-edge : (x y : ℕ) → Link groups from to noted x y → List·Memᴰ (edge (at 0 x) (at 0 y)) (linksOf groups from to noted)
   unfolding linksOf linkOf
   link-edge x y l =
       edge-at (ap (λ (z : ℕ). at 0 z) (sym (l .start))) (ap (λ (z : ℕ). at 0 z) (sym (l .end)))
-      (in-rows (linkOf groups n noted) noted 0 (l .number) (omega arith) (omega (arith, l .fits)))
+      (in-rows (linkOf groups from to) noted 0 (l .number) (omega arith) (omega (arith, l .fits)))
 
-  pub searching-start : {m q m′ q′ : List ℕ} {t t′ : ℕ} → ((x : ℕ) → Marked stamp m x → ⊥) → Expanded groups n noted stamp a m q t m′ q′ t′
-      → Searching groups n noted stamp a 0 m′ q′ t′
+  -- the links of the other way, turned
+  turned-link : (d : Edge Request) → List·Memᴰ d (linksOf groups to from noted) → List·Memᴰ (edge (d .to) (d .from)) (linksOf groups from to noted)
+  unfolding linksOf linkOf
+  turned-link d m =
+      let p = rows-in (linkOf groups to from) noted 0 d m in
+      edge-at (ap (λ (k : Edge Request). k .to) (p .is)) (ap (λ (k : Edge Request). k .from) (p .is))
+      (in-rows (linkOf groups from to) noted 0 (p .number) (omega arith) (omega (arith, p .high)))
+
+  chain-back : {x y : Request} → Chain (linksOf groups to from noted) x y → Chain (linksOf groups from to noted) y x
+  chain-back (stay e) = stay (sym e)
+  chain-back (hop c m) = chain-join (hop (stay refl) (turned-link _ m)) (chain-back c)
+
+pub led-back : (groups : List ℕ) (from to noted : ℕ) {a b : ℕ} → Led groups to from noted a b → Led groups from to noted b a
+led-back groups from to noted c = chain-back groups from to noted c
+
+-- Searching from a: its links and those of the queue's first `done` groups were visited
+
+pub record Searching (groups : List ℕ) (stop from to noted stamp a done : ℕ) (marks queue : List ℕ) (tail : ℕ) : Type 0 where
+  pub high : done ≤ tail
+  pub queued : Queued stop stamp marks queue tail
+  pub sound : (y : ℕ) → Marked stamp marks y → Led groups from to noted a y
+  pub first : (y : ℕ) → Link groups from to noted a y → Marked stamp marks y
+  pub closed : (p : ℕ) → p < done → (y : ℕ) → Link groups from to noted (getD queue p 0) y → Marked stamp marks y
+
+module _ (groups : List ℕ) (stop from to noted stamp a : ℕ) where
+  pub searching-start : {m q m′ q′ : List ℕ} {t t′ : ℕ} → ((x : ℕ) → Marked stamp m x → ⊥) → Expanded groups stop from to noted stamp a m q t m′ q′ t′
+      → Searching groups stop from to noted stamp a 0 m′ q′ t′
   searching-start {m} none v = record {
     high = omega arith;
     queued = v .queued;
@@ -189,12 +208,12 @@ module _ (groups : List ℕ) (n noted stamp a : ℕ) where
     closed = λ p h. absurd (omega arith);
   }
     where
-      new : (y : ℕ) → Marked stamp m y ⊎ Link groups n noted a y → Led groups n noted a y
+      new : (y : ℕ) → Marked stamp m y ⊎ Link groups from to noted a y → Led groups from to noted a y
       new y (inl k) = absurd (none y k)
-      new y (inr l) = hop (stay refl) (link-edge a y l)
+      new y (inr l) = hop (stay refl) (link-edge groups from to noted a y l)
 
-  pub searching-one : {d : ℕ} {m q m′ q′ : List ℕ} {t t′ : ℕ} → d < t → Searching groups n noted stamp a d m q t
-      → Expanded groups n noted stamp (getD q d 0) m q t m′ q′ t′ → Searching groups n noted stamp a (d + 1) m′ q′ t′
+  pub searching-one : {d : ℕ} {m q m′ q′ : List ℕ} {t t′ : ℕ} → d < t → Searching groups stop from to noted stamp a d m q t
+      → Expanded groups stop from to noted stamp (getD q d 0) m q t m′ q′ t′ → Searching groups stop from to noted stamp a (d + 1) m′ q′ t′
   searching-one {d} {m} {q} {m′} {q′} {t} {t′} h s v = record {
     high = omega (arith, v .grown .more);
     queued = v .queued;
@@ -206,16 +225,16 @@ module _ (groups : List ℕ) (n noted stamp a : ℕ) where
       low : (p : ℕ) → p < d + 1 → p ≤ d
       low p l = omega arith
 
-      new : (y : ℕ) → Marked stamp m y ⊎ Link groups n noted (getD q d 0) y → Led groups n noted a y
+      new : (y : ℕ) → Marked stamp m y ⊎ Link groups from to noted (getD q d 0) y → Led groups from to noted a y
       new y (inl k) = s .sound y k
-      new y (inr l) = hop (s .sound (getD q d 0) (s .queued .isMarked d h)) (link-edge (getD q d 0) y l)
+      new y (inr l) = hop (s .sound (getD q d 0) (s .queued .isMarked d h)) (link-edge groups from to noted (getD q d 0) y l)
 
-      old : (p y : ℕ) → (p ≡ d) ⊎ (p < d) → Link groups n noted (getD q p 0) y → Marked stamp m′ y
+      old : (p y : ℕ) → (p ≡ d) ⊎ (p < d) → Link groups from to noted (getD q p 0) y → Marked stamp m′ y
       old p y (inl e) l = v .all y (rw e at l)
       old p y (inr k) l = v .grown .still y (s .closed p k y l)
 
-  pub searched : {d : ℕ} {marks queue : List ℕ} {tail : ℕ} → tail ≤ d → Searching groups n noted stamp a d marks queue tail
-      → Searched groups n noted stamp a marks
+  pub searched : {d : ℕ} {marks queue : List ℕ} {tail : ℕ} → tail ≤ d → Searching groups stop from to noted stamp a d marks queue tail
+      → Searched groups stop from to noted stamp a marks
   searched h s = record {
     stamped = s .queued .stamped;
     sound = s .sound;

@@ -71,8 +71,8 @@ module _ (sup : ℕ → Option ℕ) (c stamp : ℕ) where
   onward e (same q) = inl (sym q)
   onward {d} {x} {u} e (up {p} s b) = inr (p, class-some u p (sym e ∙ s), b)
 
-  pub raising-start : (a u : ℕ) (aboves : List ℕ) → a < stamp → Stamped 256 a aboves → sup c ≡ classOf u → u < 256 → Raising sup c stamp u aboves
-  raising-start a u aboves h s e l = record {
+  pub raising-start : (u : ℕ) (aboves : List ℕ) → 0 < stamp → Stamped 256 (stamp - 1) aboves → sup c ≡ classOf u → u < 256 → Raising sup c stamp u aboves
+  raising-start u aboves h s e l = record {
     stamped = stamped-more (omega arith) s;
     few = l;
     here = λ p q. up (e ∙ some-class u p q) (same refl);

@@ -1,5 +1,5 @@
--- The search from a cached request over the groups that subtype constraints lead to. It does not go on from a group with a cached request.
--- Link e leads from the group at place `cached` + e, of the constraint's lower name, to the group `noted` places behind, of its higher.
+-- A search over the groups that links lead to. It does not go on from a group below `stop`.
+-- Link e leads from the group at place `from` + e to the group at place `to` + e.
 use mathlib.Core.Path.{_≡_}
 use mathlib.Core.Bool.{Bool, true, false}
 use mathlib.Core.List.{List, [], _∷_}
@@ -14,31 +14,30 @@ use Rattle.constraints.specs.Nodes.{placeLimit}
 
 -- Links
 
+-- the group at place `from` + e
 unfoldable pub startOf : List ℕ → ℕ → ℕ → ℕ
-startOf groups cached e = getD groups (cached + e) 0
-
-unfoldable pub endOf : List ℕ → ℕ → ℕ → ℕ → ℕ
-endOf groups cached noted e = getD groups (cached + noted + e) 0
+startOf groups from e = getD groups (from + e) 0
 
 unfoldable pub linkOf : List ℕ → ℕ → ℕ → ℕ → Edge Request
-linkOf groups cached noted e = record { from = at 0 (startOf groups cached e); to = at 0 (endOf groups cached noted e) }
+linkOf groups from to e = record { from = at 0 (startOf groups from e); to = at 0 (startOf groups to e) }
 
-unfoldable pub linksOf : List ℕ → ℕ → ℕ → List (Edge Request)
-linksOf groups cached noted = rows (linkOf groups cached noted) noted 0
+unfoldable pub linksOf : List ℕ → ℕ → ℕ → ℕ → List (Edge Request)
+linksOf groups from to noted = rows (linkOf groups from to) noted 0
 
 -- a chain of links goes from group a to group b
-abbrev pub Led : List ℕ → ℕ → ℕ → ℕ → ℕ → Type 0
-Led groups cached noted a b = Chain (linksOf groups cached noted) (at 0 a) (at 0 b)
+abbrev pub Led : List ℕ → ℕ → ℕ → ℕ → ℕ → ℕ → Type 0
+Led groups from to noted a b = Chain (linksOf groups from to noted) (at 0 a) (at 0 b)
 
+-- whether one of subtype constraints does, each from the group of its lower name to the group `noted` places behind, of its higher
 unfoldable pub leadsOn : List ℕ → ℕ → ℕ → ℕ → ℕ → Bool
-leadsOn groups cached noted a b = leads sameRequest (linksOf groups cached noted) (at 0 a) (at 0 b)
+leadsOn groups cached noted a b = leads sameRequest (linksOf groups cached (cached + noted) noted) (at 0 a) (at 0 b)
 
 -- a link from x to y
-pub record Link (groups : List ℕ) (cached noted x y : ℕ) : Type 0 where
+pub record Link (groups : List ℕ) (from to noted x y : ℕ) : Type 0 where
   pub number : ℕ
   pub fits : number < noted
-  pub start : startOf groups cached number ≡ x
-  pub end : endOf groups cached noted number ≡ y
+  pub start : startOf groups from number ≡ x
+  pub end : startOf groups to number ≡ y
 
 -- Marks: a cell with the search's stamp, a number above those of earlier searches
 
@@ -54,13 +53,13 @@ pub record Stamped (size stamp : ℕ) (marks : List ℕ) : Type 0 where
   pub long : length marks ≡ size
   pub most : (x : ℕ) → getD marks x 0 ≤ stamp
 
--- the queue's first `tail` places hold the marked groups without a cached request
-pub record Queued (cached stamp : ℕ) (marks queue : List ℕ) (tail : ℕ) : Type 0 where
+-- the queue's first `tail` places hold marked groups, among them those from `stop` on
+pub record Queued (stop stamp : ℕ) (marks queue : List ℕ) (tail : ℕ) : Type 0 where
   pub stamped : Stamped placeLimit stamp marks
   pub queueLong : length queue ≡ placeLimit
   pub few : tail ≤ marked stamp marks
   pub isMarked : (p : ℕ) → p < tail → Marked stamp marks (getD queue p 0)
-  pub isQueued : (x : ℕ) → cached ≤ x → Marked stamp marks x → (p : ℕ) × (p < tail) × (getD queue p 0 ≡ x)
+  pub isQueued : (x : ℕ) → stop ≤ x → Marked stamp marks x → (p : ℕ) × (p < tail) × (getD queue p 0 ≡ x)
 
 -- marks and queue grew
 pub record Grown (stamp : ℕ) (marks queue : List ℕ) (tail : ℕ) (marks′ queue′ : List ℕ) (tail′ : ℕ) : Type 0 where
@@ -68,23 +67,23 @@ pub record Grown (stamp : ℕ) (marks queue : List ℕ) (tail : ℕ) (marks′ q
   pub still : (x : ℕ) → Marked stamp marks x → Marked stamp marks′ x
   pub place : (p : ℕ) → p < tail → getD queue′ p 0 ≡ getD queue p 0
 
--- a group was marked, and queued if it has no cached request
-pub record Visited (cached stamp x : ℕ) (marks queue : List ℕ) (tail : ℕ) (marks′ queue′ : List ℕ) (tail′ : ℕ) : Type 0 where
-  pub queued : Queued cached stamp marks′ queue′ tail′
+-- a group was marked, and queued if it is not below `stop`
+pub record Visited (stop stamp x : ℕ) (marks queue : List ℕ) (tail : ℕ) (marks′ queue′ : List ℕ) (tail′ : ℕ) : Type 0 where
+  pub queued : Queued stop stamp marks′ queue′ tail′
   pub grown : Grown stamp marks queue tail marks′ queue′ tail′
   pub it : Marked stamp marks′ x
   pub only : (y : ℕ) → Marked stamp marks′ y → Marked stamp marks y ⊎ (y ≡ x)
 
 -- the ends of the links from x were visited
-pub record Expanded (groups : List ℕ) (cached noted stamp x : ℕ) (marks queue : List ℕ) (tail : ℕ) (marks′ queue′ : List ℕ) (tail′ : ℕ) : Type 0 where
-  pub queued : Queued cached stamp marks′ queue′ tail′
+pub record Expanded (groups : List ℕ) (stop from to noted stamp x : ℕ) (marks queue : List ℕ) (tail : ℕ) (marks′ queue′ : List ℕ) (tail′ : ℕ) : Type 0 where
+  pub queued : Queued stop stamp marks′ queue′ tail′
   pub grown : Grown stamp marks queue tail marks′ queue′ tail′
-  pub all : (y : ℕ) → Link groups cached noted x y → Marked stamp marks′ y
-  pub only : (y : ℕ) → Marked stamp marks′ y → Marked stamp marks y ⊎ Link groups cached noted x y
+  pub all : (y : ℕ) → Link groups from to noted x y → Marked stamp marks′ y
+  pub only : (y : ℕ) → Marked stamp marks′ y → Marked stamp marks y ⊎ Link groups from to noted x y
 
--- what is marked from a: only what it leads to; the ends of its links; and of the links from marked groups without a cached request
-pub record Searched (groups : List ℕ) (cached noted stamp a : ℕ) (marks : List ℕ) : Type 0 where
+-- what is marked from a: only what it leads to; the ends of its links; and of the links from marked groups that are not below `stop`
+pub record Searched (groups : List ℕ) (stop from to noted stamp a : ℕ) (marks : List ℕ) : Type 0 where
   pub stamped : Stamped placeLimit stamp marks
-  pub sound : (y : ℕ) → Marked stamp marks y → Led groups cached noted a y
-  pub first : (y : ℕ) → Link groups cached noted a y → Marked stamp marks y
-  pub closed : (x y : ℕ) → cached ≤ x → Marked stamp marks x → Link groups cached noted x y → Marked stamp marks y
+  pub sound : (y : ℕ) → Marked stamp marks y → Led groups from to noted a y
+  pub first : (y : ℕ) → Link groups from to noted a y → Marked stamp marks y
+  pub closed : (x y : ℕ) → stop ≤ x → Marked stamp marks x → Link groups from to noted x y → Marked stamp marks y

@@ -98,6 +98,8 @@ fn pairs_agree(
         search(
             groups,
             cached,
+            cached,
+            cached + noted,
             noted,
             heads,
             nexts,

@@ -1,32 +1,31 @@
-// The search from a cached request, over groups.
+// A search over groups. Link e leads from the group at place `from` + e to the group at place `to` + e.
 use crate::joining::place;
 use cells::at16;
 use cells::put16;
 ghost use mathlib.Core.Path.{_≡_};
-ghost use Prim.Native.Nat.{_+_, _<_, _≤_};
+ghost use Prim.Native.Nat.{ℕ, _+_, _-_, _<_, _≤_};
 ghost use lib.ListN.{length};
 ghost use Rattle.constraints.specs.Nodes.{placeLimit};
-ghost use Rattle.constraints.specs.Groups.{Rooted};
 ghost use Rattle.constraints.specs.Joining.{Joined};
 ghost use Rattle.constraints.specs.Search.{startOf, Stamped, Queued, Visited, Expanded, Searched};
 
-// Marks a group with the stamp and, if it has no cached request, queues it, if it isn't marked yet. Answers how many are queued.
+// Marks a group with the stamp and, if it is not below `stop`, queues it, if it isn't marked yet. Answers how many are queued.
 fn visit(
     group: usize,
-    cached: usize,
+    stop: usize,
     stamp: u16,
     marks: &mut [u16],
     queue: &mut [u16],
     tail: usize,
 ) -> usize
-    requires { ⌜ (group < placeLimit) × (0 < stamp) × Queued cached stamp (now marks) (now queue) tail ⌝ }
-    ensures { λ r. ⌜ Visited cached stamp group (now (marks .entry)) (now (queue .entry)) tail (now (marks .exit)) (now (queue .exit)) r ⌝ }
+    requires { ⌜ (group < placeLimit) × (0 < stamp) × Queued stop stamp (now marks) (now queue) tail ⌝ }
+    ensures { λ r. ⌜ Visited stop stamp group (now (marks .entry)) (now (queue .entry)) tail (now (marks .exit)) (now (queue .exit)) r ⌝ }
 {
     if at16(marks, group) == stamp {
         return tail;
     }
     put16(marks, group, stamp);
-    if group < cached {
+    if group < stop {
         return tail;
     }
     put16(queue, tail, group as u16);
@@ -36,7 +35,9 @@ fn visit(
 // Visits the end of each link that starts at a group.
 fn expand(
     groups: &[u16],
-    cached: usize,
+    stop: usize,
+    from: usize,
+    to: usize,
     noted: usize,
     heads: &[u16],
     nexts: &[u16],
@@ -46,24 +47,26 @@ fn expand(
     queue: &mut [u16],
     tail: usize,
 ) -> usize
-    requires { ⌜ (group < placeLimit) × (cached + noted + noted ≤ placeLimit) × (0 < stamp) × Rooted (now groups) (cached + noted + noted) × Joined (startOf (now groups) cached) noted (now heads) (now nexts) × Queued cached stamp (now marks) (now queue) tail ⌝ }
-    ensures { λ r. ⌜ Expanded (now (groups .entry)) cached noted stamp group (now (marks .entry)) (now (queue .entry)) tail (now (marks .exit)) (now (queue .exit)) r ⌝ }
+    requires { ⌜ (group < placeLimit) × (from + noted ≤ placeLimit) × (to + noted ≤ placeLimit) × (0 < stamp) × ((e : ℕ) → e < noted → startOf (now groups) to e < placeLimit) × Joined (startOf (now groups) from) noted (now heads) (now nexts) × Queued stop stamp (now marks) (now queue) tail ⌝ }
+    ensures { λ r. ⌜ Expanded (now (groups .entry)) stop from to noted stamp group (now (marks .entry)) (now (queue .entry)) tail (now (marks .exit)) (now (queue .exit)) r ⌝ }
 {
     let mut queued = tail;
     let mut follow = place(heads, group);
     while 0 < follow {
         let e = follow - 1;
-        let end = place(groups, cached + noted + e);
-        queued = visit(end, cached, stamp, marks, queue, queued);
+        let end = place(groups, to + e);
+        queued = visit(end, stop, stamp, marks, queue, queued);
         follow = place(nexts, e);
     }
     queued
 }
 
-// Marks with the stamp what a cached request leads to, as far as the next cached ones.
+// Marks with the stamp what a group leads to, as far as the next groups below `stop`.
 pub(crate) fn search(
     groups: &[u16],
-    cached: usize,
+    stop: usize,
+    from: usize,
+    to: usize,
     noted: usize,
     heads: &[u16],
     nexts: &[u16],
@@ -72,12 +75,14 @@ pub(crate) fn search(
     marks: &mut [u16],
     queue: &mut [u16],
 )
-    requires { ⌜ (a < placeLimit) × (cached + noted + noted ≤ placeLimit) × (0 < stamp) × Rooted (now groups) (cached + noted + noted) × Joined (startOf (now groups) cached) noted (now heads) (now nexts) × Stamped placeLimit a (now marks) × (a < stamp) × (length (now queue) ≡ placeLimit) ⌝ }
-    ensures { λ _. ⌜ Searched (now (groups .entry)) cached noted stamp a (now (marks .exit)) ⌝ }
+    requires { ⌜ (a < placeLimit) × (from + noted ≤ placeLimit) × (to + noted ≤ placeLimit) × (0 < stamp) × ((e : ℕ) → e < noted → startOf (now groups) to e < placeLimit) × Joined (startOf (now groups) from) noted (now heads) (now nexts) × Stamped placeLimit (stamp - 1) (now marks) × (length (now queue) ≡ placeLimit) ⌝ }
+    ensures { λ _. ⌜ Searched (now (groups .entry)) stop from to noted stamp a (now (marks .exit)) ⌝ }
 {
     let mut tail = expand(
         groups,
-        cached,
+        stop,
+        from,
+        to,
         noted,
         heads,
         nexts,
@@ -92,7 +97,9 @@ pub(crate) fn search(
         let group = place(queue, done);
         tail = expand(
             groups,
-            cached,
+            stop,
+            from,
+            to,
             noted,
             heads,
             nexts,

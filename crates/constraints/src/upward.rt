@@ -4,7 +4,7 @@ use cells::at8;
 use cells::put16;
 use cells::wide8;
 ghost use mathlib.Core.Path.{_≡_};
-ghost use Prim.Native.Nat.{_<_, _≤_};
+ghost use Prim.Native.Nat.{_-_, _<_, _≤_};
 ghost use lib.ListN.{getD};
 ghost use Rattle.constraints.specs.Agreement.{superIn};
 ghost use Rattle.constraints.specs.Search.{Stamped};
@@ -22,7 +22,7 @@ pub(crate) fn above(supers: &[u8], class: usize) -> usize
 
 // Marks with the stamp the classes above that of request a.
 pub(crate) fn mark_above(supers: &[u8], classes: &[u16], a: usize, stamp: u16, aboves: &mut [u16])
-    requires { ⌜ (a < stamp) × Stamped byteRange a (now aboves) ⌝ }
+    requires { ⌜ (0 < stamp) × Stamped byteRange (stamp - 1) (now aboves) ⌝ }
     ensures { λ _. ⌜ Raised (superIn (now (supers .entry))) (getD (now (classes .entry)) a 0) stamp (now (aboves .exit)) ⌝ }
 {
     let mut next = above(supers, place(classes, a));

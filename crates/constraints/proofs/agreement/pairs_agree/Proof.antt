@@ -1,5 +1,5 @@
 -- The requests that were passed agree with all that they lead to; a marked pair that does not agree decides the test.
-use Prim.Native.Nat.{ℕ, _-_, _<_, _≤_}
+use Prim.Native.Nat.{ℕ, _+_, _-_, _<_, _≤_}
 use mathlib.Core.Bool.{true}
 use mathlib.Core.Path.{_≡_, refl, sym, _∙_}
 use native.Mathlib.Omega.{arith}
@@ -8,7 +8,8 @@ use denote.Ref.{now}
 use borrow.Author.Count.{below-more}
 use Rattle.definition.specs.Superclasses.{Below}
 use Rattle.constraints.specs.Agreement.{superIn}
-use Rattle.constraints.specs.Search.{Marked}
+use Rattle.constraints.specs.Search.{startOf, Marked}
+use Rattle.constraints.proofs.Marking.{stamped-more}
 use Rattle.constraints.proofs.Pairing.{Tested, tested-start, tested-next, classed-all, marked-fits, marked-unfit, not-agreed, all-agree}
 use Rattle.constraints.proofs.Supers.{super-falls}
 use borrow.Author.Needs.{needs}
@@ -35,13 +36,23 @@ pairs-holds c =
     (refl, tested-start _ _ _ _ _ _ _ (omega arith) (c .before .before .before .before .before .before .pre .3) (c .next-start .ensures))
 
 search-requires : tie.Need-search-requires Inv-loop μ-loop Inv-pairs μ-pairs
+unfolding startOf
 search-requires c κs =
     let pairs = c .before .before .before .pairs in
-    let pre = c .before .before .before .before .before .before .before .before .before .before .pre in
-    (omega arith, omega arith, omega arith, pre .2, pre .3, pairs .inv .1 .stamped, omega arith, pairs .inv .1 .queueLong)
+    let args = c .before .before .before .before .before .before .before .before .before .before .args in
+    let pre = c .before .before .before .before .before .before .before .before .before .before .pre in (
+      omega arith,
+      omega arith,
+      omega arith,
+      omega arith,
+      λ e h. omega (arith, pre .2 .low (args .cached + args .noted + e) (omega arith)),
+      pre .3,
+      stamped-more (omega arith) (pairs .inv .1 .stamped),
+      pairs .inv .1 .queueLong,
+    )
 
 mark-above-requires : tie.Need-mark-above-requires Inv-loop μ-loop Inv-pairs μ-pairs
-mark-above-requires c κs = (omega arith, c .before .before .before .before .before .before .before .pairs .inv .1 .raised)
+mark-above-requires c κs = (omega arith, stamped-more (omega arith) (c .before .before .before .before .before .before .before .pairs .inv .1 .raised))
 
 loop-holds : tie.Need-loop-holds Inv-loop μ-loop Inv-pairs μ-pairs
 loop-holds c =
@@ -77,7 +88,7 @@ pairs-again c =
     let pairs = at12 .pairs in (
       loop .inv .0,
       tested-next _ _ _ _ _ _ _ (omega (arith, at19 .pre .0)) (at19 .pre .3) refl (at11 .pairs-test .taken) (pairs .inv .1) (search .ensures)
-          (search .kept .1 .1 .1 .1 .1 .1 .1 .1 .0 ∙ pairs .inv .1 .queueLong) (c .before .before .before .before .mark-above .ensures) (λ b h. loop .inv .2 b (omega arith)) (c .next-start2 .ensures),
+          (search .kept .1 .1 .1 .1 .1 .1 .1 .1 .1 .1 .0 ∙ pairs .inv .1 .queueLong) (c .before .before .before .before .mark-above .ensures) (λ b h. loop .inv .2 b (omega arith)) (c .next-start2 .ensures),
     )
 
 returns : tie.Need-returns Inv-loop μ-loop Inv-pairs μ-pairs
@@ -110,6 +121,7 @@ pairs-agree-spec =
     μ-pairs
     (λ c κs. search needs)
     pairs-holds
+    (λ c. search needs)
     (λ c. search needs)
     (λ c. search needs)
     (λ c. search needs)

@@ -38,7 +38,7 @@ loop-holds c =
     (omega arith, at11 .pre .2, stamped-none 256 0, met-none (now (at11 .args .classes)), length-replicate {A = ℕ} 256 0, swept-none _ _ _ _ _ _ _ _ _)
 
 mark-above-requires : tie.Need-mark-above-requires Inv-loop μ-loop
-mark-above-requires c κs = (omega arith, c .before .before .before .before .before .before .before .before .loop .inv .2)
+mark-above-requires c κs = (omega arith, stamped-more (omega arith) (c .before .before .before .before .before .before .before .before .loop .inv .2))
 
 search-class-requires : tie.Need-search-class-requires Inv-loop μ-loop
 search-class-requires c κs =

@@ -9,29 +9,29 @@ use Rattle.constraints.proofs.search.search.Statement.{statement}
 use Rattle.constraints.proofs.search.search.Tie as tie
 
 abbrev Inv-loop : tie.InvT-loop
-Inv-loop groups cached noted heads nexts a stamp marks₀ queue₀ tail₀ done₀ marks queue tail done = Searching groups cached noted stamp a done marks queue tail
+Inv-loop groups stop from to noted heads nexts a stamp marks₀ queue₀ tail₀ done₀ marks queue tail done = Searching groups stop from to noted stamp a done marks queue tail
 
 abbrev μ-loop : tie.MeasureT-loop
-μ-loop groups cached noted heads nexts a stamp marks₀ queue₀ tail₀ done₀ marks queue tail done = 1280 - done
+μ-loop groups stop from to noted heads nexts a stamp marks₀ queue₀ tail₀ done₀ marks queue tail done = 1280 - done
 
 expand-requires : tie.Need-expand-requires Inv-loop μ-loop
 expand-requires c κs =
     let pre = c .before .before .before .before .before .before .before .pre in
-    (pre .0, pre .1, pre .2, pre .3, pre .4, queued-none _ _ _ _ (pre .6) (pre .5) (pre .7) _)
+    (pre .0, pre .1, pre .2, pre .3, pre .4, pre .5, queued-none _ _ _ (pre .3) (pre .6) (pre .7) _)
 
 loop-holds : tie.Need-loop-holds Inv-loop μ-loop
 loop-holds c =
     let at12 = c .before .before .before .before .before .before .before .before .before .before .before .before in
     let args = at12 .args in
     let pre = at12 .pre in
-    searching-start _ _ _ _ _ (none-marked (args .a) (args .stamp) (now (args .marks)) (now (args .queue)) (pre .6) (pre .5) (pre .7)) (c .before .before .before .before .expand .ensures)
+    searching-start _ _ _ _ _ _ _ (none-marked (args .stamp) (now (args .marks)) (now (args .queue)) (pre .3) (pre .6) (pre .7)) (c .before .before .before .before .expand .ensures)
 
 expand-requires-2 : tie.Need-expand-requires-2 Inv-loop μ-loop
 expand-requires-2 c κs =
     let at18 = c .before .before .before .before .before .before .before .before .before .before .before .before .before .before .before .before .before .before in
     let loop = c .before .before .before .before .before .loop in
     let pre = at18 .pre in
-    (rw (c .before .before .place .ensures .0) (queue-low (pre .2) (loop .inv .queued) (loop .done) (c .before .before .before .before .loop-test .taken)), pre .1, pre .2, pre .3, pre .4, loop .inv .queued)
+    (rw (c .before .before .place .ensures .0) (queue-low (pre .3) (loop .inv .queued) (loop .done) (c .before .before .before .before .loop-test .taken)), pre .1, pre .2, pre .3, pre .4, pre .5, loop .inv .queued)
 
 add-done : tie.Need-add-done Inv-loop μ-loop
 add-done c =
@@ -43,18 +43,18 @@ loop-less c =
 
 loop-again : tie.Need-loop-again Inv-loop μ-loop
 loop-again c =
-    searching-one _ _ _ _ _ (c .before .before .before .before .before .before .before .before .before .loop-test .taken) (c .before .before .before .before .before .before .before .before .before .before .loop .inv) (rw (c .before .before .before .before .before .before .before .place .ensures .0) at (c .before .before .before .before .expand2 .ensures))
+    searching-one _ _ _ _ _ _ _ (c .before .before .before .before .before .before .before .before .before .loop-test .taken) (c .before .before .before .before .before .before .before .before .before .before .loop .inv) (rw (c .before .before .before .before .before .before .before .place .ensures .0) at (c .before .before .before .before .expand2 .ensures))
 
 same-length : tie.Need-same-length Inv-loop μ-loop
 same-length c =
-    c .before .loop .inv .queued .stamped .long ∙ sym (c .before .before .before .before .before .before .before .before .before .before .before .before .before .before .pre .5 .long)
+    c .before .loop .inv .queued .stamped .long ∙ sym (c .before .before .before .before .before .before .before .before .before .before .before .before .before .before .pre .6 .long)
 
 same-length-2 : tie.Need-same-length-2 Inv-loop μ-loop
 same-length-2 c =
     c .before .loop .inv .queued .queueLong ∙ sym (c .before .before .before .before .before .before .before .before .before .before .before .before .before .before .pre .7)
 
 returns : tie.Need-returns Inv-loop μ-loop
-returns c = searched _ _ _ _ _ (c .loop-test .left) (c .before .loop .inv)
+returns c = searched _ _ _ _ _ _ _ (c .loop-test .left) (c .before .loop .inv)
 
 pub search-spec : {M : Type 1} → statement M
 search-spec =

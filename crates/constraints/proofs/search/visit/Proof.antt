@@ -3,7 +3,7 @@ use Prim.Native.Nat.{_<_}
 use mathlib.Core.Path.{sym, _∙_}
 use native.Mathlib.Omega.{arith}
 use denote.Ref.{now}
-use Rattle.constraints.proofs.Searching.{visit-old, visit-cached, visit-new, room}
+use Rattle.constraints.proofs.Searching.{visit-old, visit-low, visit-new, room}
 use borrow.Author.Needs.{needs}
 use Rattle.constraints.proofs.search.visit.Statement.{statement}
 use Rattle.constraints.proofs.search.visit.Tie as tie
@@ -15,7 +15,7 @@ returns c =
 returns-2 : tie.Need-returns-2
 returns-2 c =
     let pre = c .before .before .before .before .before .before .before .before .before .before .pre in
-    rw (c .before .before .before .put16 .ensures) (visit-cached _ _ _ _ _ _ (pre .2) (pre .0) (λ q. c .before .before .before .before .before .if1 .left (c .before .before .before .before .before .before .at16 .ensures ∙ q)) (omega (arith, c .if2 .taken)))
+    rw (c .before .before .before .put16 .ensures) (visit-low _ _ _ _ _ _ (pre .2) (pre .0) (λ q. c .before .before .before .before .before .if1 .left (c .before .before .before .before .before .before .at16 .ensures ∙ q)) (omega (arith, c .if2 .taken)))
 
 add-result : tie.Need-add-result
 add-result c =
@@ -24,7 +24,7 @@ add-result c =
     let at14 = at10 .before .before .before .before in
     let args = at14 .args in
     let pre = at14 .pre in
-    let low : args .tail < 1280 = room (args .cached) (args .stamp) (args .group) (now (args .marks)) (now (args .queue)) (args .tail) (pre .2) (pre .0)
+    let low : args .tail < 1280 = room (args .stop) (args .stamp) (args .group) (now (args .marks)) (now (args .queue)) (args .tail) (pre .2) (pre .0)
     (λ q. at9 .if1 .left (at10 .at16 .ensures ∙ q)) in
     omega arith
 

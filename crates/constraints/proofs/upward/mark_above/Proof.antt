@@ -17,7 +17,7 @@ abbrev μ-loop : tie.MeasureT-loop
 loop-holds : tie.Need-loop-holds Inv-loop μ-loop
 loop-holds c =
     let above = c .above in
-    raising-start _ _ _ _ _ _ (c .before .before .before .before .before .pre .0) (c .before .before .before .before .before .pre .1) (rw (c .before .place .ensures .0) at (above .ensures .0)) (above .ensures .2)
+    raising-start _ _ _ _ _ (c .before .before .before .before .before .pre .0) (c .before .before .before .before .before .pre .1) (rw (c .before .place .ensures .0) at (above .ensures .0)) (above .ensures .2)
 
 loop-less : tie.Need-loop-less Inv-loop μ-loop
 loop-less c = omega (arith, c .above2 .ensures .1, c .before .before .before .before .before .loop-test .taken)
