@@ -1,15 +1,16 @@
--- All pairs agree where tied requests do and the pairs that the searches mark do: what a request leads to beyond a cached one, that one leads
--- to, and below is transitive.
+-- Pairs of cached requests. What is found of two by marks, and when it says that they agree; a request's turn, after which it agrees with its group's first
+-- and with what it leads to as far as the next cached requests; and that all pairs agree once every turn is over: what a request leads to beyond a cached one, that
+-- one leads to, and below is transitive.
 use mathlib.Core.Path.{_≡_, refl, sym, ap, _∙_}
-use mathlib.Core.Bool.{Bool, true, false, not, false≢true}
+use mathlib.Core.Bool.{Bool, true, false, false≢true}
 use mathlib.Core.Option.{Option}
 use mathlib.Core.List.{List, [], List·Memᴰ}
 use mathlib.Core.Logic.{_⊎_, inl, inr}
-use Prim.Native.Nat.{ℕ, _+_, _<_, _≤_}
+use Prim.Native.Nat.{ℕ, zero, suc, _+_, _<_, _≤_}
 use native.Mathlib.Omega.{arith}
-use lib.ListN.{length, getD, replicate, length-replicate}
+use lib.ListN.{getD}
 use lib.Dec.{eqb, ltb}
-use borrow.Author.Tests.{eqb-true, eq-eqb, ne-eqb, ltb-true, ltb-false, not-true, not-false}
+use borrow.Author.Tests.{eqb-true, eqb-false, eq-eqb, ne-eqb, ltb-true, ltb-false}
 use Rattle.definition.specs.Lists.{rows, all}
 use Rattle.definition.specs.Chains.{Edge, Chain, stay, hop, leads}
 use Rattle.definition.specs.Requests.{Request, at, sameRequest}
@@ -18,13 +19,13 @@ use Rattle.laws.specs.Agreement.{all-at, all-of}
 use Rattle.laws.specs.Chains.{requests, leads-chain, chain-leads}
 use Rattle.laws.specs.Upward.{below-true, true-below, below-trans}
 use Rattle.constraints.specs.Groups.{Rooted}
-use Rattle.constraints.specs.Joining.{Joined}
-use Rattle.constraints.specs.Search.{startOf, linkOf, linksOf, leadsOn, Led, Link, Marked, Stamped, Searched}
+use Rattle.constraints.specs.Search.{startOf, linkOf, linksOf, leadsOn, Led, Link, Marked, Searched}
 use Rattle.constraints.specs.Upward.{Raised, isAbove}
-use Rattle.constraints.specs.Pairs.{pairIs, pairOn, agreeOn, tiedOn, pairMarked, NextStart}
+use Rattle.constraints.specs.Pairs.{Found, NoPair, Pair, isPair, pairIs, pairOn, agreeOn, outMarked, inMarked, pairFound, PairFine, Fresh, Finding, agree, apart}
+use Rattle.constraints.specs.Looking.{Span, requestAt, NextTurn, FirstTurn, Links, Marks, Tables, LookedFirst, LookedBack, LookedAhead, Looked}
 use Rattle.constraints.proofs.Rows.{Order, less, equal, more, order, in-rows, rows-in}
 use Rattle.constraints.proofs.Edges.{edge}
-use Rattle.constraints.proofs.Marking.{stamped-none, stamped-more}
+use Rattle.constraints.proofs.Marking.{stamped-more}
 use Rattle.constraints.proofs.Supers.{above-below}
 
 -- what a test of n places says of each
@@ -35,34 +36,88 @@ places-all : (f : ℕ → Bool) (n : ℕ) → ((i : ℕ) → i < n → f i ≡ t
 places-all f n h =
     all-of f (rows (λ i. i) n 0) (λ i m. let p = rows-in (λ (j : ℕ). j) n 0 i m in rw (p .is) (h (p .number) (omega (arith, p .high))))
 
--- a pair by the mark of its second
-module _ (marks aboves classes : List ℕ) (stamp a b : ℕ) where
-  pub marked-pair : Marked stamp marks b → pairMarked marks aboves classes stamp a b ≡ isAbove aboves stamp (getD classes a 0) (getD classes b 0)
-  unfolding pairMarked
-  marked-pair m = rw (eq-eqb (getD marks b 0) stamp m, pairMarked) refl
+-- What is found of two by marks
 
-  pub unmarked-pair : (Marked stamp marks b → ⊥) → pairMarked marks aboves classes stamp a b ≡ true
-  unfolding pairMarked
-  unmarked-pair n = rw (ne-eqb (getD marks b 0) stamp n, pairMarked) refl
+-- a test that a mark decides
+module _ (marks : List ℕ) (stamp group : ℕ) where
+  pub unmarked-test : (t : Bool) → (Marked stamp marks group → ⊥) → (elim (eqb (getD marks group 0) stamp) as (λ _. Bool) [ true ↦ t | false ↦ true ]) ≡ true
+  unmarked-test t n = rw (ne-eqb (getD marks group 0) stamp n) refl
 
-  module _ (sup : ℕ → Option ℕ) (falls : Falls sup) (r : Raised sup (getD classes a 0) stamp aboves) (t : Bool) (is : t ≡ pairMarked marks aboves classes stamp a b) where
-    -- a test that passed
-    pub marked-fits : not t ≡ false → Marked stamp marks b → Below sup (getD classes a 0) (getD classes b 0)
-    marked-fits h m =
-        below-true sup falls (getD classes a 0) (getD classes b 0)
-        (sym (above-below aboves stamp (getD classes a 0) (getD classes b 0) sup falls r) ∙ sym (marked-pair m) ∙ sym is ∙ not-false t h)
+  pub marked-test : (t : Bool) → Marked stamp marks group → (elim (eqb (getD marks group 0) stamp) as (λ _. Bool) [ true ↦ t | false ↦ true ]) ≡ t
+  marked-test t m = rw (eq-eqb (getD marks group 0) stamp m) refl
 
-    -- one that did not
-    pub marked-unfit : not t ≡ true → Marked stamp marks b × (below sup (getD classes a 0) (getD classes b 0) ≡ false)
-    unfolding pairMarked
-    marked-unfit h = go (eqb (getD marks b 0) stamp) refl (sym is ∙ not-true t h)
-      where
-        go : (s : Bool) → eqb (getD marks b 0) stamp ≡ s
-            → (elim s as (λ _. Bool) [ true ↦ isAbove aboves stamp (getD classes a 0) (getD classes b 0) | false ↦ true ]) ≡ false
-            → Marked stamp marks b × (below sup (getD classes a 0) (getD classes b 0) ≡ false)
-        go true e q =
-            (eqb-true (getD marks b 0) stamp e, sym (above-below aboves stamp (getD classes a 0) (getD classes b 0) sup falls r) ∙ q)
-        go false e q = absurd (false≢true (sym q))
+  failed-test : (t : Bool) → (elim (eqb (getD marks group 0) stamp) as (λ _. Bool) [ true ↦ t | false ↦ true ]) ≡ false → Marked stamp marks group × (t ≡ false)
+  failed-test t h = go (eqb (getD marks group 0) stamp) refl h
+    where
+      go : (s : Bool) → eqb (getD marks group 0) stamp ≡ s → (elim s as (λ _. Bool) [ true ↦ t | false ↦ true ]) ≡ false → Marked stamp marks group × (t ≡ false)
+      go true e q = (eqb-true (getD marks group 0) stamp e, q)
+      go false e q = absurd (false≢true (sym q))
+
+module _ (sup : ℕ → Option ℕ) (groups classes outs ins aboves : List ℕ) (stamp a b : ℕ) where
+  abbrev c : ℕ
+  c = getD classes a 0
+
+  abbrev d : ℕ
+  d = getD classes b 0
+
+  abbrev g : ℕ
+  g = getD groups b 0
+
+  abbrev Apart : Type 0
+  Apart = getD groups a 0 ≡ g → ⊥
+
+  -- why a pair is found, or none
+  pub data Judged : Found → Type 0 where
+    fine : PairFine sup groups classes outs ins aboves stamp a b → Judged NoPair
+    tied : getD groups a 0 ≡ g → (c ≡ d → ⊥) → Judged (Pair a b)
+    out : Apart → Marked stamp outs g → isAbove aboves stamp c d ≡ false → Judged (Pair a b)
+    into : Apart → Marked stamp ins g → below sup d c ≡ false → Judged (Pair b a)
+
+  pub judged : Judged (pairFound sup groups classes outs ins aboves stamp a b)
+  unfolding pairFound outMarked inMarked
+  judged = one (eqb (getD groups a 0) g) refl
+    where
+      outTest : Bool
+      outTest = elim (eqb (getD outs g 0) stamp) as (λ _. Bool) [ true ↦ isAbove aboves stamp c d | false ↦ true ]
+
+      inTest : Bool
+      inTest = elim (eqb (getD ins g 0) stamp) as (λ _. Bool) [ true ↦ below sup d c | false ↦ true ]
+
+      same-class : getD groups a 0 ≡ g → (t : Bool) → eqb c d ≡ t → Judged (elim t as (λ _. Found) [ true ↦ NoPair | false ↦ Pair a b ])
+      same-class q true e = fine (record { tied = λ _. eqb-true c d e; out = λ n. absurd (n q); into = λ n. absurd (n q) })
+      same-class q false e = tied q (eqb-false c d e)
+
+      in-test : Apart → outTest ≡ true → (t : Bool) → inTest ≡ t → Judged (elim t as (λ _. Found) [ true ↦ NoPair | false ↦ Pair b a ])
+      in-test n o true e = fine (record {
+        tied = λ q. absurd (n q);
+        out = λ _ m. sym (marked-test outs stamp g (isAbove aboves stamp c d) m) ∙ o;
+        into = λ _ m. sym (marked-test ins stamp g (below sup d c) m) ∙ e;
+      })
+      in-test n o false e = let r = failed-test ins stamp g (below sup d c) e in into n (r .0) (r .1)
+
+      out-test : Apart → (t : Bool) → outTest ≡ t
+          → Judged (elim t as (λ _. Found) [ true ↦ elim inTest as (λ _. Found) [ true ↦ NoPair | false ↦ Pair b a ] | false ↦ Pair a b ])
+      out-test n true e = in-test n e inTest refl
+      out-test n false e = let r = failed-test outs stamp g (isAbove aboves stamp c d) e in out n (r .0) (r .1)
+
+      one : (t : Bool) → eqb (getD groups a 0) g ≡ t
+          → Judged (elim t as (λ _. Found) [ true ↦ elim (eqb c d) as (λ _. Found) [ true ↦ NoPair | false ↦ Pair a b ] | false ↦ elim outTest as (λ _. Found) [ true ↦ elim inTest as (λ _. Found) [ true ↦ NoPair | false ↦ Pair b a ] | false ↦ Pair a b ] ])
+      one true e = same-class (eqb-true (getD groups a 0) g e) (eqb c d) refl
+      one false e = out-test (eqb-false (getD groups a 0) g e) outTest refl
+
+  -- none is found
+  pub judged-fine : {r : Found} → Judged r → isPair r ≡ false → PairFine sup groups classes outs ins aboves stamp a b
+  unfolding isPair
+  judged-fine (fine f) h = f
+  judged-fine (tied q n) h = absurd (false≢true (sym h))
+  judged-fine (out n m k) h = absurd (false≢true (sym h))
+  judged-fine (into n m k) h = absurd (false≢true (sym h))
+
+  -- where nothing is marked only tied ones are to agree
+  pub unmarked-fine : Apart → (Marked stamp outs g → ⊥) → (Marked stamp ins g → ⊥) → PairFine sup groups classes outs ins aboves stamp a b
+  unmarked-fine n o i = record { tied = λ q. absurd (n q); out = λ _ m. absurd (o m); into = λ _ m. absurd (i m) }
+
+-- Turns
 
 -- the search from a is done, and the cached requests that it marks have a's class or one above it
 pub record Passed (sup : ℕ → Option ℕ) (groups classes : List ℕ) (n noted a : ℕ) : Type 0 where
@@ -72,64 +127,39 @@ pub record Passed (sup : ℕ → Option ℕ) (groups classes : List ℕ) (n note
   pub closed : (x y : ℕ) → n ≤ x → Marked stamp marks x → Link groups n (n + noted) noted x y → Marked stamp marks y
   pub fit : (b : ℕ) → b < n → Marked stamp marks b → Below sup (getD classes a 0) (getD classes b 0)
 
--- the firsts of groups below a have passed, and a is one
-pub record Tested (sup : ℕ → Option ℕ) (groups classes : List ℕ) (n noted a : ℕ) (marks queue aboves : List ℕ) : Type 0 where
-  pub own : a < n → getD groups a 0 ≡ a
-  pub stamped : Stamped 1280 a marks
-  pub queueLong : length queue ≡ 1280
-  pub raised : Stamped 256 a aboves
-  pub done : (m : ℕ) → m < a → m < n → getD groups m 0 ≡ m → Passed sup groups classes n noted m
+-- the turn of request a is over: it has the class of its group's first and, if it is that one, its search passed
+pub record Fine (sup : ℕ → Option ℕ) (groups classes : List ℕ) (n noted a : ℕ) : Type 0 where
+  pub classed : getD classes (getD groups a 0) 0 ≡ getD classes a 0
+  pub passed : getD groups a 0 ≡ a → Passed sup groups classes n noted a
 
--- nothing is marked where no link starts
-passed-unlinked : (sup : ℕ → Option ℕ) (groups classes : List ℕ) (n noted a : ℕ) → ((y : ℕ) → Link groups n (n + noted) noted a y → ⊥)
-    → Passed sup groups classes n noted a
-passed-unlinked sup groups classes n noted a none = record {
-  stamp = 1;
-  marks = [];
-  first = λ y k. absurd (none y k);
-  closed = λ x y h m. absurd (omega arith);
-  fit = λ b h m. absurd (omega arith);
+-- the turns before this one are over
+pub record Tested (sup : ℕ → Option ℕ) (groups classes : List ℕ) (n noted new turn : ℕ) (outs ins queue aboves : List ℕ) : Type 0 where
+  pub isNew : turn ≡ 0 → new < n
+  pub tables : Tables noted turn outs ins queue aboves
+  pub fresh : 0 < turn → new < n → Fresh sup groups classes n noted new
+  pub done : (m : ℕ) → suc m < turn → m < n → Fine sup groups classes n noted m
+
+-- tables with marks up to a stamp have them up to a later one
+tables-more : {noted s t : ℕ} {outs ins queue aboves : List ℕ} → s ≤ t → Tables noted s outs ins queue aboves → Tables noted t outs ins queue aboves
+tables-more {noted} {s} {t} {outs} {ins} {queue} {aboves} h m = record {
+  outsMost = λ x. omega (arith, m .outsMost x);
+  insMost = λ x. omega (arith, m .insMost x);
+  full = later (m .full);
 }
+  where
+    later : (noted ≡ 0) ⊎ Marks s outs ins queue aboves → (noted ≡ 0) ⊎ Marks t outs ins queue aboves
+    later (inl z) = inl z
+    later (inr k) = inr (record {
+      outsAre = stamped-more h (k .outsAre);
+      insAre = stamped-more h (k .insAre);
+      queueLong = k .queueLong;
+      abovesAre = stamped-more h (k .abovesAre);
+    })
 
-module _ (sup : ℕ → Option ℕ) (groups classes heads nexts : List ℕ) (n noted : ℕ) (room : n ≤ 1280) (joined : Joined (startOf groups n) noted heads nexts) where
-  passed-none : (a : ℕ) → a < n → getD heads a 0 ≡ 0 → Passed sup groups classes n noted a
-  passed-none a h z =
-      passed-unlinked sup groups classes n noted a (λ y k. joined .head a (omega arith) .none (k .number) (omega arith) (k .fits) (k .start))
-
-  pub tested-start : {a : ℕ} → NextStart groups heads n 0 a
-      → Tested sup groups classes n noted a (replicate 1280 0) (replicate 1280 0) (replicate 256 0)
-  tested-start {a} s = record {
-    own = s .here;
-    stamped = stamped-none 1280 a;
-    queueLong = length-replicate {A = ℕ} 1280 0;
-    raised = stamped-none 256 a;
-    done = λ m h l o. passed-none m l (s .none m h (omega arith) o);
-  }
-
-  pub tested-next : {a c stamp : ℕ} {marks queue aboves marks′ queue′ aboves′ : List ℕ} → stamp ≡ a + 1 → a < n
-      → Tested sup groups classes n noted a marks queue aboves → Searched groups n n (n + noted) noted stamp a marks′ → length queue′ ≡ 1280
-      → Raised sup (getD classes a 0) stamp aboves′
-      → ((b : ℕ) → b < n → Marked stamp marks′ b → Below sup (getD classes a 0) (getD classes b 0)) → NextStart groups heads n (a + 1) c
-      → Tested sup groups classes n noted c marks′ queue′ aboves′
-  tested-next {a} {c} {stamp} {marks} {queue} {aboves} {marks′} e h t s long u f r = record {
-    own = r .here;
-    stamped = stamped-more (omega (arith, r .low)) (s .stamped);
-    queueLong = long;
-    raised = stamped-more (omega (arith, r .low)) (u .stamped);
-    done = λ m k l o. go m k l o (order m a);
-  }
-    where
-      go : (m : ℕ) → m < c → m < n → getD groups m 0 ≡ m → Order m a → Passed sup groups classes n noted m
-      go m k l o (less q) = t .done m q l o
-      go m k l o (equal q) = rw q (record { stamp = stamp; marks = marks′; first = s .first; closed = s .closed; fit = f })
-      go m k l o (more q) = passed-none m l (r .none m k (omega arith) o)
-
--- each has the class of its group's first
-pub classed-all : (groups classes : List ℕ) (n : ℕ) → tiedOn groups classes n ≡ true → (a : ℕ) → a < n → getD classes (getD groups a 0) 0 ≡ getD classes a 0
-unfolding tiedOn
-classed-all groups classes n h a l =
-    eqb-true (getD classes (getD groups a 0) 0) (getD classes a 0)
-    (all-places (λ a. eqb (getD classes (getD groups a 0) 0) (getD classes a 0)) n h a l)
+-- a request of the turn
+turn-request : {turn new a m : ℕ} → a ≡ requestAt turn new → turn ≡ suc m → a ≡ m
+unfolding requestAt
+turn-request {turn} {new} e z = e ∙ ap (λ (t : ℕ). requestAt t new) z
 
 module _ (sup : ℕ → Option ℕ) (falls : Falls sup) (groups classes : List ℕ) (n noted : ℕ) where
   abbrev class : ℕ → ℕ
@@ -138,9 +168,44 @@ module _ (sup : ℕ → Option ℕ) (falls : Falls sup) (groups classes : List �
   abbrev group : ℕ → ℕ
   group a = getD groups a 0
 
+  abbrev theLinks : List (Edge Request)
+  theLinks = linksOf groups n (n + noted) noted
+
+  abbrev Onto : ℕ → ℕ → Type 0
+  Onto = Led groups n (n + noted) noted
+
+  abbrev Linked : ℕ → ℕ → Type 0
+  Linked = Link groups n (n + noted) noted
+
+  -- A pair agrees, or not
+
+  pair-true : (a b : ℕ) → (group a ≡ group b → class a ≡ class b) → ((group a ≡ group b → ⊥) → Onto (group a) (group b) → Below sup (class a) (class b))
+      → pairOn sup groups classes n noted a b ≡ true
+  unfolding pairOn pairIs leadsOn
+  pair-true a b t l = go (eqb (group a) (group b)) refl (leads sameRequest theLinks (at 0 (group a)) (at 0 (group b))) refl
+    where
+      go : (x : Bool) → eqb (group a) (group b) ≡ x → (y : Bool) → leads sameRequest theLinks (at 0 (group a)) (at 0 (group b)) ≡ y
+          → (elim x as (λ _. Bool) [ true ↦ eqb (class a) (class b) | false ↦ elim y as (λ _. Bool) [ true ↦ below sup (class a) (class b) | false ↦ true ] ]) ≡ true
+      go true e y q = eq-eqb (class a) (class b) (t (eqb-true (group a) (group b) e))
+      go false e true q =
+          true-below sup falls (class a) (class b)
+          (l (eqb-false (group a) (group b) e) (leads-chain requests theLinks (at 0 (group a)) (at 0 (group b)) q))
+      go false e false q = refl
+
+  tied-false : (a b : ℕ) → group a ≡ group b → (class a ≡ class b → ⊥) → pairOn sup groups classes n noted a b ≡ false
+  unfolding pairOn pairIs
+  tied-false a b e d = rw (eq-eqb (group a) (group b) e, pairIs) (ne-eqb (class a) (class b) d)
+
+  led-false : (a b : ℕ) → (group a ≡ group b → ⊥) → Onto (group a) (group b) → below sup (class a) (class b) ≡ false
+      → pairOn sup groups classes n noted a b ≡ false
+  unfolding pairOn pairIs leadsOn
+  led-false a b d c h = rw (ne-eqb (group a) (group b) d, chain-leads requests theLinks (at 0 (group a)) (at 0 (group b)) c, pairIs) h
+
+  -- Links and what they lead to
+
   module _ (rooted : Rooted groups (n + noted + noted)) where
     -- a link and its ends
-    link-in : (x : ℕ) (z : Request) → List·Memᴰ (edge (at 0 x) z) (linksOf groups n (n + noted) noted) → (y : ℕ) × (z ≡ at 0 y) × Link groups n (n + noted) noted x y
+    link-in : (x : ℕ) (z : Request) → List·Memᴰ (edge (at 0 x) z) theLinks → (y : ℕ) × (z ≡ at 0 y) × Linked x y
     unfolding linksOf linkOf
     link-in x z m =
         let p = rows-in (linkOf groups n (n + noted)) noted 0 (edge (at 0 x) z) m in (
@@ -154,67 +219,180 @@ module _ (sup : ℕ → Option ℕ) (falls : Falls sup) (groups classes : List �
           },
         )
 
-    start-own : {x y : ℕ} → Link groups n (n + noted) noted x y → group x ≡ x
+    start-own : {x y : ℕ} → Linked x y → group x ≡ x
     unfolding startOf
     start-own l = rw (l .start) at (rooted .top (n + l .number) (omega (arith, l .fits)))
 
-    end-own : {x y : ℕ} → Link groups n (n + noted) noted x y → group y ≡ y
+    end-own : {x y : ℕ} → Linked x y → group y ≡ y
     unfolding startOf
     end-own l = rw (l .end) at (rooted .top (n + noted + l .number) (omega (arith, l .fits)))
 
     -- what a leads to, its end named by a group
-    pub led-own : {a : ℕ} {z : Request} → group a ≡ a → Chain (linksOf groups n (n + noted) noted) (at 0 a) z → (y : ℕ) × (z ≡ at 0 y) × (group y ≡ y)
+    led-own : {a : ℕ} {z : Request} → group a ≡ a → Chain theLinks (at 0 a) z → (y : ℕ) × (z ≡ at 0 y) × (group y ≡ y)
     led-own {a} h (stay e) = (a, sym e, h)
     led-own {a} {z} h (hop c m) =
         let r = led-own h c in
         let l = link-in (r .0) z (rw (r .1) at m) in (l .0, l .1, end-own (l .2))
 
-    -- a marked pair that does not agree
-    pair-false : (a b : ℕ) → group a ≡ a → Led groups n (n + noted) noted a b → below sup (class a) (class b) ≡ false
-        → pairOn sup groups classes n noted a b ≡ false
-    unfolding pairOn pairIs leadsOn
-    pair-false a b o c h = go (eqb (group a) (group b)) refl
+    end-group : {a b : ℕ} → group a ≡ a → Onto a b → group b ≡ b
+    end-group {a} {b} h c = let r = led-own h c in let e : b ≡ r .0 = ap (λ (k : Request). k .name) (r .1) in rw (sym e) at (r .2)
+
+    -- The turn of a request
+
+    -- nothing is marked where no link starts
+    passed-unlinked : (a : ℕ) → ((y : ℕ) → Linked a y → ⊥) → Passed sup groups classes n noted a
+    passed-unlinked a none = record {
+      stamp = 1;
+      marks = [];
+      first = λ y k. absurd (none y k);
+      closed = λ x y h m. absurd (omega arith);
+      fit = λ b h m. absurd (omega arith);
+    }
+
+    fine-unlinked : {heads nexts : List ℕ} → n ≤ 1280 → Links groups n noted heads nexts → (a : ℕ) → a < n → group a ≡ a → getD heads a 0 ≡ 0
+        → Fine sup groups classes n noted a
+    fine-unlinked {heads} {nexts} room l a h o z = record { classed = ap (λ (x : ℕ). class x) o; passed = λ _. passed-unlinked a (none l) }
       where
-        end : group b ≡ b
-        end = let r = led-own o c in let e : b ≡ r .0 = ap (λ (k : Request). k .name) (r .1) in rw (sym e) at (r .2)
+        none : Links groups n noted heads nexts → (y : ℕ) → Linked a y → ⊥
+        none (inl e) y k = omega (arith, k .fits)
+        none (inr j) y k = j .head a (omega arith) .none (k .number) (omega arith) (k .fits) (k .start)
 
-        go : (t : Bool) → eqb (group a) (group b) ≡ t
-            → (elim t as (λ _. Bool) [ true ↦ eqb (class a) (class b) | false ↦ elim (leads sameRequest (linksOf groups n (n + noted) noted) (at 0 (group a)) (at 0 (group b))) as (λ _. Bool) [ true ↦ below sup (class a) (class b) | false ↦ true ] ]) ≡ false
-        go true q =
-            let e : a ≡ b = sym o ∙ eqb-true (group a) (group b) q ∙ end in
-            absurd (false≢true (sym h ∙ true-below sup falls (class a) (class b) (same (ap (λ (x : ℕ). class x) e))))
-        go false q = rw (o, end, chain-leads requests (linksOf groups n (n + noted) noted) (at 0 a) (at 0 b) c) h
+    module _ {turn a : ℕ} {outs ins queue aboves : List ℕ} {span : Span} (looked : Looked sup groups classes n noted turn a outs ins queue aboves span) (fits : a < n) where
+      abbrev Right : ℕ → Type 0
+      Right b = PairFine sup groups classes outs ins aboves (suc turn) a b
 
-    pub not-agreed : (a b : ℕ) → a < n → b < n → group a ≡ a → Led groups n (n + noted) noted a b → below sup (class a) (class b) ≡ false
-        → false ≡ agreeOn sup groups classes n noted
-    unfolding agreeOn
-    not-agreed a b f g o c h = go (agreeOn sup groups classes n noted) refl
+      -- a class above a's, by the marks
+      above-out : {b : ℕ} → Marked (suc turn) outs (group b) → isAbove aboves (suc turn) (class a) (class b) ≡ below sup (class a) (class b)
+      above-out {b} m = above-below aboves (suc turn) (class a) (class b) sup falls (looked .raised (group b) m)
+
+      -- what was looked at and found fine
+      abbrev AllRight : Type 0
+      AllRight = (p : ℕ) → p < span .end → span .from ≤ p → (span .all ≡ true) ⊎ Marked (suc turn) outs p → Right p
+
+      fine-turn : 0 < turn → AllRight → Fine sup groups classes n noted a
+      fine-turn later right = go (eqb (group a) a) refl
+        where
+          fit : group a ≡ a → LookedAhead groups n noted turn a outs span → (b : ℕ) → b < n → Marked (suc turn) outs b → Below sup (class a) (class b)
+          fit o s b h m = by (eqb (group a) (group b)) refl
+            where
+              own : group b ≡ b
+              own = end-group o (s .searched .sound b m)
+
+              r : Right b
+              r = right b (rw (s .end) h) (rw (s .from) (omega arith)) (inr m)
+
+              by : (t : Bool) → eqb (group a) (group b) ≡ t → Below sup (class a) (class b)
+              by true e = same (r .tied (eqb-true (group a) (group b) e))
+              by false e =
+                  let k : Marked (suc turn) outs (group b) = rw own m in
+                  below-true sup falls (class a) (class b) (sym (above-out k) ∙ r .out (eqb-false (group a) (group b) e) k)
+
+          ahead : group a ≡ a → (noted ≡ 0) ⊎ LookedAhead groups n noted turn a outs span → Passed sup groups classes n noted a
+          ahead o (inl z) = passed-unlinked a (λ y k. omega (arith, k .fits))
+          ahead o (inr s) = record { stamp = suc turn; marks = outs; first = s .searched .first; closed = s .searched .closed; fit = fit o s }
+
+          back : LookedBack groups a span → class (group a) ≡ class a
+          back l = sym (right (group a) (rw (l .end) (omega arith)) (rw (l .from) (omega arith)) (inl (l .everyOne)) .tied (sym (rooted .top a (omega arith))))
+
+          go : (t : Bool) → eqb (group a) a ≡ t → Fine sup groups classes n noted a
+          go true e = let o = eqb-true (group a) a e in record { classed = ap (λ (x : ℕ). class x) o; passed = λ _. ahead o (looked .ahead later o) }
+          go false e = let o = eqb-false (group a) a e in record { classed = back (looked .back later o); passed = λ q. absurd (o q) }
+
+      -- a pair that breaks agreement is found
+      apart-turn : {new b : ℕ} {r : Found} → a ≡ requestAt turn new → (0 < turn → new < n → Fresh sup groups classes n noted new) → b < span .end
+          → Judged sup groups classes outs ins aboves (suc turn) a b r → isPair r ≡ true → Finding sup groups classes n noted new r
+      unfolding isPair requestAt
+      apart-turn {new} {b} is fresh h j p = by j p
+        where
+          low : b < n
+          low = omega (arith, looked .low)
+
+          with-new : (t : ℕ) → turn ≡ t → (a ≡ new) ⊎ (new < n → Fresh sup groups classes n noted new)
+          with-new zero e = inl (is ∙ ap (λ (t : ℕ). requestAt t new) e)
+          with-new (suc t) e = inr (fresh (omega arith))
+
+          left : (a ≡ new) ⊎ (new < n → Fresh sup groups classes n noted new) → ((a ≡ new) ⊎ (b ≡ new)) ⊎ (new < n → Fresh sup groups classes n noted new)
+          left (inl e) = inl (inl e)
+          left (inr f) = inr f
+
+          right : (a ≡ new) ⊎ (new < n → Fresh sup groups classes n noted new) → ((b ≡ new) ⊎ (a ≡ new)) ⊎ (new < n → Fresh sup groups classes n noted new)
+          right (inl e) = inl (inr e)
+          right (inr f) = inr f
+
+          by : {r : Found} → Judged sup groups classes outs ins aboves (suc turn) a b r → isPair r ≡ true → Finding sup groups classes n noted new r
+          by (fine f) q = absurd (false≢true q)
+          by (tied e d) q = apart a b fits low (tied-false a b e d) (left (with-new turn refl))
+          by (out d m k) q = apart a b fits low (led-false a b d (looked .outSound (group b) m) (sym (above-out m) ∙ k)) (left (with-new turn refl))
+          by (into d m k) q = apart b a low fits (led-false b a (λ e. d (sym e)) (looked .inSound (group b) m) k) (right (with-new turn refl))
+
+    -- the newcomer agrees with all
+    fresh-turn : {a : ℕ} {outs ins queue aboves : List ℕ} {span : Span} (looked : Looked sup groups classes n noted 0 a outs ins queue aboves span) (fits : a < n)
+        → AllRight looked fits → Fresh sup groups classes n noted a
+    fresh-turn {a} {outs} {ins} {queue} {aboves} {span} looked fits right b h =
+        (pair-true a b (r .tied) to, pair-true b a (λ e. sym (r .tied (sym e))) from)
       where
-        go : (t : Bool) → agreeOn sup groups classes n noted ≡ t → false ≡ t
-        go true e = absurd (false≢true (sym (pair-false a b o c h)
-            ∙ all-places (pairOn sup groups classes n noted a) n
-            (all-places (λ a. all (pairOn sup groups classes n noted a) (rows (λ i. i) n 0)) n e a f) b g))
-        go false e = refl
+        first : LookedFirst sup groups classes n noted a outs ins aboves span
+        first = looked .first refl
 
-    -- tied requests whose classes differ
-    tied-agree : agreeOn sup groups classes n noted ≡ true → tiedOn groups classes n ≡ true
-    unfolding agreeOn tiedOn pairOn pairIs
-    tied-agree h = places-all (λ a. eqb (class (group a)) (class a)) n (λ a f. one a f (rooted .low a (omega arith)))
-      where
-        one : (a : ℕ) → a < n → group a ≤ a → eqb (class (group a)) (class a) ≡ true
-        one a f l = rw (eq-eqb (group (group a)) (group a) (rooted .top a (omega arith)), pairIs) at
-            (all-places (pairOn sup groups classes n noted (group a)) n
-            (all-places (λ a. all (pairOn sup groups classes n noted a) (rows (λ i. i) n 0)) n h (group a) (omega arith)) a f)
+        r : Right looked fits b
+        r = go (ltb b (span .from)) refl
+          where
+            go : (t : Bool) → ltb b (span .from) ≡ t → Right looked fits b
+            go true e = first .skipped b (ltb-true b (span .from) e)
+            go false e = right b (rw (first .end) h) (ltb-false b (span .from) e) (inl (first .everyOne))
 
-    pub not-tied : (r : Bool) → r ≡ tiedOn groups classes n → not r ≡ true → false ≡ agreeOn sup groups classes n noted
-    not-tied r d h = go (agreeOn sup groups classes n noted) refl
-      where
-        go : (t : Bool) → agreeOn sup groups classes n noted ≡ t → false ≡ t
-        go true e = absurd (false≢true (sym (not-true r h) ∙ d ∙ tied-agree e))
-        go false e = refl
+        to : (group a ≡ group b → ⊥) → Onto (group a) (group b) → Below sup (class a) (class b)
+        to d c = go (first .outAll (group b) c)
+          where
+            go : (group b ≡ group a) ⊎ Marked 1 outs (group b) → Below sup (class a) (class b)
+            go (inl e) = absurd (d (sym e))
+            go (inr m) = below-true sup falls (class a) (class b) (sym (above-out looked fits m) ∙ r .out d m)
 
-    -- all firsts of groups have passed
-    module _ (classed : (a : ℕ) → a < n → class (group a) ≡ class a) (all-passed : (a : ℕ) → a < n → group a ≡ a → Passed sup groups classes n noted a) where
+        from : (group b ≡ group a → ⊥) → Onto (group b) (group a) → Below sup (class b) (class a)
+        from d c = go (first .inAll (group b) c)
+          where
+            go : (group b ≡ group a) ⊎ Marked 1 ins (group b) → Below sup (class b) (class a)
+            go (inl e) = absurd (d e)
+            go (inr m) = below-true sup falls (class b) (class a) (r .into (λ e. d (sym e)) m)
+
+    -- One turn after the other
+
+    module _ {heads nexts : List ℕ} (room : n ≤ 1280) (links : Links groups n noted heads nexts) (new : ℕ) where
+      pub tested-start : {r : ℕ} {outs ins queue aboves : List ℕ} → FirstTurn groups heads n new r → Tables noted 0 outs ins queue aboves
+          → Tested sup groups classes n noted new r outs ins queue aboves
+      tested-start f t = record {
+        isNew = f .isNew;
+        tables = tables-more (omega arith) t;
+        fresh = λ h k. absurd (omega (arith, f .isOld h));
+        done = λ m h k. let o = f .none m h in fine-unlinked room links m k (o .0) (o .1);
+      }
+
+      pub tested-next : {turn a r : ℕ} {outs₀ ins₀ queue₀ aboves₀ outs ins queue aboves : List ℕ} {span : Span} → a ≡ requestAt turn new → (fits : a < n)
+          → Tested sup groups classes n noted new turn outs₀ ins₀ queue₀ aboves₀ → (looked : Looked sup groups classes n noted turn a outs ins queue aboves span)
+          → AllRight looked fits → NextTurn groups heads n turn r → Tested sup groups classes n noted new r outs ins queue aboves
+      tested-next {turn} {a} {r} {outs₀} {ins₀} {queue₀} {aboves₀} {outs} {ins} {queue} {aboves} {span} is fits t looked right next = record {
+        isNew = λ z. absurd (omega (arith, next .low));
+        tables = tables-more (omega (arith, next .low)) (looked .tables);
+        fresh = λ _ k. known turn is (t .fresh) looked right k;
+        done = λ m h k. go m h k (order (suc m) turn);
+      }
+        where
+          known : (u : ℕ) → a ≡ requestAt u new → (0 < u → new < n → Fresh sup groups classes n noted new)
+              → (l : Looked sup groups classes n noted u a outs ins queue aboves span) → AllRight l fits → new < n → Fresh sup groups classes n noted new
+          unfolding requestAt
+          known zero e f l x k = rw (sym e) (fresh-turn l fits x)
+          known (suc u) e f l x k = f (omega arith) k
+
+          go : (m : ℕ) → suc m < r → m < n → Order (suc m) turn → Fine sup groups classes n noted m
+          go m h k (less q) = t .done m q k
+          go m h k (equal q) = rw (sym (turn-request is (sym q))) (fine-turn looked fits (omega arith) right)
+          go m h k (more q) = let o = next .none m h (omega arith) in fine-unlinked room links m k (o .0) (o .1)
+
+    -- All turns are over
+    module _ (all-fine : (a : ℕ) → a < n → Fine sup groups classes n noted a) where
+      all-passed : (a : ℕ) → a < n → group a ≡ a → Passed sup groups classes n noted a
+      all-passed a h = all-fine a h .passed
+
       -- y is m, or marked from it, and a's class is m's or below
       record Held (a y : ℕ) : Type 0 where
         m : ℕ
@@ -223,7 +401,7 @@ module _ (sup : ℕ → Option ℕ) (falls : Falls sup) (groups classes : List �
         lower : Below sup (class a) (class m)
         reached : (y ≡ m) ⊎ Marked (all-passed m fits own .stamp) (all-passed m fits own .marks) y
 
-      held-on : {a x y : ℕ} → Link groups n (n + noted) noted x y → Held a x → Held a y
+      held-on : {a x y : ℕ} → Linked x y → Held a x → Held a y
       held-on {a} {x} {y} l h = go (h .reached) (ltb x n) refl
         where
           from : (m : ℕ) (f : m < n) (o : group m ≡ m) → Below sup (class a) (class m) → x ≡ m → Held a y
@@ -244,14 +422,14 @@ module _ (sup : ℕ → Option ℕ) (falls : Falls sup) (groups classes : List �
             reached = inr (all-passed (h .m) (h .fits) (h .own) .closed x y (ltb-false x n q) k l);
           }
 
-      held : {a : ℕ} {z : Request} → a < n → group a ≡ a → Chain (linksOf groups n (n + noted) noted) (at 0 a) z → (y : ℕ) × (z ≡ at 0 y) × Held a y
+      held : {a : ℕ} {z : Request} → a < n → group a ≡ a → Chain theLinks (at 0 a) z → (y : ℕ) × (z ≡ at 0 y) × Held a y
       held {a} f o (stay e) = (a, sym e, record { m = a; fits = f; own = o; lower = same refl; reached = inl refl })
       held {a} {z} f o (hop c m) =
           let r = held f o c in
           let l = link-in (r .0) z (rw (r .1) at m) in (l .0, l .1, held-on (l .2) (r .2))
 
       -- what a leads to has its class or one above it
-      led-fits : (a b : ℕ) → a < n → b < n → group a ≡ a → Led groups n (n + noted) noted a b → Below sup (class a) (class b)
+      led-fits : (a b : ℕ) → a < n → b < n → group a ≡ a → Onto a b → Below sup (class a) (class b)
       led-fits a b f g o c = let r = held f o c in
           let e : b ≡ r .0 = ap (λ (k : Request). k .name) (r .1) in end (rw (sym e) at (r .2))
         where
@@ -264,30 +442,34 @@ module _ (sup : ℕ → Option ℕ) (falls : Falls sup) (groups classes : List �
               go (inr k) = below-trans (h .lower) (all-passed (h .m) (h .fits) (h .own) .fit b g k)
 
       pair-agrees : (a b : ℕ) → a < n → b < n → pairOn sup groups classes n noted a b ≡ true
-      unfolding pairOn pairIs leadsOn
-      pair-agrees a b f g = go (eqb (group a) (group b)) refl (leads sameRequest (linksOf groups n (n + noted) noted) (at 0 (group a)) (at 0 (group b))) refl
+      pair-agrees a b f g = pair-true a b tied led
         where
           low : (p : ℕ) → p < n → group p < n
           low p h = omega (arith, rooted .low p (omega arith))
 
-          own : (p : ℕ) → p < n → group (group p) ≡ group p
-          own p h = rooted .top p (omega arith)
+          tied : group a ≡ group b → class a ≡ class b
+          tied e = sym (all-fine a f .classed) ∙ ap (λ (x : ℕ). class x) e ∙ all-fine b g .classed
 
-          go : (t : Bool) → eqb (group a) (group b) ≡ t → (l : Bool) → leads sameRequest (linksOf groups n (n + noted) noted) (at 0 (group a)) (at 0 (group b)) ≡ l
-              → (elim t as (λ _. Bool) [ true ↦ eqb (class a) (class b) | false ↦ elim l as (λ _. Bool) [ true ↦ below sup (class a) (class b) | false ↦ true ] ]) ≡ true
-          go true q l r = eq-eqb (class a) (class b)
-              (sym (classed a f) ∙ ap (λ (x : ℕ). class x) (eqb-true (group a) (group b) q) ∙ classed b g)
-          go false q true r = true-below sup falls (class a) (class b) (rw (classed a f, classed b g) at
-              (led-fits (group a) (group b) (low a f) (low b g) (own a f)
-              (leads-chain requests (linksOf groups n (n + noted) noted) (at 0 (group a)) (at 0 (group b)) r)))
-          go false q false r = refl
+          led : (group a ≡ group b → ⊥) → Onto (group a) (group b) → Below sup (class a) (class b)
+          led d c = rw (all-fine a f .classed, all-fine b g .classed) at (led-fits (group a) (group b) (low a f) (low b g) (rooted .top a (omega arith)) c)
 
-      pub all-agree : agreeOn sup groups classes n noted ≡ true
+      all-agree : agreeOn sup groups classes n noted ≡ true
       unfolding agreeOn
       all-agree = places-all (λ a. all (pairOn sup groups classes n noted a) (rows (λ i. i) n 0)) n
           (λ a f. places-all (pairOn sup groups classes n noted a) n (λ b g. pair-agrees a b f g))
 
-    -- without links nothing but ties is to agree
-    pub unlinked-agree : noted ≡ 0 → tiedOn groups classes n ≡ true → true ≡ agreeOn sup groups classes n noted
-    unlinked-agree z h =
-        sym (all-agree (classed-all groups classes n h) (λ a f o. passed-unlinked sup groups classes n noted a (λ y k. omega (arith, k .fits))))
+    pub tested-all : {new turn : ℕ} {outs ins queue aboves : List ℕ} → n < turn → Tested sup groups classes n noted new turn outs ins queue aboves
+        → Finding sup groups classes n noted new NoPair
+    tested-all h t = agree (all-agree (λ a f. t .done a (omega arith) f))
+
+-- a pair that doesn't agree
+pub pair-unfit : (sup : ℕ → Option ℕ) (groups classes : List ℕ) (n noted a b : ℕ) → a < n → b < n → pairOn sup groups classes n noted a b ≡ false
+    → agreeOn sup groups classes n noted ≡ false
+unfolding agreeOn
+pair-unfit sup groups classes n noted a b f g h = go (agreeOn sup groups classes n noted) refl
+  where
+    go : (t : Bool) → agreeOn sup groups classes n noted ≡ t → t ≡ false
+    go true e = absurd (false≢true (sym h
+        ∙ all-places (pairOn sup groups classes n noted a) n
+        (all-places (λ a. all (pairOn sup groups classes n noted a) (rows (λ i. i) n 0)) n e a f) b g))
+    go false e = refl

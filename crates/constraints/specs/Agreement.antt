@@ -1,17 +1,20 @@
 -- What agreement is tested of: tables of rows, as many as a count says and at most 256, and direct superclasses by a table.
-use mathlib.Core.Bool.{Bool, true, false}
-use mathlib.Core.Option.{Option, none}
+use mathlib.Core.Bool.{true, false}
+use mathlib.Core.Option.{Option, none, some}
 use mathlib.Core.List.{List, _++_}
 use Prim.Native.Nat.{ℕ, zero, suc}
 use lib.ListN.{getD}
-use lib.Dec.{leb}
+use lib.Dec.{leb, ltb}
 use Rattle.definition.specs.Numbers.{cacheLimit, tieLimit, subtypeLimit}
 use Rattle.definition.specs.Lists.{rows}
 use Rattle.definition.specs.Chains.{Edge}
 use Rattle.definition.specs.Requests.{Request}
 use Rattle.definition.specs.Classes.{Entry, lower}
-use Rattle.definition.specs.Constraints.{tieEdges, subtypeEdges, agreesOver}
+use Rattle.definition.specs.Constraints.{tieEdges, subtypeEdges}
+use Rattle.definition.specs.Checks.{Check, Agreed, breaking}
 use Rattle.definition.specs.Tables.{entryAt, tieAt, subtypeAt}
+use Rattle.constraints.specs.declared.Found.{Found}
+use Rattle.constraints.specs.declared.Found.the-variants.{NoPair, Pair}
 
 -- a count, or the limit where it is more
 unfoldable pub atMost : ℕ → ℕ → ℕ
@@ -33,7 +36,15 @@ tiesIn t n = tieEdges (rows (tieAt t) (atMost tieLimit n) 0)
 abbrev pub subtypesIn : List ℕ → ℕ → List (Edge Request)
 subtypesIn t n = subtypeEdges (rows (subtypeAt t) (atMost subtypeLimit n) 0)
 
--- the store of these tables agrees
-abbrev pub agreeIn : List ℕ → List ℕ → ℕ → List ℕ → ℕ → List ℕ → ℕ → Bool
-agreeIn supers cache entries ties tied subtypes noted =
-    agreesOver (superIn supers) (entriesIn cache entries) (tiesIn ties tied) (tiesIn ties tied ++ subtypesIn subtypes noted)
+-- the edges of both
+abbrev pub edgesIn : List ℕ → ℕ → List ℕ → ℕ → List (Edge Request)
+edgesIn ties tied subtypes noted = tiesIn ties tied ++ subtypesIn subtypes noted
+
+-- the request of row x of the cache, if it is one of the first
+unfoldable pub newIn : List ℕ → ℕ → ℕ → Option Request
+newIn t n x = elim (ltb x (atMost cacheLimit n)) [ true ↦ some (entryAt t x .request) | false ↦ none ]
+
+-- what was found of two places of the cache, as their requests
+unfoldable pub toldOf : List ℕ → Found → Check
+toldOf t NoPair = Agreed
+toldOf t (Pair a b) = breaking (entryAt t a .request) (entryAt t b .request)

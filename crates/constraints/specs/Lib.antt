@@ -6,6 +6,7 @@ pub mod Groups
 pub mod Search
 pub mod Upward
 pub mod Pairs
+pub mod Looking
 pub mod Walks
 pub mod Choosing
 pub mod Linking

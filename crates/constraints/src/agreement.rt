@@ -1,82 +1,37 @@
-// The test of agreement.
+// The test of agreement: a pair of requests that breaks it.
 use crate::grouping::group_places;
 use crate::joining::join;
-use crate::joining::place;
+use crate::looking::first_turn;
+use crate::looking::look;
+use crate::looking::next_turn;
+use crate::looking::request_at;
 use crate::numbering::PLACE_LIMIT;
 use crate::numbering::at_most;
 use crate::numbering::list_classes;
 use crate::numbering::number_nodes;
 use crate::numbering::number_places;
-use crate::search::search;
-use crate::upward::mark_above;
+use crate::pairs::Found;
+use crate::pairs::is_pair;
+use crate::pairs::next_met;
+use crate::pairs::pair_at;
 use cells::at16;
+use cells::wide16;
+use definition::Check;
 use definition::numbers::BYTE_RANGE;
 use definition::numbers::CACHE_LIMIT;
+use definition::numbers::ROW_CELLS;
 ghost use mathlib.Core.Path.{_≡_};
-ghost use mathlib.Core.Bool.{true};
-ghost use Prim.Native.Nat.{_+_, _≤_};
-ghost use Rattle.constraints.specs.Agreement.{superIn, agreeIn};
-ghost use Rattle.constraints.specs.Groups.{Rooted};
-ghost use Rattle.constraints.specs.Joining.{Joined};
-ghost use Rattle.constraints.specs.Pairs.{agreeOn, tiedOn, pairMarked, NextStart};
-ghost use Rattle.constraints.specs.Search.{startOf};
+ghost use Prim.Native.Nat.{ℕ, _+_, _<_, _≤_};
 ghost use Rattle.definition.specs.Numbers.{cacheLimit, subtypeLimit};
+ghost use Rattle.definition.specs.Checks.{NamesOver, agreed};
+ghost use Rattle.constraints.specs.Agreement.{superIn, entriesIn, tiesIn, edgesIn, newIn, toldOf};
+ghost use Rattle.constraints.specs.Groups.{Rooted};
+ghost use Rattle.constraints.specs.Looking.{Links, Tables};
+ghost use Rattle.constraints.specs.Pairs.{Pair, Finding};
 
-// Tied cached requests mean one class: each that of the first of its group.
-fn groups_agree(groups: &[u16], classes: &[u16], cached: usize) -> bool
-    ensures { λ r. ⌜ r ≡ tiedOn (now (groups .entry)) (now (classes .entry)) cached ⌝ }
-{
-    let mut a = 0;
-    while a < cached {
-        if at16(classes, place(groups, a)) != at16(classes, a) {
-            return false;
-        }
-        a += 1;
-    }
-    true
-}
-
-// The next cached request, from a place on, that is the first of its group and at which links start; `cached` if there is none.
-fn next_start(groups: &[u16], heads: &[u16], cached: usize, from: usize) -> usize
-    requires { ⌜ from ≤ cached ⌝ }
-    ensures { λ r. ⌜ NextStart (now (groups .entry)) (now (heads .entry)) cached from r ⌝ }
-{
-    let mut a = from;
-    while a < cached {
-        if place(groups, a) == a {
-            if at16(heads, a) != 0 {
-                return a;
-            }
-        }
-        a += 1;
-    }
-    a
-}
-
-// The pair of cached requests a and b, where the marks are those of what a leads to, and of the classes above a's.
-fn pair_agrees(
-    marks: &[u16],
-    aboves: &[u16],
-    classes: &[u16],
-    stamp: u16,
-    a: usize,
-    b: usize,
-) -> bool
-    ensures { λ r. ⌜ r ≡ pairMarked (now (marks .entry)) (now (aboves .entry)) (now (classes .entry)) stamp a b ⌝ }
-{
-    if at16(marks, b) != stamp {
-        return true;
-    }
-    let class = place(classes, b);
-    if place(classes, a) == class {
-        return true;
-    }
-    at16(aboves, class) == stamp
-}
-
-// Every pair of cached requests agrees, where tied ones do. What a group leads to is searched once, from its first request; the first pair
-// that does not agree ends the test.
-fn pairs_agree(
+// A pair of cached requests that breaks agreement, if there is one, and one with the newcomer if there is one of those. The newcomer is looked at first,
+// beside all that chains out of it and into it reach, then each other request in turn; the first pair that breaks agreement ends the search.
+fn find_pair(
     supers: &[u8],
     groups: &[u16],
     classes: &[u16],
@@ -84,69 +39,100 @@ fn pairs_agree(
     noted: usize,
     heads: &[u16],
     nexts: &[u16],
-) -> bool
-    requires { ⌜ (cached ≤ cacheLimit) × (noted ≤ subtypeLimit) × Rooted (now groups) (cached + noted + noted) × Joined (startOf (now groups) cached) noted (now heads) (now nexts) × (tiedOn (now groups) (now classes) cached ≡ true) ⌝ }
-    ensures { λ r. ⌜ r ≡ agreeOn (superIn (now (supers .entry))) (now (groups .entry)) (now (classes .entry)) cached noted ⌝ }
+    newcomer: usize,
+    outs: &mut [u16],
+    ins: &mut [u16],
+    queue: &mut [u16],
+    aboves: &mut [u16],
+) -> Found
+    requires { ⌜ (cached ≤ cacheLimit) × (noted ≤ subtypeLimit) × Rooted (now groups) (cached + noted + noted) × Links (now groups) cached noted (now heads) (now nexts) × Tables noted 0 (now outs) (now ins) (now queue) (now aboves) ⌝ }
+    ensures { λ r. ⌜ Finding (superIn (now (supers .entry))) (now (groups .entry)) (now (classes .entry)) cached noted newcomer r ⌝ }
 {
-    let mut marks = [0u16; PLACE_LIMIT];
-    let mut queue = [0u16; PLACE_LIMIT];
-    let mut aboves = [0u16; BYTE_RANGE as usize];
-    let mut agreed = true;
-    let mut a = next_start(groups, heads, cached, 0);
-    'pairs: while a < cached {
-        let stamp = (a + 1) as u16;
-        search(
-            groups,
-            cached,
-            cached,
-            cached + noted,
-            noted,
-            heads,
-            nexts,
-            a,
-            stamp,
-            &mut marks,
-            &mut queue,
+    let mut found = Found::NoPair;
+    let mut turn = first_turn(groups, heads, cached, newcomer);
+    'pairs: while turn <= cached {
+        let a = request_at(turn, newcomer);
+        let stamp = (turn + 1) as u16;
+        let span = look(
+            supers, groups, classes, cached, noted, heads, nexts, turn, a, outs, ins, queue, aboves,
         );
-        mark_above(supers, classes, a, stamp, &mut aboves);
-        let mut b = 0;
-        while b < cached {
-            if !pair_agrees(&marks, &aboves, classes, stamp, a, b) {
-                agreed = false;
+        let mut b = next_met(outs, stamp, span.all, span.from, span.end);
+        while b < span.end {
+            let pair = pair_at(supers, groups, classes, outs, ins, aboves, stamp, a, b);
+            if is_pair(pair) {
+                found = pair;
                 break 'pairs;
             }
-            b += 1;
+            b = next_met(outs, stamp, span.all, b + 1, span.end);
         }
-        a = next_start(groups, heads, cached, a + 1);
+        turn = next_turn(groups, heads, cached, turn);
     }
-    agreed
+    found
 }
 
-// Every pair of cached requests agrees, tied ones and others. Without subtype constraints there are no others.
-fn requests_agree(
+// The same, where the links aren't joined yet. Without subtype constraints there are none, and no tables for them.
+fn find_break(
     supers: &[u8],
     groups: &[u16],
     classes: &[u16],
     cached: usize,
     noted: usize,
-) -> bool
+    newcomer: usize,
+) -> Found
     requires { ⌜ (cached ≤ cacheLimit) × (noted ≤ subtypeLimit) × Rooted (now groups) (cached + noted + noted) ⌝ }
-    ensures { λ r. ⌜ r ≡ agreeOn (superIn (now (supers .entry))) (now (groups .entry)) (now (classes .entry)) cached noted ⌝ }
+    ensures { λ r. ⌜ Finding (superIn (now (supers .entry))) (now (groups .entry)) (now (classes .entry)) cached noted newcomer r ⌝ }
 {
-    if !groups_agree(groups, classes, cached) {
-        return false;
-    }
     if noted == 0 {
-        return true;
+        let none = [0u16; 1];
+        let mut outs = [0u16; 1];
+        let mut ins = [0u16; 1];
+        let mut queue = [0u16; 1];
+        let mut aboves = [0u16; 1];
+        return find_pair(
+            supers, groups, classes, cached, noted, &none, &none, newcomer, &mut outs, &mut ins, &mut queue, &mut aboves,
+        );
     }
     let mut heads = [0u16; PLACE_LIMIT];
     let mut nexts = [0u16; PLACE_LIMIT];
     join(groups, cached, noted, &mut heads, &mut nexts);
-    pairs_agree(supers, groups, classes, cached, noted, &heads, &nexts)
+    let mut outs = [0u16; PLACE_LIMIT];
+    let mut ins = [0u16; PLACE_LIMIT];
+    let mut queue = [0u16; PLACE_LIMIT];
+    let mut aboves = [0u16; BYTE_RANGE as usize];
+    find_pair(
+        supers, groups, classes, cached, noted, &heads, &nexts, newcomer, &mut outs, &mut ins, &mut queue, &mut aboves,
+    )
 }
 
-// The store of these tables agrees: tied cached requests mean one class, and where one leads to another, its class is the other's or below.
-pub fn agree(
+// What was found of two places of the cache, as requests.
+fn tell(cache: &[u16], found: Found) -> Check
+    requires { ⌜ (a b : ℕ) → found ≡ Pair a b → (a < cacheLimit) × (b < cacheLimit) ⌝ }
+    ensures { λ r. ⌜ r ≡ toldOf (now (cache .entry)) found ⌝ }
+{
+    match found {
+        Found::NoPair => Check::Agreed,
+        Found::Pair(a, b) => Check::Breaking(
+            at16(cache, a * ROW_CELLS),
+            at16(cache, a * ROW_CELLS + 1),
+            at16(cache, b * ROW_CELLS),
+            at16(cache, b * ROW_CELLS + 1),
+        ),
+    }
+}
+
+// No pair was named.
+pub fn agreed(check: Check) -> bool
+    ensures { λ r. ⌜ r ≡ agreed check ⌝ }
+{
+    match check {
+        Check::Agreed => true,
+        Check::Breaking(l, m, k, n) => false,
+    }
+}
+
+// The check of agreement of the store of these tables: tied cached requests mean one class, and where one leads to another, its class is the other's or
+// below. The newcomer is a row of the cache, or none where it isn't one.
+pub fn check(
     supers: &[u8],
     cache: &[u16],
     entries: u16,
@@ -154,8 +140,9 @@ pub fn agree(
     tie_count: u16,
     subtypes: &[u16],
     subtype_count: u16,
-) -> bool
-    ensures { λ r. ⌜ r ≡ agreeIn (now (supers .entry)) (now (cache .entry)) entries (now (ties .entry)) «tie_count» (now (subtypes .entry)) «subtype_count» ⌝ }
+    newcomer: u16,
+) -> Check
+    ensures { λ r. ⌜ NamesOver (superIn (now (supers .entry))) (entriesIn (now (cache .entry)) entries) (tiesIn (now (ties .entry)) «tie_count») (edgesIn (now (ties .entry)) «tie_count» (now (subtypes .entry)) «subtype_count») (newIn (now (cache .entry)) entries newcomer) r ⌝ }
 {
     let cached = at_most(entries);
     let tied = at_most(tie_count);
@@ -169,5 +156,8 @@ pub fn agree(
     list_classes(cache, &nodes, cached, &mut classes);
     let mut groups = [0u16; PLACE_LIMIT];
     group_places(&mut nodes, ones, tied, &mut groups);
-    requests_agree(supers, &groups, &classes, cached, noted)
+    tell(
+        cache,
+        find_break(supers, &groups, &classes, cached, noted, wide16(newcomer)),
+    )
 }

@@ -5,6 +5,8 @@ mod numbering; // numbering.rt: the requests of a store as numbers and as nodes
 mod grouping; // grouping.rt: groups of tied requests
 mod search; // search.rt: the search from a cached request, over groups
 mod upward; // upward.rt: the classes above a class
+mod pairs; // pairs.rt: whether a pair of requests breaks agreement
+mod looking; // looking.rt: whose turn it is to be looked at, and where
 mod agreement; // agreement.rt: the test of agreement
 mod numbers; // numbers.rt: the numbers of rows
 mod linking; // linking.rt: the links of rows between nodes
@@ -13,7 +15,8 @@ mod choosing; // choosing.rt: the best of the chains found
 mod singles; // singles.rt: rows that break agreement by themselves
 mod reasons; // reasons.rt: why a store doesn't agree
 
-pub use agreement::agree;
+pub use agreement::agreed;
+pub use agreement::check;
 pub use numbers::numbers_fit;
 pub use posting::add_tie;
 pub use posting::post_note;
