@@ -4,6 +4,7 @@ pub mod Results
 pub mod Chains
 pub mod Upward
 pub mod Agreement
+pub mod Checks
 pub mod Tests
 pub mod Earlier
 pub mod Clashes
