@@ -9,6 +9,7 @@ pub mod Agreeing
 pub mod Marking
 pub mod Searching
 pub mod Supers
+pub mod Looks
 pub mod Pairing
 pub mod Spreading
 pub mod Choices

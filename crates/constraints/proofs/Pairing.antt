@@ -19,13 +19,13 @@ use Rattle.laws.specs.Agreement.{all-at, all-of}
 use Rattle.laws.specs.Chains.{requests, leads-chain, chain-leads}
 use Rattle.laws.specs.Upward.{below-true, true-below, below-trans}
 use Rattle.constraints.specs.Groups.{Rooted}
-use Rattle.constraints.specs.Search.{startOf, linkOf, linksOf, leadsOn, Led, Link, Marked, Searched}
+use Rattle.constraints.specs.Search.{startOf, linksOf, leadsOn, Led, Link, Marked}
 use Rattle.constraints.specs.Upward.{Raised, isAbove}
-use Rattle.constraints.specs.Pairs.{Found, NoPair, Pair, isPair, pairIs, pairOn, agreeOn, outMarked, inMarked, pairFound, PairFine, Fresh, Finding, agree, apart}
-use Rattle.constraints.specs.Looking.{Span, requestAt, NextTurn, FirstTurn, Links, Marks, Tables, LookedFirst, LookedBack, LookedAhead, Looked}
+use Rattle.constraints.specs.Pairs.{Found, NoPair, Pair, isPair, pairIs, pairOn, agreeOn, outMarked, inMarked, PairFine, NextMet, Judged, fine, tied, out, into, Fresh, Finding, agree, apart}
+use Rattle.constraints.specs.Looking.{Span, requestAt, NextTurn, FirstTurn, Links, Tables, LookedFirst, LookedBack, LookedAhead, Looked}
 use Rattle.constraints.proofs.Rows.{Order, less, equal, more, order, in-rows, rows-in}
-use Rattle.constraints.proofs.Edges.{edge}
-use Rattle.constraints.proofs.Marking.{stamped-more}
+use Rattle.constraints.proofs.Searching.{link-in}
+use Rattle.constraints.proofs.Looks.{tables-more}
 use Rattle.constraints.proofs.Supers.{above-below}
 
 -- what a test of n places says of each
@@ -40,10 +40,10 @@ places-all f n h =
 
 -- a test that a mark decides
 module _ (marks : List ℕ) (stamp group : ℕ) where
-  pub unmarked-test : (t : Bool) → (Marked stamp marks group → ⊥) → (elim (eqb (getD marks group 0) stamp) as (λ _. Bool) [ true ↦ t | false ↦ true ]) ≡ true
+  unmarked-test : (t : Bool) → (Marked stamp marks group → ⊥) → (elim (eqb (getD marks group 0) stamp) as (λ _. Bool) [ true ↦ t | false ↦ true ]) ≡ true
   unmarked-test t n = rw (ne-eqb (getD marks group 0) stamp n) refl
 
-  pub marked-test : (t : Bool) → Marked stamp marks group → (elim (eqb (getD marks group 0) stamp) as (λ _. Bool) [ true ↦ t | false ↦ true ]) ≡ t
+  marked-test : (t : Bool) → Marked stamp marks group → (elim (eqb (getD marks group 0) stamp) as (λ _. Bool) [ true ↦ t | false ↦ true ]) ≡ t
   marked-test t m = rw (eq-eqb (getD marks group 0) stamp m) refl
 
   failed-test : (t : Bool) → (elim (eqb (getD marks group 0) stamp) as (λ _. Bool) [ true ↦ t | false ↦ true ]) ≡ false → Marked stamp marks group × (t ≡ false)
@@ -52,6 +52,24 @@ module _ (marks : List ℕ) (stamp group : ℕ) where
       go : (s : Bool) → eqb (getD marks group 0) stamp ≡ s → (elim s as (λ _. Bool) [ true ↦ t | false ↦ true ]) ≡ false → Marked stamp marks group × (t ≡ false)
       go true e q = (eqb-true (getD marks group 0) stamp e, q)
       go false e q = absurd (false≢true (sym q))
+
+module _ (marks aboves classes : List ℕ) (stamp group a b : ℕ) where
+  pub marked-out : Marked stamp marks group → outMarked marks aboves classes stamp group a b ≡ isAbove aboves stamp (getD classes a 0) (getD classes b 0)
+  unfolding outMarked
+  marked-out m = marked-test marks stamp group (isAbove aboves stamp (getD classes a 0) (getD classes b 0)) m
+
+  pub unmarked-out : (Marked stamp marks group → ⊥) → outMarked marks aboves classes stamp group a b ≡ true
+  unfolding outMarked
+  unmarked-out n = unmarked-test marks stamp group (isAbove aboves stamp (getD classes a 0) (getD classes b 0)) n
+
+module _ (sup : ℕ → Option ℕ) (marks classes : List ℕ) (stamp group a b : ℕ) where
+  pub marked-into : Marked stamp marks group → inMarked sup marks classes stamp group a b ≡ below sup (getD classes b 0) (getD classes a 0)
+  unfolding inMarked
+  marked-into m = marked-test marks stamp group (below sup (getD classes b 0) (getD classes a 0)) m
+
+  pub unmarked-into : (Marked stamp marks group → ⊥) → inMarked sup marks classes stamp group a b ≡ true
+  unfolding inMarked
+  unmarked-into n = unmarked-test marks stamp group (below sup (getD classes b 0) (getD classes a 0)) n
 
 module _ (sup : ℕ → Option ℕ) (groups classes outs ins aboves : List ℕ) (stamp a b : ℕ) where
   abbrev c : ℕ
@@ -66,56 +84,38 @@ module _ (sup : ℕ → Option ℕ) (groups classes outs ins aboves : List ℕ) 
   abbrev Apart : Type 0
   Apart = getD groups a 0 ≡ g → ⊥
 
-  -- why a pair is found, or none
-  pub data Judged : Found → Type 0 where
-    fine : PairFine sup groups classes outs ins aboves stamp a b → Judged NoPair
-    tied : getD groups a 0 ≡ g → (c ≡ d → ⊥) → Judged (Pair a b)
-    out : Apart → Marked stamp outs g → isAbove aboves stamp c d ≡ false → Judged (Pair a b)
-    into : Apart → Marked stamp ins g → below sup d c ≡ false → Judged (Pair b a)
+  abbrev Verdict : Found → Type 0
+  Verdict = Judged sup groups classes outs ins aboves stamp a b
 
-  pub judged : Judged (pairFound sup groups classes outs ins aboves stamp a b)
-  unfolding pairFound outMarked inMarked
-  judged = one (eqb (getD groups a 0) g) refl
-    where
-      outTest : Bool
-      outTest = elim (eqb (getD outs g 0) stamp) as (λ _. Bool) [ true ↦ isAbove aboves stamp c d | false ↦ true ]
+  -- tied ones of one class
+  pub judged-same : getD groups a 0 ≡ g → c ≡ d → Verdict NoPair
+  judged-same q e = fine (record { tied = λ _. e; out = λ n. absurd (n q); into = λ n. absurd (n q) })
 
-      inTest : Bool
-      inTest = elim (eqb (getD ins g 0) stamp) as (λ _. Bool) [ true ↦ below sup d c | false ↦ true ]
+  -- others, by the tests of their marks
+  module _ (n : Apart) where
+    pub judged-out : outMarked outs aboves classes stamp g a b ≡ false → Verdict (Pair a b)
+    unfolding outMarked
+    judged-out h = let r = failed-test outs stamp g (isAbove aboves stamp c d) h in out n (r .0) (r .1)
 
-      same-class : getD groups a 0 ≡ g → (t : Bool) → eqb c d ≡ t → Judged (elim t as (λ _. Found) [ true ↦ NoPair | false ↦ Pair a b ])
-      same-class q true e = fine (record { tied = λ _. eqb-true c d e; out = λ n. absurd (n q); into = λ n. absurd (n q) })
-      same-class q false e = tied q (eqb-false c d e)
+    pub judged-into : inMarked sup ins classes stamp g a b ≡ false → Verdict (Pair b a)
+    unfolding inMarked
+    judged-into h = let r = failed-test ins stamp g (below sup d c) h in into n (r .0) (r .1)
 
-      in-test : Apart → outTest ≡ true → (t : Bool) → inTest ≡ t → Judged (elim t as (λ _. Found) [ true ↦ NoPair | false ↦ Pair b a ])
-      in-test n o true e = fine (record {
-        tied = λ q. absurd (n q);
-        out = λ _ m. sym (marked-test outs stamp g (isAbove aboves stamp c d) m) ∙ o;
-        into = λ _ m. sym (marked-test ins stamp g (below sup d c) m) ∙ e;
-      })
-      in-test n o false e = let r = failed-test ins stamp g (below sup d c) e in into n (r .0) (r .1)
-
-      out-test : Apart → (t : Bool) → outTest ≡ t
-          → Judged (elim t as (λ _. Found) [ true ↦ elim inTest as (λ _. Found) [ true ↦ NoPair | false ↦ Pair b a ] | false ↦ Pair a b ])
-      out-test n true e = in-test n e inTest refl
-      out-test n false e = let r = failed-test outs stamp g (isAbove aboves stamp c d) e in out n (r .0) (r .1)
-
-      one : (t : Bool) → eqb (getD groups a 0) g ≡ t
-          → Judged (elim t as (λ _. Found) [ true ↦ elim (eqb c d) as (λ _. Found) [ true ↦ NoPair | false ↦ Pair a b ] | false ↦ elim outTest as (λ _. Found) [ true ↦ elim inTest as (λ _. Found) [ true ↦ NoPair | false ↦ Pair b a ] | false ↦ Pair a b ] ])
-      one true e = same-class (eqb-true (getD groups a 0) g e) (eqb c d) refl
-      one false e = out-test (eqb-false (getD groups a 0) g e) outTest refl
+    pub judged-both : outMarked outs aboves classes stamp g a b ≡ true → inMarked sup ins classes stamp g a b ≡ true → Verdict NoPair
+    unfolding outMarked inMarked
+    judged-both h k = fine (record {
+      tied = λ q. absurd (n q);
+      out = λ _ m. sym (marked-test outs stamp g (isAbove aboves stamp c d) m) ∙ h;
+      into = λ _ m. sym (marked-test ins stamp g (below sup d c) m) ∙ k;
+    })
 
   -- none is found
-  pub judged-fine : {r : Found} → Judged r → isPair r ≡ false → PairFine sup groups classes outs ins aboves stamp a b
+  pub judged-fine : {r : Found} → Verdict r → isPair r ≡ false → PairFine sup groups classes outs ins aboves stamp a b
   unfolding isPair
   judged-fine (fine f) h = f
   judged-fine (tied q n) h = absurd (false≢true (sym h))
   judged-fine (out n m k) h = absurd (false≢true (sym h))
   judged-fine (into n m k) h = absurd (false≢true (sym h))
-
-  -- where nothing is marked only tied ones are to agree
-  pub unmarked-fine : Apart → (Marked stamp outs g → ⊥) → (Marked stamp ins g → ⊥) → PairFine sup groups classes outs ins aboves stamp a b
-  unmarked-fine n o i = record { tied = λ q. absurd (n q); out = λ _ m. absurd (o m); into = λ _ m. absurd (i m) }
 
 -- Turns
 
@@ -139,27 +139,27 @@ pub record Tested (sup : ℕ → Option ℕ) (groups classes : List ℕ) (n note
   pub fresh : 0 < turn → new < n → Fresh sup groups classes n noted new
   pub done : (m : ℕ) → suc m < turn → m < n → Fine sup groups classes n noted m
 
--- tables with marks up to a stamp have them up to a later one
-tables-more : {noted s t : ℕ} {outs ins queue aboves : List ℕ} → s ≤ t → Tables noted s outs ins queue aboves → Tables noted t outs ins queue aboves
-tables-more {noted} {s} {t} {outs} {ins} {queue} {aboves} h m = record {
-  outsMost = λ x. omega (arith, m .outsMost x);
-  insMost = λ x. omega (arith, m .insMost x);
-  full = later (m .full);
-}
-  where
-    later : (noted ≡ 0) ⊎ Marks s outs ins queue aboves → (noted ≡ 0) ⊎ Marks t outs ins queue aboves
-    later (inl z) = inl z
-    later (inr k) = inr (record {
-      outsAre = stamped-more h (k .outsAre);
-      insAre = stamped-more h (k .insAre);
-      queueLong = k .queueLong;
-      abovesAre = stamped-more h (k .abovesAre);
-    })
-
 -- a request of the turn
-turn-request : {turn new a m : ℕ} → a ≡ requestAt turn new → turn ≡ suc m → a ≡ m
+turn-request : {turn a m : ℕ} (new : ℕ) → a ≡ requestAt turn new → turn ≡ suc m → a ≡ m
 unfolding requestAt
-turn-request {turn} {new} e z = e ∙ ap (λ (t : ℕ). requestAt t new) z
+turn-request {turn} new e z = e ∙ ap (λ (t : ℕ). requestAt t new) z
+
+pub turn-fits : {turn a n : ℕ} (new : ℕ) → (turn ≡ 0 → new < n) → turn ≤ n → a ≡ requestAt turn new → a < n
+unfolding requestAt
+turn-fits {turn = zero} new f h e = rw e (f refl)
+turn-fits {turn = suc t} new f h e = rw e (omega arith)
+
+-- what was looked at is fine up to the next place that is to be looked at
+pub right-on : {sup : ℕ → Option ℕ} {groups classes outs ins aboves : List ℕ} {stamp a from b r : ℕ} {everyOne : Bool}
+    → ((p : ℕ) → p < b → from ≤ p → (everyOne ≡ true) ⊎ Marked stamp outs p → PairFine sup groups classes outs ins aboves stamp a p)
+    → PairFine sup groups classes outs ins aboves stamp a b → NextMet outs stamp everyOne (b + 1) r
+    → (p : ℕ) → p < r → from ≤ p → (everyOne ≡ true) ⊎ Marked stamp outs p → PairFine sup groups classes outs ins aboves stamp a p
+right-on {sup} {groups} {classes} {outs} {ins} {aboves} {stamp} {a} {from} {b} {r} {everyOne} before here next p h l k = go (order p b)
+  where
+    go : Order p b → PairFine sup groups classes outs ins aboves stamp a p
+    go (less q) = before p q l k
+    go (equal q) = rw q here
+    go (more q) = absurd (next .none p h (omega arith) k)
 
 module _ (sup : ℕ → Option ℕ) (falls : Falls sup) (groups classes : List ℕ) (n noted : ℕ) where
   abbrev class : ℕ → ℕ
@@ -204,21 +204,6 @@ module _ (sup : ℕ → Option ℕ) (falls : Falls sup) (groups classes : List �
   -- Links and what they lead to
 
   module _ (rooted : Rooted groups (n + noted + noted)) where
-    -- a link and its ends
-    link-in : (x : ℕ) (z : Request) → List·Memᴰ (edge (at 0 x) z) theLinks → (y : ℕ) × (z ≡ at 0 y) × Linked x y
-    unfolding linksOf linkOf
-    link-in x z m =
-        let p = rows-in (linkOf groups n (n + noted)) noted 0 (edge (at 0 x) z) m in (
-          startOf groups (n + noted) (p .number),
-          ap (λ (k : Edge Request). k .to) (p .is),
-          record {
-            number = p .number;
-            fits = omega (arith, p .high);
-            start = sym (ap (λ (k : Edge Request). k .from .name) (p .is));
-            end = refl;
-          },
-        )
-
     start-own : {x y : ℕ} → Linked x y → group x ≡ x
     unfolding startOf
     start-own l = rw (l .start) at (rooted .top (n + l .number) (omega (arith, l .fits)))
@@ -232,7 +217,7 @@ module _ (sup : ℕ → Option ℕ) (falls : Falls sup) (groups classes : List �
     led-own {a} h (stay e) = (a, sym e, h)
     led-own {a} {z} h (hop c m) =
         let r = led-own h c in
-        let l = link-in (r .0) z (rw (r .1) at m) in (l .0, l .1, end-own (l .2))
+        let l = link-in groups n (n + noted) noted (r .0) z (rw (r .1) at m) in (l .0, l .1, end-own (l .2))
 
     end-group : {a b : ℕ} → group a ≡ a → Onto a b → group b ≡ b
     end-group {a} {b} h c = let r = led-own h c in let e : b ≡ r .0 = ap (λ (k : Request). k .name) (r .1) in rw (sym e) at (r .2)
@@ -262,8 +247,8 @@ module _ (sup : ℕ → Option ℕ) (falls : Falls sup) (groups classes : List �
       Right b = PairFine sup groups classes outs ins aboves (suc turn) a b
 
       -- a class above a's, by the marks
-      above-out : {b : ℕ} → Marked (suc turn) outs (group b) → isAbove aboves (suc turn) (class a) (class b) ≡ below sup (class a) (class b)
-      above-out {b} m = above-below aboves (suc turn) (class a) (class b) sup falls (looked .raised (group b) m)
+      above-out : (b : ℕ) → Marked (suc turn) outs (group b) → isAbove aboves (suc turn) (class a) (class b) ≡ below sup (class a) (class b)
+      above-out b m = above-below aboves (suc turn) (class a) (class b) sup falls (looked .raised (group b) m)
 
       -- what was looked at and found fine
       abbrev AllRight : Type 0
@@ -285,7 +270,7 @@ module _ (sup : ℕ → Option ℕ) (falls : Falls sup) (groups classes : List �
               by true e = same (r .tied (eqb-true (group a) (group b) e))
               by false e =
                   let k : Marked (suc turn) outs (group b) = rw own m in
-                  below-true sup falls (class a) (class b) (sym (above-out k) ∙ r .out (eqb-false (group a) (group b) e) k)
+                  below-true sup falls (class a) (class b) (sym (above-out b k) ∙ r .out (eqb-false (group a) (group b) e) k)
 
           ahead : group a ≡ a → (noted ≡ 0) ⊎ LookedAhead groups n noted turn a outs span → Passed sup groups classes n noted a
           ahead o (inl z) = passed-unlinked a (λ y k. omega (arith, k .fits))
@@ -299,7 +284,7 @@ module _ (sup : ℕ → Option ℕ) (falls : Falls sup) (groups classes : List �
           go false e = let o = eqb-false (group a) a e in record { classed = back (looked .back later o); passed = λ q. absurd (o q) }
 
       -- a pair that breaks agreement is found
-      apart-turn : {new b : ℕ} {r : Found} → a ≡ requestAt turn new → (0 < turn → new < n → Fresh sup groups classes n noted new) → b < span .end
+      pub apart-turn : {new b : ℕ} {r : Found} → a ≡ requestAt turn new → (0 < turn → new < n → Fresh sup groups classes n noted new) → b < span .end
           → Judged sup groups classes outs ins aboves (suc turn) a b r → isPair r ≡ true → Finding sup groups classes n noted new r
       unfolding isPair requestAt
       apart-turn {new} {b} is fresh h j p = by j p
@@ -322,7 +307,7 @@ module _ (sup : ℕ → Option ℕ) (falls : Falls sup) (groups classes : List �
           by : {r : Found} → Judged sup groups classes outs ins aboves (suc turn) a b r → isPair r ≡ true → Finding sup groups classes n noted new r
           by (fine f) q = absurd (false≢true q)
           by (tied e d) q = apart a b fits low (tied-false a b e d) (left (with-new turn refl))
-          by (out d m k) q = apart a b fits low (led-false a b d (looked .outSound (group b) m) (sym (above-out m) ∙ k)) (left (with-new turn refl))
+          by (out d m k) q = apart a b fits low (led-false a b d (looked .outSound (group b) m) (sym (above-out b m) ∙ k)) (left (with-new turn refl))
           by (into d m k) q = apart b a low fits (led-false b a (λ e. d (sym e)) (looked .inSound (group b) m) k) (right (with-new turn refl))
 
     -- the newcomer agrees with all
@@ -346,7 +331,7 @@ module _ (sup : ℕ → Option ℕ) (falls : Falls sup) (groups classes : List �
           where
             go : (group b ≡ group a) ⊎ Marked 1 outs (group b) → Below sup (class a) (class b)
             go (inl e) = absurd (d (sym e))
-            go (inr m) = below-true sup falls (class a) (class b) (sym (above-out looked fits m) ∙ r .out d m)
+            go (inr m) = below-true sup falls (class a) (class b) (sym (above-out looked fits b m) ∙ r .out d m)
 
         from : (group b ≡ group a → ⊥) → Onto (group b) (group a) → Below sup (class b) (class a)
         from d c = go (first .inAll (group b) c)
@@ -370,6 +355,7 @@ module _ (sup : ℕ → Option ℕ) (falls : Falls sup) (groups classes : List �
       pub tested-next : {turn a r : ℕ} {outs₀ ins₀ queue₀ aboves₀ outs ins queue aboves : List ℕ} {span : Span} → a ≡ requestAt turn new → (fits : a < n)
           → Tested sup groups classes n noted new turn outs₀ ins₀ queue₀ aboves₀ → (looked : Looked sup groups classes n noted turn a outs ins queue aboves span)
           → AllRight looked fits → NextTurn groups heads n turn r → Tested sup groups classes n noted new r outs ins queue aboves
+      unfolding requestAt
       tested-next {turn} {a} {r} {outs₀} {ins₀} {queue₀} {aboves₀} {outs} {ins} {queue} {aboves} {span} is fits t looked right next = record {
         isNew = λ z. absurd (omega (arith, next .low));
         tables = tables-more (omega (arith, next .low)) (looked .tables);
@@ -379,13 +365,12 @@ module _ (sup : ℕ → Option ℕ) (falls : Falls sup) (groups classes : List �
         where
           known : (u : ℕ) → a ≡ requestAt u new → (0 < u → new < n → Fresh sup groups classes n noted new)
               → (l : Looked sup groups classes n noted u a outs ins queue aboves span) → AllRight l fits → new < n → Fresh sup groups classes n noted new
-          unfolding requestAt
           known zero e f l x k = rw (sym e) (fresh-turn l fits x)
           known (suc u) e f l x k = f (omega arith) k
 
           go : (m : ℕ) → suc m < r → m < n → Order (suc m) turn → Fine sup groups classes n noted m
           go m h k (less q) = t .done m q k
-          go m h k (equal q) = rw (sym (turn-request is (sym q))) (fine-turn looked fits (omega arith) right)
+          go m h k (equal q) = rw (sym (turn-request new is (sym q))) (fine-turn looked fits (omega arith) right)
           go m h k (more q) = let o = next .none m h (omega arith) in fine-unlinked room links m k (o .0) (o .1)
 
     -- All turns are over
@@ -426,7 +411,7 @@ module _ (sup : ℕ → Option ℕ) (falls : Falls sup) (groups classes : List �
       held {a} f o (stay e) = (a, sym e, record { m = a; fits = f; own = o; lower = same refl; reached = inl refl })
       held {a} {z} f o (hop c m) =
           let r = held f o c in
-          let l = link-in (r .0) z (rw (r .1) at m) in (l .0, l .1, held-on (l .2) (r .2))
+          let l = link-in groups n (n + noted) noted (r .0) z (rw (r .1) at m) in (l .0, l .1, held-on (l .2) (r .2))
 
       -- what a leads to has its class or one above it
       led-fits : (a b : ℕ) → a < n → b < n → group a ≡ a → Onto a b → Below sup (class a) (class b)

@@ -13,6 +13,7 @@ use Rattle.definition.specs.Requests.{Request, at}
 use Rattle.laws.specs.Chains.{chain-join}
 use Rattle.constraints.specs.Joining.{Last}
 use Rattle.constraints.specs.Search.{startOf, linkOf, linksOf, Led, Link, Marked, Stamped, Queued, Grown, Visited, Expanded, Searched}
+use Rattle.constraints.specs.Looking.{Reached}
 use Rattle.constraints.proofs.Rows.{Order, less, equal, more, order, in-rows, rows-in}
 use Rattle.constraints.proofs.Edges.{edge, edge-at}
 use Rattle.constraints.proofs.Marking.{new-mark, set-mark, keep-mark, stamped-set, stamped-more, mark-low, marked-le, marked-set}
@@ -240,4 +241,51 @@ module _ (groups : List ℕ) (stop from to noted stamp a : ℕ) where
     sound = s .sound;
     first = s .first;
     closed = λ x y c m l. let r = s .queued .isQueued x c m in s .closed (r .0) (omega (arith, r .1)) y (rw (sym (r .2)) at l);
+  }
+
+-- What is led to
+
+module _ (groups : List ℕ) (from to noted : ℕ) where
+  -- a link and its ends
+  pub link-in : (x : ℕ) (z : Request) → List·Memᴰ (edge (at 0 x) z) (linksOf groups from to noted) → (y : ℕ) × (z ≡ at 0 y) × Link groups from to noted x y
+  unfolding linksOf linkOf
+  link-in x z m =
+      let p = rows-in (linkOf groups from to) noted 0 (edge (at 0 x) z) m in (
+        startOf groups to (p .number),
+        ap (λ (k : Edge Request). k .to) (p .is),
+        record {
+          number = p .number;
+          fits = omega (arith, p .high);
+          start = sym (ap (λ (k : Edge Request). k .from .name) (p .is));
+          end = refl;
+        },
+      )
+
+  -- what holds of a, and of a link's end if of its start, holds of all that a leads to
+  led-holds : {a : ℕ} (P : ℕ → Type 0) → P a → ((x y : ℕ) → Link groups from to noted x y → P x → P y) → (b : ℕ) → Led groups from to noted a b → P b
+  led-holds {a} P start on b c = let r = go c in let e : b ≡ r .0 = ap (λ (k : Request). k .name) (r .1) in rw e (r .2)
+    where
+      go : {z : Request} → Chain (linksOf groups from to noted) (at 0 a) z → (y : ℕ) × (z ≡ at 0 y) × P y
+      go (stay e) = (a, sym e, start)
+      go {z} (hop c m) =
+          let r = go c in
+          let l = link-in (r .0) z (rw (r .1) at m) in (l .0, l .1, on (r .0) (l .0) (l .2) (r .2))
+
+  -- where no link starts, nothing else is led to
+  pub led-still : {a b : ℕ} → ((y : ℕ) → Link groups from to noted a y → ⊥) → Led groups from to noted a b → b ≡ a
+  led-still {a} {b} none c = led-holds (λ y. y ≡ a) refl (λ x y l e. absurd (none y (rw e at l))) b c
+
+  -- a search that stops nowhere marks all that is led to
+  pub reached : {stamp a : ℕ} {marks : List ℕ} → Searched groups 0 from to noted stamp a marks → Reached groups from to noted stamp a marks
+  reached {stamp} {a} {marks} s = record { stamped = s .stamped; sound = s .sound; all = led-holds (λ y. (y ≡ a) ⊎ Marked stamp marks y) (inl refl) (λ x y l k. inr (on x y l k)) }
+    where
+      on : (x y : ℕ) → Link groups from to noted x y → (x ≡ a) ⊎ Marked stamp marks x → Marked stamp marks y
+      on x y l (inl e) = s .first y (rw e at l)
+      on x y l (inr k) = s .closed x y (omega arith) k l
+
+  pub reached-none : {a : ℕ} {marks : List ℕ} → Stamped 1280 0 marks → ((e : ℕ) → e < noted → startOf groups from e ≡ a → ⊥) → Reached groups from to noted 1 a marks
+  reached-none t none = record {
+    stamped = stamped-more (omega arith) t;
+    sound = λ y m. absurd (omega (arith, t .most y));
+    all = λ y c. inl (led-still (λ z l. none (l .number) (l .fits) (l .start)) c);
   }

@@ -11,10 +11,12 @@ use Rattle.definition.specs.Chains.{Edge}
 use Rattle.definition.specs.Requests.{Request}
 use Rattle.definition.specs.Classes.{Entry, lower}
 use Rattle.definition.specs.Constraints.{tieEdges, subtypeEdges}
-use Rattle.definition.specs.Checks.{Check, Agreed, breaking}
+use Rattle.definition.specs.declared.Check.{Check}
+use Rattle.definition.specs.declared.Check.the-variants.{Agreed}
+use Rattle.definition.specs.Checks.{breaking}
 use Rattle.definition.specs.Tables.{entryAt, tieAt, subtypeAt}
-use Rattle.constraints.specs.declared.Found.{Found}
-use Rattle.constraints.specs.declared.Found.the-variants.{NoPair, Pair}
+use Rattle.constraints.specs.declared.pairs.Found.{Found}
+use Rattle.constraints.specs.declared.pairs.Found.the-variants.{NoPair, Pair}
 
 -- a count, or the limit where it is more
 unfoldable pub atMost : ℕ → ℕ → ℕ

@@ -1,5 +1,5 @@
 -- Laws for callers: agreement of tables as agreement of a store's rows, and what posting leaves.
-use mathlib.Core.Path.{_≡_, refl, sym, ap, _∙_}
+use mathlib.Core.Path.{_≡_, refl, sym, ap, subst, _∙_}
 use mathlib.Core.Bool.{Bool, true, false, _||_}
 use mathlib.Core.Option.{Option}
 use mathlib.Core.List.{List, [], _∷_, _++_}
@@ -10,13 +10,16 @@ use lib.Dec.{eqb, leb}
 use borrow.Author.Tests.{le-leb, lt-leb, leb-true, leb-false}
 use Rattle.definition.specs.Lists.{any, rows, writeRows}
 use Rattle.definition.specs.Classes.{Entry, superOf}
-use Rattle.definition.specs.Constraints.{Tie, Subtype, World, tieEdges, subtypeEdges, edges, agreesOver, agrees, tieIs, newTie}
+use Rattle.definition.specs.Requests.{Request}
+use Rattle.definition.specs.Constraints.{Tie, Subtype, World, tieEdges, subtypeEdges, edges, tieIs, newTie}
+use Rattle.definition.specs.declared.Check.{Check}
+use Rattle.definition.specs.Checks.{NamesOver, Names}
 use Rattle.definition.specs.Loading.{subtypeIs, subtypeOf, newSubtypes}
 use Rattle.definition.specs.Verifier.{Note}
 use Rattle.definition.specs.Tables.{entryAt, tieAt, subtypeAt, putSubtype}
 use Rattle.layout.specs.Places.{writeRows-length}
 use Rattle.layout.specs.Cells.{tie-rows, subtype-rows, rows-after-last, rows-after-more, rows-parts}
-use Rattle.constraints.specs.Agreement.{atMost, superIn, agreeIn}
+use Rattle.constraints.specs.Agreement.{atMost, superIn, entriesIn, tiesIn, edgesIn, newIn}
 use Rattle.constraints.specs.Posting.{tiesAfter, newSubtypesIn, subtypesAfter, Noted, noted, postNote, postNotes}
 
 -- Agreement
@@ -26,20 +29,17 @@ pub within : (limit n : ℕ) → n ≤ limit → atMost limit n ≡ n
 unfolding atMost
 within limit n h = rw (le-leb n limit h, atMost) refl
 
-rows-agree : (f g : ℕ → Option ℕ) (es fs : List Entry) (ts us : List Tie) (ss rs : List Subtype) → ((c : ℕ) → f c ≡ g c) → fs ≡ es → us ≡ ts → rs ≡ ss
-    → agreesOver f es (tieEdges ts) (tieEdges ts ++ subtypeEdges ss) ≡ agreesOver g fs (tieEdges us) (tieEdges us ++ subtypeEdges rs)
-rows-agree f g es fs ts us ss rs s p q r =
-    rw (p, q, r) (ap (λ (h : ℕ → Option ℕ). agreesOver h es (tieEdges ts) (tieEdges ts ++ subtypeEdges ss)) (λ i c. s c i))
-
--- the test on tables is that of the store, where the counts are within their limits and the table of superclasses has the store's
-pub agree-store : (w : World) (supers cache ties subtypes : List ℕ) (n tied noted : ℕ) → ((c : ℕ) → superIn supers c ≡ superOf (w .base) c)
-    → w .base .cache ≡ rows (entryAt cache) n 0 → w .ties ≡ rows (tieAt ties) tied 0 → w .subtypes ≡ rows (subtypeAt subtypes) noted 0
-    → n ≤ 256 → tied ≤ 256 → noted ≤ 256 → agreeIn supers cache n ties tied subtypes noted ≡ agrees w
-unfolding agrees edges
-agree-store w supers cache ties subtypes n tied noted s p q r h k l =
-    rw (within 256 n h, within 256 tied k, within 256 noted l)
-    (rows-agree (superIn supers) (superOf (w .base)) (rows (entryAt cache) n 0) (w .base .cache) (rows (tieAt ties) tied 0) (w .ties)
-    (rows (subtypeAt subtypes) noted 0) (w .subtypes) s p q r)
+-- the check of tables is that of the store, where the counts are within their limits and the table of superclasses has the store's
+pub names-store : (w : World) (supers cache ties subtypes : List ℕ) (n tied noted : ℕ) (new : Option Request) (r : Check)
+    → ((c : ℕ) → superIn supers c ≡ superOf (w .base) c) → w .base .cache ≡ rows (entryAt cache) n 0 → w .ties ≡ rows (tieAt ties) tied 0
+    → w .subtypes ≡ rows (subtypeAt subtypes) noted 0 → n ≤ 256 → tied ≤ 256 → noted ≤ 256
+    → NamesOver (superIn supers) (entriesIn cache n) (tiesIn ties tied) (edgesIn ties tied subtypes noted) new r → Names w new r
+unfolding edges
+names-store w supers cache ties subtypes n tied noted new r s p q t h k l m =
+    subst (λ (es : List Entry). NamesOver (superOf (w .base)) es (tieEdges (w .ties)) (edges w) new r) (sym p)
+    (rw (q, t) (subst (λ (f : ℕ → Option ℕ). NamesOver f (rows (entryAt cache) n 0) (tieEdges (rows (tieAt ties) tied 0))
+    (tieEdges (rows (tieAt ties) tied 0) ++ subtypeEdges (rows (subtypeAt subtypes) noted 0)) new r) (λ i c. s c i)
+    (rw (within 256 n h, within 256 tied k, within 256 noted l) at m)))
 
 -- Ties
 

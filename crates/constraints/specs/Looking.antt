@@ -13,7 +13,7 @@ use Rattle.constraints.specs.Joining.{Joined}
 use Rattle.constraints.specs.Search.{startOf, Led, Marked, Stamped, Searched}
 use Rattle.constraints.specs.Upward.{Raised}
 use Rattle.constraints.specs.Pairs.{PairFine}
-pub use Rattle.constraints.specs.declared.Span.{Span}
+pub use Rattle.constraints.specs.declared.looking.Span.{Span}
 
 -- Turns
 

@@ -11,8 +11,8 @@ use Rattle.definition.specs.Lists.{rows, all}
 use Rattle.definition.specs.Superclasses.{below}
 use Rattle.constraints.specs.Search.{leadsOn, Marked}
 use Rattle.constraints.specs.Upward.{isAbove}
-pub use Rattle.constraints.specs.declared.Found.{Found}
-pub use Rattle.constraints.specs.declared.Found.the-variants.{NoPair, Pair}
+pub use Rattle.constraints.specs.declared.pairs.Found.{Found}
+pub use Rattle.constraints.specs.declared.pairs.Found.the-variants.{NoPair, Pair}
 
 -- a pair of classes c and d, whose requests are tied, or of which the one leads to the other, or neither
 unfoldable pub pairIs : (ℕ → Option ℕ) → Bool → Bool → ℕ → ℕ → Bool
@@ -44,21 +44,20 @@ unfoldable pub inMarked : (ℕ → Option ℕ) → List ℕ → List ℕ → ℕ
 inMarked sup ins classes stamp group a b =
     elim (eqb (getD ins group 0) stamp) [ true ↦ below sup (getD classes b 0) (getD classes a 0) | false ↦ true ]
 
--- what is found of a and b: tied ones of two classes; else the way in which one that leads to the other isn't its class or below
-unfoldable pub pairFound : (ℕ → Option ℕ) → List ℕ → List ℕ → List ℕ → List ℕ → List ℕ → ℕ → ℕ → ℕ → Found
-pairFound sup groups classes outs ins aboves stamp a b = elim (eqb (getD groups a 0) (getD groups b 0)) [
-  | true ↦ elim (eqb (getD classes a 0) (getD classes b 0)) [ true ↦ NoPair | false ↦ Pair a b ]
-  | false ↦ elim (outMarked outs aboves classes stamp (getD groups b 0) a b) [
-    | true ↦ elim (inMarked sup ins classes stamp (getD groups b 0) a b) [ true ↦ NoPair | false ↦ Pair b a ]
-    | false ↦ Pair a b
-  ]
-]
-
 -- none is found of a and b: tied ones have one class, and where one is marked as led to from the other its class is that one's or above it
 pub record PairFine (sup : ℕ → Option ℕ) (groups classes outs ins aboves : List ℕ) (stamp a b : ℕ) : Type 0 where
   pub tied : getD groups a 0 ≡ getD groups b 0 → getD classes a 0 ≡ getD classes b 0
   pub out : (getD groups a 0 ≡ getD groups b 0 → ⊥) → Marked stamp outs (getD groups b 0) → isAbove aboves stamp (getD classes a 0) (getD classes b 0) ≡ true
   pub into : (getD groups a 0 ≡ getD groups b 0 → ⊥) → Marked stamp ins (getD groups b 0) → below sup (getD classes b 0) (getD classes a 0) ≡ true
+
+-- why none is found of a and b, or a pair: tied ones of two classes, or one that leads to the other and isn't its class or below
+pub data Judged (sup : ℕ → Option ℕ) (groups classes outs ins aboves : List ℕ) (stamp a b : ℕ) : Found → Type 0 where
+  fine : PairFine sup groups classes outs ins aboves stamp a b → Judged sup groups classes outs ins aboves stamp a b NoPair
+  tied : getD groups a 0 ≡ getD groups b 0 → (getD classes a 0 ≡ getD classes b 0 → ⊥) → Judged sup groups classes outs ins aboves stamp a b (Pair a b)
+  out : (getD groups a 0 ≡ getD groups b 0 → ⊥) → Marked stamp outs (getD groups b 0) → isAbove aboves stamp (getD classes a 0) (getD classes b 0) ≡ false
+      → Judged sup groups classes outs ins aboves stamp a b (Pair a b)
+  into : (getD groups a 0 ≡ getD groups b 0 → ⊥) → Marked stamp ins (getD groups b 0) → below sup (getD classes b 0) (getD classes a 0) ≡ false
+      → Judged sup groups classes outs ins aboves stamp a b (Pair b a)
 
 -- r is not before `from`; between them no place is to be looked at: not all are, and they aren't marked
 pub record NextMet (marks : List ℕ) (stamp : ℕ) (everyOne : Bool) (from r : ℕ) : Type 0 where

@@ -106,7 +106,7 @@ fn find_break(
 
 // What was found of two places of the cache, as requests.
 fn tell(cache: &[u16], found: Found) -> Check
-    requires { ⌜ (a b : ℕ) → found ≡ Pair a b → (a < cacheLimit) × (b < cacheLimit) ⌝ }
+    requires { ⌜ ((a b : ℕ) → found ≡ Pair a b → (a < cacheLimit) × (b < cacheLimit)) ⌝ }
     ensures { λ r. ⌜ r ≡ toldOf (now (cache .entry)) found ⌝ }
 {
     match found {

@@ -68,7 +68,7 @@ pub(crate) fn first_turn(groups: &[u16], heads: &[u16], cached: usize, newcomer:
 // A link ends at the group.
 fn is_end(groups: &[u16], to: usize, noted: usize, group: usize) -> bool
     requires { ⌜ to + noted ≤ placeLimit ⌝ }
-    ensures { λ r. ⌜ r ≡ false → (e : ℕ) → e < noted → startOf (now (groups .entry)) to e ≡ group → ⊥ ⌝ }
+    ensures { λ r. ⌜ (r ≡ false → (e : ℕ) → e < noted → startOf (now (groups .entry)) to e ≡ group → ⊥) ⌝ }
 {
     let mut e = 0;
     while e < noted {

@@ -4,7 +4,7 @@ use crate::upward::is_below;
 use cells::at16;
 ghost use mathlib.Core.Path.{_≡_};
 ghost use Rattle.constraints.specs.Agreement.{superIn};
-ghost use Rattle.constraints.specs.Pairs.{outMarked, inMarked, pairFound, isPair, NextMet};
+ghost use Rattle.constraints.specs.Pairs.{outMarked, inMarked, Judged, isPair, NextMet};
 
 // What is found: no pair that breaks agreement, or one, from a place to another.
 pub(crate) enum Found {
@@ -74,7 +74,7 @@ pub(crate) fn pair_at(
     a: usize,
     b: usize,
 ) -> Found
-    ensures { λ r. ⌜ r ≡ pairFound (superIn (now (supers .entry))) (now (groups .entry)) (now (classes .entry)) (now (outs .entry)) (now (ins .entry)) (now (aboves .entry)) stamp a b ⌝ }
+    ensures { λ r. ⌜ Judged (superIn (now (supers .entry))) (now (groups .entry)) (now (classes .entry)) (now (outs .entry)) (now (ins .entry)) (now (aboves .entry)) stamp a b r ⌝ }
 {
     let group = place(groups, b);
     if place(groups, a) == group {
