@@ -1,7 +1,7 @@
 -- Agreement of the rows is agreement on groups: places are in one group exactly if ties join their requests, one group leads to another exactly
 -- if a request of the one leads to a request of the other, and a cached request means the class of the first row with its node.
 use mathlib.Core.Path.{_≡_, refl, sym, ap, _∙_}
-use mathlib.Core.Bool.{Bool}
+use mathlib.Core.Bool.{Bool, not}
 use mathlib.Core.Option.{Option}
 use mathlib.Core.List.{List, _++_, List·Memᴰ, Memᴰ·append-left, Memᴰ·append-right, List·Memᴰ·append-cases}
 use mathlib.Core.Logic.{_⊎_, inl, inr}
@@ -15,6 +15,7 @@ use Rattle.definition.specs.Chains.{Edge, Chain, stay, hop, has, leads, reach}
 use Rattle.definition.specs.Requests.{Request, at, sameRequest}
 use Rattle.definition.specs.Classes.{Entry}
 use Rattle.definition.specs.Constraints.{Subtype, tieEdges, subtypeEdges, pairAgrees, rowAgrees, agreesOver}
+use Rattle.definition.specs.Checks.{breaksOver}
 use Rattle.definition.specs.Tables.{entryAt, tieAt, subtypeAt}
 use Rattle.laws.specs.Chains.{requests, leads-chain, chain-leads, chain-join, chain-more}
 use Rattle.layout.specs.Tests.{same-test}
@@ -226,13 +227,8 @@ module _ (cache : List ℕ) (n : ℕ) (ties : List ℕ) (tied : ℕ) (subtypes :
         all-same (λ e. rowAgrees sup theCache theTies (theTies ++ theSubtypes) (e .request)) (entryAt cache)
         (λ a. all (pairOn sup groups classes n noted a) (rows (λ i. i) n 0)) (λ i. i) n 0 (λ a _ h. class-same a (omega arith))
 
--- the same, where the counts are given by their values
-pub agree-counted : (sup : ℕ → Option ℕ) (cache ties subtypes : List ℕ) (n tied noted n′ tied′ noted′ : ℕ) (groups classes : List ℕ) → n ≡ n′
-    → tied ≡ tied′ → noted ≡ noted′
-    → agreesOver sup (rows (entryAt cache) n 0) (tieEdges (rows (tieAt ties) tied 0))
-    (tieEdges (rows (tieAt ties) tied 0) ++ subtypeEdges (rows (subtypeAt subtypes) noted 0))
-    ≡ agreeOn sup groups classes n noted
-    → agreeOn sup groups classes n noted
-    ≡ agreesOver sup (rows (entryAt cache) n′ 0) (tieEdges (rows (tieAt ties) tied′ 0))
-    (tieEdges (rows (tieAt ties) tied′ 0) ++ subtypeEdges (rows (subtypeAt subtypes) noted′ 0))
-agree-counted sup cache ties subtypes n tied noted n′ tied′ noted′ groups classes p q r e = rw (sym p, sym q, sym r) (sym e)
+    -- of two places and of their requests
+    pub breaks-same : (a b : ℕ) → a < n → b < n
+        → breaksOver sup theCache theTies (theTies ++ theSubtypes) (entryAt cache a .request) (entryAt cache b .request) ≡ not (pairOn sup groups classes n noted a b)
+    unfolding breaksOver
+    breaks-same a b h k = rw (found put nodes classes isNode isClass a h, breaksOver) (ap not (pair-same a b h k))

@@ -11,6 +11,7 @@ pub mod Searching
 pub mod Supers
 pub mod Looks
 pub mod Pairing
+pub mod Naming
 pub mod Spreading
 pub mod Choices
 pub mod Alones

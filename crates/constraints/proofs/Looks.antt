@@ -7,12 +7,12 @@ use mathlib.Core.List.{List}
 use mathlib.Core.Logic.{_⊎_, inl, inr}
 use Prim.Native.Nat.{ℕ, suc, _+_, _<_, _≤_}
 use native.Mathlib.Omega.{arith}
-use lib.ListN.{length, getD}
+use lib.ListN.{length, getD, replicate, length-replicate}
 use Rattle.constraints.specs.Groups.{Rooted}
 use Rattle.constraints.specs.Search.{Link, Marked, Searched}
 use Rattle.constraints.specs.Upward.{Raised}
 use Rattle.constraints.specs.Looking.{Marks, Tables, Reached, Looked}
-use Rattle.constraints.proofs.Marking.{stamped-more}
+use Rattle.constraints.proofs.Marking.{stamped-none, stamped-more}
 use Rattle.constraints.proofs.Searching.{led-back, led-still}
 
 -- tables with marks up to a stamp have them up to a later one
@@ -31,6 +31,23 @@ tables-more {noted} {s} {t} {outs} {ins} {queue} {aboves} h m = record {
       queueLong = k .queueLong;
       abovesAre = stamped-more h (k .abovesAre);
     })
+
+-- tables of zeros, before the first turn
+
+pub tables-none : {noted : ℕ} → noted ≡ 0 → Tables noted 0 (replicate 1 0) (replicate 1 0) (replicate 1 0) (replicate 1 0)
+tables-none z = record { outsMost = stamped-none 1 0 .most; insMost = stamped-none 1 0 .most; full = inl z }
+
+pub tables-zeros : (noted : ℕ) → Tables noted 0 (replicate 1280 0) (replicate 1280 0) (replicate 1280 0) (replicate 256 0)
+tables-zeros noted = record {
+  outsMost = stamped-none 1280 0 .most;
+  insMost = stamped-none 1280 0 .most;
+  full = inr (record {
+    outsAre = stamped-none 1280 0;
+    insAre = stamped-none 1280 0;
+    queueLong = length-replicate {A = ℕ} 1280 0;
+    abovesAre = stamped-none 256 0;
+  });
+}
 
 module _ (sup : ℕ → Option ℕ) (groups classes : List ℕ) (n noted a : ℕ) (fits : a < n) where
   -- without links

@@ -42,9 +42,12 @@ subtypesIn t n = subtypeEdges (rows (subtypeAt t) (atMost subtypeLimit n) 0)
 abbrev pub edgesIn : List ℕ → ℕ → List ℕ → ℕ → List (Edge Request)
 edgesIn ties tied subtypes noted = tiesIn ties tied ++ subtypesIn subtypes noted
 
--- the request of row x of the cache, if it is one of the first
-unfoldable pub newIn : List ℕ → ℕ → ℕ → Option Request
-newIn t n x = elim (ltb x (atMost cacheLimit n)) [ true ↦ some (entryAt t x .request) | false ↦ none ]
+-- the request of row x of the cache, if it is one of the first n
+unfoldable pub newOf : List ℕ → ℕ → ℕ → Option Request
+newOf t n x = elim (ltb x n) [ true ↦ some (entryAt t x .request) | false ↦ none ]
+
+abbrev pub newIn : List ℕ → ℕ → ℕ → Option Request
+newIn t n x = newOf t (atMost cacheLimit n) x
 
 -- what was found of two places of the cache, as their requests
 unfoldable pub toldOf : List ℕ → Found → Check

@@ -54,7 +54,19 @@ fn find_pair(
         let a = request_at(turn, newcomer);
         let stamp = (turn + 1) as u16;
         let span = look(
-            supers, groups, classes, cached, noted, heads, nexts, turn, a, outs, ins, queue, aboves,
+            supers,
+            groups,
+            classes,
+            cached,
+            noted,
+            heads,
+            nexts,
+            turn,
+            a,
+            outs,
+            ins,
+            queue,
+            aboves,
         );
         let mut b = next_met(outs, stamp, span.all, span.from, span.end);
         while b < span.end {
@@ -89,7 +101,18 @@ fn find_break(
         let mut queue = [0u16; 1];
         let mut aboves = [0u16; 1];
         return find_pair(
-            supers, groups, classes, cached, noted, &none, &none, newcomer, &mut outs, &mut ins, &mut queue, &mut aboves,
+            supers,
+            groups,
+            classes,
+            cached,
+            noted,
+            &none,
+            &none,
+            newcomer,
+            &mut outs,
+            &mut ins,
+            &mut queue,
+            &mut aboves,
         );
     }
     let mut heads = [0u16; PLACE_LIMIT];
@@ -100,7 +123,18 @@ fn find_break(
     let mut queue = [0u16; PLACE_LIMIT];
     let mut aboves = [0u16; BYTE_RANGE as usize];
     find_pair(
-        supers, groups, classes, cached, noted, &heads, &nexts, newcomer, &mut outs, &mut ins, &mut queue, &mut aboves,
+        supers,
+        groups,
+        classes,
+        cached,
+        noted,
+        &heads,
+        &nexts,
+        newcomer,
+        &mut outs,
+        &mut ins,
+        &mut queue,
+        &mut aboves,
     )
 }
 

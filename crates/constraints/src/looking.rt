@@ -210,7 +210,18 @@ fn look_first(
         };
     }
     look_around(
-        supers, groups, classes, cached, noted, heads, nexts, a, outs, ins, queue, aboves,
+        supers,
+        groups,
+        classes,
+        cached,
+        noted,
+        heads,
+        nexts,
+        a,
+        outs,
+        ins,
+        queue,
+        aboves,
     );
     Span {
         from: 0,
@@ -241,7 +252,18 @@ pub(crate) fn look(
 {
     if turn == 0 {
         return look_first(
-            supers, groups, classes, cached, noted, heads, nexts, a, outs, ins, queue, aboves,
+            supers,
+            groups,
+            classes,
+            cached,
+            noted,
+            heads,
+            nexts,
+            a,
+            outs,
+            ins,
+            queue,
+            aboves,
         );
     }
     let first = place(groups, a);

@@ -17,7 +17,7 @@ use Rattle.constraints.proofs.agreement.find_pair.Statement.{statement}
 use Rattle.constraints.proofs.agreement.find_pair.Tie as tie
 
 abbrev Inv-loop : tie.InvT-loop
-Inv-loop supers groups classes cached noted heads nexts newcomer outs ins queue aboves found₀ turn a stamp span b₀ found b = 
+Inv-loop supers groups classes cached noted heads nexts newcomer outs ins queue aboves found₀ turn a stamp span b₀ found b =
     (found ≡ NoPair)
     × ((p : ℕ) → p < b → span .from ≤ p → (span .all ≡ true) ⊎ Marked stamp outs p → PairFine (superIn supers) groups classes outs ins aboves stamp a p)
 
@@ -25,7 +25,7 @@ abbrev μ-loop : tie.MeasureT-loop
 μ-loop supers groups classes cached noted heads nexts newcomer outs ins queue aboves found₀ turn a stamp span b₀ found b = span .end - b
 
 abbrev Inv-pairs : tie.InvT-pairs
-Inv-pairs supers groups classes cached noted heads nexts newcomer outs₀ ins₀ queue₀ aboves₀ found₀ turn₀ outs ins queue aboves found turn = 
+Inv-pairs supers groups classes cached noted heads nexts newcomer outs₀ ins₀ queue₀ aboves₀ found₀ turn₀ outs ins queue aboves found turn =
     (found ≡ NoPair)
     × Tested (superIn supers) groups classes cached noted newcomer turn outs ins queue aboves
     × (length outs ≡ length outs₀)
@@ -46,7 +46,7 @@ loop-holds : tie.Need-loop-holds Inv-loop μ-loop Inv-pairs μ-pairs
 loop-holds c = (c .before .before .before .before .before .before .before .before .before .before .before .before .before .before .before .before .before .pairs .inv .0, λ p h l k. absurd (c .next-met .ensures .none p h l k))
 
 loop-again : tie.Need-loop-again Inv-loop μ-loop Inv-pairs μ-pairs
-loop-again c = 
+loop-again c =
     let loop = c .before .before .before .before .before .before .before .before .before .before .loop in
     (loop .inv .0, right-on (loop .inv .1) (judged-fine _ _ _ _ _ _ _ _ _ (c .before .before .before .before .pair-at .ensures) (sym (c .before .before .before .is-pair .ensures) ∙ c .before .before .if2 .left)) (c .next-met2 .ensures))
 
@@ -57,7 +57,7 @@ pairs-less : tie.Need-pairs-less Inv-loop μ-loop Inv-pairs μ-pairs
 pairs-less c = omega (arith, c .next-turn .ensures .low, c .before .before .before .before .before .before .before .before .before .before .before .before .before .before .before .before .before .before .before .before .pairs-test .taken)
 
 pairs-again : tie.Need-pairs-again Inv-loop μ-loop Inv-pairs μ-pairs
-pairs-again c = 
+pairs-again c =
     let loop = c .before .before .before .loop in
     let look = c .before .before .before .before .before .before .before .before .before .before .before .before .before .before .look in
     let pairs = c .before .before .before .before .before .before .before .before .before .before .before .before .before .before .before .before .before .before .before .before .before .pairs in
@@ -99,7 +99,7 @@ same-length-8 : tie.Need-same-length-8 Inv-loop μ-loop Inv-pairs μ-pairs
 same-length-8 c = c .before .before .before .before .before .before .before .before .before .before .before .before .before .before .before .before .before .before .before .look .kept .1 .1 .1 .1 .1 .1 .1 .1 .1 .1 .1 .1 .0 ∙ c .before .before .before .before .before .before .before .before .before .before .before .before .before .before .before .before .before .before .before .before .before .before .before .before .before .before .pairs .inv .5
 
 returns-2 : tie.Need-returns-2 Inv-loop μ-loop Inv-pairs μ-pairs
-returns-2 c = 
+returns-2 c =
     let pre = c .before .before .before .before .before .before .before .before .before .before .before .before .before .before .before .before .before .before .before .before .before .before .before .before .before .before .before .before .before .before .before .before .before .before .before .before .before .pre in
     apart-turn _ (super-falls (now (c .before .before .before .before .before .before .before .before .before .before .before .before .before .before .before .before .before .before .before .before .before .before .before .before .before .before .before .before .before .before .before .before .before .before .before .before .before .args .supers))) _ _ _ _ (pre .2) (c .before .before .before .before .before .before .before .before .before .before .before .before .before .before .before .before .before .before .before .look .ensures) (turn-fits (c .before .before .before .before .before .before .before .before .before .before .before .before .before .before .before .before .before .before .before .before .before .before .before .before .before .before .before .before .before .before .before .before .before .before .before .before .before .args .newcomer) (c .before .before .before .before .before .before .before .before .before .before .before .before .before .before .before .before .before .before .before .before .before .before .before .before .before .before .pairs .inv .1 .isNew) (c .before .before .before .before .before .before .before .before .before .before .before .before .before .before .before .before .before .before .before .before .before .before .before .before .before .pairs-test .taken) (c .before .before .before .before .before .before .before .before .before .before .before .before .before .before .before .before .before .before .before .before .before .before .before .before .request-at .ensures)) (c .before .before .before .before .before .before .before .before .before .before .before .before .before .before .before .before .before .before .before .before .before .before .before .before .request-at .ensures) (c .before .before .before .before .before .before .before .before .before .before .before .before .before .before .before .before .before .before .before .before .before .before .before .before .before .before .pairs .inv .1 .fresh) (c .before .before .before .before .before .before .if1 .taken)
     (rw (add-one _) at (c .before .before .pair-at .ensures)) (sym (c .before .is-pair .ensures) ∙ c .if2 .taken)

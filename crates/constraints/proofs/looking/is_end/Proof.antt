@@ -23,7 +23,7 @@ returns c = λ q. absurd (false≢true (sym q))
 
 loop-again : tie.Need-loop-again Inv-loop μ-loop
 unfolding startOf
-loop-again c = 
+loop-again c =
     let loop = c .before .before .before .loop in
     (omega arith, below-more _ _ (loop .inv .1) (λ q. c .if1 .left (c .before .place .ensures .0 ∙ q)))
 

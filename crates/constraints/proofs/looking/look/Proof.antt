@@ -22,14 +22,14 @@ returns-3 : tie.Need-returns-3
 returns-3 c = let pre = c .before .before .before .before .before .before .before .before .before .before .before .before .before .pre in later-alone _ _ _ _ _ _ (pre .3) (omega (arith, c .before .before .before .if1 .left)) (pre .6) (c .if3 .taken) (sym (c .before .before .place .ensures .0) ∙ c .before .if2 .left)
 
 look-ahead-requires : tie.Need-look-ahead-requires
-look-ahead-requires c κs = 
+look-ahead-requires c κs =
     let pre = c .before .before .before .before .before .before .before .before .before .before .before .before .before .before .before .before .pre in
     let linked = c .before .before .before .if3 .left in
     let marks = ⊎-elim (λ z. absurd (linked z)) (λ m. m) (pre .6 .full) in
     (pre .0, pre .1, pre .3, omega arith, pre .4, ⊎-elim (λ z. absurd (linked z)) (λ j. j) (pre .5), stamped-more (omega arith) (marks .outsAre), marks .queueLong, stamped-more (omega arith) (marks .abovesAre))
 
 returns-4 : tie.Need-returns-4
-returns-4 c = 
+returns-4 c =
     let pre = c .before .before .before .before .before .before .before .before .before .before .before .before .before .before .before .before .before .before .before .before .before .before .before .pre in
     let ahead = c .before .before .before .before .before .before .look-ahead in
     let marks = ⊎-elim (λ z. absurd (c .before .before .before .before .before .before .before .before .before .before .if3 .left z)) (λ m. m) (pre .6 .full) in

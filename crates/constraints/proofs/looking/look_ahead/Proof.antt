@@ -8,7 +8,7 @@ use Rattle.constraints.proofs.looking.look_ahead.Tie as tie
 
 search-requires : tie.Need-search-requires
 unfolding startOf
-search-requires c κs = 
+search-requires c κs =
     let args = c .before .before .before .before .before .before .before .before .before .before .args in
     let pre = c .before .before .before .before .before .before .before .before .before .before .pre in
     (omega arith, omega arith, omega arith, pre .3, λ e h. omega (arith, pre .4 .low (args .cached + args .noted + e) (omega arith)), pre .5, pre .6, pre .7)

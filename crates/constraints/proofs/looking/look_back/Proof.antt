@@ -14,14 +14,14 @@ returns c = reached-none _ _ _ _ (c .before .before .before .before .before .pre
 
 join-requires : tie.Need-join-requires
 unfolding startOf
-join-requires c κs = 
+join-requires c κs =
     let args = c .before .before .before .before .before .before .before .args in
     let pre = c .before .before .before .before .before .before .before .pre in
     (omega arith, omega arith, λ e h. omega (arith, pre .3 .low (args .cached + args .noted + e) (omega arith)), joined-none _)
 
 search-requires : tie.Need-search-requires
 unfolding startOf
-search-requires c κs = 
+search-requires c κs =
     let args = c .before .before .before .before .before .before .before .before .before .before .before .before .before .before .args in
     let pre = c .before .before .before .before .before .before .before .before .before .before .before .before .before .before .pre in
     (pre .2, omega arith, omega arith, omega arith, λ e h. omega (arith, pre .3 .low (args .cached + e) (omega arith)), c .before .before .before .before .before .before .join .ensures, pre .4, pre .5)

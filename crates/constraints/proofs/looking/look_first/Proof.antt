@@ -10,13 +10,13 @@ returns : tie.Need-returns
 returns c = let pre = c .before .before .before .before .before .before .before .before .before .before .before .pre in first-unlinked _ _ _ _ _ _ (pre .2) (c .before .if1 .taken) (pre .3) (pre .5) (c .place .ensures .0)
 
 look-around-requires : tie.Need-look-around-requires
-look-around-requires c κs = 
+look-around-requires c κs =
     let pre = c .before .before .before .before .before .before .before .before .before .before .before .before .before .before .pre in
     let linked = c .before .before .before .before .if1 .left in
     (pre .0, pre .1, pre .2, pre .3, ⊎-elim (λ z. absurd (linked z)) (λ j. j) (pre .4), ⊎-elim (λ z. absurd (linked z)) (λ m. m) (pre .5 .full))
 
 returns-2 : tie.Need-returns-2
-returns-2 c = 
+returns-2 c =
     let pre = c .before .before .before .before .before .before .before .before .before .before .before .before .before .before .before .before .before .before .before .before .before .before .before .pre in
     let around = c .before .before .before .before .before .before .before .before .look-around in
     let long = ⊎-elim (λ z. absurd (c .before .before .before .before .before .before .before .before .before .before .before .before .before .if1 .left z)) (λ m. m .queueLong) (pre .5 .full) in

@@ -18,17 +18,17 @@ loop-holds : tie.Need-loop-holds Inv-loop μ-loop
 loop-holds c = (omega arith, c .before .before .pre .0, λ m h l. absurd (omega arith))
 
 returns : tie.Need-returns Inv-loop μ-loop
-returns c = 
+returns c =
     let loop = c .before .before .before .loop in
     record { low = omega arith; high = omega arith; none = λ m h l. loop .inv .2 m (omega arith) l }
 
 returns-2 : tie.Need-returns-2 Inv-loop μ-loop
-returns-2 c = 
+returns-2 c =
     let loop = c .before .before .before .before .before .loop in
     record { low = omega arith; high = omega arith; none = λ m h l. loop .inv .2 m (omega arith) l }
 
 loop-again : tie.Need-loop-again Inv-loop μ-loop
-loop-again c = 
+loop-again c =
     let loop = c .before .before .before .before .before .loop in (
       omega arith,
       omega arith,
@@ -37,7 +37,7 @@ loop-again c =
     )
 
 returns-3 : tie.Need-returns-3 Inv-loop μ-loop
-returns-3 c = 
+returns-3 c =
     let loop = c .before .loop in
     record { low = omega arith; high = omega arith; none = λ m h l. loop .inv .2 m (omega arith) l }
 

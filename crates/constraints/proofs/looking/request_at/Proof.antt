@@ -13,7 +13,7 @@ returns c = sym (ap (λ (t : ℕ). requestAt t (c .before .args .newcomer)) (c .
 
 returns-2 : tie.Need-returns-2
 unfolding requestAt
-returns-2 c = 
+returns-2 c =
     let turn = c .before .args .turn in
     let one : turn ≡ suc (turn - 1) = omega arith in sym (ap (λ (t : ℕ). requestAt t (c .before .args .newcomer)) one)
 

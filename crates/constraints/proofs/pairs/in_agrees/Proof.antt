@@ -9,7 +9,7 @@ returns : tie.Need-returns
 returns c = sym (unmarked-into _ _ _ _ _ _ _ (λ q. c .if1 .taken (c .before .at16 .ensures ∙ q)))
 
 returns-2 : tie.Need-returns-2
-returns-2 c = 
+returns-2 c =
     rw (c .before .before .place .ensures .0, c .before .place2 .ensures .0) at (c .is-below .ensures)
     ∙ sym (marked-into _ _ _ _ _ _ _ (sym (c .before .before .before .before .at16 .ensures) ∙ c .before .before .before .if1 .left))
 

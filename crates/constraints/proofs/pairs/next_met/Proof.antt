@@ -26,7 +26,7 @@ returns-2 : tie.Need-returns-2 Inv-loop μ-loop
 returns-2 c = record { low = c .before .before .before .loop .inv .0; none = c .before .before .before .loop .inv .1 }
 
 loop-again : tie.Need-loop-again Inv-loop μ-loop
-loop-again c = 
+loop-again c =
     let loop = c .before .before .before .loop in (
       omega arith,
       below-more _ _ (loop .inv .1)

@@ -10,13 +10,13 @@ returns : tie.Need-returns
 returns c = sym (unmarked-out _ _ _ _ _ _ _ (λ q. c .if1 .taken (c .before .at16 .ensures ∙ q)))
 
 returns-2 : tie.Need-returns-2
-returns-2 c = 
+returns-2 c =
     sym
     (marked-out _ _ _ _ _ _ _ (sym (c .before .before .before .before .at16 .ensures) ∙ c .before .before .before .if1 .left)
     ∙ above-same _ _ _ _ (sym (c .before .place2 .ensures .0) ∙ c .if2 .taken ∙ c .before .before .place .ensures .0))
 
 returns-3 : tie.Need-returns-3
-returns-3 c = 
+returns-3 c =
     rw (c .at162 .ensures, c .before .before .before .place .ensures .0)
     (sym
     (marked-out _ _ _ _ _ _ _ (sym (c .before .before .before .before .before .at16 .ensures) ∙ c .before .before .before .before .if1 .left)
