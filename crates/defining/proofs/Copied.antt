@@ -18,12 +18,14 @@ use Rattle.layout.specs.Places.{writeRows-length}
 use Rattle.layout.specs.NumberedRows.{SameNumbers}
 use Rattle.classfile.specs.Reading.{className, superName, quickFile}
 use Rattle.resolution.specs.Quick.{quickBase}
-use Rattle.constraints.specs.Agreement.{agreeIn}
+use Rattle.definition.specs.declared.Check.{Check}
+use Rattle.definition.specs.Checks.{NamesOver, Names}
+use Rattle.constraints.specs.Agreement.{superIn, entriesIn, tiesIn, edgesIn, newIn}
 use Rattle.constraints.specs.Linking.{reasonIn}
 use Rattle.entries.specs.World.{world, numbersIn, baseWith, Searchable}
 use Rattle.entries.specs.Entering.{Tried}
 use Rattle.entries.proofs.Laws.{written-front, written-behind}
-use Rattle.entries.proofs.Trial.{counted-is, counted-other, class-agreed, class-reasoned}
+use Rattle.entries.proofs.Trial.{counted-is, counted-other, class-named, class-reasoned}
 use Rattle.defining.specs.Stages.{ClassTried}
 use Rattle.defining.specs.Writing.{numbersOn, numbersAfter, Grown}
 use Rattle.defining.proofs.Numbered.{counts-kept, numbers-read, numbers-same}
@@ -49,12 +51,13 @@ module _ (counts classes kept cache bs : List ℕ) (ready : Searchable counts cl
   abbrev k : Class
   k = classOf l (quickFile bs)
 
-  pub class-agrees-as : length zeros ≡ 8 → (ties subtypes : List ℕ) (n i j : ℕ) (r : Bool) → i ≤ 256 → j ≤ 256 → n ≡ getD counted 2 0
-      → r ≡ agreeIn supers trial n ties i subtypes j → r ≡ agrees (world (baseWith b k) (rows (tieAt ties) i 0) (rows (subtypeAt subtypes) j 0))
+  pub class-names-as : length zeros ≡ 8 → (ties subtypes : List ℕ) (n i j new : ℕ) (r : Check) → i ≤ 256 → j ≤ 256 → n ≡ getD counted 2 0 → new ≡ getD counts 2 0
+      → NamesOver (superIn supers) (entriesIn trial n) (tiesIn ties i) (edgesIn ties i subtypes j) (newIn trial n new) r
+      → Names (world (baseWith b k) (rows (tieAt ties) i 0) (rows (subtypeAt subtypes) j 0)) (some (at l (className bs))) r
   unfolding quickFile
-  class-agrees-as nl ties subtypes n i j r hi hj en q =
-      class-agreed counts classes kept cache ready entryRoom l (className bs) (getD counts 0 0) zeros blank counted trial 8 nl (omega arith) bl (h .tried .entered) empty (h .filled) sl
-      (h .tried .above) k p (getD counts 0 0) supers classRoom refl refl refl refl super (h .above) ties subtypes n i j r hi hj en q
+  class-names-as nl ties subtypes n i j new r hi hj en ew q =
+      class-named counts classes kept cache ready entryRoom l (className bs) (getD counts 0 0) zeros blank counted trial 8 nl (omega arith) bl (h .tried .entered) empty (h .filled) sl
+      (h .tried .above) k p (getD counts 0 0) supers classRoom refl refl refl refl super (h .above) ties subtypes n i j new r hi hj en ew q
 
   -- with all counts, those of ties and of subtype constraints anew, and the new rows numbered on
   module _ (nl : length zeros ≡ 776) (i j : ℕ) (grown : Grown counts i j) where

@@ -1,6 +1,6 @@
 // The constraints of a class that is to be defined: limits, then agreement.
 use crate::overrides::post_methods;
-use crate::trying::class_agrees;
+use crate::trying::check_class;
 use cells::at16;
 use definition::Refusal;
 use definition::numbers::CACHE_LIMIT;
@@ -105,7 +105,7 @@ pub(crate) fn decide_constraints(
     if !has_room(counts, classes, kept, cache, p, file, tied) {
         return Defining::Refuse(Refusal::Word(WORD_FULL));
     }
-    if !class_agrees(
+    if !constraints::agreed(check_class(
         counts,
         classes,
         kept,
@@ -117,7 +117,7 @@ pub(crate) fn decide_constraints(
         tied,
         new_subtypes,
         noted,
-    ) {
+    )) {
         return Defining::Clash(loader, p, tied, noted);
     }
     Defining::Add(loader, tied, noted)

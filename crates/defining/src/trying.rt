@@ -1,6 +1,7 @@
 // A class that is to be defined, tried on copies: whether the store with it agrees, and why not.
 use crate::numbering::write_counts;
 use cells::at16;
+use definition::Check;
 use definition::Refusal;
 use definition::Reply;
 use definition::Trial;
@@ -24,7 +25,7 @@ ghost use Rattle.definition.specs.Lists.{rows};
 ghost use Rattle.definition.specs.Tables.{tieAt, subtypeAt};
 ghost use Rattle.definition.specs.Broken.{numbered};
 ghost use Rattle.definition.specs.Requests.{at};
-ghost use Rattle.definition.specs.Constraints.{agrees};
+ghost use Rattle.definition.specs.Checks.{Names};
 ghost use Rattle.definition.specs.Classes.{find};
 ghost use Rattle.definition.specs.File.{classOf};
 ghost use Rattle.definition.specs.Reasons.{reason, tries, listed};
@@ -66,8 +67,8 @@ fn try_class(
     cells::put8(supers, cells::wide16(class), (p + 1) as u8);
 }
 
-// The store with the file's class, below p, and with the rows of these tables agrees: the cache is copied, and of the counts those that come before the owners.
-pub(crate) fn class_agrees(
+// The check of the store with the file's class, below p, the newcomer, and with the rows of these tables: the cache is copied, and of the counts those that come before the owners.
+pub(crate) fn check_class(
     counts: &[u16],
     classes: &[u16],
     kept: &[u8],
@@ -79,9 +80,9 @@ pub(crate) fn class_agrees(
     tied: u16,
     subtypes: &[u16],
     noted: u16,
-) -> bool
+) -> Check
     requires { ⌜ Searchable (now counts) (now classes) (now kept) (now cache) × (getD (now counts) countClasses 0 < classLimit) × (getD (now counts) countCache 0 < cacheLimit) × (tied ≤ tieLimit) × (noted ≤ subtypeLimit) × (find (quickBase (now counts) (now classes) (now kept) (now cache) .cache) (at loader (superName (now file))) ≡ some p) ⌝ }
-    ensures { λ r. ⌜ r ≡ agrees (world (baseWith (quickBase (now (counts .entry)) (now (classes .entry)) (now (kept .entry)) (now (cache .entry))) (classOf loader (quickFile (now (file .entry))))) (rows (tieAt (now (ties .entry))) tied 0) (rows (subtypeAt (now (subtypes .entry))) noted 0)) ⌝ }
+    ensures { λ r. ⌜ Names (world (baseWith (quickBase (now (counts .entry)) (now (classes .entry)) (now (kept .entry)) (now (cache .entry))) (classOf loader (quickFile (now (file .entry))))) (rows (tieAt (now (ties .entry))) tied 0) (rows (subtypeAt (now (subtypes .entry))) noted 0)) (some (at loader (className (now (file .entry))))) r ⌝ }
 {
     let mut counted = [0u16; OWNERS_CELL];
     let mut trial = [0u16; CACHE_LENGTH];
@@ -98,7 +99,7 @@ pub(crate) fn class_agrees(
         &mut trial,
         &mut supers,
     );
-    constraints::agree(
+    constraints::check(
         &supers,
         &trial,
         at16(&counted, COUNT_CACHE),
@@ -106,6 +107,7 @@ pub(crate) fn class_agrees(
         tied,
         subtypes,
         noted,
+        at16(counts, COUNT_CACHE),
     )
 }
 

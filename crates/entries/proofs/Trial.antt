@@ -1,5 +1,5 @@
--- A new entry tried on a copy of the cache: what the copies hold, what their test of agreement decides, and why they don't agree.
-use mathlib.Core.Path.{_≡_, refl, sym, ap, _∙_}
+-- A new entry tried on a copy of the cache: what the copies hold, what the check of agreement names of them, and why they don't agree.
+use mathlib.Core.Path.{_≡_, refl, sym, ap, subst, _∙_}
 use mathlib.Core.Bool.{Bool, true, false}
 use mathlib.Core.Option.{Option, none, some}
 use mathlib.Core.List.{List, [], _∷_, _++_}
@@ -11,9 +11,12 @@ use lib.Seq.{getD-set-same, getD-set-other}
 use lib.Dec.{eqb, ltb}
 use borrow.Author.Tests.{lt-ltb, ltb-true, ltb-false, eqb-true, eqb-false}
 use Rattle.definition.specs.Lists.{rows, writeRows}
-use Rattle.definition.specs.Requests.{at}
+use Rattle.definition.specs.Chains.{Edge}
+use Rattle.definition.specs.Requests.{Request, at}
 use Rattle.definition.specs.Classes.{Base, Class, Entry, superOf, find, lower}
-use Rattle.definition.specs.Constraints.{World, agrees}
+use Rattle.definition.specs.Constraints.{World}
+use Rattle.definition.specs.declared.Check.{Check}
+use Rattle.definition.specs.Checks.{NamesOver, Names}
 use Rattle.definition.specs.Loading.{withEntry}
 use Rattle.definition.specs.Numbers.{tieNumbersCell, subtypeNumbersCell}
 use Rattle.definition.specs.Tables.{RowNumbers, rowNumbers, putThree, entry, entryAt, putEntry, tieAt, subtypeAt, numberAt, classRowAt}
@@ -24,10 +27,10 @@ use Rattle.layout.specs.Places.{rows-getD, rows-cong, rows-length, writeRows-le
 use Rattle.layout.specs.Cells.{entry-rows, rows-after-last}
 use Rattle.resolution.specs.Quick.{quickClass, quickBase}
 use Rattle.resolution.specs.Lookups.{superCell, cell-none, cell-some}
-use Rattle.constraints.specs.Agreement.{superIn, agreeIn}
+use Rattle.constraints.specs.Agreement.{superIn, entriesIn, tiesIn, edgesIn, newOf, newIn}
 use Rattle.laws.specs.Options.{nth-last}
 use Rattle.constraints.specs.Linking.{numbersFit, reasonIn}
-use Rattle.constraints.specs.Laws.{within, agree-store}
+use Rattle.constraints.specs.Laws.{within, names-store}
 use Rattle.entries.specs.World.{worldIn, numbersIn, baseWith, Searchable, Loadable}
 use Rattle.entries.specs.Entering.{Entered}
 use Rattle.entries.proofs.Laws.{written-front, copied}
@@ -184,6 +187,19 @@ module _ (counts classes kept cache : List ℕ) (ready : Searchable counts class
       let z : n ≡ getD counts 2 0 + 1 = h ∙ counted-entries in
       (omega arith, (λ i. rows (entryAt (trial-is i)) (z i) 0) ∙ entries-more cache (getD counts 2 0) l m c (omega (arith, ready .cacheLong)))
 
+  -- the newcomer is the last row
+  new-is : (n new : ℕ) → n ≡ getD counted 2 0 → new ≡ getD counts 2 0 → newIn trial n new ≡ some (at l m)
+  unfolding newOf putEntry
+  new-is n new en ew =
+      let z : n ≡ getD counts 2 0 + 1 = en ∙ counted-entries in
+      let row : entryAt trial new ≡ entry l m c =
+      (λ i. entryAt (trial-is i) (ew i)) ∙ entry-rows .back cache (getD counts 2 0) (entry l m c) (omega (arith, ready .cacheLong)) tt in
+      rw (within 256 n (entries-are n en .0), lt-ltb new n (omega arith), newOf) (ap (λ (e : Entry). some (e .request)) row)
+
+  new-named : {sup : ℕ → Option ℕ} {es : List Entry} {ts ls : List (Edge Request)} {r : Check} (n new : ℕ) → n ≡ getD counted 2 0 → new ≡ getD counts 2 0
+      → NamesOver sup es ts ls (newIn trial n new) r → NamesOver sup es ts ls (some (at l m)) r
+  new-named {sup} {es} {ts} {ls} {r} n new en ew h = subst (λ (o : Option Request). NamesOver sup es ts ls o r) (new-is n new en ew) h
+
   module _ (empty supers : List ℕ) (long : length empty ≡ 64) (s : supers ≡ writeRows set (rows (superCell (quickBase counted classes kept trial)) 64 0) 0 empty) where
     supers-filled : supers ≡ rows (superCell more) 64 0
     supers-filled =
@@ -194,13 +210,15 @@ module _ (counts classes kept cache : List ℕ) (ready : Searchable counts class
     supers-are x = ap (λ (y : List ℕ). superIn y x) supers-filled ∙ supers-in more (omega (arith, ready .classesFew, classes-few)) x
 
     -- record
-    pub entry-agreed : (ties subtypes : List ℕ) (n i j : ℕ) (r : Bool) → Loadable counts classes kept cache ties subtypes → n ≡ getD counted 2 0
-        → i ≡ getD counts 3 0 → j ≡ getD counts 4 0 → r ≡ agreeIn supers trial n ties i subtypes j
-        → r ≡ agrees (withEntry (worldIn counts classes kept cache ties subtypes) (at l m) c)
-    entry-agreed ties subtypes n i j r ld en ei ej h =
+    pub entry-named : (ties subtypes : List ℕ) (n i j new : ℕ) (r : Check) → Loadable counts classes kept cache ties subtypes → n ≡ getD counted 2 0
+        → i ≡ getD counts 3 0 → j ≡ getD counts 4 0 → new ≡ getD counts 2 0
+        → NamesOver (superIn supers) (entriesIn trial n) (tiesIn ties i) (edgesIn ties i subtypes j) (newIn trial n new) r
+        → Names (withEntry (worldIn counts classes kept cache ties subtypes) (at l m) c) (some (at l m)) r
+    entry-named ties subtypes n i j new r ld en ei ej ew h =
         let f = entries-are n en in
-        h ∙ agree-store (withEntry (worldIn counts classes kept cache ties subtypes) (at l m) c) supers trial ties subtypes n i j supers-are (sym (f .1))
+        names-store (withEntry (worldIn counts classes kept cache ties subtypes) (at l m) c) supers trial ties subtypes n i j (some (at l m)) r supers-are (sym (f .1))
         (ap (λ (x : ℕ). rows (tieAt ties) x 0) (sym ei)) (ap (λ (x : ℕ). rows (subtypeAt subtypes) x 0) (sym ej)) (f .0) (omega (arith, ld .tiesFew)) (omega (arith, ld .subtypesFew))
+        (new-named n new en ew h)
 
     -- where all counts are copied, with the rows' numbers
     pub entry-reasoned : (ties subtypes : List ℕ) → size ≡ 776 → Loadable counts classes kept cache ties subtypes → numbered (numbersIn counts) ≡ true
@@ -235,12 +253,13 @@ module _ (counts classes kept cache : List ℕ) (ready : Searchable counts class
           ∙ supers-more (b .classes) (baseWith b k .cache) k p supers (omega (arith, long64, classes-few)) less
           (find-more (b .cache) (entry (k .loader) (k .name) (length (b .classes)) ∷ []) (at (k .loader) (k .super)) p super) old x
 
-      pub class-agreed : (ties subtypes : List ℕ) (n i j : ℕ) (r : Bool) → i ≤ 256 → j ≤ 256 → n ≡ getD counted 2 0 → r ≡ agreeIn above trial n ties i subtypes j
-          → r ≡ agrees (record { base = baseWith b k; ties = rows (tieAt ties) i 0; subtypes = rows (subtypeAt subtypes) j 0 })
-      class-agreed ties subtypes n i j r hi hj en h =
+      pub class-named : (ties subtypes : List ℕ) (n i j new : ℕ) (r : Check) → i ≤ 256 → j ≤ 256 → n ≡ getD counted 2 0 → new ≡ getD counts 2 0
+          → NamesOver (superIn above) (entriesIn trial n) (tiesIn ties i) (edgesIn ties i subtypes j) (newIn trial n new) r
+          → Names (record { base = baseWith b k; ties = rows (tieAt ties) i 0; subtypes = rows (subtypeAt subtypes) j 0 }) (some (at (k .loader) (k .name))) r
+      class-named ties subtypes n i j new r hi hj en ew h =
           let f = entries-are n en in
-          h ∙ agree-store (record { base = baseWith b k; ties = rows (tieAt ties) i 0; subtypes = rows (subtypeAt subtypes) j 0 }) above trial ties subtypes n i j
-          above-are (sym (f .1 ∙ cache-is)) refl refl (f .0) hi hj
+          names-store (record { base = baseWith b k; ties = rows (tieAt ties) i 0; subtypes = rows (subtypeAt subtypes) j 0 }) above trial ties subtypes n i j (some (at (k .loader) (k .name))) r
+          above-are (sym (f .1 ∙ cache-is)) refl refl (f .0) hi hj (rw (kl, km) at (new-named n new en ew h))
 
       -- by counts that say how many rows there are and what numbers they have
       pub class-reasoned : (now ties subtypes : List ℕ) (i j : ℕ) (q : RowNumbers) → i ≤ 256 → j ≤ 256 → getD now 2 0 ≡ getD counted 2 0 → getD now 3 0 ≡ i

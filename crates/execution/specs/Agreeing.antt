@@ -1,23 +1,26 @@
--- Agreement of the store with ties that are to be posted, tested on a copy of the ties and on a table of superclasses.
+-- The check of the store with ties that are to be posted, on a copy of the ties and on a table of superclasses.
 use mathlib.Core.Path.{_≡_, refl, sym, ap, _∙_}
 use mathlib.Core.Bool.{Bool, true, false}
+use mathlib.Core.Option.{Option, none}
 use mathlib.Core.List.{List, _++_}
 use Prim.Native.Nat.{ℕ, _+_, _<_, _≤_}
 use native.Mathlib.Omega.{arith}
 use lib.ListN.{length, getD, set, length-set, length-append, List·getD-eq-default}
 use lib.Dec.{ltb}
-use borrow.Author.Tests.{ltb-true, ltb-false}
+use borrow.Author.Tests.{ltb-true, ltb-false, le-ltb}
 use Rattle.definition.specs.Lists.{rows, writeRows}
 use Rattle.definition.specs.Classes.{Base, superOf}
-use Rattle.definition.specs.Constraints.{Tie, edges, agrees, posted}
+use Rattle.definition.specs.Constraints.{Tie, World, posted}
+use Rattle.definition.specs.declared.Check.{Check}
+use Rattle.definition.specs.Checks.{NamesOver, Names}
 use Rattle.definition.specs.Tables.{tables, tieAt, putTie}
 use Rattle.layout.specs.Places.{rows-length, rows-getD, writeRows-length}
 use Rattle.layout.specs.Cells.{rows-back, rows-more, cell-rows, tie-rows}
-use Rattle.constraints.specs.Agreement.{superIn, agreeIn}
+use Rattle.constraints.specs.Agreement.{superIn, entriesIn, tiesIn, edgesIn, newOf, newIn}
 use Rattle.resolution.specs.Quick.{quickBase, super-past}
 use Rattle.resolution.specs.Lookups.{superCell, cell-super}
 use Rattle.access.specs.Accesses.{worldIn}
-use Rattle.constraints.specs.Laws.{within}
+use Rattle.constraints.specs.Laws.{within, names-store}
 
 -- The table of superclasses
 
@@ -66,16 +69,17 @@ tried I n us long few =
     let f : writeRows putTie xs 0 I ≡ writeRows putTie us n I = rows-more tie-rows I n us in
     rw (e, f) at (rows-back tie-rows xs I (omega arith))
 
--- what the test says of the store with the ties us posted
-pub agree-posted : (N L K E I S O F zs : List ℕ) (us : List Tie) → getD N 0 0 ≤ 64 → getD N 2 0 ≤ 256 → getD N 4 0 ≤ 256 → length zs ≡ 64 → length I ≡ 768 → getD N 3 0 + length us ≤ 256
-    → agreeIn (writeRows set (rows (superCell (quickBase N L K E)) 64 0) 0 zs) E (getD N 2 0) (writeRows putTie us (getD N 3 0) I) (getD N 3 0 + length us) S (getD N 4 0)
-    ≡ agrees (posted (worldIn (quickBase N L K E) (tables N L K E I S O F)) us)
-unfolding agrees edges quickBase
-agree-posted N L K E I S O F zs us c e s z i n =
-    rw (
-      supers-table N L K E c zs z,
-      within 256 (getD N 2 0) e,
-      within 256 (getD N 4 0) s,
-      within 256 (getD N 3 0 + length us) n,
-      tried I (getD N 3 0) us i n,
-    )
+-- what the check names of the store with the ties us posted; there is no newcomer, since the row behind the last isn't one
+module _ (N L K E I S O F zs : List ℕ) (us : List Tie) where
+  abbrev after : World
+  after = posted (worldIn (quickBase N L K E) (tables N L K E I S O F)) us
+
+  pub names-posted : (new : ℕ) (r : Check) → getD N 0 0 ≤ 64 → getD N 2 0 ≤ 256 → getD N 4 0 ≤ 256 → length zs ≡ 64 → length I ≡ 768 → getD N 3 0 + length us ≤ 256 → new ≡ getD N 2 0
+      → NamesOver (superIn (writeRows set (rows (superCell (quickBase N L K E)) 64 0) 0 zs)) (entriesIn E (getD N 2 0)) (tiesIn (writeRows putTie us (getD N 3 0) I) (getD N 3 0 + length us))
+      (edgesIn (writeRows putTie us (getD N 3 0) I) (getD N 3 0 + length us) S (getD N 4 0)) (newIn E (getD N 2 0) new) r
+      → Names after none r
+  unfolding quickBase newOf
+  names-posted new r c e s z i n ew h =
+      let nobody : newIn E (getD N 2 0) new ≡ none = rw (within 256 (getD N 2 0) e, le-ltb new (getD N 2 0) (omega arith), newOf) refl in
+      names-store after (writeRows set (rows (superCell (quickBase N L K E)) 64 0) 0 zs) E (writeRows putTie us (getD N 3 0) I) S (getD N 2 0) (getD N 3 0 + length us) (getD N 4 0) none r
+      (λ x. ap (λ (f : ℕ → Option ℕ). f x) (supers-table N L K E c zs z)) refl (sym (tried I (getD N 3 0) us i n)) refl e n s (rw nobody at h)

@@ -1,5 +1,6 @@
 // A plan settled with the ties that it posts: first no room and clashes are refused, and a refusal posts nothing.
 use access::Access;
+use definition::Check;
 use definition::Refusal;
 use definition::numbers::CLASS_LIMIT;
 use definition::numbers::COUNT_CACHE;
@@ -18,7 +19,9 @@ ghost use lib.ListN.{length, getD};
 ghost use Rattle.definition.specs.Numbers.{tieLimit, countTies, tiesLength};
 ghost use Rattle.definition.specs.Lists.{rows};
 ghost use Rattle.definition.specs.Tables.{tables, tieAt};
-ghost use Rattle.definition.specs.Constraints.{posted, agrees};
+ghost use Rattle.definition.specs.Constraints.{posted};
+ghost use Rattle.definition.specs.Checks.{Names};
+ghost use mathlib.Core.Option.{none};
 ghost use Rattle.layout.specs.Unbroken.{Counts};
 ghost use Rattle.resolution.specs.Quick.{quickBase};
 ghost use Rattle.access.specs.Accesses.{worldIn, tiesOn};
@@ -37,8 +40,8 @@ fn copy_rows(to: &mut [u16], from: &[u16])
     }
 }
 
-// Whether the store agrees with ties that are to be posted, tried on a copy of the ties.
-fn agrees_with(
+// The check of the store with ties that are to be posted, tried on a copy of the ties. There is no newcomer: the row behind the last isn't one.
+fn check_ties(
     counts: &[u16],
     classes: &[u16],
     kept: &[u8],
@@ -46,9 +49,9 @@ fn agrees_with(
     ties: &[u16],
     subtypes: &[u16],
     posting: Posting,
-) -> bool
+) -> Check
     requires { ⌜ Counts (now counts) × (length (now ties) ≡ tiesLength) × (getD (now counts) countTies 0 + length (toPost posting) ≤ tieLimit) ⌝ }
-    ensures { λ r. ⌜ r ≡ agrees (posted (worldIn (quickBase (now (counts .entry)) (now (classes .entry)) (now (kept .entry)) (now (cache .entry))) (tables (now (counts .entry)) (now (classes .entry)) (now (kept .entry)) (now (cache .entry)) (now (ties .entry)) (now (subtypes .entry)) [] [])) (toPost posting)) ⌝ }
+    ensures { λ r. ⌜ Names (posted (worldIn (quickBase (now (counts .entry)) (now (classes .entry)) (now (kept .entry)) (now (cache .entry))) (tables (now (counts .entry)) (now (classes .entry)) (now (kept .entry)) (now (cache .entry)) (now (ties .entry)) (now (subtypes .entry)) [] [])) (toPost posting)) none r ⌝ }
 {
     let n = cells::at16(counts, COUNT_TIES);
     let mut tried = [0u16; TIES_LENGTH];
@@ -56,7 +59,7 @@ fn agrees_with(
     posting::write_ties(&mut tried, n, posting);
     let mut supers = [0u8; CLASS_LIMIT as usize];
     resolution::fill_supers(&mut supers, counts, classes, kept, cache);
-    constraints::agree(
+    constraints::check(
         &supers,
         cache,
         cells::at16(counts, COUNT_CACHE),
@@ -64,6 +67,7 @@ fn agrees_with(
         n + posting::tie_number(posting),
         subtypes,
         cells::at16(counts, COUNT_SUBTYPES),
+        cells::at16(counts, COUNT_CACHE),
     )
 }
 
@@ -121,7 +125,9 @@ fn settle(
     if TIE_LIMIT < n + k {
         return refused(WORD_FULL);
     }
-    if !agrees_with(counts, classes, kept, cache, ties, subtypes, posting) {
+    if !constraints::agreed(check_ties(
+        counts, classes, kept, cache, ties, subtypes, posting,
+    )) {
         return refused(WORD_CLASH);
     }
     decided(posting, plan)

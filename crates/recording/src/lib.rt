@@ -1,4 +1,5 @@
 // record: a cache entry for a class that is there, and the try of one.
+use definition::Check;
 use definition::Refusal;
 use definition::Reply;
 use definition::Trial;
@@ -27,7 +28,8 @@ ghost use Prim.Native.Nat.{_<_};
 ghost use lib.ListN.{getD};
 ghost use Rattle.definition.specs.Numbers.{wordClash, cacheLimit, countCache};
 ghost use Rattle.definition.specs.Requests.{at};
-ghost use Rattle.definition.specs.Constraints.{agrees};
+ghost use mathlib.Core.Option.{some};
+ghost use Rattle.definition.specs.Checks.{Names};
 ghost use Rattle.definition.specs.Loading.{withEntry};
 ghost use Rattle.definition.specs.Tables.{tables};
 ghost use Rattle.definition.specs.declared.Refusal.the-variants.{Word};
@@ -49,8 +51,8 @@ pub(crate) enum Recording {
     Clash(u16, u16, u16),
 }
 
-// The store with one more entry agrees: the cache is copied, and of the counts those that come before the owners.
-fn entry_agrees(
+// The check of the store with one more entry, the newcomer: the cache is copied, and of the counts those that come before the owners.
+fn check_entry(
     counts: &[u16],
     classes: &[u16],
     kept: &[u8],
@@ -60,9 +62,9 @@ fn entry_agrees(
     loader: u16,
     name: u16,
     class: u16,
-) -> bool
+) -> Check
     requires { ⌜ Loadable (now counts) (now classes) (now kept) (now cache) (now ties) (now subtypes) × (getD (now counts) countCache 0 < cacheLimit) ⌝ }
-    ensures { λ r. ⌜ r ≡ agrees (withEntry (worldIn (now (counts .entry)) (now (classes .entry)) (now (kept .entry)) (now (cache .entry)) (now (ties .entry)) (now (subtypes .entry))) (at loader name) class) ⌝ }
+    ensures { λ r. ⌜ Names (withEntry (worldIn (now (counts .entry)) (now (classes .entry)) (now (kept .entry)) (now (cache .entry)) (now (ties .entry)) (now (subtypes .entry))) (at loader name) class) (some (at loader name)) r ⌝ }
 {
     let mut counted = [0u16; OWNERS_CELL];
     let mut trial = [0u16; CACHE_LENGTH];
@@ -79,7 +81,7 @@ fn entry_agrees(
         &mut trial,
         &mut supers,
     );
-    constraints::agree(
+    constraints::check(
         &supers,
         &trial,
         cells::at16(&counted, COUNT_CACHE),
@@ -87,6 +89,7 @@ fn entry_agrees(
         cells::at16(counts, COUNT_TIES),
         subtypes,
         cells::at16(counts, COUNT_SUBTYPES),
+        cells::at16(counts, COUNT_CACHE),
     )
 }
 
@@ -153,17 +156,9 @@ fn decide_entry(
     if CACHE_LIMIT <= cells::at16(counts, COUNT_CACHE) {
         return Recording::Refuse(Refusal::Word(WORD_FULL));
     }
-    if !entry_agrees(
-        counts,
-        classes,
-        kept,
-        cache,
-        ties,
-        subtypes,
-        loader,
-        name,
-        class,
-    ) {
+    if !constraints::agreed(check_entry(
+        counts, classes, kept, cache, ties, subtypes, loader, name, class,
+    )) {
         return Recording::Clash(loader, name, class);
     }
     Recording::Add(loader, name, class)

@@ -30,24 +30,24 @@ returns-3 c = let start = c .before .before .before .before .before .before .bef
     let n : length (rows (entryAt (now (start .args .cache))) (getD counts 2 0) 0) ≡ getD counts 2 0 = rows-length _ _ _ in
     (full _ _ _ _ (found-absent _ (sym (c .before .before .before .before .find .ensures) ∙ c .before .before .enum-told .given .1)) (omega (arith, c .before .at16 .ensures, c .if2 .taken)), λ z. omega arith)
 
-entry-agrees-requires : tie.Need-entry-agrees-requires
-entry-agrees-requires c κs = (c .before .before .before .before .before .before .before .before .before .before .before .pre, omega (arith, c .before .at16 .ensures, c .if2 .left))
+check-entry-requires : tie.Need-check-entry-requires
+check-entry-requires c κs = (c .before .before .before .before .before .before .before .before .before .before .before .pre, omega (arith, c .before .at16 .ensures, c .if2 .left))
 
 returns-4 : tie.Need-returns-4
 unfolding recordedBy quickBase Tells
-returns-4 c = let start = c .before .before .before .before .before .before .before .before .before .before .before .before .before in
+returns-4 c = let start = c .before .before .before .before .before .before .before .before .before .before .before .before .before .before in
     let counts = now (start .args .counts) in
     let n : length (rows (entryAt (now (start .args .cache))) (getD counts 2 0) 0) ≡ getD counts 2 0 = rows-length _ _ _ in (
-      clash _ _ _ _ (found-absent _ (sym (c .before .before .before .before .before .before .find .ensures) ∙ c .before .before .before .before .enum-told .given .1)) (omega (arith, c .before .before .before .at16 .ensures, c .before .before .if2 .left)) (sym (c .before .entry-agrees .ensures) ∙ not-true _ (c .if3 .taken)),
-      record { loader = refl; name = refl; class = refl; room = omega (arith, c .before .before .before .at16 .ensures, c .before .before .if2 .left) },
+      clash _ _ _ _ (found-absent _ (sym (c .before .before .before .before .before .before .before .find .ensures) ∙ c .before .before .before .before .before .enum-told .given .1)) (omega (arith, c .before .before .before .before .at16 .ensures, c .before .before .before .if2 .left)) (sym (c .before .agreed .ensures ∙ c .before .before .check-entry .ensures .exactly) ∙ not-true _ (c .if3 .taken)),
+      record { loader = refl; name = refl; class = refl; room = omega (arith, c .before .before .before .before .at16 .ensures, c .before .before .before .if2 .left) },
     )
 
 returns-5 : tie.Need-returns-5
 unfolding recordedBy quickBase Tells
-returns-5 c = let start = c .before .before .before .before .before .before .before .before .before .before .before .before .before in
+returns-5 c = let start = c .before .before .before .before .before .before .before .before .before .before .before .before .before .before in
     let counts = now (start .args .counts) in
     let n : length (rows (entryAt (now (start .args .cache))) (getD counts 2 0) 0) ≡ getD counts 2 0 = rows-length _ _ _ in
-    (fine _ _ _ _ (found-absent _ (sym (c .before .before .before .before .before .before .find .ensures) ∙ c .before .before .before .before .enum-told .given .1)) (omega (arith, c .before .before .before .at16 .ensures, c .before .before .if2 .left)) (sym (c .before .entry-agrees .ensures) ∙ not-false _ (c .if3 .left)), tt)
+    (fine _ _ _ _ (found-absent _ (sym (c .before .before .before .before .before .before .before .find .ensures) ∙ c .before .before .before .before .before .enum-told .given .1)) (omega (arith, c .before .before .before .before .at16 .ensures, c .before .before .before .if2 .left)) (sym (c .before .agreed .ensures ∙ c .before .before .check-entry .ensures .exactly) ∙ not-false _ (c .if3 .left)), tt)
 
 pub decide-entry-spec : {M : Type 1} → statement M
-decide-entry-spec = tie.close (tie.spec (λ c κs. search needs) (λ c. search needs) (λ c κs. search needs) returns returns-2 (λ c. search needs) (λ c κs. search needs) returns-3 entry-agrees-requires returns-4 returns-5)
+decide-entry-spec = tie.close (tie.spec (λ c κs. search needs) (λ c. search needs) (λ c κs. search needs) returns returns-2 (λ c. search needs) (λ c κs. search needs) returns-3 check-entry-requires (λ c κs. search needs) returns-4 returns-5)

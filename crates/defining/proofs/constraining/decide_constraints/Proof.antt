@@ -59,8 +59,8 @@ module _ (c : tie.Else2) where
   abbrev post : tie.After-post-methods
   post = c .before .before .before .before .before
 
-class-agrees-requires : tie.Need-class-agrees-requires
-class-agrees-requires c κs =
+check-class-requires : tie.Need-check-class-requires
+check-class-requires c κs =
     let e = c .before in
     let a = from (post e) in
     let room = room-there _ _ _ _ _ _ (a .pre .0) (a .args .loader) (a .args .p) (now (a .args .file)) _ _ (made (post e)) (sym (e .before .has-room .ensures) ∙ not-false _ (e .if2 .left)) in
@@ -69,18 +69,18 @@ class-agrees-requires c κs =
 returns-3 : tie.Need-returns-3
 unfolding Decided quickFile
 returns-3 c =
-    let e = c .before .before .before in
+    let e = c .before .before .before .before in
     let a = from (post e) in
     λ ns q. posted-clash _ _ _ _ _ _ (a .pre .0) (a .args .loader) (a .args .p) (now (a .args .file)) _ _ (made (post e)) (sym (e .before .has-room .ensures) ∙ not-false _ (e .if2 .left))
-    _ _ (e .before .before .if1 .left) ns q (a .pre .4) (sym (c .before .class-agrees .ensures) ∙ not-true _ (c .if3 .taken))
+    _ _ (e .before .before .if1 .left) ns q (a .pre .4) (sym (c .before .agreed .ensures ∙ c .before .before .check-class .ensures .exactly) ∙ not-true _ (c .if3 .taken))
 
 returns-4 : tie.Need-returns-4
 unfolding Decided
 returns-4 c =
-    let e = c .before .before .before in
+    let e = c .before .before .before .before in
     let a = from (post e) in
     λ ns q. posted-fine _ _ _ _ _ _ (a .pre .0) (a .args .loader) (a .args .p) (now (a .args .file)) _ _ (made (post e)) (sym (e .before .has-room .ensures) ∙ not-false _ (e .if2 .left))
-    _ _ (e .before .before .if1 .left) ns q (sym (c .before .class-agrees .ensures) ∙ not-false _ (c .if3 .left))
+    _ _ (e .before .before .if1 .left) ns q (sym (c .before .agreed .ensures ∙ c .before .before .check-class .ensures .exactly) ∙ not-false _ (c .if3 .left))
 
 pub decide-constraints-spec : {M : Type 1} → statement M
 decide-constraints-spec =
@@ -94,7 +94,8 @@ decide-constraints-spec =
     has-room-requires
     (λ c. search needs)
     returns-2
-    class-agrees-requires
+    check-class-requires
+    (λ c κs. search needs)
     (λ c. search needs)
     returns-3
     (λ c. search needs)

@@ -24,23 +24,23 @@ returns-3 c =
     let at13 = at5 .before .before .before .before .before .before .before .before in
     rw (c .refused2 .ensures .0, c .refused2 .ensures .1) (settle-full _ _ _ _ _ _ _ (at13 .pre .0 .ties) _ _ (c .before .before .before .before .new-ties .ensures ∙ rw (at5 .at16 .ensures)) _ (not-false _ (c .before .before .before .before .before .before .if1 .left)) (rw (← at5 .at16 .ensures, ← c .before .before .before .tie-number .ensures .0) (c .before .if3 .taken)))
 
-agrees-with-requires : tie.Need-agrees-with-requires
-agrees-with-requires c κs = (c .before .before .before .before .before .before .before .before .before .before .before .before .pre .0, c .before .before .before .before .before .before .before .before .before .before .before .before .pre .1, rw (← c .before .before .before .before .at16 .ensures, ← c .before .before .tie-number .ensures .0) (c .if3 .left))
+check-ties-requires : tie.Need-check-ties-requires
+check-ties-requires c κs = (c .before .before .before .before .before .before .before .before .before .before .before .before .pre .0, c .before .before .before .before .before .before .before .before .before .before .before .before .pre .1, rw (← c .before .before .before .before .at16 .ensures, ← c .before .before .tie-number .ensures .0) (c .if3 .left))
 
 returns-4 : tie.Need-returns-4
 returns-4 c =
-    let at5 = c .before .before .before .before .before in
+    let at5 = c .before .before .before .before .before .before in
     let at7 = at5 .before .before in
     let at8 = at7 .before in
     let at15 = at8 .before .before .before .before .before .before .before in
-    rw (c .refused3 .ensures .0, c .refused3 .ensures .1) (settle-clash _ _ _ _ _ _ _ (at15 .pre .0 .ties) _ _ (c .before .before .before .before .before .before .new-ties .ensures ∙ rw (at7 .at16 .ensures)) _ (not-false _ (at8 .if1 .left)) (rw (← at7 .at16 .ensures, ← at5 .tie-number .ensures .0) (c .before .before .before .if3 .left)) (λ e. c .before .before .before .before .if2 .left (at5 .tie-number .ensures .0 ∙ e)) (sym (c .before .before .agrees-with .ensures) ∙ not-true _ (c .before .if4 .taken)))
+    rw (c .refused3 .ensures .0, c .refused3 .ensures .1) (settle-clash _ _ _ _ _ _ _ (at15 .pre .0 .ties) _ _ (c .before .before .before .before .before .before .before .new-ties .ensures ∙ rw (at7 .at16 .ensures)) _ (not-false _ (at8 .if1 .left)) (rw (← at7 .at16 .ensures, ← at5 .tie-number .ensures .0) (c .before .before .before .before .if3 .left)) (λ e. c .before .before .before .before .before .if2 .left (at5 .tie-number .ensures .0 ∙ e)) (sym (c .before .before .agreed .ensures ∙ c .before .before .before .check-ties .ensures .exactly) ∙ not-true _ (c .before .if4 .taken)))
 
 returns-5 : tie.Need-returns-5
 returns-5 c =
-    let at7 = c .before .before .before .before .before .before .before in
+    let at7 = c .before .before .before .before .before .before .before .before in
     let at8 = at7 .before in
     let at15 = at8 .before .before .before .before .before .before .before in
-    rw (c .decided2 .ensures .0, c .decided2 .ensures .1) (settle-agrees _ _ _ _ _ _ _ (at15 .pre .0 .ties) _ _ (c .before .before .before .before .before .before .new-ties .ensures ∙ rw (at7 .at16 .ensures)) _ (not-false _ (at8 .if1 .left)) (rw (← at7 .at16 .ensures, ← c .before .before .before .before .before .tie-number .ensures .0) (c .before .before .before .if3 .left)) (sym (c .before .before .agrees-with .ensures) ∙ not-false _ (c .before .if4 .left)))
+    rw (c .decided2 .ensures .0, c .decided2 .ensures .1) (settle-agrees _ _ _ _ _ _ _ (at15 .pre .0 .ties) _ _ (c .before .before .before .before .before .before .before .new-ties .ensures ∙ rw (at7 .at16 .ensures)) _ (not-false _ (at8 .if1 .left)) (rw (← at7 .at16 .ensures, ← c .before .before .before .before .before .before .tie-number .ensures .0) (c .before .before .before .before .if3 .left)) (sym (c .before .before .agreed .ensures ∙ c .before .before .before .check-ties .ensures .exactly) ∙ not-false _ (c .before .if4 .left)))
 
 pub settle-spec : {M : Type 1} → statement M
 settle-spec =
@@ -56,7 +56,8 @@ settle-spec =
     add-if3
     (λ c κs. search needs)
     returns-3
-    agrees-with-requires
+    check-ties-requires
+    (λ c κs. search needs)
     (λ c κs. search needs)
     returns-4
     (λ c κs. search needs)
