@@ -29,7 +29,7 @@ ghost use Rattle.definition.specs.Checks.{Names};
 ghost use Rattle.definition.specs.Classes.{find};
 ghost use Rattle.definition.specs.File.{classOf};
 ghost use Rattle.definition.specs.Reasons.{reason, tries, listed};
-ghost use Rattle.classfile.specs.Reading.{superName, quickFile};
+ghost use Rattle.classfile.specs.Reading.{className, superName, quickFile};
 ghost use Rattle.resolution.specs.Quick.{quickBase};
 ghost use Rattle.entries.specs.World.{world, baseWith, Searchable};
 ghost use Rattle.defining.specs.Writing.{Grown, numbersAfter};

@@ -125,9 +125,7 @@ fn settle(
     if TIE_LIMIT < n + k {
         return refused(WORD_FULL);
     }
-    if !constraints::agreed(check_ties(
-        counts, classes, kept, cache, ties, subtypes, posting,
-    )) {
+    if !constraints::agreed(check_ties(counts, classes, kept, cache, ties, subtypes, posting)) {
         return refused(WORD_CLASH);
     }
     decided(posting, plan)

@@ -157,7 +157,15 @@ fn decide_entry(
         return Recording::Refuse(Refusal::Word(WORD_FULL));
     }
     if !constraints::agreed(check_entry(
-        counts, classes, kept, cache, ties, subtypes, loader, name, class,
+        counts,
+        classes,
+        kept,
+        cache,
+        ties,
+        subtypes,
+        loader,
+        name,
+        class,
     )) {
         return Recording::Clash(loader, name, class);
     }

@@ -11,6 +11,7 @@ use Rattle.layout.specs.Places.{rows-length}
 use Rattle.resolution.specs.Quick.{quickBase, found-at, found-absent}
 use Rattle.recording.specs.Deciding.{recordedBy, Tells}
 use Rattle.recording.proofs.Recorded.{there, taken, full, clash, fine}
+use Rattle.definition.specs.Constraints.{agrees}
 use borrow.Author.Needs.{needs}
 use Rattle.recording.proofs.decide_entry.Statement.{statement}
 use Rattle.recording.proofs.decide_entry.Tie as tie
@@ -34,7 +35,7 @@ check-entry-requires : tie.Need-check-entry-requires
 check-entry-requires c κs = (c .before .before .before .before .before .before .before .before .before .before .before .pre, omega (arith, c .before .at16 .ensures, c .if2 .left))
 
 returns-4 : tie.Need-returns-4
-unfolding recordedBy quickBase Tells
+unfolding recordedBy quickBase Tells agrees
 returns-4 c = let start = c .before .before .before .before .before .before .before .before .before .before .before .before .before .before in
     let counts = now (start .args .counts) in
     let n : length (rows (entryAt (now (start .args .cache))) (getD counts 2 0) 0) ≡ getD counts 2 0 = rows-length _ _ _ in (
@@ -43,7 +44,7 @@ returns-4 c = let start = c .before .before .before .before .before .before .bef
     )
 
 returns-5 : tie.Need-returns-5
-unfolding recordedBy quickBase Tells
+unfolding recordedBy quickBase Tells agrees
 returns-5 c = let start = c .before .before .before .before .before .before .before .before .before .before .before .before .before .before in
     let counts = now (start .args .counts) in
     let n : length (rows (entryAt (now (start .args .cache))) (getD counts 2 0) 0) ≡ getD counts 2 0 = rows-length _ _ _ in

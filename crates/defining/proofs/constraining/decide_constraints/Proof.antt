@@ -9,6 +9,7 @@ use Rattle.layout.specs.Places.{writeRows-length}
 use Rattle.classfile.specs.Reading.{quickFile}
 use Rattle.defining.specs.Stages.{Decided}
 use Rattle.defining.proofs.Constrained.{posted-full, TiesMade, ties-made, posted-roomless, room-there, posted-clash, posted-fine}
+use Rattle.definition.specs.Constraints.{agrees}
 use borrow.Author.Needs.{needs}
 use Rattle.defining.proofs.constraining.decide_constraints.Statement.{statement}
 use Rattle.defining.proofs.constraining.decide_constraints.Tie as tie
@@ -67,7 +68,7 @@ check-class-requires c κs =
     (a .pre .0 .base, room .0, room .1, room .2, e .before .before .if1 .left, a .pre .4)
 
 returns-3 : tie.Need-returns-3
-unfolding Decided quickFile
+unfolding Decided quickFile agrees
 returns-3 c =
     let e = c .before .before .before .before in
     let a = from (post e) in
@@ -75,7 +76,7 @@ returns-3 c =
     _ _ (e .before .before .if1 .left) ns q (a .pre .4) (sym (c .before .agreed .ensures ∙ c .before .before .check-class .ensures .exactly) ∙ not-true _ (c .if3 .taken))
 
 returns-4 : tie.Need-returns-4
-unfolding Decided
+unfolding Decided agrees
 returns-4 c =
     let e = c .before .before .before .before in
     let a = from (post e) in

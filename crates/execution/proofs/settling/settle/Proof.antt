@@ -1,6 +1,7 @@
 -- No room, then full, then a clash, and else the plan with its ties.
 use mathlib.Core.Path.{sym, _∙_}
 use native.Mathlib.Omega.{arith}
+use Rattle.definition.specs.Constraints.{agrees}
 use borrow.Author.Needs.{needs}
 use borrow.Author.Tests.{not-true, not-false}
 use Rattle.execution.specs.Decisions.{settle-no-room, settle-none, settle-full, settle-clash, settle-agrees}
@@ -28,6 +29,7 @@ check-ties-requires : tie.Need-check-ties-requires
 check-ties-requires c κs = (c .before .before .before .before .before .before .before .before .before .before .before .before .pre .0, c .before .before .before .before .before .before .before .before .before .before .before .before .pre .1, rw (← c .before .before .before .before .at16 .ensures, ← c .before .before .tie-number .ensures .0) (c .if3 .left))
 
 returns-4 : tie.Need-returns-4
+unfolding agrees
 returns-4 c =
     let at5 = c .before .before .before .before .before .before in
     let at7 = at5 .before .before in
@@ -36,6 +38,7 @@ returns-4 c =
     rw (c .refused3 .ensures .0, c .refused3 .ensures .1) (settle-clash _ _ _ _ _ _ _ (at15 .pre .0 .ties) _ _ (c .before .before .before .before .before .before .before .new-ties .ensures ∙ rw (at7 .at16 .ensures)) _ (not-false _ (at8 .if1 .left)) (rw (← at7 .at16 .ensures, ← at5 .tie-number .ensures .0) (c .before .before .before .before .if3 .left)) (λ e. c .before .before .before .before .before .if2 .left (at5 .tie-number .ensures .0 ∙ e)) (sym (c .before .before .agreed .ensures ∙ c .before .before .before .check-ties .ensures .exactly) ∙ not-true _ (c .before .if4 .taken)))
 
 returns-5 : tie.Need-returns-5
+unfolding agrees
 returns-5 c =
     let at7 = c .before .before .before .before .before .before .before .before in
     let at8 = at7 .before in
