@@ -127,7 +127,7 @@ pub fn fixed() -> Vec<u8> {
 pub fn drive(seed: u64) -> Vec<u8> {
     let mut rng = Rng::new(seed ^ 0x64_72_69_76);
     let length = rng.within(5, 90);
-    let trial = match rng.weighted(&[4, 2, 4]) {
+    let trial = match rng.weighted(&[4, 2, 6]) {
         0 => list(seed, length),
         1 => graphs(seed, length),
         _ => chains(seed, length / 2),

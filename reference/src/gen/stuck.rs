@@ -83,6 +83,7 @@ pub fn stuck() -> Vec<Stuck> {
     all.extend(no_room());
     all.extend(names_that_no_verifier_takes());
     all.extend(jumps());
+    all.extend(rates());
     all
 }
 
@@ -107,6 +108,32 @@ fn jumps() -> Vec<Stuck> {
     ];
     for (opcode, operands) in rows {
         all.push((format!("{opcode:02X} of {operands:?}"), mapped(&names(opcode, &[0]), &operands), STUCK));
+    }
+    all
+}
+
+/// Products and quotients without two ints, and quotients by 0, whose kinds come first.
+fn rates() -> Vec<Stuck> {
+    const ZERO: Value = Value::Int(0);
+    let mut all = Vec::new();
+    for opcode in [op::IMUL, op::IDIV] {
+        let code = Code::new().plain(opcode);
+        for upper in [SEVEN, ZERO, TEN, Value::Null] {
+            all.push((format!("{opcode:02X} of {upper:?} alone"), mapped(&code, &[upper]), STUCK));
+            for lower in [TEN, Value::Null] {
+                all.push((format!("{opcode:02X} of {lower:?}, {upper:?}"), mapped(&code, &[lower, upper]), STUCK));
+                all.push((format!("{opcode:02X} of {upper:?}, {lower:?}"), mapped(&code, &[upper, lower]), STUCK));
+            }
+        }
+        all.push((format!("{opcode:02X} with no operand"), mapped(&code, &[]), STUCK));
+        all.push((format!("{opcode:02X} in version 1"), holding(&code, &[SEVEN, ZERO]), STUCK));
+    }
+    for lower in [SEVEN, ZERO, Value::Int(u32::MAX), Value::Int(1 << 31)] {
+        for below in [vec![], vec![TEN], vec![Value::Null; OPERANDS - 2]] {
+            let operands = [below, vec![lower, ZERO]].concat();
+            let store = mapped(&Code::new().idiv().ireturn(), &operands);
+            all.push((format!("idiv of {operands:?}"), store, Refusal::Word(word::ZERO_DIVISOR)));
+        }
     }
     all
 }
