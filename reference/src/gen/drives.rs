@@ -92,7 +92,7 @@ fn no_call(rng: &mut Rng) -> [u32; ROW] {
     }
 }
 
-/// A list of calls of every kind, a load that is accepted and one that clashes tried among them, then a row that has no call, then one that is not reached.
+/// A list of calls of every kind, a product, a quotient by 0, and a load that is accepted and one that clashes tried among them, then a row that has no call, then one that is not reached.
 pub fn fixed() -> Vec<u8> {
     let mut trial = cases::across(&cases::caller(), true, false);
     trial.run(3);
@@ -108,6 +108,13 @@ pub fn fixed() -> Vec<u8> {
     trial.run(100);
     trial.sweep();
     trial.run(0);
+    trial.define(1, &Draft::mapped(14).main(MAIN, &Code::new().int(-7).iload(1).idiv().iload(1).imul().ireturn()));
+    trial.start(0, 1, 14, MAIN, 2);
+    trial.run(100);
+    trial.start(0, 1, 14, MAIN, 0);
+    trial.run(100);
+    trial.step();
+    trial.drop_task(0);
     trial.define(1, &Draft::new(12));
     let clash = Draft::new(13).main(MAIN, &Code::new().object(12).getfield(10, 30, INT).ireturn()).file();
     let loads = [Call::Record { loader: 3, name: 12, class: 3 }, Call::Define { loader: 2, file: clash }];
