@@ -6,7 +6,8 @@ use super::chains::chains;
 use super::graphs::graphs;
 use super::list::list;
 use super::rng::Rng;
-use super::Call;
+use super::{Call, Trial};
+use crate::answer::{denied, word};
 use crate::drive::{ANSWERS, HEAD, INPUT, LIST, ROW};
 use crate::store::{INT, LENGTHS};
 
@@ -69,11 +70,12 @@ impl Encoded {
 /// Lengths of the lists that tries are lent.
 const LISTS: [u32; 8] = [0, 1, 511, 512, 512, 513, 600, u32::MAX];
 
-/// The calls, with tries before some of their loads.
-fn trying(calls: &[Call], rng: &mut Rng) -> Vec<Call> {
+/// The calls, with tries before some of their loads, and more of them before one that clashes.
+fn trying(trial: &Trial, rng: &mut Rng) -> Vec<Call> {
     let mut all = Vec::new();
-    for call in calls {
-        for _ in 0..rng.pick(&[0, 0, 1, 1, 2]) {
+    for (call, &reply) in trial.calls.iter().zip(&trial.replies) {
+        let tries = if reply == denied(word::CLASH) { 4 } else { rng.pick(&[0, 0, 1, 1, 2]) };
+        for _ in 0..tries {
             all.extend(call.tried(rng.pick(&LISTS) as usize));
         }
         all.push(call.clone());
@@ -134,12 +136,12 @@ pub fn fixed() -> Vec<u8> {
 pub fn drive(seed: u64) -> Vec<u8> {
     let mut rng = Rng::new(seed ^ 0x64_72_69_76);
     let length = rng.within(5, 90);
-    let trial = match rng.weighted(&[4, 2, 6]) {
+    let trial = match rng.weighted(&[4, 2, 4]) {
         0 => list(seed, length),
         1 => graphs(seed, length),
         _ => chains(seed, length / 2),
     };
-    let mut calls = trying(&trial.calls, &mut rng);
+    let mut calls = trying(&trial, &mut rng);
     let room = |calls: &[Call]| Encoded::new(calls, 1).files.len() + 4 * (HEAD + LIST) <= INPUT;
     while calls.len() >= LIST / ROW || !room(&calls) {
         calls.pop();

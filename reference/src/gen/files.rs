@@ -189,15 +189,15 @@ fn random_jumps(rng: &mut Rng) -> Vec<u8> {
         let locals = [of(10), of(INT), of(11), of(12)];
         code = if rng.percent(85) { code.point(label, &locals, &[]) } else { code.label(label) };
         let to = rng.below(usize::from(count)) as u16;
-        code = match rng.below(9) {
+        code = match rng.below(8) {
             0 => code.goto(to),
             1 => code.iload(1).ifeq(to),
             2 => code.iload(1).int(rng.below(5) as i16).if_icmplt(to),
             3 => code.object(rng.pick(&[10, 11, 12])).astore(2),
             4 => code.null().astore(rng.pick(&[2, 3])),
+            5 if rng.percent(50) => code.iload(1).int(3).plain(rng.pick(&[op::IMUL, op::IDIV])).istore(1),
             5 => code.aload(2).pop(),
             6 => code.aload(0).null().putfield(rng.pick(&[12, 13]), 30, 12),
-            7 => code.iload(1).int(3).plain(rng.pick(&[op::IMUL, op::IDIV])).istore(1),
             _ => code.end(INT),
         };
     }

@@ -84,8 +84,8 @@ pub fn unseen_rates(rng: &mut Rng, store: &mut Store) {
     let base = frame_base(task, 0);
     store.frames[base + cell::OPERANDS] = rng.pick(&[0, 1, 2, 2, 2, 2, 3]);
     for place in 0..3 {
-        let int = Value::Int(rng.pick(&[0, 0, 1, 7, u32::MAX, 1 << 31, i32::MAX as u32]));
-        let value = rng.pick(&[int, int, int, Value::Null, Value::Object(object)]);
+        let int = Value::Int(rng.pick(&[0, 0, 0, 7, u32::MAX, 1 << 31, i32::MAX as u32]));
+        let value = if rng.percent(80) { int } else { rng.pick(&[Value::Null, Value::Object(object)]) };
         value.write(&mut store.frames, base + cell::OPERAND_0 + 2 * place);
     }
 }
