@@ -362,8 +362,8 @@ static void rates(void)
     gives("the greatest int by -1", define_mapped(1, BY(-1), NO_MAPS), INT32_MAX, -INT32_MAX);
 }
 
-/* A zero divisor comes after what is missing or of another kind, leaves the store and gets the same again. Version 1 has no such opcodes. */
-static void zero_divisors(void)
+/* A zero divisor leaves the store, and gets the same again. */
+static void zero_divisor(void)
 {
     mapped_quote(define_mapped(1, INTO(7), NO_MAPS), 0);
     keep(&first);
@@ -377,6 +377,15 @@ static void zero_divisors(void)
         refuses("a zero divisor", step(), TARIFF_ZERO_DIVISOR);
     expect("a run of none", run(9), 0, SIX(TARIFF_RAN_FOR, TARIFF_ZERO_DIVISOR, 0, 0, 0, 0));
     check("it stays", same(&after));
+}
+
+/* What is missing or of another kind comes before a zero divisor. */
+static void stuck_rates(void)
+{
+    mapped_quote(define_mapped(1, INTO(7), NO_MAPS), 0);
+    runs("the dividend", TARIFF_QUOTE);
+    runs("the divisor", TARIFF_QUOTE);
+    keep(&after);
     set(7, 20, 2);
     set(7, 21, 0);
     refuses("null by zero", step(), TARIFF_STUCK);
@@ -390,11 +399,21 @@ static void zero_divisors(void)
         set(7, 3, operands);
         refuses("fewer than two operands", step(), TARIFF_STUCK);
     }
+}
+
+/* Version 1 has no such opcodes, and in version 2 they take two ints. */
+static void unfit_rates(void)
+{
     ready();
     refuses("a product in version 1", define(1, 10, 2, 0, 1, SQUARE), TARIFF_UNVERIFIED);
     refuses("a quotient in version 1", define(1, 10, 2, 0, 1, BY(2)), TARIFF_UNVERIFIED);
     refuses("a product of one int", define_mapped(1, CODE(0x15, 1, 0x68, 0xAC), NO_MAPS), TARIFF_UNVERIFIED);
     refuses("null by an int", define_mapped(1, CODE(0x01, 0x15, 1, 0x6C, 0xAC), NO_MAPS), TARIFF_UNVERIFIED);
+    quoting(CODE(0x15, 1, 0x15, 1, 0x60, 0xAC));
+    runs("an int", TARIFF_QUOTE);
+    runs("another", TARIFF_QUOTE);
+    set(2, 25, 0x68);
+    refuses("a sum of version 1 made a product", step(), TARIFF_STUCK);
 }
 
 /* What define says of files of version 2. */
@@ -714,7 +733,9 @@ int main(void)
     many_maps();
     mapped_notes();
     rates();
-    zero_divisors();
+    zero_divisor();
+    stuck_rates();
+    unfit_rates();
     limits();
     runs_and_steps();
     answer_tables();
