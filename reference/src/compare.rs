@@ -6,7 +6,7 @@ use std::thread;
 use std::time::{Duration, Instant};
 
 use crate::agree::{agrees, Added};
-use crate::answer::{Answer, Reply};
+use crate::answer::{word, Answer, Refusal, Reply};
 use crate::broken::unbroken;
 use crate::code::op;
 use crate::gen::chains::chains;
@@ -337,10 +337,11 @@ pub fn rates() -> String {
         rates::give(ours, lower, upper);
         rates::give(theirs, lower, upper);
         let reply = both(ours, theirs, &Call::Step, CELLS, &label);
-        if reply.refusal().is_none() {
+        if reply == Reply::Stepped(Answer::Ran(0)) {
             return rates::result(theirs);
         }
-        assert_eq!(both(ours, theirs, &Call::Step, CELLS, &label), reply, "{label}");
+        let refused = Reply::Stepped(Answer::Refused(Refusal::Word(word::ZERO_DIVISOR)));
+        assert_eq!([reply, both(ours, theirs, &Call::Step, CELLS, &label)], [refused; 2], "{label}");
         None
     })
 }
