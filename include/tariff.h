@@ -1,8 +1,9 @@
-/* The tariff class machine for programs in C: eight calls on a store that the program owns. docs/HOST.md tells how to build and link.
+/* The tariff class machine for programs in C: ten calls on a store that the program owns. docs/HOST.md tells how to build and link.
 
    A store is eight tables (docs/STORE.md). Every call is lent all eight, each as a pointer and its number of cells, then takes its
    own arguments, then a table for the answer. It returns 0 if it is accepted, else the number of its refusal. A refused call changes
-   nothing but the answer table. Tables may hold anything, and be of any length: what is no store is refused with TARIFF_BROKEN.
+   nothing but the answer table and, if it is a try that clashes, its list. Tables may hold anything, and be of any length: what is no
+   store is refused with TARIFF_BROKEN.
 
    The program sees to it that each pointer is good for that many cells, that no two tables overlap, and that nothing else uses them
    while the call runs. A length of 0 may come with any pointer. */
@@ -18,7 +19,7 @@ extern "C" {
 
 /* How many cells each table has. */
 enum {
-    TARIFF_COUNTS = 264,
+    TARIFF_COUNTS = 776,
     TARIFF_CLASSES = 192,
     TARIFF_KEPT = 16384,
     TARIFF_CACHE = 768,
@@ -26,10 +27,11 @@ enum {
     TARIFF_SUBTYPES = 768,
     TARIFF_OBJECTS = 8448,
     TARIFF_FRAMES = 3328,
-    TARIFF_ANSWER = 6
+    TARIFF_ANSWER = 6,
+    TARIFF_LIST = 512       /* of the list that a try is lent, the least */
 };
 
-/* A store in one piece, 69,008 bytes. A program may as well keep its tables apart. */
+/* A store in one piece, 70,032 bytes. A program may as well keep its tables apart. */
 struct tariff_store {
     uint16_t counts[TARIFF_COUNTS];
     uint16_t classes[TARIFF_CLASSES];
@@ -53,14 +55,14 @@ enum tariff_cell {
     TARIFF_CELL_ONE = 2,    /* three details: see enum tariff_kind */
     TARIFF_CELL_TWO = 3,
     TARIFF_CELL_THREE = 4,
-    TARIFF_CELL_STEPS = 5   /* how many steps of a run ran, else 0 */
+    TARIFF_CELL_STEPS = 5   /* how many steps of a run ran; of a try that clashes, how many rows its chain has; else 0 */
 };
 
 /* What a call answers. Details that are not named are 0. Of a refusal by TARIFF_WANTED, one and two are the loader and the name that
    are wanted, three the task whose step wants them, 0 if no step does; other refusals have no details. */
 enum tariff_kind {
-    TARIFF_ACCEPTED = 0,    /* boot, record, start or drop */
-    TARIFF_DEFINED = 1,     /* define; one: the number of the new class */
+    TARIFF_ACCEPTED = 0,    /* boot, record, start, drop or the try of a record */
+    TARIFF_DEFINED = 1,     /* define or its try; one: the number of the new class, of a try as it would be */
     TARIFF_STEPPED = 2,     /* step, refused or not; one: enum tariff_done; two: the task; three: of a task that finished, its int */
     TARIFF_RAN_FOR = 3,     /* run; the word and the details are those of its last step */
     TARIFF_DENIED = 4,      /* any call but step, refused */
@@ -93,7 +95,8 @@ enum tariff_word {
     TARIFF_BUSY = 12,       /* start on a task with frames */
     TARIFF_MISNAMED = 13,   /* record: the class has another name */
     TARIFF_STUCK = 14,      /* step: no instruction, or no operand, local, class or method, as the instruction needs it */
-    TARIFF_UNMAPPED = 15    /* define: a jump's target, or an instruction after a goto or return, without a map */
+    TARIFF_UNMAPPED = 15,   /* define: a jump's target, or an instruction after a goto or return, without a map */
+    TARIFF_SHORT_LIST = 16  /* a try: its list has fewer than TARIFF_LIST cells */
 };
 
 /* boot: makes a store of the tables, whatever they held. Class 0 is Object, known to loader 0 alone. Refusal: 1, for the lengths. */
@@ -162,6 +165,23 @@ uint8_t tariff_sweep(uint16_t *counts, size_t counts_length, const uint16_t *cla
                      const uint16_t *ties, size_t ties_length, const uint16_t *subtypes, size_t subtypes_length,
                      const uint32_t *objects, size_t objects_length, const uint32_t *frames, size_t frames_length,
                      uint32_t *answer, size_t answer_length);
+
+/* try define, try record: the load isn't made, and is answered as it would be. No table of the store changes. If it clashes, the first cells
+   of the list get the numbers of the rows, upward, of one chain of constraints that breaks agreement, and TARIFF_CELL_STEPS how many they
+   are; the list past them stays, and on any other answer all of it. Refusals: 1 3 16 2 15 6 4 5 8 10 9, and 1 3 16 13 4 10 9. */
+uint8_t tariff_try_define(const uint16_t *counts, size_t counts_length, const uint16_t *classes, size_t classes_length,
+                          const uint8_t *kept, size_t kept_length, const uint16_t *cache, size_t cache_length,
+                          const uint16_t *ties, size_t ties_length, const uint16_t *subtypes, size_t subtypes_length,
+                          const uint32_t *objects, size_t objects_length, const uint32_t *frames, size_t frames_length,
+                          uint32_t loader, const uint8_t *file, size_t file_length, uint16_t *list, size_t list_length,
+                          uint32_t *answer, size_t answer_length);
+
+uint8_t tariff_try_record(const uint16_t *counts, size_t counts_length, const uint16_t *classes, size_t classes_length,
+                          const uint8_t *kept, size_t kept_length, const uint16_t *cache, size_t cache_length,
+                          const uint16_t *ties, size_t ties_length, const uint16_t *subtypes, size_t subtypes_length,
+                          const uint32_t *objects, size_t objects_length, const uint32_t *frames, size_t frames_length,
+                          uint32_t loader, uint32_t name, uint32_t class_number, uint16_t *list, size_t list_length,
+                          uint32_t *answer, size_t answer_length);
 
 #ifdef __cplusplus
 }

@@ -1,5 +1,6 @@
-/* The eight calls from C: tables of wrong lengths, damaged stores, every word of refusal, numbers at their limits, answer tables of every
-   length, a run beside its steps, objects freed and their numbers used again, files of version 2; and the desk beside define. */
+/* The ten calls from C: tables of wrong lengths, damaged stores, every word of refusal, numbers at their limits, answer tables of every
+   length, a run beside its steps, objects freed and their numbers used again, files of version 2, loads tried on short and long lists, and the chains
+   of those that clash; and the desk beside define. */
 #define _GNU_SOURCE
 #include "host.h"
 
@@ -31,7 +32,12 @@ static struct call each(int name)
         run(65535),
         drop(TARIFF_QUOTE),
         sweep(),
+        {.name = TRY_DEFINE},
+        {.name = TRY_RECORD, .one = 2, .two = 10, .three = 1},
     };
+    /* the two files stand in one place, and are the same */
+    calls[TRY_DEFINE] = calls[DEFINE];
+    calls[TRY_DEFINE].name = TRY_DEFINE;
     return calls[name];
 }
 
@@ -103,6 +109,7 @@ static void damage(void)
     for (int t = TIES; t <= SUBTYPES; t++) {
         put_back(&first);
         set(COUNTS, t == TIES ? 3 : 4, 1);
+        set(COUNTS, t == TIES ? TIE_NUMBERS : SUBTYPE_NUMBERS, 0);
         set(t, 0, 16);
         for (int name = 1; name < CALLS; name++)
             refuses("a constraint of loader 16", each(name), TARIFF_BROKEN);
@@ -202,9 +209,11 @@ static void tie_by_a_step(void)
     accepts("loader 2 asks for it", record(2, 10, 1));
     defines("its caller", define(2, 13, 2, 0, 1, CODE(0xBB, 0, 10, 0x01, 0xB6, 0, 10, 0, 20, 0, 12, 0, 1, 0xAC)), 2);
     accepts("a quote", start(TARIFF_QUOTE, 2, 13, 20, 7));
+    set(0, TIE_NUMBERS, 77);
     keep(&first);
     expect("a call across loaders", run(9), 0, SIX(TARIFF_RAN_FOR, 0, TARIFF_FINISHED, TARIFF_QUOTE, 0, 5));
     check("its tie", ((uint16_t *)table[0])[3] == 1 && memcmp(table[4], tie, sizeof tie) == 0);
+    check("its tie's number", ((uint16_t *)table[0])[TIE_NUMBERS] == 0);
     put_back(&first);
     defines("loader 1's 12", define(1, 12, 2, 0, 0, 0, NULL), 3);
     defines("loader 2's 12", define(2, 12, 2, 0, 0, 0, NULL), 4);
@@ -460,9 +469,174 @@ static void answer_tables(void)
     lend_all();
 }
 
+/* The try of a load. */
+static struct call tried(struct call load)
+{
+    load.name = load.name == DEFINE ? TRY_DEFINE : TRY_RECORD;
+    return load;
+}
+
+/* A try that clashes by exactly these rows, which are upward; a chain of ties alone may be listed from its other end. The store stays. */
+static void clashes(const char *what, struct call load, size_t rows, const uint16_t *row, int ties_alone)
+{
+    const uint16_t *list = table[LIST];
+    int upward = 1, downward = ties_alone;
+    expect(what, tried(load), TARIFF_CLASH, SIX(TARIFF_DENIED, TARIFF_CLASH, 0, 0, 0, (uint32_t)rows));
+    for (size_t i = 0; i < rows; i++) {
+        upward = upward && list[i] == row[i];
+        downward = downward && list[i] == row[rows - 1 - i];
+    }
+    check(what, upward || downward);
+}
+
+#define ROWS(...) sizeof((uint16_t[]){__VA_ARGS__}) / 2, (uint16_t[]){__VA_ARGS__}
+
+/* A try that is accepted: the store stays. */
+static void would(const char *what, struct call load, uint32_t kind, uint32_t number)
+{
+    keep(&after);
+    expect(what, tried(load), 0, SIX(kind, 0, number, 0, 0, 0));
+    check("a try changes nothing", same(&after));
+}
+
+/* Method 20 of loader 1's class 10 is overridden under loader 2: row 0 ties 12 between them. Loader 1's 12 is class 3. */
+static void tied(void)
+{
+    ready();
+    defines("class 10", define(1, 10, 2, 5, 12, ZERO), 1);
+    accepts("loader 2 asks for it", record(2, 10, 1));
+    defines("an override", define(2, 13, 10, 0, 12, ZERO), 2);
+    check("the first row is row 0", ((uint16_t *)table[0])[TIE_NUMBERS] == 0);
+    defines("loader 1's 12", define(1, 12, 2, 0, 0, 0, NULL), 3);
+}
+
+/* Word 16 comes straight after 3. */
+static void short_list(void)
+{
+    refuses("a short list", tried(define(2, 12, 2, 0, 0, 0, NULL)), TARIFF_SHORT_LIST);
+    refuses("a short list", tried(record(2, 12, 3)), TARIFF_SHORT_LIST);
+    refuses("a short list, and an entry that is there", tried(record(1, 12, 3)), TARIFF_SHORT_LIST);
+    refuses("a short list, and another name", tried(record(2, 11, 3)), TARIFF_SHORT_LIST);
+    refuses("a short list, and no loader", tried(define(16, 12, 2, 0, 0, 0, NULL)), TARIFF_UNKNOWN);
+    refuses("a short list, and no class", tried(record(2, 12, 4)), TARIFF_UNKNOWN);
+    struct call cut = define(2, 12, 2, 0, 0, 0, NULL);
+    cut.size--;
+    refuses("a short list, and a file cut off", tried(cut), TARIFF_SHORT_LIST);
+}
+
+static void long_list(void)
+{
+    clashes("loader 2's own 12", define(2, 12, 2, 0, 0, 0, NULL), ROWS(0), 1);
+    would("loader 1's 12 under loader 2", record(2, 12, 3), TARIFF_ACCEPTED, 0);
+    would("an entry that is there", record(1, 12, 3), TARIFF_ACCEPTED, 0);
+    would("another class", define(2, 14, 2, 0, 0, 0, NULL), TARIFF_DEFINED, 4);
+    refuses("another name", tried(record(2, 11, 3)), TARIFF_MISNAMED);
+    refuses("taken", tried(define(1, 12, 2, 0, 0, 0, NULL)), TARIFF_TAKEN);
+    refuses("an unset local", tried(define(2, 14, 2, 0, 1, CODE(0x15, 2, 0xAC))), TARIFF_UNVERIFIED);
+    refuses("a target without a map", tried(define_mapped(2, CODE(0xA7, 0, 0), CODE(0))), TARIFF_UNMAPPED);
+    refuses("a field that the superclass has", tried(define(2, 14, 13, 5, 0, 0, NULL)), TARIFF_HIDDEN);
+    wants("no Object", tried(define(4, 14, 2, 0, 0, 0, NULL)), 4, 2);
+    struct call cut = define(2, 12, 2, 0, 0, 0, NULL);
+    cut.size--;
+    refuses("a file cut off", tried(cut), TARIFF_FILE);
+}
+
+/* Notes that a name is below another, by using one for the other. */
+#define BELOW(low, high) CODE(0xBB, 0, low, 0xB4, 0, high, 0, 5, 0, 1, 0xAC)
+
+/* A subtype constraint before a tie, the load's own row behind them, and an answer table without a cell for the length. */
+static void mixed_chains(void)
+{
+    tied();
+    defines("14 below 12", define(2, 15, 2, 0, 1, BELOW(14, 12)), 4);
+    check("the second row is row 1", ((uint16_t *)table[0])[SUBTYPE_NUMBERS] == 1);
+    clashes("upward, then across", define(2, 14, 2, 0, 0, 0, NULL), ROWS(1, 0), 0);
+    clashes("its own row, and nobody's request", define(1, 16, 2, 0, 1, BELOW(12, 10)), ROWS(2), 0);
+    lend(ANSWER, 3);
+    clashes("a short answer", define(2, 14, 2, 0, 0, 0, NULL), ROWS(1, 0), 0);
+    lend_all();
+    keep(&first);
+    static const struct { size_t cell; uint32_t value; } harm[] = {
+        {TIE_NUMBERS, 1}, {TIE_NUMBERS, 2}, {TIE_NUMBERS, 65535}, {SUBTYPE_NUMBERS, 0}, {SUBTYPE_NUMBERS, 2}, {SUBTYPE_NUMBERS, 65535},
+    };
+    for (size_t i = 0; i < sizeof harm / sizeof *harm; i++) {
+        put_back(&first);
+        set(0, harm[i].cell, harm[i].value);
+        for (int name = 1; name < CALLS; name++)
+            refuses("numbers with a gap or twice", each(name), TARIFF_BROKEN);
+    }
+    put_back(&first);
+    set(0, TIE_NUMBERS, 1);
+    set(0, SUBTYPE_NUMBERS, 0);
+    clashes("posted the other way round", define(2, 14, 2, 0, 0, 0, NULL), ROWS(0, 1), 0);
+    for (size_t row = 1; row < 256; row++) {
+        set(0, TIE_NUMBERS + row, 65535);
+        set(0, SUBTYPE_NUMBERS + row, 65535);
+    }
+    clashes("numbers of rows that aren't used", define(2, 14, 2, 0, 0, 0, NULL), ROWS(0, 1), 0);
+}
+
+/* A define posts its notes, then its ties, and both are numbered so. */
+static void numbers(void)
+{
+    const uint16_t *counts = table[0];
+    tied();
+    accepts("loader 3 asks for class 10", record(3, 10, 1));
+    defines("a note and a tie", define(3, 17, 10, 0, 12, BELOW(18, 19)), 4);
+    check("the note, then the tie", counts[3] == 2 && counts[4] == 1 && counts[SUBTYPE_NUMBERS] == 1 && counts[TIE_NUMBERS + 1] == 2);
+    clashes("loader 3's own 12", define(3, 12, 2, 0, 0, 0, NULL), ROWS(2), 1);
+    tied();
+    accepts("loader 3 asks for class 10", record(3, 10, 1));
+    defines("loader 3's own 12", define(3, 12, 2, 0, 0, 0, NULL), 4);
+    clashes("the tie behind the note", define(3, 17, 10, 0, 12, BELOW(18, 19)), ROWS(2), 1);
+}
+
+/* 256 ties and 256 subtype constraints in turn, from name 300 of loader 0 up to name 556 of loader 0, which is loaded. */
+static void longest_chain(void)
+{
+    uint16_t all[512];
+    ready();
+    defines("the upper end", define(0, 556, 2, 0, 0, 0, NULL), 1);
+    for (uint32_t i = 0; i < 256; i++) {
+        uint32_t tie[] = {i % 2, 1 - i % 2, 300 + i}, below[] = {1 - i % 2, 300 + i, 301 + i};
+        for (uint32_t k = 0; k < 3; k++) {
+            set(4, 3 * i + k, tie[k]);
+            set(5, 3 * i + k, below[k]);
+        }
+        set(0, TIE_NUMBERS + i, 2 * i);
+        set(0, SUBTYPE_NUMBERS + i, 2 * i + 1);
+    }
+    set(0, 3, 256);
+    set(0, 4, 256);
+    for (uint16_t i = 0; i < 512; i++)
+        all[i] = i;
+    clashes("512 rows", define(0, 300, 2, 0, 0, 0, NULL), 512, all, 0);
+    would("the upper class all along", define(0, 300, 556, 0, 0, 0, NULL), TARIFF_DEFINED, 2);
+}
+
+static void trying(void)
+{
+    static const size_t lengths[] = {0, 1, 511, 512, 600};
+    tied();
+    for (size_t i = 0; i < sizeof lengths / sizeof *lengths; i++) {
+        lend(LIST, lengths[i]);
+        if (lengths[i] < 512)
+            short_list();
+        else
+            long_list();
+    }
+    length[LIST] = 0;
+    table[LIST] = NULL;
+    short_list();
+    lend_all();
+    mixed_chains();
+    numbers();
+    longest_chain();
+}
+
 int main(void)
 {
-    static const char *const names[] = {"boot", "define", "record", "start", "step", "run", "drop", "sweep", "check"};
+    static const char *const names[] = {"boot", "define", "record", "start", "step", "run", "drop", "sweep", "try define", "try record", "check"};
     make_tables();
     booting();
     wrong_lengths();
@@ -479,6 +653,7 @@ int main(void)
     limits();
     runs_and_steps();
     answer_tables();
+    trying();
     printf("host: bytes of stack:");
     for (int i = 0; i < MEASURED; i++) {
         printf(" %s %zu", names[i], deepest[i]);

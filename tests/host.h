@@ -8,7 +8,7 @@
 #include "desk.h"
 #include "tariff.h"
 
-_Static_assert(sizeof(struct tariff_store) == 69008, "a store's bytes, as published");
+_Static_assert(sizeof(struct tariff_store) == 70032, "a store's bytes, as published");
 
 static int checked = 0;
 static int wrong = 0;
@@ -22,20 +22,23 @@ static void check(const char *what, int good)
     }
 }
 
-/* The eight tables and the answer's, each lent from the very end of memory that may be used. */
+/* The eight tables, the answer's and the list of a try, each lent from the very end of memory that may be used. */
 
-enum { TABLES = 8, ANSWER = 8, PAGE = 4096 };
+enum { TABLES = 8, ANSWER = 8, LIST = 9, LENT_TABLES = 10, PAGE = 4096 };
 
 /* Where the objects' owners stand among the counts. */
 enum { OWNERS = 8 };
 
-static const size_t width[] = {2, 2, 1, 2, 2, 2, 4, 4, 4};
+/* Where the numbers of ties and of subtype constraints stand among them. */
+enum { TIE_NUMBERS = 264, SUBTYPE_NUMBERS = 520 };
+
+static const size_t width[] = {2, 2, 1, 2, 2, 2, 4, 4, 4, 2};
 static const size_t cells[] = {TARIFF_COUNTS, TARIFF_CLASSES, TARIFF_KEPT,   TARIFF_CACHE, TARIFF_TIES,
-                               TARIFF_SUBTYPES, TARIFF_OBJECTS, TARIFF_FRAMES, TARIFF_ANSWER};
-static uint8_t *memory[TABLES + 1];
-static size_t room[TABLES + 1];
-static void *table[TABLES + 1];
-static size_t length[TABLES + 1];
+                               TARIFF_SUBTYPES, TARIFF_OBJECTS, TARIFF_FRAMES, TARIFF_ANSWER, TARIFF_LIST};
+static uint8_t *memory[LENT_TABLES];
+static size_t room[LENT_TABLES];
+static void *table[LENT_TABLES];
+static size_t length[LENT_TABLES];
 
 static uint8_t *guarded(size_t bytes)
 {
@@ -55,7 +58,7 @@ static void lend(int i, size_t n)
 
 static void lend_all(void)
 {
-    for (int i = 0; i <= TABLES; i++)
+    for (int i = 0; i < LENT_TABLES; i++)
         lend(i, cells[i]);
 }
 
@@ -93,7 +96,7 @@ static int same(const struct image *m)
 
 static void make_tables(void)
 {
-    for (int i = 0; i <= TABLES; i++) {
+    for (int i = 0; i < LENT_TABLES; i++) {
         room[i] = (cells[i] * width[i] / PAGE + 2) * PAGE;
         memory[i] = guarded(room[i]);
     }
@@ -108,7 +111,7 @@ static void make_tables(void)
 /* Calls */
 
 /* The calls on a store, and the desk's check, which takes none. */
-enum { BOOT, DEFINE, RECORD, START, STEP, RUN, DROP, SWEEP, CALLS, CHECK = CALLS, MEASURED };
+enum { BOOT, DEFINE, RECORD, START, STEP, RUN, DROP, SWEEP, TRY_DEFINE, TRY_RECORD, CALLS, CHECK = CALLS, MEASURED };
 
 struct call {
     int name;
@@ -226,6 +229,8 @@ static uint8_t perform(const struct call *c)
     case STEP: return tariff_step(LENT, LEND(ANSWER));
     case RUN: return tariff_run(LENT, c->one, LEND(ANSWER));
     case SWEEP: return tariff_sweep(LENT, LEND(ANSWER));
+    case TRY_DEFINE: return tariff_try_define(LENT, c->one, c->file, c->size, LEND(LIST), LEND(ANSWER));
+    case TRY_RECORD: return tariff_try_record(LENT, c->one, c->two, c->three, LEND(LIST), LEND(ANSWER));
     case CHECK: return tariff_check(c->file, c->size);
     default: return tariff_drop(LENT, c->one, LEND(ANSWER));
     }
@@ -268,19 +273,31 @@ static uint8_t desk(struct call c)
     return performed(&c);
 }
 
+/* Is the list's memory as it was before the call, past the first n of the lent cells? */
+static int unlisted(size_t n)
+{
+    size_t lent = length[LIST] * 2;
+    for (size_t i = 0; i < room[LIST]; i++)
+        if (memory[LIST][i] != 0xEE && (i < room[LIST] - lent || room[LIST] - lent + n * 2 <= i))
+            return 0;
+    return 1;
+}
+
 /* A call's number and six cells. It writes those cells of the answer table that there is room for, and if it is refused nothing else. The
-   desk says of a define's file, if define looked at it, what define said. */
+   desk says of a define's file, if define looked at it, what define said. Of a list only the rows of a clash are written. */
 static void expect(const char *what, struct call c, uint8_t number, const uint32_t six[])
 {
     static uint8_t cell[2 * PAGE];
     keep(&before);
     memset(memory[ANSWER], 0xEE, room[ANSWER]);
+    memset(memory[LIST], 0xEE, room[LIST]);
     memset(cell, 0xEE, sizeof cell);
     memcpy(cell + room[ANSWER] - length[ANSWER] * 4, six, (length[ANSWER] < 6 ? length[ANSWER] : 6) * 4);
     check(what, performed(&c) == number);
     check(what, memcmp(cell, memory[ANSWER], room[ANSWER]) == 0);
     if (number != 0)
         check(what, same(&before));
+    check(what, unlisted(six[TARIFF_CELL_KIND] == TARIFF_DENIED ? six[TARIFF_CELL_STEPS] : 0));
     if (c.name == DEFINE && number != TARIFF_BROKEN && number != TARIFF_UNKNOWN)
         check(what, desk(c) == (number == TARIFF_FILE || number == TARIFF_UNMAPPED || number == TARIFF_UNVERIFIED ? number : 0));
 }

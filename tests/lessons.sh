@@ -1,6 +1,7 @@
 #!/usr/bin/env bash
 # The writer's tool: its own tests, the course's lessons on the proved machine, each mistake's lesson on a machine that makes it, the lessons
-# on dead objects, choices and loops on machines that do them wrongly, what ./box says of mistakes in a text, and any bytes for a minute.
+# on dead objects, choices, loops and clashes on machines that do them wrongly, what ./box says of mistakes in a text, and any bytes for a
+# minute.
 #
 #   tests/lessons.sh                   all of it
 #   tests/lessons.sh --write-errors    writes what ./box says to tools/tests/errors, to be read before it is committed
@@ -21,9 +22,9 @@ fail() { # WORDS
 own() {
     local ran
     TARIFF_LIB=$PWD/target/staticlib FUZZ_SECONDS=${FUZZ_SECONDS:-60} cargo test --manifest-path tools/Cargo.toml --offline --release --quiet \
-        --features host --target-dir "$tools/host" --lib --test round_trips --test lessons --test fuzz 2>&1 | tee "$work/own" || fail "a test of tools/"
+        --features host --target-dir "$tools/host" --lib --test round_trips --test lessons --test why --test fuzz 2>&1 | tee "$work/own" || fail "a test of tools/"
     ran=$(awk '/^test result: ok\. [0-9]+ passed/ { ran += $4 } END { print ran + 0 }' "$work/own")
-    [ "$ran" -ge 15 ] || fail "only $ran tests of tools/ ran"
+    [ "$ran" -ge 17 ] || fail "only $ran tests of tools/ ran"
 }
 
 # What ./box says of each text with a mistake, and its exit status.
@@ -80,13 +81,18 @@ printed() {
     grep -q "^ok  step  *finished: the quote with 7$" "$work/out" || fail "README.md's lesson has no quote"
     ./box --draw "$work/mine.lesson" "$work/mine.svg" >"$work/out" || fail "the lesson of docs/LESSONS.md fails"
     grep -q "class 4? refused" "$work/mine.svg" || fail "the picture of docs/LESSONS.md has no clash"
+    awk '/^    ok  loader 2 defines Bonus/ { on = 1 } on && /^$/ { exit } on { print substr($0, 5) }' docs/LESSONS.md >"$work/chain"
+    ./box why --draw examples/why-a-load-clashed.lesson "$work/why.svg" >"$work/out" || fail "./box why fails"
+    { [ -s "$work/chain" ] && ! grep -vxFf "$work/out" "$work/chain"; } || fail "the chain of docs/LESSONS.md isn't said"
+    grep -q "below, row 2" "$work/why.svg" || fail "the chain of docs/LESSONS.md isn't drawn"
 }
 
 # Wrong usage ends with 2.
 usage() {
     local words status
     for words in "" "--store" "nothing-there.lesson" "list" "check nothing-there" "asm examples/first.lesson" "--what examples/first.box" "-h" \
-        "--draw examples/first.lesson mine.lesson" "examples/first.lesson mine.svg" "examples"; do
+        "--draw examples/first.lesson mine.lesson" "examples/first.lesson mine.svg" "examples" "why" "why nothing-there.lesson" \
+        "why --what examples/first.lesson"; do
         status=0
         # shellcheck disable=SC2086
         ./box $words >"$work/out" 2>&1 || status=$?
@@ -125,6 +131,12 @@ mistakes() {
             grep -q "^NO" "$work/out" || { cat "$work/out"; fail "$lesson on the machine $fault"; }
         done
         [ "$tried" -gt 0 ] || fail "no machine fails $lesson"
+    done
+    lesson=examples/why-a-load-clashed.lesson
+    MIRROR_FAULT=another-chain "$writer" why "$lesson" >/dev/null 2>&1 || fail "./box why takes one chain alone"
+    for fault in a-chain-without-its-last-row the-chain-is-listed-downward rows-are-listed-by-table a-clash-yields-no-chain; do
+        MIRROR_FAULT=$fault "$writer" why "$lesson" >"$work/out" 2>&1 && fail "./box why believes the machine $fault"
+        grep -q "which the second implementation takes for no reason" "$work/out" || { cat "$work/out"; fail "./box why on the machine $fault"; }
     done
     MIRROR_FAULT=desk-skips-the-verifier "$writer" check tools/tests/errors/unverified.check >"$work/out" 2>&1 && fail "a wrong desk is believed"
     grep -q "the desk says 0 and the second implementation 6" "$work/out" || fail "a wrong desk isn't named"

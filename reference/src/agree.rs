@@ -24,14 +24,44 @@ impl Added<'_> {
             || over(count::SUBTYPES, self.subtypes.len())
     }
 
-    /// Writes the rows behind the used ones.
+    /// The constraints in the order in which they are posted. Document 01, 'Constraints': "define posts the verifier's notes under its loader;
+    /// then, for each method, ties on argument and result". The notes are in the verifier's order, the ties method by method.
+    pub fn posted(&self) -> impl Iterator<Item = Constraint> + '_ {
+        let notes = self.subtypes.iter().map(|&row| Constraint::Subtype(row));
+        notes.chain(self.ties.iter().map(|&row| Constraint::Tie(row)))
+    }
+
+    /// Writes the rows behind the used ones, each constraint with the next number.
     pub fn write(&self, store: &mut Store) {
         if let Some(entry) = self.entry {
             store.add_cached(entry);
         }
-        self.ties.iter().for_each(|&row| store.add_tie(row));
-        self.subtypes.iter().for_each(|&row| store.add_subtype(row));
+        for constraint in self.posted() {
+            match constraint {
+                Constraint::Tie(row) => store.add_tie(row),
+                Constraint::Subtype(row) => store.add_subtype(row),
+            }
+        }
     }
+}
+
+/// A constraint's row, of either kind.
+#[derive(Clone, Copy, Debug, PartialEq, Eq)]
+pub enum Constraint {
+    /// Two loaders and the name that means one class under both.
+    Tie([u16; 3]),
+    /// A loader, its lower name and its higher name.
+    Subtype([u16; 3]),
+}
+
+/// The constraints of the store and of what is added, by number: the stored ones by the numbers that they keep, the added ones behind them
+/// as they would be posted. The store isn't broken.
+pub fn numbered(store: &Store, added: &Added) -> Vec<Constraint> {
+    let ties = store.tie_rows().map(Constraint::Tie).zip(store.tie_numbers());
+    let subtypes = store.subtype_rows().map(Constraint::Subtype).zip(store.subtype_numbers());
+    let mut stored: Vec<(Constraint, &u16)> = ties.chain(subtypes).collect();
+    stored.sort_unstable_by_key(|&(_, number)| number);
+    stored.into_iter().map(|(constraint, _)| constraint).chain(added.posted()).collect()
 }
 
 /// The tie of a type between two loaders, unless it says nothing.
@@ -44,7 +74,7 @@ pub fn same_tie(a: [u16; 3], b: [u16; 3]) -> bool {
     a == b || a == [b[1], b[0], b[2]]
 }
 
-fn key(loader: u16, name: u16) -> u32 {
+pub fn key(loader: u16, name: u16) -> u32 {
     u32::from(loader) << 16 | u32::from(name)
 }
 
@@ -164,7 +194,7 @@ pub fn agrees(store: &Store, added: &Added, classes: &Classes) -> bool {
     })
 }
 
-fn entries<'a>(store: &'a Store, added: &'a Added) -> impl Iterator<Item = [u16; 3]> + 'a {
+pub fn entries<'a>(store: &'a Store, added: &'a Added) -> impl Iterator<Item = [u16; 3]> + 'a {
     store.cache_rows().chain(added.entry)
 }
 

@@ -17,11 +17,12 @@ pub mod word {
     pub const MISNAMED: u8 = 13;
     pub const STUCK: u8 = 14;
     pub const UNMAPPED: u8 = 15;
+    pub const SHORT_LIST: u8 = 16;
 
     /// The words in the order of their numbers, from 1.
-    pub const NAMES: [&str; 15] = [
+    pub const NAMES: [&str; 16] = [
         "broken", "file", "unknown", "taken", "wanted", "unverified", "absent", "hidden", "clash", "full",
-        "null", "busy", "misnamed", "stuck", "unmapped",
+        "null", "busy", "misnamed", "stuck", "unmapped", "short list",
     ];
 }
 
@@ -66,6 +67,8 @@ pub enum Reply {
     /// The number of objects that were freed.
     Swept(u16),
     Denied(Refusal),
+    /// A tried load is denied with 9, and a chain of so many rows says why.
+    Clashed(u16),
 }
 
 impl Reply {
@@ -73,7 +76,16 @@ impl Reply {
     pub fn refusal(self) -> Option<Refusal> {
         match self {
             Reply::Denied(refusal) | Reply::Stepped(Answer::Refused(refusal)) => Some(refusal),
+            Reply::Clashed(_) => Some(Refusal::Word(word::CLASH)),
             _ => None,
+        }
+    }
+
+    /// What the load itself gets where its try gets this.
+    pub fn of_load(self) -> Reply {
+        match self {
+            Reply::Clashed(_) => denied(word::CLASH),
+            reply => reply,
         }
     }
 }

@@ -19,11 +19,26 @@ pub fn unbroken(store: &Store) -> Option<Classes> {
         return None;
     }
     let classes = Classes::read(store)?;
-    (rows_fit(store, &classes) && objects_fit(store, &classes) && frames_fit(store, &classes)).then_some(classes)
+    (numbers_fit(store) && rows_fit(store, &classes) && objects_fit(store, &classes) && frames_fit(store, &classes)).then_some(classes)
 }
 
 fn counts_fit(store: &Store) -> bool {
     store.counts.iter().zip(LIMITS).all(|(&count, limit)| count <= limit)
+}
+
+/// Do the numbers of both tables' used rows together count from 0 on, and rise along each table? Then each next number stands at the head of
+/// what is left of one of the two.
+fn numbers_fit(store: &Store) -> bool {
+    let (mut ties, mut subtypes) = (store.tie_numbers(), store.subtype_numbers());
+    (0..store.constraint_count() as u16).all(|number| {
+        for left in [&mut ties, &mut subtypes] {
+            if left.first() == Some(&number) {
+                *left = &left[1..];
+                return true;
+            }
+        }
+        false
+    })
 }
 
 fn rows_fit(store: &Store, classes: &Classes) -> bool {

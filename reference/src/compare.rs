@@ -9,6 +9,7 @@ use crate::agree::{agrees, Added};
 use crate::answer::{Answer, Reply};
 use crate::broken::unbroken;
 use crate::gen::chains::chains;
+use crate::gen::clashes::{self, clash};
 use crate::gen::codes::{rejected, taken};
 use crate::gen::damage::{damaged, probes, SHAPES};
 use crate::gen::cells::each_cell;
@@ -23,12 +24,14 @@ use crate::gen::swept::swept;
 use crate::gen::{cases, large, mapped, Call, Trial, CALLS};
 use crate::host::{self, expected, CELLS};
 use crate::placed::misplaced;
-use crate::store::{Store, LENGTHS};
+use crate::store::{Store, LENGTHS, MOST_ROWS};
 use crate::tally::{Tally, ENDS_FROM_A_BOOT, FROM_A_BOOT, ONLY_DAMAGE};
 
 /// Damaged stores and files that go with a seed.
 const STORES: u64 = 8;
 const FILES: u64 = 40;
+/// Stores with chains, each with a load.
+const CLASHES: u64 = 12;
 
 /// What was compared so far.
 #[derive(Clone, Default)]
@@ -68,21 +71,45 @@ fn differences(one: &Store, other: &Store) -> Vec<&'static str> {
     same.iter().filter(|(_, same)| !same).map(|(name, _)| *name).collect()
 }
 
+/// What a list holds before a try: no row's number.
+const UNLISTED: u16 = 0xEEEE;
+
+/// How many rows the library listed. Which chain it lists is left to it, but on a clash the chain must break agreement, and otherwise nothing is
+/// listed; the list past the chain stays as it was.
+fn listed(call: &Call, store: &Store, reply: Reply, list: &[u16], label: &str) -> usize {
+    let rows = list.iter().take_while(|&&row| row != UNLISTED).count();
+    let (chain, rest) = list.split_at(rows);
+    assert!(rest.iter().all(|&row| row == UNLISTED), "{label}: {call:?} differs: it lists past its chain {chain:?}");
+    let is_right = if let Reply::Clashed(_) = reply { call.is_reason(store, chain) } else { rows == 0 };
+    assert!(is_right, "{label}: {call:?} differs: it lists {chain:?}, which is no reason");
+    rows
+}
+
 /// Makes the call on both stores, which are alike, and compares answers and tables. The answer table has so many cells of noise: the
 /// library writes as many of the answer's cells as there is room for, and no others.
 fn both(ours: &mut Store, theirs: &mut Store, call: &Call, cells: usize, label: &str) -> Reply {
     const NOISE: u32 = 0x5EED;
     let turn = turn(ours);
     let reply = call.apply(ours);
-    let told = expected(reply, turn);
-    let mut answer = vec![NOISE; cells];
-    let number = host::make(call, theirs, &mut answer);
+    let mut told = expected(reply, turn);
+    let (mut answer, mut list) = (vec![NOISE; cells], vec![UNLISTED; call.cells()]);
+    let number = host::make(call, theirs, &mut answer, &mut list);
+    let rows = listed(call, ours, reply, &list, label);
+    if let Reply::Clashed(_) = reply {
+        told.cells[CELLS - 1] = rows as u32;
+    }
     let wanted: Vec<u32> = (0..cells).map(|cell| *told.cells.get(cell).unwrap_or(&NOISE)).collect();
     assert!(number == told.number, "{label}: {call:?} differs: returns {number}, not {}", told.number);
     assert!(answer == wanted, "{label}: {call:?} differs: answers {answer:?}, not {wanted:?}");
     let tables = differences(ours, theirs);
     assert!(tables.is_empty(), "{label}: {call:?} differs in {tables:?} after {reply:?}");
     reply
+}
+
+/// The tries of a load: on a list that is long enough, and on one that is longer or too short, in turn.
+fn tries(load: &Call, turn: usize) -> Vec<Call> {
+    let cells = [MOST_ROWS, [MOST_ROWS - 1, 600, 0, 1][turn % 4]];
+    cells.into_iter().filter_map(|cells| load.tried(cells)).collect()
 }
 
 /// What demand 3 says of a store from a boot, and what the call answered there.
@@ -105,6 +132,10 @@ impl Comparison {
         let (mut ours, mut theirs) = (Store::zeros(), Store::zeros());
         for (at, call) in trial.calls.iter().enumerate() {
             let label = format!("{label}, call {at}");
+            for tried in tries(call, at) {
+                let reply = both(&mut ours, &mut theirs, &tried, CELLS, &label);
+                self.booted.count(&ours, &tried, reply, &ours);
+            }
             let before = ours.clone();
             let reply = both(&mut ours, &mut theirs, call, CELLS, &label);
             sound(&theirs, reply, &label);
@@ -112,12 +143,14 @@ impl Comparison {
         }
     }
 
-    /// A call on any tables; gives those after it.
+    /// A call on any tables, and the tries of a load before it; gives the tables after it.
     fn call(&mut self, before: &Store, call: &Call, cells: usize, label: &str) -> Store {
         let (mut ours, mut theirs) = (before.clone(), before.clone());
-        let reply = both(&mut ours, &mut theirs, call, cells, label);
-        self.damaged.count(before, call, reply, &ours);
-        self.misshapen[call.kind()] += u64::from(before.lengths() != LENGTHS);
+        for call in tries(call, cells + label.len()).iter().chain([call]) {
+            let reply = both(&mut ours, &mut theirs, call, cells, label);
+            self.damaged.count(before, call, reply, &ours);
+            self.misshapen[call.kind()] += u64::from(before.lengths() != LENGTHS);
+        }
         ours
     }
 
@@ -172,6 +205,10 @@ impl Comparison {
         self.play(&chains(seed, 30), &format!("chains {seed}"));
         self.play(&graphs(seed, 50), &format!("graphs {seed}"));
         (STORES * seed..STORES * (seed + 1)).for_each(|seed| self.damage(seed));
+        for seed in CLASHES * seed..CLASHES * (seed + 1) {
+            let (store, load) = clash(seed);
+            self.call(&store, &load, seed as usize % 9, &format!("clash {seed}"));
+        }
         let store = cases::whole();
         (FILES * seed..FILES * (seed + 1)).for_each(|seed| self.file(&store, file(seed), &format!("file {seed}")));
     }
@@ -196,6 +233,9 @@ impl Comparison {
             self.file(&store, draft.file(), "a method of version 2");
         }
         mapped::bad().into_iter().for_each(|bytes| self.file(&store, bytes, "a bad file of version 2"));
+        for (what, store, load, _) in clashes::cases() {
+            self.call(&store, &load, CELLS, what);
+        }
         self.large();
     }
 
@@ -210,13 +250,14 @@ impl Comparison {
             (chain, large::chain_record()), (grid, large::grid_record()), (usual.clone(), large::usual_define()),
             (usual, large::usual_record()), (large::posting(), Call::Step),
         ];
+        let reasons = [large::longest_reason(), large::grid_reason()];
         let held = [large::Held::Upward, large::Held::Downward, large::Held::ByFrames, large::Held::Nothing];
         let swept = held.map(|held| (large::objects(held), Call::Sweep));
         let made = [false, true].map(|freed| (large::making(freed), run.clone()));
         let looping = [large::Round::Ints, large::Round::Field].map(|round| (large::looping(round), run.clone()));
         let empty = Trial::ready([1]).store;
         let long = large::long_files().map(|(_, file)| (empty.clone(), Call::Define { loader: 1, file }));
-        for (at, (store, call)) in calls.iter().chain(&swept).chain(&made).chain(&looping).chain(&long).enumerate() {
+        for (at, (store, call)) in calls.iter().chain(&reasons).chain(&swept).chain(&made).chain(&looping).chain(&long).enumerate() {
             self.call(store, call, CELLS, &format!("large store {at}"));
         }
     }
@@ -259,6 +300,7 @@ impl Comparison {
         demand(self.booted.idle_opcodes().is_empty(), format!("never ran: {:?}", self.booted.idle_opcodes()));
         for (tally, what) in [(&self.booted, "from a boot"), (&self.damaged, "on damaged stores")] {
             demand(tally.unswept().is_empty(), format!("sweeps {what} never had {:?}", tally.unswept()));
+            demand(tally.unreasoned().is_empty(), format!("chains of clashes {what} never had {:?}", tally.unreasoned()));
         }
         demand(self.misshapen.iter().all(|&calls| calls > 0), format!("calls on misshapen tables: {:?}", self.misshapen));
         for ((what, _), &stores) in SHAPES.iter().zip(&self.shapes) {

@@ -4,7 +4,7 @@ use std::fmt::Write;
 
 use crate::answer::{Answer, Refusal, Reply};
 use crate::gen::Call;
-use crate::store::Store;
+use crate::store::{Store, MOST_ROWS};
 
 /// The cells of the list and of the answers, and the bytes of the input, that the program has room for.
 pub const LIST: usize = 600;
@@ -23,21 +23,26 @@ fn lent(input: &[u8], i: usize, there: usize) -> usize {
     (cell(input, i) as usize).min(there)
 }
 
-/// The call of a row; none if it has no kind, its file lies outside or a start's names aren't 16 bits.
+/// The call of a row; none if it has no kind, its file lies outside or a start's names aren't 16 bits. A try answers the same on every list
+/// that is long enough.
 fn call(row: &[u32], files: &[u8]) -> Option<Call> {
     let short = |number: u32| u16::try_from(number).ok();
+    let file = || {
+        let start = row[2] as usize;
+        files.get(start..start + row[3] as usize).map(<[u8]>::to_vec)
+    };
+    let cells = (row[4] as usize).min(MOST_ROWS);
     Some(match row[0] {
         0 => Call::Boot,
-        1 => {
-            let start = row[2] as usize;
-            Call::Define { loader: row[1], file: files.get(start..start + row[3] as usize)?.to_vec() }
-        }
+        1 => Call::Define { loader: row[1], file: file()? },
         2 => Call::Record { loader: row[1], name: row[2], class: row[3] },
         3 => Call::Start { task: row[1], loader: row[2], name: short(row[3])?, method: short(row[4])?, int: row[5] },
         4 => Call::Step,
         5 => Call::Run { n: row[1] },
         6 => Call::Drop { task: row[1] },
         7 => Call::Sweep,
+        8 => Call::TryDefine { loader: row[1], file: file()?, cells },
+        9 => Call::TryRecord { loader: row[1], name: row[2], class: row[3], cells },
         _ => return None,
     })
 }

@@ -3,7 +3,7 @@
 //! Every table passes as pointer and length, in the order of docs/STORE.md, then the call's own arguments, then the answer table. A call
 //! returns its refusal's number, 0 if it is accepted. What the answer table receives is said by `expected` alone.
 
-use crate::answer::{Answer, Refusal, Reply};
+use crate::answer::{word, Answer, Refusal, Reply};
 
 #[cfg(feature = "host")]
 pub use library::make;
@@ -29,7 +29,7 @@ pub struct Told {
 /// | 1 | defined | class | 0 | 0 | 0 |
 /// | 2 | a step's: idle, ran, finished | 0, 1, 2 | task | int | 0 |
 /// | 3 | a run's | as of its last step | the same | the same | steps that ran |
-/// | 4 | denied | 0 | 0 | 0 | 0 |
+/// | 4 | denied | 0 | 0 | 0 | 0; of a tried load that clashes, the rows of the chain |
 /// | 5 | swept | objects freed | 0 | 0 | 0 |
 ///
 /// Where a class is wanted, one is the loader, two the name, three the task at its turn if a step wants it. The number in the cells is the
@@ -43,6 +43,7 @@ pub fn expected(reply: Reply, turn: u32) -> Told {
         Reply::Stepped(answer) => stepped(2, answer, turn, 0),
         Reply::RanFor(ran, answer) => stepped(3, answer, turn, ran.into()),
         Reply::Denied(refusal) => refused(4, refusal, 0, 0),
+        Reply::Clashed(rows) => refused(4, Refusal::Word(word::CLASH), 0, rows.into()),
         Reply::Swept(freed) => [5, 0, freed.into(), 0, 0, 0],
     };
     Told { number, cells }
@@ -98,6 +99,8 @@ mod library {
         tariff_run(n: u32);
         tariff_drop(task: u32);
         tariff_sweep();
+        tariff_try_define(loader: u32, file: *const u8, file_length: usize, list: *mut u16, list_length: usize);
+        tariff_try_record(loader: u32, name: u32, class: u32, list: *mut u16, list_length: usize);
     }
 
     /// Calls a function with the tables of a store, these arguments and an answer table.
@@ -118,8 +121,8 @@ mod library {
         };
     }
 
-    /// Makes the call by the library, with this answer table: the number that it returns.
-    pub fn make(call: &Call, store: &mut Store, answer: &mut [u32]) -> u8 {
+    /// Makes the call by the library, with this answer table, and for a try with this list: the number that it returns.
+    pub fn make(call: &Call, store: &mut Store, answer: &mut [u32], list: &mut [u16]) -> u8 {
         // SAFETY: every pointer comes with the length of a slice that lives through the call.
         unsafe {
             match *call {
@@ -135,6 +138,12 @@ mod library {
                 Call::Run { n } => lend!(tariff_run, store, answer, n),
                 Call::Drop { task } => lend!(tariff_drop, store, answer, task),
                 Call::Sweep => lend!(tariff_sweep, store, answer),
+                Call::TryDefine { loader, ref file, .. } => {
+                    lend!(tariff_try_define, store, answer, loader, file.as_ptr(), file.len(), list.as_mut_ptr(), list.len())
+                }
+                Call::TryRecord { loader, name, class, .. } => {
+                    lend!(tariff_try_record, store, answer, loader, name, class, list.as_mut_ptr(), list.len())
+                }
             }
         }
     }

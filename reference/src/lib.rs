@@ -1,10 +1,11 @@
-//! The tariff class machine, written a second time: boot, define, record, start, step, run, drop and sweep
+//! The tariff class machine, written a second time: boot, define, record, start, step, run, drop, sweep and the tries of loads
 //! over the eight lent tables that docs/STORE.md publishes, the desk's check, boxscript and drivelist.
 //!
 //! It shares no code with the proved machine. The two are compared call by call and cell by cell.
 
 pub mod agree;
 pub mod answer;
+pub mod breaks;
 pub mod broken;
 pub mod classes;
 pub mod code;
@@ -16,12 +17,14 @@ pub mod gen;
 pub mod host;
 pub mod load;
 pub mod placed;
+pub mod reason;
 pub mod script;
 pub mod step;
 pub mod store;
 pub mod sweep;
 pub mod tally;
 pub mod task;
+pub mod tries;
 pub mod verifier;
 
 pub use answer::{Answer, Refusal, Reply};
@@ -32,4 +35,5 @@ pub use step::step;
 pub use store::Store;
 pub use sweep::sweep;
 pub use task::{drop_task, run, start};
+pub use tries::{try_define, try_record};
 pub use verifier::check;

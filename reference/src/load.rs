@@ -5,7 +5,7 @@ use crate::answer::{denied, word, Refusal, Reply};
 use crate::broken::{lengths_fit, unbroken};
 use crate::classes::Classes;
 use crate::file::File;
-use crate::store::{count, Store, FIELDS, LIMITS, LOADERS, OBJECT, ROW};
+use crate::store::{count, Store, FIELDS, LIMITS, LOADERS, MOST_ROWS, OBJECT, ROW};
 use crate::verifier::refused;
 
 pub fn boot(store: &mut Store) -> Reply {
@@ -19,33 +19,79 @@ pub fn boot(store: &mut Store) -> Reply {
 }
 
 pub fn define(store: &mut Store, loader: u32, bytes: &[u8]) -> Reply {
-    define_by(store, loader, bytes, |file, notes| {
-        refused(file, &mut |lower, higher| notes.take(lower, higher)).map_err(|(word, _)| word)
-    })
+    define_by(store, loader, bytes, judge)
+}
+
+/// The word that a file is refused with, and its notes.
+pub fn judge(file: File, notes: &mut Notes) -> Result<(), u8> {
+    refused(file, &mut |lower, higher| notes.take(lower, higher)).map_err(|(word, _)| word)
 }
 
 /// define, with the file judged by `judge`, which gives the notes and a word of refusal.
 pub fn define_by(store: &mut Store, loader: u32, bytes: &[u8], judge: impl Fn(File, &mut Notes) -> Result<(), u8>) -> Reply {
-    match try_define(store, loader, bytes, judge) {
-        Ok(class) => Reply::Defined(class as u8),
-        Err(refusal) => Reply::Denied(refusal),
+    let plan = match plan_define(store, loader, bytes, MOST_ROWS, judge) {
+        Ok(plan) => plan,
+        Err(refusal) => return Reply::Denied(refusal),
+    };
+    if !plan.agrees(store) {
+        return denied(word::CLASH);
+    }
+    let class = store.add_class(loader as u16, bytes);
+    plan.added().write(store);
+    Reply::Defined(class as u8)
+}
+
+/// What a load adds that no word before 9 refuses, and the classes with its own.
+pub struct Plan {
+    pub entry: [u16; 3],
+    pub ties: Vec<[u16; 3]>,
+    pub subtypes: Vec<[u16; 3]>,
+    pub classes: Classes,
+}
+
+impl Plan {
+    pub fn added(&self) -> Added<'_> {
+        Added { entry: Some(self.entry), ties: &self.ties, subtypes: &self.subtypes }
+    }
+
+    fn agrees(&self, store: &Store) -> bool {
+        agrees(store, &self.added(), &self.classes)
     }
 }
 
-fn try_define(
-    store: &mut Store,
+/// A define up to the question of agreement. A try lends a list of so many cells; a define without one asks for no more than a list has.
+pub fn plan_define(
+    store: &Store,
     loader: u32,
     bytes: &[u8],
+    list: usize,
     judge: impl Fn(File, &mut Notes) -> Result<(), u8>,
-) -> Result<u16, Refusal> {
+) -> Result<Plan, Refusal> {
     let mut classes = unbroken(store).ok_or(Refusal::Word(word::BROKEN))?;
     if loader >= LOADERS.into() {
         return Err(Refusal::Word(word::UNKNOWN));
+    }
+    if list < MOST_ROWS {
+        return Err(Refusal::Word(word::SHORT_LIST));
     }
     let loader = loader as u16;
     let file = File::read(bytes).ok_or(Refusal::Word(word::FILE))?;
     let mut notes = Notes::new(store, loader);
     judge(file, &mut notes).map_err(Refusal::Word)?;
+    let superclass = superclass_for(store, &classes, loader, file)?;
+    let ties = overriding_ties(store, &classes, loader, superclass, file);
+    let entry = [loader, file.name(), store.counts[count::CLASSES]];
+    let is_too_much = is_class_too_much(store, &classes, superclass, file, bytes.len());
+    let fits = !is_too_much && classes.add(superclass, file).is_some();
+    let plan = Plan { entry, ties, subtypes: notes.new_rows(), classes };
+    if !fits || plan.added().is_too_much(store) {
+        return Err(Refusal::Word(word::FULL));
+    }
+    Ok(plan)
+}
+
+/// The superclass of a file that is neither taken nor wants for one nor hides a field.
+fn superclass_for(store: &Store, classes: &Classes, loader: u16, file: File) -> Result<u16, Refusal> {
     if store.cached(loader, file.name()).is_some() {
         return Err(Refusal::Word(word::TAKEN));
     }
@@ -54,20 +100,7 @@ fn try_define(
     if file.fields().any(|field| classes.has_field_named(store, superclass, field.name)) {
         return Err(Refusal::Word(word::HIDDEN));
     }
-    let subtypes = notes.new_rows();
-    let ties = overriding_ties(store, &classes, loader, superclass, file);
-    let entry = [loader, file.name(), store.counts[count::CLASSES]];
-    let added = Added { entry: Some(entry), ties: &ties, subtypes: &subtypes };
-    if is_class_too_much(store, &classes, superclass, file, bytes.len()) || added.is_too_much(store) {
-        return Err(Refusal::Word(word::FULL));
-    }
-    classes.add(superclass, file).ok_or(Refusal::Word(word::FULL))?;
-    if !agrees(store, &added, &classes) {
-        return Err(Refusal::Word(word::CLASH));
-    }
-    let class = store.add_class(loader, bytes);
-    added.write(store);
-    Ok(class)
+    Ok(superclass)
 }
 
 /// Would the class pass the limit of classes, kept bytes or fields?
@@ -132,28 +165,39 @@ pub fn overriding_ties(store: &Store, classes: &Classes, loader: u16, superclass
 }
 
 pub fn record(store: &mut Store, loader: u32, name: u32, class: u32) -> Reply {
-    let Some(classes) = unbroken(store) else {
-        return denied(word::BROKEN);
-    };
+    match plan_record(store, loader, name, class, MOST_ROWS) {
+        Err(refusal) => Reply::Denied(refusal),
+        Ok(None) => Reply::Accepted,
+        Ok(Some(plan)) if !plan.agrees(store) => denied(word::CLASH),
+        Ok(Some(plan)) => {
+            plan.added().write(store);
+            Reply::Accepted
+        }
+    }
+}
+
+/// A record up to the question of agreement, with a list of so many cells as in `plan_define`; no plan if the entry is there.
+pub fn plan_record(store: &Store, loader: u32, name: u32, class: u32, list: usize) -> Result<Option<Plan>, Refusal> {
+    let refused = |number: u8| Err(Refusal::Word(number));
+    let classes = unbroken(store).ok_or(Refusal::Word(word::BROKEN))?;
     if loader >= LOADERS.into() || name < 2 || !classes.has(class) {
-        return denied(word::UNKNOWN);
+        return refused(word::UNKNOWN);
+    }
+    if list < MOST_ROWS {
+        return refused(word::SHORT_LIST);
     }
     if u32::from(store.name_of(class as u16)) != name {
-        return denied(word::MISNAMED);
+        return refused(word::MISNAMED);
     }
     let [loader, name, class] = [loader, name, class].map(|number| number as u16);
     match store.cached(loader, name) {
-        Some(there) if there == class => return Reply::Accepted,
-        Some(_) => return denied(word::TAKEN),
+        Some(there) if there == class => return Ok(None),
+        Some(_) => return refused(word::TAKEN),
         None => {}
     }
-    let added = Added { entry: Some([loader, name, class]), ..Added::default() };
-    if added.is_too_much(store) {
-        return denied(word::FULL);
+    let plan = Plan { entry: [loader, name, class], ties: Vec::new(), subtypes: Vec::new(), classes };
+    if plan.added().is_too_much(store) {
+        return refused(word::FULL);
     }
-    if !agrees(store, &added, &classes) {
-        return denied(word::CLASH);
-    }
-    added.write(store);
-    Reply::Accepted
+    Ok(Some(plan))
 }

@@ -2,7 +2,7 @@
 
 use std::io::{self, Write};
 
-use crate::answer::{Answer, Refusal, Reply};
+use crate::answer::{word, Answer, Refusal, Reply};
 use crate::load::{boot, define, record};
 use crate::step::step;
 use crate::store::Store;
@@ -88,6 +88,7 @@ fn details(reply: Reply, task: u8) -> [i64; 4] {
             Refusal::Wanted(loader, name) => [5, i64::from(loader), i64::from(name), i64::from(task)],
             Refusal::Word(number) => [i64::from(number), 0, 0, 0],
         },
+        Reply::Clashed(_) => [i64::from(word::CLASH), 0, 0, 0],
     }
 }
 

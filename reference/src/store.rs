@@ -14,18 +14,24 @@ pub mod count {
     pub const FRAMES: usize = 6;
     /// The owner of object row 0; those of the other rows follow.
     pub const OWNERS: usize = 8;
+    /// The number of tie row 0; those of the other tie rows follow.
+    pub const TIE_NUMBERS: usize = 264;
+    /// The number of subtype row 0; those of the other subtype rows follow.
+    pub const SUBTYPE_NUMBERS: usize = 520;
 }
 
 /// The limit of each count.
 pub const LIMITS: [u16; 8] = [64, 16_384, 256, 256, 256, 256, 32, 32];
 /// The length of each table, in the order of `Store`.
-pub const LENGTHS: [usize; 8] = [264, 192, 16_384, 768, 768, 768, 8_448, 3_328];
+pub const LENGTHS: [usize; 8] = [776, 192, 16_384, 768, 768, 768, 8_448, 3_328];
 /// The tables' names, and the largest number that a cell holds.
 pub const TABLES: [(&str, u32); 8] = [
     ("counts", 0xFFFF), ("classes", 0xFFFF), ("kept", 0xFF), ("cache", 0xFFFF), ("ties", 0xFFFF), ("subtypes", 0xFFFF),
     ("objects", u32::MAX), ("frames", u32::MAX),
 ];
 
+/// The most constraints, ties and subtype constraints together. A chain has no more rows, so a list of so many numbers holds any.
+pub const MOST_ROWS: usize = (LIMITS[count::TIES] + LIMITS[count::SUBTYPES]) as usize;
 /// The most objects in use.
 pub const MOST_OBJECTS: usize = LIMITS[count::OBJECTS] as usize;
 /// The owner of a free object row. An object's is 1 more than the task that made it.
@@ -237,6 +243,21 @@ impl Store {
         rows(&self.subtypes, self.count(count::SUBTYPES))
     }
 
+    /// How many constraints there are: both kinds are numbered together, from 0, as they are posted.
+    pub fn constraint_count(&self) -> usize {
+        self.count(count::TIES) + self.count(count::SUBTYPES)
+    }
+
+    /// The numbers of the used tie rows.
+    pub fn tie_numbers(&self) -> &[u16] {
+        &self.counts[count::TIE_NUMBERS..][..self.count(count::TIES)]
+    }
+
+    /// The numbers of the used subtype rows.
+    pub fn subtype_numbers(&self) -> &[u16] {
+        &self.counts[count::SUBTYPE_NUMBERS..][..self.count(count::SUBTYPES)]
+    }
+
     /// The class that the cache holds for a request; of two rows the lower.
     pub fn cached(&self, loader: u16, name: u16) -> Option<u16> {
         self.cache_rows().find(|row| row[0] == loader && row[1] == name).map(|row| row[2])
@@ -300,11 +321,17 @@ impl Store {
         add_row(&mut self.cache, &mut self.counts[count::CACHE], row);
     }
 
+    /// Appends a tie, with the next number.
     pub fn add_tie(&mut self, row: [u16; 3]) {
+        let at = count::TIE_NUMBERS + self.count(count::TIES);
+        self.counts[at] = self.constraint_count() as u16;
         add_row(&mut self.ties, &mut self.counts[count::TIES], row);
     }
 
+    /// Appends a subtype constraint, with the next number.
     pub fn add_subtype(&mut self, row: [u16; 3]) {
+        let at = count::SUBTYPE_NUMBERS + self.count(count::SUBTYPES);
+        self.counts[at] = self.constraint_count() as u16;
         add_row(&mut self.subtypes, &mut self.counts[count::SUBTYPES], row);
     }
 

@@ -1,16 +1,19 @@
-//! How often each word was given to each call, how often each opcode ran, and what sweeps met.
+//! How often each word was given to each call, how often each opcode ran, what sweeps met, and what chains were reasons.
 
 use std::fmt;
 
+use crate::agree::{numbered, Constraint};
 use crate::answer::{word, Answer, Reply};
+use crate::breaks::{walked, ways};
 use crate::code::op;
 use crate::gen::reach::{reached, Without, LEFT_OUT};
 use crate::gen::{Call, CALLS};
+use crate::reason::chain;
 use crate::step::{instruction_of, take_step};
 use crate::store::{cell, frame_base, Store, FREE};
 
 /// The words that a call is given on lists from a boot; 0 is accepted.
-pub const FROM_A_BOOT: [(&str, &[usize]); 8] = [
+pub const FROM_A_BOOT: [(&str, &[usize]); 10] = [
     ("boot", &[0]),
     ("define", &[0, 2, 3, 4, 5, 6, 8, 9, 10, 15]),
     ("record", &[0, 3, 4, 9, 10, 13]),
@@ -19,10 +22,12 @@ pub const FROM_A_BOOT: [(&str, &[usize]); 8] = [
     ("run", &[0, 3]),
     ("drop", &[0, 3]),
     ("sweep", &[0]),
+    ("try define", &[0, 2, 3, 4, 5, 6, 8, 9, 10, 15, 16]),
+    ("try record", &[0, 3, 4, 9, 10, 13, 16]),
 ];
 
 /// The words that only damage brings.
-pub const ONLY_DAMAGE: [(&str, &[usize]); 8] = [
+pub const ONLY_DAMAGE: [(&str, &[usize]); 10] = [
     ("boot", &[1]),
     ("define", &[1]),
     ("record", &[1]),
@@ -31,6 +36,8 @@ pub const ONLY_DAMAGE: [(&str, &[usize]); 8] = [
     ("run", &[1]),
     ("drop", &[1]),
     ("sweep", &[1]),
+    ("try define", &[1]),
+    ("try record", &[1]),
 ];
 
 /// How runs end on lists from a boot; damage brings word 14 too.
@@ -52,6 +59,56 @@ pub struct Tally {
     /// Objects that sweeps freed, and those that later got a freed number.
     pub freed: u64,
     pub reused: u64,
+    /// Clashes of tries whose chain is each of `REASONS`.
+    pub reasons: [u64; REASONS.len()],
+}
+
+/// What a chain that breaks agreement may have, and the test for it.
+pub type Reason = (&'static str, fn(&Found) -> bool);
+
+/// A chain that was found for a clash.
+pub struct Found {
+    rows: Vec<u16>,
+    stored: usize,
+    has_ties: bool,
+    has_subtypes: bool,
+    has_newcomer: bool,
+    is_loaded_throughout: bool,
+}
+
+pub const REASONS: [Reason; 8] = [
+    ("stored rows alone", |found| found.rows.iter().all(|&row| usize::from(row) < found.stored)),
+    ("own rows alone", |found| found.rows.iter().all(|&row| usize::from(row) >= found.stored)),
+    ("own and stored rows", |found| {
+        [true, false].iter().all(|&own| found.rows.iter().any(|&row| (usize::from(row) >= found.stored) == own))
+    }),
+    ("ties alone", |found| !found.has_subtypes),
+    ("subtype constraints alone", |found| !found.has_ties),
+    ("both kinds", |found| found.has_ties && found.has_subtypes),
+    ("no newcomer", |found| !found.has_newcomer),
+    ("an unloaded middle", |found| !found.is_loaded_throughout),
+];
+
+impl Found {
+    /// The chain that this implementation finds for a load that clashes.
+    fn of(store: &Store, call: &Call) -> Option<Found> {
+        let plan = call.plan(store)?;
+        let added = plan.added();
+        let rows = chain(store, &added, &plan.classes)?;
+        let constraints = numbered(store, &added);
+        let walked_rows: Vec<Constraint> = rows.iter().map(|&row| constraints[usize::from(row)]).collect();
+        let requests = ways(walked_rows[0]).into_iter().find_map(|(start, _)| walked(start, &walked_rows))?;
+        let is_tie = |constraint: &Constraint| matches!(constraint, Constraint::Tie(_));
+        let newcomer = (plan.entry[0], plan.entry[1]);
+        Some(Found {
+            rows,
+            stored: store.constraint_count(),
+            has_ties: walked_rows.iter().any(is_tie),
+            has_subtypes: !walked_rows.iter().all(is_tie),
+            has_newcomer: requests.contains(&newcomer),
+            is_loaded_throughout: requests.iter().all(|&at| at == newcomer || store.cached(at.0, at.1).is_some()),
+        })
+    }
 }
 
 impl Default for Tally {
@@ -65,6 +122,7 @@ impl Default for Tally {
             held: [0; LEFT_OUT.len()],
             freed: 0,
             reused: 0,
+            reasons: [0; REASONS.len()],
         }
     }
 }
@@ -119,6 +177,10 @@ impl Tally {
                     *held += u64::from(reached(before, without) != all);
                 }
             }
+            Reply::Clashed(_) => {
+                let found = Found::of(before, call).expect("a clash yields a chain");
+                self.reasons.iter_mut().zip(REASONS).for_each(|(chains, (_, is))| *chains += u64::from(is(&found)));
+            }
             Reply::Accepted if matches!(call, Call::Start { .. }) => self.count_reused(before, after),
             _ => {}
         }
@@ -161,6 +223,7 @@ impl Tally {
         (0..LEFT_OUT.len()).for_each(|what| self.held[what] += other.held[what]);
         self.freed += other.freed;
         self.reused += other.reused;
+        (0..REASONS.len()).for_each(|what| self.reasons[what] += other.reasons[what]);
     }
 
     /// The words given to a call, by number; 0 is accepted.
@@ -181,6 +244,11 @@ impl Tally {
         idle.chain(never.map(|(what, _)| what)).collect()
     }
 
+    /// What no chain of a clash was.
+    pub fn unreasoned(&self) -> Vec<&'static str> {
+        REASONS.iter().zip(self.reasons).filter(|(_, chains)| *chains == 0).map(|((what, _), _)| *what).collect()
+    }
+
     /// The opcodes that never ran.
     pub fn idle_opcodes(&self) -> Vec<&'static str> {
         let never = op::ALL.iter().zip(op::NAMES).filter(|(&opcode, _)| self.opcodes[usize::from(opcode)] == 0);
@@ -195,22 +263,25 @@ fn ran(answer: Answer) -> bool {
 impl fmt::Display for Tally {
     fn fmt(&self, f: &mut fmt::Formatter) -> fmt::Result {
         write!(f, "{:<14}", "")?;
-        CALLS.iter().try_for_each(|name| write!(f, "{name:>9}"))?;
+        CALLS.iter().try_for_each(|name| write!(f, "{name:>11}"))?;
         writeln!(f, "{:>11}", "run's end")?;
         for number in 0..WORDS {
             let name = if number == 0 { "accepted" } else { word::NAMES[number - 1] };
             write!(f, "{number:>2} {name:<11}")?;
-            self.words.iter().try_for_each(|call| write!(f, "{:>9}", call[number]))?;
+            self.words.iter().try_for_each(|call| write!(f, "{:>11}", call[number]))?;
             writeln!(f, "{:>11}", if number == 0 { 0 } else { self.run_ends[number] })?;
         }
         for (at, name) in [(IDLE, "idle"), (RAN, "ran"), (FINISHED, "finished")] {
-            writeln!(f, "   {name:<11}{:>45}{:>38}", self.steps[at], self.run_ends[at])?;
+            writeln!(f, "   {name:<11}{:>55}{:>66}", self.steps[at], self.run_ends[at])?;
         }
         for (opcode, name) in op::ALL.iter().zip(op::NAMES) {
             writeln!(f, "   {opcode:02X} {name:<14}{:>9}", self.opcodes[usize::from(*opcode)])?;
         }
         for ((what, _), held) in LEFT_OUT.iter().zip(self.held) {
             writeln!(f, "   sweeps that need {what:<23}{held:>6}")?;
+        }
+        for ((what, _), chains) in REASONS.iter().zip(self.reasons) {
+            writeln!(f, "   chains with {what:<28}{chains:>6}")?;
         }
         writeln!(f, "   objects freed{:>33}\n   objects in freed rows{:>25}", self.freed, self.reused)?;
         writeln!(f, "   runs of 1,000 steps and more{:>18}", self.long_runs)

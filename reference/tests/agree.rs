@@ -5,6 +5,7 @@ use std::collections::BTreeSet;
 use reference::agree::{agrees, Added};
 use reference::broken::unbroken;
 use reference::gen::build::Draft;
+use reference::gen::numbers::renumber;
 use reference::gen::rng::Rng;
 use reference::gen::Trial;
 use reference::store::{count, Store};
@@ -107,6 +108,7 @@ fn added_rows_count() {
         let subtypes: Vec<[u16; 3]> = whole.subtype_rows().skip(1).collect();
         part.counts[count::TIES] -= ties.len() as u16;
         part.counts[count::SUBTYPES] -= subtypes.len() as u16;
+        renumber(&mut Rng::new(seed), &mut part);
         let classes = unbroken(&part).expect("a store");
         let added = Added { entry: None, ties: &ties, subtypes: &subtypes };
         let now = agrees(&whole, &Added::default(), &classes);

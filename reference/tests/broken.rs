@@ -3,6 +3,8 @@
 use reference::broken;
 use reference::gen::build::{Code, Draft};
 use reference::gen::cases::whole;
+use reference::gen::numbers::renumber;
+use reference::gen::rng::Rng;
 use reference::store::{Store, INT, LIMITS};
 
 fn check(expected: bool, what: &str, change: impl FnOnce(&mut Store)) {
@@ -32,8 +34,16 @@ fn counts() {
         check(true, "far past the limit", |s| s.counts[which] = u16::MAX);
     }
     // Zeros are fine rows of these tables, and bytes that no file uses are fine.
-    check(false, "ties at the limit", |s| s.counts[3] = 256);
-    check(false, "subtypes at the limit", |s| s.counts[4] = 256);
+    check(false, "ties at the limit", |s| {
+        s.counts[3] = 256;
+        renumber(&mut Rng::new(3), s);
+    });
+    check(false, "subtypes at the limit", |s| {
+        s.counts[4] = 256;
+        renumber(&mut Rng::new(4), s);
+    });
+    check(true, "ties at the limit, without numbers", |s| s.counts[3] = 256);
+    check(true, "subtypes at the limit, without numbers", |s| s.counts[4] = 256);
     check(false, "kept at the limit", |s| s.counts[1] = 16_384);
     check(false, "cache at the limit", |s| s.counts[2] = 256);
     check(false, "free objects", |s| s.counts[5] = 256);
@@ -81,7 +91,7 @@ fn with_maps(s: &mut Store) -> usize {
 
 #[test]
 fn files_of_version_2() {
-    check(false, "maps", |s| drop(with_maps(s)));
+    check(false, "maps", |s| { with_maps(s); });
     // The count of maps stands at 32: 17 bytes before the code, 15 of code.
     let changed = |at: usize, byte: u8| move |s: &mut Store| {
         let start = with_maps(s);
@@ -155,7 +165,9 @@ fn rows() {
         s.subtypes[3..].fill(u16::MAX);
         s.classes[12..].fill(u16::MAX);
         s.objects[99..].fill(u32::MAX);
-        s.counts[11..].fill(u16::MAX);
+        s.counts[11..264].fill(u16::MAX);
+        s.counts[264 + 1..520].fill(u16::MAX);
+        s.counts[520 + 1..].fill(u16::MAX);
         s.frames[2 * 52..32 * 52].fill(u32::MAX);
         s.frames[33 * 52..].fill(u32::MAX);
     });

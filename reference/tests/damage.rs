@@ -13,7 +13,7 @@ use reference::{broken, misplaced, Refusal};
 const SEEDS: u64 = 10_000;
 
 /// The words of each call on damaged stores that this test meets; 0 is accepted.
-const ON_DAMAGE: [(&str, &[usize]); 8] = [
+const ON_DAMAGE: [(&str, &[usize]); 10] = [
     ("boot", &[0]),
     ("define", &[0, 4, 5, 6, 8, 9, 10, 15]),
     ("record", &[0, 3, 4, 9, 10, 13]),
@@ -22,6 +22,8 @@ const ON_DAMAGE: [(&str, &[usize]); 8] = [
     ("run", &[0, 3]),
     ("drop", &[0, 3]),
     ("sweep", &[0]),
+    ("try define", &[0, 4, 5, 6, 8, 9, 10, 15, 16]),
+    ("try record", &[0, 3, 4, 9, 10, 13, 16]),
 ];
 
 fn try_call(before: &Store, call: &Call, label: &str, tally: &mut Tally) -> Store {
@@ -55,6 +57,9 @@ fn damaged_stores() {
         SHAPES.iter().zip(&mut shapes).for_each(|((_, has), stores)| *stores += u64::from(has(&store)));
         let mut going = store.clone();
         for call in probes(seed, &store) {
+            for tried in [512, 511].iter().filter_map(|&cells| call.tried(cells)) {
+                try_call(&store, &tried, &label, &mut tally);
+            }
             try_call(&store, &call, &label, &mut tally);
             if call != Call::Boot {
                 going = try_call(&going, &call, &label, &mut tally);

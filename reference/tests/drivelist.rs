@@ -6,7 +6,7 @@ mod program;
 use std::fs;
 
 use program::play;
-use reference::drive::{drivelist, ANSWERS};
+use reference::drive::{drivelist, ANSWERS, HEAD, ROW};
 use reference::gen::drives::{drive, fixed};
 
 const SEEDS: u64 = 300;
@@ -43,6 +43,31 @@ fn the_verified_program_prints_the_same() {
     }
     for seed in 0..SEEDS {
         assert!(!differs(&drive(seed)), "drive {seed}");
+    }
+}
+
+/// Tries of both kinds are driven on lists below, at and above 512, and told 0, 9 and 16 where they can be.
+#[test]
+fn tries_are_driven() {
+    let mut told = [[[0; 17]; 3]; 2];
+    for seed in 0..SEEDS {
+        let input = drive(seed);
+        let cell = |i: usize| u32::from_be_bytes([0, 1, 2, 3].map(|at| input[4 * i + at]));
+        let printed = drivelist(&input);
+        let numbers: Vec<usize> = printed.lines().map(|line| line.parse().unwrap_or(0)).collect();
+        for call in 0..numbers[0].min(cell(2) as usize / 3) {
+            let row = HEAD + ROW * call;
+            if let kind @ 8..=9 = cell(row) {
+                told[kind as usize - 8][cell(row + 4).cmp(&512) as usize + 1][numbers[1 + 3 * call]] += 1;
+            }
+        }
+    }
+    println!("{told:?}");
+    for [below, at, above] in told {
+        assert!(below[16] > 100 && below[0] + below[9] == 0, "{below:?}");
+        for enough in [at, above] {
+            assert!(enough[0] > 100 && enough[9] > 5 && enough[16] == 0, "{enough:?}");
+        }
     }
 }
 

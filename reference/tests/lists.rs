@@ -23,6 +23,11 @@ fn watch(trial: &Trial, label: &str, tally: &mut Tally) {
     let mut store = Store::zeros();
     for (at, (call, &reply)) in trial.calls.iter().zip(&trial.replies).enumerate() {
         let before = store.clone();
+        for tried in [512, 600, 511][at % 3..].iter().filter_map(|&cells| call.tried(cells)) {
+            let reply = tried.apply(&mut store);
+            assert!(store == before, "{label}, call {at}: a try changed the store");
+            tally.count(&before, &tried, reply, &store);
+        }
         assert_eq!(call.apply(&mut store), reply, "{label}, call {at}: the same calls give the same answers");
         if reply.refusal().is_some() {
             assert!(store == before, "{label}, call {at}: a refused {call:?} changed the store");
@@ -119,6 +124,7 @@ fn random_lists() {
     }
     println!("{SEEDS} random lists, as many about constraints, and as many about objects\n{tally}");
     assert_eq!(tally.unswept(), Vec::<&str>::new(), "what sweeps never had");
+    assert_eq!(tally.unreasoned(), Vec::<&str>::new(), "what chains of clashes never had");
     for trial in cases::cases().iter().chain(&swept()).chain(&loops()) {
         watch(trial, "a case", &mut tally);
     }
@@ -164,7 +170,7 @@ fn limits_are_at_their_counts() {
     assert_eq!(counts("start: objects")[5], 256);
     assert_eq!(counts("step: objects")[5], 256);
     for name in ["start: objects, after a sweep", "step: objects, after a sweep"] {
-        assert!(counts(name)[8..].iter().all(|&owner| owner != 0), "{name}");
+        assert!(counts(name)[8..264].iter().all(|&owner| owner != 0), "{name}");
     }
     let frames = counts("step: frames");
     assert_eq!(frames[6].max(frames[7]), 32);

@@ -2,12 +2,14 @@
 
 use std::fmt::Write;
 
+use reference::agree::Constraint;
 use reference::broken::unbroken;
 use reference::Store;
 
 use crate::names::Names;
 use crate::svg::{clipped, escaped, fill, heads, text, Age};
 use crate::tried::Tried;
+use crate::why::Why;
 
 const MOST_PICTURES: usize = 60;
 const BOX: (i64, i64) = (132, 40);
@@ -55,6 +57,33 @@ impl Strip {
         }
     }
 
+    /// Adds a picture of a chain by which a load clashed: its requests and its rows, with their numbers.
+    pub fn add_reason(&mut self, title: &str, why: &Why, names: &Names) {
+        let mut picture = Picture { title: title.into(), entries: Vec::new(), ties: Vec::new(), subtypes: Vec::new() };
+        for &(request, class) in &why.requests {
+            let age = if why.is_newcomer(request) { Age::Refused } else { Age::Old };
+            picture.entries.extend(class.map(|class| ([request.0, request.1, class], age)));
+        }
+        for &(row, constraint) in &why.rows {
+            match constraint {
+                Constraint::Tie(cells) => picture.ties.push((cells, Age::Reason(row))),
+                Constraint::Subtype(cells) => picture.subtypes.push((cells, Age::Reason(row))),
+            }
+        }
+        self.names = names.clone();
+        if self.pictures.len() < MOST_PICTURES {
+            self.pictures.push(picture);
+        } else {
+            self.left_out += 1;
+        }
+    }
+
+    /// Is a chain drawn in any picture?
+    fn has_reasons(&self) -> bool {
+        let rows = self.pictures.iter().flat_map(|picture| picture.ties.iter().chain(&picture.subtypes));
+        rows.into_iter().any(|row| matches!(row.1, Age::Reason(_)))
+    }
+
     pub fn svg(&self) -> String {
         let width = self.pictures.iter().map(Picture::width).max().unwrap_or(0).max(760);
         let height: i64 = self.pictures.iter().map(Picture::height).sum::<i64>() + 90;
@@ -73,7 +102,7 @@ impl Strip {
         if self.left_out > 0 {
             text(&mut out, (LEFT, y + 20), "#b00", "start", &format!("{} more pictures are left out", self.left_out));
         }
-        legend(&mut out, y + 40);
+        legend(&mut out, y + 40, self.has_reasons());
         out + "</svg>\n"
     }
 }
@@ -228,7 +257,7 @@ impl Grid {
             (format!("M{from} {top}C{} {up} {} {up} {to} {top}", from + 40, to - 40), top - 22)
         };
         let _ = writeln!(out, "<path d=\"{path}\" fill=\"none\" {}/>", age.stroke());
-        text(out, ((begin + end + BOX.0) / 2, y - 5), age.colour(), "middle", said(age, "tie"));
+        text(out, ((begin + end + BOX.0) / 2, y - 5), age.colour(), "middle", &said(age, "tie"));
     }
 
     /// A subtype constraint goes up within a loader, beside the names between.
@@ -243,25 +272,29 @@ impl Grid {
             (format!("M{x} {y1}C{} {y1} {} {y2} {x} {y2}", x - 44, x - 44), (x - 36, (y1 + y2) / 2 + 4))
         };
         let _ = writeln!(out, "<path d=\"{path}\" fill=\"none\" {} marker-end=\"url(#{})\"/>", age.stroke(), age.arrow());
-        text(out, at, age.colour(), if is_next { "start" } else { "end" }, said(age, "below"));
+        text(out, at, age.colour(), if is_next { "start" } else { "end" }, &said(age, "below"));
     }
 }
 
-fn said(age: Age, what: &str) -> &str {
-    match (age, what) {
-        (Age::Old, _) => what,
-        (Age::New, "tie") => "tie, new",
-        (Age::New, _) => "below, new",
-        (Age::Refused, "tie") => "tie? refused",
-        (Age::Refused, _) => "below? refused",
+fn said(age: Age, what: &str) -> String {
+    match age {
+        Age::Old => what.into(),
+        Age::New => format!("{what}, new"),
+        Age::Refused => format!("{what}? refused"),
+        Age::Reason(row) => format!("{what}, row {row}"),
     }
 }
 
-fn legend(out: &mut String, y: i64) {
+fn legend(out: &mut String, y: i64, has_reasons: bool) {
+    let last = if has_reasons {
+        "Purple rows are the chain by which a load clashed, with their numbers. Red dashes are the request that it would have loaded."
+    } else {
+        "Orange is new since the last call. Red dashes are what a refused call would have added."
+    };
     let lines = [
         "A box is a request: a loader and a name. Boxes of one colour mean one class; a dashed box isn't loaded.",
         "A line is a tie. An arrow is a subtype constraint and goes from the lower name to the higher.",
-        "Orange is new since the last call. Red dashes are what a refused call would have added.",
+        last,
     ];
     for (place, line) in lines.iter().enumerate() {
         text(out, (LEFT, y + 18 * place as i64), "#555", "start", line);

@@ -18,4 +18,5 @@ pub mod svg;
 pub mod text;
 pub mod tokens;
 pub mod tried;
+pub mod why;
 pub mod words;

@@ -4,16 +4,16 @@ use reference::gen::Call;
 use reference::host::Told;
 use reference::Store;
 
-/// Makes the call on the store.
+/// Makes the call on the store, a try with this list.
 #[cfg(feature = "host")]
-pub fn make(call: &Call, store: &mut Store) -> Option<Told> {
+pub fn make(call: &Call, store: &mut Store, list: &mut [u16]) -> Option<Told> {
     let mut cells = [0; reference::host::CELLS];
-    let number = reference::host::make(call, store, &mut cells);
+    let number = reference::host::make(call, store, &mut cells, list);
     Some(Told { number, cells })
 }
 
 #[cfg(not(feature = "host"))]
-pub fn make(_: &Call, _: &mut Store) -> Option<Told> {
+pub fn make(_: &Call, _: &mut Store, _: &mut [u16]) -> Option<Told> {
     None
 }
 

@@ -16,7 +16,7 @@ use writer::script;
 use writer::source::{Problem, Source};
 use writer::words::counted;
 
-const USAGE: &str = "usage: writer play [--store] [--draw OUT] FILE | answers SCRIPT | list FILE | check FILE | asm FILE DIR
+const USAGE: &str = "usage: writer play [--store] [--draw OUT] FILE | why [--store] [--draw OUT] FILE | answers SCRIPT | list FILE | check FILE | asm FILE DIR
 ./box is the way to run it.";
 
 /// Why the program ends without success.
@@ -62,7 +62,8 @@ fn command(words: &[String]) -> Result<(), Failure> {
         ["check", file] => verdict(&input(file)?),
         ["asm", file, directory] => assemble(&input(file)?, Path::new(directory)),
         ["answers", file] => answers(file),
-        ["play", ref options @ .., file] => play(options, file),
+        ["play", ref options @ .., file] => play(options, file, false),
+        ["why", ref options @ .., file] => play(options, file, true),
         _ => Err(Failure::Usage(USAGE.into())),
     }
 }
@@ -140,11 +141,12 @@ fn answers(file: &str) -> Result<(), Failure> {
     print(&script::beside(&script, &String::from_utf8_lossy(&printed), &names_beside(file)))
 }
 
-fn play(mut options: &[&str], file: &str) -> Result<(), Failure> {
-    let (mut show, mut picture) = (Show::default(), None);
+/// What is to be shown, and where the picture goes.
+fn shown<'a>(mut options: &[&'a str], why: bool) -> Result<(Show, Option<&'a str>), Failure> {
+    let (mut show, mut picture) = (Show { why, ..Show::default() }, None);
     loop {
         options = match *options {
-            [] => break,
+            [] => return Ok((show, picture)),
             ["--store", ref rest @ ..] => {
                 show.store = true;
                 rest
@@ -156,6 +158,10 @@ fn play(mut options: &[&str], file: &str) -> Result<(), Failure> {
             _ => return Err(Failure::Usage(USAGE.into())),
         };
     }
+}
+
+fn play(options: &[&str], file: &str, why: bool) -> Result<(), Failure> {
+    let (show, picture) = shown(options, why)?;
     let source = Source::new(file, bytes(file)?)?;
     let lesson = if file.ends_with(".box") {
         script::lesson(&source, names_beside(file))
@@ -166,6 +172,9 @@ fn play(mut options: &[&str], file: &str) -> Result<(), Failure> {
         Err(error) if error.kind() == io::ErrorKind::BrokenPipe => return Ok(()),
         outcome => outcome?,
     };
+    if why && outcome.reasons == 0 {
+        print("no load clashed\n")?;
+    }
     if let Some(picture) = picture {
         fs::write(picture, outcome.strip.svg()).map_err(|error| Failure::Usage(format!("{picture}: {error}")))?;
         print(&format!("drawn: {picture}, {}\n", counted(outcome.strip.count(), "picture")))?;

@@ -14,6 +14,7 @@ use crate::machine;
 use crate::rows;
 use crate::source::{Problem, Source};
 use crate::tried::tried;
+use crate::why::why;
 use crate::words;
 
 /// What is shown besides calls and answers.
@@ -21,6 +22,8 @@ use crate::words;
 pub struct Show {
     pub store: bool,
     pub draw: bool,
+    /// Of each load that clashes, the chain of constraints; it alone is then drawn.
+    pub why: bool,
 }
 
 /// What came of a lesson.
@@ -30,6 +33,8 @@ pub struct Outcome {
     /// Answers that were as expected.
     pub met: usize,
     pub failed: usize,
+    /// Chains that were said.
+    pub reasons: usize,
     pub strip: Strip,
 }
 
@@ -62,9 +67,9 @@ struct Made {
 impl<'a> Play<'a> {
     /// Carries out the lesson on tables of zeros that are booted first, as boxscript does.
     pub fn run(source: &'a Source, lesson: &'a Lesson, show: Show, out: &'a mut dyn Write) -> io::Result<Outcome> {
-        let outcome = Outcome { store: Store::zeros(), calls: 0, met: 0, failed: 0, strip: Strip::default() };
+        let outcome = Outcome { store: Store::zeros(), calls: 0, met: 0, failed: 0, reasons: 0, strip: Strip::default() };
         let mut play = Play { source, lesson, show, out, outcome, last: Last::Nothing };
-        machine::make(&Call::Boot, &mut play.outcome.store)
+        machine::make(&Call::Boot, &mut play.outcome.store, &mut [])
             .ok_or_else(|| io::Error::other("this build has no machine; use ./box"))?;
         for act in &lesson.acts {
             match act {
@@ -160,9 +165,28 @@ impl<'a> Play<'a> {
         }
     }
 
+    /// Says by which chain a load clashed, and draws it.
+    fn say_why(&mut self, doing: &Doing, call: &Call, made: &mut Made) {
+        let names = &self.lesson.names;
+        match why(call, &self.outcome.store) {
+            None => {}
+            Some(Err(said)) => {
+                self.outcome.failed += 1;
+                made.problems.push(Problem::new(doing.span, said));
+            }
+            Some(Ok(why)) => {
+                self.outcome.reasons += 1;
+                made.reason.extend(why.lines(names).iter().map(|line| format!("        {line}\n")));
+                if self.show.draw {
+                    self.outcome.strip.add_reason(&format!("why {} clashes", doing.said), &why, names);
+                }
+            }
+        }
+    }
+
     fn call(&mut self, doing: &Doing, call: &Call, before: &Store, made: &mut Made) {
         let names = &self.lesson.names;
-        let Some(told) = machine::make(call, &mut self.outcome.store) else {
+        let Some(told) = machine::make(call, &mut self.outcome.store, &mut []) else {
             return;
         };
         let ran = rows::next_instruction(before, names);
@@ -181,8 +205,10 @@ impl<'a> Play<'a> {
             let text = self.lesson.texts.iter().find(|text| text.bytes == *file);
             made.reason = reason(file, names, text.map(|text| (text, self.source)));
         }
-        if self.show.draw {
-            self.draw(&doing.said, call, &told, before, &made.answer);
+        match (self.show.why, told.cells[1] == u32::from(word::CLASH)) {
+            (true, true) => self.say_why(doing, call, made),
+            (false, _) if self.show.draw => self.draw(&doing.said, call, &told, before, &made.answer),
+            _ => {}
         }
     }
 

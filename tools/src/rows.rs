@@ -80,11 +80,11 @@ fn rows(store: &Store, classes: &Classes, names: &Names) -> Vec<Row> {
     for (place, [loader, name, class]) in store.cache_rows().enumerate() {
         add("cache", place, format!("loader {loader} means class {class} by {}", names.class(name)));
     }
-    for (place, [one, other, name]) in store.tie_rows().enumerate() {
-        add("tie", place, format!("{} is one class under loaders {one} and {other}", names.class(name)));
+    for ((place, [one, other, name]), row) in store.tie_rows().enumerate().zip(store.tie_numbers()) {
+        add("tie", place, format!("{} is one class under loaders {one} and {other}, row {row}", names.class(name)));
     }
-    for (place, [loader, lower, higher]) in store.subtype_rows().enumerate() {
-        let says = format!("under loader {loader}, {} is below {}", names.class(lower), names.class(higher));
+    for ((place, [loader, lower, higher]), row) in store.subtype_rows().enumerate().zip(store.subtype_numbers()) {
+        let says = format!("under loader {loader}, {} is below {}, row {row}", names.class(lower), names.class(higher));
         add("subtype constraint", place, says);
     }
     for object in store.objects_in_use() {

@@ -8,12 +8,14 @@ pub enum Age {
     Old,
     New,
     Refused,
+    /// A row of a chain by which a load clashed, with its number.
+    Reason(u16),
 }
 
 /// The heads of the arrows, one for each age.
 pub fn heads() -> String {
     let mut out = String::from("<defs>\n");
-    for age in [Age::Old, Age::New, Age::Refused] {
+    for age in [Age::Old, Age::New, Age::Refused, Age::Reason(0)] {
         let _ = writeln!(
             out,
             "<marker id=\"{}\" viewBox=\"0 0 10 10\" refX=\"9\" refY=\"5\" markerUnits=\"userSpaceOnUse\" markerWidth=\"13\" \
@@ -31,6 +33,7 @@ impl Age {
             Age::Old => "#444",
             Age::New => "#d97706",
             Age::Refused => "#c00",
+            Age::Reason(_) => "#7c1fa0",
         }
     }
 
@@ -38,7 +41,7 @@ impl Age {
     pub fn stroke(self) -> String {
         let (width, dashes) = match self {
             Age::Old => ("1.5", ""),
-            Age::New => ("3", ""),
+            Age::New | Age::Reason(_) => ("3", ""),
             Age::Refused => ("3", " stroke-dasharray=\"7 4\""),
         };
         format!("stroke=\"{}\" stroke-width=\"{width}\"{dashes}", self.colour())
@@ -49,6 +52,7 @@ impl Age {
             Age::Old => "old",
             Age::New => "new",
             Age::Refused => "refused",
+            Age::Reason(_) => "reason",
         }
     }
 }

@@ -44,6 +44,10 @@ pub fn call(call: &Call, names: &Names) -> String {
         Call::Run { n } => format!("run {n}"),
         Call::Drop { task: number } => format!("drop {}", task(number)),
         Call::Sweep => "sweep".into(),
+        Call::TryDefine { .. } | Call::TryRecord { .. } => {
+            let load = reference::gen::Call::load(call);
+            format!("try: {}", load.map_or(String::new(), |load| self::call(&load, names)))
+        }
     }
 }
 

@@ -118,8 +118,10 @@ fn try_all(name: &str, bytes: Vec<u8>) {
                 if name.ends_with(".box") { Ok(script::lesson(&source, Names::default())) } else { Lesson::read(&source) };
             match lesson {
                 Ok(lesson) => {
-                    let outcome = Play::run(&source, &lesson, Show { store: true, draw: true }, &mut io::sink());
-                    drop(outcome.expect("a machine").strip.svg());
+                    for why in [false, true] {
+                        let outcome = Play::run(&source, &lesson, Show { store: true, draw: true, why }, &mut io::sink());
+                        drop(outcome.expect("a machine").strip.svg());
+                    }
                 }
                 Err(problem) => assert!(source.show(&problem).contains(" | ")),
             }

@@ -1,6 +1,6 @@
 -- The loader of the class that declares what getfield, putfield or invokevirtual names: an access names it beside its plan, and ties are posted between it
 -- and the frame class's loader.
-use mathlib.Core.Path.{_≡_, refl, sym, _∙_}
+use mathlib.Core.Path.{_≡_, sym}
 use mathlib.Core.Option.{Option, none, some, Option·none-ne-some, Option·some-injective}
 use Prim.Native.Nat.{ℕ}
 use Rattle.definition.specs.Maybe.{_>>=_}

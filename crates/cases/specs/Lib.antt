@@ -4,3 +4,4 @@ pub mod Computed
 pub mod Proved
 pub mod Sweeps
 pub mod Branches
+pub mod Tried

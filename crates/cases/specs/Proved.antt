@@ -16,7 +16,7 @@ use Rattle.definition.specs.Calls.{turn, bootRows, boot, perform}
 use Rattle.definition.specs.Computing.OnRows.{performRows, performAllRows}
 use Rattle.definition.specs.Script.{Line, readLine, printedLine, turned, carryOut, script, linesOf, boxscript}
 use Rattle.laws.specs.Refused.{refusal, refused-same}
-use Rattle.layout.specs.Tests.{All, is-some}
+use Rattle.layout.specs.Tests.{is-some}
 use Rattle.unbroken.specs.Steps.{all-nth}
 use Rattle.unbroken.specs.OnRows.{Same, Shows, accepted-shaped, same-boot, same-booted, same-perform, OneStep, rows-same}
 use Rattle.cases.specs.Cases.{Case, table, numbersFrom, beforeLast, answered, afterLast, Right, preparedBy, accepted, input, output}

@@ -2,8 +2,7 @@
 -- objects can be linked.
 use mathlib.Core.Path.{_≡_, refl, ap, _∙_}
 use mathlib.Core.Bool.{true, false}
-use mathlib.Core.Option.{none, some}
-use mathlib.Core.List.{List, [], _∷_, _++_, map}
+use mathlib.Core.List.{List, [], _∷_, _++_}
 use mathlib.Core.Logic.{inl, inr}
 use Prim.Native.Nat.{ℕ, zero, suc}
 use lib.ListN.{length}
@@ -25,12 +24,10 @@ use Rattle.definition.specs.Loading.{subtypeIs, newSubtypes, overrideTie, overr
 use Rattle.definition.specs.Sweeping.{named, roots, linksFrom, reached, sweptFrom, freedFrom}
 use Rattle.definition.specs.Tables.{Tables, Rows, withObjects, fileAt, classAt}
 use Rattle.definition.specs.declared.Reply.the-variants.{Accepted}
-use Rattle.definition.specs.Calls.{boot, Call, callDefine, callStart, callRun, callDrop, callSweep, turn, turnOf, bootRows, defineRows, recordRows, startRows, dropRows, sweepRows, answerOf, stepTask, stepOn, stepRows}
+use Rattle.definition.specs.Calls.{boot, Call, callDefine, callStart, callRun, callDrop, callSweep, turn, turnOf, defineRows, recordRows, startRows, dropRows, sweepRows, answerOf, stepTask, stepOn, stepRows}
 use Rattle.definition.specs.Computing.OnRows.{settle, onRows, runRows, performRows, performAllRows}
 use Rattle.definition.specs.Computing.Samples.{fileF, two, method, fileOf, plain, taker, coded, lifts, pushes, ready, tied12, tied123}
-use Rattle.layout.specs.Tests.{All}
 use Rattle.laws.specs.Sweeps.{none-freed}
-use Rattle.unbroken.specs.OnRows.{OneStep}
 use Rattle.cases.specs.Cases.{Case, case, line, fine, no, numbersFrom, accepted, Right}
 use Rattle.cases.specs.Computed.{rowsBefore, rowsAfter, answeredRows, size, same, other, Computed}
 use Rattle.cases.specs.Proved.{right}

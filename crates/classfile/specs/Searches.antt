@@ -13,7 +13,7 @@ use borrow.Author.Tests.{lt-ltb, le-ltb, eq-eqb, le-leb, lt-leb}
 use Rattle.definition.specs.Lists.{any, indexOf, isSome}
 use Rattle.definition.specs.Maybe.{_>>=_, need}
 use Rattle.definition.specs.Classes.{Base, Class, Field, Method, Slot, slotIs, ownSlots, hasField, methodsOf}
-use Rattle.definition.specs.File.{File, byte, readFile}
+use Rattle.definition.specs.File.{readFile}
 use Rattle.definition.specs.Tables.{ClassRow, fileAt}
 use Rattle.layout.specs.Places.{rows-at, rows-past}
 use Rattle.layout.specs.ReadBack.{empty-file}

@@ -12,7 +12,7 @@ use lib.Dec.{eqb, leb}
 use borrow.Author.Tests.{leb-true, eqb-true, le-leb, eq-eqb}
 use Rattle.definition.specs.Lists.{rows}
 use Rattle.definition.specs.Maybe.{_>>=_, need}
-use Rattle.definition.specs.Classes.{Map, Method, isNamed}
+use Rattle.definition.specs.Classes.{Map, isNamed}
 use Rattle.definition.specs.Instructions.{pick, shortAt, signatureAt}
 use Rattle.definition.specs.File.{Got, byte, short, name, count, fieldsIn, signatureIn, namesIn, mapIn, mapsFrom, mapsIn, methodsIn, ends}
 use Rattle.classfile.specs.Lists.{le-or-lt, _and_, Each, each-more, each-rest}

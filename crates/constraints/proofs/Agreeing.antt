@@ -2,11 +2,10 @@
 -- if a request of the one leads to a request of the other, and a cached request means the class of the first row with its node.
 use mathlib.Core.Path.{_≡_, refl, sym, ap, _∙_}
 use mathlib.Core.Bool.{Bool}
-use mathlib.Core.Option.{Option, some}
+use mathlib.Core.Option.{Option}
 use mathlib.Core.List.{List, _++_, List·Memᴰ, Memᴰ·append-left, Memᴰ·append-right, List·Memᴰ·append-cases}
 use mathlib.Core.Logic.{_⊎_, inl, inr}
-use Prim.Native.Nat.{ℕ, _+_, _*_, _<_, _/_, _%_}
-use native.Mathlib.Nat.{add-zero}
+use Prim.Native.Nat.{ℕ, _+_, _<_}
 use native.Mathlib.Omega.{arith}
 use lib.ListN.{getD}
 use lib.Dec.{eqb}
@@ -14,41 +13,19 @@ use borrow.Author.Tests.{eqb-true, eq-eqb}
 use Rattle.definition.specs.Lists.{rows, all}
 use Rattle.definition.specs.Chains.{Edge, Chain, stay, hop, has, leads, reach}
 use Rattle.definition.specs.Requests.{Request, at, sameRequest}
-use Rattle.definition.specs.Classes.{Entry, find}
+use Rattle.definition.specs.Classes.{Entry}
 use Rattle.definition.specs.Constraints.{Subtype, tieEdges, subtypeEdges, pairAgrees, rowAgrees, agreesOver}
 use Rattle.definition.specs.Tables.{entryAt, tieAt, subtypeAt}
 use Rattle.laws.specs.Chains.{requests, leads-chain, chain-leads, chain-join, chain-more}
 use Rattle.layout.specs.Tests.{same-test}
-use Rattle.constraints.specs.Nodes.{requestOf, requestIn, AllNumbered, First, NodesOf, ClassesOf}
+use Rattle.constraints.specs.Nodes.{requestOf, AllNumbered, NodesOf, ClassesOf}
 use Rattle.constraints.specs.Groups.{Tied, same, node, tie, back, on, GroupsOf}
 use Rattle.constraints.specs.Search.{startOf, endOf, linkOf, linksOf, leadsOn}
 use Rattle.constraints.specs.Pairs.{pairIs, pairOn, agreeOn}
-use Rattle.constraints.proofs.Rows.{Order, less, equal, more, order, in-rows, rows-in, all-same}
+use Rattle.constraints.proofs.Rows.{in-rows, rows-in, all-same}
 use Rattle.constraints.proofs.Renaming.{Carried, carried}
-use Rattle.constraints.proofs.Edges.{edge-at, forward, turned, upward, forward-in, turned-in, upward-in, OfTie, of-tie, OfSubtype, of-subtype, find-at}
-
--- Numbers and first places
-
-number-eq : (x y : ℕ) → requestOf x ≡ requestOf y → x ≡ y
-unfolding requestOf
-number-eq x y e =
-    let l : x / 65536 ≡ y / 65536 = ap (λ (r : Request). r .loader) e in
-    let n : x % 65536 ≡ y % 65536 = ap (λ (r : Request). r .name) e in
-    omega arith
-
--- places of one number have one first place
-first-unique : {numbers : List ℕ} {p q r s : ℕ} → getD numbers p 0 ≡ getD numbers q 0 → First numbers p r → First numbers q s → r ≡ s
-first-unique {numbers} {p} {q} {r} {s} e f g = go (order r s)
-  where
-    go : Order r s → r ≡ s
-    go (less h) = absurd (g .none r h (f .same ∙ e))
-    go (equal h) = h
-    go (more h) = absurd (f .none s h (g .same ∙ sym e))
-
--- cell 0 of a row
-first-cell : (t : List ℕ) (name i : ℕ) → requestIn t 0 name i ≡ at (getD t (i * 3) 0) (getD t (i * 3 + name) 0)
-unfolding requestIn
-first-cell t name i = ap (λ (x : ℕ). at (getD t x 0) (getD t (i * 3 + name) 0)) (add-zero (i * 3))
+use Rattle.constraints.proofs.Edges.{edge-at, forward, turned, upward, forward-in, turned-in, upward-in, OfTie, of-tie, OfSubtype, of-subtype}
+use Rattle.constraints.proofs.Named.{number-eq, first-unique, low-at, high-at, one-at, two-at, cached-at, found}
 
 -- A store as groups
 
@@ -79,24 +56,6 @@ module _ (cache : List ℕ) (n : ℕ) (ties : List ℕ) (tied : ℕ) (subtypes :
   abbrev theLinks : List (Edge Request)
   theLinks = linksOf groups n noted
 
-  -- the names of the constraints' places
-
-  low-at : (i : ℕ) → i < noted → named (n + i) ≡ upward (subtypeAt subtypes i) .from
-  unfolding subtypeAt
-  low-at i h = put .lowPut i h ∙ first-cell subtypes 1 i
-
-  high-at : (i : ℕ) → i < noted → named (n + noted + i) ≡ upward (subtypeAt subtypes i) .to
-  unfolding subtypeAt
-  high-at i h = put .highPut i h ∙ first-cell subtypes 2 i
-
-  one-at : (i : ℕ) → i < tied → named (ones + i) ≡ forward (tieAt ties i) .from
-  unfolding tieAt
-  one-at i h = put .onePut i h ∙ first-cell ties 2 i
-
-  two-at : (i : ℕ) → i < tied → named (ones + tied + i) ≡ forward (tieAt ties i) .to
-  unfolding tieAt requestIn
-  two-at i h = put .twoPut i h
-
   -- tied places are those whose requests ties join
 
   tied-chains : {p q : ℕ} → Joint p q → Chain theTies (named p) (named q) × Chain theTies (named q) (named p)
@@ -104,8 +63,8 @@ module _ (cache : List ℕ) (n : ℕ) (ties : List ℕ) (tied : ℕ) (subtypes :
   tied-chains {p} {q} (node h e) =
       let z : named q ≡ named p = ap (λ (x : ℕ). named x) e ∙ ap (λ (x : ℕ). requestOf x) (isNode p h .same) in (stay (sym z), stay z)
   tied-chains {p} {q} (tie i h e f) =
-      let a : named p ≡ forward (tieAt ties i) .from = ap (λ (x : ℕ). named x) e ∙ one-at i h in
-      let b : named q ≡ forward (tieAt ties i) .to = ap (λ (x : ℕ). named x) f ∙ two-at i h in
+      let a : named p ≡ forward (tieAt ties i) .from = ap (λ (x : ℕ). named x) e ∙ one-at put i h in
+      let b : named q ≡ forward (tieAt ties i) .to = ap (λ (x : ℕ). named x) f ∙ two-at put i h in
       let m = in-rows (tieAt ties) tied 0 i (omega arith) (omega arith) in
       (hop (stay refl) (edge-at a b (forward-in m)), hop (stay refl) (edge-at b a (turned-in m)))
   tied-chains (back t) = let c = tied-chains t in (c .1, c .0)
@@ -124,8 +83,8 @@ module _ (cache : List ℕ) (n : ℕ) (ties : List ℕ) (tied : ℕ) (subtypes :
         end = ones + tied + i;
         startFits = omega arith;
         endFits = omega arith;
-        from = ap (λ (x : Edge Request). x .from) e ∙ sym (one-at i h);
-        to = ap (λ (x : Edge Request). x .to) e ∙ sym (two-at i h);
+        from = ap (λ (x : Edge Request). x .from) e ∙ sym (one-at put i h);
+        to = ap (λ (x : Edge Request). x .to) e ∙ sym (two-at put i h);
         related = tie i h refl refl;
       }
       way i h (inr e) = record {
@@ -133,8 +92,8 @@ module _ (cache : List ℕ) (n : ℕ) (ties : List ℕ) (tied : ℕ) (subtypes :
         end = ones + i;
         startFits = omega arith;
         endFits = omega arith;
-        from = ap (λ (x : Edge Request). x .from) e ∙ sym (two-at i h);
-        to = ap (λ (x : Edge Request). x .to) e ∙ sym (one-at i h);
+        from = ap (λ (x : Edge Request). x .from) e ∙ sym (two-at put i h);
+        to = ap (λ (x : Edge Request). x .to) e ∙ sym (one-at put i h);
         related = back (tie i h refl refl);
       }
 
@@ -183,8 +142,8 @@ module _ (cache : List ℕ) (n : ℕ) (ties : List ℕ) (tied : ℕ) (subtypes :
         end = n + noted + i;
         startFits = omega arith;
         endFits = omega arith;
-        from = ap (λ (x : Edge Request). x .from) e ∙ sym (low-at i h);
-        to = ap (λ (x : Edge Request). x .to) e ∙ sym (high-at i h);
+        from = ap (λ (x : Edge Request). x .from) e ∙ sym (low-at put i h);
+        to = ap (λ (x : Edge Request). x .to) e ∙ sym (high-at put i h);
         related = link-of i h;
       }
 
@@ -211,7 +170,7 @@ module _ (cache : List ℕ) (n : ℕ) (ties : List ℕ) (tied : ℕ) (subtypes :
         endFits = omega arith;
         from = ap (λ (x : Edge Request). x .from) (p .is);
         to = ap (λ (x : Edge Request). x .to) (p .is);
-        related = hop (stay refl) (Memᴰ·append-right theTies (edge-at (low-at (p .number) h) (high-at (p .number) h)
+        related = hop (stay refl) (Memᴰ·append-right theTies (edge-at (low-at put (p .number) h) (high-at put (p .number) h)
             (upward-in (in-rows (subtypeAt subtypes) noted 0 (p .number) (omega arith) (omega arith)))));
       }
 
@@ -226,32 +185,12 @@ module _ (cache : List ℕ) (n : ℕ) (ties : List ℕ) (tied : ℕ) (subtypes :
       (λ q. chain-leads requests (theTies ++ theSubtypes) (named a) (named b)
       (carried grouped Leading places theLinks group-leading (λ p q r. chain-join) link-back a b h k (leads-chain requests theLinks (grouped a) (grouped b) q)))
 
-  -- what a cached request means
-
-  cached-at : (i : ℕ) → i < n → named i ≡ entryAt cache i .request
-  unfolding entryAt
-  cached-at i h = let e : 0 + i ≡ i = omega arith in rw e at (put .cachePut i h ∙ first-cell cache 1 i)
-
-  class-of : (i : ℕ) → i < n → entryAt cache (getD nodes i 0) .class ≡ getD classes i 0
-  unfolding entryAt
-  class-of i h = sym (isClass i h)
-
-  found : (i : ℕ) → i < n → find (rows (entryAt cache) n 0) (entryAt cache i .request) ≡ some (getD classes i 0)
-  found i h =
-      let f = isNode i (omega arith) in
-      let k : getD nodes i 0 < n = omega (arith, f .low) in
-      let same : entryAt cache (getD nodes i 0) .request ≡ entryAt cache i .request = sym (cached-at (getD nodes i 0) k)
-      ∙ ap (λ (x : ℕ). requestOf x) (f .same) ∙ cached-at i h in
-      find-at cache (entryAt cache i .request) n 0 (getD nodes i 0) (omega arith) (omega arith) same
-      (λ j _ m q. f .none j m (number-eq (getD numbers j 0) (getD numbers i 0) (cached-at j (omega arith) ∙ q ∙ sym (cached-at i h))))
-      ∙ ap (λ (x : ℕ). some x) (class-of i h)
-
   -- agreement
 
   row-same : (E : List (Edge Request)) (f : ℕ → ℕ → Bool) → ((a b : ℕ) → a < places → b < places → leads sameRequest E (named a) (named b) ≡ f a b)
       → (a b : ℕ) → a < n → b < n → has sameRequest (entryAt cache b .request) (reach sameRequest E (entryAt cache a .request)) ≡ f a b
   unfolding leads
-  row-same E f e a b h k = rw (cached-at a h, cached-at b k) at (e a b (omega arith) (omega arith))
+  row-same E f e a b h k = rw (cached-at put a h, cached-at put b k) at (e a b (omega arith) (omega arith))
 
   module _ (sup : ℕ → Option ℕ) where
     abbrev theCache : List Entry
@@ -263,7 +202,7 @@ module _ (cache : List ℕ) (n : ℕ) (ties : List ℕ) (tied : ℕ) (subtypes :
         ≡ pairOn sup groups classes n noted a b
     unfolding pairAgrees pairOn pairIs
     pair-same a b h k =
-        rw (found b k, pairAgrees)
+        rw (found put nodes classes isNode isClass b k, pairAgrees)
         (ap (λ (t : Bool). pairIs sup t (has sameRequest (entryAt cache b .request) (reach sameRequest (theTies ++ theSubtypes) (entryAt cache a .request)))
         (getD classes a 0) (getD classes b 0))
         (row-same theTies (λ p q. eqb (getD groups p 0) (getD groups q 0)) tied-same a b h k)
@@ -275,7 +214,7 @@ module _ (cache : List ℕ) (n : ℕ) (ties : List ℕ) (tied : ℕ) (subtypes :
         ≡ all (pairOn sup groups classes n noted a) (rows (λ i. i) n 0)
     unfolding rowAgrees
     class-same a h =
-        rw (found a h, rowAgrees)
+        rw (found put nodes classes isNode isClass a h, rowAgrees)
         (all-same
         (λ f. pairAgrees sup theCache (getD classes a 0) (reach sameRequest theTies (entryAt cache a .request))
         (reach sameRequest (theTies ++ theSubtypes) (entryAt cache a .request)) (f .request))

@@ -6,5 +6,8 @@ pub mod Groups
 pub mod Search
 pub mod Upward
 pub mod Pairs
+pub mod Walks
+pub mod Choosing
+pub mod Linking
 pub mod Posting
 pub mod Laws

@@ -1,4 +1,4 @@
-// Posting ties and subtype constraints, and the test of agreement.
+// Posting ties and subtype constraints, the test of agreement, and why it fails.
 mod posting; // posting.rt: rows added to the tables of ties and of subtype constraints
 mod joining; // joining.rt: places joined into lists by a key
 mod numbering; // numbering.rt: the requests of a store as numbers and as nodes
@@ -6,9 +6,17 @@ mod grouping; // grouping.rt: groups of tied requests
 mod search; // search.rt: the search from a cached request, over groups
 mod upward; // upward.rt: the classes above a class
 mod agreement; // agreement.rt: the test of agreement
+mod numbers; // numbers.rt: the numbers of rows
+mod linking; // linking.rt: the links of rows between nodes
+mod layers; // layers.rt: the search backward from where walks end
+mod choosing; // choosing.rt: the best of the chains found
+mod singles; // singles.rt: rows that break agreement by themselves
+mod reasons; // reasons.rt: why a store doesn't agree
 
 pub use agreement::agree;
+pub use numbers::numbers_fit;
 pub use posting::add_tie;
 pub use posting::post_note;
 pub use posting::subtype_known;
 pub use posting::tie_known;
+pub use reasons::reason;

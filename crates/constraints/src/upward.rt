@@ -12,7 +12,7 @@ ghost use Rattle.constraints.specs.Upward.{classOf, Raised};
 ghost use Rattle.definition.specs.Numbers.{byteRange};
 
 // One more than the number of the class directly above a class, 0 if there is none.
-fn above(supers: &[u8], class: usize) -> usize
+pub(crate) fn above(supers: &[u8], class: usize) -> usize
     ensures { λ r. ⌜ (superIn (now (supers .entry)) class ≡ classOf r) × (r ≤ class) × (r < byteRange) ⌝ }
 {
     let up = wide8(at8(supers, class));

@@ -1,20 +1,21 @@
 -- The constraints of a new class, posted to copies of the tables: what the copies hold, and what is decided.
 use mathlib.Core.Path.{_≡_, refl, sym, ap, _∙_}
 use mathlib.Core.Bool.{Bool, true, false, false≢true}
+use mathlib.Core.Option.{some}
 use mathlib.Core.List.{List, [], _∷_, _++_}
 use Prim.Native.Nat.{ℕ, suc, _+_, _*_, _-_, _≤_, _<_}
 use native.Mathlib.Omega.{arith}
 use lib.ListN.{length, getD, set, take, drop, length-append, length-take, List·getD-append, length-set}
-use lib.Seq.{set-out, take-set-le, take-set-lt, take-at, take-all}
+use lib.Seq.{set-out, take-set-le, take-set-lt, take-at}
 use lib.Dec.{leb, ltb}
 use borrow.Author.Tests.{leb-true, leb-false, ltb-true, ltb-false, le-leb}
 use Rattle.definition.specs.declared.Refusal.the-variants.{Word}
 use Rattle.definition.specs.Lists.{every, rows, writeRows}
 use Rattle.definition.specs.Requests.{at}
-use Rattle.definition.specs.Classes.{Base, Class, slots}
+use Rattle.definition.specs.Classes.{Base, Class, find, slots}
 use Rattle.definition.specs.Constraints.{World, Tie, Subtype, agrees}
 use Rattle.definition.specs.Verifier.{Note}
-use Rattle.definition.specs.Answers.{Result, refused, ok, _>>=_, need}
+use Rattle.definition.specs.Answers.{Result, refused, _>>=_, need}
 use Rattle.definition.specs.Loading.{overrideTies, withClass}
 use Rattle.definition.specs.File.{classOf}
 use Rattle.definition.specs.Tables.{tieAt, putTie, subtypeAt, putSubtype, entryAt, classRowAt}
@@ -27,7 +28,7 @@ use Rattle.constraints.specs.Posting.{newSubtypesIn, subtypesAfter, Noted, note
 use Rattle.constraints.specs.Laws.{Posts, posts}
 use Rattle.entries.specs.World.{worldIn, world, baseWith, Loadable}
 use Rattle.defining.specs.Posting.{TiesPosted, NotesPosted}
-use Rattle.defining.specs.Stages.{postedFor, roomFor, classTies, newNotes, Adding}
+use Rattle.defining.specs.Stages.{postedFor, roomFor, classTies, newNotes, placedAfter, Adding, Clashing}
 
 -- Copies
 
@@ -255,9 +256,20 @@ module _ (counts classes kept cache ties subtypes : List ℕ) (ld : Loadable cou
         copies : world (baseWith b k) (rows (tieAt u) tied 0) (rows (subtypeAt v) n 0) ≡ withClass w k us (ss ns)
         copies = λ i. world (baseWith b k) (tm .after (room-there .2) i) (subtypes-after v n ns e h i)
 
-        pub posted-clash : agrees (world (baseWith b k) (rows (tieAt u) tied 0) (rows (subtypeAt v) n 0)) ≡ false → refused (Word 9) ≡ whole ns
-        unfolding postedFor need _>>=_
-        posted-clash q = rw (limits-pass, ap agrees (sym copies) ∙ q)
+        pub posted-clash : find (b .cache) (at (k .loader) (k .super)) ≡ some p → agrees (world (baseWith b k) (rows (tieAt u) tied 0) (rows (subtypeAt v) n 0)) ≡ false
+            → Clashing (whole ns) (placedAfter k w ns) w k counts u v l p tied n
+        unfolding postedFor placedAfter need _>>=_
+        posted-clash s q =
+            let there : placedAfter k w ns ≡ some (withClass w k us (ss ns)) = rw (s, placedAfter) refl in
+            record {
+              loader = refl;
+              whole = rw (limits-pass, ap agrees (sym copies) ∙ q);
+              after = there ∙ ap some (sym copies);
+              super = s;
+              classRoom = room-there .0;
+              entryRoom = room-there .1;
+              grown = record { ties = omega (arith, tm .count); tiesFew = room-there .2; subtypes = omega (arith, noted-is v n ns e h); subtypesFew = h };
+            }
 
         pub posted-fine : agrees (world (baseWith b k) (rows (tieAt u) tied 0) (rows (subtypeAt v) n 0)) ≡ true → Adding (whole ns) w k counts ties subtypes u v l tied n
         unfolding postedFor need _>>=_

@@ -1,11 +1,10 @@
 -- define, test by test: what each refusal says of the definition.
-use mathlib.Core.Path.{_≡_, refl, sym, ap, _∙_}
+use mathlib.Core.Path.{_≡_, refl, sym, ap, subst, _∙_}
 use mathlib.Core.Bool.{Bool, true, false, not, true≢false}
 use mathlib.Core.Option.{Option, none, some}
 use mathlib.Core.List.{List}
 use Prim.Native.Nat.{ℕ, _≤_, _<_}
 use native.Mathlib.Omega.{arith}
-use lib.ListN.{length}
 use Rattle.definition.specs.declared.Signature.{Signature}
 use Rattle.definition.specs.declared.Refusal.{Refusal}
 use Rattle.definition.specs.declared.Refusal.the-variants.{Wanted, Word}
@@ -14,10 +13,14 @@ use Rattle.definition.specs.Lists.{any, isNone, isSome}
 use Rattle.definition.specs.Requests.{at}
 use Rattle.definition.specs.Classes.{Base, Class, find}
 use Rattle.definition.specs.Constraints.{World}
-use Rattle.definition.specs.Verifier.{Note}
+use Rattle.definition.specs.Verifier.{Note, notesOf}
 use Rattle.definition.specs.File.{File, readFile, classOf}
-use Rattle.definition.specs.Answers.{wanted, Result, refused, ok, _>>=_, need, take?}
-use Rattle.definition.specs.Loading.{hides}
+use Rattle.definition.specs.Answers.{wanted, Result, refused, ok, number, _>>=_, need, take?}
+use Rattle.definition.specs.Maybe as maybe
+use Rattle.definition.specs.Loading.{hides, define, withClass}
+use Rattle.definition.specs.Reasons.{afterDefine}
+use Rattle.laws.specs.Options.{bind-at}
+use Rattle.laws.specs.Refusals.{Refuses, on-test, on-take}
 use Rattle.laws.specs.Results.{bind-ok, ok-inj, take-ok}
 use Rattle.classfile.specs.declared.MethodFound.{MethodFound}
 use Rattle.classfile.specs.Reading.{fileVersion, methodCount, methodPlace, methodIn, methodAt, methodFound, numbered, quickMethods, quickFile}
@@ -29,7 +32,7 @@ use Rattle.verifier.proofs.PostingLaws.{answer-says}
 use Rattle.verifier.proofs.ClassLaws.{class-says, unmapped-says}
 use Rattle.constraints.specs.Posting.{Noted}
 use Rattle.defining.specs.declared.constraining.Defining.{Defining}
-use Rattle.defining.specs.Stages.{superFor, postedFor, placedFor, definedFrom, define-stages, Decided}
+use Rattle.defining.specs.Stages.{superFor, postedFor, placedFor, classTies, newNotes, placedAfter, definedFrom, define-stages, Decided}
 
 -- The superclass
 
@@ -78,6 +81,11 @@ module _ (bs : List ℕ) (j : ℕ) (h : j < methodCount bs) (r : MethodFound) (e
 
 -- The stages joined
 
+bind-elim : {A B : Type 0} (o : Option A) (f : A → B) → maybe._>>=_ o (λ p. some (f p)) ≡ elim o as (λ _. Option B) [ none ↦ none | some p ↦ some (f p) ]
+unfolding maybe._>>=_
+bind-elim none f = refl
+bind-elim (some p) f = refl
+
 pub super-cached : (k : Class) (b : Base) (p : ℕ) → ok p ≡ superFor k b → find (b .cache) (at (k .loader) (k .super)) ≡ some p
 unfolding superFor
 super-cached k b p h =
@@ -85,6 +93,17 @@ super-cached k b p h =
     let y = bind-ok _ _ (x .2) in
     let z = bind-ok _ _ (y .2) in
     take-ok (find (b .cache) (at (k .loader) (k .super))) (wanted (at (k .loader) (k .super))) (y .1) ∙ ap some (ok-inj (z .2))
+
+-- no refusal of the superclass is a clash
+pub super-words : (k : Class) (b : Base) (r : Refusal) → refused r ≡ superFor k b → number r ≡ 9 → ⊥
+unfolding superFor number
+super-words k b r h = subst (λ (o : Result ℕ). Refuses P o) (sym h)
+    (on-test P (isNone (find (b .cache) (at (k .loader) (k .name)))) (Word 4) _ (λ _ z. omega arith)
+    (λ _. on-take P (find (b .cache) (at (k .loader) (k .super))) (wanted (at (k .loader) (k .super))) _ (λ _ z. omega arith)
+    (λ p _. on-test P (not (any (hides b p) (k .fields))) (Word 8) (λ _. ok p) (λ _ z. omega arith) (λ _. tt))))
+  where
+    P : Refusal → Type 0
+    P w = number w ≡ 9 → ⊥
 
 module _ (room : Bool) (k : Class) (w : World) (ns : List Note) where
   pub placed-refused : (r : Refusal) → refused r ≡ superFor k (w .base) → refused r ≡ placedFor room k w ns
@@ -96,10 +115,20 @@ module _ (room : Bool) (k : Class) (w : World) (ns : List Note) where
   placed-below p h = rw (sym h)
 
 -- a decision means the same of equal results
-pub decided-same : (d : Defining) {o q : Result World} (n t s u v : List ℕ) (w : World) (k : Class) → o ≡ q → Decided d o n t s u v w k → Decided d q n t s u v w k
+pub decided-same : (d : Defining) {o q : Result World} {a b : Option World} (n t s u v : List ℕ) (w : World) (k : Class) → o ≡ q → a ≡ b → Decided d o a n t s u v w k
+    → Decided d q b n t s u v w k
 unfolding Decided
-decided-same (Defining.Refuse r) n t s u v w k e h = h ∙ e
-decided-same (Defining.Add l i j) n t s u v w k e h = record {
+decided-same (Defining.Refuse r) n t s u v w k e f h = (h .0 ∙ e, h .1)
+decided-same (Defining.Clash l p i j) n t s u v w k e f h = record {
+  loader = h .loader;
+  whole = h .whole ∙ e;
+  after = sym f ∙ h .after;
+  super = h .super;
+  classRoom = h .classRoom;
+  entryRoom = h .entryRoom;
+  grown = h .grown;
+}
+decided-same (Defining.Add l i j) n t s u v w k e f h = record {
   loader = h .loader;
   ties = h .ties;
   subtypes = h .subtypes;
@@ -152,3 +181,28 @@ module _ (l : ℕ) (bs : List ℕ) (room : Bool) (w : World) where
         pub verified-as : a ≡ true → placedFor room (classOf l (quickFile bs)) w (classTrace bs .notes) ≡ definedFrom l bs room w
         unfolding need take? granted _>>=_
         verified-as q = sym (stages ∙ rw (u, answer-says l (classTrace bs) k r a v, q) refl)
+
+        -- the store that it would leave
+        pub after-as : a ≡ true → placedAfter (classOf l (quickFile bs)) w (classTrace bs .notes) ≡ afterDefine l bs w
+        unfolding afterDefine placedAfter granted quickFile
+        after-as q = sym
+            (bind-at (readFile bs) _ (quickFile bs) read
+            ∙ (bind-at (notesOf (classOf l (quickFile bs)) (quickMethods bs)) _ (classTrace bs .notes) (class-says l bs (quickFile bs) read ∙ rw (answer-says l (classTrace bs) k r a v, q) refl)
+            ∙ bind-elim (find (w .base .cache) (at l (quickFile bs .super)))
+            (λ p. withClass w (classOf l (quickFile bs)) (classTies (classOf l (quickFile bs)) w p) (newNotes (classOf l (quickFile bs)) w (classTrace bs .notes)))))
+
+-- with a loader that is there, no refusal is 3
+
+abbrev NotThree : Refusal → Type 0
+NotThree x = number x ≡ 3 → ⊥
+
+class-known : (room : Bool) (k : Class) (w : World) → Refuses NotThree (define room k w)
+unfolding define number
+class-known room k w =
+    on-test NotThree _ (Word 15) _ (λ _ z. omega arith) (λ _. on-take NotThree _ (Word 6) _ (λ _ z. omega arith) (λ ns _. on-test NotThree _ (Word 4) _ (λ _ z. omega arith)
+    (λ _. on-take NotThree _ (wanted (at (k .loader) (k .super))) _ (λ _ z. omega arith) (λ p _. on-test NotThree _ (Word 8) _ (λ _ z. omega arith)
+    (λ _. on-test NotThree _ (Word 10) _ (λ _ z. omega arith) (λ _. on-test NotThree _ (Word 9) _ (λ _ z. omega arith) (λ _. tt)))))))
+
+pub loader-known : (l : ℕ) (bs : List ℕ) (room : Bool) (w : World) → l < 16 → Refuses NotThree (definedFrom l bs room w)
+unfolding definedFrom need _>>=_ number
+loader-known l bs room w h = rw (lt-ltb l 16 h) (on-take NotThree (readFile bs) (Word 2) _ (λ _ z. omega arith) (λ f _. class-known room (classOf l f) w))

@@ -3,22 +3,25 @@ use mathlib.Core.Path.{_≡_, refl, ap}
 use mathlib.Core.Bool.{Bool, true, false, not}
 use mathlib.Core.Option.{Option, none, some}
 use mathlib.Core.List.{List, [], _∷_, _++_}
-use Prim.Native.Nat.{ℕ, _+_, _≤_}
-use lib.ListN.{length, getD, take}
+use Prim.Native.Nat.{ℕ, _+_, _<_, _≤_}
+use lib.ListN.{length, getD, set, take}
 use lib.Dec.{leb, ltb}
-use Rattle.definition.specs.Tables.{putTie, putSubtype}
-use Rattle.definition.specs.Lists.{every, any, isNone, writeRows}
+use Rattle.definition.specs.Tables.{tieAt, putTie, subtypeAt, putSubtype}
+use Rattle.definition.specs.Lists.{every, any, isNone, rows, writeRows}
 use Rattle.definition.specs.Requests.{at}
 use Rattle.definition.specs.Classes.{Base, Class, find, slots}
 use Rattle.definition.specs.Constraints.{World, Tie, Subtype, agrees}
 use Rattle.definition.specs.Verifier.{Note, unmapped, notesOf}
 use Rattle.definition.specs.declared.Refusal.the-variants.{Word}
-use Rattle.definition.specs.Answers.{wanted, Result, refused, ok, _>>=_, need, take?}
+use Rattle.definition.specs.Answers.{wanted, Result, refused, ok, number, _>>=_, need, take?}
 use Rattle.definition.specs.File.{readFile, classOf}
 use Rattle.definition.specs.Loading.{hides, overrideTies, newSubtypes, withClass, define}
-use Rattle.classfile.specs.Reading.{fieldCount}
+use Rattle.classfile.specs.Reading.{className, fieldCount}
+use Rattle.entries.specs.World.{world, baseWith}
+use Rattle.entries.specs.Entering.{Tried}
 use Rattle.defining.specs.declared.superclasses.Above.{Above}
 use Rattle.defining.specs.declared.constraining.Defining.{Defining}
+use Rattle.defining.specs.Writing.{Grown}
 
 -- define: the direct superclass. Refusals: 4 5 8
 unfoldable pub superFor : Class → Base → Result ℕ
@@ -91,8 +94,18 @@ placedFor room k w ns = superFor k (w .base) >>= λ p. postedFor room k w ns p
 unfoldable pub definedFrom : ℕ → List ℕ → Bool → World → Result World
 definedFrom l bs room w = need (ltb l 16) (Word 3) >>= λ _. take? (readFile bs) (Word 2) >>= λ f. define room (classOf l f) w
 
+-- the store with the class and its constraints, whether it agrees or not
+unfoldable pub placedAfter : Class → World → List Note → Option World
+placedAfter k w ns = elim (find (w .base .cache) (at (k .loader) (k .super))) [ none ↦ none | some p ↦ some (withClass w k (classTies k w p) (newNotes k w ns)) ]
+
+-- A file's class, of loader l and below p, on copies: as its entry is tried, and in its own cell its direct superclass
+pub record ClassTried (counts classes kept cache bs : List ℕ) (l p : ℕ) (n t e counted trial supers : List ℕ) : Type 0 where
+  pub filled : List ℕ
+  pub tried : Tried counts classes kept cache l (className bs) (getD counts 0 0) n t e counted trial filled
+  pub above : supers ≡ set filled (getD counts 0 0) (p + 1)
+
 -- What a decision of define means, of tables n, t and s, where u and v hold its constraints: the whole is refused, or it is the store with the class
--- and with the new ties and subtype constraints, so many in all
+-- and with the new ties and subtype constraints, so many in all; or that store, a, doesn't agree
 
 pub record Adding (o : Result World) (w : World) (k : Class) (n t s u v : List ℕ) (l i j : ℕ) : Type 0 where
   pub loader : l ≡ k .loader
@@ -105,6 +118,16 @@ pub record Adding (o : Result World) (w : World) (k : Class) (n t s u v : List �
   pub tieCells : take 768 u ≡ writeRows putTie ties (getD n 3 0) t
   pub subtypeCells : v ≡ writeRows putSubtype subtypes (getD n 4 0) s
 
-unfoldable pub Decided : Defining → Result World → List ℕ → List ℕ → List ℕ → List ℕ → List ℕ → World → Class → Type 0
-Decided (Defining.Refuse r) o n t s u v w k = refused r ≡ o
-Decided (Defining.Add l i j) o n t s u v w k = Adding o w k n t s u v l i j
+pub record Clashing (o : Result World) (a : Option World) (w : World) (k : Class) (n u v : List ℕ) (l p i j : ℕ) : Type 0 where
+  pub loader : l ≡ k .loader
+  pub whole : refused (Word 9) ≡ o
+  pub after : a ≡ some (world (baseWith (w .base) k) (rows (tieAt u) i 0) (rows (subtypeAt v) j 0))
+  pub super : find (w .base .cache) (at (k .loader) (k .super)) ≡ some p
+  pub classRoom : getD n 0 0 < 64
+  pub entryRoom : getD n 2 0 < 256
+  pub grown : Grown n i j
+
+unfoldable pub Decided : Defining → Result World → Option World → List ℕ → List ℕ → List ℕ → List ℕ → List ℕ → World → Class → Type 0
+Decided (Defining.Refuse r) o a n t s u v w k = (refused r ≡ o) × (number r ≡ 9 → ⊥)
+Decided (Defining.Clash l p i j) o a n t s u v w k = Clashing o a w k n u v l p i j
+Decided (Defining.Add l i j) o a n t s u v w k = Adding o w k n t s u v l i j

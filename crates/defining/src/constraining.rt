@@ -1,8 +1,8 @@
 // The constraints of a class that is to be defined: limits, then agreement.
 use crate::overrides::post_methods;
+use crate::trying::class_agrees;
 use cells::at16;
 use definition::Refusal;
-use definition::numbers::CACHE_LENGTH;
 use definition::numbers::CACHE_LIMIT;
 use definition::numbers::CLASS_LIMIT;
 use definition::numbers::COUNT_CACHE;
@@ -11,35 +11,32 @@ use definition::numbers::COUNT_KEPT;
 use definition::numbers::COUNT_TIES;
 use definition::numbers::FIELD_LIMIT;
 use definition::numbers::KEPT_LENGTH;
-use definition::numbers::OWNERS_CELL;
 use definition::numbers::SUBTYPE_LIMIT;
 use definition::numbers::TIE_LIMIT;
-use definition::numbers::WORD_CLASH;
 use definition::numbers::WORD_FULL;
 ghost use mathlib.Core.Path.{_≡_};
 ghost use mathlib.Core.Option.{some};
 ghost use mathlib.Core.List.{List};
-ghost use Prim.Native.Nat.{_+_, _<_, _≤_};
+ghost use Prim.Native.Nat.{_+_, _≤_};
 ghost use lib.ListN.{length, getD};
 ghost use lib.Dec.{leb};
-ghost use Rattle.definition.specs.Numbers.{classLimit, keptLimit, cacheLimit, tieLimit, subtypeLimit, fileLimit, memberLimit, countClasses, countKept, countCache, countSubtypes};
-ghost use Rattle.definition.specs.Lists.{rows};
-ghost use Rattle.definition.specs.Tables.{tieAt, subtypeAt};
+ghost use Rattle.definition.specs.Numbers.{keptLimit, fileLimit, memberLimit, countKept, countSubtypes};
 ghost use Rattle.definition.specs.Requests.{at};
-ghost use Rattle.definition.specs.Constraints.{agrees};
 ghost use Rattle.definition.specs.Classes.{find};
 ghost use Rattle.definition.specs.File.{classOf};
 ghost use Rattle.classfile.specs.Reading.{superName, methodCount, quickFile};
 ghost use Rattle.resolution.specs.Quick.{quickBase};
 ghost use Rattle.definition.specs.Verifier.{Note};
-ghost use Rattle.entries.specs.World.{worldIn, world, baseWith, Searchable, Loadable};
+ghost use Rattle.entries.specs.World.{worldIn, Loadable};
 ghost use Rattle.defining.specs.Posting.{triedTiesLength, NotesPosted};
-ghost use Rattle.defining.specs.Stages.{roomFor, postedFor, Decided};
+ghost use Rattle.defining.specs.Stages.{roomFor, postedFor, placedAfter, Decided};
 
-// What is decided of a class: it is refused, or it is to be added with this loader and so many ties and subtype constraints in all.
+// What is decided of a class: it is refused, or it is to be added with this loader and so many ties and subtype constraints in all, or the store with it,
+// of this loader and below this class, wouldn't agree.
 pub(crate) enum Defining {
     Refuse(Refusal),
     Add(u8, u16, u16),
+    Clash(u8, u32, u16, u16),
 }
 
 // There is room for the file's bytes, the class, its entry, that many ties, and the fields of its objects.
@@ -71,49 +68,6 @@ fn has_room(
     resolution::size_of(counts, classes, kept, cache, p) + own <= FIELD_LIMIT
 }
 
-// The store with the file's class, below p, and with the rows of these tables agrees: the cache is copied, and of the counts those that come before the owners.
-fn class_agrees(
-    counts: &[u16],
-    classes: &[u16],
-    kept: &[u8],
-    cache: &[u16],
-    loader: u8,
-    file: &[u8],
-    p: u32,
-    ties: &[u16],
-    tied: u16,
-    subtypes: &[u16],
-    noted: u16,
-) -> bool
-    requires { ⌜ Searchable (now counts) (now classes) (now kept) (now cache) × (getD (now counts) countClasses 0 < classLimit) × (getD (now counts) countCache 0 < cacheLimit) × (tied ≤ tieLimit) × (noted ≤ subtypeLimit) × (find (quickBase (now counts) (now classes) (now kept) (now cache) .cache) (at loader (superName (now file))) ≡ some p) ⌝ }
-    ensures { λ r. ⌜ r ≡ agrees (world (baseWith (quickBase (now (counts .entry)) (now (classes .entry)) (now (kept .entry)) (now (cache .entry))) (classOf loader (quickFile (now (file .entry))))) (rows (tieAt (now (ties .entry))) tied 0) (rows (subtypeAt (now (subtypes .entry))) noted 0)) ⌝ }
-{
-    let class = at16(counts, COUNT_CLASSES);
-    let mut counted = [0u16; OWNERS_CELL];
-    let mut trial = [0u16; CACHE_LENGTH];
-    entries::enter(
-        counts,
-        cache,
-        cells::from8(loader),
-        classfile::class_name(file),
-        class,
-        &mut counted,
-        &mut trial,
-    );
-    let mut supers = [0u8; CLASS_LIMIT as usize];
-    resolution::fill_supers(&mut supers, &counted, classes, kept, &trial);
-    cells::put8(&mut supers, cells::wide16(class), (p + 1) as u8);
-    constraints::agree(
-        &supers,
-        &trial,
-        at16(&counted, COUNT_CACHE),
-        ties,
-        tied,
-        subtypes,
-        noted,
-    )
-}
-
 // The constraints of the file's class, below p: limits, then agreement. Its ties are posted to a copy of theirs; its notes stand in a copy of the
 // subtype constraints already, which has so many rows with them.
 pub(crate) fn decide_constraints(
@@ -131,7 +85,7 @@ pub(crate) fn decide_constraints(
     noted: u16,
 ) -> Defining
     requires { ⌜ Loadable (now counts) (now classes) (now kept) (now cache) (now ties) (now subtypes) × (length (now file) ≤ fileLimit) × (methodCount (now file) ≤ memberLimit) × (length (now «new_ties») ≡ triedTiesLength) × (find (quickBase (now counts) (now classes) (now kept) (now cache) .cache) (at loader (superName (now file))) ≡ some p) ⌝ }
-    ensures { λ r. ⌜ ((ns : List Note) → NotesPosted ns loader (now (subtypes .entry)) (getD (now (counts .entry)) countSubtypes 0) (now («new_subtypes» .entry)) noted → Decided r (postedFor (leb (getD (now (counts .entry)) countKept 0 + length (now (file .entry))) keptLimit) (classOf loader (quickFile (now (file .entry)))) (worldIn (now (counts .entry)) (now (classes .entry)) (now (kept .entry)) (now (cache .entry)) (now (ties .entry)) (now (subtypes .entry))) ns p) (now (counts .entry)) (now (ties .entry)) (now (subtypes .entry)) (now («new_ties» .exit)) (now («new_subtypes» .entry)) (worldIn (now (counts .entry)) (now (classes .entry)) (now (kept .entry)) (now (cache .entry)) (now (ties .entry)) (now (subtypes .entry))) (classOf loader (quickFile (now (file .entry))))) ⌝ }
+    ensures { λ r. ⌜ ((ns : List Note) → NotesPosted ns loader (now (subtypes .entry)) (getD (now (counts .entry)) countSubtypes 0) (now («new_subtypes» .entry)) noted → Decided r (postedFor (leb (getD (now (counts .entry)) countKept 0 + length (now (file .entry))) keptLimit) (classOf loader (quickFile (now (file .entry)))) (worldIn (now (counts .entry)) (now (classes .entry)) (now (kept .entry)) (now (cache .entry)) (now (ties .entry)) (now (subtypes .entry))) ns p) (placedAfter (classOf loader (quickFile (now (file .entry)))) (worldIn (now (counts .entry)) (now (classes .entry)) (now (kept .entry)) (now (cache .entry)) (now (ties .entry)) (now (subtypes .entry))) ns) (now (counts .entry)) (now (ties .entry)) (now (subtypes .entry)) (now («new_ties» .exit)) (now («new_subtypes» .entry)) (worldIn (now (counts .entry)) (now (classes .entry)) (now (kept .entry)) (now (cache .entry)) (now (ties .entry)) (now (subtypes .entry))) (classOf loader (quickFile (now (file .entry))))) ⌝ }
 {
     entries::write_cells(new_ties, 0, ties);
     let tied = post_methods(
@@ -164,7 +118,7 @@ pub(crate) fn decide_constraints(
         new_subtypes,
         noted,
     ) {
-        return Defining::Refuse(Refusal::Word(WORD_CLASH));
+        return Defining::Clash(loader, p, tied, noted);
     }
     Defining::Add(loader, tied, noted)
 }

@@ -1,7 +1,7 @@
 -- Word 1, 'broken': tables that are no store.
 use mathlib.Core.Bool.{Bool, true, false, not}
 use mathlib.Core.List.{List, [], _∷_}
-use Prim.Native.Nat.{ℕ, _+_}
+use Prim.Native.Nat.{ℕ, zero, suc, _+_}
 use lib.ListN.{length, getD}
 use lib.Dec.{eqb, leb, ltb}
 use Rattle.definition.specs.Numbers.{loaderLimit, taskLimit, classLimit, keptLimit, cacheLimit, tieLimit, subtypeLimit, objectLimit, fieldLimit, frameLimit, operandLimit, countClasses, countKept, countCache, countTies, countSubtypes, countObjects, countFrames}
@@ -9,7 +9,7 @@ use Rattle.definition.specs.Lists.{every, all, allFrom, isSome}
 use Rattle.definition.specs.Classes.{Base, Entry, superOf}
 use Rattle.definition.specs.Constraints.{Tie, Subtype}
 use Rattle.definition.specs.Machine.{Value, emptyValue, intValue, nullValue, objectValue, unlistedValue, ObjectRow, free, owned, Objects, Frame, existing}
-use Rattle.definition.specs.Tables.{Tables, shaped, ClassRow, Rows, fileAt, baseOf, sizeOf, view}
+use Rattle.definition.specs.Tables.{Tables, shaped, ClassRow, RowNumbers, Rows, fileAt, baseOf, sizeOf, view}
 
 -- each count within its limit
 unfoldable pub within : List ℕ → Bool
@@ -69,6 +69,28 @@ objectFits n os (owned k o) = every (ltb k taskLimit ∷ ltb (o .class) n ∷ al
 unfoldable pub frameFits : ℕ → Objects → Frame → Bool
 frameFits n os f = every (ltb (f .class) n ∷ leb (length (f .operands)) operandLimit ∷ all (valueFits os) (f .operands) ∷ all (localFits os) (f .locals) ∷ [])
 
+-- Rows keep the numbers that they got as they were posted, both tables together: each next number stands next in one of the two. So the numbers of k rows
+-- are exactly 0 to k − 1, and rise along each table (`in-turn-words`, `words-in-turn`, crate layout).
+
+unfoldable pub next : ℕ → List ℕ → Bool
+next k [] = false
+next k (x ∷ xs) = eqb x k
+
+unfoldable pub others : List ℕ → List ℕ
+others [] = []
+others (x ∷ xs) = xs
+
+-- the n numbers from k on
+unfoldable pub inTurn : ℕ → ℕ → List ℕ → List ℕ → Bool
+inTurn zero k ts ss = true
+inTurn (suc n) k ts ss = elim (next k ts) [
+  | true ↦ inTurn n (suc k) (others ts) ss
+  | false ↦ elim (next k ss) [ true ↦ inTurn n (suc k) ts (others ss) | false ↦ false ]
+]
+
+unfoldable pub numbered : RowNumbers → Bool
+numbered n = inTurn (length (n .ties) + length (n .subtypes)) 0 (n .ties) (n .subtypes)
+
 unfoldable pub sound : Rows → Bool
 sound r = every
     (classesFit (baseOf (r .classes) (r .kept) (r .cache)) (r .kept) (r .classes)
@@ -78,6 +100,7 @@ sound r = every
     ∷ all (objectFits (length (r .classes)) (r .objects)) (r .objects)
     ∷ all (frameFits (length (r .classes)) (r .objects)) (r .quote)
     ∷ all (frameFits (length (r .classes)) (r .objects)) (r .report)
+    ∷ numbered (r .numbers)
     ∷ [])
 
 unfoldable pub whole : Tables → Bool

@@ -1,19 +1,20 @@
--- The eight calls: on rows, then on tables.
+-- The nine calls: on rows, then on tables.
 use mathlib.Core.Path.{_≡_}
-use mathlib.Core.Bool.{true, false, _&&_}
+use mathlib.Core.Bool.{true, false, not, _&&_}
 use mathlib.Core.Option.{Option, none, some}
 use mathlib.Core.List.{List, [], _∷_, _++_}
-use Prim.Native.Nat.{ℕ, zero, suc, _+_}
+use Prim.Native.Nat.{ℕ, zero, suc, _+_, _-_}
 use lib.ListN.{length}
-use lib.Dec.{leb, ltb}
-use Rattle.definition.specs.Numbers.{wordBroken, wordFile, wordUnknown, wordTaken, wordWanted, wordUnverified, wordAbsent, wordHidden, wordClash, wordFull, wordNull, wordBusy, wordMisnamed, wordStuck, wordUnmapped, nameObject, loaderLimit, taskLimit, keptLimit, runLimit}
-use Rattle.definition.specs.Constraints.{World}
-use Rattle.definition.specs.Answers.{Refusal, Word, Answer, Idle, Ran, Finished, Refused, Reply, Accepted, Defined, Stepped, RanFor, Swept, Denied, Result, refused, ok, _>>=_, need, take?}
+use lib.Dec.{eqb, leb, ltb}
+use Rattle.definition.specs.Numbers.{wordBroken, wordFile, wordUnknown, wordTaken, wordWanted, wordUnverified, wordAbsent, wordHidden, wordClash, wordFull, wordNull, wordBusy, wordMisnamed, wordStuck, wordUnmapped, wordShort, nameObject, loaderLimit, taskLimit, keptLimit, runLimit, listLimit}
+use Rattle.definition.specs.Lists.{rows}
+use Rattle.definition.specs.Constraints.{Tie, Subtype, World}
+use Rattle.definition.specs.Answers.{Refusal, Word, Answer, Idle, Ran, Finished, Refused, Reply, Accepted, Defined, Stepped, RanFor, Swept, Denied, Result, refused, ok, number, _>>=_, need, take?}
 use Rattle.definition.specs.Machine.{Frame, Progress, step}
 use Rattle.definition.specs.Loading.{define, recorded, started}
 use Rattle.definition.specs.Sweeping.{reached, sweptFrom, freedFrom}
 use Rattle.definition.specs.File.{readFile, classOf}
-use Rattle.definition.specs.Tables.{Tables, shaped, Rows, noRows, withClasses, withKept, withCache, withTies, withSubtypes, withObjects, withFrames, framesIn, classRow, entry, worldOf, view, put}
+use Rattle.definition.specs.Tables.{Tables, shaped, RowNumbers, rowNumbers, Rows, noRows, withClasses, withKept, withCache, withTies, withSubtypes, withObjects, withFrames, withNumbers, framesIn, classRow, entry, worldOf, view, put}
 use Rattle.definition.specs.Broken.{broken}
 
 -- On rows: an answer with the rows that the call leaves
@@ -29,18 +30,31 @@ given a r = ok (record { answer = a; rows = r })
 abbrev pub bootRows : Rows
 bootRows = withClasses (classRow 0 0 0 ∷ []) (withCache (entry 0 nameObject 0 ∷ []) noRows)
 
+-- Rows that are posted are numbered on, behind all that were there; a define posts its notes before its ties
+
+-- n numbers from k on
+abbrev pub numbersFrom : ℕ → ℕ → List ℕ
+numbersFrom k n = rows (λ i. i) n k
+
+-- where the ties are now ts and the subtype constraints ss
+unfoldable pub numberedOn : List Tie → List Subtype → Rows → RowNumbers
+numberedOn ts ss r =
+    let k = length (r .ties) + length (r .subtypes) in
+    let n = length ss - length (r .subtypes) in
+    rowNumbers (r .numbers .ties ++ numbersFrom (k + n) (length ts - length (r .ties))) (r .numbers .subtypes ++ numbersFrom k n)
+
 -- the next class, with its file behind the kept ones; cache and constraints as w has them
 abbrev pub addFile : ℕ → List ℕ → Rows → World → Rows
 addFile l bs r w =
     withClasses (r .classes ++ (classRow l (length (r .kept)) (length bs) ∷ [])) (withKept (r .kept ++ bs)
-    (withCache (w .base .cache) (withTies (w .ties) (withSubtypes (w .subtypes) r))))
+    (withCache (w .base .cache) (withTies (w .ties) (withSubtypes (w .subtypes) (withNumbers (numberedOn (w .ties) (w .subtypes) r) r)))))
 
 abbrev pub addEntry : Rows → World → Rows
 addEntry r w = withCache (w .base .cache) r
 
--- a task's progress: ties, objects, and the task's frames
+-- a task's progress: ties with their numbers, objects, and the task's frames
 abbrev pub progressed : ℕ → Rows → Progress → Rows
-progressed k r o = withFrames k (o .frames) (withObjects (o .objects) (withTies (o .world .ties) r))
+progressed k r o = withFrames k (o .frames) (withObjects (o .objects) (withTies (o .world .ties) (withNumbers (numberedOn (o .world .ties) (r .subtypes) r) r)))
 
 -- define. Refusals: 3 2 15 6 4 5 8 10 9
 unfoldable pub defineRows : ℕ → List ℕ → Rows → Result (Given Reply)
@@ -52,6 +66,25 @@ defineRows l bs r =
 -- record. 3 13 4 10 9
 unfoldable pub recordRows : ℕ → ℕ → ℕ → Rows → Result (Given Reply)
 recordRows l n c r = recorded l n c (worldOf r) >>= λ w. given Accepted (addEntry r w)
+
+-- A load: a define or a record
+pub data Load : Type 0 where
+  loadDefine : ℕ → List ℕ → Load
+  loadRecord : ℕ → ℕ → ℕ → Load
+
+abbrev pub loadRows : Load → Rows → Result (Given Reply)
+loadRows (loadDefine l bs) = defineRows l bs
+loadRows (loadRecord l n c) = recordRows l n c
+
+-- A load tried with a list of n numbers: it answers what the load would, and changes nothing. 16 comes straight after 3, a load's first test.
+-- 3 16 2 15 6 4 5 8 10 9, or 3 16 13 4 10 9
+
+unfoldable pub triedWith : ℕ → Rows → Result (Given Reply) → Result (Given Reply)
+triedWith n r (ok g) = elim (ltb n listLimit) [ true ↦ refused (Word wordShort) | false ↦ given (g .answer) r ]
+triedWith n r (refused w) = elim (ltb n listLimit && not (eqb (number w) wordUnknown)) [ true ↦ refused (Word wordShort) | false ↦ refused w ]
+
+unfoldable pub tryRows : Load → ℕ → Rows → Result (Given Reply)
+tryRows c n r = triedWith n r (loadRows c r)
 
 -- start of task k. 3 12 5 7 10
 unfoldable pub startRows : ℕ → ℕ → ℕ → ℕ → ℕ → Rows → Result (Given Reply)
@@ -143,6 +176,7 @@ pub data RowCall : Type 0 where
   rowStart : ℕ → ℕ → ℕ → ℕ → ℕ → RowCall
   rowDrop : ℕ → RowCall
   rowSweep : RowCall
+  rowTry : Load → ℕ → RowCall
 
 abbrev pub onRowCall : RowCall → Rows → Result (Given Reply)
 onRowCall (rowDefine l bs) = defineRows l bs
@@ -150,6 +184,7 @@ onRowCall (rowRecord l n c) = recordRows l n c
 onRowCall (rowStart k l n m v) = startRows k l n m v
 onRowCall (rowDrop k) = dropRows k
 onRowCall rowSweep = sweepRows
+onRowCall (rowTry c n) = tryRows c n
 
 pub data Call : Type 0 where
   callBoot : Call
@@ -174,17 +209,26 @@ callDrop k = callRows (rowDrop k)
 abbrev pub callSweep : Call
 callSweep = callRows rowSweep
 
+abbrev pub callTry : Load → ℕ → Call
+callTry c n = callRows (rowTry c n)
+
 -- the words that each call may refuse with, in the order in which the definitions above test them; a run's last answer may be any of a step's
 unfoldable pub stepRefusals : List ℕ
 stepRefusals = wordBroken ∷ wordStuck ∷ wordWanted ∷ wordAbsent ∷ wordFull ∷ wordClash ∷ wordNull ∷ []
 
+-- a load's after 'unknown'
+unfoldable pub loadRefusals : Load → List ℕ
+loadRefusals (loadDefine l bs) = wordFile ∷ wordUnmapped ∷ wordUnverified ∷ wordTaken ∷ wordWanted ∷ wordHidden ∷ wordFull ∷ wordClash ∷ []
+loadRefusals (loadRecord l n c) = wordMisnamed ∷ wordTaken ∷ wordFull ∷ wordClash ∷ []
+
 -- those of a call on rows come after 'broken'
 unfoldable pub rowRefusals : RowCall → List ℕ
-rowRefusals (rowDefine l bs) = wordUnknown ∷ wordFile ∷ wordUnmapped ∷ wordUnverified ∷ wordTaken ∷ wordWanted ∷ wordHidden ∷ wordFull ∷ wordClash ∷ []
-rowRefusals (rowRecord l n c) = wordUnknown ∷ wordMisnamed ∷ wordTaken ∷ wordFull ∷ wordClash ∷ []
+rowRefusals (rowDefine l bs) = wordUnknown ∷ loadRefusals (loadDefine l bs)
+rowRefusals (rowRecord l n c) = wordUnknown ∷ loadRefusals (loadRecord l n c)
 rowRefusals (rowStart k l n m v) = wordUnknown ∷ wordBusy ∷ wordWanted ∷ wordAbsent ∷ wordFull ∷ []
 rowRefusals (rowDrop k) = wordUnknown ∷ []
 rowRefusals rowSweep = []
+rowRefusals (rowTry c n) = wordUnknown ∷ wordShort ∷ loadRefusals c
 
 unfoldable pub refusalsOf : Call → List ℕ
 refusalsOf callBoot = wordBroken ∷ []

@@ -50,6 +50,9 @@ wordStuck = 14
 abbrev pub wordUnmapped : ℕ
 wordUnmapped = 15
 
+abbrev pub wordShort : ℕ
+wordShort = 16
+
 -- Names: 0 is none; others than these are free
 
 abbrev pub nameInt : ℕ
@@ -103,6 +106,10 @@ localCount = 8
 abbrev pub runLimit : ℕ
 runLimit = 65535
 
+-- the numbers that the list lent to a tried load has room for: one for each row of ties and of subtype constraints
+abbrev pub listLimit : ℕ
+listLimit = 512
+
 -- The file: its version, its bytes, the fields or methods that it declares, the bytes of a method's code
 
 abbrev pub versionOne : ℕ
@@ -148,6 +155,13 @@ countFrames = 6
 abbrev pub ownersCell : ℕ
 ownersCell = countFrames + taskLimit
 
+-- behind those, the numbers of the tie rows, then the numbers of the rows of subtype constraints
+abbrev pub tieNumbersCell : ℕ
+tieNumbersCell = ownersCell + objectLimit
+
+abbrev pub subtypeNumbersCell : ℕ
+subtypeNumbersCell = tieNumbersCell + tieLimit
+
 -- Rows: cells of a row of classes, cache, ties and subtypes; of a value; of an object and of a frame, and where in them something stands
 
 abbrev pub rowCells : ℕ
@@ -185,7 +199,7 @@ frameCells = operandsCell + valueCells * operandLimit
 -- The published lengths
 
 abbrev pub countsLength : ℕ
-countsLength = ownersCell + objectLimit
+countsLength = subtypeNumbersCell + subtypeLimit
 
 abbrev pub classesLength : ℕ
 classesLength = classLimit * rowCells
@@ -243,11 +257,11 @@ abbrev pub allNumbers : List ℕ
 allNumbers =
     wordBroken ∷ wordFile ∷ wordUnknown ∷ wordTaken ∷ wordWanted ∷ wordUnverified
     ∷ wordAbsent ∷ wordHidden ∷ wordClash ∷ wordFull ∷ wordNull ∷ wordBusy
-    ∷ wordMisnamed ∷ wordStuck ∷ wordUnmapped ∷ nameInt ∷ nameObject ∷ loaderLimit ∷ taskLimit
+    ∷ wordMisnamed ∷ wordStuck ∷ wordUnmapped ∷ wordShort ∷ nameInt ∷ nameObject ∷ loaderLimit ∷ taskLimit
     ∷ classLimit ∷ keptLimit ∷ cacheLimit ∷ tieLimit ∷ subtypeLimit ∷ objectLimit
-    ∷ fieldLimit ∷ frameLimit ∷ operandLimit ∷ localCount ∷ runLimit ∷ versionOne ∷ versionTwo
+    ∷ fieldLimit ∷ frameLimit ∷ operandLimit ∷ localCount ∷ runLimit ∷ listLimit ∷ versionOne ∷ versionTwo
     ∷ fileLimit ∷ memberLimit ∷ codeLimit ∷ countClasses ∷ countKept ∷ countCache
-    ∷ countTies ∷ countSubtypes ∷ countObjects ∷ countFrames ∷ ownersCell ∷ rowCells ∷ valueCells
+    ∷ countTies ∷ countSubtypes ∷ countObjects ∷ countFrames ∷ ownersCell ∷ tieNumbersCell ∷ subtypeNumbersCell ∷ rowCells ∷ valueCells
     ∷ fieldsCell ∷ objectCells ∷ methodCell ∷ pointCell ∷ depthCell ∷ localsCell
     ∷ operandsCell ∷ frameCells ∷ countsLength ∷ classesLength ∷ keptLength ∷ cacheLength
     ∷ tiesLength ∷ subtypesLength ∷ objectsLength ∷ framesLength ∷ kindEmpty ∷ kindInt

@@ -9,7 +9,7 @@ use mathlib.Core.List.{List, [], _∷_, map}
 use Prim.Native.Nat.{ℕ, zero, suc, _+_, _*_}
 use lib.ListN.{length, replicate, take, drop, getD, set}
 use lib.Dec.{eqb, leb}
-use Rattle.definition.specs.Numbers.{fieldLimit, frameLimit, localCount, countClasses, countKept, countCache, countTies, countSubtypes, countObjects, countFrames, ownersCell, rowCells, valueCells, objectCells, fieldsCell, frameCells, methodCell, pointCell, depthCell, localsCell, operandsCell, countsLength, classesLength, keptLength, cacheLength, tiesLength, subtypesLength, objectsLength, framesLength, kindEmpty, kindInt, kindNull, kindObject}
+use Rattle.definition.specs.Numbers.{fieldLimit, frameLimit, localCount, countClasses, countKept, countCache, countTies, countSubtypes, countObjects, countFrames, ownersCell, tieNumbersCell, subtypeNumbersCell, rowCells, valueCells, objectCells, fieldsCell, frameCells, methodCell, pointCell, depthCell, localsCell, operandsCell, countsLength, classesLength, keptLength, cacheLength, tiesLength, subtypesLength, objectsLength, framesLength, kindEmpty, kindInt, kindNull, kindObject}
 use Rattle.definition.specs.Lists.{every, rows, writeRows, stack, writeStack}
 use Rattle.definition.specs.Maybe.{_>>=_, need}
 use Rattle.definition.specs.Requests.{at}
@@ -58,6 +58,14 @@ pub record ClassRow : Type 0 where
   pub start : ℕ
   pub size : ℕ
 
+-- The numbers of the rows of ties and of subtype constraints, each list in its table's order: rows are numbered from 0 as posted, both tables together.
+pub record RowNumbers : Type 0 where
+  pub ties : List ℕ
+  pub subtypes : List ℕ
+
+abbrev pub rowNumbers : List ℕ → List ℕ → RowNumbers
+rowNumbers t s = record { ties = t; subtypes = s }
+
 pub record Rows : Type 0 where
   pub classes : List ClassRow
   pub kept : List ℕ
@@ -67,32 +75,36 @@ pub record Rows : Type 0 where
   pub objects : Objects
   pub quote : List Frame
   pub report : List Frame
+  pub numbers : RowNumbers
 
-abbrev pub rowsOf : List ClassRow → List ℕ → List Entry → List Tie → List Subtype → Objects → List Frame → List Frame → Rows
-rowsOf c k e t s o q p = record { classes = c; kept = k; cache = e; ties = t; subtypes = s; objects = o; quote = q; report = p }
+abbrev pub rowsOf : List ClassRow → List ℕ → List Entry → List Tie → List Subtype → Objects → List Frame → List Frame → RowNumbers → Rows
+rowsOf c k e t s o q p n = record { classes = c; kept = k; cache = e; ties = t; subtypes = s; objects = o; quote = q; report = p; numbers = n }
 
 abbrev pub noRows : Rows
-noRows = rowsOf [] [] [] [] [] [] [] []
+noRows = rowsOf [] [] [] [] [] [] [] [] (rowNumbers [] [])
 
 -- One part of the rows replaced, the rest as it was: a call names what it changes
 
 abbrev pub withClasses : List ClassRow → Rows → Rows
-withClasses x r = rowsOf x (r .kept) (r .cache) (r .ties) (r .subtypes) (r .objects) (r .quote) (r .report)
+withClasses x r = rowsOf x (r .kept) (r .cache) (r .ties) (r .subtypes) (r .objects) (r .quote) (r .report) (r .numbers)
 
 abbrev pub withKept : List ℕ → Rows → Rows
-withKept x r = rowsOf (r .classes) x (r .cache) (r .ties) (r .subtypes) (r .objects) (r .quote) (r .report)
+withKept x r = rowsOf (r .classes) x (r .cache) (r .ties) (r .subtypes) (r .objects) (r .quote) (r .report) (r .numbers)
 
 abbrev pub withCache : List Entry → Rows → Rows
-withCache x r = rowsOf (r .classes) (r .kept) x (r .ties) (r .subtypes) (r .objects) (r .quote) (r .report)
+withCache x r = rowsOf (r .classes) (r .kept) x (r .ties) (r .subtypes) (r .objects) (r .quote) (r .report) (r .numbers)
 
 abbrev pub withTies : List Tie → Rows → Rows
-withTies x r = rowsOf (r .classes) (r .kept) (r .cache) x (r .subtypes) (r .objects) (r .quote) (r .report)
+withTies x r = rowsOf (r .classes) (r .kept) (r .cache) x (r .subtypes) (r .objects) (r .quote) (r .report) (r .numbers)
 
 abbrev pub withSubtypes : List Subtype → Rows → Rows
-withSubtypes x r = rowsOf (r .classes) (r .kept) (r .cache) (r .ties) x (r .objects) (r .quote) (r .report)
+withSubtypes x r = rowsOf (r .classes) (r .kept) (r .cache) (r .ties) x (r .objects) (r .quote) (r .report) (r .numbers)
 
 abbrev pub withObjects : Objects → Rows → Rows
-withObjects x r = rowsOf (r .classes) (r .kept) (r .cache) (r .ties) (r .subtypes) x (r .quote) (r .report)
+withObjects x r = rowsOf (r .classes) (r .kept) (r .cache) (r .ties) (r .subtypes) x (r .quote) (r .report) (r .numbers)
+
+abbrev pub withNumbers : RowNumbers → Rows → Rows
+withNumbers x r = rowsOf (r .classes) (r .kept) (r .cache) (r .ties) (r .subtypes) (r .objects) (r .quote) (r .report) x
 
 -- what is said of task k: 0 is the quote, any other the report
 abbrev pub ofTask : {A : Type 0} → ℕ → A → A → A
@@ -103,7 +115,7 @@ abbrev pub framesIn : ℕ → Rows → List Frame
 framesIn k r = ofTask k (r .quote) (r .report)
 
 abbrev pub withFrames : ℕ → List Frame → Rows → Rows
-withFrames k x r = rowsOf (r .classes) (r .kept) (r .cache) (r .ties) (r .subtypes) (r .objects) (ofTask k x (r .quote)) (ofTask k (r .report) x)
+withFrames k x r = rowsOf (r .classes) (r .kept) (r .cache) (r .ties) (r .subtypes) (r .objects) (ofTask k x (r .quote)) (ofTask k (r .report) x) (r .numbers)
 
 unfoldable pub fileAt : List ℕ → ClassRow → Option File
 fileAt bs k = need (leb (k .start + k .size) (length bs)) >>= λ _. readFile (take (k .size) (drop (k .start) bs))
@@ -239,6 +251,14 @@ unfoldable pub putObjectRow : List ℕ → ℕ → ObjectRow → List ℕ
 putObjectRow t o free = t
 putObjectRow t o (owned k x) = putObject t o x
 
+-- Of a tie and of a subtype constraint its number stands behind the owners, in cell i of the section of counts that begins at cell s
+
+unfoldable pub numberAt : ℕ → List ℕ → ℕ → ℕ
+numberAt s n i = getD n (s + i) 0
+
+unfoldable pub putNumber : ℕ → List ℕ → ℕ → ℕ → List ℕ
+putNumber s n i x = set n (s + i) x
+
 -- A frame has 52 cells: class, method, point, operand count, 8 locals, 16 operands from the lowest
 
 unfoldable pub localAt : List ℕ → ℕ → ℕ → Value
@@ -297,6 +317,10 @@ tiesOf t = rows (tieAt (t .ties)) (getD (t .counts) countTies 0) 0
 abbrev pub subtypesOf : Tables → List Subtype
 subtypesOf t = rows (subtypeAt (t .subtypes)) (getD (t .counts) countSubtypes 0) 0
 
+-- the numbers of the used rows; those of other rows say nothing
+abbrev pub numbersOf : Tables → RowNumbers
+numbersOf t = rowNumbers (rows (numberAt tieNumbersCell (t .counts)) (getD (t .counts) countTies 0) 0) (rows (numberAt subtypeNumbersCell (t .counts)) (getD (t .counts) countSubtypes 0) 0)
+
 abbrev pub viewBase : Tables → Base
 viewBase t = baseOf (classRowsOf t) (keptOf t) (cacheOf t)
 
@@ -309,7 +333,7 @@ framesOf t k = stack (frameIn (t .frames) k) (getD (t .counts) (countFrames + k)
 
 -- the rows, where classes have the fields that b gives them
 unfoldable pub viewOver : Base → Tables → Rows
-viewOver b t = rowsOf (classRowsOf t) (keptOf t) (cacheOf t) (tiesOf t) (subtypesOf t) (objectsOf b t) (framesOf t 0) (framesOf t 1)
+viewOver b t = rowsOf (classRowsOf t) (keptOf t) (cacheOf t) (tiesOf t) (subtypesOf t) (objectsOf b t) (framesOf t 0) (framesOf t 1) (numbersOf t)
 
 unfoldable pub view : Tables → Rows
 view t = viewOver (viewBase t) t
@@ -321,9 +345,12 @@ countsOf r =
     length (r .classes) ∷ length (r .kept) ∷ length (r .cache) ∷ length (r .ties) ∷ length (r .subtypes) ∷ length (r .objects)
     ∷ length (r .quote) ∷ length (r .report) ∷ []
 
+unfoldable pub putNumbers : RowNumbers → List ℕ → List ℕ
+putNumbers n c = writeRows (putNumber tieNumbersCell) (n .ties) 0 (writeRows (putNumber subtypeNumbersCell) (n .subtypes) 0 c)
+
 unfoldable pub put : Rows → Tables → Tables
 put r t = record {
-  counts = writeRows putOwner (r .objects) 0 (writeRows set (countsOf r) 0 (t .counts));
+  counts = putNumbers (r .numbers) (writeRows putOwner (r .objects) 0 (writeRows set (countsOf r) 0 (t .counts)));
   classes = writeRows putClassRow (r .classes) 0 (t .classes);
   kept = writeRows set (r .kept) 0 (t .kept);
   cache = writeRows putEntry (r .cache) 0 (t .cache);

@@ -3,7 +3,7 @@ use mathlib.Core.List.{List, [], _∷_}
 use Prim.Native.Nat.{ℕ, _<_}
 use Rattle.definition.specs.Numbers.{byteRange, shortRange, intRange}
 use Rattle.definition.specs.Tables.{Tables}
-use Rattle.definition.specs.Calls.{RowCall, rowDefine, rowRecord, rowStart, rowDrop, rowSweep, Call, callBoot, callRows, callStep, callRun}
+use Rattle.definition.specs.Calls.{Load, loadDefine, loadRecord, RowCall, rowDefine, rowRecord, rowStart, rowDrop, rowSweep, rowTry, Call, callBoot, callRows, callStep, callRun}
 
 -- each number is below w
 abbrev pub EachBelow : ℕ → List ℕ → Type 0
@@ -22,12 +22,17 @@ pub record Widths (t : Tables) : Type 0 where
 
 -- a call's arguments have their widths: bytes in a file, 16-bit names, an int of 32 bits
 
+abbrev pub FittingLoad : Load → Type 0
+FittingLoad (loadDefine l bs) = EachBelow byteRange bs
+FittingLoad (loadRecord l n c) = n < shortRange
+
 abbrev pub FittingRows : RowCall → Type 0
-FittingRows (rowDefine l bs) = EachBelow byteRange bs
-FittingRows (rowRecord l n c) = n < shortRange
+FittingRows (rowDefine l bs) = FittingLoad (loadDefine l bs)
+FittingRows (rowRecord l n c) = FittingLoad (loadRecord l n c)
 FittingRows (rowStart k l n m v) = v < intRange
 FittingRows (rowDrop k) = Unit {0}
 FittingRows rowSweep = Unit {0}
+FittingRows (rowTry c n) = FittingLoad c
 
 abbrev pub Fitting : Call → Type 0
 Fitting callBoot = Unit {0}

@@ -26,6 +26,12 @@ pub enum Reply {
     Denied(Refusal),
 }
 
+// What a tried load answers: the load's reply, and how many rows the listed chain has.
+pub struct Trial {
+    pub reply: Reply,
+    pub count: u16,
+}
+
 // A call's answer as numbers: the refusal's number, 0 if there is none, then three details. An int is its 32 bits.
 pub struct Details {
     pub refusal: u8,

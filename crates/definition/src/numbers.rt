@@ -34,6 +34,8 @@ pub const WORD_STUCK: u8 = 14;
 
 pub const WORD_UNMAPPED: u8 = 15;
 
+pub const WORD_SHORT: u8 = 16;
+
 // Names: 0 is none; others than these are free.
 pub const NAME_INT: u16 = 1;
 
@@ -65,6 +67,8 @@ pub const OPERAND_LIMIT: u32 = 16;
 pub const LOCAL_COUNT: u8 = 8;
 // Steps of a run.
 pub const RUN_LIMIT: u32 = 65535;
+// The numbers that the list lent to a tried load has room for.
+pub const LIST_LIMIT: usize = 512;
 
 // The file: its version, its bytes, the fields or methods that it declares, the bytes of a method's code.
 pub const VERSION_ONE: u8 = 1;
@@ -94,6 +98,11 @@ pub const COUNT_FRAMES: usize = 6;
 // Behind them, the owners of the object rows: 0 of a free row, else 1 and the task that made the object.
 pub const OWNERS_CELL: usize = COUNT_FRAMES + TASK_LIMIT as usize;
 
+// Behind those, the numbers of the tie rows, then the numbers of the rows of subtype constraints.
+pub const TIE_NUMBERS_CELL: usize = OWNERS_CELL + OBJECT_LIMIT as usize;
+
+pub const SUBTYPE_NUMBERS_CELL: usize = TIE_NUMBERS_CELL + TIE_LIMIT as usize;
+
 // Rows: cells of a row of classes, cache, ties and subtypes, and of a value.
 pub const ROW_CELLS: usize = 3;
 
@@ -118,7 +127,7 @@ pub const OPERANDS_CELL: usize = LOCALS_CELL + VALUE_CELLS * LOCAL_COUNT as usiz
 pub const FRAME_CELLS: usize = OPERANDS_CELL + VALUE_CELLS * OPERAND_LIMIT as usize;
 
 // The published lengths.
-pub const COUNTS_LENGTH: usize = OWNERS_CELL + OBJECT_LIMIT as usize;
+pub const COUNTS_LENGTH: usize = SUBTYPE_NUMBERS_CELL + SUBTYPE_LIMIT as usize;
 
 pub const CLASSES_LENGTH: usize = CLASS_LIMIT as usize * ROW_CELLS;
 
@@ -153,7 +162,7 @@ pub const INT_RANGE: usize = 4294967296;
 pub const SIGN_BIT: u32 = 2147483648;
 
 // Every number above, in the order of their names in specs/Numbers.antt.
-pub fn all_numbers() -> [u64; 69]
+pub fn all_numbers() -> [u64; 73]
     ensures { λ r. ⌜ r ≡ allNumbers ⌝ }
 {
     [
@@ -172,6 +181,7 @@ pub fn all_numbers() -> [u64; 69]
         WORD_MISNAMED as u64,
         WORD_STUCK as u64,
         WORD_UNMAPPED as u64,
+        WORD_SHORT as u64,
         NAME_INT as u64,
         NAME_OBJECT as u64,
         LOADER_LIMIT as u64,
@@ -187,6 +197,7 @@ pub fn all_numbers() -> [u64; 69]
         OPERAND_LIMIT as u64,
         LOCAL_COUNT as u64,
         RUN_LIMIT as u64,
+        LIST_LIMIT as u64,
         VERSION_ONE as u64,
         VERSION_TWO as u64,
         FILE_LIMIT as u64,
@@ -200,6 +211,8 @@ pub fn all_numbers() -> [u64; 69]
         COUNT_OBJECTS as u64,
         COUNT_FRAMES as u64,
         OWNERS_CELL as u64,
+        TIE_NUMBERS_CELL as u64,
+        SUBTYPE_NUMBERS_CELL as u64,
         ROW_CELLS as u64,
         VALUE_CELLS as u64,
         FIELDS_CELL as u64,

@@ -1,11 +1,11 @@
--- A list of calls as a table: rows of six cells, a kind and the call's numbers. A define's file is a part of a table of bytes.
+-- A list of calls as a table: rows of six cells, a kind and the call's numbers. A define's file, tried or not, is a part of a table of bytes.
 use mathlib.Core.Option.{Option, none, some}
 use mathlib.Core.List.{List, [], _∷_}
 use Prim.Native.Nat.{ℕ, zero, suc, _+_, _*_, _/_}
 use lib.ListN.{length, getD}
 use lib.Dec.{eqb, leb}
 use Rattle.definition.specs.Instructions.{pick}
-use Rattle.definition.specs.Calls.{Call, callBoot, callDefine, callRecord, callStart, callStep, callRun, callDrop, callSweep}
+use Rattle.definition.specs.Calls.{Call, callBoot, callDefine, callRecord, callStart, callStep, callRun, callDrop, callSweep, callTry, loadDefine, loadRecord}
 use Rattle.classfile.specs.Reading.{partOf}
 
 -- cells of a row of the list, and of an answer's row
@@ -38,7 +38,9 @@ callIn cells files i =
     (pick (eqb k 4) (some callStep)
     (pick (eqb k 5) (some (callRun (n 1)))
     (pick (eqb k 6) (some (callDrop (n 1)))
-    (pick (eqb k 7) (some callSweep) none)))))))
+    (pick (eqb k 7) (some callSweep)
+    (pick (eqb k 8) (pick (leb (n 2 + n 3) (length files)) (some (callTry (loadDefine (n 1) (fileIn cells files i)) (n 4))) none)
+    (pick (eqb k 9) (some (callTry (loadRecord (n 1) (n 2) (n 3)) (n 4))) none)))))))))
 
 -- the calls of k rows from row i on, up to the first that has none
 unfoldable pub callsFrom : (ℕ → Option Call) → ℕ → ℕ → List Call

@@ -9,7 +9,7 @@ use lib.ListN.{length, getD, length-append}
 use lib.Seq.{take-append-seam, drop-append-seam, getD-append-add}
 use borrow.Author.Tests.{le-leb}
 use Rattle.definition.specs.Instructions.{pick}
-use Rattle.definition.specs.Calls.{rowDefine, rowRecord, rowStart, rowDrop, rowSweep, Call, callBoot, callRows, callDefine, callStep, callRun}
+use Rattle.definition.specs.Calls.{rowDefine, rowRecord, rowStart, rowDrop, rowSweep, rowTry, loadDefine, loadRecord, Call, callBoot, callRows, callDefine, callStep, callRun, callTry}
 use Rattle.layout.specs.Tests.{All}
 use Rattle.classfile.specs.Searches.{part-there}
 use Rattle.driver.specs.Encoded.{kindIn, cellIn, fileIn, callIn, callsFrom, callsIn}
@@ -24,6 +24,8 @@ fileOf callStep = []
 fileOf (callRun n) = []
 fileOf (callRows (rowDrop k)) = []
 fileOf (callRows rowSweep) = []
+fileOf (callRows (rowTry (loadDefine l bs) n)) = bs
+fileOf (callRows (rowTry (loadRecord l m c) n)) = []
 
 unfoldable pub rowOf : Call → ℕ → List ℕ
 rowOf callBoot s = 0 ∷ 0 ∷ 0 ∷ 0 ∷ 0 ∷ 0 ∷ []
@@ -34,6 +36,8 @@ rowOf callStep s = 4 ∷ 0 ∷ 0 ∷ 0 ∷ 0 ∷ 0 ∷ []
 rowOf (callRun n) s = 5 ∷ n ∷ 0 ∷ 0 ∷ 0 ∷ 0 ∷ []
 rowOf (callRows (rowDrop k)) s = 6 ∷ k ∷ 0 ∷ 0 ∷ 0 ∷ 0 ∷ []
 rowOf (callRows rowSweep) s = 7 ∷ 0 ∷ 0 ∷ 0 ∷ 0 ∷ 0 ∷ []
+rowOf (callRows (rowTry (loadDefine l bs) n)) s = 8 ∷ l ∷ s ∷ length bs ∷ n ∷ 0 ∷ []
+rowOf (callRows (rowTry (loadRecord l m c) n)) s = 9 ∷ l ∷ m ∷ c ∷ n ∷ 0 ∷ []
 
 -- files one behind another, and the rows, the first file beginning at byte s
 unfoldable pub filesOf : List Call → List ℕ
@@ -53,6 +57,7 @@ Named callStep = Unit {0}
 Named (callRun n) = Unit {0}
 Named (callRows (rowDrop k)) = Unit {0}
 Named (callRows rowSweep) = Unit {0}
+Named (callRows (rowTry c n)) = Unit {0}
 
 -- a row behind i others
 module _ (xs : List ℕ) (i : ℕ) (behind : length xs ≡ i * 6) where
@@ -81,6 +86,24 @@ module _ (xs : List ℕ) (i : ℕ) (behind : length xs ≡ i * 6) where
         take-append-seam bs more,
       )
 
+  try-define-read : (l : ℕ) (bs : List ℕ) (n : ℕ) (fs rest more : List ℕ)
+      → callIn (xs ++ (8 ∷ l ∷ length fs ∷ length bs ∷ n ∷ 0 ∷ rest)) (fs ++ (bs ++ more)) i ≡ some (callTry (loadDefine l bs) n)
+  unfolding callIn fileIn pick
+  try-define-read l bs n fs rest more =
+      let ys : List ℕ = 8 ∷ l ∷ length fs ∷ length bs ∷ n ∷ 0 ∷ rest in
+      let within : length fs + length bs ≤ length (fs ++ (bs ++ more)) = omega (arith, length-append fs (bs ++ more), length-append bs more) in
+      rw (
+        kind-at ys,
+        cell-at ys 1,
+        cell-at ys 2,
+        cell-at ys 3,
+        cell-at ys 4,
+        le-leb _ _ within,
+        part-there (fs ++ (bs ++ more)) (length fs) (length bs) within,
+        drop-append-seam fs (bs ++ more),
+        take-append-seam bs more,
+      )
+
   row-read : (c : Call) → Named c → (fs rest more : List ℕ) → callIn (xs ++ (rowOf c (length fs) ++ rest)) (fs ++ (fileOf c ++ more)) i ≡ some c
   unfolding callIn pick rowOf fileOf
   row-read callBoot h fs rest more = rw (kind-at (0 ∷ 0 ∷ 0 ∷ 0 ∷ 0 ∷ 0 ∷ rest))
@@ -99,6 +122,10 @@ module _ (xs : List ℕ) (i : ℕ) (behind : length xs ≡ i * 6) where
       let ys : List ℕ = 6 ∷ k ∷ 0 ∷ 0 ∷ 0 ∷ 0 ∷ rest in
       rw (kind-at ys, cell-at ys 1)
   row-read (callRows rowSweep) h fs rest more = rw (kind-at (7 ∷ 0 ∷ 0 ∷ 0 ∷ 0 ∷ 0 ∷ rest))
+  row-read (callRows (rowTry (loadDefine l bs) n)) h fs rest more = try-define-read l bs n fs rest more
+  row-read (callRows (rowTry (loadRecord l m c) n)) h fs rest more =
+      let ys : List ℕ = 9 ∷ l ∷ m ∷ c ∷ n ∷ 0 ∷ rest in
+      rw (kind-at ys, cell-at ys 1, cell-at ys 2, cell-at ys 3, cell-at ys 4)
 
 row-length : (c : Call) (s : ℕ) → length (rowOf c s) ≡ 6
 unfolding rowOf
@@ -110,6 +137,8 @@ row-length callStep s = refl
 row-length (callRun n) s = refl
 row-length (callRows (rowDrop k)) s = refl
 row-length (callRows rowSweep) s = refl
+row-length (callRows (rowTry (loadDefine l bs) n)) s = refl
+row-length (callRows (rowTry (loadRecord l m c) n)) s = refl
 
 cells-length : (cs : List Call) (s : ℕ) → length (cellsOf cs s) ≡ length cs * 6
 unfolding cellsOf

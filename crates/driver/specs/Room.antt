@@ -3,7 +3,7 @@ use mathlib.Core.List.{List, [], _∷_}
 use Prim.Native.Nat.{ℕ, _+_, _<_}
 use native.Mathlib.Omega.{arith}
 use lib.ListN.{length, length-append}
-use Rattle.definition.specs.Calls.{rowDefine, rowRecord, rowStart, rowDrop, rowSweep, Call, callBoot, callRows, callStep, callRun}
+use Rattle.definition.specs.Calls.{rowDefine, rowRecord, rowStart, rowDrop, rowSweep, rowTry, loadDefine, loadRecord, Call, callBoot, callRows, callStep, callRun}
 use Rattle.definition.specs.Widths.{EachBelow, Fitting}
 use Rattle.layout.specs.Tests.{All}
 use Rattle.widths.specs.Below.{below-both}
@@ -19,6 +19,8 @@ Narrow callStep = Unit {0}
 Narrow (callRun n) = n < 4294967296
 Narrow (callRows (rowDrop k)) = k < 4294967296
 Narrow (callRows rowSweep) = Unit {0}
+Narrow (callRows (rowTry (loadDefine l bs) n)) = (l < 4294967296) × (n < 4294967296)
+Narrow (callRows (rowTry (loadRecord l m c) n)) = (l < 4294967296) × (m < 4294967296) × (c < 4294967296) × (n < 4294967296)
 
 row-fits : (c : Call) (s : ℕ) → Narrow c → s + length (fileOf c) < 4294967296 → EachBelow 4294967296 (rowOf c s)
 unfolding rowOf fileOf
@@ -30,6 +32,8 @@ row-fits callStep s n h = (omega arith, (omega arith, (omega arith, (omega arith
 row-fits (callRun m) s n h = (omega arith, (n, (omega arith, (omega arith, (omega arith, (omega arith, tt))))))
 row-fits (callRows (rowDrop k)) s n h = (omega arith, (n, (omega arith, (omega arith, (omega arith, (omega arith, tt))))))
 row-fits (callRows rowSweep) s n h = (omega arith, (omega arith, (omega arith, (omega arith, (omega arith, (omega arith, tt))))))
+row-fits (callRows (rowTry (loadDefine l bs) k)) s n h = (omega arith, (n .0, (omega arith, (omega arith, (n .1, (omega arith, tt))))))
+row-fits (callRows (rowTry (loadRecord l m c) k)) s n h = (omega arith, (n .0, (n .1, (n .2, (n .3, (omega arith, tt))))))
 
 cells-fit : (cs : List Call) (s : ℕ) → All Narrow cs → s + length (filesOf cs) < 4294967296 → EachBelow 4294967296 (cellsOf cs s)
 unfolding cellsOf filesOf
@@ -52,6 +56,8 @@ file-fits callStep f = tt
 file-fits (callRun n) f = tt
 file-fits (callRows (rowDrop k)) f = tt
 file-fits (callRows rowSweep) f = tt
+file-fits (callRows (rowTry (loadDefine l bs) n)) f = f
+file-fits (callRows (rowTry (loadRecord l m c) n)) f = tt
 
 -- the files' bytes
 pub files-fit : (cs : List Call) → All Fitting cs → EachBelow 256 (filesOf cs)

@@ -7,7 +7,7 @@ ghost use lib.ListN.{length};
 ghost use lib.Dec.{leb};
 ghost use Rattle.definition.specs.Instructions.{pick};
 ghost use Rattle.definition.specs.Tables.{tables};
-ghost use Rattle.definition.specs.Calls.{boot, callDefine, callStart};
+ghost use Rattle.definition.specs.Calls.{boot, callDefine, callStart, callTry, loadDefine};
 ghost use Rattle.definition.specs.Answers.{number, numberOfStep, numberOf, endsIn, countOf};
 ghost use Rattle.driver.specs.Encoded.{callCells, answerCells, fileIn, callIn, callsIn};
 ghost use Rattle.driver.specs.Driven.{putReply, isAccepted, driven, performed, drive, SafelyDriven};
@@ -143,6 +143,16 @@ fn read_define(loader: u32, start: u32, size: u32, room: usize) -> Row
     Row::Readable(Call::Define(loader))
 }
 
+// A define that is tried with a list of n numbers, if its file lies within that many bytes.
+fn read_try(loader: u32, start: u32, size: u32, n: u32, room: usize) -> Row
+    ensures { λ r. ⌜ ((bs : List ℕ) → callMade r bs ≡ pick (leb (start + size) room) (some (callTry (loadDefine loader bs) n)) none) ⌝ }
+{
+    if room < cells::wide32(start) + cells::wide32(size) {
+        return Row::Unreadable;
+    }
+    Row::Readable(Call::TryDefine(loader, n))
+}
+
 // A start, if its name and method are 16-bit numbers.
 fn read_start(task: u32, loader: u32, name: u32, method: u32, value: u32) -> Row
     ensures { λ r. ⌜ ((bs : List ℕ) → callMade r bs ≡ pick (leb name 65535) (pick (leb method 65535) (some (callStart task loader name method value)) none) none) ⌝ }
@@ -179,6 +189,8 @@ fn read_row(list: &[u32], files: &[u8], i: usize) -> Row
         5 => Row::Readable(Call::Run(first)),
         6 => Row::Readable(Call::Drop(first)),
         7 => Row::Readable(Call::Sweep),
+        8 => read_try(first, list[at + 2], list[at + 3], list[at + 4], files.len()),
+        9 => Row::Readable(Call::TryRecord(first, list[at + 2], list[at + 3], list[at + 4])),
         _ => Row::Unreadable,
     }
 }

@@ -5,8 +5,9 @@ use Prim.Native.Nat.{ℕ, zero, suc, _+_, _-_, _<_, _≤_}
 use native.Mathlib.Numerals.{add-one}
 use native.Mathlib.Omega.{arith}
 use lib.ListN.{length, getD, set, take, drop, length-set, drop-of-length-le}
-use lib.Seq.{set-out}
+use lib.Seq.{set-out, getD-set-same, getD-set-other}
 use Rattle.definition.specs.Lists.{writeRows}
+use Rattle.layout.specs.Places.{writeRows-length}
 use Rattle.layout.specs.Cells.{cell-rows, rows-copy, cells-block}
 
 -- cells past the end are not written
@@ -64,3 +65,20 @@ pub copied : (xs t : List ℕ) → length xs ≡ length t → writeRows set xs 0
 copied xs t e =
     let n : drop (0 + length xs) t ≡ [] = drop-of-length-le t {i = 0 + length xs} (omega arith) in
     cells-block xs 0 t (omega arith) ∙ (rw n (append-nil xs))
+
+-- a cell of a table with the cells of another written over its front, as far as it has room
+pub written-front : (xs : List ℕ) (j i : ℕ) (t : List ℕ) → i < length xs → j + i < length t → getD (writeRows set xs j t) (j + i) 0 ≡ getD xs i 0
+unfolding writeRows
+written-front [] j i t l h = absurd (omega arith)
+written-front (x ∷ xs) j zero t l h =
+    let z : j + 0 ≡ j = omega arith in
+    rw z (getD-set-same (writeRows set xs (suc j) t) j x 0 (omega (arith, writeRows-length set length-set xs (suc j) t)))
+written-front (x ∷ xs) j (suc i) t l h =
+    let z : j + suc i ≡ suc j + i = omega arith in
+    rw z (getD-set-other (writeRows set xs (suc j) t) j (suc j + i) x 0 (λ e. omega arith) ∙ written-front xs (suc j) i t (omega arith) (omega arith))
+
+-- and one behind them
+pub written-behind : (xs : List ℕ) (j : ℕ) (t : List ℕ) (i : ℕ) → j + length xs ≤ i → getD (writeRows set xs j t) i 0 ≡ getD t i 0
+unfolding writeRows
+written-behind [] j t i h = refl
+written-behind (x ∷ xs) j t i h = getD-set-other (writeRows set xs (suc j) t) j i x 0 (λ e. omega arith) ∙ written-behind xs (suc j) t i (omega arith)

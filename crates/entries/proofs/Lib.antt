@@ -2,3 +2,4 @@
 pub mod Laws
 pub mod Trial
 pub mod Calls
+pub mod Offers

@@ -1,4 +1,4 @@
--- A new entry tried on a copy of the cache: what the copies hold, and what their test of agreement decides.
+-- A new entry tried on a copy of the cache: what the copies hold, what their test of agreement decides, and why they don't agree.
 use mathlib.Core.Path.{_≡_, refl, sym, ap, _∙_}
 use mathlib.Core.Bool.{Bool, true, false}
 use mathlib.Core.Option.{Option, none, some}
@@ -13,37 +13,30 @@ use borrow.Author.Tests.{lt-ltb, ltb-true, ltb-false, eqb-true, eqb-false}
 use Rattle.definition.specs.Lists.{rows, writeRows}
 use Rattle.definition.specs.Requests.{at}
 use Rattle.definition.specs.Classes.{Base, Class, Entry, superOf, find, lower}
-use Rattle.definition.specs.Constraints.{agrees}
+use Rattle.definition.specs.Constraints.{World, agrees}
 use Rattle.definition.specs.Loading.{withEntry}
-use Rattle.definition.specs.Tables.{putThree, entry, entryAt, putEntry, tieAt, subtypeAt, classRowAt}
+use Rattle.definition.specs.Numbers.{tieNumbersCell, subtypeNumbersCell}
+use Rattle.definition.specs.Tables.{RowNumbers, rowNumbers, putThree, entry, entryAt, putEntry, tieAt, subtypeAt, numberAt, classRowAt}
+use Rattle.definition.specs.Broken.{numbered}
+use Rattle.definition.specs.Reasons.{tieLinks, subtypeLinks, reasonOver, reason}
 use Rattle.laws.specs.Agreement.{super-falls, find-more}
-use Rattle.layout.specs.Places.{rows-getD, rows-length, writeRows-length}
+use Rattle.layout.specs.Places.{rows-getD, rows-cong, rows-length, writeRows-length}
 use Rattle.layout.specs.Cells.{entry-rows, rows-after-last}
 use Rattle.resolution.specs.Quick.{quickClass, quickBase}
 use Rattle.resolution.specs.Lookups.{superCell, cell-none, cell-some}
 use Rattle.constraints.specs.Agreement.{superIn, agreeIn}
 use Rattle.laws.specs.Options.{nth-last}
-use Rattle.constraints.specs.Laws.{agree-store}
-use Rattle.entries.specs.World.{worldIn, baseWith, Searchable, Loadable}
+use Rattle.constraints.specs.Linking.{numbersFit, reasonIn}
+use Rattle.constraints.specs.Laws.{within, agree-store}
+use Rattle.entries.specs.World.{worldIn, numbersIn, baseWith, Searchable, Loadable}
 use Rattle.entries.specs.Entering.{Entered}
-use Rattle.entries.proofs.Laws.{copied}
+use Rattle.entries.proofs.Laws.{written-front, copied}
 
 -- the cache with one more row
 pub entries-more : (t : List ℕ) (n l m c : ℕ) → suc n * 3 ≤ length t
     → rows (entryAt (putThree t n l m c)) (n + 1) 0 ≡ rows (entryAt t) n 0 ++ (entry l m c ∷ [])
 unfolding putEntry
 entries-more t n l m c h = ap (λ (k : ℕ). rows (entryAt (putThree t n l m c)) k 0) (add-one n) ∙ rows-after-last entry-rows t n (entry l m c) h
-
--- a cell of a table with the cells of another written over its front, as far as it has room
-front : (xs : List ℕ) (j i : ℕ) (t : List ℕ) → i < length xs → j + i < length t → getD (writeRows set xs j t) (j + i) 0 ≡ getD xs i 0
-unfolding writeRows
-front [] j i t l h = absurd (omega arith)
-front (x ∷ xs) j zero t l h =
-    let z : j + 0 ≡ j = omega arith in
-    rw z (getD-set-same (writeRows set xs (suc j) t) j x 0 (omega (arith, writeRows-length set length-set xs (suc j) t)))
-front (x ∷ xs) j (suc i) t l h =
-    let z : j + suc i ≡ suc j + i = omega arith in
-    rw z (getD-set-other (writeRows set xs (suc j) t) j (suc j + i) x 0 (λ e. omega arith) ∙ front xs (suc j) i t (omega arith) (omega arith))
 
 -- Direct superclasses by a table
 
@@ -118,10 +111,21 @@ supers-more ks es k p t long less e s c = go (eqb c (length ks)) refl
         let n : c ≡ length ks → ⊥ = eqb-false c (length ks) q in
         ap (λ (x : ℕ). elim x as (λ _. Option ℕ) [ zero ↦ none | suc p ↦ lower c p ]) (getD-set-other t (length ks) c (p + 1) 0 n) ∙ (s c ∙ other c n)
 
--- A store with one more entry: the copies hold it, and the test of agreement is the definition's
+-- Why a store doesn't agree, over its tables, where the counts are within their limits, the table of superclasses has the store's, and the rows' numbers are in turn
+pub reason-store : (w : World) (m : RowNumbers) (supers counts cache ties subtypes : List ℕ) → ((c : ℕ) → superIn supers c ≡ superOf (w .base) c)
+    → w .base .cache ≡ rows (entryAt cache) (getD counts 2 0) 0 → w .ties ≡ rows (tieAt ties) (getD counts 3 0) 0
+    → w .subtypes ≡ rows (subtypeAt subtypes) (getD counts 4 0) 0 → m ≡ numbersIn counts → getD counts 2 0 ≤ 256 → getD counts 3 0 ≤ 256 → getD counts 4 0 ≤ 256
+    → numbered m ≡ true → reasonIn supers counts cache ties subtypes ≡ reason w m
+unfolding reasonIn numbersFit reason
+reason-store w m supers counts cache ties subtypes s e t u q h k l turn =
+    let fit : numbered (numbersIn counts) ≡ true = ap numbered (sym q) ∙ turn in
+    rw (fit, reasonIn, within 256 (getD counts 2 0) h, within 256 (getD counts 3 0) k, within 256 (getD counts 4 0) l)
+    (λ i. reasonOver ltb (λ c. s c i) (sym e i) (tieLinks (sym t i) (sym q i .ties)) (tieLinks (sym t i) (sym q i .ties) ++ subtypeLinks (sym u i) (sym q i .subtypes)))
+
+-- A store with one more entry: the copies hold it, and the test of agreement is the definition's, and the reason why there is none
 
 module _ (counts classes kept cache : List ℕ) (ready : Searchable counts classes kept cache) (room : getD counts 2 0 < 256)
-    (l m c : ℕ) (zeros blank counted trial : List ℕ) (nl : length zeros ≡ 8) (el : length blank ≡ 768) (tried : Entered counts cache l m c zeros blank counted trial) where
+    (l m c : ℕ) (zeros blank counted trial : List ℕ) (size : ℕ) (nl : length zeros ≡ size) (fits : 8 ≤ size) (el : length blank ≡ 768) (tried : Entered counts cache l m c zeros blank counted trial) where
   abbrev b : Base
   b = quickBase counts classes kept cache
 
@@ -130,7 +134,7 @@ module _ (counts classes kept cache : List ℕ) (ready : Searchable counts class
 
   -- the counts that are copied: those of the classes, and of the entries with one more
   counted-front : (i : ℕ) → i < 8 → getD (writeRows set counts 0 zeros) i 0 ≡ getD counts i 0
-  counted-front i h = let z : 0 + i ≡ i = omega arith in rw z at (front counts 0 i zeros (omega (arith, ready .countsLong)) (omega arith))
+  counted-front i h = let z : 0 + i ≡ i = omega arith in rw z at (written-front counts 0 i zeros (omega (arith, ready .countsLong)) (omega arith))
 
   counted-classes : getD counted 0 0 ≡ getD counts 0 0
   counted-classes =
@@ -142,6 +146,26 @@ module _ (counts classes kept cache : List ℕ) (ready : Searchable counts class
       let z : (getD counts 2 0 + 1) % 65536 ≡ getD counts 2 0 + 1 = omega arith in
       ap (λ (x : List ℕ). getD x 2 0) (tried .count)
       ∙ (getD-set-same (writeRows set counts 0 zeros) 2 ((getD counts 2 0 + 1) % 65536) 0 (omega (arith, writeRows-length set length-set counts 0 zeros)) ∙ z)
+
+  -- all of them, where there is room
+  pub counted-is : size ≡ 776 → counted ≡ set counts 2 (getD counts 2 0 + 1)
+  counted-is nz =
+      let z : (getD counts 2 0 + 1) % 65536 ≡ getD counts 2 0 + 1 = omega arith in
+      tried .count ∙ (λ i. set (copied counts zeros (ready .countsLong ∙ sym (nl ∙ nz)) i) 2 (z i))
+
+  pub counted-other : size ≡ 776 → (j : ℕ) → (j ≡ 2 → ⊥) → getD counted j 0 ≡ getD counts j 0
+  counted-other nz j h = ap (λ (x : List ℕ). getD x j 0) (counted-is nz) ∙ getD-set-other counts 2 j (getD counts 2 0 + 1) 0 h
+
+  counted-numbers : size ≡ 776 → numbersIn counted ≡ numbersIn counts
+  unfolding numberAt
+  counted-numbers nz =
+      let e3 : getD counted 3 0 ≡ getD counts 3 0 = counted-other nz 3 (λ e. omega arith) in
+      let e4 : getD counted 4 0 ≡ getD counts 4 0 = counted-other nz 4 (λ e. omega arith) in
+      λ x. rowNumbers
+      ((ap (λ (y : ℕ). rows (numberAt tieNumbersCell counted) y 0) e3
+      ∙ rows-cong (numberAt tieNumbersCell counted) (numberAt tieNumbersCell counts) (getD counts 3 0) 0 (λ i a h. counted-other nz (tieNumbersCell + i) (λ e. omega arith))) x)
+      ((ap (λ (y : ℕ). rows (numberAt subtypeNumbersCell counted) y 0) e4
+      ∙ rows-cong (numberAt subtypeNumbersCell counted) (numberAt subtypeNumbersCell counts) (getD counts 4 0) 0 (λ i a h. counted-other nz (subtypeNumbersCell + i) (λ e. omega arith))) x)
 
   trial-is : trial ≡ putThree cache (getD counts 2 0) l m c
   trial-is = tried .row ∙ ap (λ (x : List ℕ). putThree x (getD counts 2 0) l m c) (copied cache blank (ready .cacheLong ∙ sym el))
@@ -178,23 +202,52 @@ module _ (counts classes kept cache : List ℕ) (ready : Searchable counts class
         h ∙ agree-store (withEntry (worldIn counts classes kept cache ties subtypes) (at l m) c) supers trial ties subtypes n i j supers-are (sym (f .1))
         (ap (λ (x : ℕ). rows (tieAt ties) x 0) (sym ei)) (ap (λ (x : ℕ). rows (subtypeAt subtypes) x 0) (sym ej)) (f .0) (omega (arith, ld .tiesFew)) (omega (arith, ld .subtypesFew))
 
-    -- define: a class k more, below p
-    pub class-agreed : (k : Class) (p o : ℕ) (above : List ℕ) (ties subtypes : List ℕ) (n i j : ℕ) (r : Bool) → getD counts 0 0 < 64
-        → l ≡ k .loader → m ≡ k .name → c ≡ getD counts 0 0 → o ≡ c → find (b .cache) (at (k .loader) (k .super)) ≡ some p → above ≡ set supers o (p + 1)
-        → i ≤ 256 → j ≤ 256 → n ≡ getD counted 2 0 → r ≡ agreeIn above trial n ties i subtypes j
-        → r ≡ agrees (record { base = baseWith b k; ties = rows (tieAt ties) i 0; subtypes = rows (subtypeAt subtypes) j 0 })
-    class-agreed k p o above ties subtypes n i j r few el em ec eo super ea hi hj en h =
-        let f = entries-are n en in
-        let z : c ≡ length (b .classes) = ec ∙ sym classes-few in
-        let row : _≡_ {A = Entry} (entry l m c) (entry (k .loader) (k .name) (length (b .classes))) = λ x. entry (el x) (em x) (z x) in
-        let es : more .cache ≡ baseWith b k .cache = ap (λ (x : Entry). b .cache ++ (x ∷ [])) row in
-        let t : above ≡ set supers (length (b .classes)) (p + 1) = ea ∙ ap (λ (x : ℕ). set supers x (p + 1)) (eo ∙ z) in
-        let less : p < length (b .classes) = omega (arith, ready .cached (at (k .loader) (k .super)) p super, classes-few) in
-        let long64 : length supers ≡ 64 = ap length supers-filled ∙ rows-length (superCell more) 64 0 in
-        let old : (x : ℕ) → superIn supers x ≡ superOf (record { classes = b .classes; cache = baseWith b k .cache }) x =
-        λ x. supers-are x ∙ ap (λ (y : List Entry). superOf (record { classes = b .classes; cache = y }) x) es in
-        h ∙ agree-store (record { base = baseWith b k; ties = rows (tieAt ties) i 0; subtypes = rows (subtypeAt subtypes) j 0 }) above trial ties subtypes n i j
-        (λ x. ap (λ (y : List ℕ). superIn y x) t
-        ∙ supers-more (b .classes) (baseWith b k .cache) k p supers (omega (arith, long64, classes-few)) less
-        (find-more (b .cache) (entry (k .loader) (k .name) (length (b .classes)) ∷ []) (at (k .loader) (k .super)) p super) old x)
-        (sym (f .1 ∙ es)) refl refl (f .0) hi hj
+    -- where all counts are copied, with the rows' numbers
+    pub entry-reasoned : (ties subtypes : List ℕ) → size ≡ 776 → Loadable counts classes kept cache ties subtypes → numbered (numbersIn counts) ≡ true
+        → reasonIn supers counted trial ties subtypes ≡ reason (withEntry (worldIn counts classes kept cache ties subtypes) (at l m) c) (numbersIn counts)
+    entry-reasoned ties subtypes nz ld turn =
+        let f = entries-are (getD counted 2 0) refl in
+        let e3 : getD counted 3 0 ≡ getD counts 3 0 = counted-other nz 3 (λ e. omega arith) in
+        let e4 : getD counted 4 0 ≡ getD counts 4 0 = counted-other nz 4 (λ e. omega arith) in
+        reason-store (withEntry (worldIn counts classes kept cache ties subtypes) (at l m) c) (numbersIn counts) supers counted trial ties subtypes supers-are (sym (f .1))
+        (ap (λ (x : ℕ). rows (tieAt ties) x 0) (sym e3)) (ap (λ (x : ℕ). rows (subtypeAt subtypes) x 0) (sym e4)) (sym (counted-numbers nz))
+        (f .0) (omega (arith, ld .tiesFew)) (omega (arith, ld .subtypesFew)) turn
+
+    -- define: a class k more, below p, whose cell says so
+    module _ (k : Class) (p o : ℕ) (above : List ℕ) (few : getD counts 0 0 < 64) (kl : l ≡ k .loader) (km : m ≡ k .name) (kc : c ≡ getD counts 0 0) (ko : o ≡ c)
+        (super : find (b .cache) (at (k .loader) (k .super)) ≡ some p) (ka : above ≡ set supers o (p + 1)) where
+      class-is : c ≡ length (b .classes)
+      class-is = kc ∙ sym classes-few
+
+      cache-is : more .cache ≡ baseWith b k .cache
+      cache-is =
+          let row : _≡_ {A = Entry} (entry l m c) (entry (k .loader) (k .name) (length (b .classes))) = λ x. entry (kl x) (km x) (class-is x) in
+          ap (λ (x : Entry). b .cache ++ (x ∷ [])) row
+
+      above-are : (x : ℕ) → superIn above x ≡ superOf (baseWith b k) x
+      above-are x =
+          let t : above ≡ set supers (length (b .classes)) (p + 1) = ka ∙ ap (λ (x : ℕ). set supers x (p + 1)) (ko ∙ class-is) in
+          let less : p < length (b .classes) = omega (arith, ready .cached (at (k .loader) (k .super)) p super, classes-few) in
+          let long64 : length supers ≡ 64 = ap length supers-filled ∙ rows-length (superCell more) 64 0 in
+          let old : (x : ℕ) → superIn supers x ≡ superOf (record { classes = b .classes; cache = baseWith b k .cache }) x =
+          λ x. supers-are x ∙ ap (λ (y : List Entry). superOf (record { classes = b .classes; cache = y }) x) cache-is in
+          ap (λ (y : List ℕ). superIn y x) t
+          ∙ supers-more (b .classes) (baseWith b k .cache) k p supers (omega (arith, long64, classes-few)) less
+          (find-more (b .cache) (entry (k .loader) (k .name) (length (b .classes)) ∷ []) (at (k .loader) (k .super)) p super) old x
+
+      pub class-agreed : (ties subtypes : List ℕ) (n i j : ℕ) (r : Bool) → i ≤ 256 → j ≤ 256 → n ≡ getD counted 2 0 → r ≡ agreeIn above trial n ties i subtypes j
+          → r ≡ agrees (record { base = baseWith b k; ties = rows (tieAt ties) i 0; subtypes = rows (subtypeAt subtypes) j 0 })
+      class-agreed ties subtypes n i j r hi hj en h =
+          let f = entries-are n en in
+          h ∙ agree-store (record { base = baseWith b k; ties = rows (tieAt ties) i 0; subtypes = rows (subtypeAt subtypes) j 0 }) above trial ties subtypes n i j
+          above-are (sym (f .1 ∙ cache-is)) refl refl (f .0) hi hj
+
+      -- by counts that say how many rows there are and what numbers they have
+      pub class-reasoned : (now ties subtypes : List ℕ) (i j : ℕ) (q : RowNumbers) → i ≤ 256 → j ≤ 256 → getD now 2 0 ≡ getD counted 2 0 → getD now 3 0 ≡ i
+          → getD now 4 0 ≡ j → q ≡ numbersIn now → numbered q ≡ true
+          → reasonIn above now trial ties subtypes ≡ reason (record { base = baseWith b k; ties = rows (tieAt ties) i 0; subtypes = rows (subtypeAt subtypes) j 0 }) q
+      class-reasoned now ties subtypes i j q hi hj e2 e3 e4 eq turn =
+          let f = entries-are (getD now 2 0) e2 in
+          reason-store (record { base = baseWith b k; ties = rows (tieAt ties) i 0; subtypes = rows (subtypeAt subtypes) j 0 }) q above now trial ties subtypes
+          above-are (sym (f .1 ∙ cache-is)) (ap (λ (x : ℕ). rows (tieAt ties) x 0) (sym e3)) (ap (λ (x : ℕ). rows (subtypeAt subtypes) x 0) (sym e4)) eq
+          (f .0) (omega arith) (omega arith) turn

@@ -1,18 +1,19 @@
 -- Classes, cache and constraints read off the tables at once: what the decisions of define and record go by. On a store that isn't broken they are the
 -- definition's.
 use mathlib.Core.Path.{_≡_, ap}
-use mathlib.Core.Bool.{false}
+use mathlib.Core.Bool.{true, false}
 use mathlib.Core.Option.{some}
 use mathlib.Core.List.{List, [], _∷_, _++_}
 use Prim.Native.Nat.{ℕ, _≤_, _<_}
 use native.Mathlib.Omega.{arith}
 use lib.ListN.{length, getD}
+use Rattle.definition.specs.Numbers.{tieNumbersCell, subtypeNumbersCell}
 use Rattle.definition.specs.Lists.{rows}
 use Rattle.definition.specs.Requests.{Request, at}
 use Rattle.definition.specs.Classes.{Base, Class, find, loaderOf}
 use Rattle.definition.specs.Constraints.{Tie, Subtype, World}
-use Rattle.definition.specs.Tables.{Tables, tieAt, subtypeAt, worldOf, view, viewOver, viewBase}
-use Rattle.definition.specs.Broken.{broken}
+use Rattle.definition.specs.Tables.{Tables, RowNumbers, rowNumbers, tieAt, subtypeAt, numberAt, worldOf, view, viewOver, viewBase}
+use Rattle.definition.specs.Broken.{numbered, broken}
 use Rattle.layout.specs.View.{class-count}
 use Rattle.layout.specs.Unbroken.{unbroken, broken-false}
 use Rattle.unbroken.specs.Steps.{loader-small, class-found}
@@ -26,6 +27,10 @@ worldIn counts classes kept cache ties subtypes = record {
   ties = rows (tieAt ties) (getD counts 3 0) 0;
   subtypes = rows (subtypeAt subtypes) (getD counts 4 0) 0;
 }
+
+-- the numbers of the used rows of ties and of subtype constraints
+abbrev pub numbersIn : List ℕ → RowNumbers
+numbersIn counts = rowNumbers (rows (numberAt tieNumbersCell counts) (getD counts 3 0) 0) (rows (numberAt subtypeNumbersCell counts) (getD counts 4 0) 0)
 
 abbrev pub world : Base → List Tie → List Subtype → World
 world b ts ss = record { base = b; ties = ts; subtypes = ss }
@@ -49,7 +54,7 @@ quick-world t h =
 -- What a decision asks of the tables that it reads: lengths, counts within their limits, loaders that are there, cached classes that are there
 
 pub record Searchable (counts classes kept cache : List ℕ) : Type 0 where
-  pub countsLong : length counts ≡ 264
+  pub countsLong : length counts ≡ 776
   pub cacheLong : length cache ≡ 768
   pub classesFew : getD counts 0 0 ≤ 64
   pub keptFew : getD counts 1 0 ≤ 16384
@@ -93,3 +98,8 @@ module _ (t : Tables) (h : broken t ≡ false) where
         tiesFew = u .counts .ties;
         subtypesFew = u .counts .subtypes;
       }
+
+-- the rows' numbers are in turn
+pub numbers-turn : (t : Tables) → broken t ≡ false → numbered (numbersIn (t .counts)) ≡ true
+unfolding view viewOver
+numbers-turn t h = broken-false t h .1 .numbers .turn

@@ -1,11 +1,15 @@
 // Cells and rows written one after another, and a cache with one more entry on copies: what every call that loads goes by.
+use definition::Reply;
+use definition::Trial;
 use definition::numbers::COUNT_CACHE;
 ghost use mathlib.Core.Path.{_≡_};
-ghost use Prim.Native.Nat.{_+_, _-_, _<_, _≤_};
+ghost use mathlib.Core.List.{List};
+ghost use Prim.Native.Nat.{ℕ, _+_, _-_, _<_, _≤_};
 ghost use lib.ListN.{set};
 ghost use Rattle.definition.specs.Lists.{writeRows};
 ghost use Rattle.definition.specs.Tables.{putThree};
-ghost use Rattle.entries.specs.Entering.{Entered};
+ghost use Rattle.definition.specs.Reasons.{tries, unlisted};
+ghost use Rattle.entries.specs.Entering.{Entered, Tried};
 
 // How many of n cells, written from `start` on, a table of that size has room for.
 fn room(size: usize, start: usize, n: usize) -> usize
@@ -53,7 +57,7 @@ pub fn put_three(t: &mut [u16], i: u16, a: u16, b: u16, c: u16)
 
 // The counts and the cache written over the fronts of two tables, of any lengths, with one more entry: its row stands at the old count of entries,
 // and the count grows by 1, from 65535 to 0. A cell past the end of its table is not written.
-pub fn enter(
+fn enter(
     counts: &[u16],
     cache: &[u16],
     loader: u16,
@@ -69,4 +73,33 @@ pub fn enter(
     let entries = cells::at16(counts, COUNT_CACHE);
     cells::put16(counted, COUNT_CACHE, std::num::wrapping_add_u16(entries, 1));
     put_three(trial, entries, loader, name, class);
+}
+
+// A store with one more entry, on copies: its counts and its cache, and the direct superclasses by them.
+pub fn try_entry(
+    counts: &[u16],
+    classes: &[u16],
+    kept: &[u8],
+    cache: &[u16],
+    loader: u16,
+    name: u16,
+    class: u16,
+    counted: &mut [u16],
+    trial: &mut [u16],
+    supers: &mut [u8],
+)
+    ensures { λ _. ⌜ Tried (now (counts .entry)) (now (classes .entry)) (now (kept .entry)) (now (cache .entry)) loader name class (now (counted .entry)) (now (trial .entry)) (now (supers .entry)) (now (counted .exit)) (now (trial .exit)) (now (supers .exit)) ⌝ }
+{
+    enter(counts, cache, loader, name, class, counted, trial);
+    resolution::fill_supers(supers, counted, classes, kept, trial);
+}
+
+// A tried load that lists nothing.
+pub fn unlisted(reply: Reply) -> Trial
+    ensures { λ r. ⌜ ((out : List ℕ) → tries (r .reply) (r .count) out ≡ unlisted reply out) ⌝ }
+{
+    Trial {
+        reply: reply,
+        count: 0,
+    }
 }

@@ -8,6 +8,7 @@ use native.Mathlib.Omega.{arith}
 use lib.ListN.{length, getD, set}
 use lib.Dec.{eqb}
 use borrow.Author.Tests.{eqb-true, eqb-false}
+use Rattle.definition.specs.Numbers.{tieNumbersCell}
 use Rattle.definition.specs.Lists.{stack, writeRows}
 use Rattle.definition.specs.Classes.{Base}
 use Rattle.definition.specs.Constraints.{World}
@@ -16,9 +17,9 @@ use Rattle.definition.specs.declared.Answer.{Answer}
 use Rattle.definition.specs.declared.Answer.the-variants.{Idle, Refused}
 use Rattle.definition.specs.declared.Refusal.the-variants.{Word}
 use Rattle.definition.specs.Machine.{Frame}
-use Rattle.definition.specs.Tables.{Tables, tables, Rows, putTie, worldOf, frameIn, framesOf, viewOver, view}
+use Rattle.definition.specs.Tables.{Tables, tables, Rows, putTie, worldOf, frameIn, framesOf, viewOver, view, putNumber}
 use Rattle.definition.specs.Broken.{broken}
-use Rattle.definition.specs.Calls.{given, Done, done, carried, wrap, stepTask, stepOn, stepRows, stepTables}
+use Rattle.definition.specs.Calls.{numbersFrom, given, Done, done, carried, wrap, stepTask, stepOn, stepRows, stepTables}
 use Rattle.layout.specs.View.{put-view, frames-none, frames-top}
 use Rattle.resolution.specs.Quick.{quickBase, quickOf}
 use Rattle.resolution.specs.Unbroken.{quick-base, quick-rows}
@@ -116,19 +117,21 @@ module _ (N L K E I S O F : List ℕ) (whole : broken (tables N L K E I S O F) �
       one zero e = absurd (e refl)
       one (suc n) e = omega arith
 
-  -- ties posted, which gives the counts C and the ties J, and then the plan carried out
+  -- ties posted, which gives the counts C and the ties J, then the plan carried out, and then the ties numbered
   pub turn-carried : n ≢ 0 → (b q : ℕ) (x : Posting) (p : Plan) → Chosen N L K E I S O F k (n - 1) b x p q
       → (C J : List ℕ) → C ≡ set N 3 (getD N 3 0 + length (toPost x)) → J ≡ writeRows putTie (toPost x) (getD N 3 0) I
-      → (a : Answer) (D P G : List ℕ) → Left (quickBase C L K E) C O F k (n - 1) b q p a D P G → done a (tables D L K E J S P G) ≡ stepTables T
-  turn-carried e b q x p h C J c j a D P G l =
-      left-planned N L K E I S O F k (n - 1) b (toPost x) p (h .ready) C c J j q a D P G l
+      → (a : Answer) (D P G : List ℕ) → Left (quickBase C L K E) C O F k (n - 1) b q p a D P G → (u v : ℕ) → u ≡ getD N 3 0 → v ≡ getD N 4 0
+      → (M : List ℕ) → M ≡ writeRows (putNumber tieNumbersCell) (numbersFrom (u + v) (length (toPost x))) u D → done a (tables M L K E J S P G) ≡ stepTables T
+  turn-carried e b q x p h C J c j a D P G l u v y z M w =
+      rw (w, y, z) (left-planned N L K E I S O F k (n - 1) b (toPost x) p (h .ready) C c J j q a D P G l)
       ∙ (planned-taken T k (n - 1) b q x p h ∙ (rw turns (sym (step-taken T whole (n - 1) (rw turns at (turn-count e))))))
 
   -- the same, where a top frame says its task and its row
   pub top-carried : n ≢ 0 → (h i : ℕ) → h ≡ k → i ≡ n - 1 → (b q : ℕ) (x : Posting) (p : Plan) → Chosen N L K E I S O F h i b x p q
       → (C J : List ℕ) → C ≡ set N 3 (getD N 3 0 + length (toPost x)) → J ≡ writeRows putTie (toPost x) (getD N 3 0) I
-      → (a : Answer) (D P G : List ℕ) → Left (quickBase C L K E) C O F h i b q p a D P G → done a (tables D L K E J S P G) ≡ stepTables T
-  top-carried e h i y z b q x p g C J c j a D P G l = turn-carried e b q x p (rw (y, z) at g) C J c j a D P G (rw (y, z) at l)
+      → (a : Answer) (D P G : List ℕ) → Left (quickBase C L K E) C O F h i b q p a D P G → (u v : ℕ) → u ≡ getD N 3 0 → v ≡ getD N 4 0
+      → (M : List ℕ) → M ≡ writeRows (putNumber tieNumbersCell) (numbersFrom (u + v) (length (toPost x))) u D → done a (tables M L K E J S P G) ≡ stepTables T
+  top-carried e h i y z b q x p g C J c j a D P G l u v f r M w = turn-carried e b q x p (rw (y, z) at g) C J c j a D P G (rw (y, z) at l) u v f r M w
 
 pub step-broken : (t : Tables) → broken t ≡ true → done (Refused (Word 1)) t ≡ stepTables t
 unfolding stepTables wrap

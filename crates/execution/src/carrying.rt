@@ -1,9 +1,11 @@
 // The one place that writes: ties are posted, and plans carried out.
 use definition::Answer;
 use definition::numbers::COUNT_OBJECTS;
+use definition::numbers::COUNT_SUBTYPES;
 use definition::numbers::COUNT_TIES;
 use definition::numbers::FIELD_LIMIT;
 use definition::numbers::KIND_OBJECT;
+use definition::numbers::TIE_NUMBERS_CELL;
 use frames::Cell;
 use frames::Entry;
 use frames::Top;
@@ -13,10 +15,11 @@ ghost use mathlib.Core.Path.{_≡_};
 ghost use mathlib.Core.List.{[]};
 ghost use Prim.Native.Nat.{suc, _+_, _-_, _<_, _≤_};
 ghost use lib.ListN.{length, getD, set};
-ghost use Rattle.definition.specs.Numbers.{tieLimit, objectLimit, fieldLimit, frameLimit, operandLimit, countTies, countObjects, countFrames, ownersCell, depthCell};
+ghost use Rattle.definition.specs.Numbers.{tieLimit, subtypeLimit, objectLimit, fieldLimit, frameLimit, operandLimit, countTies, countSubtypes, tieNumbersCell, countObjects, countFrames, ownersCell, depthCell};
 ghost use Rattle.definition.specs.Lists.{writeRows};
 ghost use Rattle.definition.specs.Machine.{objectValue, newObject, entryFrame};
-ghost use Rattle.definition.specs.Tables.{tables, putTie, valueOf, sizeOf, putObject, putOperand, putLocal, putFrame, frameBase};
+ghost use Rattle.definition.specs.Tables.{tables, putTie, putNumber, valueOf, sizeOf, putObject, putOperand, putLocal, putFrame, frameBase};
+ghost use Rattle.definition.specs.Calls.{numbersFrom};
 ghost use Rattle.layout.specs.Cells.{moved};
 ghost use Rattle.layout.specs.OwnedRows.{rowsWith};
 ghost use Rattle.resolution.specs.Quick.{quickBase};
@@ -24,18 +27,50 @@ ghost use Rattle.instructions.specs.Plans.{Fit};
 ghost use Rattle.posting.specs.Postings.{toPost};
 ghost use Rattle.execution.specs.Carried.{Left};
 
-// Ties posted: their rows and their count.
-pub(crate) fn post_ties(counts: &mut [u16], ties: &mut [u16], posting: Posting)
+// How many ties and subtype constraints there were before a step.
+pub(crate) struct Before {
+    pub(crate) ties: u16,
+    pub(crate) subtypes: u16,
+}
+
+// Ties posted: their rows and their count. Answers how many rows there were.
+pub(crate) fn post_ties(counts: &mut [u16], ties: &mut [u16], posting: Posting) -> Before
     requires { ⌜ getD (now counts) countTies 0 + length (toPost posting) ≤ tieLimit ⌝ }
     ensures counted { λ _. ⌜ now (counts .exit) ≡ set (now (counts .entry)) countTies (getD (now (counts .entry)) countTies 0 + length (toPost posting)) ⌝ }
     ensures written { λ _. ⌜ now (ties .exit) ≡ writeRows putTie (toPost posting) (getD (now (counts .entry)) countTies 0) (now (ties .entry)) ⌝ }
+    ensures behind { λ r. ⌜ (r .ties ≡ getD (now (counts .entry)) countTies 0) × (r .subtypes ≡ getD (now (counts .entry)) countSubtypes 0) ⌝ }
 {
-    if let Posting::Nothing = posting {
-        return;
-    }
     let n = cells::at16(counts, COUNT_TIES);
+    let subtypes = cells::at16(counts, COUNT_SUBTYPES);
     posting::write_ties(ties, n, posting);
     cells::put16(counts, COUNT_TIES, n + posting::tie_number(posting));
+    Before { ties: n, subtypes }
+}
+
+// The number of tie row i written.
+fn write_number(counts: &mut [u16], i: u16, k: u16)
+    ensures { λ _. ⌜ now (counts .exit) ≡ putNumber tieNumbersCell (now (counts .entry)) i k ⌝ }
+{
+    cells::put16(counts, TIE_NUMBERS_CELL + cells::wide16(i), k);
+}
+
+// Posted ties get the numbers behind all that were there.
+pub(crate) fn number_ties(counts: &mut [u16], before: Before, posting: Posting)
+    requires { ⌜ (before .ties ≤ tieLimit) × (before .subtypes ≤ subtypeLimit) ⌝ }
+    ensures { λ _. ⌜ now (counts .exit) ≡ writeRows (putNumber tieNumbersCell) (numbersFrom (before .ties + before .subtypes) (length (toPost posting))) (before .ties) (now (counts .entry)) ⌝ }
+{
+    let row = before.ties;
+    let number = row + before.subtypes;
+    match posting {
+        Posting::Nothing => {}
+        Posting::One(_, _, _) => {
+            write_number(counts, row, number);
+        }
+        Posting::Two(_, _, _, _) => {
+            write_number(counts, row + 1, number + 1);
+            write_number(counts, row, number);
+        }
+    }
 }
 
 // A value pushed: the frame goes on at point q with d operands and the value above them.

@@ -1,5 +1,6 @@
 // One step, of the task whose turn it is.
 use crate::carrying::carry_out;
+use crate::carrying::number_ties;
 use crate::carrying::post_ties;
 use crate::deciding::choose;
 use crate::deciding::top_frame;
@@ -49,8 +50,8 @@ pub(crate) fn step_unbroken(
     );
     let posting = r.posting;
     let plan = r.plan;
-    post_ties(counts, ties, posting);
-    carry_out(
+    let before = post_ties(counts, ties, posting);
+    let answer = carry_out(
         counts,
         classes,
         kept,
@@ -60,7 +61,9 @@ pub(crate) fn step_unbroken(
         top,
         r.next,
         plan,
-    )
+    );
+    number_ties(counts, before, posting);
+    answer
 }
 
 // One instruction of the quote if it has a frame, else of the report.

@@ -9,11 +9,14 @@ use lib.ListN.{length, getD, replicate, length-replicate, getD-replicate, length
 use lib.Seq.{getD-append-add}
 use lib.Dec.{eqb, leb}
 use borrow.Author.Tests.{eqb-true, eqb-false, eq-eqb, ne-eqb, leb-true, not-false}
-use Rattle.definition.specs.Numbers.{taskLimit, classLimit, keptLimit, cacheLimit, tieLimit, subtypeLimit, objectLimit, frameLimit, countClasses, countKept, countCache, countTies, countSubtypes, countObjects, countFrames, ownersCell, countsLength, classesLength, keptLength, cacheLength, tiesLength, subtypesLength, objectsLength, framesLength}
+use Rattle.definition.specs.Numbers.{taskLimit, classLimit, keptLimit, cacheLimit, tieLimit, subtypeLimit, objectLimit, frameLimit, countClasses, countKept, countCache, countTies, countSubtypes, countObjects, countFrames, ownersCell, tieNumbersCell, subtypeNumbersCell, countsLength, classesLength, keptLength, cacheLength, tiesLength, subtypesLength, objectsLength, framesLength}
 use Rattle.definition.specs.Lists.{every, any, rows, stack}
 use Rattle.definition.specs.Classes.{Base}
-use Rattle.definition.specs.Tables.{Tables, tables, shaped, baseOf, classRowAt, entryAt, tieAt, subtypeAt, objectAt, ownedBy, ownerAt, objectRowAt, frameIn, classRowsOf, keptOf, cacheOf, viewBase, objectsOf, framesOf, viewOver, view}
-use Rattle.definition.specs.Broken.{within, whole, broken}
+use Rattle.definition.specs.Tables.{Tables, tables, rowNumbers, numberAt, numbersOf, shaped, baseOf, classRowAt, entryAt, tieAt, subtypeAt, objectAt, ownedBy, ownerAt, objectRowAt, frameIn, classRowsOf, keptOf, cacheOf, viewBase, objectsOf, framesOf, viewOver, view}
+use Rattle.definition.specs.Broken.{within, inTurn, numbered, whole, broken}
+use Rattle.definition.specs.Calls.{numbersFrom}
+use Rattle.layout.specs.Places.{rows-length, rows-getD, rows-cong}
+use Rattle.layout.specs.InTurn.{more-ties, more-subtypes}
 use Rattle.layout.specs.Tests.{every-true}
 use Rattle.first.specs.Tables.{FirstTables, firstCountsLength, firstShaped, FirstRows, firstRowsOf, firstObjectsOf, firstViewOver, firstViewBase, firstView}
 use Rattle.first.specs.Broken.{firstSound, firstWhole, firstBroken}
@@ -31,24 +34,83 @@ withCounts n t = tables n (t .classes) (t .kept) (t .cache) (t .ties) (t .subtyp
 
 -- Today's tables t say what the first document's tables u say
 pub record Carries (u : FirstTables) (t : Tables) : Type 0 where
-  -- behind the counts of u stands an owner for each of the 256 rows of objects
-  pub owners : List ℕ
-  pub counts : t .counts ≡ u .counts ++ owners
-  pub all : length owners ≡ objectLimit
-  -- that of an object of u is a task, whichever; what an unused row's cell says doesn't matter
-  pub tasks : (o : ℕ) → o < getD (u .counts) countObjects 0 → o < objectLimit → IsOwner (getD owners o 0)
+  -- behind the counts of u stands an owner for each of the 256 rows of objects, then a number for each of the 256 rows of ties and of subtype constraints
+  pub behind : List ℕ
+  pub counts : t .counts ≡ u .counts ++ behind
+  pub all : length behind ≡ objectLimit + (tieLimit + subtypeLimit)
+  -- the owner of an object of u is a task, whichever; what an unused row's cell says doesn't matter
+  pub tasks : (o : ℕ) → o < getD (u .counts) countObjects 0 → o < objectLimit → IsOwner (getD behind o 0)
+  -- the numbers of the rows of u are some that aren't broken, whichever
+  pub turn : length (u .counts) ≡ firstCountsLength → getD (u .counts) countTies 0 ≤ tieLimit → getD (u .counts) countSubtypes 0 ≤ subtypeLimit → numbered (numbersOf t) ≡ true
   -- the other seven tables are the same
   pub rest : u ≡ withCounts (u .counts) t
 
--- every tables of the first document are carried: by those in which task k owns every row
-pub carrying : (k : ℕ) → k < taskLimit → (u : FirstTables) → Carries u (withCounts (u .counts ++ replicate objectLimit (suc k)) u)
-carrying k two u = record {
-  owners = replicate objectLimit (suc k);
-  counts = refl;
-  all = length-replicate objectLimit (suc k);
-  tasks = λ o _ l. (k, two, getD-replicate objectLimit o (suc k) 0 l);
-  rest = refl;
-}
+-- ties numbered first, n of them, then subtype constraints
+abbrev pub tiesFirst : ℕ → List ℕ
+tiesFirst n = numbersFrom 0 tieLimit ++ numbersFrom n subtypeLimit
+
+-- every tables of the first document are carried: by those in which task k owns every row, with ties numbered first
+abbrev pub carriedBy : ℕ → FirstTables → Tables
+carriedBy k u = withCounts (u .counts ++ (replicate objectLimit (suc k) ++ tiesFirst (getD (u .counts) countTies 0))) u
+
+module _ (c ow : List ℕ) (n m : ℕ) (eight : length c ≡ ownersCell) (all : length ow ≡ objectLimit) (few : n ≤ tieLimit) (less : m ≤ subtypeLimit) where
+  abbrev cells : List ℕ
+  cells = c ++ (ow ++ tiesFirst n)
+
+  cell-behind : (j : ℕ) → getD cells (tieNumbersCell + j) 0 ≡ getD (tiesFirst n) j 0
+  cell-behind j =
+      let a : tieNumbersCell + j ≡ length c + (length ow + j) = omega arith in
+      rw a (getD-append-add c (ow ++ tiesFirst n) (length ow + j) 0 ∙ getD-append-add ow (tiesFirst n) j 0)
+
+  tie-numbers : rows (numberAt tieNumbersCell cells) n 0 ≡ numbersFrom 0 n
+  unfolding numberAt
+  tie-numbers = rows-cong (numberAt tieNumbersCell cells) (λ i. i) n 0 (λ i _ l.
+      let z : 0 + i ≡ i = omega arith in
+      cell-behind i ∙ (List·getD-append (numbersFrom 0 tieLimit) (numbersFrom n subtypeLimit) 0 i (omega (arith, rows-length (λ i. i) tieLimit 0))
+      ∙ (rw z at (rows-getD (λ i. i) tieLimit 0 i 0 (omega arith)))))
+
+  subtype-numbers : rows (numberAt subtypeNumbersCell cells) m 0 ≡ numbersFrom n m
+  unfolding numberAt rows
+  subtype-numbers =
+      rows-cong (numberAt subtypeNumbersCell cells) (λ i. n + i) m 0 (λ i _ l.
+      let a : subtypeNumbersCell + i ≡ tieNumbersCell + (length (numbersFrom 0 tieLimit) + i) = omega (arith, rows-length (λ i. i) tieLimit 0) in
+      rw a (cell-behind (length (numbersFrom 0 tieLimit) + i) ∙ (getD-append-add (numbersFrom 0 tieLimit) (numbersFrom n subtypeLimit) i 0
+      ∙ rows-getD (λ i. i) subtypeLimit n i 0 (omega arith))))
+      ∙ shifted m 0 n (omega arith)
+    where
+      shifted : (m i j : ℕ) → j ≡ n + i → rows (λ i. n + i) m i ≡ numbersFrom j m
+      shifted zero i j e = refl
+      shifted (suc m) i j e = λ k. sym e k ∷ shifted m (suc i) (suc j) (omega arith) k
+
+-- ties numbered first are in turn
+first-in-turn : (n m : ℕ) → numbered (rowNumbers (numbersFrom 0 n) (numbersFrom n m)) ≡ true
+unfolding numbered inTurn
+first-in-turn n m =
+    rw (rows-length (λ i. i) n 0, rows-length (λ i. i) m n)
+    (more-subtypes n 0 m n (n + m) (numbersFrom 0 n) [] (omega (arith, rows-length (λ i. i) n 0)) (omega arith) (omega arith)
+    (more-ties 0 0 n 0 n [] [] (omega arith) (omega arith) (omega arith) refl))
+
+pub carrying : (k : ℕ) → k < taskLimit → (u : FirstTables) → Carries u (carriedBy k u)
+carrying k two u =
+    let n : ℕ = getD (u .counts) countTies 0 in
+    let ow : List ℕ = replicate objectLimit (suc k) in
+    let long : length ow ≡ objectLimit = length-replicate objectLimit (suc k) in
+    record {
+      behind = ow ++ tiesFirst n;
+      counts = refl;
+      all = omega (arith, length-append ow (tiesFirst n), long, length-append (numbersFrom 0 tieLimit) (numbersFrom n subtypeLimit), rows-length (λ i. i) tieLimit 0, rows-length (λ i. i) subtypeLimit n);
+      tasks = λ o _ l. (k, two, List·getD-append ow (tiesFirst n) 0 o (omega (arith, long)) ∙ getD-replicate objectLimit o (suc k) 0 l);
+      turn = λ eight few less.
+          let cell : (j : ℕ) → j < ownersCell → getD (u .counts ++ (ow ++ tiesFirst n)) j 0 ≡ getD (u .counts) j 0 = λ j l. List·getD-append (u .counts) (ow ++ tiesFirst n) 0 j (omega arith) in
+          rw (
+            cell countTies (omega arith),
+            cell countSubtypes (omega arith),
+            tie-numbers (u .counts) ow n (getD (u .counts) countSubtypes 0) eight long few less,
+            subtype-numbers (u .counts) ow n (getD (u .counts) countSubtypes 0) eight long few less,
+          )
+          (first-in-turn n (getD (u .counts) countSubtypes 0));
+      rest = refl;
+    }
 
 -- the tables keep a file of a later version for a class, or none
 unfoldable pub keepsLater : FirstTables → Bool
@@ -68,17 +130,17 @@ unbroken-keeps-none u h = fits-early (firstViewBase u) (keptOf u) (classRowsOf u
 
 -- The published lengths
 
-same-length : (n : ℕ) → eqb n firstCountsLength ≡ eqb (n + objectLimit) countsLength
+same-length : (n : ℕ) → eqb n firstCountsLength ≡ eqb (n + (objectLimit + (tieLimit + subtypeLimit))) countsLength
 same-length n = go (eqb n firstCountsLength) refl
   where
-    go : (b : Bool) → eqb n firstCountsLength ≡ b → b ≡ eqb (n + objectLimit) countsLength
-    go true e = sym (eq-eqb (n + objectLimit) countsLength (ap (λ (z : ℕ). z + objectLimit) (eqb-true n firstCountsLength e)))
-    go false e = sym (ne-eqb (n + objectLimit) countsLength (λ q. eqb-false n firstCountsLength e (omega arith)))
+    go : (b : Bool) → eqb n firstCountsLength ≡ b → b ≡ eqb (n + (objectLimit + (tieLimit + subtypeLimit))) countsLength
+    go true e = sym (eq-eqb (n + (objectLimit + (tieLimit + subtypeLimit))) countsLength (ap (λ (z : ℕ). z + (objectLimit + (tieLimit + subtypeLimit))) (eqb-true n firstCountsLength e)))
+    go false e = sym (ne-eqb (n + (objectLimit + (tieLimit + subtypeLimit))) countsLength (λ q. eqb-false n firstCountsLength e (omega arith)))
 
 pub same-shaped : (u : FirstTables) (t : Tables) → Carries u t → firstShaped u ≡ shaped t
 unfolding firstShaped shaped
 same-shaped u t h =
-    let n : length (t .counts) ≡ length (u .counts) + objectLimit = ap length (h .counts) ∙ (length-append (u .counts) (h .owners) ∙ ap (λ (z : ℕ). length (u .counts) + z) (h .all)) in
+    let n : length (t .counts) ≡ length (u .counts) + (objectLimit + (tieLimit + subtypeLimit)) = ap length (h .counts) ∙ (length-append (u .counts) (h .behind) ∙ ap (λ (z : ℕ). length (u .counts) + z) (h .all)) in
     let e : eqb (length (u .counts)) firstCountsLength ≡ eqb (length (t .counts)) countsLength = same-length (length (u .counts)) ∙ ap (λ (z : ℕ). eqb z countsLength) (sym n) in
     λ i. every
     (e i
@@ -103,11 +165,11 @@ same-read b n t (suc k) i h =
 
 module _ (u : FirstTables) (t : Tables) (h : Carries u t) (early-u : EarlyTables u) (eight : length (u .counts) ≡ firstCountsLength) where
   same-cell : (j : ℕ) → j < firstCountsLength → getD (u .counts) j 0 ≡ getD (t .counts) j 0
-  same-cell j l = sym (ap (λ (z : List ℕ). getD z j 0) (h .counts) ∙ List·getD-append (u .counts) (h .owners) 0 j (omega arith))
+  same-cell j l = sym (ap (λ (z : List ℕ). getD z j 0) (h .counts) ∙ List·getD-append (u .counts) (h .behind) 0 j (omega arith))
 
-  same-owner : (o : ℕ) → ownerAt (t .counts) o ≡ getD (h .owners) o 0
+  same-owner : (o : ℕ) → ownerAt (t .counts) o ≡ getD (h .behind) o 0
   unfolding ownerAt
-  same-owner o = ap (λ (z : List ℕ). getD z (ownersCell + o) 0) (h .counts) ∙ (rw eight at (getD-append-add (u .counts) (h .owners) o 0))
+  same-owner o = ap (λ (z : List ℕ). getD z (ownersCell + o) 0) (h .counts) ∙ (rw eight at (getD-append-add (u .counts) (h .behind) o 0))
 
   same-within : within (u .counts) ≡ within (t .counts)
   unfolding within
@@ -179,12 +241,16 @@ module _ (u : FirstTables) (t : Tables) (h : Carries u t) where
   unfolding within
   same-rows e s w = same-view u t h e (eight-counts s) (leb-true _ _ (every-true _ w .1 .1 .1 .1 .1 .0))
 
+  same-turn : firstShaped u ≡ true → within (u .counts) ≡ true → numbered (view t .numbers) ≡ true
+  unfolding within view viewOver
+  same-turn s w = let p = every-true _ w in h .turn (eight-counts s) (leb-true _ _ (p .1 .1 .1 .0)) (leb-true _ _ (p .1 .1 .1 .1 .0))
+
   pub same-broken : EarlyTables u → firstBroken u ≡ broken t
   unfolding firstBroken broken firstWhole whole
   same-broken e = ap not
       (in-turn _ _ _ _ (same-shaped u t h) (λ s. in-turn _ _ _ _ (same-within u t h e (eight-counts s)) (λ w.
       let r = same-rows e s w in
-      ap (λ (z : Bool). every (z ∷ [])) (ap firstSound (r .rest) ∙ same-sound (firstView u .objects) (view t) (r .objects) (early-rows u t e r)))))
+      ap (λ (z : Bool). every (z ∷ [])) (ap firstSound (r .rest) ∙ same-sound (firstView u .objects) (view t) (r .objects) (same-turn s w) (early-rows u t e r)))))
 
   -- a store that isn't broken
   pub record SameStore : Type 0 where

@@ -6,6 +6,8 @@
 --
 -- 1, dead objects: `Carries` forgets the owners. No call of the first document frees a row, so none is involved.
 -- 2, choices and loops: tables carry as before. Files of version 2 are involved: a define of one, and any call but boot on tables that keep one.
+-- 3, why a load clashed: `Carries` forgets the numbers of rows, which are some that aren't broken. Every call of the first document numbers on, so none is involved. A tried
+-- load is no call of the first document, as a sweep is none.
 use mathlib.Core.Path.{_≡_, refl, ap}
 use mathlib.Core.Bool.{Bool, true, false}
 use mathlib.Core.List.{List, [], _∷_, map}

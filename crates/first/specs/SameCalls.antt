@@ -21,6 +21,11 @@ use Rattle.laws.specs.Wrapped.{Ok, then}
 use Rattle.layout.specs.Places.{rows-getD}
 use Rattle.layout.specs.Rows.{rows-back, cell-rows}
 use Rattle.layout.specs.Fills.{classes-fill, kept-fill}
+use Rattle.layout.specs.ReadBack.{Lengths, shaped-true}
+use Rattle.layout.specs.Unbroken.{broken-false}
+use Rattle.layout.specs.Whole.{Whole}
+use Rattle.unbroken.specs.Calls.{boot-whole, rows-whole, step-whole}
+use Rattle.unbroken.specs.Unbroken.{Keeps}
 use Rattle.definition.specs.Calls.{Given, bootRows, Done, done, carried, wrap, boot, stepRows, stepTables, goOn, runFrom, run, onRowCall}
 use Rattle.first.specs.Tables.{FirstTables, firstCountsLength, FirstRows, firstWorldOf, firstViewOver, firstView, firstCountsOf, firstPut}
 use Rattle.first.specs.Broken.{firstBroken}
@@ -49,31 +54,34 @@ same-left a u t h = record { answer = refl; tables = h }
 pub same-boot : (u : FirstTables) (t : Tables) → Carries u t → SameDone (firstBoot u) (boot t)
 unfolding firstBoot boot
 same-boot u t h = either _ _ _ _ _ _ (same-shaped u t h)
-    (λ s. record { answer = refl; tables = same-rows-put u t h (eight-counts u t h s) firstBootRows bootRows (record { rest = refl; objects = noObjects }) })
+    (λ s. record { answer = refl; tables = same-rows-put u t h (eight-counts u t h s) firstBootRows bootRows (record { rest = refl; objects = noObjects }) (shaped-true t (sym (same-shaped u t h) ∙ s)) boot-whole })
     (λ _. same-left _ u t h)
 
 -- a call on rows, where it is alike on the same rows
 module _ {A : Type 0} (deny : Refusal → A) (f : FirstRows → Result (FirstGiven A)) (g : Rows → Result (Given A))
-    (alike : (r : FirstRows) (q : Rows) → SameRows r q → EarlyRows q → Likewise SameGiven (f r) (g q)) where
-  same-carried : (u : FirstTables) (t : Tables) → Carries u t → length (u .counts) ≡ firstCountsLength → (o : Result (FirstGiven A)) (p : Result (Given A))
-      → Likewise SameGiven o p → SameDone (firstCarried deny u o) (carried deny t p)
+    (alike : (r : FirstRows) (q : Rows) → SameRows r q → EarlyRows q → Likewise SameGiven (f r) (g q)) (keeps : Keeps g) where
+  same-carried : (u : FirstTables) (t : Tables) → Carries u t → Lengths t → length (u .counts) ≡ firstCountsLength → (o : Result (FirstGiven A)) (p : Result (Given A))
+      → Likewise SameGiven o p → Ok p (λ g. Whole (g .rows)) → SameDone (firstCarried deny u o) (carried deny t p)
   unfolding firstCarried carried
-  same-carried u t h e (refused v) (refused w) l = record { answer = ap deny l; tables = h }
-  same-carried u t h e (refused v) (ok b) l = absurd l
-  same-carried u t h e (ok a) (refused w) l = absurd l
-  same-carried u t h e (ok a) (ok b) l = record { answer = l .answer; tables = same-rows-put u t h e (a .rows) (b .rows) (l .rows) }
+  same-carried u t h n e (refused v) (refused w) l k = record { answer = ap deny l; tables = h }
+  same-carried u t h n e (refused v) (ok b) l k = absurd l
+  same-carried u t h n e (ok a) (refused w) l k = absurd l
+  same-carried u t h n e (ok a) (ok b) l k = record { answer = l .answer; tables = same-rows-put u t h e (a .rows) (b .rows) (l .rows) n k }
 
   pub same-wrap : (u : FirstTables) (t : Tables) → Carries u t → EarlyTables u → SameDone (firstWrap deny f u) (wrap deny g t)
   unfolding firstWrap wrap
   same-wrap u t h x = either _ _ _ _ _ _ (same-broken u t h x) (λ _. same-left _ u t h)
-      (λ b. let s = same-store u t h x b in same-carried u t h (s .eight) (f (firstView u)) (g (view t)) (alike (firstView u) (view t) (s .rows) (early-rows u t x (s .rows))))
+      (λ b.
+      let s = same-store u t h x b in
+      let w = broken-false t (sym (same-broken u t h x) ∙ b) in
+      same-carried u t h (w .0) (s .eight) (f (firstView u)) (g (view t)) (alike (firstView u) (view t) (s .rows) (early-rows u t x (s .rows))) (keeps (view t) (w .1)))
 
 pub same-step-tables : (u : FirstTables) (t : Tables) → Carries u t → EarlyTables u → SameDone (firstStepTables u) (stepTables t)
 unfolding firstStepTables stepTables
-same-step-tables = same-wrap Refused firstStepRows stepRows (λ r q s x. rw (s .rest) (same-step-rows (r .objects) q (s .objects) x))
+same-step-tables = same-wrap Refused firstStepRows stepRows (λ r q s x. rw (s .rest) (same-step-rows (r .objects) q (s .objects) x)) step-whole
 
 pub same-rows-call : (c : FirstRowCall) → BringsNone c → (u : FirstTables) (t : Tables) → Carries u t → EarlyTables u → SameDone (firstWrap Denied (firstOnRowCall c) u) (wrap Denied (onRowCall (todayRow c)) t)
-same-rows-call c b = same-wrap Denied (firstOnRowCall c) (onRowCall (todayRow c)) (λ r q s x. rw (s .rest) (same-row-call (r .objects) q (s .objects) x c b))
+same-rows-call c b = same-wrap Denied (firstOnRowCall c) (onRowCall (todayRow c)) (λ r q s x. rw (s .rest) (same-row-call (r .objects) q (s .objects) x c b)) (λ r w. rows-whole r w (todayRow c))
 
 -- A step leaves the classes and their files
 

@@ -3,7 +3,7 @@
 use mathlib.Core.Path.{_≡_, refl, sym, ap, _∙_}
 use mathlib.Core.Option.{Option}
 use mathlib.Core.Bool.{Bool, true, false}
-use mathlib.Core.List.{List, [], _∷_}
+use mathlib.Core.List.{List, [], _∷_, _++_}
 use Prim.Native.Nat.{ℕ, _+_, _<_}
 use native.Mathlib.Omega.{arith}
 use lib.ListN.{length}
@@ -18,7 +18,7 @@ use Rattle.definition.specs.Loading.{recorded}
 use Rattle.definition.specs.Lists.{every, all, isSome}
 use Rattle.definition.specs.Machine.{Value, emptyValue, intValue, nullValue, objectValue, unlistedValue, Object, owned, Objects, Frame, Progress}
 use Rattle.definition.specs.Tables.{Rows, worldOf, framesIn}
-use Rattle.definition.specs.Broken.{entryFits, tieFits, subtypeFits, valueFits, localFits, objectFits, frameFits, sound}
+use Rattle.definition.specs.Broken.{entryFits, tieFits, subtypeFits, valueFits, localFits, objectFits, frameFits, numbered, sound}
 use Rattle.definition.specs.Calls.{Given, progressed, answerOf, defineRows, recordRows, startRows, dropRows, stepTask, stepOn, stepRows, RowCall, rowDefine, rowRecord, rowStart, rowDrop, onRowCall}
 use Rattle.first.specs.Machine.{FirstProgress}
 use Rattle.first.specs.Tables.{FirstRows, firstRowsOf, firstBaseOf, firstWorldOf}
@@ -97,10 +97,18 @@ BringsNone (firstRowRecord l n c) = Unit {0}
 BringsNone (firstRowStart k l n m v) = Unit {0}
 BringsNone (firstRowDrop k) = Unit {0}
 
-pub same-sound : (os : List Object) (q : Rows) → SameObjects os (q .objects) → EarlyRows q → firstSound (plain os q) ≡ sound q
+-- one more test that passes
+every-last : (xs : List Bool) → every xs ≡ every (xs ++ (true ∷ []))
+unfolding every
+every-last [] = refl
+every-last (true ∷ xs) = every-last xs
+every-last (false ∷ xs) = refl
+
+-- where today's numbers are in turn
+pub same-sound : (os : List Object) (q : Rows) → SameObjects os (q .objects) → numbered (q .numbers) ≡ true → EarlyRows q → firstSound (plain os q) ≡ sound q
 unfolding firstSound sound
-same-sound os q h e =
-    λ i. every
+same-sound os q h n e = rw n
+    ((λ i. every
     ((ap (λ (b : Base). firstClassesFit b (q .kept) (q .classes)) (same-base q e) ∙ same-classes-fit (worldOf q .base) (q .kept) (q .classes) e) i
     ∷ all (entryFits (length (q .classes))) (q .cache)
     ∷ all tieFits (q .ties)
@@ -108,7 +116,8 @@ same-sound os q h e =
     ∷ same-objects os (q .objects) h (length (q .classes)) os (q .objects) h i
     ∷ all (λ f. same-frame os (q .objects) h (length (q .classes)) f i) (q .quote)
     ∷ all (λ f. same-frame os (q .objects) h (length (q .classes)) f i) (q .report)
-    ∷ [])
+    ∷ []))
+    ∙ every-last _)
 
 -- Calls
 

@@ -1,4 +1,4 @@
--- The first document's store: its classes, read of version 1 alone, its rows, with objects that are never freed, and its tables, with the eight counts alone and no owners behind them.
+-- The first document's store: its classes, read of version 1 alone, its rows, with objects that are never freed, and its tables, with the eight counts alone and no owners or numbers behind them.
 use mathlib.Core.Bool.{Bool}
 use mathlib.Core.Option.{Option, none, some}
 use mathlib.Core.List.{List, [], _∷_, map}

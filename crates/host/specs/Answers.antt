@@ -3,6 +3,7 @@ use mathlib.Core.Path.{_≡_, refl, sym, ap, subst, _∙_}
 use mathlib.Core.List.{List, [], _∷_}
 use Prim.Native.Nat.{ℕ}
 use lib.ListN.{set}
+use lib.Seq.{set-set}
 use Rattle.definition.specs.Lists.{writeRows}
 use Rattle.definition.specs.Answers.{number, numberOfStep, numberOf, countOf, refusalDetails, stepDetails, details}
 use Rattle.definition.specs.declared.Refusal.{Refusal}
@@ -12,7 +13,8 @@ use Rattle.definition.specs.declared.Answer.the-variants.{Idle, Ran, Finished, 
 use Rattle.definition.specs.declared.Reply.{Reply}
 use Rattle.definition.specs.declared.Reply.the-variants.{Accepted, Defined, Stepped, RanFor, Swept, Denied}
 use Rattle.definition.specs.Tables.{Tables, view}
-use Rattle.definition.specs.Calls.{Call, callStep, callRun, Done, done, turn, stepTables, ofStep, run, perform}
+use Rattle.definition.specs.Reasons.{Tried, tries, tryLoad}
+use Rattle.definition.specs.Calls.{Load, Call, callStep, callRun, Done, done, turn, stepTables, ofStep, run, perform}
 use Rattle.layout.specs.Cells.{cells-sets}
 use Rattle.tasks.specs.Turns.{turnOf, turn-is}
 
@@ -39,6 +41,18 @@ pub record Reported (turn : ℕ) (reply : Reply) (before after : List ℕ) (r : 
 pub record Called (c : Call) (t u : Tables) (before after : List ℕ) (r : ℕ) : Type 0 where
   pub tables : u ≡ perform c t .tables
   pub reported : Reported (turn (view t)) (perform c t .answer) before after r
+
+-- of a tried load the sixth cell is the chain's length
+unfoldable pub triedCells : ℕ → Tried → List ℕ
+triedCells turn x =
+    let d = details turn (x .answer) in
+    kindOf (x .answer) ∷ d .refusal ∷ d .one ∷ d .two ∷ d .three ∷ x .count ∷ []
+
+-- a load tried on the tables t: the list before and after, the answer table before and after, and the number returned
+pub record TriedOn (c : Load) (t : Tables) (list list′ before after : List ℕ) (r : ℕ) : Type 0 where
+  pub listed : list′ ≡ tryLoad c list t .list
+  pub answer : after ≡ writeRows set (triedCells (turn (view t)) (tryLoad c list t)) 0 before
+  pub number : r ≡ numberOf (tryLoad c list t .answer)
 
 -- Laws
 
@@ -94,3 +108,21 @@ stepped t u a e = ap ofStep e
 pub ran : (n : ℕ) (t u : Tables) (r : Reply) → done r u ≡ run n t → done r u ≡ perform (callRun n) t
 unfolding perform
 ran n t u r e = e
+
+-- the sixth cell, written over
+
+pub counted-cells : (turn count : ℕ) (a : Reply) (list before : List ℕ) → set (writeRows set (answerCells turn a) 0 before) 5 count ≡ writeRows set (triedCells turn (tries a count list)) 0 before
+unfolding answerCells triedCells
+counted-cells turn count a list before =
+    let d = details turn a in
+    ap (λ (z : List ℕ). set z 5 count) (cells-sets (kindOf a ∷ d .refusal ∷ d .one ∷ d .two ∷ d .three ∷ countOf a ∷ []) 0 before)
+    ∙ (set-set (set (set (set (set (set before 0 (kindOf a)) 1 (d .refusal)) 2 (d .one)) 3 (d .two)) 4 (d .three)) 5 (countOf a) count
+    ∙ sym (cells-sets (kindOf a ∷ d .refusal ∷ d .one ∷ d .two ∷ d .three ∷ count ∷ []) 0 before))
+
+pub tried-on : (c : Load) (t : Tables) (list list′ before after : List ℕ) (a : Reply) (count k r : ℕ) → tries a count list′ ≡ tryLoad c list t → k ≡ turnOf (t .counts)
+    → after ≡ writeRows set (triedCells k (tries a count list′)) 0 before → r ≡ numberOf a → TriedOn c t list list′ before after r
+tried-on c t list list′ before after a count k r e turns p q = record {
+  listed = ap (λ (x : Tried). x .list) e;
+  answer = p ∙ (λ i. writeRows set (triedCells ((turns ∙ sym (turn-is t)) i) (e i)) 0 before);
+  number = q ∙ ap (λ (x : Tried). numberOf (x .answer)) e;
+}

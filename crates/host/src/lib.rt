@@ -1,11 +1,18 @@
 // The calls of the machine for a host program in C. Each takes the eight tables, the call's numbers or file, and a table of six cells
-// for the answer: the kind of the reply, the refusal's number, three details as a script's line prints them, and the count of steps that ran.
+// for the answer: the kind of the reply, the refusal's number, three details as a script's line prints them, and the count of steps that ran,
+// or of a tried load the length of the chain that it listed.
 use definition::Reply;
+use definition::Trial;
 ghost use mathlib.Core.Path.{_≡_};
-ghost use Rattle.definition.specs.Answers.{countOf};
+ghost use mathlib.Core.List.{List};
+ghost use Prim.Native.Nat.{ℕ};
+ghost use lib.ListN.{set};
+ghost use Rattle.definition.specs.Lists.{writeRows};
+ghost use Rattle.definition.specs.Answers.{countOf, numberOf};
+ghost use Rattle.definition.specs.Reasons.{tries};
 ghost use Rattle.definition.specs.Tables.{tables};
-ghost use Rattle.definition.specs.Calls.{callBoot, callDefine, callRecord, callStart, callStep, callRun, callDrop, callSweep};
-ghost use Rattle.host.specs.Answers.{kindOf, numberGiven, Reported, Called};
+ghost use Rattle.definition.specs.Calls.{callBoot, callDefine, callRecord, callStart, callStep, callRun, callDrop, callSweep, loadDefine, loadRecord};
+ghost use Rattle.host.specs.Answers.{kindOf, numberGiven, Reported, Called, triedCells, TriedOn};
 
 // 0 accepted, 1 defined, 2 stepped, 3 ran, 4 denied, 5 swept.
 fn kind_of(reply: Reply) -> u32
@@ -61,6 +68,17 @@ fn report(answer: &mut [u32], turn: u8, reply: Reply) -> u8
     cells::put32(answer, 4, details.three);
     cells::put32(answer, 5, count_of(reply));
     number_of(reply, refusal)
+}
+
+// A tried load's reply, with the chain's length where a run has its steps.
+fn report_trial(answer: &mut [u32], turn: u8, trial: Trial) -> u8
+    ensures { λ r. ⌜ ((list : List ℕ) → now (answer .exit) ≡ writeRows set (triedCells turn (tries (trial .reply) (trial .count) list)) 0 (now (answer .entry))) × (r ≡ numberOf (trial .reply)) ⌝ }
+{
+    let reply = trial.reply;
+    let count = trial.count;
+    let number = report(answer, turn, reply);
+    cells::put32(answer, 5, cells::from16(count));
+    number
 }
 
 // boot: class 0 is Object, the cache holds only (0, 2), all other rows are emptied.
@@ -317,4 +335,76 @@ pub extern "C" fn tariff_sweep(
         frames,
     );
     report(answer, turn, reply)
+}
+
+// A define tried: what it would answer, and on a clash why. No table of the store is written.
+#[no_mangle]
+pub extern "C" fn tariff_try_define(
+    counts: &[u16],
+    classes: &[u16],
+    kept: &[u8],
+    cache: &[u16],
+    ties: &[u16],
+    subtypes: &[u16],
+    objects: &[u32],
+    frames: &[u32],
+    loader: u32,
+    file: &[u8],
+    list: &mut [u16],
+    answer: &mut [u32],
+) -> u8
+    ensures { λ r. ⌜ TriedOn (loadDefine loader (now (file .entry))) (tables (now (counts .entry)) (now (classes .entry)) (now (kept .entry)) (now (cache .entry)) (now (ties .entry)) (now (subtypes .entry)) (now (objects .entry)) (now (frames .entry))) (now (list .entry)) (now (list .exit)) (now (answer .entry)) (now (answer .exit)) r ⌝ }
+{
+    let turn = tasks::turn(counts);
+    let trial = loading::try_define(
+        counts,
+        classes,
+        kept,
+        cache,
+        ties,
+        subtypes,
+        objects,
+        frames,
+        loader,
+        file,
+        list,
+    );
+    report_trial(answer, turn, trial)
+}
+
+// A record tried.
+#[no_mangle]
+pub extern "C" fn tariff_try_record(
+    counts: &[u16],
+    classes: &[u16],
+    kept: &[u8],
+    cache: &[u16],
+    ties: &[u16],
+    subtypes: &[u16],
+    objects: &[u32],
+    frames: &[u32],
+    loader: u32,
+    name: u32,
+    class: u32,
+    list: &mut [u16],
+    answer: &mut [u32],
+) -> u8
+    ensures { λ r. ⌜ TriedOn (loadRecord loader name class) (tables (now (counts .entry)) (now (classes .entry)) (now (kept .entry)) (now (cache .entry)) (now (ties .entry)) (now (subtypes .entry)) (now (objects .entry)) (now (frames .entry))) (now (list .entry)) (now (list .exit)) (now (answer .entry)) (now (answer .exit)) r ⌝ }
+{
+    let turn = tasks::turn(counts);
+    let trial = loading::try_record(
+        counts,
+        classes,
+        kept,
+        cache,
+        ties,
+        subtypes,
+        objects,
+        frames,
+        loader,
+        name,
+        class,
+        list,
+    );
+    report_trial(answer, turn, trial)
 }

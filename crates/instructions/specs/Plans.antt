@@ -14,10 +14,8 @@ use Rattle.definition.specs.Instructions.{pick, Decoded}
 use Rattle.definition.specs.declared.Refusal.the-variants.{Word}
 use Rattle.definition.specs.Answers.{Result, refused, ok, _>>=_, take?}
 use Rattle.definition.specs.Machine.{Value, intValue, objectValue, Objects, Frame, existing, made, changed, newObject, entryFrame, Progress, give, execute}
-use Rattle.definition.specs.Tables.{Tables, valueOf, operandAt, localAt, frame, frameOf, frameBase, frameIn, sizeOf, usedFields, objectAt}
+use Rattle.definition.specs.Tables.{Tables, valueOf, operandAt, localAt, frameOf, frameBase, frameIn, sizeOf, usedFields, objectAt}
 use Rattle.layout.specs.Cells.{frameWith, withField}
-use Rattle.frames.specs.declared.Cell.{Cell}
-use Rattle.frames.specs.declared.Entry.{Entry}
 use Rattle.frames.specs.Unused.{isUsed, unusedFrom}
 pub use Rattle.instructions.specs.declared.Plan.{Plan}
 pub use Rattle.instructions.specs.declared.Plan.the-variants.{Refuse, Keep, Jump, Above, Local, Give, Finish, Field, Enter, Make}

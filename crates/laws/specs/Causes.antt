@@ -26,7 +26,7 @@ use Rattle.definition.specs.Loading.{newSubtypes, overrideTies, hides, withClas
 use Rattle.definition.specs.File.{File, readFile, classOf}
 use Rattle.definition.specs.Tables.{Tables, shaped, Rows, framesIn, worldOf, view}
 use Rattle.definition.specs.Broken.{broken}
-use Rattle.definition.specs.Calls.{Call, callBoot, callStep, callRun, refusalsOf, RowCall, rowDefine, rowRecord, rowStart, rowDrop, rowSweep, callRows, rowRefusals, turn}
+use Rattle.definition.specs.Calls.{Call, callBoot, callStep, callRun, refusalsOf, RowCall, rowDefine, rowRecord, rowStart, rowDrop, rowSweep, rowTry, Load as Offer, loadDefine, loadRecord, callRows, loadRefusals, rowRefusals, turn}
 use Rattle.laws.specs.Refusals.{running}
 
 -- a word by its number, and whether it applies
@@ -253,12 +253,23 @@ frameCauses task w os (f ∷ fs) = readCauses task w os f fs (reading w f)
 
 -- Every call; 1 before all else
 
+abbrev pub loadCauses : Offer → Rows → List Cause
+loadCauses (loadDefine l bs) r = defineCauses l bs r
+loadCauses (loadRecord l n c) r = recordCauses l n c r
+
+-- one more, straight after the first
+abbrev pub secondly : Cause → List Cause → List Cause
+secondly x [] = x ∷ []
+secondly x (c ∷ cs) = c ∷ x ∷ cs
+
+-- a tried load's are the load's, with 'short list' straight after 'unknown', the load's first: the list has fewer than 512 numbers
 unfoldable pub rowCauses : RowCall → Rows → List Cause
-rowCauses (rowDefine l bs) r = defineCauses l bs r
-rowCauses (rowRecord l n c) r = recordCauses l n c r
+rowCauses (rowDefine l bs) r = loadCauses (loadDefine l bs) r
+rowCauses (rowRecord l n c) r = loadCauses (loadRecord l n c) r
 rowCauses (rowStart k l n m v) r = startCauses k l n m r
 rowCauses (rowDrop k) r = cause 3 (not (ltb k 2)) ∷ []
 rowCauses rowSweep r = []
+rowCauses (rowTry c n) r = secondly (cause 16 (ltb n 512)) (loadCauses c r)
 
 unfoldable pub causes : Call → Tables → List Cause
 causes callBoot t = cause 1 (not (shaped t)) ∷ []
@@ -303,12 +314,14 @@ frame-order task w os (f ∷ fs) = go (reading w f)
     go (some n) = rw (instruction-order task w os f fs (n .theClass) (n .at .instruction)) refl
 
 rows-order : (c : RowCall) (r : Rows) → words (rowCauses c r) ≡ rowRefusals c
-unfolding rowCauses rowRefusals defineCauses recordCauses startCauses
+unfolding rowCauses rowRefusals loadRefusals defineCauses recordCauses startCauses
 rows-order (rowDefine l bs) r = refl
 rows-order (rowRecord l n c) r = refl
 rows-order (rowStart k l n m v) r = refl
 rows-order (rowDrop k) r = refl
 rows-order rowSweep r = refl
+rows-order (rowTry (loadDefine l bs) n) r = refl
+rows-order (rowTry (loadRecord l x c) n) r = refl
 
 -- the words that `causes` lists stand in the paper's order
 pub in-order : (c : Call) (t : Tables) → words (causes c t) ≡ order c

@@ -5,6 +5,11 @@ pub mod Chains
 pub mod Upward
 pub mod Agreement
 pub mod Tests
+pub mod Earlier
+pub mod Clashes
+pub mod Chosen
+pub mod Found
+pub mod Listed
 pub mod Growth
 pub mod Slots
 pub mod Members
@@ -23,6 +28,7 @@ pub mod Objects
 pub mod Sweeps
 pub mod Stable
 pub mod Refusals
+pub mod Tried
 pub mod Causes
 pub mod Wrapped
 pub mod Runs

@@ -1,7 +1,7 @@
 -- Every refusal of a call on rows is due: its word is one of those that the paper lists for the call, and a request that it wants is the one that the
 -- call needs, which isn't cached.
 use mathlib.Core.Path.{_≡_, refl}
-use mathlib.Core.Bool.{Bool, true, false}
+use mathlib.Core.Bool.{Bool, true, false, not, _&&_}
 use mathlib.Core.Option.{Option, none, some}
 use mathlib.Core.List.{List, [], _∷_}
 use Prim.Native.Nat.{ℕ, suc}
@@ -9,6 +9,7 @@ use lib.ListN.{length}
 use lib.Dec.{eqb, ltb}
 use Rattle.definition.specs.declared.Refusal.{Refusal}
 use Rattle.definition.specs.declared.Refusal.the-variants.{Wanted, Word}
+use Rattle.definition.specs.declared.Reply.{Reply}
 use Rattle.definition.specs.declared.Kind.{Kind}
 use Rattle.definition.specs.declared.Kind.the-variants.{IntKind, ReferenceKind}
 use Rattle.definition.specs.declared.Operator.{Operator}
@@ -27,7 +28,7 @@ use Rattle.definition.specs.Instructions.{Decoded}
 use Rattle.definition.specs.Machine.{Value, emptyValue, intValue, nullValue, objectValue, unlistedValue, Object, Objects, Frame, Now, pop!, int!, reference!, ofKind!, kind!, compute, jumps, room!, object!, now, under!, give, execute, step}
 use Rattle.definition.specs.Loading.{define, recorded, started, withEntry}
 use Rattle.definition.specs.Tables.{Rows, worldOf}
-use Rattle.definition.specs.Calls.{stepRefusals, refusalsOf, Call, callBoot, callDefine, callRecord, callStart, callStep, callRun, callDrop, defineRows, recordRows, startRows, dropRows, sweepRows, stepTask, stepOn, stepRows, RowCall, rowDefine, rowRecord, rowStart, rowDrop, rowSweep, onRowCall, callRows, rowRefusals}
+use Rattle.definition.specs.Calls.{Given, stepRefusals, loadRefusals, refusalsOf, Call, callBoot, callDefine, callRecord, callStart, callTry, callStep, callRun, callDrop, Load as Offer, loadDefine, loadRecord, loadRows, triedWith, tryRows, defineRows, recordRows, startRows, dropRows, sweepRows, stepTask, stepOn, stepRows, RowCall, rowDefine, rowRecord, rowStart, rowDrop, rowSweep, rowTry, onRowCall, callRows, rowRefusals}
 
 -- what holds of the refusal, if it is one
 abbrev pub Refuses : {A : Type 0} → (Refusal → Type 0) → Result A → Type 0
@@ -51,7 +52,7 @@ classIn (Branch c p) = none
 classIn (Return kind) = none
 
 module _ (P : Refusal → Type 0) where
-  on-bind : {A B : Type 0} (o : Result A) (f : A → Result B) → Refuses P o → ((a : A) → o ≡ ok a → Refuses P (f a)) → Refuses P (o >>= f)
+  pub on-bind : {A B : Type 0} (o : Result A) (f : A → Result B) → Refuses P o → ((a : A) → o ≡ ok a → Refuses P (f a)) → Refuses P (o >>= f)
   unfolding _>>=_
   on-bind (refused w) f h k = h
   on-bind (ok a) f h k = k a refl
@@ -61,7 +62,12 @@ module _ (P : Refusal → Type 0) where
   on-need true w f h k = k tt
   on-need false w f h k = h
 
-  on-take : {A B : Type 0} (o : Option A) (w : Refusal) (f : A → Result B) → (o ≡ none → P w) → ((a : A) → o ≡ some a → Refuses P (f a)) → Refuses P (take? o w >>= f)
+  pub on-test : {B : Type 0} (t : Bool) (w : Refusal) (f : Unit {0} → Result B) → (t ≡ false → P w) → (t ≡ true → Refuses P (f tt)) → Refuses P (need t w >>= f)
+  unfolding _>>=_ need
+  on-test true w f h k = k refl
+  on-test false w f h k = h refl
+
+  pub on-take : {A B : Type 0} (o : Option A) (w : Refusal) (f : A → Result B) → (o ≡ none → P w) → ((a : A) → o ≡ some a → Refuses P (f a)) → Refuses P (take? o w >>= f)
   unfolding _>>=_ take?
   on-take none w f h k = h refl
   on-take (some a) w f h k = k a refl
@@ -202,13 +208,19 @@ pub record StepNeeds (r : Rows) (l n : ℕ) : Type 0 where
   pub names : classIn (reads .at .instruction) ≡ some n
   pub loader : reads .theClass .loader ≡ l
 
--- the one request that a call needs: a definition its superclass, a start its class, a step the class that its instruction names
+-- the one request that a call needs: a definition its superclass, tried or not, a start its class, a step the class that its instruction names
+
+abbrev pub LoadNeeds : Offer → ℕ → ℕ → Type 0
+LoadNeeds (loadDefine k bs) l n = (f : File) × (readFile bs ≡ some f) × (l ≡ k) × (n ≡ f .super)
+LoadNeeds (loadRecord k x c) l n = ⊥
+
 abbrev pub RowNeeds : RowCall → Rows → ℕ → ℕ → Type 0
-RowNeeds (rowDefine k bs) r l n = (f : File) × (readFile bs ≡ some f) × (l ≡ k) × (n ≡ f .super)
-RowNeeds (rowRecord k x c) r l n = ⊥
+RowNeeds (rowDefine k bs) r l n = LoadNeeds (loadDefine k bs) l n
+RowNeeds (rowRecord k x c) r l n = LoadNeeds (loadRecord k x c) l n
 RowNeeds (rowStart j k x m v) r l n = (l ≡ k) × (n ≡ x)
 RowNeeds (rowDrop j) r l n = ⊥
 RowNeeds rowSweep r l n = ⊥
+RowNeeds (rowTry c k) r l n = LoadNeeds c l n
 
 abbrev pub Needs : Call → Rows → ℕ → ℕ → Type 0
 Needs callBoot r l n = ⊥
@@ -242,7 +254,7 @@ step-due r = go (r .quote) (r .report) (λ f fs e. e)
     go [] [] s = unfold stepOn in tt
 
 define-due : (l : ℕ) (bs : List ℕ) (r : Rows) → Refuses (Due (callDefine l bs) r) (defineRows l bs r)
-unfolding defineRows define refusalsOf rowRefusals any
+unfolding defineRows define refusalsOf rowRefusals loadRefusals any
 define-due l bs r =
     let P : Refusal → Type 0 = Due (callDefine l bs) r in
     on-need P _ _ _ refl (λ _. on-take P _ _ _ (λ _. refl) (λ f e. on-bind P _ _
@@ -250,7 +262,7 @@ define-due l bs r =
     on-need P _ _ _ refl (λ _. on-need P _ _ _ refl (λ _. on-need P _ _ _ refl (λ _. tt)))))))) (λ _ _. tt)))
 
 record-due : (l n c : ℕ) (r : Rows) → Refuses (Due (callRecord l n c) r) (recordRows l n c r)
-unfolding recordRows recorded refusalsOf rowRefusals any
+unfolding recordRows recorded refusalsOf rowRefusals loadRefusals any
 record-due l n c r =
     on-bind P _ _ (on-need P _ _ _ refl (λ _. on-take P _ _ _ (λ _. refl) (λ _ _. on-need P _ _ _ refl (λ _. go (find (r .cache) (at l n)))))) (λ _ _. tt)
   where
@@ -276,9 +288,70 @@ drop-due : (k : ℕ) (r : Rows) → Refuses (Due (callDrop k) r) (dropRows k r)
 unfolding dropRows refusalsOf rowRefusals any
 drop-due k r = on-need (Due (callDrop k) r) _ _ _ refl (λ _. tt)
 
+-- A tried load's are the load's, and 16
+
+-- the load itself
+abbrev pub loadCall : Offer → RowCall
+loadCall (loadDefine l bs) = rowDefine l bs
+loadCall (loadRecord l n c) = rowRecord l n c
+
+pub load-rows : (c : Offer) → onRowCall (loadCall c) ≡ loadRows c
+load-rows (loadDefine l bs) = refl
+load-rows (loadRecord l n c) = refl
+
+-- what a call on rows gives, with the rows as they were
+abbrev pub unmoved : Rows → Result (Given Reply) → Result (Given Reply)
+unmoved r (refused w) = refused w
+unmoved r (ok g) = ok (record { answer = g .answer; rows = r })
+
+-- a try gives what the load does, with the rows as they were, or 16
+pub try-either : (P : Result (Given Reply) → Type 0) (c : Offer) (n : ℕ) (r : Rows) → P (refused (Word 16)) → P (unmoved r (loadRows c r)) → P (tryRows c n r)
+unfolding tryRows triedWith
+try-either P c n r short h = go (loadRows c r) h
+  where
+    by : (b : Bool) (o : Result (Given Reply)) → P o → P (elim b as (λ _. Result (Given Reply)) [ true ↦ refused (Word 16) | false ↦ o ])
+    by true o h = short
+    by false o h = h
+
+    go : (o : Result (Given Reply)) → P (unmoved r o) → P (triedWith n r o)
+    go (ok g) h = by (ltb n 512) (unmoved r (ok g)) h
+    go (refused w) h = by (ltb n 512 && not (eqb (number w) 3)) (refused w) h
+
+-- a word of the load's is one of the try's
+any-further : (n : ℕ) (ws : List ℕ) → any (eqb n) (1 ∷ 3 ∷ ws) ≡ true → any (eqb n) (1 ∷ 3 ∷ 16 ∷ ws) ≡ true
+unfolding any
+any-further n ws h = go (eqb n 1) (eqb n 3) (eqb n 16) h
+  where
+    go : (a b c : Bool) → _≡_ {A = Bool} (elim a as (λ _. Bool) [ true ↦ true | false ↦ elim b as (λ _. Bool) [ true ↦ true | false ↦ any (eqb n) ws ] ]) true
+        → _≡_ {A = Bool} (elim a as (λ _. Bool) [ true ↦ true | false ↦ elim b as (λ _. Bool) [ true ↦ true | false ↦ elim c as (λ _. Bool) [ true ↦ true | false ↦ any (eqb n) ws ] ] ]) true
+    go true b c h = refl
+    go false true c h = refl
+    go false false true h = refl
+    go false false false h = h
+
+due-tried : (c : Offer) (n : ℕ) (r : Rows) (w : Refusal) → Due (callRows (loadCall c)) r w → Due (callTry c n) r w
+unfolding refusalsOf rowRefusals
+due-tried (loadDefine l bs) n r (Wanted k m) d = (any-further 5 _ (d .0), d .1, d .2)
+due-tried (loadRecord l x c) n r (Wanted k m) d = absurd (d .1)
+due-tried (loadDefine l bs) n r (Word m) d = any-further m _ d
+due-tried (loadRecord l x c) n r (Word m) d = any-further m _ d
+
+load-due : (c : Offer) (r : Rows) → Refuses (Due (callRows (loadCall c)) r) (loadRows c r)
+load-due (loadDefine l bs) r = define-due l bs r
+load-due (loadRecord l n c) r = record-due l n c r
+
+try-due : (c : Offer) (n : ℕ) (r : Rows) → Refuses (Due (callTry c n) r) (tryRows c n r)
+unfolding refusalsOf rowRefusals any
+try-due c n r = try-either (Refuses (Due (callTry c n) r)) c n r refl (go (loadRows c r) (load-due c r))
+  where
+    go : (o : Result (Given Reply)) → Refuses (Due (callRows (loadCall c)) r) o → Refuses (Due (callTry c n) r) (unmoved r o)
+    go (refused w) h = due-tried c n r w h
+    go (ok g) h = tt
+
 pub rows-due : (c : RowCall) (r : Rows) → Refuses (Due (callRows c) r) (onRowCall c r)
 rows-due (rowDefine l bs) r = define-due l bs r
 rows-due (rowRecord l n c) r = record-due l n c r
 rows-due (rowStart k l n m v) r = start-due k l n m v r
 rows-due (rowDrop k) r = drop-due k r
 rows-due rowSweep r = unfold sweepRows in tt
+rows-due (rowTry c n) r = try-due c n r

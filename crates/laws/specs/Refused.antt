@@ -21,10 +21,10 @@ use Rattle.definition.specs.Constraints.{World}
 use Rattle.definition.specs.Machine.{Frame}
 use Rattle.definition.specs.Tables.{Tables, shaped, Rows, worldOf, view, put}
 use Rattle.definition.specs.Broken.{broken}
-use Rattle.definition.specs.Calls.{Given, bootRows, defineRows, recordRows, startRows, dropRows, sweepRows, answerOf, stepTask, stepOn, stepRows, Done, done, wrap, boot, stepTables, runFrom, run, Call, callBoot, callStep, callRun, stepRefusals, refusalsOf, perform, RowCall, rowDefine, rowRecord, rowStart, rowDrop, rowSweep, onRowCall, callRows}
+use Rattle.definition.specs.Calls.{Given, bootRows, defineRows, recordRows, startRows, dropRows, sweepRows, answerOf, stepTask, stepOn, stepRows, Done, done, wrap, boot, stepTables, runFrom, run, Call, callBoot, callStep, callRun, stepRefusals, refusalsOf, perform, RowCall, rowDefine, rowRecord, rowStart, rowDrop, rowSweep, rowTry, Load, loadDefine, loadRecord, loadRows, tryRows, onRowCall, callRows}
 use Rattle.laws.specs.Wrapped.{wrapped, Ok, then, ok-at}
 use Rattle.laws.specs.Runs.{after, run-is, run-ends-refused}
-use Rattle.laws.specs.Refusals.{Refuses, Needs, Due, due-listed, step-due, rows-due}
+use Rattle.laws.specs.Refusals.{unmoved, try-either, Refuses, Needs, Due, due-listed, step-due, rows-due}
 
 -- the refusal of a call, if it is one. A run that ends in a refused step is itself accepted.
 abbrev pub refusal : Reply → Option Refusal
@@ -62,12 +62,24 @@ drop-taken : (k : ℕ) (r : Rows) → Ok (dropRows k r) Taken
 unfolding dropRows
 drop-taken k r = then Taken _ _ (λ _ _. refl)
 
+load-taken : (c : Load) (r : Rows) → Ok (loadRows c r) Taken
+load-taken (loadDefine l bs) r = define-taken l bs r
+load-taken (loadRecord l n c) r = record-taken l n c r
+
+try-taken : (c : Load) (n : ℕ) (r : Rows) → Ok (tryRows c n r) Taken
+try-taken c n r = try-either (λ o. Ok o Taken) c n r tt (go (loadRows c r) (load-taken c r))
+  where
+    go : (o : Result (Given Reply)) → Ok o Taken → Ok (unmoved r o) Taken
+    go (refused w) h = tt
+    go (ok g) h = h
+
 pub rows-taken : (c : RowCall) (r : Rows) → Ok (onRowCall c r) Taken
 rows-taken (rowDefine l bs) r = define-taken l bs r
 rows-taken (rowRecord l n c) r = record-taken l n c r
 rows-taken (rowStart k l n m v) r = start-taken k l n m v r
 rows-taken (rowDrop k) r = drop-taken k r
 rows-taken rowSweep r = unfold sweepRows in refl
+rows-taken (rowTry c n) r = try-taken c n r
 
 answer-went : (k : ℕ) (o : Option ℕ) → refusal (Stepped (answerOf k o)) ≡ none
 unfolding answerOf

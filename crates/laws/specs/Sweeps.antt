@@ -9,12 +9,12 @@ use Prim.Native.Nat.{ℕ, zero, suc, _+_}
 use native.Mathlib.Omega.{arith}
 use lib.ListN.{getElem?}
 use lib.Dec.{eqb}
-use Rattle.definition.specs.Chains.{Edge, Chain, stay, hop, has, reachFrom}
+use Rattle.definition.specs.Chains.{Edge, Chain, stay, hop, has}
 use Rattle.definition.specs.Instructions.{pick}
 use Rattle.definition.specs.Machine.{Object, ObjectRow, free, owned, Objects, objectHeld, existing, inUse, Frame}
 use Rattle.definition.specs.Sweeping.{named, roots, linksFrom, links, Reached, reached, sweptFrom, freedFrom}
 use Rattle.laws.specs.Chains.{numbers, has-member, member-has, reached-chain, chain-reached}
-use Rattle.laws.specs.Objects.{existing-tail, existing-head, existing-none}
+use Rattle.laws.specs.Objects.{existing-tail, existing-none}
 
 -- The search finds what is reached
 

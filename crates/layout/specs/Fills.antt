@@ -2,21 +2,23 @@
 -- fields may be read off any base: the laws ask nothing of it.
 use mathlib.Core.Path.{_≡_, refl, sym, ap, _∙_}
 use mathlib.Core.List.{List, [], _∷_, _++_}
-use Prim.Native.Nat.{ℕ, zero, suc, _+_, _<_}
+use Prim.Native.Nat.{ℕ, zero, suc, _+_, _<_, _≤_}
 use native.Mathlib.Omega.{arith}
 use lib.ListN.{length, getD, set, length-append, length-set}
-use Rattle.definition.specs.Numbers.{ownersCell}
+use lib.Seq.{getD-set-other}
+use Rattle.definition.specs.Numbers.{ownersCell, tieNumbersCell, subtypeNumbersCell}
 use Rattle.definition.specs.Lists.{rows, writeRows, stack, writeStack}
 use Rattle.definition.specs.Requests.{at}
 use Rattle.definition.specs.Classes.{Base}
 use Rattle.definition.specs.Constraints.{Tie, Subtype}
 use Rattle.definition.specs.Machine.{Value, Object, Objects, unused, made, rewritten, changed, Frame}
 use Rattle.definition.specs.Sweeping.{sweptFrom}
-use Rattle.definition.specs.Tables.{Tables, tables, Rows, putClassRow, putEntry, putTie, putSubtype, usedFields, objectAt, putObject, putField, ownedBy, ownerAt, putOwner, objectRowAt, putObjectRow, frameIn, putFrameIn, classRowsOf, keptOf, cacheOf, tiesOf, subtypesOf, viewBase, objectsOf, framesOf, viewOver, view, countsOf, put}
+use Rattle.definition.specs.Tables.{Tables, tables, RowNumbers, rowNumbers, Rows, putClassRow, putEntry, putTie, putSubtype, usedFields, objectAt, putObject, putField, ownedBy, ownerAt, putOwner, objectRowAt, putObjectRow, numberAt, putNumber, frameIn, putFrameIn, classRowsOf, keptOf, cacheOf, tiesOf, subtypesOf, numbersOf, viewBase, objectsOf, framesOf, viewOver, view, countsOf, putNumbers, put}
 use Rattle.layout.specs.Places.{rows-length, stack-length, writeStack-same, written-set}
 use Rattle.layout.specs.Rows.{RowLaws, Anything, rows-kept, rows-more, row-more, class-rows, entry-rows, tie-rows, subtype-rows, cell-rows}
 use Rattle.layout.specs.ObjectRows.{withField, object-field}
-use Rattle.layout.specs.OwnedRows.{SameOwners, owners-set, rowsWith, made-count, changed-length, swept-length, rows-swept, rows-same, owners-same, rows-made, owners-made, rows-changed, owners-changed}
+use Rattle.layout.specs.OwnedRows.{SameOwners, owners-set, owners-past, rowsWith, made-count, changed-length, swept-length, rows-swept, rows-same, owners-same, rows-made, owners-made, rows-changed, owners-changed}
+use Rattle.layout.specs.NumberedRows.{SameNumbers, numbers-more, numbers-kept, numbers-before}
 use Rattle.layout.specs.FrameRows.{frameIn-same}
 
 -- the count in cell i
@@ -36,30 +38,39 @@ pub record FillsFrames (qs rs : List Frame) (t : List ℕ) (m n : ℕ) (u : List
   pub report : length rs ≡ n
   pub cells : writeStack (putFrameIn 1) rs (writeStack (putFrameIn 0) qs t) ≡ u
 
--- The eight counts, that leave d where they are written into c, and the owners behind them as they were
+-- The eight counts, that leave d where they are written into c, and the owners and numbers behind them as they were
 
 pub record FillsCounts (xs c d : List ℕ) : Type 0 where
   pub fill : Fills set xs c 8 d
   pub owners : SameOwners c d
+  pub numbers : SameNumbers c d
 
--- Objects with their owners, that leave the tables m and u where they are written into d, which has the owners of c, and into t
+-- Objects with their owners, that leave the tables m and u where they are written into d, which has the owners of c, and into t; the numbers behind the owners
+-- stay as they were
 
 pub record FillsObjects (xs : Objects) (c t : List ℕ) (n : ℕ) (leaves : List ℕ → List ℕ) (u : List ℕ) : Type 0 where
   pub count : length xs ≡ n
   pub owners : (d : List ℕ) → SameOwners c d → writeRows putOwner xs 0 d ≡ leaves d
+  pub numbers : (d : List ℕ) → SameNumbers d (leaves d)
   pub cells : writeRows putObjectRow xs 0 t ≡ u
 
+-- The numbers of rows, that leave what `leaves` says where they are written into d, which has the numbers of c
+
+pub record FillsNumbers (ns : RowNumbers) (c : List ℕ) (leaves : List ℕ → List ℕ) : Type 0 where
+  pub cells : (d : List ℕ) → SameNumbers c d → putNumbers ns d ≡ leaves d
+
 -- the tables that rows leave, part by part, the counts last
-pub put-fills : (r : Rows) (t : Tables) {n0 n1 n2 n3 n4 n5 n6 n7 : ℕ} {n c k e i s o f : List ℕ} {m : List ℕ → List ℕ}
+pub put-fills : (r : Rows) (t : Tables) {n0 n1 n2 n3 n4 n5 n6 n7 : ℕ} {n c k e i s o f : List ℕ} {m v : List ℕ → List ℕ}
     → Fills putClassRow (r .classes) (t .classes) n0 c → Fills set (r .kept) (t .kept) n1 k → Fills putEntry (r .cache) (t .cache) n2 e
     → Fills putTie (r .ties) (t .ties) n3 i → Fills putSubtype (r .subtypes) (t .subtypes) n4 s → FillsObjects (r .objects) (t .counts) (t .objects) n5 m o
     → FillsFrames (r .quote) (r .report) (t .frames) n6 n7 f
+    → FillsNumbers (r .numbers) (t .counts) v
     → FillsCounts (n0 ∷ n1 ∷ n2 ∷ n3 ∷ n4 ∷ n5 ∷ n6 ∷ n7 ∷ []) (t .counts) n
-    → put r t ≡ tables (m n) c k e i s o f
+    → put r t ≡ tables (v (m n)) c k e i s o f
 unfolding put countsOf
-put-fills r t a b c d e f g n =
+put-fills r t a b c d e f g v n =
     (λ j. record {
-      counts = writeRows putOwner (r .objects) 0 (writeRows set (a .count j ∷ b .count j ∷ c .count j ∷ d .count j ∷ e .count j ∷ f .count j ∷ g .quote j ∷ g .report j ∷ []) 0 (t .counts));
+      counts = putNumbers (r .numbers) (writeRows putOwner (r .objects) 0 (writeRows set (a .count j ∷ b .count j ∷ c .count j ∷ d .count j ∷ e .count j ∷ f .count j ∷ g .quote j ∷ g .report j ∷ []) 0 (t .counts)));
       classes = a .cells j;
       kept = b .cells j;
       cache = c .cells j;
@@ -68,7 +79,7 @@ put-fills r t a b c d e f g n =
       objects = f .cells j;
       frames = g .cells j;
     })
-    ∙ rw (n .fill .cells, f .owners _ (n .owners))
+    ∙ rw (n .fill .cells, f .owners _ (n .owners), v .cells _ (λ j l. f .numbers _ j l ∙ n .numbers j l))
 
 -- Rows as they were read, and with others behind them
 
@@ -93,6 +104,7 @@ count-set {xs} {c} {d} j x l h =
         cells = (rw e at (written-set xs 0 j x c (omega (arith, h .fill .count)))) ∙ ap (λ (z : List ℕ). set z j x) (h .fill .cells);
       };
       owners = λ o. owners-set d j x l o ∙ h .owners o;
+      numbers = λ i k. getD-set-other d j i x 0 (λ e. omega arith) ∙ h .numbers i k;
     }
 
 module _ (t : Tables) where
@@ -101,7 +113,7 @@ module _ (t : Tables) where
 
   pub counts-fill : FillsCounts countsOn (t .counts) (t .counts)
   unfolding rows
-  counts-fill = record { fill = fill-kept cell-rows (t .counts) 8; owners = λ o. refl }
+  counts-fill = record { fill = fill-kept cell-rows (t .counts) 8; owners = λ o. refl; numbers = λ j l. refl }
 
   pub classes-fill : Fills putClassRow (classRowsOf t) (t .classes) (countAt t 0) (t .classes)
   classes-fill = fill-kept class-rows (t .classes) (countAt t 0)
@@ -132,16 +144,18 @@ module _ (t : Tables) where
     objects-fill = record {
       count = rows-length (objectRowAt b (t .counts) (t .objects)) (countAt t 5) 0;
       owners = λ d h. owners-same b (t .counts) (t .objects) d h (countAt t 5);
+      numbers = λ d j l. refl;
       cells = rows-same b (t .counts) (t .objects) (countAt t 5);
     }
 
-    pub object-made : (k : ℕ) (x : Object)
+    pub object-made : (k : ℕ) (x : Object) → unused (objectsOf b t) < 256
         → FillsObjects (made k x (objectsOf b t)) (t .counts) (t .objects) (rowsWith (unused (objectsOf b t)) (countAt t 5))
         (λ d. set d (ownersCell + unused (objectsOf b t)) (suc k)) (putObject (t .objects) (unused (objectsOf b t)) x)
     unfolding objectsOf
-    object-made k x = record {
+    object-made k x room = record {
       count = made-count k x _ (countAt t 5) (rows-length (objectRowAt b (t .counts) (t .objects)) (countAt t 5) 0);
       owners = λ d h. owners-made b (t .counts) (t .objects) d h k (countAt t 5) x;
+      numbers = λ d j l. getD-set-other d (ownersCell + unused (objectsOf b t)) j (suc k) 0 (λ e. omega arith);
       cells = rows-made b (t .counts) (t .objects) k (countAt t 5) x;
     }
 
@@ -152,6 +166,7 @@ module _ (t : Tables) where
     object-set o j v l u h = record {
       count = changed-length _ o _ ∙ rows-length (objectRowAt b (t .counts) (t .objects)) (countAt t 5) 0;
       owners = λ d h. owners-changed b (t .counts) (t .objects) d h (countAt t 5) o _ l;
+      numbers = λ d i k. refl;
       cells = rows-changed b (t .counts) (t .objects) (countAt t 5) o _ l ∙ field (ownerAt (t .counts) o) refl u;
     }
       where
@@ -161,14 +176,46 @@ module _ (t : Tables) where
         field (suc k) e z = rw e (unfold ownedBy rewritten putObjectRow in object-field b (t .objects) o j v h)
 
     -- some of them freed: owners alone are written
-    pub objects-swept : (R : List ℕ)
+    pub objects-swept : (R : List ℕ) → countAt t 5 ≤ 256
         → FillsObjects (sweptFrom R 0 (objectsOf b t)) (t .counts) (t .objects) (countAt t 5) (λ d. writeRows putOwner (sweptFrom R 0 (objectsOf b t)) 0 d) (t .objects)
     unfolding objectsOf
-    objects-swept R = record {
+    objects-swept R room = record {
       count = swept-length R 0 (objectsOf b t) ∙ rows-length (objectRowAt b (t .counts) (t .objects)) (countAt t 5) 0;
       owners = λ d h. refl;
+      numbers = λ d j l. owners-past (sweptFrom R 0 (objectsOf b t)) 0 d j
+          (omega (arith, swept-length R 0 (objectsOf b t), rows-length (objectRowAt b (t .counts) (t .objects)) (countAt t 5) 0));
       cells = rows-swept b (t .counts) (t .objects) R (countAt t 5) 0;
     }
+
+  -- numbers as they are, with ties numbered on, and with both
+  pub numbers-fill : FillsNumbers (numbersOf t) (t .counts) (λ d. d)
+  unfolding putNumbers numberAt
+  numbers-fill = record {
+    cells = λ d h.
+        ap (writeRows (putNumber tieNumbersCell) (numbersOf t .ties) 0) (numbers-kept subtypeNumbersCell (t .counts) d (countAt t 4) (λ i l. h (subtypeNumbersCell + i) (omega arith)))
+        ∙ numbers-kept tieNumbersCell (t .counts) d (countAt t 3) (λ i l. h (tieNumbersCell + i) (omega arith));
+  }
+
+  pub ties-numbered : (us : List ℕ)
+      → FillsNumbers (rowNumbers (numbersOf t .ties ++ us) (numbersOf t .subtypes)) (t .counts) (λ d. writeRows (putNumber tieNumbersCell) us (countAt t 3) d)
+  unfolding putNumbers numberAt
+  ties-numbered us = record {
+    cells = λ d h.
+        ap (writeRows (putNumber tieNumbersCell) (numbersOf t .ties ++ us) 0) (numbers-kept subtypeNumbersCell (t .counts) d (countAt t 4) (λ i l. h (subtypeNumbersCell + i) (omega arith)))
+        ∙ numbers-more tieNumbersCell (t .counts) d (countAt t 3) us (λ i l. h (tieNumbersCell + i) (omega arith));
+  }
+
+  pub both-numbered : (us ss : List ℕ) → countAt t 3 ≤ 256
+      → FillsNumbers (rowNumbers (numbersOf t .ties ++ us) (numbersOf t .subtypes ++ ss)) (t .counts)
+      (λ d. writeRows (putNumber tieNumbersCell) us (countAt t 3) (writeRows (putNumber subtypeNumbersCell) ss (countAt t 4) d))
+  unfolding putNumbers numberAt
+  both-numbered us ss room = record {
+    cells = λ d h.
+        let e : List ℕ = writeRows (putNumber subtypeNumbersCell) ss (countAt t 4) d in
+        ap (writeRows (putNumber tieNumbersCell) (numbersOf t .ties ++ us) 0) (numbers-more subtypeNumbersCell (t .counts) d (countAt t 4) ss (λ i l. h (subtypeNumbersCell + i) (omega arith)))
+        ∙ numbers-more tieNumbersCell (t .counts) e (countAt t 3) us
+        (λ i l. numbers-before subtypeNumbersCell ss (countAt t 4) d (tieNumbersCell + i) (omega arith) ∙ h (tieNumbersCell + i) (omega arith));
+  }
 
   -- frames as they are
   pub frames-fill : FillsFrames (framesOf t 0) (framesOf t 1) (t .frames) (countAt t 6) (countAt t 7) (t .frames)
@@ -186,7 +233,7 @@ module _ (t : Tables) where
 pub put-over : (b : Base) (t : Tables) → put (viewOver b t) t ≡ t
 unfolding viewOver
 put-over b t =
-    put-fills (viewOver b t) t (classes-fill t) (kept-fill t) (cache-fill t) (ties-fill t) (subtypes-fill t) (objects-fill t b) (frames-fill t) (counts-fill t)
+    put-fills (viewOver b t) t (classes-fill t) (kept-fill t) (cache-fill t) (ties-fill t) (subtypes-fill t) (objects-fill t b) (frames-fill t) (numbers-fill t) (counts-fill t)
 
 pub put-view : (t : Tables) → put (view t) t ≡ t
 unfolding view

@@ -5,6 +5,8 @@ pub mod Rows
 pub mod Values
 pub mod ObjectRows
 pub mod OwnedRows
+pub mod NumberedRows
+pub mod InTurn
 pub mod FrameRows
 pub mod Cells
 pub mod Whole

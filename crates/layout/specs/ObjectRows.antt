@@ -1,7 +1,7 @@
 -- An object's row: a class and values. What is read is written back as it was; what fits its row is read back, and other rows stay.
 use mathlib.Core.Path.{_≡_, refl, _∙_}
 use mathlib.Core.Bool.{Bool, true, false}
-use mathlib.Core.List.{List, [], _∷_, _++_}
+use mathlib.Core.List.{List}
 use mathlib.Core.Logic.{_≢_}
 use Prim.Native.Nat.{ℕ, _+_, _*_, _<_, _≤_}
 use native.Mathlib.Omega.{arith}
@@ -16,9 +16,8 @@ use Rattle.definition.specs.Instructions.{pick}
 use Rattle.definition.specs.Machine.{Value, Object}
 use Rattle.definition.specs.Tables.{valueOf, valueAt, fieldAt, putField, sizeOf, usedFields, objectAt, putObject}
 use Rattle.layout.specs.Tests.{All}
-use Rattle.layout.specs.Places.{rows-length, rows-cong, writeRows-same, writeRows-replace, writeRows-last, Within, within-set, within-both, within-apart}
-use Rattle.layout.specs.Rows.{RowLaws}
-use Rattle.layout.specs.Values.{Proper, Unread, place-same, place-set, placeAt, places-back, putPlace, unread-cell, unread-places, within-places}
+use Rattle.layout.specs.Places.{rows-length, rows-cong, writeRows-same}
+use Rattle.layout.specs.Values.{Proper, Unread, place-same, place-set, placeAt, places-back, putPlace, unread-cell, unread-places}
 
 -- Objects: a class and values
 

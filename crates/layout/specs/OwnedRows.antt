@@ -1,10 +1,10 @@
 -- The rows of objects, each with its owner: what is read and put back changes nothing, an object made writes its row and its owner, a field set writes its two
 -- cells, and rows freed write owners alone. Whole rows are read back as they were put.
-use mathlib.Core.Path.{_≡_, refl, sym, ap, subst, _∙_}
+use mathlib.Core.Path.{_≡_, refl, ap, subst, _∙_}
 use mathlib.Core.Bool.{Bool, true, false}
 use mathlib.Core.Option.{Option, some, none, Option·some-injective, Option·none-ne-some}
-use mathlib.Core.List.{List, [], _∷_, _++_, map}
-use mathlib.Core.Logic.{_≢_, _⊎_, inl, inr}
+use mathlib.Core.List.{List, [], _∷_, _++_}
+use mathlib.Core.Logic.{_⊎_, inl, inr}
 use Prim.Native.Nat.{ℕ, zero, suc, _+_, _*_, _<_, _≤_}
 use native.Mathlib.Omega.{arith}
 use lib.ListN.{length, getElem?, getD, set, length-set, length-append}
@@ -69,6 +69,13 @@ unfolding writeRows putOwner
 owners-behind [] i n j l = refl
 owners-behind (x ∷ xs) i n j l =
     getD-set-other (writeRows putOwner xs (suc i) n) (ownersCell + i) j (ownerOf x) 0 (λ e. omega arith) ∙ owners-behind xs (suc i) n j l
+
+-- and the cells behind them
+pub owners-past : (xs : Objects) (i : ℕ) (n : List ℕ) (j : ℕ) → ownersCell + (i + length xs) ≤ j → getD (writeRows putOwner xs i n) j 0 ≡ getD n j 0
+unfolding writeRows putOwner
+owners-past [] i n j l = refl
+owners-past (x ∷ xs) i n j l =
+    getD-set-other (writeRows putOwner xs (suc i) n) (ownersCell + i) j (ownerOf x) 0 (λ e. omega arith) ∙ owners-past xs (suc i) n j (omega arith)
 
 -- Where an object is made
 

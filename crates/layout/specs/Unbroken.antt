@@ -1,15 +1,16 @@
 -- Word 1 read in full: tables are not broken exactly if their lengths are the published ones, their counts are within the limits and their rows are
 -- sound. So whole rows that a call puts leave tables that are not broken.
-use mathlib.Core.Path.{_≡_, ap, _∙_}
+use mathlib.Core.Path.{_≡_, sym, ap, _∙_}
 use mathlib.Core.Bool.{true, false, not}
 use mathlib.Core.List.{List}
 use Prim.Native.Nat.{ℕ, zero, suc, _*_, _≤_, _<_}
 use lib.ListN.{length, getD}
 use borrow.Author.Tests.{leb-true, le-leb, not-false}
+use Rattle.definition.specs.Numbers.{tieNumbersCell, subtypeNumbersCell}
 use Rattle.definition.specs.Lists.{rows, stack}
 use Rattle.definition.specs.Classes.{Base}
 use Rattle.definition.specs.Machine.{Exists}
-use Rattle.definition.specs.Tables.{Tables, Rows, sizeOf, usedFields, classRowAt, entryAt, tieAt, subtypeAt, objectAt, ownedBy, ownerAt, objectRowAt, localAt, fieldAt, frameOf, frameAt, frameBase, frameIn, classRowsOf, keptOf, cacheOf, viewBase, objectsOf, framesOf, viewOver, view, put}
+use Rattle.definition.specs.Tables.{Tables, Rows, sizeOf, usedFields, classRowAt, entryAt, tieAt, subtypeAt, objectAt, ownedBy, ownerAt, objectRowAt, numberAt, localAt, fieldAt, frameOf, frameAt, frameBase, frameIn, classRowsOf, keptOf, cacheOf, viewBase, objectsOf, framesOf, viewOver, view, put}
 use Rattle.definition.specs.Broken.{within, whole, broken}
 use Rattle.layout.specs.Tests.{All, every-true, true-every}
 use Rattle.layout.specs.Places.{rows-length, stack-length}
@@ -149,6 +150,11 @@ view-whole t c s = record {
       (size-small (cacheOf t) (keptOf t) (classRowsOf t) (s .classes)) (s .objects);
   quote = eight-locals (length (classRowsOf t)) (Exists (objectsOf (viewBase t) t)) (t .frames) 0 (getD (t .counts) 6 0) (s .quote);
   report = eight-locals (length (classRowsOf t)) (Exists (objectsOf (viewBase t) t)) (t .frames) 1 (getD (t .counts) 7 0) (s .report);
+  numbers = record {
+    ties = rows-length (numberAt tieNumbersCell (t .counts)) (getD (t .counts) 3 0) 0 ∙ sym (rows-length (tieAt (t .ties)) (getD (t .counts) 3 0) 0);
+    subtypes = rows-length (numberAt subtypeNumbersCell (t .counts)) (getD (t .counts) 4 0) 0 ∙ sym (rows-length (subtypeAt (t .subtypes)) (getD (t .counts) 4 0) 0);
+    turn = s .numbers;
+  };
 }
 
 -- Tables that are not broken show whole rows, and tables of the published lengths that show whole rows are not broken

@@ -9,6 +9,7 @@ use lib.ListN.{length, getElem?, getD, set, length-map}
 use lib.Seq.{set-getD}
 use lib.Dec.{ltb}
 use borrow.Author.Tests.{ltb-true, ltb-false}
+use Rattle.definition.specs.Numbers.{tieNumbersCell, subtypeNumbersCell}
 use Rattle.definition.specs.Lists.{rows, writeRows, stack, writeStack}
 use Rattle.definition.specs.Requests.{at}
 use Rattle.definition.specs.Classes.{Base, Class}
@@ -16,15 +17,16 @@ use Rattle.definition.specs.Constraints.{Tie, Subtype}
 use Rattle.definition.specs.Machine.{Value, Frame, Progress, ObjectRow, objectHeld, existing}
 use Rattle.definition.specs.Loading.{withClass, withEntry}
 use Rattle.definition.specs.Sweeping.{sweptFrom}
-use Rattle.definition.specs.Tables.{Tables, tables, classAt, worldOf, putThree, classRowAt, putClassRow, putEntry, putTie, putSubtype, objectAt, ownedBy, ownerOf, ownerAt, objectRowAt, localAt, putLocal, operandAt, putOperand, frameOf, putFrame, frameBase, frameIn, putFrameIn, classRowsOf, keptOf, tiesOf, viewBase, objectsOf, framesOf, viewOver, put, withObjects, withFrames, putOwner}
-use Rattle.definition.specs.Calls.{addFile, addEntry, progressed}
+use Rattle.definition.specs.Tables.{Tables, tables, classAt, worldOf, putThree, classRowAt, putClassRow, putEntry, putTie, putSubtype, objectAt, ownedBy, ownerOf, ownerAt, objectRowAt, putNumber, localAt, putLocal, operandAt, putOperand, frameOf, putFrame, frameBase, frameIn, putFrameIn, classRowsOf, keptOf, tiesOf, subtypesOf, viewBase, objectsOf, framesOf, viewOver, put, withObjects, withFrames, putOwner}
+use Rattle.definition.specs.Calls.{numbersFrom, numberedOn, addFile, addEntry, progressed}
 use Rattle.layout.specs.Places.{rows-map, rows-there, rows-past, stack-length, stack-cong, writeStack-above, writeStack-two}
 use Rattle.layout.specs.Rows.{class-rows, entry-rows, cell-rows}
 use Rattle.layout.specs.OwnedRows.{owner-is}
+use Rattle.layout.specs.NumberedRows.{numbered-on, ties-numbered-on}
 use Rattle.layout.specs.Values.{Unread, unread-value}
 use Rattle.layout.specs.FrameRows.{moved, frameWith, withValue, frame-kept, frame-above, frame-local, frame-given, frameIn-same, frame-unread, unread-frame}
 pub use Rattle.layout.specs.Fills.{countAt, Fills, FillsObjects, classes-fill, kept-fill, objects-fill, object-made, object-set, put-view, FillsTask}
-use Rattle.layout.specs.Fills.{FillsCounts, put-fills, fill-more, fill-last, count-set, countsOn, counts-fill, objects-swept, cache-fill, ties-fill, ties-more, subtypes-fill, subtypes-more, frames-fill, quote-fill, report-fill}
+use Rattle.layout.specs.Fills.{FillsCounts, FillsNumbers, numbers-fill, ties-numbered, both-numbered, put-fills, fill-more, fill-last, count-set, countsOn, counts-fill, objects-swept, cache-fill, ties-fill, ties-more, subtypes-fill, subtypes-more, frames-fill, quote-fill, report-fill}
 
 -- What the calls put
 
@@ -36,10 +38,10 @@ module _ (b : Base) (t : Tables) where
   unfolding viewOver
   frames-writes zero fs n u two h =
       put-fills (withFrames 0 fs (viewOver b t)) t (classes-fill t) (kept-fill t) (cache-fill t) (ties-fill t) (subtypes-fill t) (objects-fill t b)
-      (quote-fill t fs n u h) (count-set 6 n (omega arith) (counts-fill t))
+      (quote-fill t fs n u h) (numbers-fill t) (count-set 6 n (omega arith) (counts-fill t))
   frames-writes (suc zero) fs n u two h =
       put-fills (withFrames 1 fs (viewOver b t)) t (classes-fill t) (kept-fill t) (cache-fill t) (ties-fill t) (subtypes-fill t) (objects-fill t b)
-      (report-fill t fs n u h) (count-set 7 n (omega arith) (counts-fill t))
+      (report-fill t fs n u h) (numbers-fill t) (count-set 7 n (omega arith) (counts-fill t))
   frames-writes (suc (suc k)) fs n u two h = absurd (omega arith)
 
   -- drop: one count
@@ -57,13 +59,21 @@ module _ (b : Base) (t : Tables) where
   entry-writes l n c =
       put-fills (addEntry (viewOver b t) (withEntry (worldOf (viewOver b t)) (at l n) c)) t (classes-fill t) (kept-fill t)
       (fill-last entry-rows (t .cache) (countAt t 2) (record { request = at l n; class = c })) (ties-fill t) (subtypes-fill t) (objects-fill t b)
-      (frames-fill t) (count-set 2 (countAt t 2 + 1) (omega arith) (counts-fill t))
+      (frames-fill t) (numbers-fill t) (count-set 2 (countAt t 2 + 1) (omega arith) (counts-fill t))
 
-  -- define: a class row, the file's bytes, an entry, ties, subtype constraints, and their five counts
-  pub class-writes : (l : ℕ) (bs : List ℕ) (k : Class) (us : List Tie) (ss : List Subtype)
+  -- the numbers that posted rows get: subtype constraints first, then ties, n of them from k on
+  abbrev pub subtypesNumbered : ℕ → List ℕ → List ℕ
+  subtypesNumbered n c = writeRows (putNumber subtypeNumbersCell) (numbersFrom (countAt t 3 + countAt t 4) n) (countAt t 4) c
+
+  abbrev pub tiesNumbered : ℕ → ℕ → List ℕ → List ℕ
+  tiesNumbered k n c = writeRows (putNumber tieNumbersCell) (numbersFrom k n) (countAt t 3) c
+
+  -- define: a class row, the file's bytes, an entry, ties, subtype constraints, their five counts, and the numbers of what it posted
+  pub class-writes : (l : ℕ) (bs : List ℕ) (k : Class) (us : List Tie) (ss : List Subtype) → countAt t 3 ≤ 256
       → put (addFile l bs (viewOver b t) (withClass (worldOf (viewOver b t)) k us ss)) t
       ≡ tables
-      (set (set (set (set (set (t .counts) 0 (countAt t 0 + 1)) 1 (countAt t 1 + length bs)) 2 (countAt t 2 + 1)) 3 (countAt t 3 + length us)) 4 (countAt t 4 + length ss))
+      (tiesNumbered (countAt t 3 + countAt t 4 + length ss) (length us) (subtypesNumbered (length ss)
+      (set (set (set (set (set (t .counts) 0 (countAt t 0 + 1)) 1 (countAt t 1 + length bs)) 2 (countAt t 2 + 1)) 3 (countAt t 3 + length us)) 4 (countAt t 4 + length ss))))
       (putThree (t .classes) (countAt t 0) l (countAt t 1) (length bs))
       (writeRows set bs (countAt t 1) (t .kept))
       (putThree (t .cache) (countAt t 2) (k .loader) (k .name) (countAt t 0))
@@ -72,23 +82,26 @@ module _ (b : Base) (t : Tables) where
       (t .objects)
       (t .frames)
   unfolding viewOver putEntry putClassRow
-  class-writes l bs k us ss =
+  class-writes l bs k us ss room =
       let n : length (keptOf t) ≡ countAt t 1 = kept-fill t .count in
       let m : length (map (classAt (keptOf t)) (classRowsOf t)) ≡ countAt t 0 = length-map (classRowsOf t) (classAt (keptOf t)) ∙ classes-fill t .count in
       put-fills (addFile l bs (viewOver b t) (withClass (worldOf (viewOver b t)) k us ss)) t
       (fill-last class-rows (t .classes) (countAt t 0) (record { loader = l; start = length (keptOf t); size = length bs }))
       (fill-more cell-rows (t .kept) (countAt t 1) bs)
       (fill-last entry-rows (t .cache) (countAt t 2) (record { request = at (k .loader) (k .name); class = length (map (classAt (keptOf t)) (classRowsOf t)) }))
-      (ties-more t us) (subtypes-more t ss) (objects-fill t b) (frames-fill t)
+      (ties-more t us) (subtypes-more t ss) (objects-fill t b) (frames-fill t) numbers
       (count-set 4 (countAt t 4 + length ss) (omega arith) (count-set 3 (countAt t 3 + length us) (omega arith)
       (count-set 2 (countAt t 2 + 1) (omega arith) (count-set 1 (countAt t 1 + length bs) (omega arith) (count-set 0 (countAt t 0 + 1) (omega arith) (counts-fill t))))))
       ∙ rw (n, m)
+    where
+      numbers : FillsNumbers (numberedOn (tiesOf t ++ us) (subtypesOf t ++ ss) (viewOver b t)) (t .counts) (λ c. tiesNumbered (countAt t 3 + countAt t 4 + length ss) (length us) (subtypesNumbered (length ss) c))
+      numbers = rw (numbered-on (viewOver b t) us ss, ties-fill t .count, subtypes-fill t .count) (both-numbered t _ _ room)
 
-  -- a task's progress: the ties that it posted, the objects and the task's frames that it leaves, their three counts and the owners
+  -- a task's progress: the ties that it posted, with their numbers, the objects and the task's frames that it leaves, their three counts and the owners
   pub progress-writes : (k : ℕ) (p : Progress) (us : List Tie) (m n : ℕ) (w : List ℕ → List ℕ) (o u : List ℕ) → k < 2 → p .world .ties ≡ tiesOf t ++ us
       → FillsObjects (p .objects) (t .counts) (t .objects) m w o → FillsTask k (p .frames) t n u
       → put (progressed k (viewOver b t) p) t
-      ≡ tables (w (set (set (set (t .counts) 3 (countAt t 3 + length us)) 5 m) (6 + k) n)) (t .classes) (t .kept) (t .cache)
+      ≡ tables (tiesNumbered (countAt t 3 + countAt t 4) (length us) (w (set (set (set (t .counts) 3 (countAt t 3 + length us)) 5 m) (6 + k) n))) (t .classes) (t .kept) (t .cache)
       (writeRows putTie us (countAt t 3) (t .ties)) (t .subtypes) o u
   unfolding viewOver
   progress-writes k p us m n w o u two e g h = go k two h
@@ -96,37 +109,40 @@ module _ (b : Base) (t : Tables) where
       posted : Fills putTie (p .world .ties) (t .ties) (countAt t 3 + length us) (writeRows putTie us (countAt t 3) (t .ties))
       posted = rw e (ties-more t us)
 
+      numbers : FillsNumbers (numberedOn (p .world .ties) (subtypesOf t) (viewOver b t)) (t .counts) (tiesNumbered (countAt t 3 + countAt t 4) (length us))
+      numbers = rw (e, ties-numbered-on (viewOver b t) us, ties-fill t .count, subtypes-fill t .count) (ties-numbered t _)
+
       counts : FillsCounts (set (set (countsOn t) 3 (countAt t 3 + length us)) 5 m) (t .counts) (set (set (t .counts) 3 (countAt t 3 + length us)) 5 m)
       counts = count-set 5 m (omega arith) (count-set 3 (countAt t 3 + length us) (omega arith) (counts-fill t))
 
       go : (k : ℕ) → k < 2 → FillsTask k (p .frames) t n u
           → put (progressed k (viewOver b t) p) t
-          ≡ tables (w (set (set (set (t .counts) 3 (countAt t 3 + length us)) 5 m) (6 + k) n)) (t .classes) (t .kept) (t .cache)
+          ≡ tables (tiesNumbered (countAt t 3 + countAt t 4) (length us) (w (set (set (set (t .counts) 3 (countAt t 3 + length us)) 5 m) (6 + k) n))) (t .classes) (t .kept) (t .cache)
           (writeRows putTie us (countAt t 3) (t .ties)) (t .subtypes) o u
       go zero two h =
           put-fills (progressed 0 (viewOver b t) p) t (classes-fill t) (kept-fill t) (cache-fill t) posted (subtypes-fill t) g
-          (quote-fill t (p .frames) n u h) (count-set 6 n (omega arith) counts)
+          (quote-fill t (p .frames) n u h) numbers (count-set 6 n (omega arith) counts)
       go (suc zero) two h =
           put-fills (progressed 1 (viewOver b t) p) t (classes-fill t) (kept-fill t) (cache-fill t) posted (subtypes-fill t) g
-          (report-fill t (p .frames) n u h) (count-set 7 n (omega arith) counts)
+          (report-fill t (p .frames) n u h) numbers (count-set 7 n (omega arith) counts)
       go (suc (suc k)) two h = absurd (omega arith)
 
   -- the same where it posted no tie
   pub quiet-writes : (k : ℕ) (p : Progress) (m n : ℕ) (w : List ℕ → List ℕ) (o u : List ℕ) → k < 2 → p .world .ties ≡ tiesOf t
       → FillsObjects (p .objects) (t .counts) (t .objects) m w o → FillsTask k (p .frames) t n u
       → put (progressed k (viewOver b t) p) t ≡ tables (w (set (set (t .counts) 5 m) (6 + k) n)) (t .classes) (t .kept) (t .cache) (t .ties) (t .subtypes) o u
-  unfolding writeRows
+  unfolding writeRows rows
   quiet-writes k p m n w o u two e g h =
       let z : countAt t 3 + 0 ≡ countAt t 3 = omega arith in
       progress-writes k p [] m n w o u two (e ∙ sym (append-nil (tiesOf t))) g h ∙ rw (z, set-getD (t .counts) 3 0)
 
   -- sweep: owners
-  pub sweep-writes : (R : List ℕ) → put (withObjects (sweptFrom R 0 (objectsOf b t)) (viewOver b t)) t
+  pub sweep-writes : (R : List ℕ) → countAt t 5 ≤ 256 → put (withObjects (sweptFrom R 0 (objectsOf b t)) (viewOver b t)) t
       ≡ tables (writeRows putOwner (sweptFrom R 0 (objectsOf b t)) 0 (t .counts)) (t .classes) (t .kept) (t .cache) (t .ties) (t .subtypes) (t .objects) (t .frames)
   unfolding viewOver
-  sweep-writes R =
+  sweep-writes R room =
       put-fills (withObjects (sweptFrom R 0 (objectsOf b t)) (viewOver b t)) t (classes-fill t) (kept-fill t) (cache-fill t) (ties-fill t) (subtypes-fill t)
-      (objects-swept t b R) (frames-fill t) (counts-fill t)
+      (objects-swept t b R room) (frames-fill t) (numbers-fill t) (counts-fill t)
 
 -- What a task's frames write
 

@@ -10,8 +10,8 @@ use Rattle.definition.specs.Classes.{Base, Entry, superOf}
 use Rattle.definition.specs.Constraints.{Tie, Subtype}
 use Rattle.definition.specs.Machine.{Value, emptyValue, intValue, nullValue, objectValue, unlistedValue, Object, ObjectRow, free, owned, Objects, Exists, Frame}
 use Rattle.definition.specs.File.{File}
-use Rattle.definition.specs.Tables.{ClassRow, Rows, fileAt, sizeOf, worldOf}
-use Rattle.definition.specs.Broken.{isObject, classFits, classesFit, entryFits, tieFits, subtypeFits, valueFits, localFits, objectFits, frameFits, sound}
+use Rattle.definition.specs.Tables.{ClassRow, RowNumbers, Rows, fileAt, sizeOf, worldOf}
+use Rattle.definition.specs.Broken.{isObject, classFits, classesFit, entryFits, tieFits, subtypeFits, valueFits, localFits, objectFits, frameFits, numbered, sound}
 pub use Rattle.layout.specs.Tests.{All, From}
 use Rattle.layout.specs.Tests.{all-all, all-test, all-more, from-all, all-from, every-true, true-every, is-some, some-is}
 
@@ -86,6 +86,16 @@ pub record Limits (r : Rows) : Type 0 where
   pub quote : length (r .quote) ≤ 32
   pub report : length (r .report) ≤ 32
 
+-- numbers in turn of t ties and s subtype constraints; what the numbers are stands in InTurn
+pub record Numbered (t s : ℕ) (n : RowNumbers) : Type 0 where
+  pub ties : length (n .ties) ≡ t
+  pub subtypes : length (n .subtypes) ≡ s
+  pub turn : numbered n ≡ true
+
+-- each row of ties and of subtype constraints has one
+abbrev pub Numbering : Rows → Type 0
+Numbering r = Numbered (length (r .ties)) (length (r .subtypes)) (r .numbers)
+
 pub record Whole (r : Rows) : Type 0 where
   pub limits : Limits r
   pub classes : Classes (worldOf r .base) (r .kept) (r .classes)
@@ -95,8 +105,9 @@ pub record Whole (r : Rows) : Type 0 where
   pub objects : All (RowSound (worldOf r .base) (length (r .classes)) (Exists (r .objects))) (r .objects)
   pub quote : All (Framed (length (r .classes)) (Exists (r .objects))) (r .quote)
   pub report : All (Framed (length (r .classes)) (Exists (r .objects))) (r .report)
+  pub numbers : Numbering r
 
--- The same but for limits, an object's number of fields and a frame's number of locals, which rows read off tables have by themselves
+-- The same but for limits, an object's number of fields, a frame's number of locals and how many row numbers there are, which rows read off tables have by themselves
 
 pub record Objected (n : ℕ) (X : ℕ → Type 0) (o : Object) : Type 0 where
   pub class : o .class < n
@@ -120,6 +131,7 @@ pub record Sound (r : Rows) : Type 0 where
   pub objects : All (RowOwned (length (r .classes)) (Exists (r .objects))) (r .objects)
   pub quote : All (Frames (length (r .classes)) (Exists (r .objects))) (r .quote)
   pub report : All (Frames (length (r .classes)) (Exists (r .objects))) (r .report)
+  pub numbers : numbered (r .numbers) ≡ true
 
 pub whole-sound : (r : Rows) → Whole r → Sound r
 whole-sound r w = record {
@@ -130,6 +142,7 @@ whole-sound r w = record {
   objects = all-more sound-owned (r .objects) (w .objects);
   quote = all-more (framed-frames _ _) (r .quote) (w .quote);
   report = all-more (framed-frames _ _) (r .report) (w .report);
+  numbers = w .numbers .turn;
 }
   where
     sound-owned : (x : ObjectRow) → RowSound (worldOf r .base) (length (r .classes)) (Exists (r .objects)) x → RowOwned (length (r .classes)) (Exists (r .objects)) x
@@ -290,6 +303,7 @@ sound-true r h =
       objects = all-all _ (RowOwned n (Exists os)) (fits-object os n) os (p .1 .1 .1 .1 .0);
       quote = all-all _ (Frames n (Exists os)) (fits-frame os n) (r .quote) (p .1 .1 .1 .1 .1 .0);
       report = all-all _ (Frames n (Exists os)) (fits-frame os n) (r .report) (p .1 .1 .1 .1 .1 .1 .0);
+      numbers = p .1 .1 .1 .1 .1 .1 .1 .0;
     }
 
 pub sound-is : (r : Rows) → Sound r → sound r ≡ true
@@ -309,7 +323,7 @@ sound-is r s =
               all-test _ (RowOwned n (Exists os)) (object-fits os n) os (s .objects),
               (
                 all-test _ (Frames n (Exists os)) (frame-fits os n) (r .quote) (s .quote),
-                (all-test _ (Frames n (Exists os)) (frame-fits os n) (r .report) (s .report), tt),
+                (all-test _ (Frames n (Exists os)) (frame-fits os n) (r .report) (s .report), (s .numbers, tt)),
               ),
             ),
           ),

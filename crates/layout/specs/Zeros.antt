@@ -7,7 +7,7 @@ use lib.ListN.{length-replicate}
 use Rattle.definition.specs.Numbers.{countsLength, classesLength, keptLength, cacheLength, tiesLength, subtypesLength, objectsLength, framesLength}
 use Rattle.definition.specs.Lists.{rows, stack}
 use Rattle.definition.specs.Tables.{noRows, objectsOf, framesOf, viewOver, view, zeros}
-use Rattle.definition.specs.Broken.{broken}
+use Rattle.definition.specs.Broken.{inTurn, numbered, broken}
 use Rattle.layout.specs.Whole.{Whole}
 use Rattle.layout.specs.ReadBack.{Lengths}
 use Rattle.layout.specs.Unbroken.{false-broken}
@@ -30,6 +30,7 @@ zeros-lengths = record {
 }
 
 none-whole : Whole noRows
+unfolding numbered inTurn
 none-whole = record {
   limits = record {
     classes = omega arith;
@@ -48,6 +49,7 @@ none-whole = record {
   objects = tt;
   quote = tt;
   report = tt;
+  numbers = record { ties = refl; subtypes = refl; turn = refl };
 }
 
 pub zeros-whole : broken zeros ≡ false

@@ -9,7 +9,7 @@ use Rattle.definition.specs.declared.Refusal.the-variants.{Word}
 use Rattle.definition.specs.declared.Reply.the-variants.{Accepted, Denied}
 use Rattle.definition.specs.Lists.{writeRows, writeStack}
 use Rattle.definition.specs.Answers.{_>>=_, need}
-use Rattle.definition.specs.Tables.{Tables, tables, shaped, putThree, putClassRow, putEntry, countsOf, view, viewBase, put, withFrames}
+use Rattle.definition.specs.Tables.{Tables, tables, shaped, putThree, putClassRow, putEntry, countsOf, view, viewBase, put, withFrames, putNumbers}
 use Rattle.definition.specs.Broken.{broken}
 use Rattle.definition.specs.Calls.{done, boot, dropRows, callBoot, callDrop, perform}
 use Rattle.layout.specs.View.{drop-writes}
@@ -25,7 +25,7 @@ pub boot-done : (t : Tables) → shaped t ≡ true
     → done Accepted (tables (writeRows set (1 ∷ 0 ∷ 1 ∷ 0 ∷ 0 ∷ 0 ∷ 0 ∷ 0 ∷ []) 0 (t .counts)) (putThree (t .classes) 0 0 0 0) (t .kept)
     (putThree (t .cache) 0 0 2 0) (t .ties) (t .subtypes) (t .objects) (t .frames))
     ≡ perform callBoot t
-unfolding perform boot put countsOf writeRows writeStack putClassRow putEntry
+unfolding perform boot put putNumbers countsOf writeRows writeStack putClassRow putEntry
 boot-done t h = rw (h, boot) refl
 
 -- drop

@@ -1,5 +1,6 @@
-// The calls that load classes and clear tasks: boot and drop, and define and record of crates defining and recording.
+// The calls that load classes and clear tasks: boot and drop, and define and record of crates defining and recording, with the tries of both.
 pub use defining::define;
+pub use defining::try_define;
 use definition::Refusal;
 use definition::Reply;
 use definition::numbers::COUNT_FRAMES;
@@ -8,6 +9,7 @@ use definition::numbers::TASK_LIMIT;
 use definition::numbers::WORD_BROKEN;
 use definition::numbers::WORD_UNKNOWN;
 pub use recording::record;
+pub use recording::try_record;
 ghost use mathlib.Core.Path.{_≡_};
 ghost use Rattle.definition.specs.Tables.{tables};
 ghost use Rattle.definition.specs.Calls.{done, callBoot, callDrop, perform};

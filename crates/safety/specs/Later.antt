@@ -5,7 +5,7 @@ use mathlib.Core.Option.{Option, some}
 use mathlib.Core.List.{List, [], _∷_, _++_, map, List·Memᴰ, Memᴰ·append-left}
 use mathlib.Core.Logic.{_⊎_, inl, inr}
 use Prim.Native.Nat.{ℕ}
-use lib.ListN.{length, getElem?}
+use lib.ListN.{getElem?}
 use lib.Dec.{eqb}
 use Rattle.definition.specs.declared.Signature.{Signature}
 use Rattle.definition.specs.Classes.{Class, Slot, loaderOf, slots, superOf, Selected}

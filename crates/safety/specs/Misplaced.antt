@@ -4,14 +4,14 @@ use mathlib.Core.Bool.{Bool, true, false}
 use mathlib.Core.Option.{Option, none, some}
 use mathlib.Core.List.{reverse, List, [], _∷_}
 use Prim.Native.Nat.{ℕ, suc, _<_}
-use lib.ListN.{length, getElem?}
+use lib.ListN.{length}
 use Rattle.definition.specs.Classes.{Class, Method, find, loaderOf, slots, superOf}
 use Rattle.definition.specs.Constraints.{Agrees, World}
 use Rattle.definition.specs.Machine.{Frame, Object, Value, intValue, nullValue, objectValue, emptyValue, unlistedValue, existing, Objects, free, owned, objectHeld}
 use Rattle.definition.specs.Misplaced.{failures, misplacedFields, misplacedInFrame, misplacedInFrames, placed, placedLocal, typesOf, waitingTypes, misplacedIn}
 use Rattle.definition.specs.Requests.{at}
 use Rattle.definition.specs.Superclasses.{below}
-use Rattle.definition.specs.Verifier.{TypeState, VerifierType, typeClass, typeInt, typeNull, typeOfName, entryTypes}
+use Rattle.definition.specs.Verifier.{TypeState, VerifierType, typeClass, typeInt, typeNull, typeOfName}
 use Rattle.laws.specs.Agreement.{super-falls}
 use Rattle.laws.specs.Upward.{true-below}
 use Rattle.safety.specs.Conform.{fits-below}

@@ -9,7 +9,7 @@ use lib.Dec.{eqb}
 use borrow.Author.Tests.{eqb-true, eqb-false, ne-eqb}
 use Rattle.definition.specs.Constraints.{Agrees, Tie, World, agreesAfter, edges, newTie, newTies, posted, subtypeEdges, tieEdges, tieIs}
 use Rattle.definition.specs.Lists.{any}
-use Rattle.definition.specs.Machine.{Object, Value, intValue, nullValue, objectValue, emptyValue, unlistedValue, Objects}
+use Rattle.definition.specs.Machine.{Value, intValue, nullValue, objectValue, emptyValue, unlistedValue, Objects}
 use Rattle.definition.specs.Chains.{Chain, Edge, hop, stay}
 use Rattle.definition.specs.Requests.{Request, at}
 use Rattle.definition.specs.Verifier.{Note, VerifierType, meetClass, meetInt, meets, typeClass, typeInt, typeNull, typeOfName}

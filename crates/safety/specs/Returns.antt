@@ -1,16 +1,13 @@
 -- A return keeps the invariant: its value goes to the frame below, or ends the task.
 use mathlib.Core.Path.{_≡_, refl}
-use mathlib.Core.Bool.{Bool, true, false}
-use mathlib.Core.Option.{Option, none, some, Option·none-ne-some}
+use mathlib.Core.Option.{some}
 use mathlib.Core.List.{List, [], _∷_}
 use Prim.Native.Nat.{ℕ}
-use lib.Dec.{eqb}
-use borrow.Author.Tests.{eqb-true, eqb-false}
 use Rattle.definition.specs.Answers.{Result, _>>=_}
 use Rattle.definition.specs.Classes.{Class, Method}
 use Rattle.definition.specs.Constraints.{World}
 use Rattle.definition.specs.Instructions.{Decoded}
-use Rattle.definition.specs.Machine.{Frame, Object, Value, execute, give, under!, Objects}
+use Rattle.definition.specs.Machine.{Frame, Value, execute, give, under!, Objects}
 use Rattle.definition.specs.Requests.{at}
 use Rattle.definition.specs.Verifier.{Note, meetInt, returns, typeInt, typeOfName}
 use Rattle.definition.specs.declared.Kind.{Kind}

@@ -20,10 +20,11 @@ use Rattle.definition.specs.File.{classOf}
 use Rattle.definition.specs.Machine.{Exists, Frame, Progress}
 use Rattle.definition.specs.Tables.{Tables, shaped, Rows, worldOf, view, put, framesIn, withFrames}
 use Rattle.definition.specs.Broken.{broken}
-use Rattle.definition.specs.Calls.{Given, bootRows, progressed, defineRows, recordRows, startRows, dropRows, sweepRows, answerOf, stepTask, stepOn, stepRows, Done, done, wrap, boot, stepTables, runFrom, run, Call, callBoot, callStep, callRun, perform, performAll, ComesFromBoot, RowCall, rowDefine, rowRecord, rowStart, rowDrop, rowSweep, onRowCall, callRows, afterBoot, afterCall}
+use Rattle.definition.specs.Calls.{Given, bootRows, progressed, defineRows, recordRows, startRows, dropRows, sweepRows, answerOf, stepTask, stepOn, stepRows, Done, done, wrap, boot, stepTables, runFrom, run, Call, callBoot, callStep, callRun, perform, performAll, ComesFromBoot, RowCall, rowDefine, rowRecord, rowStart, rowDrop, rowSweep, rowTry, Load, loadDefine, loadRecord, loadRows, tryRows, onRowCall, callRows, afterBoot, afterCall}
 use Rattle.definition.specs.Misplaced.{misplaced}
 use Rattle.definition.specs.Safety.{Safe}
 use Rattle.laws.specs.Results.{NotStuck, Wp, not-word, ok-inj, wp-need, wp-take}
+use Rattle.laws.specs.Refusals.{unmoved, try-either}
 use Rattle.laws.specs.Runs.{runs-end}
 use Rattle.laws.specs.Tasks.{of-task}
 use Rattle.laws.specs.Wrapped.{wrapped, Ok, ok-at}
@@ -140,12 +141,25 @@ module _ (r : Rows) (w : Whole r) (v : Good r) where
   unfolding sweepRows numberOf endsIn
   sweep-good = (valid-swept S v, (zero-fine, zero-fine))
 
+  load-good : (c : Load) → Wp (loadRows c r) Q
+  load-good (loadDefine l bs) = define-good l bs
+  load-good (loadRecord l n c) = record-good l n c
+
+  -- a try answers as the load, or 16, and leaves the rows as they are
+  try-good : (c : Load) (n : ℕ) → Wp (tryRows c n r) Q
+  try-good c n = try-either (λ o. Wp o Q) c n r (not-word 16 (omega arith)) (go (loadRows c r) (load-good c))
+    where
+      go : (o : Result (Given Reply)) → Wp o Q → Wp (unmoved r o) Q
+      go (refused x) h = h
+      go (ok g) h = (v, h .1)
+
   rows-good : (c : RowCall) → Wp (onRowCall c r) Q
   rows-good (rowDefine l bs) = define-good l bs
   rows-good (rowRecord l n c) = record-good l n c
   rows-good (rowStart k l n m x) = start-good k l n m x
   rows-good (rowDrop k) = drop-good k
   rows-good rowSweep = sweep-good
+  rows-good (rowTry c n) = try-good c n
 
 boot-good : Good bootRows
 boot-good = subst Valid (sym same) valid-booted

@@ -4,20 +4,19 @@ use mathlib.Core.Bool.{Bool, true, false}
 use mathlib.Core.Option.{Option, none, some, Option·none-ne-some}
 use mathlib.Core.List.{List, [], _∷_, _++_, map, Memᴰ·append-left, Memᴰ·append-right, List·Memᴰ, List·Memᴰ·head, List·Memᴰ·tail}
 use mathlib.Core.Logic.{inl, inr, _≢_}
-use Prim.Native.Nat.{ℕ, suc, _+_, _-_, _%_}
+use Prim.Native.Nat.{ℕ, suc, _+_, _-_}
 use native.Mathlib.Omega.{arith}
-use lib.ListN.{length, getElem?, set}
+use lib.ListN.{length, set}
 use lib.Dec.{eqb, ltb}
 use Rattle.definition.specs.declared.Signature.{Signature}
-use Rattle.definition.specs.Answers.{Result, _>>=_, less, ok, signed, take?}
-use Rattle.definition.specs.declared.Refusal.the-variants.{Word}
+use Rattle.definition.specs.Answers.{less, ok, signed}
 use Rattle.definition.specs.Classes.{Class, Method, hasField, hasMethod, loaderOf, slots, superOf, Selected, signatureTypes}
 use Rattle.definition.specs.Constraints.{Agrees, Tie, World, newTie, posted, signatureTies}
 use Rattle.definition.specs.Instructions.{Decoded, pick}
-use Rattle.definition.specs.Machine.{Frame, Object, Progress, Value, entryFrame, execute, initialValue, int!, intValue, jumps, newObject, now, room!, nullValue, objectValue, past, pop!, reference!, step, Objects, existing, unused, made, changed}
+use Rattle.definition.specs.Machine.{Frame, Object, Progress, Value, entryFrame, execute, initialValue, intValue, jumps, newObject, now, nullValue, objectValue, past, pop!, step, Objects, existing, unused, made, changed}
 use Rattle.definition.specs.Requests.{at}
 use Rattle.definition.specs.Superclasses.{Below, same}
-use Rattle.definition.specs.Verifier.{Flow, Note, TypeState, VerifierType, goesOn, target, effect, flow, meetClass, meetInt, meets, pop, typeClass, typeInt, typeNull, typeOfName, typesIn}
+use Rattle.definition.specs.Verifier.{Flow, Note, TypeState, VerifierType, goesOn, target, effect, flow, meetClass, meets, pop, typeClass, typeInt, typeNull, typeOfName, typesIn}
 use Rattle.definition.specs.declared.Kind.{Kind}
 use Rattle.definition.specs.declared.Operator.{Operator}
 use Rattle.definition.specs.declared.Instruction.{Instruction}

@@ -3,7 +3,7 @@ use mathlib.Core.List.{List, [], _∷_}
 use Prim.Native.Nat.{ℕ}
 use Rattle.definition.specs.Requests.{at}
 use Rattle.definition.specs.Constraints.{World}
-use Rattle.definition.specs.Machine.{Object, Frame, Progress, Objects}
+use Rattle.definition.specs.Machine.{Frame, Progress, Objects}
 use Rattle.definition.specs.Answers.{Result, refused, ok}
 use Rattle.definition.specs.Tables.{Rows, ofTask, worldOf}
 

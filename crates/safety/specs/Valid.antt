@@ -5,7 +5,7 @@ use mathlib.Core.Option.{Option, none, some}
 use mathlib.Core.List.{List, [], _∷_, List·Memᴰ}
 use mathlib.Core.Logic.{_≢_, _⊎_, inl, inr}
 use Prim.Native.Nat.{ℕ, _<_}
-use lib.ListN.{length, getElem?}
+use lib.ListN.{getElem?}
 use Rattle.definition.specs.declared.Signature.{Signature}
 use Rattle.definition.specs.Classes.{Class, Method, find, hasMethod, loaderOf, slots, superOf, signatureTypes}
 use Rattle.definition.specs.Constraints.{Agrees, World, posted, subtypeEdges}

@@ -5,12 +5,12 @@ use mathlib.Core.List.{List}
 use Prim.Native.Nat.{ℕ}
 use lib.ListN.{length, set}
 use Rattle.definition.specs.Lists.{writeRows}
-use Rattle.definition.specs.Calls.{rowDefine, rowRecord, rowStart, rowDrop, rowSweep, Call, callBoot, callRows, callStep, callRun}
+use Rattle.definition.specs.Calls.{rowDefine, rowRecord, rowStart, rowDrop, rowSweep, rowTry, Call, callBoot, callRows, callStep, callRun}
 use Rattle.definition.specs.Script.{Line}
 pub use Rattle.script.specs.declared.Command.{Command}
 pub use Rattle.script.specs.declared.Command.the-variants.{Record, Define, Start, Step, Drop, Unreadable}
 
--- a define says its file's length; no line asks for a boot, a run or a sweep
+-- a define says its file's length; no line asks for a boot, a run, a sweep or a try
 unfoldable pub commandOf : Call → Command
 commandOf callBoot = Unreadable
 commandOf (callRows (rowDefine l bs)) = Define l (length bs)
@@ -20,6 +20,7 @@ commandOf callStep = Step
 commandOf (callRun n) = Unreadable
 commandOf (callRows (rowDrop k)) = Drop k
 commandOf (callRows rowSweep) = Unreadable
+commandOf (callRows (rowTry c m)) = Unreadable
 
 unfoldable pub said : Option Line → Command
 said none = Unreadable
@@ -35,6 +36,7 @@ fileOnto callStep t = t
 fileOnto (callRun n) t = t
 fileOnto (callRows (rowDrop k)) t = t
 fileOnto (callRows rowSweep) t = t
+fileOnto (callRows (rowTry c m)) t = t
 
 unfoldable pub decoded : Option Line → List ℕ → List ℕ
 decoded none t = t

@@ -1,4 +1,4 @@
--- Word 1 as tests in an order in which they can be made: lengths and counts, then the classes' files, and after these, with classes read at once
+-- Word 1 as tests in an order in which they can be made: lengths, counts and the numbers of rows, then the classes' files, and after these, with classes read at once
 -- off files that are known to read, superclasses and sizes, rows and values.
 use mathlib.Core.Bool.{Bool, true, false}
 use mathlib.Core.List.{List, [], _∷_}
@@ -14,6 +14,7 @@ use Rattle.definition.specs.Machine.{Value, emptyValue, intValue, nullValue, ob
 use Rattle.definition.specs.File.{readFile}
 use Rattle.definition.specs.Tables.{Tables, shaped, ClassRow, classRowAt, entryAt, tieAt, subtypeAt, fieldAt, ownedBy, ownerAt, objectRowAt, frameIn, sizeOf, viewBase}
 use Rattle.definition.specs.Broken.{within, isObject, entryFits, tieFits, subtypeFits, broken}
+use Rattle.constraints.specs.Linking.{numbersFit}
 use Rattle.classfile.specs.Reading.{partOf}
 use Rattle.resolution.specs.Quick.{quickOf}
 use Rattle.store.specs.declared.Fields.{Fields}
@@ -110,11 +111,12 @@ valuesFit b counts objects frames = every
 
 -- All together
 
--- lengths, counts, files and rows: after these, classes are read at once
+-- lengths, counts, numbers of rows, files and rows: after these, classes are read at once
 unfoldable pub readable : Tables → Bool
 readable t = every
     (shaped t
     ∷ within (t .counts)
+    ∷ numbersFit (t .counts)
     ∷ sourcesFit (getD (t .counts) 1 0) (t .kept) (rows (classRowAt (t .classes)) (getD (t .counts) 0 0) 0)
     ∷ rowsFit (t .counts) (t .cache) (t .ties) (t .subtypes)
     ∷ [])

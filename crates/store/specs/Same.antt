@@ -19,6 +19,7 @@ use Rattle.layout.specs.Whole.{First, ClassSound, Classes, fits-classes, classe
 use Rattle.layout.specs.View.{object-there, object-past, object-free}
 use Rattle.layout.specs.Unbroken.{within-true}
 use Rattle.layout.specs.ReadBack.{shaped-true}
+use Rattle.constraints.specs.Linking.{numbersFit}
 use Rattle.classfile.specs.Reading.{quickFile, partOf}
 use Rattle.classfile.specs.Laws.{reads-some}
 use Rattle.classfile.specs.Searches.{file-part}
@@ -201,14 +202,14 @@ enough : (t : Tables) → shaped t ≡ true → within (t .counts) ≡ true → 
 enough t s w = omega (arith, shaped-true t s .kept, within-true (t .counts) w .kept)
 
 checks-sound : (t : Tables) → checks t ≡ true → whole t ≡ true
-unfolding checks readable whole sound view viewOver rowsFit valuesFit
+unfolding checks readable whole sound view viewOver rowsFit valuesFit numbersFit
 checks-sound t h =
     let k = every-true _ h in
     let p = every-true _ (k .0) in
     let bytes = enough t (p .0) (p .1 .0) in
-    let s = fit-sources t bytes (p .1 .1 .0) in
+    let s = fit-sources t bytes (p .1 .1 .1 .0) in
     let e = quick-view t s in
-    let r = every-true _ (p .1 .1 .1 .0) in
+    let r = every-true _ (p .1 .1 .1 .1 .0) in
     let v = every-true _ (k .1 .0) in
     let n = getD (t .counts) 0 0 in
     let b = viewBase t in
@@ -217,7 +218,7 @@ checks-sound t h =
     let f = s .others c k l in
     let q = links-said b n (ap (λ (d : Base). linksFit d n) (sym e) ∙ v .0) c k l in
     let u = is-some _ (q .0) in
-    record { loader = sources-other (getD (t .counts) 1 0) (t .kept) (classRowAt (t .classes)) n (p .1 .1 .0) c k l .loader; file = f .0; reads = f .1; super = u .0; isSuper = u .1; size = q .1 }) in
+    record { loader = sources-other (getD (t .counts) 1 0) (t .kept) (classRowAt (t .classes)) n (p .1 .1 .1 .0) c k l .loader; file = f .0; reads = f .1; super = u .0; isSuper = u .1; size = q .1 }) in
     true-every _ (
       p .0,
       (
@@ -233,7 +234,7 @@ checks-sound t h =
                   r .1 .1 .0,
                   (
                     objects-same t b ∙ (ap (λ (d : Base). objectsFit d (t .counts) (t .objects)) (sym e) ∙ v .1 .0),
-                    (frames-same t b 0 ∙ v .1 .1 .0, (frames-same t b 1 ∙ v .1 .1 .1 .0, tt)),
+                    (frames-same t b 0 ∙ v .1 .1 .0, (frames-same t b 1 ∙ v .1 .1 .1 .0, (p .1 .1 .0, tt))),
                   ),
                 ),
               ),
@@ -245,7 +246,7 @@ checks-sound t h =
     )
 
 sound-checks : (t : Tables) → whole t ≡ true → checks t ≡ true
-unfolding checks readable whole sound view viewOver rowsFit valuesFit
+unfolding checks readable whole sound view viewOver rowsFit valuesFit numbersFit
 sound-checks t h =
     let p = every-true _ h in
     let q = every-true _ (p .1 .1 .0) in
@@ -263,8 +264,11 @@ sound-checks t h =
         (
           p .1 .0,
           (
-            files,
-            (true-every _ (ap (λ (m : ℕ). all (entryFits m) (cacheOf t)) (sym (classes-number t)) ∙ q .1 .0, (q .1 .1 .0, (q .1 .1 .1 .0, tt))), tt),
+            q .1 .1 .1 .1 .1 .1 .1 .0,
+            (
+              files,
+              (true-every _ (ap (λ (m : ℕ). all (entryFits m) (cacheOf t)) (sym (classes-number t)) ∙ q .1 .0, (q .1 .1 .0, (q .1 .1 .1 .0, tt))), tt),
+            ),
           ),
         ),
       ),

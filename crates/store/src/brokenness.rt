@@ -92,7 +92,7 @@ fn values_fit(
     frames_fit(counts, frames, 1)
 }
 
-// Lengths, counts, files and rows: after these, classes are read at once.
+// Lengths, counts, numbers of rows, files and rows: after these, classes are read at once.
 fn is_readable(
     counts: &[u16],
     classes: &[u16],
@@ -118,6 +118,9 @@ fn is_readable(
         return false;
     }
     if !are_within(counts) {
+        return false;
+    }
+    if !constraints::numbers_fit(counts) {
         return false;
     }
     if !sources_fit(counts, classes, kept) {

@@ -1,4 +1,4 @@
-// Word 1: whether tables are no store. Lengths and counts are tested first, then the classes' files; after that classes are read at once, and
+// Word 1: whether tables are no store. Lengths, counts and the numbers of rows are tested first, then the classes' files; after that classes are read at once, and
 // superclasses, sizes, rows and values are tested, each used row once.
 mod counts; // counts.rt: lengths of the tables, and counts within their limits
 mod sources; // sources.rt: classes with their files, entries and constraints

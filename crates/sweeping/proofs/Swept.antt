@@ -23,7 +23,7 @@ use Rattle.layout.specs.Tests.{All, all-both}
 use Rattle.layout.specs.Places.{rows-length}
 use Rattle.layout.specs.Whole.{Local, ValueSound, ObjectSound, Framed, Whole}
 use Rattle.layout.specs.View.{sweep-writes, object-there, object-past, object-free}
-use Rattle.layout.specs.Unbroken.{broken-false}
+use Rattle.layout.specs.Unbroken.{unbroken, broken-false}
 use Rattle.unbroken.specs.Steps.{object-at}
 use Rattle.store.specs.Checks.{Sized}
 use Rattle.store.proofs.Laws.{same-object}
@@ -137,7 +137,7 @@ module _ (t : Tables) (sound : broken t ≡ false) (sizes : List ℕ) (sized : S
   swept : perform callSweep t
       ≡ done (Swept (freedFrom R 0 os)) (tables (writeRows putOwner (sweptFrom R 0 os) 0 (t .counts)) (t .classes) (t .kept) (t .cache) (t .ties) (t .subtypes) (t .objects) (t .frames))
   unfolding perform sweepRows carried view viewOver
-  swept = wrap-carried Denied sweepRows t sound ∙ ap (done (Swept (freedFrom R 0 os))) (sweep-writes b t R)
+  swept = wrap-carried Denied sweepRows t sound ∙ ap (done (Swept (freedFrom R 0 os))) (sweep-writes b t R (unbroken t sound .counts .objects))
 
   pub sweep-done : (marks c : List ℕ) (n : ℕ) → marks ≡ marked sizes (t .counts) (t .objects) (t .frames) (replicate 256 0) .marks
       → freed c n ≡ freeRows marks (getD (t .counts) 5 0) 0 (t .counts) 0

@@ -9,7 +9,8 @@ use lib.ListN.{length, getElem?, length-append, length-map}
 use lib.Dec.{leb}
 use borrow.Author.Tests.{leb-true, ltb-true}
 use Rattle.definition.specs.Answers.{ok}
-use Rattle.definition.specs.Calls.{Given, addEntry, addFile, bootRows, defineRows, dropRows, recordRows, startRows, sweepRows, stepOn, stepRows, stepTask, RowCall, rowDefine, rowRecord, rowStart, rowDrop, rowSweep, onRowCall}
+use Rattle.definition.specs.Broken.{inTurn, numbered}
+use Rattle.definition.specs.Calls.{Given, addEntry, addFile, bootRows, defineRows, dropRows, recordRows, startRows, sweepRows, stepOn, stepRows, stepTask, RowCall, rowDefine, rowRecord, rowStart, rowDrop, rowSweep, rowTry, onRowCall}
 use Rattle.definition.specs.Classes.{Base, Class, Entry, find, ownSlots, slots, superOf}
 use Rattle.definition.specs.Constraints.{Subtype, Tie, World}
 use Rattle.definition.specs.File.{File, classOf, readFile}
@@ -23,9 +24,11 @@ use Rattle.laws.specs.Options.{nth-last}
 use Rattle.laws.specs.Results.{need-ok, take-ok}
 use Rattle.laws.specs.Slots.{slots-up}
 use Rattle.laws.specs.Stable.{own-is}
+use Rattle.layout.specs.InTurn.{numbering-on}
 use Rattle.layout.specs.Tests.{All, all-both}
 use Rattle.layout.specs.Whole.{Between, Classes, Framed, Listed, RowSound, Whole}
 use Rattle.unbroken.specs.Steps.{class-found, step-moves}
+use Rattle.laws.specs.Tried.{try-leaves}
 use Rattle.laws.specs.Wrapped.{Ok, ok-at, then}
 use Rattle.unbroken.specs.Accepted.{recorded-is, defined-is}
 use Rattle.unbroken.specs.Swept.{objects-whole}
@@ -49,6 +52,7 @@ module _ (r : Rows) (w : Whole r) where
         objects = grown-objects r w X g (r .kept) f (N r w) (omega arith);
         quote = w .quote;
         report = w .report;
+        numbers = w .numbers;
       }
 
   pub whole-record : (l n c : ℕ) (v : World) → recorded l n c (W r w) ≡ ok v → Whole (addEntry r v)
@@ -131,6 +135,7 @@ module _ (r : Rows) (w : Whole r) where
         objects = subst (λ (b : Base). All (RowSound b (length (r .classes ++ (row ∷ []))) (Exists (r .objects))) (r .objects)) (sym base-is) (grown-objects r w Y grew (r .kept ++ bs) (file-more (r .kept) bs) _ bigger);
         quote = grown-frames r w _ bigger (r .quote) (w .quote);
         report = grown-frames r w _ bigger (r .report) (w .report);
+        numbers = numbering-on r (w .numbers) (r .ties ++ us) (r .subtypes ++ ss) (omega (arith, length-append (r .ties) us)) (omega (arith, length-append (r .subtypes) ss));
       }
         where
           new : Entry
@@ -196,6 +201,7 @@ module _ (r : Rows) (w : Whole r) where
   rows-whole (rowStart k l n m v) = start-whole k l n m v
   rows-whole (rowDrop k) = drop-whole k
   rows-whole rowSweep = sweep-whole
+  rows-whole (rowTry c n) = try-leaves Whole c n r w
 
 pub boot-whole : Whole bootRows
 boot-whole = record {
@@ -207,4 +213,5 @@ boot-whole = record {
   objects = tt;
   quote = tt;
   report = tt;
+  numbers = record { ties = refl; subtypes = refl; turn = unfold numbered inTurn in refl };
 }

@@ -3,16 +3,15 @@
 use mathlib.Core.Path.{_≡_, refl, ap, _∙_}
 use mathlib.Core.Bool.{Bool, true, false, false≢true, not}
 use mathlib.Core.Option.{Option, none, some}
-use mathlib.Core.List.{List, [], _∷_, _++_}
+use mathlib.Core.List.{List, [], _∷_}
 use Prim.Native.Nat.{ℕ, suc, _<_}
 use native.Mathlib.Omega.{arith}
 use lib.Dec.{ltb}
 use borrow.Author.Tests.{lt-ltb}
 use Rattle.definition.specs.Lists.{any, isNone}
-use Rattle.definition.specs.Maybe.{_>>=_}
 use Rattle.definition.specs.Answers.{numberOf}
 use Rattle.definition.specs.Classes.{Method}
-use Rattle.definition.specs.Verifier.{Note, unmapped, notesOf, notesOfMethod}
+use Rattle.definition.specs.Verifier.{Note, unmapped, notesOf}
 use Rattle.definition.specs.File.{File, readFile, classOf}
 use Rattle.definition.specs.Tables.{Tables}
 use Rattle.definition.specs.Broken.{broken}

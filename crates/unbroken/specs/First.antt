@@ -93,7 +93,7 @@ step-rows-first r w = go (r .quote) (r .report)
 
 -- On tables
 
-zero-number : (a : Reply) → refusal a ≡ none → numberOf a ≡ 0
+pub zero-number : (a : Reply) → refusal a ≡ none → numberOf a ≡ 0
 unfolding numberOf numberOfStep
 zero-number Accepted h = refl
 zero-number (Defined c) h = refl

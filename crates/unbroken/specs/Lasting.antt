@@ -1,6 +1,6 @@
 -- What lasts: no call but a boot changes a cache entry, a class's row or a kept byte (`loads-last`); no call but a boot and a sweep ends an object or gives it
 -- another class (`objects-last`), and a sweep ends none that is reached (`reached-last`).
-use mathlib.Core.Path.{_≡_}
+use mathlib.Core.Path.{_≡_, sym, subst}
 use mathlib.Core.Option.{some}
 use mathlib.Core.List.{List, [], _∷_, _++_}
 use Prim.Native.Nat.{ℕ}
@@ -10,7 +10,7 @@ use Rattle.definition.specs.Classes.{find}
 use Rattle.definition.specs.Machine.{Object, existing}
 use Rattle.definition.specs.Sweeping.{Reached}
 use Rattle.definition.specs.Tables.{Tables, Rows, ClassRow, view}
-use Rattle.definition.specs.Calls.{turn, stepTables, RowCall, rowDefine, rowRecord, rowStart, rowDrop, rowSweep, Call, callBoot, callRows, callSweep, callStep, callRun, perform, performAll}
+use Rattle.definition.specs.Calls.{turn, stepTables, RowCall, rowDefine, rowRecord, rowStart, rowDrop, rowSweep, rowTry, Call, callBoot, callRows, callSweep, callStep, callRun, perform, performAll}
 use Rattle.laws.specs.Agreement.{find-more, nth-more}
 use Rattle.laws.specs.Objects.{Numbered, numbered-same, numbered-join}
 use Rattle.laws.specs.Runs.{run-keeps}
@@ -52,6 +52,7 @@ lasts-left (rowRecord l n c) r s a = lasts-appends r s a
 lasts-left (rowStart k l n m v) r s g = lasts-goes k r s g
 lasts-left (rowDrop k) r s g = lasts-goes k r s g
 lasts-left rowSweep r s g = record { cache = λ q c h. rw (g .cache) h; classes = λ c k h. rw (g .classes) h; kept = λ i b h. rw (g .kept) h }
+lasts-left (rowTry c n) r s e = subst (Lasts r) (sym e) (lasts-same r)
 
 -- the calls on rows that may free an object
 abbrev pub FreesRows : RowCall → Type 0
@@ -60,6 +61,7 @@ FreesRows (rowRecord l n c) = ⊥
 FreesRows (rowStart k l n m v) = ⊥
 FreesRows (rowDrop k) = ⊥
 FreesRows rowSweep = Unit {0}
+FreesRows (rowTry c n) = ⊥
 
 numbered-left : (c : RowCall) → (FreesRows c → ⊥) → (r s : Rows) → LeftBy c r s → Numbered (r .objects) (s .objects)
 numbered-left (rowDefine l bs) h r s a = rw (a .objects) (numbered-same (r .objects))
@@ -67,6 +69,7 @@ numbered-left (rowRecord l n c) h r s a = rw (a .objects) (numbered-same (r .obj
 numbered-left (rowStart k l n m v) h r s g = g .objects
 numbered-left (rowDrop k) h r s g = g .objects
 numbered-left rowSweep h r s g = absurd (h tt)
+numbered-left (rowTry c n) h r s e = rw e (numbered-same (r .objects))
 
 abbrev pub IsBoot : Call → Type 0
 IsBoot callBoot = Unit {0}

@@ -16,6 +16,8 @@ pub mod Record
 pub mod Loaded
 pub mod Tasks
 pub mod Parts
+pub mod Numbers
+pub mod Tried
 pub mod Lasting
 pub mod Resolution
 pub mod Waiting

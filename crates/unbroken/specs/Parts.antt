@@ -16,12 +16,13 @@ use Rattle.definition.specs.Loading.{started}
 use Rattle.definition.specs.Machine.{Object, Objects, existing, Frame, Progress, newObject}
 use Rattle.definition.specs.Sweeping.{Reached}
 use Rattle.definition.specs.Tables.{Tables, Rows, ofTask, framesIn, withFrames, worldOf, view, put}
-use Rattle.definition.specs.Calls.{Given, progressed, defineRows, recordRows, startRows, dropRows, sweepRows, stepTask, stepOn, stepRows, turnOf, turn, RowCall, rowDefine, rowRecord, rowStart, rowDrop, rowSweep, onRowCall, callRows, stepTables, perform}
+use Rattle.definition.specs.Calls.{Given, progressed, defineRows, recordRows, startRows, dropRows, sweepRows, stepTask, stepOn, stepRows, turnOf, turn, RowCall, rowDefine, rowRecord, rowStart, rowDrop, rowSweep, rowTry, onRowCall, callRows, stepTables, perform}
 use Rattle.laws.specs.Objects.{Numbered, numbered-same, numbered-made}
 use Rattle.laws.specs.Results.{ok-inj}
 use Rattle.laws.specs.Sweeps.{sweep-keeps, sweep-left}
 use Rattle.laws.specs.Turns.{idle-empty}
 use Rattle.laws.specs.Wrapped.{wrapped, Ok, ok-at, then}
+use Rattle.laws.specs.Tried.{try-leaves}
 use Rattle.layout.specs.View.{put-view}
 use Rattle.unbroken.specs.Accepted.{Entered, Stood, recorded-is, defined-is}
 use Rattle.unbroken.specs.Calls.{rows-whole, step-whole}
@@ -206,6 +207,7 @@ LeftBy (rowRecord l n c) r s = Appends r s
 LeftBy (rowStart k l n m v) r s = Goes k r s
 LeftBy (rowDrop k) r s = Goes k r s
 LeftBy rowSweep r s = Sweeps r s
+LeftBy (rowTry c n) r s = s ≡ r
 
 left-same : (c : RowCall) (r : Rows) → LeftBy c r r
 left-same (rowDefine l bs) r = appends-same r
@@ -213,6 +215,7 @@ left-same (rowRecord l n c) r = appends-same r
 left-same (rowStart k l n m v) r = goes-same k r
 left-same (rowDrop k) r = goes-same k r
 left-same rowSweep r = sweeps-same r
+left-same (rowTry c n) r = refl
 
 pub rows-left : (c : RowCall) (r : Rows) → Ok (onRowCall c r) (λ g. LeftBy c r (g .rows))
 rows-left (rowDefine l bs) r = define-appends l bs r
@@ -220,6 +223,7 @@ rows-left (rowRecord l n c) r = record-appends l n c r
 rows-left (rowStart k l n m v) r = start-goes k l n m v r
 rows-left (rowDrop k) r = drop-goes k r
 rows-left rowSweep r = sweep-sweeps r
+rows-left (rowTry c n) r = try-leaves (λ s. s ≡ r) c n r refl
 
 -- On tables, whatever they hold
 

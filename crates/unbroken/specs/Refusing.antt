@@ -1,13 +1,16 @@
--- A define, a record, a start, a drop and a sweep refuse with the first cause that applies.
+-- A define, a record, a start, a drop, a sweep and a tried load refuse with the first cause that applies.
 use mathlib.Core.Path.{_≡_, refl, sym, _∙_, ap}
 use mathlib.Core.Bool.{Bool, true, false, not, _&&_, _||_, Bool·not-not}
 use mathlib.Core.Option.{Option, none, some}
 use mathlib.Core.List.{List, [], _∷_}
 use Prim.Native.Nat.{ℕ, _+_}
+use native.Mathlib.Omega.{arith}
 use lib.ListN.{length, getElem?}
 use lib.Dec.{eqb, leb, ltb}
+use borrow.Author.Tests.{eq-eqb}
 use Rattle.definition.specs.declared.Refusal.{Refusal}
 use Rattle.definition.specs.declared.Refusal.the-variants.{Word}
+use Rattle.definition.specs.declared.Reply.{Reply}
 use Rattle.definition.specs.Requests.{at}
 use Rattle.definition.specs.Answers.{number, wanted, Result, refused, ok, _>>=_, need, take?}
 use Rattle.definition.specs.Classes.{find, selected, startSignature}
@@ -18,9 +21,9 @@ use Rattle.definition.specs.Loading.{hides, withEntry, define, recorded, starte
 use Rattle.definition.specs.Verifier.{unmapped, notesOf}
 use Rattle.definition.specs.File.{File, readFile, classOf}
 use Rattle.definition.specs.Tables.{Rows, worldOf, framesIn}
-use Rattle.definition.specs.Calls.{defineRows, recordRows, startRows, dropRows, sweepRows, RowCall, rowDefine, rowRecord, rowStart, rowDrop, rowSweep, onRowCall}
+use Rattle.definition.specs.Calls.{defineRows, recordRows, startRows, dropRows, sweepRows, RowCall, rowDefine, rowRecord, rowStart, rowDrop, rowSweep, rowTry, onRowCall, Given, Load, loadDefine, loadRecord, triedWith, tryRows}
 use Rattle.definition.specs.Maybe as Maybe
-use Rattle.laws.specs.Causes.{Cause, cause, first, isSomeAnd, definePasses, defineClashes, defineCauses, recordCauses, startCauses, rowCauses}
+use Rattle.laws.specs.Causes.{Cause, cause, first, words, secondly, loadCauses, isSomeAnd, definePasses, defineClashes, defineCauses, recordCauses, startCauses, rowCauses}
 
 -- the number of a result
 unfoldable pub numberIn : {A : Type 0} → Result A → ℕ
@@ -68,6 +71,41 @@ number-ok a = refl
 pub number-there : {A B : Type 0} (cs : List Cause) (o : Option A) (w : Refusal) (f : A → Result B) {a : A} → o ≡ some a → numberIn (f a) ≡ first cs → numberIn (take? o w >>= f) ≡ first cs
 unfolding take? _>>=_
 number-there cs o w f e h = rw e h
+
+-- A load whose first cause is 'unknown', tried with a list of n numbers: 'short list' is one more cause, straight after it
+
+-- a word that no cause has is not the first
+pub first-other : (w : ℕ) (cs : List Cause) → eqb 0 w ≡ false → any (λ (v : ℕ). eqb v w) (words cs) ≡ false → eqb (first cs) w ≡ false
+unfolding first any
+first-other w [] z h = z
+first-other w (c ∷ cs) z h = go (c .applies) (eqb (c .word) w) refl h (first-other w cs z)
+  where
+    go : (a b : Bool) → eqb (c .word) w ≡ b → _≡_ {A = Bool} (elim b as (λ _. Bool) [ true ↦ true | false ↦ any (λ (v : ℕ). eqb v w) (words cs) ]) false
+        → (any (λ (v : ℕ). eqb v w) (words cs) ≡ false → eqb (first cs) w ≡ false) → eqb (elim a as (λ _. ℕ) [ true ↦ c .word | false ↦ first cs ]) w ≡ false
+    go a true e h ih = cc
+    go true false e h ih = e
+    go false false e h ih = ih h
+
+module _ (n : ℕ) (r : Rows) where
+  number-tried : (o : Result (Given Reply)) (a : Bool) (cs : List Cause) → numberIn o ≡ first (cause 3 a ∷ cs) → any (λ (v : ℕ). eqb v 3) (words cs) ≡ false
+      → numberIn (triedWith n r o) ≡ first (cause 3 a ∷ cause 16 (ltb n 512) ∷ cs)
+  unfolding triedWith numberIn first number
+  number-tried (ok g) true cs h u = absurd (omega arith)
+  number-tried (ok g) false cs h u = go (ltb n 512)
+    where
+      go : (s : Bool) → numberIn {A = Given Reply} (elim s as (λ _. Result (Given Reply)) [ true ↦ refused (Word 16) | false ↦ ok (record { answer = g .answer; rows = r }) ]) ≡ first (cause 16 s ∷ cs)
+      go true = refl
+      go false = h
+  number-tried (refused w) a cs h u = by a (ltb n 512) (eqb (number w) 3) refl h
+    where
+      by : (a s b : Bool) → eqb (number w) 3 ≡ b → number w ≡ first (cause 3 a ∷ cs)
+          → numberIn {A = Given Reply} (elim (s && not b) as (λ _. Result (Given Reply)) [ true ↦ refused (Word 16) | false ↦ refused w ]) ≡ first (cause 3 a ∷ cause 16 s ∷ cs)
+      by true true true e h = h
+      by true s false e h = cc (eq-eqb (number w) 3 h)
+      by true false true e h = h
+      by false s true e h = cc (first-other 3 cs refl u)
+      by false true false e h = refl
+      by false false false e h = h
 
 -- Loading and starting
 
@@ -123,6 +161,11 @@ module _ (r : Rows) where
   unfolding dropRows number
   drop-first k = first-need [] (ltb k 2) (Word 3) _ (λ _. number-ok _)
 
+  try-first : (c : Load) (n : ℕ) → numberIn (tryRows c n r) ≡ first (secondly (cause 16 (ltb n 512)) (loadCauses c r))
+  unfolding tryRows defineCauses recordCauses any
+  try-first (loadDefine l bs) n = number-tried n r (defineRows l bs r) _ _ (define-first l bs) refl
+  try-first (loadRecord l x c) n = number-tried n r (recordRows l x c r) _ _ (record-first l x c) refl
+
   pub rows-first : (c : RowCall) → numberIn (onRowCall c r) ≡ first (rowCauses c r)
   unfolding rowCauses
   rows-first (rowDefine l bs) = define-first l bs
@@ -130,3 +173,4 @@ module _ (r : Rows) where
   rows-first (rowStart k l n m v) = start-first k l n m v
   rows-first (rowDrop k) = drop-first k
   rows-first rowSweep = unfold sweepRows first in number-ok _
+  rows-first (rowTry c n) = try-first c n

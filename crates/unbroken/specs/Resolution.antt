@@ -18,12 +18,13 @@ use Rattle.definition.specs.Classes.{Base, Class, find, superOf, loaderOf, slot
 use Rattle.definition.specs.Constraints.{World}
 use Rattle.definition.specs.Machine.{Frame, Progress}
 use Rattle.definition.specs.Tables.{Tables, Rows, worldOf, view}
-use Rattle.definition.specs.Calls.{Given, progressed, defineRows, recordRows, startRows, dropRows, sweepRows, stepTask, stepOn, stepRows, wrap, stepTables, Call, callBoot, callStep, callRun, perform, performAll, RowCall, rowDefine, rowRecord, rowStart, rowDrop, rowSweep, onRowCall, callRows}
+use Rattle.definition.specs.Calls.{Given, progressed, defineRows, recordRows, startRows, dropRows, sweepRows, stepTask, stepOn, stepRows, wrap, stepTables, Call, callBoot, callStep, callRun, perform, performAll, RowCall, rowDefine, rowRecord, rowStart, rowDrop, rowSweep, rowTry, onRowCall, callRows}
 use Rattle.laws.specs.Growth.{Grows, grows-class, grows-entry}
 use Rattle.laws.specs.Results.{need-ok, take-ok}
 use Rattle.laws.specs.Runs.{run-keeps}
 use Rattle.laws.specs.Stable.{super-stable, below-stable, field-stable, selected-stable, loader-stable, slots-stable}
 use Rattle.laws.specs.Wrapped.{Ok, ok-at, then}
+use Rattle.laws.specs.Tried.{try-leaves}
 use Rattle.layout.specs.Tests.{All}
 use Rattle.layout.specs.Whole.{Whole}
 use Rattle.unbroken.specs.Accepted.{Entered, Stood, recorded-is, defined-is}
@@ -125,6 +126,7 @@ module _ (r : Rows) (w : Whole r) where
   rows-resolve (rowStart k l n m v) = start-resolves k l n m v
   rows-resolve (rowDrop k) = drop-resolves k
   rows-resolve rowSweep = unfold sweepRows in resolves-same (W .base)
+  rows-resolve (rowTry c n) = try-leaves (λ s. Resolves (W .base) (worldOf s .base)) c n r (resolves-same (W .base))
 
   step-resolves : Ok (stepRows r) Q
   unfolding stepRows

@@ -2,10 +2,10 @@
 use mathlib.Core.Path.{_≡_, refl, sym, ap, _∙_}
 use mathlib.Core.Bool.{Bool, true, false, not, _||_}
 use mathlib.Core.Option.{Option, none, some, Option·none-ne-some, Option·some-injective}
-use mathlib.Core.List.{List, [], _∷_, _++_, map}
+use mathlib.Core.List.{List, [], _∷_, _++_, map, append-nil}
 use Prim.Native.Nat.{ℕ, zero, suc, _+_, _≤_, _<_}
 use native.Mathlib.Omega.{arith}
-use lib.ListN.{length, getElem?, set, length-append, length-set, length-map}
+use lib.ListN.{length, getElem?, set, length-set, length-map}
 use lib.Dec.{eqb, leb, ltb}
 use borrow.Author.Tests.{leb-true, leb-false, ltb-true, ltb-false, not-true}
 use Rattle.definition.specs.declared.Signature.{Signature}
@@ -205,6 +205,8 @@ pub record Moved (w : World) (n : ℕ) (os : Objects) (o : Progress) : Type 0 wh
   pub base : o .world .base ≡ w .base
   pub subtypes : o .world .subtypes ≡ w .subtypes
   pub ties : length (o .world .ties) ≤ 256
+  pub fresh : List Tie
+  pub behind : o .world .ties ≡ w .ties ++ fresh
   pub between : All Between (o .world .ties)
   pub more : (p : ℕ) → Exists os p → Exists (o .objects) p
   pub objects : length (o .objects) ≤ 256
@@ -305,7 +307,7 @@ module _ (w : World) (n : ℕ) (os : Objects) (rd : Ready w n os) where
 
     -- nothing but frames changes
     stays : (gs : List Frame) (x : Option ℕ) → length gs ≤ 32 → All (Framed n M) gs → Moved w n os (record { world = w; objects = os; frames = gs; result = x })
-    stays gs x a b = record { base = refl; subtypes = refl; ties = rd .ties; between = rd .between; more = λ _ h. h; objects = rd .objects; each = rd .each; many = a; frames = b }
+    stays gs x a b = record { base = refl; subtypes = refl; ties = rd .ties; fresh = []; behind = sym (append-nil (w .ties)); between = rd .between; more = λ _ h. h; objects = rd .objects; each = rd .each; many = a; frames = b }
 
     keeps : (o : List Value) → length o ≤ 16 → All (ValueSound M) o → Moved w n os (record { world = w; objects = os; frames = past f i o (f .locals) ∷ fs; result = none })
     keeps o a b = stays _ _ (omega arith) (framed o (f .locals) a b (fr .eight) (fr .locals), frs)
@@ -318,7 +320,7 @@ module _ (w : World) (n : ℕ) (os : Objects) (rd : Ready w n os) where
         → (room ≡ true → length gs ≤ 32) → All (Framed n (Exists qs)) gs → Moved w n os (record { world = v; objects = qs; frames = gs; result = none })
     tied room us v qs gs e a b c d g h =
         let p = post-is w room us v e in
-        rw (sym (p .0)) (record { base = refl; subtypes = refl; ties = p .1; between = all-both Between (w .ties) us (rd .between) a; more = b; objects = c; each = d; many = g (p .2); frames = h })
+        rw (sym (p .0)) (record { base = refl; subtypes = refl; ties = p .1; fresh = us; behind = refl; between = all-both Between (w .ties) us (rd .between) a; more = b; objects = c; each = d; many = g (p .2); frames = h })
 
     between : (d t : ℕ) → All Between (newTie (w .ties) (loaderOf (w .base) d) (k .loader) t)
     between d t = new-between _ _ _ t (loader-small (w .base) (rd .loaders) d) kl
@@ -378,6 +380,8 @@ module _ (w : World) (n : ℕ) (os : Objects) (rd : Ready w n os) where
           base = refl;
           subtypes = refl;
           ties = rd .ties;
+          fresh = [];
+          behind = sym (append-nil (w .ties));
           between = rd .between;
           more = g;
           objects = made-few task x os (rd .objects) (a .0);

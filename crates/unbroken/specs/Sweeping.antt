@@ -7,7 +7,7 @@ use mathlib.Core.Bool.{Bool, true, false, false≢true}
 use mathlib.Core.Option.{none, some}
 use mathlib.Core.List.{List, [], _∷_, _++_, List·Memᴰ, List·Memᴰ·head, List·Memᴰ·tail, List·Memᴰ·not-nil}
 use mathlib.Core.Logic.{_⊎_, inl, inr}
-use Prim.Native.Nat.{ℕ, zero, suc, _+_, _<_}
+use Prim.Native.Nat.{ℕ, zero, suc, _+_, _<_, _≤_}
 use native.Mathlib.Omega.{arith}
 use lib.ListN.{length, getElem?, getD}
 use lib.Dec.{eqb, ltb}
@@ -25,10 +25,10 @@ use Rattle.definition.specs.Constraints.{World}
 use Rattle.definition.specs.Instructions.{Decoded, pick}
 use Rattle.definition.specs.Lists.{writeRows}
 use Rattle.definition.specs.Machine.{Value, emptyValue, intValue, nullValue, objectValue, unlistedValue, Object, ObjectRow, free, owned, Objects, existing, Exists, inUse, unused, made, Frame, entryFrame, Progress, Now, now, newObject, past, execute, step}
-use Rattle.definition.specs.Numbers.{ownersCell}
+use Rattle.definition.specs.Numbers.{ownersCell, tieNumbersCell}
 use Rattle.definition.specs.Sweeping.{named, roots, links, Reached, reached}
 use Rattle.definition.specs.Loading.{started}
-use Rattle.definition.specs.Tables.{Tables, tables, Rows, worldOf, viewBase, objectsOf, viewOver, view, put, ownerOf, ownerAt, putOwner, framesIn, withObjects}
+use Rattle.definition.specs.Tables.{Tables, tables, Rows, worldOf, viewBase, viewOver, view, put, ownerOf, ownerAt, putOwner, framesIn, withObjects}
 use Rattle.definition.specs.Broken.{broken}
 use Rattle.definition.specs.Calls.{Given, Done, done, carried, progressed, sweepRows, startRows, stepTask, stepOn, stepRows, stepTables, turnOf, turn, rowStart, Call, callStart, callSweep, perform}
 use Rattle.definition.specs.Answers.{ok}
@@ -37,10 +37,10 @@ use Rattle.laws.specs.Refusals.{running}
 use Rattle.laws.specs.Results.{bind-ok, ok-inj}
 use Rattle.laws.specs.Sweeps.{member-either, link-names, reached-found, swept-row, swept, freed, sweep-keeps, sweep-left, sweep-freed, sweep-again, sweep-rests, sweep-none}
 use Rattle.laws.specs.Wrapped.{wrap-broken, wrap-carried, Ok, ok-at, then}
-use Rattle.layout.specs.OwnedRows.{owners-behind, owner-put, owner-past, swept-length}
-use Rattle.layout.specs.ReadBack.{Lengths, view-put}
+use Rattle.layout.specs.OwnedRows.{owners-behind, owners-past, owner-put, owner-past, swept-length}
+use Rattle.layout.specs.ReadBack.{view-put}
 use Rattle.layout.specs.Tests.{All, all-both}
-use Rattle.layout.specs.Unbroken.{broken-false}
+use Rattle.layout.specs.Unbroken.{unbroken, broken-false}
 use Rattle.layout.specs.View.{put-view, row-owner, sweep-writes}
 use Rattle.layout.specs.Whole.{Local, ValueSound, Framed, Whole}
 use Rattle.unbroken.specs.Calls.{rows-whole, step-whole}
@@ -96,10 +96,11 @@ module _ (t : Tables) (h : broken t ≡ false) where
   pub sweep-counts : inUse os ≡ inUse (view after .objects) + freed os fs
   sweep-counts = sweep-freed os fs ∙ ap (λ (qs : Objects). inUse qs + freed os fs) (sym left-is)
 
-  -- no other table changes, nor any of the eight counts; an owner is as it was, or 0 where an object that isn't reached was freed
+  -- no other table changes, nor any of the eight counts, nor any number of a row; an owner is as it was, or 0 where an object that isn't reached was freed
   pub record SweepLeaves : Type 0 where
     pub counts : (j : ℕ) → j < ownersCell → getD (after .counts) j 0 ≡ getD (t .counts) j 0
     pub owners : (o : ℕ) → (ownerAt (after .counts) o ≡ ownerAt (t .counts) o) ⊎ ((ownerAt (after .counts) o ≡ 0) × Exists os o × (Reached os fs o → ⊥))
+    pub numbers : (j : ℕ) → tieNumbersCell ≤ j → getD (after .counts) j 0 ≡ getD (t .counts) j 0
     pub classes : after .classes ≡ t .classes
     pub kept : after .kept ≡ t .kept
     pub cache : after .cache ≡ t .cache
@@ -110,7 +111,7 @@ module _ (t : Tables) (h : broken t ≡ false) where
 
   written : after ≡ tables (writeRows putOwner (swept os fs) 0 (t .counts)) (t .classes) (t .kept) (t .cache) (t .ties) (t .subtypes) (t .objects) (t .frames)
   unfolding view viewOver
-  written = ap (λ (d : Done Reply). d .tables) sweep-done ∙ sweep-writes (viewBase t) t (reached os fs)
+  written = ap (λ (d : Done Reply). d .tables) sweep-done ∙ sweep-writes (viewBase t) t (reached os fs) (unbroken t h .counts .objects)
 
   owner-read : (o : ℕ) (x : ObjectRow) → getElem? os o ≡ some x → ownerOf x ≡ ownerAt (t .counts) o
   unfolding view viewOver
@@ -142,6 +143,9 @@ module _ (t : Tables) (h : broken t ≡ false) where
   sweep-tables = record {
     owners = owner-left;
     counts = λ j l. ap (λ (u : Tables). getD (u .counts) j 0) written ∙ owners-behind (swept os fs) 0 (t .counts) j l;
+    numbers = λ j l.
+        ap (λ (u : Tables). getD (u .counts) j 0) written
+        ∙ owners-past (swept os fs) 0 (t .counts) j (omega (arith, swept-length (reached os fs) 0 os, broken-false t h .1 .limits .objects));
     classes = ap (λ (u : Tables). u .classes) written;
     kept = ap (λ (u : Tables). u .kept) written;
     cache = ap (λ (u : Tables). u .cache) written;

@@ -1,14 +1,13 @@
 -- A sweep leaves whole rows whole: what a frame names, and what a field of an object that stays names, is reached and so stays.
-use mathlib.Core.Path.{_≡_, refl, sym, _∙_}
+use mathlib.Core.Path.{_≡_, refl, _∙_}
 use mathlib.Core.Bool.{Bool, true, false}
 use mathlib.Core.Option.{some}
 use mathlib.Core.List.{List, [], _∷_, _++_, List·Memᴰ, List·Memᴰ·head, List·Memᴰ·tail}
-use mathlib.Core.Logic.{_⊎_, inl, inr}
-use Prim.Native.Nat.{ℕ, zero, suc, _+_}
+use Prim.Native.Nat.{ℕ, suc, _+_}
 use native.Mathlib.Omega.{arith}
 use lib.ListN.{length}
 use lib.Dec.{eqb}
-use Rattle.definition.specs.Chains.{Chain, stay, hop, has}
+use Rattle.definition.specs.Chains.{stay, hop, has}
 use Rattle.definition.specs.Classes.{Base}
 use Rattle.definition.specs.Instructions.{pick}
 use Rattle.definition.specs.Machine.{Value, emptyValue, intValue, nullValue, objectValue, unlistedValue, Object, ObjectRow, free, owned, Objects, objectHeld, existing, Exists, Frame}
@@ -117,4 +116,5 @@ module _ (r : Rows) (w : Whole r) where
     objects = rows-kept (Exists (r .objects)) (Exists left) (worldOf r .base) (length (r .classes)) (reached (r .objects) all) 0 (r .objects) (w .objects) field-stays;
     quote = frames-kept (Exists (r .objects)) (Exists left) (length (r .classes)) (r .quote) (w .quote) (λ o m. root-stays o (roots-left (r .quote) (r .report) o m));
     report = frames-kept (Exists (r .objects)) (Exists left) (length (r .classes)) (r .report) (w .report) (λ o m. root-stays o (roots-right (r .quote) (r .report) o m));
+    numbers = w .numbers;
   }

@@ -18,10 +18,11 @@ use Rattle.definition.specs.Constraints.{World}
 use Rattle.definition.specs.Machine.{Frame, Progress, step}
 use Rattle.definition.specs.Tables.{Tables, Rows, worldOf, view, framesIn}
 use Rattle.definition.specs.Broken.{broken}
-use Rattle.definition.specs.Calls.{Given, progressed, defineRows, recordRows, startRows, dropRows, sweepRows, answerOf, stepTask, stepOn, stepRows, Done, done, stepTables, runFrom, run, Call, callBoot, callStep, callRun, perform, RowCall, rowDefine, rowRecord, rowStart, rowDrop, rowSweep, onRowCall, callRows}
+use Rattle.definition.specs.Calls.{Given, progressed, defineRows, recordRows, startRows, dropRows, sweepRows, answerOf, stepTask, stepOn, stepRows, Done, done, stepTables, runFrom, run, Call, callBoot, callStep, callRun, perform, RowCall, rowDefine, rowRecord, rowStart, rowDrop, rowSweep, rowTry, onRowCall, callRows}
 use Rattle.laws.specs.Results.{bind-ok, need-ok}
 use Rattle.laws.specs.Runs.{runs-end}
 use Rattle.laws.specs.Wrapped.{Ok, ok-at, then}
+use Rattle.laws.specs.Tried.{try-leaves}
 use Rattle.unbroken.specs.Calls.{step-whole, rows-whole}
 use Rattle.unbroken.specs.Progress.{Advances, Loops, step-advances}
 use Rattle.unbroken.specs.Unbroken.{shown}
@@ -120,6 +121,7 @@ MovesReportRows (rowRecord l n c) = ⊥
 MovesReportRows (rowStart k l n m v) = k ≡ 1
 MovesReportRows (rowDrop k) = k ≡ 1
 MovesReportRows rowSweep = ⊥
+MovesReportRows (rowTry c n) = ⊥
 
 abbrev pub MovesReport : Call → Type 0
 MovesReport callBoot = Unit {0}
@@ -159,6 +161,7 @@ rows-stay (rowRecord l n c) r h = record-stays l n c r
 rows-stay (rowStart k l n m v) r h = start-stays k l n m v r h
 rows-stay (rowDrop k) r h = drop-stays k r h
 rows-stay rowSweep r h = unfold sweepRows in refl
+rows-stay (rowTry c n) r h = try-leaves (λ s. s .report ≡ r .report) c n r refl
 
 pub report-stays : (c : Call) (t : Tables) → (view t .quote ≡ [] → ⊥) → (MovesReport c → ⊥) → view (perform c t .tables) .report ≡ view t .report
 unfolding perform

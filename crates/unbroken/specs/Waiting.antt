@@ -26,13 +26,14 @@ use Rattle.definition.specs.File.{classOf}
 use Rattle.definition.specs.Machine.{Objects, Frame, Progress, Now, now, execute, step}
 use Rattle.definition.specs.Tables.{Tables, Rows, worldOf, view, withFrames}
 use Rattle.definition.specs.Broken.{broken}
-use Rattle.definition.specs.Calls.{Given, progressed, defineRows, recordRows, startRows, dropRows, sweepRows, stepTask, stepOn, stepRows, Done, done, carried, wrap, stepTables, run, Call, callBoot, callStep, callRun, perform, performAll, RowCall, rowDefine, rowRecord, rowStart, rowDrop, rowSweep, onRowCall, callRows}
+use Rattle.definition.specs.Calls.{Given, progressed, defineRows, recordRows, startRows, dropRows, sweepRows, stepTask, stepOn, stepRows, Done, done, carried, wrap, stepTables, run, Call, callBoot, callStep, callRun, perform, performAll, RowCall, rowDefine, rowRecord, rowStart, rowDrop, rowSweep, rowTry, onRowCall, callRows}
 use Rattle.laws.specs.Agreement.{nth-more}
 use Rattle.laws.specs.Refusals.{classIn, running}
 use Rattle.laws.specs.Refused.{step-refused}
 use Rattle.laws.specs.Results.{bind-ok, need-ok, take-ok}
 use Rattle.laws.specs.Wrapped.{wrap-broken, wrap-carried, Ok, ok-at, then}
 use Rattle.laws.specs.Runs.{run-keeps}
+use Rattle.laws.specs.Tried.{try-leaves}
 use Rattle.layout.specs.Tests.{All, all-more}
 use Rattle.layout.specs.Whole.{Whole}
 use Rattle.unbroken.specs.Accepted.{defined-is}
@@ -56,6 +57,7 @@ KeepsQuoteRows (rowRecord l n c) = Unit {0}
 KeepsQuoteRows (rowStart k l n m v) = Unit {0}
 KeepsQuoteRows (rowDrop k) = k ≡ 0 → ⊥
 KeepsQuoteRows rowSweep = Unit {0}
+KeepsQuoteRows (rowTry d n) = Unit {0}
 
 abbrev pub KeepsQuote : Call → Type 0
 KeepsQuote callBoot = ⊥
@@ -129,8 +131,11 @@ module _ (f : Frame) (fs : List Frame) (l c : ℕ) where
       → QuoteWants f fs l c r → find (s .cache) (at l c) ≡ none → QuoteWants f fs l c s
   still r s q keep h m = record { quote = q ∙ h .quote; reads = h .reads; isNow = now-same (worldOf r) (worldOf s) (h .reads) keep (h .isNow); names = h .names; loader = h .loader; missing = m }
 
+  abbrev Waits : Rows → Type 0
+  Waits s = find (s .cache) (at l c) ≡ none → QuoteWants f fs l c s
+
   abbrev Q : {A : Type 0} → Given A → Type 0
-  Q g = find (g .rows .cache) (at l c) ≡ none → QuoteWants f fs l c (g .rows)
+  Q g = Waits (g .rows)
 
   define-waits : (m : ℕ) (bs : List ℕ) (r : Rows) → Whole r → QuoteWants f fs l c r → Ok (defineRows m bs r) Q
   unfolding defineRows
@@ -167,9 +172,7 @@ module _ (f : Frame) (fs : List Frame) (l c : ℕ) where
   rows-wait (rowStart j m n x v) b r w h = start-waits j m n x v r h
   rows-wait (rowDrop j) b r w h = drop-waits j r b h
   rows-wait rowSweep b r w h = unfold sweepRows in still r _ refl (λ k i. i) h
-
-  abbrev Waits : Rows → Type 0
-  Waits s = find (s .cache) (at l c) ≡ none → QuoteWants f fs l c s
+  rows-wait (rowTry d n) b r w h = try-leaves Waits d n r (λ _. h)
 
   wrap-waits : (g : Rows → Result (Given Reply)) (t : Tables) → Keeps g → (Whole (view t) → Ok (g (view t)) Q) → QuoteWants f fs l c (view t) → Waits (view (wrap Denied g t .tables))
   wrap-waits g t k h q = shown Denied g (λ _ s. Waits s) t k (λ _ _. q) (λ w x e. ok-at Q _ (h w) x e)

@@ -2,17 +2,17 @@
 use mathlib.Core.Path.{_≡_, refl, sym, ap, _∙_}
 use mathlib.Core.Bool.{Bool, true, false}
 use mathlib.Core.Option.{Option, none, some, Option·none-ne-some, Option·some-injective}
-use mathlib.Core.List.{List, [], _∷_, _++_, map, List·Memᴰ, List·Memᴰ·head, List·Memᴰ·tail}
+use mathlib.Core.List.{List, [], _∷_, _++_, map, append-nil, List·Memᴰ, List·Memᴰ·head, List·Memᴰ·tail}
 use mathlib.Core.Logic.{_⊎_, inl, inr}
 use Prim.Native.Nat.{ℕ, zero, suc, _+_, _≤_, _<_}
 use native.Mathlib.Omega.{arith}
 use lib.ListN.{length, getElem?, drop, length-append, length-map, length-drop}
 use lib.Seq.{take-append-le, drop-append-le, drop-at, take-length}
 use lib.Dec.{leb}
-use borrow.Author.Tests.{leb-true, ltb-true, le-leb}
+use borrow.Author.Tests.{leb-true, le-leb}
 use Rattle.definition.specs.declared.Signature.{Signature}
 use Rattle.definition.specs.Answers.{need}
-use Rattle.definition.specs.Calls.{progressed}
+use Rattle.definition.specs.Calls.{numberedOn, progressed}
 use Rattle.definition.specs.Classes.{Base, Class, Method, find, loaderOf, superOf, Selected, selected, startSignature, signatureTypes}
 use Rattle.definition.specs.Constraints.{Subtype, Tie, World, signatureTies}
 use Rattle.definition.specs.File.{File, classOf, readFile}
@@ -20,7 +20,7 @@ use Rattle.definition.specs.Lists.{any}
 use Rattle.definition.specs.Loading.{newSubtypes, overrideTie, overrideTies, started, subtypeIs, subtypeOf}
 use Rattle.definition.specs.Machine.{Frame, Progress, ObjectRow, free, owned, Exists, unused, intValue, newObject}
 use Rattle.definition.specs.Requests.{Request, at}
-use Rattle.definition.specs.Tables.{ClassRow, Rows, classAt, fileAt, sizeOf, worldOf, withTies, withObjects, withFrames}
+use Rattle.definition.specs.Tables.{ClassRow, Rows, classAt, fileAt, sizeOf, worldOf, withTies, withObjects, withFrames, withNumbers}
 use Rattle.definition.specs.Verifier.{Note}
 use Rattle.laws.specs.Agreement.{find-row, super-is}
 use Rattle.laws.specs.Growth.{Grows, grows-super, nth-lt}
@@ -29,6 +29,7 @@ use Rattle.laws.specs.Options.{bind-some, need-true, some-bind}
 use Rattle.laws.specs.Results.{need-ok, take-ok}
 use Rattle.laws.specs.Stable.{slots-stable}
 use Rattle.layout.specs.Tests.{All, all-both, all-more, from-more}
+use Rattle.layout.specs.InTurn.{numbering-on}
 use Rattle.layout.specs.ReadBack.{object-class}
 use Rattle.layout.specs.Whole.{Between, ClassSound, Classes, First, Framed, From, Listed, RowSound, Whole}
 use Rattle.unbroken.specs.Steps.{Moved, Ready, class-found, class-selected, entered-frame, grow-frame, loader-small, made-few, made-objects, news-between}
@@ -129,9 +130,10 @@ module _ (r : Rows) (w : Whole r) where
     objects = w .objects;
     quote = of-task (All (Framed N (Exists (r .objects)))) k b (w .quote);
     report = of-task (All (Framed N (Exists (r .objects)))) k (w .report) b;
+    numbers = w .numbers;
   }
 
-  heap-whole : (o : Progress) → Moved W N (r .objects) o → Whole (withObjects (o .objects) (withTies (o .world .ties) r))
+  heap-whole : (o : Progress) → Moved W N (r .objects) o → Whole (withObjects (o .objects) (withTies (o .world .ties) (withNumbers (numberedOn (o .world .ties) (r .subtypes) r) r)))
   heap-whole o m = record {
     limits = record {
       classes = w .limits .classes;
@@ -150,6 +152,7 @@ module _ (r : Rows) (w : Whole r) where
     objects = m .each;
     quote = all-more (grow-frame N (Exists (r .objects)) (Exists (o .objects)) (m .more)) (r .quote) (w .quote);
     report = all-more (grow-frame N (Exists (r .objects)) (Exists (o .objects)) (m .more)) (r .report) (w .report);
+    numbers = numbering-on r (w .numbers) (o .world .ties) (r .subtypes) (omega (arith, ap length (m .behind), length-append (r .ties) (m .fresh))) (omega arith);
   }
 
   -- the rows' classes and constraints are then those of the progress
@@ -166,6 +169,8 @@ module _ (r : Rows) (w : Whole r) where
         base = refl;
         subtypes = refl;
         ties = w .limits .ties;
+        fresh = [];
+        behind = sym (append-nil (r .ties));
         between = w .ties;
         more = made-exists k x os;
         objects = made-few k x os (w .limits .objects) (need-ok _ _ h);
@@ -206,7 +211,7 @@ module _ (r : Rows) (w : Whole r) where
   grown-cache n l = all-more (λ e x. record { loader = x .loader; class = omega (arith, x .class) }) (r .cache) (w .cache)
 
 pub whole-progressed : (r : Rows) (w : Whole r) (k : ℕ) (o : Progress) → Moved (W r w) (N r w) (r .objects) o → Whole (progressed k r o)
-whole-progressed r w k o m = frames-whole (withObjects (o .objects) (withTies (o .world .ties) r)) (heap-whole r w o m) k (o .frames) (m .many) (m .frames)
+whole-progressed r w k o m = frames-whole (withObjects (o .objects) (withTies (o .world .ties) (withNumbers (numberedOn (o .world .ties) (r .subtypes) r) r))) (heap-whole r w o m) k (o .frames) (m .many) (m .frames)
 
 -- A class's row in the kept files
 

@@ -15,7 +15,7 @@ use Rattle.definition.specs.Maybe.{_>>=_, need}
 use Rattle.definition.specs.declared.Kind.{Kind}
 use Rattle.definition.specs.declared.Kind.the-variants.{IntKind, ReferenceKind}
 use Rattle.definition.specs.declared.Instruction.the-variants.{AconstNull, Sipush, Load}
-use Rattle.definition.specs.Verifier.{VerifierType, typeInt, typeNull, typeClass, Note, TypeState, Flow, flow, meetClass, meetInt, meets, meetKind, effect}
+use Rattle.definition.specs.Verifier.{VerifierType, typeNull, typeClass, Note, TypeState, Flow, flow, meetClass, meetInt, meets, meetKind, effect}
 use Rattle.verifier.specs.declared.types.Types.{Types}
 use Rattle.verifier.specs.declared.effects.Meeting.{Meeting}
 use Rattle.verifier.specs.declared.effects.Meeting.the-variants.{Unmet, Met, Noted}

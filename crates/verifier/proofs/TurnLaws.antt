@@ -2,19 +2,18 @@
 use mathlib.Core.Path.{_≡_, refl, sym, ap, _∙_}
 use mathlib.Core.Bool.{Bool, true, false, _&&_}
 use mathlib.Core.Option.{Option, none, some}
-use mathlib.Core.List.{List, [], _++_, append-nil}
+use mathlib.Core.List.{List, _++_}
 use mathlib.Core.Logic.{_≢_}
 use Prim.Native.Nat.{ℕ, _+_, _≤_}
-use native.Mathlib.Omega.{arith}
 use lib.ListN.{length}
 use lib.Dec.{eqb}
 use borrow.Author.Tests.{eq-eqb, ne-eqb}
 use Rattle.definition.specs.declared.Instruction.{Instruction}
-use Rattle.definition.specs.Instructions.{Decoded, decode, pick}
+use Rattle.definition.specs.Instructions.{decode, pick}
 use Rattle.definition.specs.Classes.{Map}
 use Rattle.definition.specs.Verifier.{Note, TypeState, Flow, mapAt, mapTypes, target, goesOn}
 use Rattle.classfile.specs.Reading.{mapDepth, mapOf, mapsOf}
-use Rattle.constraints.specs.Posting.{Noted, noted, postNotes}
+use Rattle.constraints.specs.Posting.{Noted, postNotes}
 use Rattle.constraints.specs.Laws.{post-append}
 use Rattle.verifier.specs.declared.types.Types.{Types}
 use Rattle.verifier.specs.declared.changes.Change.{Change}
@@ -26,7 +25,7 @@ use Rattle.verifier.specs.declared.decoding.Reading.{Reading}
 use Rattle.verifier.specs.declared.decoding.Reading.the-variants.{At, Unreadable}
 use Rattle.verifier.specs.Decoding.{readingOf, decodedOf}
 use Rattle.verifier.specs.Effects.{Outcome, outcome, leftBy, leaves}
-use Rattle.verifier.specs.Trace.{Trace, accepting, refusing, fits, meetTrace, Onward, refused, accepted, onto, Turned, bound, once, targetTrace, intoTurn, startTurn, nextTurn, flowing, turnedTo, turned, turnedBy, Verification, verification, posting, Turning, turning, taking}
+use Rattle.verifier.specs.Trace.{Trace, refusing, fits, meetTrace, Onward, refused, accepted, onto, Turned, bound, once, targetTrace, intoTurn, startTurn, nextTurn, flowing, turnedTo, turned, turnedBy, Verification, verification, posting, Turning, turning, taking}
 use Rattle.verifier.specs.Answers.{made, changeOf}
 use Rattle.verifier.proofs.DecodingLaws.{decode-is, decode-at}
 use Rattle.verifier.proofs.PostingLaws.{taking-once-on}

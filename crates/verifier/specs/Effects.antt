@@ -1,5 +1,4 @@
 -- What an instruction comes to, and what the code's answers on it stand for.
-use mathlib.Core.Bool.{true, false}
 use mathlib.Core.Option.{Option, none, some}
 use mathlib.Core.List.{List, [], _∷_, _++_}
 use Prim.Native.Nat.{ℕ}

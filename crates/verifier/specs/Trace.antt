@@ -11,10 +11,9 @@ use Rattle.definition.specs.declared.Signature.{Signature}
 use Rattle.definition.specs.declared.Instruction.{Instruction}
 use Rattle.definition.specs.Instructions.{Decoded, decode, pick}
 use Rattle.definition.specs.Lists.{rows}
-use Rattle.definition.specs.Maybe.{_>>=_}
 use Rattle.definition.specs.Classes.{Map, Method}
 use Rattle.definition.specs.Verifier.{Note, TypeState, Flow, mapAt, mapTypes, meetLocal, meets, target, goesOn, mapsPast}
-use Rattle.classfile.specs.Reading.{mapCount, mapNumbered, mapPlace, mapsOf, fileVersion, className, quickMethods}
+use Rattle.classfile.specs.Reading.{mapCount, mapNumbered, fileVersion, className, quickMethods}
 use Rattle.constraints.specs.Posting.{Noted, postNotes}
 use Rattle.verifier.specs.Types.{entryOf}
 use Rattle.verifier.specs.Effects.{leaves}

@@ -12,13 +12,12 @@ ghost use mathlib.Core.Path.{_≡_};
 ghost use lib.ListN.{length};
 ghost use lib.Dec.{leb};
 ghost use Prim.Native.Nat.{ℕ};
-ghost use Rattle.definition.specs.Classes.{Map};
 ghost use Rattle.definition.specs.Verifier.{mapsPast};
 ghost use Rattle.classfile.specs.Reading.{mapsOf};
 ghost use Rattle.constraints.specs.Posting.{noted};
 ghost use Rattle.verifier.specs.Lookups.{Indexed};
-ghost use Rattle.verifier.specs.Types.{typesOf, entryOf};
-ghost use Rattle.verifier.specs.Trace.{verification, posting, trace, wholeTrace, methodTrace, leftFrom};
+ghost use Rattle.verifier.specs.Types.{typesOf};
+ghost use Rattle.verifier.specs.Trace.{verification, posting, trace, methodTrace, leftFrom};
 ghost use Rattle.verifier.specs.Answers.{PlaceOf, Passes};
 
 // The maps left behind a point: from that number on, the first at that place; or the point lies behind one of them.

@@ -17,15 +17,13 @@ use crate::notes::rejected;
 use crate::types::Types;
 use definition::Instruction;
 ghost use mathlib.Core.Path.{_≡_};
-ghost use mathlib.Core.List.{_++_};
-ghost use lib.ListN.{length};
 ghost use Prim.Native.Nat.{ℕ};
 ghost use Rattle.classfile.specs.Reading.{mapsOf};
-ghost use Rattle.constraints.specs.Posting.{noted, postNotes};
+ghost use Rattle.constraints.specs.Posting.{noted};
 ghost use Rattle.verifier.specs.Lookups.{Indexed, targetOf};
 ghost use Rattle.verifier.specs.Types.{typesOf};
-ghost use Rattle.verifier.specs.Trace.{verification, posting, turning, taking, bound, refused, targetTrace, intoTurn, startTurn, nextTurn, flowing, turnedTo, turned};
-ghost use Rattle.verifier.specs.Answers.{made, nextOf, changeOf};
+ghost use Rattle.verifier.specs.Trace.{verification, posting, turning, taking, refused, targetTrace, intoTurn, startTurn, flowing, turnedTo, turned};
+ghost use Rattle.verifier.specs.Answers.{nextOf, changeOf};
 
 // Where the walk goes: nowhere, as it is rejected; to the code's end; or to the next point.
 pub enum Step {

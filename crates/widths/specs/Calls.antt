@@ -19,11 +19,12 @@ use Rattle.definition.specs.Verifier.{Note}
 use Rattle.definition.specs.Machine.{Frame, Progress, free, Objects, newObject, intValue}
 use Rattle.definition.specs.Sweeping.{sweptFrom}
 use Rattle.definition.specs.Loading.{subtypeIs, subtypeOf, newSubtypes, overrideTie, overrideTies, define, recorded, started}
-use Rattle.definition.specs.Tables.{Rows, worldOf, withTies, withObjects, withFrames, framesIn}
-use Rattle.definition.specs.Calls.{Given, bootRows, progressed, defineRows, recordRows, startRows, dropRows, sweepRows, stepTask, stepOn, stepRows, RowCall, rowDefine, rowRecord, rowStart, rowDrop, rowSweep, onRowCall}
+use Rattle.definition.specs.Tables.{Rows, worldOf, withTies, withObjects, withFrames, framesIn, withNumbers}
+use Rattle.definition.specs.Calls.{Given, bootRows, progressed, defineRows, recordRows, startRows, dropRows, sweepRows, stepTask, stepOn, stepRows, RowCall, rowDefine, rowRecord, rowStart, rowDrop, rowSweep, rowTry, onRowCall, numberedOn}
 use Rattle.definition.specs.Widths.{EachBelow, FittingRows}
 use Rattle.laws.specs.Tasks.{of-task}
 use Rattle.laws.specs.Wrapped.{Ok, then}
+use Rattle.laws.specs.Tried.{try-leaves}
 use Rattle.layout.specs.Tests.{All, all-both}
 use Rattle.unbroken.specs.Accepted.{recorded-is}
 use Rattle.widths.specs.Below.{below-both}
@@ -100,9 +101,9 @@ frames-fit r f k fs h = record {
 }
 
 progressed-fits : (r : Rows) → RowsFit r → (k : ℕ) (o : Progress) → ProgressFits o → RowsFit (progressed k r o)
-progressed-fits r f k o p = frames-fit (withObjects (o .objects) (withTies (o .world .ties) r)) moved k (o .frames) (p .frames)
+progressed-fits r f k o p = frames-fit (withObjects (o .objects) (withTies (o .world .ties) (withNumbers (numberedOn (o .world .ties) (r .subtypes) r) r))) moved k (o .frames) (p .frames)
   where
-    moved : RowsFit (withObjects (o .objects) (withTies (o .world .ties) r))
+    moved : RowsFit (withObjects (o .objects) (withTies (o .world .ties) (withNumbers (numberedOn (o .world .ties) (r .subtypes) r) r)))
     moved = record { kept = f .kept; cache = f .cache; ties = p .ties; subtypes = f .subtypes; objects = p .objects; quote = f .quote; report = f .report }
 
 swept-fits : (R : List ℕ) (i : ℕ) (os : Objects) → All ObjectRowFits os → All ObjectRowFits (sweptFrom R i os)
@@ -201,6 +202,7 @@ module _ (r : Rows) (f : RowsFit r) where
   rows-fit (rowStart k l n m v) h = start-fits k l n m v h
   rows-fit (rowDrop k) h = drop-fits k
   rows-fit rowSweep h = sweep-fits
+  rows-fit (rowTry c n) h = try-leaves RowsFit c n r f
 
 pub boot-fits : RowsFit bootRows
 boot-fits = record { kept = tt; cache = (omega arith, tt); ties = tt; subtypes = tt; objects = tt; quote = tt; report = tt }

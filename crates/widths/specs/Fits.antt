@@ -8,17 +8,19 @@ use Prim.Native.Nat.{ℕ, suc, zero, _+_, _*_, _<_, _≤_}
 use native.Mathlib.Omega.{arith}
 use lib.ListN.{length, getD, set}
 use borrow.Author.Tests.{leb-true}
+use Rattle.definition.specs.Numbers.{tieNumbersCell, subtypeNumbersCell}
 use Rattle.definition.specs.Lists.{writeRows, writeStack}
 use Rattle.definition.specs.Classes.{Base, Entry}
 use Rattle.definition.specs.Constraints.{Tie, Subtype}
 use Rattle.definition.specs.Machine.{Value, emptyValue, intValue, nullValue, objectValue, unlistedValue, Object, Frame, ObjectRow, free, owned, Exists}
 use Rattle.definition.specs.File.{File}
-use Rattle.definition.specs.Tables.{Tables, ClassRow, Rows, fileAt, worldOf, putThree, putClassRow, entryAt, putEntry, tieAt, putTie, subtypeAt, putSubtype, valueOf, kindOf, bitsOf, valueAt, putValue, fieldAt, putField, usedFields, objectAt, putObject, localAt, putLocal, operandAt, putOperand, frameOf, frameAt, putFrame, frameBase, frameIn, putFrameIn, viewBase, objectsOf, framesOf, viewOver, view, countsOf, put, ownedBy, ownerOf, ownerAt, putOwner, objectRowAt, putObjectRow}
+use Rattle.definition.specs.Tables.{Tables, ClassRow, Rows, fileAt, worldOf, putThree, putClassRow, entryAt, putEntry, tieAt, putTie, subtypeAt, putSubtype, valueOf, kindOf, bitsOf, valueAt, putValue, fieldAt, putField, usedFields, objectAt, putObject, localAt, putLocal, operandAt, putOperand, frameOf, frameAt, putFrame, frameBase, frameIn, putFrameIn, viewBase, objectsOf, framesOf, viewOver, view, countsOf, put, ownedBy, ownerOf, ownerAt, putOwner, objectRowAt, putObjectRow, putNumber, putNumbers}
 use Rattle.definition.specs.Widths.{EachBelow, Widths}
 use Rattle.laws.specs.Options.{bind-some, need-true}
 use Rattle.layout.specs.Tests.{All, all-more}
 use Rattle.layout.specs.Places.{rows-all, stack-all}
 use Rattle.layout.specs.Values.{bits-value}
+use Rattle.layout.specs.InTurn.{numbers-below}
 use Rattle.laws.specs.Objects.{exists-lt}
 use Rattle.layout.specs.Whole.{Local, ValueSound, RowSound, Framed, Listed, Between, ClassSound, Classes, Whole}
 use Rattle.widths.specs.Below.{all-zip, from-all, below-cell, below-set, below-read, each-all, below-rows, below-stack}
@@ -302,14 +304,27 @@ module _ (r : Rows) (s : Whole r) (f : RowsFit r) where
   frames-cells : (fs : List Frame) → All (Framed N M) fs → All FrameFits fs → All FrameCells fs
   frames-cells fs a b = all-zip (Framed N M) FrameFits FrameCells (frame-cells N M (s .limits .classes) room) fs a b
 
+  -- the numbers of rows are below the count of rows
+  numbered-below : (c : List ℕ) → EachBelow 65536 c → EachBelow 65536 (putNumbers (r .numbers) c)
+  unfolding putNumbers putNumber
+  numbered-below c h =
+      let b = numbers-below (length (r .ties)) (length (r .subtypes)) (r .numbers) (s .numbers) in
+      let few : length (r .ties) + length (r .subtypes) ≤ 512 = omega (arith, s .limits .ties, s .limits .subtypes) in
+      below-rows 65536 (putNumber tieNumbersCell) Small (λ u i x l k. below-set 65536 u (tieNumbersCell + i) x k (omega arith)) (r .numbers .ties) 0 _ (b .0)
+      (below-rows 65536 (putNumber subtypeNumbersCell) Small (λ u i x l k. below-set 65536 u (subtypeNumbersCell + i) x k (omega arith)) (r .numbers .subtypes) 0 c (b .1) h)
+    where
+      Small : ℕ → Type 0
+      Small i = i < length (r .ties) + length (r .subtypes)
+
   pub put-widths : (t : Tables) → Widths t → Widths (put r t)
   unfolding put putClassRow putEntry putTie putSubtype
   put-widths t w =
       let quoted : EachBelow 4294967296 (writeStack (putFrameIn 0) (r .quote) (t .frames)) =
       below-stack 4294967296 (putFrameIn 0) FrameCells (below-frame 0) (r .quote) (t .frames) (frames-cells (r .quote) (s .quote) (f .quote)) (w .frames) in
       record {
-        counts = below-rows 65536 putOwner OwnerFits below-owner (r .objects) 0 (writeRows set (countsOf r) 0 (t .counts)) owners-cells
-            (below-rows 65536 set (λ c. c < 65536) (λ u i c l h. below-set 65536 u i c h l) (countsOf r) 0 (t .counts) counts-cells (w .counts));
+        counts = numbered-below (writeRows putOwner (r .objects) 0 (writeRows set (countsOf r) 0 (t .counts)))
+            (below-rows 65536 putOwner OwnerFits below-owner (r .objects) 0 (writeRows set (countsOf r) 0 (t .counts)) owners-cells
+            (below-rows 65536 set (λ c. c < 65536) (λ u i c l h. below-set 65536 u i c h l) (countsOf r) 0 (t .counts) counts-cells (w .counts)));
         classes = below-threes 65536 (λ k. k .loader) (λ k. k .start) (λ k. k .size) (r .classes) (t .classes)
             (class-rows-fit (worldOf r .base) (r .kept) (r .classes) (s .limits .kept) (s .classes)) (w .classes);
         kept = below-rows 256 set (λ c. c < 256) (λ u i c l h. below-set 256 u i c h l) (r .kept) 0 (t .kept) (each-all 256 (r .kept) (f .kept)) (w .kept);

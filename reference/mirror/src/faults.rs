@@ -1,4 +1,5 @@
-//! Wrong machines, which the comparison must tell from the right one. MIRROR_FAULT names the one to be; without it the mirror is right.
+//! Wrong machines, which the comparison must tell from the right one. MIRROR_FAULT names the one to be; without it the mirror is right, and
+//! with `another-chain` too.
 
 use std::sync::OnceLock;
 
@@ -15,7 +16,7 @@ use reference::{step, Answer, Refusal, Reply, Store};
 
 use crate::judged::{agrees, Judge};
 use crate::made::{post, write};
-use crate::{mapped, swept};
+use crate::{mapped, swept, tried};
 
 /// The name of the fault and the calls that have it.
 pub type Fault = (&'static str, fn(&Call, &mut Store) -> Option<Reply>);
@@ -123,7 +124,7 @@ const FAULTS: [Fault; 44] = [
     ("boot-clears-the-owners", |call, store| {
         let reply = call.apply(store);
         if (call, reply) == (&Call::Boot, Reply::Accepted) {
-            store.counts[count::OWNERS..].fill(FREE);
+            store.counts[count::OWNERS..count::TIE_NUMBERS].fill(FREE);
         }
         Some(reply)
     }),
@@ -249,11 +250,15 @@ pub fn check(bytes: &[u8]) -> u8 {
     DESKS.iter().find(|desk| Some(desk.0) == chosen()).map_or(number, |desk| desk.1(number))
 }
 
-/// Makes the call, wrongly if a fault is named and has it.
-pub fn make(call: &Call, store: &mut Store) -> Reply {
+/// Makes the call, wrongly if a fault is named and has it. A try is lent the list.
+pub fn make(call: &Call, store: &mut Store, list: &mut [u16]) -> Reply {
     let fault = FAULTS.iter().chain(&mapped::FAULTS).find(|fault| Some(fault.0) == chosen());
+    // Those leave the list alone, so a try has none of them.
+    let is_try = call.load().is_some();
+    let listing = tried::FAULTS.iter().chain([&tried::ANOTHER]).find(|fault| Some(fault.0) == chosen());
     let is_desks = DESKS.iter().any(|desk| Some(desk.0) == chosen());
-    assert!(fault.is_some() || slip().is_some() || is_desks || chosen().is_none(), "no such fault");
-    let wrong = fault.and_then(|fault| fault.1(call, store));
-    wrong.or_else(|| mapped::slipped(call, store, slip()?)).unwrap_or_else(|| call.apply(store))
+    let is_there = fault.is_some() || listing.is_some() || slip().is_some() || is_desks;
+    assert!(is_there || chosen().is_none(), "no such fault");
+    let wrong = fault.filter(|_| !is_try).and_then(|fault| fault.1(call, store)).or_else(|| listing.and_then(|fault| fault.1(call, store, list)));
+    wrong.or_else(|| mapped::slipped(call, store, slip()?)).unwrap_or_else(|| call.apply_listing(store, list))
 }

@@ -95,7 +95,7 @@ pub fn is_room(used: usize) -> bool {
 pub fn all_are_the_quotes(call: &Call, store: &mut Store) -> Option<Reply> {
     let before = store.counts.clone();
     let reply = call.apply(store);
-    for (now, then) in store.counts.iter_mut().zip(before).skip(count::OWNERS) {
+    for (now, then) in store.counts.iter_mut().zip(before).take(count::TIE_NUMBERS).skip(count::OWNERS) {
         if *now != then && *now == 2 {
             *now = 1;
         }

@@ -7,12 +7,12 @@
 use std::time::{Duration, Instant};
 
 use reference::gen::large::{
-    chain, chain_define, chain_record, full, grid, grid_record, long_files, looping, making, objects, posting, tall_tree, tree, usual,
+    chain, chain_define, chain_record, full, grid, grid_reason, grid_record, long_files, longest_reason, looping, making, objects, posting, tall_tree, tree, usual,
     usual_define, usual_record, Held, Repeated, Round,
 };
 use reference::gen::{Call, Trial};
 use reference::host::{self, CELLS};
-use reference::store::{LENGTHS, LIMITS};
+use reference::store::{LENGTHS, LIMITS, MOST_ROWS};
 use reference::{Answer, Reply, Store};
 
 #[repr(C)]
@@ -41,9 +41,9 @@ type Side = fn(&Call, &mut Store);
 const SIDES: [(&str, Side); 2] = [("verified", verified), ("second", second)];
 
 fn verified(call: &Call, store: &mut Store) {
-    let mut answer = [0; CELLS];
-    host::make(call, store, &mut answer);
-    std::hint::black_box(answer);
+    let (mut answer, mut list) = ([0; CELLS], [0; MOST_ROWS]);
+    host::make(call, store, &mut answer, &mut list[..call.cells()]);
+    std::hint::black_box((answer, list));
 }
 
 fn second(call: &Call, store: &mut Store) {
@@ -57,7 +57,7 @@ struct Case {
     call: Call,
     /// How often a round makes the call, if that is fixed; else as often as fits a quarter of a millisecond, at least once.
     times: Option<usize>,
-    /// Does the call go on from the store that it left? Otherwise counts and owners are set back before the next: rows past them are free.
+    /// Does the call go on from the store that it left? Otherwise counts, owners and numbers are set back before the next: rows past them are free.
     goes_on: bool,
     /// By what the time of one call is divided.
     units: f64,
@@ -170,6 +170,15 @@ fn long_defines() -> Vec<Case> {
     long_files().into_iter().map(|(what, file)| Case::new(what, store.clone(), Call::Define { loader: 1, file })).collect()
 }
 
+/// Tries of loads: the longest chain there can be, and the grid, which clashes or takes the load.
+fn tries() -> Vec<Case> {
+    let cases = [
+        ("define, a chain of 512 rows", longest_reason()), ("define, grid", grid_reason()), ("record, grid, accepted", (grid(), grid_record())),
+        ("define, longest chain, accepted", (chain(256, 256), chain_define())),
+    ];
+    cases.into_iter().map(|(name, (store, load))| Case::new(name, store, load.tried(MOST_ROWS).expect("a load"))).collect()
+}
+
 /// A sweep of 256 objects, and beside it a step on the same store, which looks at the store and pushes a null or takes it off, or is idle.
 fn sweeps() -> Vec<Case> {
     let stores = [
@@ -216,9 +225,9 @@ fn profile(side: &str, name: &str) {
 }
 
 /// Every table with its cases.
-fn tables() -> [(&'static str, Vec<Case>); 6] {
+fn tables() -> [(&'static str, Vec<Case>); 7] {
     [
-        ("run", runs()), ("step", steps()), ("sweep of 256 objects", sweeps()), ("record and define", loads()),
+        ("run", runs()), ("step", steps()), ("sweep of 256 objects", sweeps()), ("record and define", loads()), ("tries", tries()),
         ("define of 4,096 bytes", long_defines()), ("record, one chain", growth()),
     ]
 }

@@ -11,8 +11,11 @@ fn ranges(store: &Store) -> [Vec<usize>; 8] {
     let rows = |which: usize, cells: usize| (0..(store.count(which) + 1) * cells).collect::<Vec<_>>();
     let report = 32 * FRAME_ROW;
     let quote = 0..(store.frame_count(0) + 1) * FRAME_ROW;
+    let numbers = |first: usize, which: usize| first - 1..=first + store.count(which);
+    let ties = numbers(count::TIE_NUMBERS, count::TIES);
+    let counts = (0..=count::OWNERS + store.count(count::OBJECTS)).chain(ties).chain(numbers(count::SUBTYPE_NUMBERS, count::SUBTYPES));
     [
-        (0..=count::OWNERS + store.count(count::OBJECTS)).chain([LENGTHS[0] - 1]).collect(),
+        counts.chain([LENGTHS[0] - 1]).collect(),
         rows(count::CLASSES, ROW),
         (0..store.count(count::KEPT) + 2).collect(),
         rows(count::CACHE, ROW),

@@ -7,6 +7,7 @@ use super::graphs::graphs;
 use super::large;
 use super::list::busy_list;
 use super::loops::{spinning, unset_at_a_join, waiting};
+use super::numbers::{has_wrong_numbers, renumber, wrong_numbers};
 use super::objects::{all_in_use, an_owner, free_rows, links, many_objects, unused_number};
 use super::rng::Rng;
 use super::unverified::{has_unverified, jumps_out, map_bytes, other_version, unseen_jumps};
@@ -26,7 +27,7 @@ const KINDS: [fn(&mut Rng, &mut Store); 31] = [
 pub type Shape = (&'static str, fn(&Store) -> bool);
 
 /// What damaged stores must have among them.
-pub const SHAPES: [Shape; 12] = [
+pub const SHAPES: [Shape; 14] = [
     ("a class of more than 16 fields", |store| classes(store).iter().any(|&class| field_names(store, class).len() > FIELDS)),
     ("a field's name repeated below", has_repeated_field),
     ("19 and more classes", |store| store.counts.first() >= Some(&19) && is_whole(store)),
@@ -39,6 +40,10 @@ pub const SHAPES: [Shape; 12] = [
     ("256 objects in use", |store| is_whole(store) && store.unused_object().is_none()),
     ("a file of version 2 that define refuses", has_unverified),
     ("a jump out of the code", jumps_out),
+    ("wrong numbers of constraints, and nothing else", has_wrong_numbers),
+    ("constraints numbered in turn", |store| {
+        is_whole(store) && store.tie_numbers().first() > Some(&0) && store.subtype_numbers().last() < store.tie_numbers().last()
+    }),
 ];
 
 /// A store from a boot with some damage, from one change to three.
@@ -48,6 +53,13 @@ pub fn damaged(seed: u64) -> Store {
     for _ in 0..rng.pick(&[1, 1, 2, 3]) {
         let kind = rng.below(KINDS.len());
         KINDS[kind](&mut rng, &mut store);
+    }
+    // Counts that were changed leave rows without a number of their own; mostly they get one.
+    if has_wrong_numbers(&store) && rng.percent(90) {
+        renumber(&mut rng, &mut store);
+    }
+    if rng.percent(4) {
+        wrong_numbers(&mut rng, &mut store);
     }
     store
 }

@@ -1,13 +1,14 @@
 //! Input for drivelist: lists of calls in cells, at times with a row that has no call or tables that boot refuses.
 
-use super::build::Draft;
-use super::cases;
+use super::build::{Code, Draft};
+use super::cases::{self, MAIN};
+use super::chains::chains;
 use super::graphs::graphs;
 use super::list::list;
 use super::rng::Rng;
 use super::Call;
 use crate::drive::{ANSWERS, HEAD, INPUT, LIST, ROW};
-use crate::store::LENGTHS;
+use crate::store::{INT, LENGTHS};
 
 /// Rows, and the bytes of the files that stand behind them.
 struct Encoded {
@@ -25,13 +26,20 @@ impl Encoded {
         encoded
     }
 
+    /// Where this file begins and how many bytes it has.
+    fn file(&mut self, file: &[u8]) -> [u32; 2] {
+        let start = self.first + self.files.len();
+        self.files.extend(file);
+        [start as u32, file.len() as u32]
+    }
+
     fn add(&mut self, call: &Call) {
+        let n = call.cells() as u32;
         let row = match *call {
             Call::Boot => [0; ROW],
             Call::Define { loader, ref file } => {
-                let start = self.first + self.files.len();
-                self.files.extend(file);
-                [1, loader, start as u32, file.len() as u32, 0, 0]
+                let [start, size] = self.file(file);
+                [1, loader, start, size, 0, 0]
             }
             Call::Record { loader, name, class } => [2, loader, name, class, 0, 0],
             Call::Start { task, loader, name, method, int } => [3, task, loader, name.into(), method.into(), int],
@@ -39,6 +47,11 @@ impl Encoded {
             Call::Run { n } => [5, n, 0, 0, 0, 0],
             Call::Drop { task } => [6, task, 0, 0, 0, 0],
             Call::Sweep => [7, 0, 0, 0, 0, 0],
+            Call::TryDefine { loader, ref file, .. } => {
+                let [start, size] = self.file(file);
+                [8, loader, start, size, n, 0]
+            }
+            Call::TryRecord { loader, name, class, .. } => [9, loader, name, class, n, 0],
         };
         self.rows.push(row);
     }
@@ -53,18 +66,33 @@ impl Encoded {
     }
 }
 
+/// Lengths of the lists that tries are lent.
+const LISTS: [u32; 8] = [0, 1, 511, 512, 512, 513, 600, u32::MAX];
+
+/// The calls, with tries before some of their loads.
+fn trying(calls: &[Call], rng: &mut Rng) -> Vec<Call> {
+    let mut all = Vec::new();
+    for call in calls {
+        for _ in 0..rng.pick(&[0, 0, 1, 1, 2]) {
+            all.extend(call.tried(rng.pick(&LISTS) as usize));
+        }
+        all.push(call.clone());
+    }
+    all
+}
+
 /// A row that has no call: no kind, a file past the input's end, a name or a method that isn't 16 bits.
 fn no_call(rng: &mut Rng) -> [u32; ROW] {
     match rng.below(5) {
-        0 => [8 + rng.below(3) as u32, 1, 2, 0, 0, 0],
+        0 => [10 + rng.below(3) as u32, 1, 2, 0, 512, 0],
         1 => [u32::MAX, 0, 0, 0, 0, 0],
-        2 => [1, 1, rng.pick(&[0, 12, u32::MAX]), rng.pick(&[65_537, u32::MAX]), 0, 0],
+        2 => [rng.pick(&[1, 8]), 1, rng.pick(&[0, 12, u32::MAX]), rng.pick(&[65_537, u32::MAX]), rng.pick(&LISTS), 0],
         3 => [3, 0, 1, 0x1_000A, 20, 7],
         _ => [3, 0, 1, 10, 0x1_0014, 7],
     }
 }
 
-/// A list of calls of every kind, then a row that has no call, then one that is not reached.
+/// A list of calls of every kind, a load that is accepted and one that clashes tried among them, then a row that has no call, then one that is not reached.
 pub fn fixed() -> Vec<u8> {
     let mut trial = cases::across(&cases::caller(), true, false);
     trial.run(3);
@@ -81,10 +109,16 @@ pub fn fixed() -> Vec<u8> {
     trial.sweep();
     trial.run(0);
     trial.define(1, &Draft::new(12));
-    trial.call(Call::Boot);
-    trial.step();
-    let mut encoded = Encoded::new(&trial.calls, 2);
-    encoded.rows.push([8, 0, 0, 0, 0, 0]);
+    let clash = Draft::new(13).main(MAIN, &Code::new().object(12).getfield(10, 30, INT).ireturn()).file();
+    let loads = [Call::Record { loader: 3, name: 12, class: 3 }, Call::Define { loader: 2, file: clash }];
+    let mut calls = trial.calls;
+    for load in loads {
+        calls.extend([512, 511, u32::MAX, 0].into_iter().filter_map(|cells| load.tried(cells as usize)));
+        calls.push(load);
+    }
+    calls.extend([Call::Boot, Call::Step]);
+    let mut encoded = Encoded::new(&calls, 2);
+    encoded.rows.push([10, 0, 0, 0, 0, 0]);
     encoded.rows.push([0; ROW]);
     encoded.input(LENGTHS[0] as u32, ROW * encoded.rows.len(), ANSWERS as u32)
 }
@@ -93,7 +127,12 @@ pub fn fixed() -> Vec<u8> {
 pub fn drive(seed: u64) -> Vec<u8> {
     let mut rng = Rng::new(seed ^ 0x64_72_69_76);
     let length = rng.within(5, 90);
-    let mut calls = if rng.percent(70) { list(seed, length).calls } else { graphs(seed, length).calls };
+    let trial = match rng.weighted(&[4, 2, 4]) {
+        0 => list(seed, length),
+        1 => graphs(seed, length),
+        _ => chains(seed, length / 2),
+    };
+    let mut calls = trying(&trial.calls, &mut rng);
     let room = |calls: &[Call]| Encoded::new(calls, 1).files.len() + 4 * (HEAD + LIST) <= INPUT;
     while calls.len() >= LIST / ROW || !room(&calls) {
         calls.pop();

@@ -1,11 +1,13 @@
 //! Stores to measure on: call trees, chains of constraints, a usual store, a full one, stores full of objects. None is broken; all agree.
 
 use super::build::{Code, Draft};
+use super::clashes::long_chain;
 use super::files::{of_length, of_maps};
 use super::loops::repeating;
+use super::rng::Rng;
 use super::{Call, Trial};
 use crate::broken::unbroken;
-use crate::store::{cell, count, frame_base, Store, Value, INT, MOST_OBJECTS, OPERANDS};
+use crate::store::{cell, count, frame_base, Store, Value, INT, MOST_OBJECTS, MOST_ROWS, OPERANDS};
 use crate::task::make_object;
 
 /// The class of the trees, and of the upper half of the tall one.
@@ -134,6 +136,18 @@ pub fn grid() -> Store {
 
 pub fn grid_record() -> Call {
     Call::Record { loader: 7, name: u32::from(GRID) + 7, class: 8 }
+}
+
+/// A chain of 512 rows through requests that aren't loaded, and the define that clashes by all of them.
+pub fn longest_reason() -> (Store, Call) {
+    long_chain(&mut Rng::new(512), MOST_ROWS)
+}
+
+/// The grid, and a define that loads its last request but one by a class of its own: it is below all that the higher names mean, and only the
+/// ties of its name break agreement.
+pub fn grid_reason() -> (Store, Call) {
+    let name = GRID + 7;
+    (grid(), Call::Define { loader: 7, file: Draft::new(name).under(name - 1).file() })
 }
 
 /// 30 entries, 12 ties and 8 subtype constraints: loader 1's six classes, each below the one before, delegated to by 2, 3 and 4.
@@ -325,6 +339,18 @@ mod tests {
     fn sound(store: &Store, label: &str) {
         let classes = unbroken(store).unwrap_or_else(|| panic!("{label}: broken"));
         assert!(agrees(store, &Added::default(), &classes), "{label}: the store disagrees");
+    }
+
+    #[test]
+    fn reasons_have_their_rows() {
+        for ((mut store, load), rows) in [(longest_reason(), 512), (grid_reason(), 1)] {
+            sound(&store, "a reason");
+            let before = store.clone();
+            assert_eq!(load.tried(MOST_ROWS).map(|call| call.apply(&mut store)), Some(Reply::Clashed(rows)));
+            assert!(store == before);
+        }
+        let call = grid_record().tried(MOST_ROWS).expect("a load");
+        assert_eq!(call.apply(&mut grid()), Reply::Accepted);
     }
 
     #[test]

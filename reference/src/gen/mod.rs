@@ -5,6 +5,7 @@ pub mod build;
 pub mod cases;
 pub mod cells;
 pub mod chains;
+pub mod clashes;
 pub mod codes;
 pub mod damage;
 pub mod drives;
@@ -16,6 +17,7 @@ pub mod limits;
 pub mod list;
 pub mod loops;
 pub mod mapped;
+pub mod numbers;
 pub mod objects;
 pub mod plain;
 pub mod reach;
@@ -28,8 +30,10 @@ pub mod unverified;
 pub mod walk;
 
 use crate::answer::Reply;
-use crate::store::Store;
-use crate::{boot, define, drop_task, record, run, start, step, sweep};
+use crate::breaks::breaks;
+use crate::load::{judge, plan_define, plan_record, Plan};
+use crate::store::{Store, MOST_ROWS};
+use crate::{boot, define, drop_task, record, run, start, step, sweep, try_define, try_record};
 
 /// One call with its arguments.
 #[derive(Clone, Debug, PartialEq, Eq)]
@@ -42,9 +46,12 @@ pub enum Call {
     Run { n: u32 },
     Drop { task: u32 },
     Sweep,
+    /// The tries of a define and of a record, each with a list of so many cells.
+    TryDefine { loader: u32, file: Vec<u8>, cells: usize },
+    TryRecord { loader: u32, name: u32, class: u32, cells: usize },
 }
 
-pub const CALLS: [&str; 8] = ["boot", "define", "record", "start", "step", "run", "drop", "sweep"];
+pub const CALLS: [&str; 10] = ["boot", "define", "record", "start", "step", "run", "drop", "sweep", "try define", "try record"];
 
 impl Call {
     /// The call's place in `CALLS`.
@@ -58,12 +65,65 @@ impl Call {
             Call::Run { .. } => 5,
             Call::Drop { .. } => 6,
             Call::Sweep => 7,
+            Call::TryDefine { .. } => 8,
+            Call::TryRecord { .. } => 9,
         }
     }
 
-    /// Makes the call.
-    pub fn apply(&self, store: &mut Store) -> Reply {
+    /// The try of a load, with a list of so many cells; nothing for another call.
+    pub fn tried(&self, cells: usize) -> Option<Call> {
         match *self {
+            Call::Define { loader, ref file } => Some(Call::TryDefine { loader, file: file.clone(), cells }),
+            Call::Record { loader, name, class } => Some(Call::TryRecord { loader, name, class, cells }),
+            _ => None,
+        }
+    }
+
+    /// The load that a try tries.
+    pub fn load(&self) -> Option<Call> {
+        match *self {
+            Call::TryDefine { loader, ref file, .. } => Some(Call::Define { loader, file: file.clone() }),
+            Call::TryRecord { loader, name, class, .. } => Some(Call::Record { loader, name, class }),
+            _ => None,
+        }
+    }
+
+    /// What a load, or a try's load, would add, if no word before 9 refuses it and it adds anything.
+    pub fn plan(&self, store: &Store) -> Option<Plan> {
+        match *self {
+            Call::Define { loader, ref file } | Call::TryDefine { loader, ref file, .. } => {
+                plan_define(store, loader, file, MOST_ROWS, judge).ok()
+            }
+            Call::Record { loader, name, class } | Call::TryRecord { loader, name, class, .. } => {
+                plan_record(store, loader, name, class, MOST_ROWS).ok()?
+            }
+            _ => None,
+        }
+    }
+
+    /// Are these the rows of a chain that breaks agreement after the load?
+    pub fn is_reason(&self, store: &Store, list: &[u16]) -> bool {
+        self.plan(store).is_some_and(|plan| breaks(store, &plan.added(), &plan.classes, list))
+    }
+
+    /// How many cells the list has that the call is lent.
+    pub fn cells(&self) -> usize {
+        match *self {
+            Call::TryDefine { cells, .. } | Call::TryRecord { cells, .. } => cells,
+            _ => 0,
+        }
+    }
+
+    /// Makes the call; what a try lists is let go.
+    pub fn apply(&self, store: &mut Store) -> Reply {
+        self.apply_listing(store, &mut vec![0; self.cells()])
+    }
+
+    /// Makes the call, with the list that a try is lent.
+    pub fn apply_listing(&self, store: &mut Store, list: &mut [u16]) -> Reply {
+        match *self {
+            Call::TryDefine { loader, ref file, .. } => try_define(store, loader, file, list),
+            Call::TryRecord { loader, name, class, .. } => try_record(store, loader, name, class, list),
             Call::Boot => boot(store),
             Call::Define { loader, ref file } => define(store, loader, file),
             Call::Record { loader, name, class } => record(store, loader, name, class),

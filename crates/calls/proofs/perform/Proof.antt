@@ -62,10 +62,26 @@ returns-8 c =
     let at2 = at1 .before .before .before .before .before .before .before .before .before in
     rw (at2 .enum-told3 .given .1) (at1 .sweep .ensures)
 
+returns-9 : tie.Need-returns-9
+unfolding callOf
+returns-9 c =
+    let at1 = c .before .before .before .before .before .before .before .before .before .before in
+    rw (at1 .call6 .given .1) (c .try-define .ensures)
+
+returns-10 : tie.Need-returns-10
+unfolding callOf
+returns-10 c =
+    let at1 = c .before .before .before .before .before .before .before .before .before .before in
+    rw (at1 .call7 .given .1) (c .try-record .ensures)
+
 pub perform-spec : {M : Type 1} → statement M
 perform-spec =
     tie.close
     (tie.spec
+    (λ c. search needs)
+    (λ c κs. search needs)
+    (λ c. search needs)
+    (λ c κs. search needs)
     (λ c. search needs)
     (λ c κs. search needs)
     (λ c. search needs)
@@ -153,4 +169,22 @@ perform-spec =
     (λ c. search needs)
     (λ c. search needs)
     (λ c. search needs)
-    returns-8)
+    returns-8
+    (λ c. search needs)
+    (λ c. search needs)
+    (λ c. search needs)
+    (λ c. search needs)
+    (λ c. search needs)
+    (λ c. search needs)
+    (λ c. search needs)
+    (λ c. search needs)
+    returns-9
+    (λ c. search needs)
+    (λ c. search needs)
+    (λ c. search needs)
+    (λ c. search needs)
+    (λ c. search needs)
+    (λ c. search needs)
+    (λ c. search needs)
+    (λ c. search needs)
+    returns-10)

@@ -1,7 +1,8 @@
 -- A superclass that is refused ends the decision; another is what the constraints are decided for.
+use mathlib.Core.Path.{refl}
 use Rattle.classfile.specs.Reading.{quickFile}
 use Rattle.defining.specs.Stages.{aboveOf, Decided}
-use Rattle.defining.proofs.Defined.{super-cached, placed-refused, placed-below, decided-same}
+use Rattle.defining.proofs.Defined.{super-cached, super-words, placed-refused, placed-below, decided-same}
 use borrow.Author.Needs.{needs}
 use Rattle.defining.proofs.decide_class.Statement.{statement}
 use Rattle.defining.proofs.decide_class.Tie as tie
@@ -20,14 +21,14 @@ decide-constraints-requires c κs =
 
 returns : tie.Need-returns
 unfolding aboveOf Decided
-returns c = λ ns e. placed-refused _ _ _ _ _ (rw (c .before .above .given .1) at (c .before .before .before .find-super .ensures))
+returns c = λ ns e. let h = rw (c .before .above .given .1) at (c .before .before .before .find-super .ensures) in (placed-refused _ _ _ _ _ h, super-words _ _ _ h)
 
 returns-2 : tie.Need-returns-2
 unfolding aboveOf
 returns-2 c =
     let last = c .before .before in
     let told = last .before .before .before in
-    λ ns e. decided-same _ _ _ _ _ _ _ _ (placed-below _ _ _ _ _ (rw (told .above2 .given .1) at (told .before .before .find-super .ensures))) (last .decide-constraints .ensures ns e)
+    λ ns e. decided-same _ _ _ _ _ _ _ _ (placed-below _ _ _ _ _ (rw (told .above2 .given .1) at (told .before .before .find-super .ensures))) refl (last .decide-constraints .ensures ns e)
 
 pub decide-class-spec : {M : Type 1} → statement M
 decide-class-spec = tie.close (tie.spec (λ c κs. search needs) (λ c. search needs) (λ c. search needs) decide-constraints-requires returns (λ c. search needs) returns-2)

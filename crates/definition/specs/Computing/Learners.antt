@@ -2,7 +2,7 @@
 use mathlib.Core.Path.{_≡_, refl}
 use mathlib.Core.List.{List, [], _∷_, _++_, map}
 use Prim.Native.Nat.{ℕ}
-use Rattle.definition.specs.Lists.{every, all, any, doubled, indexOf, isNone, toList}
+use Rattle.definition.specs.Lists.{every, all, any, doubled, indexOf, isNone, toList, rows}
 use Rattle.definition.specs.Chains.{has, fires, rest, grow, reachFrom, reach, leads}
 use Rattle.definition.specs.Requests.{sameRequest}
 use Rattle.definition.specs.Superclasses.{seek, nearest, below}
@@ -20,8 +20,8 @@ use Rattle.definition.specs.Computing.OnRows.{settle, onRows, runRows, p
 use Rattle.definition.specs.Computing.Samples.{two, method, fileOf, plain, fileF, taker, coded, lifts, pushes, ready, tied12, tied123}
 use Rattle.definition.specs.Maybe as Maybe
 use Rattle.definition.specs.Answers.{Refusal, Denied}
-use Rattle.definition.specs.Tables.{Tables}
-use Rattle.definition.specs.Calls.{bootRows, Call, callDefine, callRecord, callStart}
+use Rattle.definition.specs.Tables.{Tables, rowNumbers}
+use Rattle.definition.specs.Calls.{bootRows, numberedOn, Call, callDefine, callRecord, callStart}
 
 -- the numbers of the answers to the calls, from a boot
 unfoldable numbers : List Call → List ℕ
@@ -51,6 +51,12 @@ overrides : numbers (ready ++ callDefine 1 (returning 40 2) ∷ callRecord 2 40 
     ≡ 0 ∷ 0 ∷ 0 ∷ 0 ∷ 0 ∷ 0 ∷ 0 ∷ 9 ∷ 0 ∷ 9 ∷ []
 unfolding numbers returning every all any doubled indexOf isNone toList sameRequest has fires rest grow reachFrom reach leads seek nearest below find lower superOf loaderOf ownSlots slotsIn slots slotIs hasField sameSignature alike methodsOf hasMethod selected tieEdges subtypeEdges edges pairAgrees rowAgrees agreesOver agrees tieIs newTie newTies signatureTies agreesAfter post byte short name count fieldsIn signatureIn namesIn mapIn mapsFrom mapsIn methodsIn ends sameField sameMethod readFile pick opcodeOf inlineLength shortAt extend instructionOf sizedAs decode typeOfName meetClass meetInt meets meetKind pop isNamed effect returns returnKind target goesOn mapAt localType meetLocal meetAll meetMap flowInto flowToTarget startAt after turn mapsPast verify typesAt unmappedFrom unmapped notesOf existing unused roomless initialValue newObject pop! int! reference! kind! room! object! now under! give execute step subtypeIs newSubtypes overrideTie overrideTies hides define recorded started fileAt classAt defineRows recordRows startRows dropRows answerOf stepTask stepOn stepRows number numberOfStep numberOf _>>=_ need take? settle onRows runRows performRows performAllRows two method fileOf plain fileF taker coded lifts pushes ready tied12 tied123 Maybe._>>=_ Maybe.need notesOfMethod ofKind! compute jumps
 overrides = refl
+
+-- A define's notes are posted before its ties: here 12 below 13 gets number 0, the ties on 12 and 13 get 1 and 2
+notes-first : performAllRows (ready ++ callDefine 1 (returning 40 2) ∷ callRecord 2 40 1 ∷ callDefine 2 (fileOf 41 40 1 (method 30 12 13 (0x19 ∷ 1 ∷ 0xB0 ∷ []))) ∷ []) bootRows .rows .numbers
+    ≡ rowNumbers (1 ∷ 2 ∷ []) (0 ∷ [])
+unfolding rows numberedOn returning every all any doubled indexOf isNone toList sameRequest has fires rest grow reachFrom reach leads seek nearest below find lower superOf loaderOf ownSlots slotsIn slots slotIs hasField sameSignature alike methodsOf hasMethod selected tieEdges subtypeEdges edges pairAgrees rowAgrees agreesOver agrees tieIs newTie newTies signatureTies agreesAfter post byte short name count fieldsIn signatureIn namesIn mapIn mapsFrom mapsIn methodsIn ends sameField sameMethod readFile pick opcodeOf inlineLength shortAt extend instructionOf sizedAs decode typeOfName meetClass meetInt meets meetKind pop isNamed effect returns returnKind target goesOn mapAt localType meetLocal meetAll meetMap flowInto flowToTarget startAt after turn mapsPast verify typesAt unmappedFrom unmapped notesOf existing unused roomless initialValue newObject pop! int! reference! kind! room! object! now under! give execute step subtypeIs newSubtypes overrideTie overrideTies hides define recorded started fileAt classAt defineRows recordRows startRows dropRows answerOf stepTask stepOn stepRows number numberOfStep numberOf _>>=_ need take? settle onRows runRows performRows performAllRows two method fileOf plain fileF taker coded lifts pushes ready tied12 tied123 Maybe._>>=_ Maybe.need notesOfMethod ofKind! compute jumps
+notes-first = refl
 
 -- Two classes of one name are two classes
 names : numbers (tied12 ++ callDefine 1 (plain 12 2) ∷ callDefine 3 (plain 12 2) ∷ callRecord 2 12 4 ∷ callRecord 2 12 3 ∷ []) ≡ 0 ∷ 0 ∷ 0 ∷ 0 ∷ 0 ∷ 0 ∷ 0 ∷ 0 ∷ 9 ∷ 0 ∷ []

@@ -1,87 +1,89 @@
--- A broken store is refused; then the arguments are tested in order, then the entry.
-use mathlib.Core.Path.{sym, _∙_}
+-- A broken store is refused; then the arguments are tested in order, then the list's size, then the entry.
+use mathlib.Core.Path.{_≡_, sym, subst, _∙_}
+use mathlib.Core.Bool.{false}
+use mathlib.Core.Option.{some}
+use Prim.Native.Nat.{ℕ, _<_, _≤_}
 use native.Mathlib.Omega.{arith}
-use Prim.Native.Nat.{_<_}
 use denote.Ref.{now}
-use lib.ListN.{getD}
+use lib.ListN.{getElem?, getD}
 use borrow.Author.Tests.{not-true, not-false, ltb-true, ltb-false}
-use Rattle.definition.specs.Tables.{tables}
-use Rattle.resolution.specs.Quick.{class-there, class-past}
+use Rattle.definition.specs.Answers.{number}
+use Rattle.definition.specs.Tables.{Tables, tables, classRowAt}
+use Rattle.definition.specs.Broken.{broken}
+use Rattle.resolution.specs.Quick.{quickClass, quickBase, class-there, class-past}
 use Rattle.entries.specs.World.{loadable}
-use Rattle.recording.specs.Deciding.{recordedBy}
-use Rattle.recording.proofs.Recorded.{plan-broken, plan, no-loader, no-name, no-class, misnamed, named, name-is}
+use Rattle.recording.specs.Deciding.{recordedBy, Tells}
+use Rattle.recording.proofs.Recorded.{plan-broken, plan-unknown, plan-short, plan, no-loader, no-name, no-class, known, misnamed, named, name-is}
 use borrow.Author.Needs.{needs}
 use Rattle.recording.proofs.decide_record.Statement.{statement}
 use Rattle.recording.proofs.decide_record.Tie as tie
 
+-- the arguments are known
+module _ (c : tie.Else4) where
+  abbrev start : tie.Start
+  start = c .before .before .before .before .before .before .before .before .before .before .before .before .before .before
+
+  abbrev store : Tables
+  store = tables (now (start .args .counts)) (now (start .args .classes)) (now (start .args .kept)) (now (start .args .cache)) (now (start .args .ties)) (now (start .args .subtypes)) (now (start .args .objects)) (now (start .args .frames))
+
+  sound : broken store ≡ false
+  sound = sym (c .before .before .before .before .before .is-broken .ensures) ∙ c .before .before .before .before .if1 .left
+
+  loader-known : start .args .loader < 16
+  loader-known = c .before .before .before .if2 .left
+
+  name-known : 2 ≤ start .args .name
+  name-known = c .before .before .if3 .left
+
+  there : start .args .class < getD (now (start .args .counts)) 0 0
+  there = ltb-true _ _ (sym (c .before .is-class .ensures) ∙ not-false _ (c .if4 .left))
+
+  class-known : getElem? (quickBase (now (start .args .counts)) (now (start .args .classes)) (now (start .args .kept)) (now (start .args .cache)) .classes) (start .args .class)
+      ≡ some (quickClass (now (start .args .kept)) (classRowAt (now (start .args .classes)) (start .args .class)))
+  class-known = class-there (now (start .args .counts)) (now (start .args .classes)) (now (start .args .kept)) (now (start .args .cache)) _ there
+
 returns : tie.Need-returns
-returns c =
-    let at10 = c .before .before .before .before .before .before .before .before .before .before in
-    plan-broken (tables (now (at10 .args .counts)) (now (at10 .args .classes)) (now (at10 .args .kept)) (now (at10 .args .cache)) (now (at10 .args .ties)) (now (at10 .args .subtypes)) (now (at10 .args .objects)) (now (at10 .args .frames))) _ _ _ (sym (c .before .is-broken .ensures) ∙ c .if1 .taken)
+returns c = let start = c .before .before .before .before .before .before .before .before .before .before in plan-broken (tables (now (start .args .counts)) (now (start .args .classes)) (now (start .args .kept)) (now (start .args .cache)) (now (start .args .ties)) (now (start .args .subtypes)) (now (start .args .objects)) (now (start .args .frames))) _ _ _ _ (sym (c .before .is-broken .ensures) ∙ c .if1 .taken)
 
 returns-2 : tie.Need-returns-2
-unfolding recordedBy
-returns-2 c =
-    let at11 = c .before .before .before .before .before .before .before .before .before .before .before in
-    plan (tables (now (at11 .args .counts)) (now (at11 .args .classes)) (now (at11 .args .kept)) (now (at11 .args .cache)) (now (at11 .args .ties)) (now (at11 .args .subtypes)) (now (at11 .args .objects)) (now (at11 .args .frames))) _ _ _ (sym (c .before .before .is-broken .ensures) ∙ c .before .if1 .left) _ (no-loader _ _ _ _ (c .if2 .taken))
+returns-2 c = let start = c .before .before .before .before .before .before .before .before .before .before .before in
+    plan-unknown (tables (now (start .args .counts)) (now (start .args .classes)) (now (start .args .kept)) (now (start .args .cache)) (now (start .args .ties)) (now (start .args .subtypes)) (now (start .args .objects)) (now (start .args .frames))) _ _ _ _ (sym (c .before .before .is-broken .ensures) ∙ c .before .if1 .left) (no-loader _ _ _ _ (c .if2 .taken))
 
 returns-3 : tie.Need-returns-3
-unfolding recordedBy
-returns-3 c =
-    let at12 = c .before .before .before .before .before .before .before .before .before .before .before .before in
-    plan (tables (now (at12 .args .counts)) (now (at12 .args .classes)) (now (at12 .args .kept)) (now (at12 .args .cache)) (now (at12 .args .ties)) (now (at12 .args .subtypes)) (now (at12 .args .objects)) (now (at12 .args .frames))) _ _ _ (sym (c .before .before .before .is-broken .ensures) ∙ c .before .before .if1 .left) _ (no-name _ _ _ _ (c .before .if2 .left) (c .if3 .taken))
+returns-3 c = let start = c .before .before .before .before .before .before .before .before .before .before .before .before in
+    plan-unknown (tables (now (start .args .counts)) (now (start .args .classes)) (now (start .args .kept)) (now (start .args .cache)) (now (start .args .ties)) (now (start .args .subtypes)) (now (start .args .objects)) (now (start .args .frames))) _ _ _ _ (sym (c .before .before .before .is-broken .ensures) ∙ c .before .before .if1 .left) (no-name _ _ _ _ (c .before .if2 .left) (c .if3 .taken))
 
 returns-4 : tie.Need-returns-4
-unfolding recordedBy
-returns-4 c =
-    let at14 = c .before .before .before .before .before .before .before .before .before .before .before .before .before .before in
-    let counts = now (at14 .args .counts) in
-    let classes = now (at14 .args .classes) in
-    let kept = now (at14 .args .kept) in
-    let cache = now (at14 .args .cache) in
-    plan (tables counts classes kept cache (now (at14 .args .ties)) (now (at14 .args .subtypes)) (now (at14 .args .objects)) (now (at14 .args .frames))) _ _ _ (sym (c .before .before .before .before .before .is-broken .ensures) ∙ c .before .before .before .before .if1 .left) _ (no-class _ _ _ _ (c .before .before .before .if2 .left) (c .before .before .if3 .left) (class-past counts classes kept cache _ (ltb-false _ _ (sym (c .before .is-class .ensures) ∙ not-true _ (c .if4 .taken)))))
+returns-4 c = let start = c .before .before .before .before .before .before .before .before .before .before .before .before .before .before in
+    plan-unknown (tables (now (start .args .counts)) (now (start .args .classes)) (now (start .args .kept)) (now (start .args .cache)) (now (start .args .ties)) (now (start .args .subtypes)) (now (start .args .objects)) (now (start .args .frames))) _ _ _ _ (sym (c .before .before .before .before .before .is-broken .ensures) ∙ c .before .before .before .before .if1 .left) (no-class _ _ _ _ (c .before .before .before .if2 .left) (c .before .before .if3 .left)
+    (class-past (now (start .args .counts)) (now (start .args .classes)) (now (start .args .kept)) (now (start .args .cache)) _ (ltb-false _ _ (sym (c .before .is-class .ensures) ∙ not-true _ (c .if4 .taken)))))
 
 returns-5 : tie.Need-returns-5
-unfolding recordedBy
-returns-5 c =
-    let at3 = c .before .before .before in
-    let at4 = at3 .before in
-    let at8 = at4 .before .before .before .before in
-    let at17 = at8 .before .before .before .before .before .before .before .before .before in
-    let counts = now (at17 .args .counts) in
-    let classes = now (at17 .args .classes) in
-    let kept = now (at17 .args .kept) in
-    let cache = now (at17 .args .cache) in
-    plan (tables counts classes kept cache (now (at17 .args .ties)) (now (at17 .args .subtypes)) (now (at17 .args .objects)) (now (at17 .args .frames))) _ _ _ (sym (at8 .is-broken .ensures) ∙ c .before .before .before .before .before .before .before .if1 .left) _ (misnamed _ _ _ _ (c .before .before .before .before .before .before .if2 .left) (c .before .before .before .before .before .if3 .left) _ (class-there counts classes kept cache _ (ltb-true _ _ (sym (at4 .is-class .ensures) ∙ not-false _ (at3 .if4 .left)))) (λ q. c .if5 .taken (c .before .from16 .ensures .0 ∙ (c .before .before .name-of .ensures ∙ (name-is _ _ _ _ (ltb-true _ _ (sym (at4 .is-class .ensures) ∙ not-false _ (at3 .if4 .left))) ∙ q)))))
-
-cast-decide-entry : tie.Need-cast-decide-entry
-cast-decide-entry c = omega (arith, c .before .before .before .before .before .before .if2 .left)
-
-cast-decide-entry-2 : tie.Need-cast-decide-entry-2
-cast-decide-entry-2 c =
-    let at8 = c .before .before .before .before .before .before .before .before in
-    let at17 = at8 .before .before .before .before .before .before .before .before .before in
-    let counts = now (at17 .args .counts) in
-    let h : at17 .args .class < getD counts 0 0 = (ltb-true _ _ (sym (c .before .before .before .before .is-class .ensures) ∙ not-false _ (c .before .before .before .if4 .left))) in omega (arith, loadable (tables counts (now (at17 .args .classes)) (now (at17 .args .kept)) (now (at17 .args .cache)) (now (at17 .args .ties)) (now (at17 .args .subtypes)) (now (at17 .args .objects)) (now (at17 .args .frames))) (sym (at8 .is-broken .ensures) ∙ c .before .before .before .before .before .before .before .if1 .left) .base .classesFew)
-
-decide-entry-requires : tie.Need-decide-entry-requires
-decide-entry-requires c κs =
-    let at8 = c .before .before .before .before .before .before .before .before in
-    let at17 = at8 .before .before .before .before .before .before .before .before .before in
-    loadable (tables (now (at17 .args .counts)) (now (at17 .args .classes)) (now (at17 .args .kept)) (now (at17 .args .cache)) (now (at17 .args .ties)) (now (at17 .args .subtypes)) (now (at17 .args .objects)) (now (at17 .args .frames))) (sym (at8 .is-broken .ensures) ∙ c .before .before .before .before .before .before .before .if1 .left)
+returns-5 c = let e = c .before in plan-short (store e) _ _ _ _ (sound e) (c .if5 .taken) (known _ _ _ _ (loader-known e) (name-known e) _ (class-known e))
 
 returns-6 : tie.Need-returns-6
-returns-6 c =
-    let at4 = c .before .before .before .before in
-    let at5 = at4 .before in
-    let at8 = at5 .before .before .before in
-    let at9 = at8 .before in
-    let at18 = at9 .before .before .before .before .before .before .before .before .before in
-    let counts = now (at18 .args .counts) in
-    let classes = now (at18 .args .classes) in
-    let kept = now (at18 .args .kept) in
-    let cache = now (at18 .args .cache) in
-    plan (tables counts classes kept cache (now (at18 .args .ties)) (now (at18 .args .subtypes)) (now (at18 .args .objects)) (now (at18 .args .frames))) _ _ _ (sym (at9 .is-broken .ensures) ∙ at8 .if1 .left) _ (c .decide-entry .ensures ∙ named _ _ _ _ (c .before .before .before .before .before .before .before .if2 .left) (c .before .before .before .before .before .before .if3 .left) _ (class-there counts classes kept cache _ (ltb-true _ _ (sym (at5 .is-class .ensures) ∙ not-false _ (at4 .if4 .left)))) _ (sym (c .before .before .before .name-of .ensures ∙ name-is _ _ _ _ (ltb-true _ _ (sym (at5 .is-class .ensures) ∙ not-false _ (at4 .if4 .left))))) (sym (c .before .before .from16 .ensures .0) ∙ c .before .if5 .left))
+unfolding recordedBy Tells number
+returns-6 c = let e = c .before .before .before .before in
+    plan (store e) _ _ _ _ (sound e) (c .before .before .before .if5 .left) _
+    (misnamed _ _ _ _ (loader-known e) (name-known e) _ (class-known e)
+    (λ q. c .if6 .taken (c .before .from16 .ensures .0 ∙ (c .before .before .name-of .ensures ∙ (name-is _ _ _ _ (there e) ∙ q))))) (λ z. omega arith)
+
+cast-decide-entry : tie.Need-cast-decide-entry
+cast-decide-entry c = omega (arith, loader-known (c .before .before .before .before))
+
+cast-decide-entry-2 : tie.Need-cast-decide-entry-2
+cast-decide-entry-2 c = omega (arith, there (c .before .before .before .before), loadable (store (c .before .before .before .before)) (sound (c .before .before .before .before)) .base .classesFew)
+
+decide-entry-requires : tie.Need-decide-entry-requires
+decide-entry-requires c κs = let e = c .before .before .before .before in loadable (store e) (sound e)
+
+returns-7 : tie.Need-returns-7
+returns-7 c = let e = c .before .before .before .before .before in
+    let own = sym (c .before .before .from16 .ensures .0) ∙ c .before .if6 .left in
+    plan (store e) _ _ _ _ (sound e) (c .before .before .before .before .if5 .left) _
+    (c .decide-entry .ensures .0
+    ∙ named _ _ _ _ (loader-known e) (name-known e) _ (class-known e) _ (sym (c .before .before .before .name-of .ensures ∙ name-is _ _ _ _ (there e))) own)
+    (subst (λ (x : ℕ). Tells (c .decide-entry .result) (now (start e .args .counts)) (start e .args .loader) x (start e .args .class)) own (c .decide-entry .ensures .1))
 
 pub decide-record-spec : {M : Type 1} → statement M
-decide-record-spec = tie.close (tie.spec (λ c κs. search needs) returns returns-2 returns-3 (λ c κs. search needs) returns-4 (λ c κs. search needs) (λ c κs. search needs) returns-5 cast-decide-entry cast-decide-entry-2 decide-entry-requires returns-6)
+decide-record-spec = tie.close (tie.spec (λ c κs. search needs) returns returns-2 returns-3 (λ c κs. search needs) returns-4 returns-5 (λ c κs. search needs) (λ c κs. search needs) returns-6 cast-decide-entry cast-decide-entry-2 decide-entry-requires returns-7)

@@ -1,7 +1,6 @@
 -- A name or type that is 0 is answered at once.
 use borrow.Author.Tests.{le-leb, lt-leb}
 use Rattle.definition.specs.Classes.{isNamed}
-use borrow.Author.Needs.{needs}
 use Rattle.classfile.proofs.methods.is_named.Statement.{statement}
 use Rattle.classfile.proofs.methods.is_named.Tie as tie
 

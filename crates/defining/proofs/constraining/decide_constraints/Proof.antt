@@ -1,12 +1,13 @@
 -- The copies hold the new ties and subtype constraints; limits and agreement are tested of them.
-use mathlib.Core.Path.{_≡_, refl, sym, ap, _∙_}
+use mathlib.Core.Path.{_≡_, sym, ap, _∙_}
 use native.Mathlib.Omega.{arith}
 use denote.Ref.{now}
 use lib.ListN.{length, set, length-set}
 use borrow.Author.Tests.{not-true, not-false}
+use Rattle.definition.specs.Answers.{number}
 use Rattle.layout.specs.Places.{writeRows-length}
+use Rattle.classfile.specs.Reading.{quickFile}
 use Rattle.defining.specs.Stages.{Decided}
-use Rattle.defining.proofs.Posted.{posted-long}
 use Rattle.defining.proofs.Constrained.{posted-full, TiesMade, ties-made, posted-roomless, room-there, posted-clash, posted-fine}
 use borrow.Author.Needs.{needs}
 use Rattle.defining.proofs.constraining.decide_constraints.Statement.{statement}
@@ -38,20 +39,20 @@ post-methods-requires : tie.Need-post-methods-requires
 post-methods-requires c κs = let pre = start c .pre in (pre .2, omega (arith, c .at16 .ensures, pre .0 .tiesFew), copy-long c, pre .0 .base .loaders)
 
 returns : tie.Need-returns
-unfolding Decided
+unfolding Decided number
 returns c =
     let a = from (c .before .before .before) in
-    λ ns e. posted-full _ _ _ _ _ _ (a .pre .0) (a .args .loader) (a .args .p) (now (a .args .file)) _ _ ns e (c .if1 .taken)
+    λ ns e. (posted-full _ _ _ _ _ _ (a .pre .0) (a .args .loader) (a .args .p) (now (a .args .file)) _ _ ns e (c .if1 .taken), λ z. omega arith)
 
 has-room-requires : tie.Need-has-room-requires
 has-room-requires c κs = from (c .before .before .before) .pre .1
 
 returns-2 : tie.Need-returns-2
-unfolding Decided
+unfolding Decided number
 returns-2 c =
     let post = c .before .before .before .before .before in
     let a = from post in
-    λ ns e. posted-roomless _ _ _ _ _ _ (a .pre .0) (a .args .loader) (a .args .p) (now (a .args .file)) _ _ (made post) (sym (c .before .has-room .ensures) ∙ not-true _ (c .if2 .taken)) ns
+    λ ns e. (posted-roomless _ _ _ _ _ _ (a .pre .0) (a .args .loader) (a .args .p) (now (a .args .file)) _ _ (made post) (sym (c .before .has-room .ensures) ∙ not-true _ (c .if2 .taken)) ns, λ z. omega arith)
 
 -- there is room, and the notes fit
 module _ (c : tie.Else2) where
@@ -66,12 +67,12 @@ class-agrees-requires c κs =
     (a .pre .0 .base, room .0, room .1, room .2, e .before .before .if1 .left, a .pre .4)
 
 returns-3 : tie.Need-returns-3
-unfolding Decided
+unfolding Decided quickFile
 returns-3 c =
     let e = c .before .before .before in
     let a = from (post e) in
     λ ns q. posted-clash _ _ _ _ _ _ (a .pre .0) (a .args .loader) (a .args .p) (now (a .args .file)) _ _ (made (post e)) (sym (e .before .has-room .ensures) ∙ not-false _ (e .if2 .left))
-    _ _ (e .before .before .if1 .left) ns q (sym (c .before .class-agrees .ensures) ∙ not-true _ (c .if3 .taken))
+    _ _ (e .before .before .if1 .left) ns q (a .pre .4) (sym (c .before .class-agrees .ensures) ∙ not-true _ (c .if3 .taken))
 
 returns-4 : tie.Need-returns-4
 unfolding Decided

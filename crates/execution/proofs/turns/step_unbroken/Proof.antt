@@ -1,8 +1,9 @@
 -- Nobody's turn is idle; else what was chosen is carried out, and that is the step of the task whose turn it is.
 use denote.Ref.{now}
+use native.Mathlib.Omega.{arith}
 use Rattle.tasks.specs.Turns.{turn-two}
+use Rattle.layout.specs.Unbroken.{unbroken}
 use Rattle.execution.specs.Carried.{still-ready}
-use Rattle.definition.specs.Requests.{at}
 use Rattle.definition.specs.Tables.{tables}
 use Rattle.resolution.specs.Quick.{loader-quick}
 use Rattle.execution.specs.Steps.{usable}
@@ -36,16 +37,23 @@ post-ties-requires c κs = c .before .before .choose .ensures .ready .ties
 carry-out-requires : tie.Need-carry-out-requires
 carry-out-requires c κs = still-ready _ _ _ _ _ _ _ _ _ _ _ _ _ (c .before .before .before .before .before .before .before .before .before .before .choose .ensures .ready) _ (c .before .before .before .before .before .before .before .post-ties .ensures .0)
 
+number-ties-requires : tie.Need-number-ties-requires
+number-ties-requires c κs =
+    let at15 = c .before .before .before .before .before .before .before .before .before .before .before .before .before .before .before in
+    let at39 = at15 .before .before .before .before .before .before .before .before .before .before .before .before .before .before .before .before .before .before .before .before .before .before .before .before in
+    let few = unbroken _ (at39 .pre .0) .counts in
+    (omega (arith, at15 .post-ties .ensures .1 .1 .0, few .ties), omega (arith, at15 .post-ties .ensures .1 .1 .1, few .subtypes))
+
 returns-2 : tie.Need-returns-2
 returns-2 c =
-    let at14 = c .before .before .before .before .before .before .before .before .before .before .before .before .before .before in
-    let at17 = at14 .before .before .before in
-    let at22 = at17 .before .before .before .before .before in
-    let at25 = at22 .before .before .before in
-    let at26 = at25 .before in
-    let at28 = at26 .before .before in
-    let at38 = at28 .before .before .before .before .before .before .before .before .before .before in
-    top-carried _ _ _ _ _ _ _ _ (at38 .pre .0) _ _ (at28 .turn .ensures) (at26 .frame-count .ensures) (at25 .if1 .left) _ _ (at22 .top-frame .ensures .0) (at22 .top-frame .ensures .1) _ _ _ _ (at17 .choose .ensures) _ _ (at14 .post-ties .ensures .0) (at14 .post-ties .ensures .1) _ _ _ _ (c .before .before .before .before .before .before .carry-out .ensures)
+    let at18 = c .before .before .before .before .before .before .before .before .before .before .before .before .before .before .before .before .before .before in
+    let at21 = at18 .before .before .before in
+    let at26 = at21 .before .before .before .before .before in
+    let at29 = at26 .before .before .before in
+    let at30 = at29 .before in
+    let at32 = at30 .before .before in
+    let at42 = at32 .before .before .before .before .before .before .before .before .before .before in
+    top-carried _ _ _ _ _ _ _ _ (at42 .pre .0) _ _ (at32 .turn .ensures) (at30 .frame-count .ensures) (at29 .if1 .left) _ _ (at26 .top-frame .ensures .0) (at26 .top-frame .ensures .1) _ _ _ _ (at21 .choose .ensures) _ _ (at18 .post-ties .ensures .0) (at18 .post-ties .ensures .1 .0) _ _ _ _ (c .before .before .before .before .before .before .before .before .before .before .carry-out .ensures) _ _ (at18 .post-ties .ensures .1 .1 .0) (at18 .post-ties .ensures .1 .1 .1) _ (c .before .before .number-ties .ensures)
 
 pub step-unbroken-spec : {M : Type 1} → statement M
 step-unbroken-spec =
@@ -60,6 +68,7 @@ step-unbroken-spec =
     choose-requires
     post-ties-requires
     carry-out-requires
+    number-ties-requires
     (λ c. search needs)
     (λ c. search needs)
     (λ c. search needs)

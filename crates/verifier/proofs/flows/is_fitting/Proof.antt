@@ -1,5 +1,4 @@
 -- The map's number of operands is read and compared.
-use mathlib.Core.Path.{_≡_, ap, sym, _∙_}
 use Rattle.verifier.specs.Trace.{fits}
 use Rattle.classfile.specs.Reading.{mapOf, mapDepth, typeAt}
 use Rattle.layout.specs.Places.{rows-length}

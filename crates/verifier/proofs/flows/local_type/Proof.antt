@@ -1,6 +1,4 @@
 -- A type that a name stands for is not unset.
-use mathlib.Core.Path.{_∙_, ap, sym}
-use mathlib.Core.Option.{some}
 use native.Mathlib.Omega.{arith}
 use borrow.Author.Tests.{eq-eqb, ne-eqb}
 use Rattle.definition.specs.Instructions.{pick}

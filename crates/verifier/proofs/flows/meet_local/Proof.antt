@@ -1,5 +1,4 @@
 -- Unset takes anything; a local that is unset meets nothing else.
-use mathlib.Core.Path.{_∙_}
 use borrow.Author.Tests.{eq-eqb, ne-eqb}
 use Rattle.definition.specs.Maybe.{_>>=_}
 use Rattle.definition.specs.Instructions.{pick}

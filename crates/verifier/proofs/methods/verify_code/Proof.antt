@@ -1,5 +1,4 @@
 -- The flow from entry first; it goes to point 0, from which the walk goes on, or nowhere.
-use mathlib.Core.Path.{_≡_, refl, sym, ap, _∙_}
 use Rattle.verifier.proofs.WalkLaws.{entry-goes, entry-stops, entry-ends}
 use borrow.Author.Needs.{needs}
 use Rattle.verifier.proofs.methods.verify_code.Statement.{statement}

@@ -1,5 +1,4 @@
 -- The flow into the target first, then that into the next point, if the instruction goes on.
-use mathlib.Core.Path.{_≡_, refl, sym, ap, _∙_}
 use borrow.Author.Tests.{not-true, not-false}
 use Rattle.verifier.proofs.PostingLaws.{once-on, once-stop}
 use Rattle.verifier.proofs.TurnLaws.{flow-parts, flow-on, flow-ends}

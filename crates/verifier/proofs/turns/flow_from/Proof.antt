@@ -1,5 +1,4 @@
 -- The receiver's note, the value's, then the flows.
-use mathlib.Core.Path.{_≡_, _∙_}
 use borrow.Author.Tests.{not-true, not-false}
 use Rattle.verifier.proofs.TurnLaws.{taken-stop, change-unfit, change-fits}
 use borrow.Author.Needs.{needs}

@@ -1,5 +1,5 @@
 -- Without a map the types go on as they are; with one they are met, and the map's types go on.
-use mathlib.Core.Path.{_≡_, refl, sym, ap, _∙_}
+use mathlib.Core.Path.{refl}
 use borrow.Author.Tests.{not-true, not-false}
 use Rattle.verifier.specs.Answers.{nextOf}
 use Rattle.verifier.proofs.PostingLaws.{once-on, once-stop}

@@ -1,5 +1,5 @@
 -- Nothing flows where there is no target; else the target has a map, and it is met.
-use mathlib.Core.Path.{_≡_, refl, sym, ap, _∙_}
+use mathlib.Core.Path.{refl}
 use Rattle.constraints.specs.Posting.{postNotes}
 use Rattle.verifier.specs.Lookups.{targetOf}
 use Rattle.verifier.specs.Trace.{targetTrace, posting}

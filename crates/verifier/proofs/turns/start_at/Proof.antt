@@ -1,5 +1,5 @@
 -- The code ends at the point, or the types are those of its map, if it has one that could be met.
-use mathlib.Core.Path.{_≡_, refl, sym, ap, _∙_}
+use mathlib.Core.Path.{sym, _∙_}
 use borrow.Author.Tests.{not-true, not-false}
 use Rattle.verifier.specs.Answers.{nextOf}
 use Rattle.verifier.proofs.FlowLaws.{fits-few}

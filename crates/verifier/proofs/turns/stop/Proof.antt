@@ -1,7 +1,6 @@
 -- A turn that stops goes nowhere.
 use mathlib.Core.Path.{refl}
 use Rattle.verifier.specs.Answers.{nextOf}
-use borrow.Author.Needs.{needs}
 use Rattle.verifier.proofs.turns.stop.Statement.{statement}
 use Rattle.verifier.proofs.turns.stop.Tie as tie
 

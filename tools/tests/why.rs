@@ -1,0 +1,54 @@
+//! Why loads clash, on the course's lessons and by the proved machine: each load that clashes has its chain.
+
+mod common;
+
+use writer::lesson::Lesson;
+use writer::play::{Outcome, Play, Show};
+use writer::source::Source;
+
+/// What is printed, and what came of it.
+fn played(source: &Source) -> (String, Outcome) {
+    let lesson = Lesson::read(source).unwrap_or_else(|problem| panic!("{}", source.show(&problem)));
+    let mut out = Vec::new();
+    let outcome = Play::run(source, &lesson, Show { store: false, draw: true, why: true }, &mut out).expect("a machine");
+    (String::from_utf8(out).expect("words"), outcome)
+}
+
+/// Every lesson passes, and each load in it that clashes has its chain and its picture.
+#[test]
+fn every_clash_of_a_load_is_explained() {
+    let mut reasons = 0;
+    for path in common::examples("lesson") {
+        let source = common::source(&path);
+        let (said, outcome) = played(&source);
+        assert_eq!(outcome.failed, 0, "{}: {said}", source.file);
+        let is_load = |line: &str| (line.contains(" defines ") || line.contains(" records ")) && line.ends_with("refused: 9, clash");
+        let clashes = said.lines().filter(|line| is_load(line)).count();
+        assert_eq!(said.matches("        why: ").count(), clashes, "{}", source.file);
+        assert_eq!((outcome.reasons, outcome.strip.count()), (clashes, clashes), "{}", source.file);
+        reasons += clashes;
+    }
+    assert!(reasons > 8, "{reasons} clashes");
+}
+
+/// The lesson on it: each row with its names and loaders, an unloaded middle, the load's own row; the picture has the rows' numbers.
+#[test]
+fn the_chain_is_said_row_by_row() {
+    let path = common::examples("lesson").into_iter().find(|path| path.ends_with("why-a-load-clashed.lesson")).expect("the lesson");
+    let (said, outcome) = played(&common::source(&path));
+    for line in [
+        "row 0: a tie, Discount is one class under loaders 2 and 1; on to",
+        "row 1: a tie, Discount is one class under loaders 3 and 2; on to",
+        "Discount of loader 2 (not loaded)",
+        "row 2: a subtype constraint, Bonus is below Discount under loader 2; on to Discount of loader 2",
+        "row 3, the load's own: a subtype constraint, Discount is below Bonus under loader 2; on to Bonus of loader 2 (class 6)",
+        "so the first must be the last or below it, and class 4 isn't class 6 or below",
+    ] {
+        assert!(said.contains(line), "{line}\n{said}");
+    }
+    let svg = outcome.strip.svg();
+    for text in ["tie, row 0", "tie, row 1", "below, row 2", "below, row 3", "class 5? refused", "Purple rows"] {
+        assert!(svg.contains(text), "{text}");
+    }
+    assert!(!svg.contains("Orange"));
+}
