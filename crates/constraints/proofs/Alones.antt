@@ -17,7 +17,7 @@ use Rattle.laws.specs.Upward.{below-true, true-below}
 use Rattle.constraints.specs.Upward.{classOf}
 use Rattle.constraints.specs.Walks.{badOver, endsOver, InRange, Sole}
 use Rattle.constraints.specs.Choosing.{noSize, held, pick, NoBetter, OneSize, WalkFrom, Chosen, alone, consideredAlone, Alone, BestOf}
-use Rattle.constraints.proofs.Rows.{Order, less, equal, more, order}
+use Rattle.constraints.proofs.Rows.{Order, less, equal, more, order, both-true}
 use Rattle.constraints.proofs.Choices.{pick-new, pick-still, pick-from}
 
 -- Upward from a class: `next` is one more than the class that is looked at, or 0
@@ -197,11 +197,6 @@ module _ (froms tos labels classes : List ℕ) (cached : ℕ) (only : Bool) (sup
 
 -- The best of all
 
-both : (s t : Bool) → s && t ≡ true → (s ≡ true) × (t ≡ true)
-both true true h = (refl, refl)
-both true false h = absurd (false≢true h)
-both false t h = absurd (false≢true h)
-
 module _ (froms tos labels : List ℕ) (classes : List ℕ) (cached : ℕ) (sup : ℕ → Option ℕ) (falls : Falls sup) where
   -- a row that breaks agreement by itself is a walk of one row, and such a walk is one
   module _ (count : ℕ) (only : Bool) where
@@ -209,7 +204,7 @@ module _ (froms tos labels : List ℕ) (classes : List ℕ) (cached : ℕ) (sup 
         → (getD froms d 0 < cached) × WalkFrom froms tos labels count classes cached only sup (getD froms d 0) (getD labels d 0 ∷ [])
     unfolding alone endsOver
     alone-walk d h t =
-        let r = both (ltb (getD froms d 0) cached) (ltb (getD tos d 0) cached && badOver only sup (getD classes (getD froms d 0) 0) (getD classes (getD tos d 0) 0)) t in
+        let r = both-true (ltb (getD froms d 0) cached) (ltb (getD tos d 0) cached && badOver only sup (getD classes (getD froms d 0) 0) (getD classes (getD tos d 0) 0)) t in
         (ltb-true (getD froms d 0) cached (r .0), (d, h, refl, refl, r .1))
 
     walk-alone : (q r : ℕ) → q < cached → (w : WalkFrom froms tos labels count classes cached only sup q (r ∷ [])) → alone froms tos classes cached only sup (w .0) ≡ true
@@ -220,7 +215,7 @@ module _ (froms tos labels : List ℕ) (classes : List ℕ) (cached : ℕ) (sup 
     -- no class is bad for itself, so no walk has no row
     some-row : (q : ℕ) → WalkFrom froms tos labels count classes cached only sup q [] → ⊥
     unfolding endsOver
-    some-row q w = false≢true (sym (self-good sup falls (getD classes q 0) (getD classes q 0) only refl) ∙ both (ltb q cached) (badOver only sup (getD classes q 0) (getD classes q 0)) w .1)
+    some-row q w = false≢true (sym (self-good sup falls (getD classes q 0) (getD classes q 0) only refl) ∙ both-true (ltb q cached) (badOver only sup (getD classes q 0) (getD classes q 0)) w .1)
 
     -- where one row is kept, none is better than the lowest
     one-best : (x : ℕ) → ((d : ℕ) → d < count → alone froms tos classes cached only sup d ≡ true → NoBetter (some (x ∷ [])) (getD labels d 0 ∷ []))

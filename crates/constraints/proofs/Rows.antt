@@ -1,6 +1,6 @@
 -- What stands in rows, tests of rows, and the order of numbers.
 use mathlib.Core.Path.{_≡_, refl, sym, ap}
-use mathlib.Core.Bool.{Bool, true, false}
+use mathlib.Core.Bool.{Bool, true, false, false≢true, _&&_}
 use mathlib.Core.List.{_∷_, List·Memᴰ, List·Memᴰ·head, List·Memᴰ·tail, List·Memᴰ·not-nil}
 use mathlib.Core.Logic.{_⊎_, inl, inr}
 use Prim.Native.Nat.{ℕ, zero, suc, _+_, _-_, _<_, _≤_}
@@ -69,3 +69,9 @@ all-start f g n = rw (rows-start g n)
 
 pub any-start : {A : Type 0} (f : A → Bool) (g : ℕ → A) (n m : ℕ) → n ≡ m → any f (rows g (n - 0) 0) ≡ any f (rows g m 0)
 any-start f g n m e = let z : n - 0 ≡ m = omega arith in rw z
+
+-- both of two tests that hold together
+pub both-true : (s t : Bool) → s && t ≡ true → (s ≡ true) × (t ≡ true)
+both-true true true h = (refl, refl)
+both-true true false h = absurd (false≢true h)
+both-true false t h = absurd (false≢true h)

@@ -15,7 +15,7 @@ use Rattle.constraints.specs.Nodes.{placeLimit}
 use Rattle.constraints.specs.Joining.{Last}
 use Rattle.constraints.specs.Search.{marked, startOf}
 use Rattle.constraints.specs.Walks.{Found, found, distOf, wayOf, nodeAt, Room, Sized, look, looks, Those, Walk, Onward, Exact, Layer, Spread, Seeded, Zeroed, badIn, endsIn, seedOne}
-use Rattle.constraints.proofs.Rows.{Order, less, equal, more, order}
+use Rattle.constraints.proofs.Rows.{Order, less, equal, more, order, both-true}
 use Rattle.constraints.proofs.Supers.{above-same, above-other}
 
 -- One cell written
@@ -737,11 +737,6 @@ module _ (froms tos labels : List ℕ) (count limit : ℕ) (s₀ : Found) where
   spreads-all n low s k l ends e = (s .tail, spread-all froms tos labels count ends n low s (k .layer ends e) limit (k .near) l)
 
 -- The ends, found one after another
-
-both-true : (s t : Bool) → s && t ≡ true → (s ≡ true) × (t ≡ true)
-both-true true true h = (refl, refl)
-both-true true false h = absurd (false≢true h)
-both-true false t h = absurd (false≢true h)
 
 module _ (only : Bool) (aboves : List ℕ) (stamp : ℕ) (classes : List ℕ) (c : ℕ) where
   abbrev endsTo : ℕ → ℕ → Bool
