@@ -60,6 +60,7 @@ module _ (sup : ℕ → Option ℕ) (groups classes : List ℕ) (n noted a : ℕ
     first-unlinked {outs} {ins} {queue} {aboves} {from} rooted t e = record {
       tables = tables-more (omega arith) t;
       low = omega arith;
+      seen = inl refl;
       outSound = λ y m. absurd (no-out y m);
       inSound = λ y m. absurd (no-in y m);
       raised = λ y m. absurd (no-out y m);
@@ -95,6 +96,7 @@ module _ (sup : ℕ → Option ℕ) (groups classes : List ℕ) (n noted a : ℕ
       full = inr (record { outsAre = o .stamped; insAre = i .stamped; queueLong = q; abovesAre = r .stamped });
     };
     low = omega arith;
+    seen = inl refl;
     outSound = o .sound;
     inSound = λ y m. led-back groups n (n + noted) noted (i .sound y m);
     raised = λ y m. r;
@@ -123,6 +125,7 @@ module _ (sup : ℕ → Option ℕ) (groups classes : List ℕ) (n noted a : ℕ
     later-member rooted e d = record {
       tables = tables-more (omega arith) t;
       low = omega (arith, rooted .low a (omega arith));
+      seen = inl refl;
       outSound = λ y m. absurd (no-out y m);
       inSound = λ y m. absurd (no-in y m);
       raised = λ y m. absurd (no-out y m);
@@ -136,6 +139,7 @@ module _ (sup : ℕ → Option ℕ) (groups classes : List ℕ) (n noted a : ℕ
     later-alone z o = record {
       tables = tables-more (omega arith) t;
       low = omega arith;
+      seen = inl refl;
       outSound = λ y m. absurd (no-out y m);
       inSound = λ y m. absurd (no-in y m);
       raised = λ y m. absurd (no-out y m);
@@ -145,10 +149,10 @@ module _ (sup : ℕ → Option ℕ) (groups classes : List ℕ) (n noted a : ℕ
     }
 
     -- with links
-    pub later-linked : {outs′ queue′ aboves′ : List ℕ} → length ins ≡ 1280 → getD groups a 0 ≡ a → Searched groups n n (n + noted) noted (suc turn) a outs′
+    pub later-linked : {outs′ queue′ aboves′ : List ℕ} → n ≤ 1280 → length ins ≡ 1280 → getD groups a 0 ≡ a → Searched groups n n (n + noted) noted (suc turn) a outs′
         → Raised sup (getD classes a 0) (suc turn) aboves′ → length queue′ ≡ 1280
         → Looked sup groups classes n noted turn a outs′ ins queue′ aboves′ (record { from = 0; end = n; all = false })
-    later-linked long o s r q = record {
+    later-linked room long o s r q = record {
       tables = record {
         outsMost = s .stamped .most;
         insMost = λ x. omega (arith, t .insMost x);
@@ -160,6 +164,7 @@ module _ (sup : ℕ → Option ℕ) (groups classes : List ℕ) (n noted a : ℕ
         });
       };
       low = omega arith;
+      seen = inr (omega (arith, s .stamped .long));
       outSound = λ y m. rw o (s .sound y m);
       inSound = λ y m. absurd (no-in y m);
       raised = λ y m. r;

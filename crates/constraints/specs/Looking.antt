@@ -85,6 +85,7 @@ pub record LookedAhead (groups : List ℕ) (n noted turn a : ℕ) (outs : List �
 pub record Looked (sup : ℕ → Option ℕ) (groups classes : List ℕ) (n noted turn a : ℕ) (outs ins queue aboves : List ℕ) (span : Span) : Type 0 where
   pub tables : Tables noted (suc turn) outs ins queue aboves
   pub low : span .end ≤ n
+  pub seen : (span .all ≡ true) ⊎ (span .end ≤ length outs)
   pub outSound : (y : ℕ) → Marked (suc turn) outs y → Led groups n (n + noted) noted (getD groups a 0) y
   pub inSound : (y : ℕ) → Marked (suc turn) ins y → Led groups n (n + noted) noted y (getD groups a 0)
   pub raised : (y : ℕ) → Marked (suc turn) outs y → Raised sup (getD classes a 0) (suc turn) aboves

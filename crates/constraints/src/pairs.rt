@@ -3,7 +3,12 @@ use crate::joining::place;
 use crate::upward::is_below;
 use cells::at16;
 ghost use mathlib.Core.Path.{_≡_};
+ghost use mathlib.Core.Bool.{true};
+ghost use mathlib.Core.Logic.{_⊎_};
+ghost use Prim.Native.Nat.{_≤_};
+ghost use lib.ListN.{length};
 ghost use Rattle.constraints.specs.Agreement.{superIn};
+ghost use Rattle.constraints.specs.Nodes.{placeLimit};
 ghost use Rattle.constraints.specs.Pairs.{outMarked, inMarked, Judged, isPair, NextMet};
 
 // What is found: no pair that breaks agreement, or one, from a place to another.
@@ -94,6 +99,7 @@ pub(crate) fn pair_at(
 
 // The next request from a place on, before the end, that is to be looked at: any, or only one that is marked.
 pub(crate) fn next_met(marks: &[u16], stamp: u16, all: bool, from: usize, end: usize) -> usize
+    requires { ⌜ (end ≤ placeLimit) × ((all ≡ true) ⊎ (end ≤ length (now marks))) ⌝ }
     ensures { λ r. ⌜ NextMet (now (marks .entry)) stamp all from r ⌝ }
 {
     if all {
@@ -101,7 +107,7 @@ pub(crate) fn next_met(marks: &[u16], stamp: u16, all: bool, from: usize, end: u
     }
     let mut b = from;
     while b < end {
-        if at16(marks, b) == stamp {
+        if marks[b] == stamp {
             return b;
         }
         b += 1;

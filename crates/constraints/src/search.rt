@@ -1,7 +1,5 @@
 // A search over groups. Link e leads from the group at place `from` + e to the group at place `to` + e.
 use crate::joining::place;
-use cells::at16;
-use cells::put16;
 ghost use mathlib.Core.Path.{_≡_};
 ghost use Prim.Native.Nat.{ℕ, _+_, _-_, _<_, _≤_};
 ghost use lib.ListN.{length};
@@ -21,14 +19,14 @@ fn visit(
     requires { ⌜ (group < placeLimit) × (0 < stamp) × Queued stop stamp (now marks) (now queue) tail ⌝ }
     ensures { λ r. ⌜ Visited stop stamp group (now (marks .entry)) (now (queue .entry)) tail (now (marks .exit)) (now (queue .exit)) r ⌝ }
 {
-    if at16(marks, group) == stamp {
+    if marks[group] == stamp {
         return tail;
     }
-    put16(marks, group, stamp);
+    marks[group] = stamp;
     if group < stop {
         return tail;
     }
-    put16(queue, tail, group as u16);
+    queue[tail] = group as u16;
     tail + 1
 }
 
@@ -51,12 +49,12 @@ fn expand(
     ensures { λ r. ⌜ Expanded (now (groups .entry)) stop from to noted stamp group (now (marks .entry)) (now (queue .entry)) tail (now (marks .exit)) (now (queue .exit)) r ⌝ }
 {
     let mut queued = tail;
-    let mut follow = place(heads, group);
+    let mut follow = heads[group] as usize;
     while 0 < follow {
         let e = follow - 1;
         let end = place(groups, to + e);
         queued = visit(end, stop, stamp, marks, queue, queued);
-        follow = place(nexts, e);
+        follow = nexts[e] as usize;
     }
     queued
 }
@@ -94,7 +92,7 @@ pub(crate) fn search(
     );
     let mut done = 0;
     while done < tail {
-        let group = place(queue, done);
+        let group = queue[done] as usize;
         tail = expand(
             groups,
             stop,

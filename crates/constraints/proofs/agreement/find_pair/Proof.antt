@@ -42,8 +42,14 @@ pairs-holds c = let pre = c .before .before .before .before .before .before .bef
 look-requires : tie.Need-look-requires Inv-loop μ-loop Inv-pairs μ-pairs
 look-requires c κs = let pre = c .before .before .before .before .before .before .before .before .before .before .before .before .before .before .before .before .before .pre in (pre .0, pre .1, c .before .before .before .before .before .pairs-test .taken, turn-fits (c .before .before .before .before .before .before .before .before .before .before .before .before .before .before .before .before .before .args .newcomer) (c .before .before .before .before .before .before .pairs .inv .1 .isNew) (c .before .before .before .before .before .pairs-test .taken) (c .before .before .before .before .request-at .ensures), pre .2, pre .3, c .before .before .before .before .before .before .pairs .inv .1 .tables)
 
+next-met-requires : tie.Need-next-met-requires Inv-loop μ-loop Inv-pairs μ-pairs
+next-met-requires c κs = let look = c .before .before .before .before .before .before .before .before .before .look in (omega (arith, look .ensures .low, c .before .before .before .before .before .before .before .before .before .before .before .before .before .before .before .before .before .before .before .before .before .before .before .before .before .before .before .pre .0), look .ensures .seen)
+
 loop-holds : tie.Need-loop-holds Inv-loop μ-loop Inv-pairs μ-pairs
 loop-holds c = (c .before .before .before .before .before .before .before .before .before .before .before .before .before .before .before .before .before .pairs .inv .0, λ p h l k. absurd (c .next-met .ensures .none p h l k))
+
+next-met-requires-2 : tie.Need-next-met-requires-2 Inv-loop μ-loop Inv-pairs μ-pairs
+next-met-requires-2 c κs = let look = c .before .before .before .before .before .before .before .before .before .before .before .before .before .before .before .before .before .before .before .before .look in (omega (arith, look .ensures .low, c .before .before .before .before .before .before .before .before .before .before .before .before .before .before .before .before .before .before .before .before .before .before .before .before .before .before .before .before .before .before .before .before .before .before .before .before .before .before .pre .0), look .ensures .seen)
 
 loop-again : tie.Need-loop-again Inv-loop μ-loop Inv-pairs μ-pairs
 loop-again c =
@@ -118,12 +124,12 @@ find-pair-spec =
     (λ c. search needs)
     (λ c. search needs)
     look-requires
-    (λ c κs. search needs)
+    next-met-requires
     loop-holds
     (λ c κs. search needs)
     (λ c κs. search needs)
     (λ c. search needs)
-    (λ c κs. search needs)
+    next-met-requires-2
     (λ c. search needs)
     loop-again
     next-turn-requires

@@ -33,7 +33,7 @@ returns-4 c =
     let pre = c .before .before .before .before .before .before .before .before .before .before .before .before .before .before .before .before .before .before .before .before .before .before .before .pre in
     let ahead = c .before .before .before .before .before .before .look-ahead in
     let marks = ⊎-elim (λ z. absurd (c .before .before .before .before .before .before .before .before .before .before .if3 .left z)) (λ m. m) (pre .6 .full) in
-    later-linked _ _ _ _ _ _ (pre .3) (omega (arith, c .before .before .before .before .before .before .before .before .before .before .before .before .before .if1 .left)) (pre .6) (marks .insAre .long) (sym (c .before .before .before .before .before .before .before .before .before .before .before .before .place .ensures .0) ∙ c .before .before .before .before .before .before .before .before .before .before .before .if2 .left)
+    later-linked _ _ _ _ _ _ (pre .3) (omega (arith, c .before .before .before .before .before .before .before .before .before .before .before .before .before .if1 .left)) (pre .6) (omega arith) (marks .insAre .long) (sym (c .before .before .before .before .before .before .before .before .before .before .before .before .place .ensures .0) ∙ c .before .before .before .before .before .before .before .before .before .before .before .if2 .left)
     (rw (add-one _) at (ahead .ensures .0)) (rw (add-one _) at (ahead .ensures .1)) (ahead .kept .1 .1 .1 .1 .1 .1 .1 .1 .1 .1 .0 ∙ marks .queueLong)
 
 pub look-spec : {M : Type 1} → statement M

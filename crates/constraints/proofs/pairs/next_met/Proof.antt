@@ -22,6 +22,12 @@ returns c = record { low = omega arith; none = λ p h l. absurd (omega arith) }
 loop-holds : tie.Need-loop-holds Inv-loop μ-loop
 loop-holds c = (omega arith, λ p h l. absurd (omega arith))
 
+mul-if2 : tie.Need-mul-if2 Inv-loop μ-loop
+mul-if2 c = omega (arith, c .before .before .before .pre .0)
+
+shared-slice-read-if2 : tie.Need-shared-slice-read-if2 Inv-loop μ-loop
+shared-slice-read-if2 c = ⊎-elim (λ t. absurd (false≢true (sym (c .before .before .before .if1 .left) ∙ t))) (λ l. omega (arith, c .before .loop-test .taken)) (c .before .before .before .before .pre .1)
+
 returns-2 : tie.Need-returns-2 Inv-loop μ-loop
 returns-2 c = record { low = c .before .before .before .loop .inv .0; none = c .before .before .before .loop .inv .1 }
 
@@ -29,8 +35,7 @@ loop-again : tie.Need-loop-again Inv-loop μ-loop
 loop-again c =
     let loop = c .before .before .before .loop in (
       omega arith,
-      below-more _ _ (loop .inv .1)
-          (λ l. ⊎-elim (λ t. false≢true (sym (c .before .before .before .before .if1 .left) ∙ t)) (λ m. c .if2 .left (c .before .at16 .ensures ∙ m))),
+      below-more _ _ (loop .inv .1) (λ l. ⊎-elim (λ t. false≢true (sym (c .before .before .before .before .if1 .left) ∙ t)) (c .if2 .left)),
     )
 
 returns-3 : tie.Need-returns-3 Inv-loop μ-loop
@@ -44,7 +49,8 @@ next-met-spec =
     μ-loop
     returns
     loop-holds
-    (λ c κs. search needs)
+    mul-if2
+    shared-slice-read-if2
     returns-2
     (λ c. search needs)
     (λ c. search needs)

@@ -14,49 +14,72 @@ Inv-loop groups stop from to noted heads nexts group stamp marks₀ queue₀ tai
 abbrev μ-loop : tie.MeasureT-loop
 μ-loop groups stop from to noted heads nexts group stamp marks₀ queue₀ tail queued₀ follow₀ marks queue queued follow = follow
 
+mul-follow : tie.Need-mul-follow Inv-loop μ-loop
+mul-follow c = omega (arith, c .before .before .before .before .before .pre .0)
+
+shared-slice-read-follow : tie.Need-shared-slice-read-follow Inv-loop μ-loop
+shared-slice-read-follow c = let pre = c .before .before .before .before .before .before .pre in omega (arith, pre .0, pre .5 .headsLong)
+
+cast-follow : tie.Need-cast-follow Inv-loop μ-loop
+cast-follow c = let pre = c .before .before .before .before .before .before .pre in omega (arith, pre .5 .head (c .before .before .before .before .before .before .args .group) (pre .0) .high, pre .1)
+
 loop-holds : tie.Need-loop-holds Inv-loop μ-loop
-loop-holds c =
-    let pre = c .before .before .before .before .before .before .pre in
-    expanding-none _ _ _ _ _ _ _ (rw (c .place .ensures .0) (pre .5 .head (c .before .before .before .before .before .before .args .group) (pre .0))) (pre .6)
+loop-holds c = let pre = c .before .before .before .before .before .before .pre in expanding-none _ _ _ _ _ _ _ (pre .5 .head (c .before .before .before .before .before .before .args .group) (pre .0)) (pre .6)
 
 visit-requires : tie.Need-visit-requires Inv-loop μ-loop
 unfolding startOf
 visit-requires c κs =
-    let at11 = c .before .before .before .before .before .before .before .before .before .before .before in
     let loop = c .before .before .before .before .loop in
     let test = c .before .before .before .loop-test in
-    let pre = at11 .pre in
-    (rw (c .before .before .place2 .ensures .0) (pre .4 (loop .follow - 1) (omega (arith, loop .inv .high, test .taken))), pre .3, loop .inv .queued)
+    let pre = c .before .before .before .before .before .before .before .before .before .before .before .pre in
+    (rw (c .before .before .place .ensures .0) (pre .4 (loop .follow - 1) (omega (arith, loop .inv .high, test .taken))), pre .3, loop .inv .queued)
+
+mul-follow-2 : tie.Need-mul-follow-2 Inv-loop μ-loop
+mul-follow-2 c =
+    let loop = c .before .before .before .before .before .before .before .before .before .loop in
+    let test = c .before .before .before .before .before .before .before .before .loop-test in
+    let pre = c .before .before .before .before .before .before .before .before .before .before .before .before .before .before .before .before .pre in
+    let n = pre .5 .next (loop .follow - 1) (omega (arith, loop .inv .high, test .taken)) in
+    omega (arith, loop .inv .high, pre .1)
+
+shared-slice-read-follow-2 : tie.Need-shared-slice-read-follow-2 Inv-loop μ-loop
+shared-slice-read-follow-2 c =
+    let loop = c .before .before .before .before .before .before .before .before .before .before .loop in
+    let test = c .before .before .before .before .before .before .before .before .before .loop-test in
+    let pre = c .before .before .before .before .before .before .before .before .before .before .before .before .before .before .before .before .before .pre in
+    let n = pre .5 .next (loop .follow - 1) (omega (arith, loop .inv .high, test .taken)) in
+    omega (arith, loop .inv .high, test .taken, pre .5 .nextsLong, pre .1)
+
+cast-follow-2 : tie.Need-cast-follow-2 Inv-loop μ-loop
+cast-follow-2 c =
+    let loop = c .before .before .before .before .before .before .before .before .before .before .loop in
+    let test = c .before .before .before .before .before .before .before .before .before .loop-test in
+    let pre = c .before .before .before .before .before .before .before .before .before .before .before .before .before .before .before .before .before .pre in
+    let n = pre .5 .next (loop .follow - 1) (omega (arith, loop .inv .high, test .taken)) in
+    omega (arith, n .high, loop .inv .high, pre .1)
 
 loop-less : tie.Need-loop-less Inv-loop μ-loop
 loop-less c =
-    let at9 = c .before .before .before .before .before .before .before .before .before in
-    let at10 = at9 .before in
-    let at17 = at10 .before .before .before .before .before .before .before in
-    let loop = at10 .loop in
-    let test = at9 .loop-test in
-    let n = at17 .pre .5 .next (loop .follow - 1) (omega (arith, loop .inv .high, test .taken)) in
-    omega (arith, n .high, c .place3 .ensures .0, test .taken)
+    let loop = c .before .before .before .before .before .before .before .before .before .before .loop in
+    let test = c .before .before .before .before .before .before .before .before .before .loop-test in
+    let pre = c .before .before .before .before .before .before .before .before .before .before .before .before .before .before .before .before .before .pre in
+    let n = pre .5 .next (loop .follow - 1) (omega (arith, loop .inv .high, test .taken)) in
+    omega (arith, n .high, test .taken)
 
 loop-again : tie.Need-loop-again Inv-loop μ-loop
 unfolding startOf
 loop-again c =
-    let at8 = c .before .before .before .before .before .before .before .before in
-    let at9 = at8 .before in
-    let at10 = at9 .before in
-    let at17 = at10 .before .before .before .before .before .before .before in
-    let loop = at10 .loop in
-    let test = at9 .loop-test in
-    let n = at17 .pre .5 .next (loop .follow - 1) (omega (arith, loop .inv .high, test .taken)) in
-    rw (c .place3 .ensures .0) (expanding-one _ _ _ _ _ _ _ (omega (arith, test .taken)) n (loop .inv) (rw (at8 .place2 .ensures .0) at (c .before .before .before .before .before .visit .ensures)))
+    let loop = c .before .before .before .before .before .before .before .before .before .before .loop in
+    let test = c .before .before .before .before .before .before .before .before .before .loop-test in
+    let pre = c .before .before .before .before .before .before .before .before .before .before .before .before .before .before .before .before .before .pre in
+    let n = pre .5 .next (loop .follow - 1) (omega (arith, loop .inv .high, test .taken)) in
+    expanding-one _ _ _ _ _ _ _ (omega (arith, test .taken)) n (loop .inv) (rw (c .before .before .before .before .before .before .before .before .place .ensures .0) at (c .before .before .before .before .before .visit .ensures))
 
 same-length : tie.Need-same-length Inv-loop μ-loop
-same-length c =
-    c .before .loop .inv .queued .stamped .long ∙ sym (c .before .before .before .before .before .before .before .before .pre .6 .stamped .long)
+same-length c = c .before .loop .inv .queued .stamped .long ∙ sym (c .before .before .before .before .before .before .before .before .pre .6 .stamped .long)
 
 same-length-2 : tie.Need-same-length-2 Inv-loop μ-loop
-same-length-2 c =
-    c .before .loop .inv .queued .queueLong ∙ sym (c .before .before .before .before .before .before .before .before .pre .6 .queueLong)
+same-length-2 c = c .before .loop .inv .queued .queueLong ∙ sym (c .before .before .before .before .before .before .before .before .pre .6 .queueLong)
 
 returns : tie.Need-returns Inv-loop μ-loop
 returns c = expanding-all _ _ _ _ _ _ _ (c .loop-test .left) (c .before .loop .inv)
@@ -67,13 +90,17 @@ expand-spec =
     (tie.spec
     Inv-loop
     μ-loop
-    (λ c κs. search needs)
+    mul-follow
+    shared-slice-read-follow
+    cast-follow
     loop-holds
     (λ c. search needs)
     (λ c. search needs)
     (λ c κs. search needs)
     visit-requires
-    (λ c κs. search needs)
+    mul-follow-2
+    shared-slice-read-follow-2
+    cast-follow-2
     loop-less
     loop-again
     same-length

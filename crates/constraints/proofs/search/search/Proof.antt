@@ -21,37 +21,39 @@ expand-requires c κs =
 
 loop-holds : tie.Need-loop-holds Inv-loop μ-loop
 loop-holds c =
-    let at12 = c .before .before .before .before .before .before .before .before .before .before .before .before in
-    let args = at12 .args in
-    let pre = at12 .pre in
+    let args = c .before .before .before .before .before .before .before .before .before .before .before .before .args in
+    let pre = c .before .before .before .before .before .before .before .before .before .before .before .before .pre in
     searching-start _ _ _ _ _ _ _ (none-marked (args .stamp) (now (args .marks)) (now (args .queue)) (pre .3) (pre .6) (pre .7)) (c .before .before .before .before .expand .ensures)
+
+mul-group : tie.Need-mul-group Inv-loop μ-loop
+mul-group c = omega (arith, tail-low (c .before .loop .inv .queued), c .loop-test .taken)
+
+slice-read-group : tie.Need-slice-read-group Inv-loop μ-loop
+slice-read-group c = omega (arith, tail-low (c .before .before .loop .inv .queued), c .before .before .loop .inv .queued .queueLong, c .before .loop-test .taken)
+
+cast-group : tie.Need-cast-group Inv-loop μ-loop
+cast-group c = omega (arith, queue-low (c .before .before .before .before .before .before .before .before .before .before .before .before .before .before .before .pre .3) (c .before .before .loop .inv .queued) (c .before .before .loop .done) (c .before .loop-test .taken))
 
 expand-requires-2 : tie.Need-expand-requires-2 Inv-loop μ-loop
 expand-requires-2 c κs =
-    let at18 = c .before .before .before .before .before .before .before .before .before .before .before .before .before .before .before .before .before .before in
-    let loop = c .before .before .before .before .before .loop in
-    let pre = at18 .pre in
-    (rw (c .before .before .place .ensures .0) (queue-low (pre .3) (loop .inv .queued) (loop .done) (c .before .before .before .before .loop-test .taken)), pre .1, pre .2, pre .3, pre .4, pre .5, loop .inv .queued)
+    let loop = c .before .before .before .before .loop in
+    let pre = c .before .before .before .before .before .before .before .before .before .before .before .before .before .before .before .before .before .pre in
+    (queue-low (pre .3) (loop .inv .queued) (loop .done) (c .before .before .before .loop-test .taken), pre .1, pre .2, pre .3, pre .4, pre .5, loop .inv .queued)
 
 add-done : tie.Need-add-done Inv-loop μ-loop
-add-done c =
-    omega (arith, tail-low (c .before .before .before .before .before .before .before .before .before .before .loop .inv .queued), c .before .before .before .before .before .before .before .before .before .loop-test .taken)
+add-done c = omega (arith, tail-low (c .before .before .before .before .before .before .before .before .before .loop .inv .queued), c .before .before .before .before .before .before .before .before .loop-test .taken)
 
 loop-less : tie.Need-loop-less Inv-loop μ-loop
-loop-less c =
-    omega (arith, tail-low (c .before .before .before .before .before .before .before .before .before .before .loop .inv .queued), c .before .before .before .before .before .before .before .before .before .loop-test .taken)
+loop-less c = omega (arith, tail-low (c .before .before .before .before .before .before .before .before .before .loop .inv .queued), c .before .before .before .before .before .before .before .before .loop-test .taken)
 
 loop-again : tie.Need-loop-again Inv-loop μ-loop
-loop-again c =
-    searching-one _ _ _ _ _ _ _ (c .before .before .before .before .before .before .before .before .before .loop-test .taken) (c .before .before .before .before .before .before .before .before .before .before .loop .inv) (rw (c .before .before .before .before .before .before .before .place .ensures .0) at (c .before .before .before .before .expand2 .ensures))
+loop-again c = searching-one _ _ _ _ _ _ _ (c .before .before .before .before .before .before .before .before .loop-test .taken) (c .before .before .before .before .before .before .before .before .before .loop .inv) (c .before .before .before .before .expand2 .ensures)
 
 same-length : tie.Need-same-length Inv-loop μ-loop
-same-length c =
-    c .before .loop .inv .queued .stamped .long ∙ sym (c .before .before .before .before .before .before .before .before .before .before .before .before .before .before .pre .6 .long)
+same-length c = c .before .loop .inv .queued .stamped .long ∙ sym (c .before .before .before .before .before .before .before .before .before .before .before .before .before .before .pre .6 .long)
 
 same-length-2 : tie.Need-same-length-2 Inv-loop μ-loop
-same-length-2 c =
-    c .before .loop .inv .queued .queueLong ∙ sym (c .before .before .before .before .before .before .before .before .before .before .before .before .before .before .pre .7)
+same-length-2 c = c .before .loop .inv .queued .queueLong ∙ sym (c .before .before .before .before .before .before .before .before .before .before .before .before .before .before .pre .7)
 
 returns : tie.Need-returns Inv-loop μ-loop
 returns c = searched _ _ _ _ _ _ _ (c .loop-test .left) (c .before .loop .inv)
@@ -64,7 +66,9 @@ search-spec =
     μ-loop
     expand-requires
     loop-holds
-    (λ c κs. search needs)
+    mul-group
+    slice-read-group
+    cast-group
     expand-requires-2
     add-done
     loop-less
