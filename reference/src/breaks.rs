@@ -1,7 +1,10 @@
-//! Does a list of rows break agreement? Judged by the definition alone, apart from any search.
+//! Does a list of rows break agreement, and does the request that a load adds? Judged by the definition alone, apart from the searches of agree.rs
+//! and reason.rs.
 //!
 //! Paper 3: the rows, upward, of one chain of constraints between two loaded requests that breaks agreement, in the store as it would be after
 //! the tried load. A tie may be walked either way, a subtype constraint from its lower name to its higher. No chain repeats a request.
+
+use std::collections::{BTreeMap, BTreeSet};
 
 use crate::agree::{entries, numbered, Added, Constraint};
 use crate::classes::Classes;
@@ -43,11 +46,64 @@ pub fn walked(start: Request, chain: &[Constraint]) -> Option<Vec<Request>> {
     Some(requests)
 }
 
+/// How a newcomer breaks agreement with other loaded requests.
+#[derive(Default)]
+pub struct Pairs {
+    /// It is tied to one of another class.
+    pub tied: bool,
+    /// It leads to one, not tied to it, whose class isn't its own or above.
+    pub out: bool,
+    /// One leads to it that isn't tied to it and whose class isn't its own or below.
+    pub into: bool,
+}
+
+impl Pairs {
+    pub fn is_any(&self) -> bool {
+        self.tied || self.out || self.into
+    }
+
+    /// Of the request that is added, by the definition.
+    pub fn of(store: &Store, added: &Added, classes: &Classes) -> Pairs {
+        let Some([loader, name, class]) = added.entry else {
+            return Pairs::default();
+        };
+        let all: Vec<Constraint> = numbered(store, added);
+        let ties: Vec<Constraint> = all.iter().copied().filter(|row| matches!(row, Constraint::Tie(_))).collect();
+        let upward = |rows: &[Constraint]| rows.iter().flat_map(|&row| ways(row)).collect::<Vec<_>>();
+        let downward: Vec<_> = upward(&all).into_iter().map(|(from, to)| (to, from)).collect();
+        let tied = led((loader, name), &upward(&ties));
+        let meets = |led: BTreeSet<Request>, is_bad: &dyn Fn(u16) -> bool| {
+            led.into_iter().any(|at| loaded(store, added, at).is_some_and(is_bad))
+        };
+        let apart = |led: BTreeSet<Request>| led.difference(&tied).copied().collect();
+        Pairs {
+            out: meets(apart(led((loader, name), &upward(&all))), &|other| !classes.below(class, other)),
+            into: meets(apart(led((loader, name), &downward)), &|other| !classes.below(other, class)),
+            tied: meets(tied, &|other| other != class),
+        }
+    }
+}
+
+/// The requests that one leads to by these steps, itself among them.
+fn led(start: Request, steps: &[(Request, Request)]) -> BTreeSet<Request> {
+    let mut next: BTreeMap<Request, Vec<Request>> = BTreeMap::new();
+    steps.iter().for_each(|&(from, to)| next.entry(from).or_default().push(to));
+    let (mut led, mut left) = (BTreeSet::from([start]), vec![start]);
+    while let Some(here) = left.pop() {
+        left.extend(next.get(&here).into_iter().flatten().filter(|&&to| led.insert(to)));
+    }
+    led
+}
+
+/// The class of a request that is loaded.
+fn loaded(store: &Store, added: &Added, (loader, name): Request) -> Option<u16> {
+    entries(store, added).find(|row| (row[0], row[1]) == (loader, name)).map(|row| row[2])
+}
+
 /// Are both ends loaded, and do their classes break agreement: two classes, if ties alone join them, or a first that isn't the last or below?
 fn ends_break(store: &Store, added: &Added, classes: &Classes, requests: &[Request], chain: &[Constraint]) -> bool {
-    let class = |(loader, name)| entries(store, added).find(|row| (row[0], row[1]) == (loader, name)).map(|row| row[2]);
-    let ends = (class(requests[0]), class(requests[requests.len() - 1]));
-    let (Some(first), Some(last)) = ends else {
+    let ends = [requests[0], requests[requests.len() - 1]].map(|at| loaded(store, added, at));
+    let [Some(first), Some(last)] = ends else {
         return false;
     };
     let is_tied = chain.iter().all(|constraint| matches!(constraint, Constraint::Tie(_)));

@@ -252,7 +252,8 @@ impl Comparison {
             (chain, large::chain_record()), (grid, large::grid_record()), (usual.clone(), large::usual_define()),
             (usual, large::usual_record()), (large::posting(), Call::Step),
         ];
-        let reasons = [large::longest_reason(), large::grid_reason()];
+        let (clashing, [first, last]) = large::chain_clashes();
+        let reasons = [large::longest_reason(), large::grid_reason(), (clashing.clone(), first), (clashing, last)];
         let held = [large::Held::Upward, large::Held::Downward, large::Held::ByFrames, large::Held::Nothing];
         let swept = held.map(|held| (large::objects(held), Call::Sweep));
         let made = [false, true].map(|freed| (large::making(freed), run.clone()));

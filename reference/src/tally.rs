@@ -4,7 +4,7 @@ use std::fmt;
 
 use crate::agree::{numbered, Constraint};
 use crate::answer::{word, Answer, Reply};
-use crate::breaks::{walked, ways};
+use crate::breaks::{walked, ways, Pairs};
 use crate::code::op;
 use crate::gen::reach::{reached, Without, LEFT_OUT};
 use crate::gen::{Call, CALLS};
@@ -74,9 +74,11 @@ pub struct Found {
     has_subtypes: bool,
     has_newcomer: bool,
     is_loaded_throughout: bool,
+    /// How the newcomer breaks agreement, by this chain or another.
+    newcomer: Pairs,
 }
 
-pub const REASONS: [Reason; 8] = [
+pub const REASONS: [Reason; 12] = [
     ("stored rows alone", |found| found.rows.iter().all(|&row| usize::from(row) < found.stored)),
     ("own rows alone", |found| found.rows.iter().all(|&row| usize::from(row) >= found.stored)),
     ("own and stored rows", |found| {
@@ -87,6 +89,10 @@ pub const REASONS: [Reason; 8] = [
     ("both kinds", |found| found.has_ties && found.has_subtypes),
     ("no newcomer", |found| !found.has_newcomer),
     ("an unloaded middle", |found| !found.is_loaded_throughout),
+    ("a newcomer tied to another class", |found| found.newcomer.tied),
+    ("a newcomer that leads out of its superclasses", |found| found.newcomer.out),
+    ("a newcomer led to by what isn't below it", |found| found.newcomer.into),
+    ("pairs without the newcomer alone", |found| !found.newcomer.is_any()),
 ];
 
 impl Found {
@@ -107,6 +113,7 @@ impl Found {
             has_subtypes: !walked_rows.iter().all(is_tie),
             has_newcomer: requests.contains(&newcomer),
             is_loaded_throughout: requests.iter().all(|&at| at == newcomer || store.cached(at.0, at.1).is_some()),
+            newcomer: Pairs::of(store, &added, &plan.classes),
         })
     }
 }

@@ -4,7 +4,7 @@ use std::collections::BTreeSet;
 
 use reference::agree::{agrees, numbered, Added, Constraint};
 use reference::answer::{denied, word, Reply};
-use reference::breaks::breaks;
+use reference::breaks::{breaks, Pairs};
 use reference::broken::unbroken;
 use reference::classes::Classes;
 use reference::gen::build::{Code, Draft};
@@ -84,15 +84,24 @@ fn loads_of_lists_and_damaged_stores() {
 #[test]
 fn clashes_at_random() {
     let (mut clashes, mut longest, mut agreeing) = (0, 0, 0);
+    // How the newcomer breaks agreement: tied, out of it, into it, not at all.
+    let mut ways = [0; 4];
     for seed in 0..20_000 {
         let (store, call) = clash(seed);
         let rows = tried(&store, &call, 512, &format!("clash {seed}")).map_or(0, |rows| rows.len());
         clashes += u64::from(rows > 0);
         longest = longest.max(rows);
-        agreeing += u64::from(rows == 0 && call.plan(&store).is_some());
+        let Some(plan) = call.plan(&store) else {
+            continue;
+        };
+        agreeing += u64::from(rows == 0);
+        let newcomer = Pairs::of(&store, &plan.added(), &plan.classes);
+        assert!(rows > 0 || !newcomer.is_any(), "clash {seed}: a pair breaks agreement, and the load agrees");
+        let found = [newcomer.tied, newcomer.out, newcomer.into, rows > 0 && !newcomer.is_any()];
+        ways.iter_mut().zip(found).for_each(|(loads, is)| *loads += u64::from(is));
     }
-    println!("{clashes} clash, {agreeing} would agree, the longest chain has {longest} rows");
-    assert!(clashes > 4_000 && agreeing > 1_000 && longest > 400);
+    println!("{clashes} clash, {agreeing} would agree, the longest chain has {longest} rows, newcomers in pairs {ways:?}");
+    assert!(clashes > 4_000 && agreeing > 1_000 && longest > 400 && ways.iter().all(|&loads| loads > 300), "{ways:?}");
 }
 
 #[test]

@@ -3,7 +3,7 @@ mod posting; // posting.rt: rows added to the tables of ties and of subtype cons
 mod joining; // joining.rt: places joined into lists by a key
 mod numbering; // numbering.rt: the requests of a store as numbers and as nodes
 mod grouping; // grouping.rt: groups of tied requests
-mod search; // search.rt: the search from a cached request, over groups
+mod search; // search.rt: a search over groups, along links or against them
 mod upward; // upward.rt: the classes above a class
 mod pairs; // pairs.rt: whether a pair of requests breaks agreement
 mod looking; // looking.rt: whose turn it is to be looked at, and where

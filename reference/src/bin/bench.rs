@@ -7,7 +7,7 @@
 use std::time::{Duration, Instant};
 
 use reference::gen::large::{
-    chain, chain_define, chain_record, full, grid, grid_reason, grid_record, long_files, longest_reason, looping, making, objects, posting, tall_tree, tree, usual,
+    chain, chain_clashes, chain_define, chain_record, full, grid, grid_reason, grid_record, long_files, longest_reason, looping, making, objects, posting, tall_tree, tree, usual,
     usual_define, usual_record, Held, Repeated, Round,
 };
 use reference::gen::{Call, Trial};
@@ -158,6 +158,8 @@ fn steps() -> Vec<Case> {
 
 fn loads() -> Vec<Case> {
     let empty = Trial::ready([1]).store;
+    let (clashing, [first, last]) = chain_clashes();
+    let (grid_store, grid_define) = grid_reason();
     vec![
         Case::new("record, after boot", Trial::booted().store, Call::Record { loader: 1, name: 2, class: 0 }),
         Case::new("define, Object alone", empty, Call::Define { loader: 1, file: reference::gen::cases::f().file() }),
@@ -166,6 +168,9 @@ fn loads() -> Vec<Case> {
         Case::new("record, longest chain", chain(256, 256), chain_record()),
         Case::new("define, longest chain", chain(256, 256), chain_define()),
         Case::new("record, grid", grid(), grid_record()),
+        Case::new("define, longest chain, clash out of it", clashing.clone(), first),
+        Case::new("define, longest chain, clash into it", clashing, last),
+        Case::new("define, grid, clash", grid_store, grid_define),
     ]
 }
 

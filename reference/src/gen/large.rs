@@ -7,7 +7,7 @@ use super::loops::repeating;
 use super::rng::Rng;
 use super::{Call, Trial};
 use crate::broken::unbroken;
-use crate::store::{cell, count, frame_base, Store, Value, INT, MOST_OBJECTS, MOST_ROWS, OPERANDS};
+use crate::store::{cell, count, frame_base, Store, Value, INT, MOST_OBJECTS, MOST_ROWS, OPERANDS, ROW};
 use crate::task::make_object;
 
 /// The class of the trees, and of the upper half of the tall one.
@@ -112,6 +112,15 @@ pub fn chain_record() -> Call {
     Call::Record { loader: 0, name: CHAIN.into(), class: 1 }
 }
 
+/// The longest chain, with a class that is there in Object's place, and defines that clash with all of its loaded requests: of its first one, which
+/// leads to them, and of its last one, to which they lead.
+pub fn chain_clashes() -> (Store, [Call; 2]) {
+    let mut store = chain(256, 256);
+    let loaded = store.count(count::CACHE);
+    store.cache.chunks_mut(ROW).take(loaded).filter(|row| row[1] > CHAIN).for_each(|row| row[2] = 1);
+    (store, [CHAIN, CHAIN + 256].map(|name| Call::Define { loader: 0, file: Draft::new(name).file() }))
+}
+
 /// 16 names under 16 loaders, each name's class below the next's; 256 ties and 256 subtype constraints lead from every request of a name to
 /// every one of the higher names. All but two are loaded, which makes 255 entries; `grid_record` loads one more.
 pub fn grid() -> Store {
@@ -143,8 +152,8 @@ pub fn longest_reason() -> (Store, Call) {
     long_chain(&mut Rng::new(512), MOST_ROWS)
 }
 
-/// The grid, and a define that loads its last request but one by a class of its own: it is below all that the higher names mean, and only the
-/// ties of its name break agreement.
+/// The grid, and a define that loads its last request but one by a class of its own: it is below all that the higher names mean. The ties of its
+/// name break agreement, and so do the lower names, which lead to it.
 pub fn grid_reason() -> (Store, Call) {
     let name = GRID + 7;
     (grid(), Call::Define { loader: 7, file: Draft::new(name).under(name - 1).file() })
@@ -334,7 +343,8 @@ pub fn long_files() -> [(&'static str, Vec<u8>); 3] {
 mod tests {
     use super::*;
     use crate::agree::{agrees, Added};
-    use crate::answer::{Answer, Reply};
+    use crate::answer::{denied, word, Answer, Reply};
+    use crate::breaks::Pairs;
 
     fn sound(store: &Store, label: &str) {
         let classes = unbroken(store).unwrap_or_else(|| panic!("{label}: broken"));
@@ -351,6 +361,21 @@ mod tests {
         }
         let call = grid_record().tried(MOST_ROWS).expect("a load");
         assert_eq!(call.apply(&mut grid()), Reply::Accepted);
+    }
+
+    #[test]
+    fn clashes_have_the_newcomer() {
+        let (chain, [first, last]) = chain_clashes();
+        let (grid, tied) = grid_reason();
+        for (mut store, load, ways) in
+            [(chain.clone(), first, [false, true, false]), (chain, last, [false, false, true]), (grid, tied, [true, false, true])]
+        {
+            sound(&store, "a clash");
+            let plan = load.plan(&store).expect("a plan");
+            let found = Pairs::of(&store, &plan.added(), &plan.classes);
+            assert_eq!([found.tied, found.out, found.into], ways);
+            assert_eq!(load.apply(&mut store), denied(word::CLASH));
+        }
     }
 
     #[test]
