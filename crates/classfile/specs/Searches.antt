@@ -106,11 +106,6 @@ slot-is c n t f = rw (eq-eqb c c refl)
 pub own-index : (c n t : ℕ) (fs : List Field) → indexOf (slotIs c n t) (map (slotOf c) fs) ≡ indexOf (fieldIs n t) fs
 own-index c n t fs = index-map (slotIs c n t) (fieldIs n t) (slotOf c) (slot-is c n t) fs
 
--- a slot of a name
-pub own-named : (c n : ℕ) (fs : List Field) → any (λ s. eqb (s .name) n) (map (slotOf c) fs) ≡ any (fieldNamed n) fs
-unfolding fieldNamed
-own-named c n fs = any-map (λ s. eqb (s .name) n) (fieldNamed n) (slotOf c) (λ f. refl) fs
-
 module _ (b : Base) (c : ℕ) (k : Class) (h : getElem? (b .classes) c ≡ some k) where
   pub own-slots : ownSlots b c ≡ map (slotOf c) (k .fields)
   unfolding ownSlots

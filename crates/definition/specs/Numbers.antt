@@ -26,6 +26,7 @@ wordUnverified = 6
 abbrev pub wordAbsent : ℕ
 wordAbsent = 7
 
+-- the first document's define gave it for a field name that a superclass has; paper 6 allows that, and the number stays reserved
 abbrev pub wordHidden : ℕ
 wordHidden = 8
 
