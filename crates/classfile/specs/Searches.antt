@@ -8,7 +8,7 @@ use Prim.Native.Nat.{ℕ, _+_, _≤_, _<_}
 use native.Mathlib.Nat.{zero-add}
 use native.Mathlib.Omega.{arith}
 use lib.ListN.{length, take, drop, getElem?}
-use lib.Dec.{eqb, leb}
+use lib.Dec.{leb}
 use borrow.Author.Tests.{lt-ltb, le-ltb, eq-eqb, le-leb, lt-leb}
 use Rattle.definition.specs.Lists.{any, indexOf, isSome}
 use Rattle.definition.specs.Maybe.{_>>=_, need}
@@ -20,7 +20,7 @@ use Rattle.layout.specs.ReadBack.{empty-file}
 use Rattle.classfile.specs.declared.FieldFound.{FieldFound}
 use Rattle.classfile.specs.declared.MethodFound.{MethodFound}
 use Rattle.classfile.specs.Lists.{le-or-lt, shift, shift-some, any-index, any-map, index-map}
-use Rattle.classfile.specs.Reading.{methodCount, methodAt, methodPlace, methodIn, quickMethods, fieldIs, fieldNamed, fieldFound, methodFound, numbered, partOf}
+use Rattle.classfile.specs.Reading.{methodCount, methodAt, methodPlace, methodIn, quickMethods, fieldIs, fieldFound, methodFound, numbered, partOf}
 
 -- Fields
 

@@ -21,7 +21,7 @@ use Rattle.definition.specs.Loading.{define, withClass}
 use Rattle.definition.specs.Reasons.{afterDefine}
 use Rattle.laws.specs.Options.{bind-at}
 use Rattle.laws.specs.Refusals.{Refuses, on-test, on-take}
-use Rattle.laws.specs.Results.{bind-ok, ok-inj, take-ok}
+use Rattle.laws.specs.Results.{bind-ok, take-ok}
 use Rattle.classfile.specs.declared.MethodFound.{MethodFound}
 use Rattle.classfile.specs.Reading.{fileVersion, methodCount, methodPlace, methodIn, methodAt, methodFound, numbered, quickMethods, quickFile}
 use Rattle.classfile.specs.Searches.{numbered-in, method-at, method-absent}

@@ -27,6 +27,7 @@ pub mod Posted
 pub mod Objects
 pub mod Sweeps
 pub mod Stable
+pub mod FieldPlaces
 pub mod Refusals
 pub mod Tried
 pub mod Causes

@@ -8,7 +8,7 @@ use Rattle.definition.specs.Classes.{find, superOf}
 use Rattle.definition.specs.Constraints.{Agrees, Tie, World, edges, subtypeEdges, tieEdges}
 use Rattle.definition.specs.Chains.{Chain, Edge, stay}
 use Rattle.definition.specs.Requests.{Request, at}
-use Rattle.definition.specs.Superclasses.{Below, Falls, nearest, same, up}
+use Rattle.definition.specs.Superclasses.{Below, nearest, same, up}
 use Rattle.laws.specs.Agreement.{super-falls}
 use Rattle.laws.specs.Chains.{chain-join, chain-more, chain-turn, turned}
 use Rattle.laws.specs.Upward.{below-more, below-trans, nearest-below, nearest-finds, nearest-here, nearest-up}

@@ -22,3 +22,4 @@ pub mod Lasting
 pub mod Resolution
 pub mod Waiting
 pub mod Rates
+pub mod HiddenFields
