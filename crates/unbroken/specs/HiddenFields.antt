@@ -1,17 +1,16 @@
 -- Hidden fields, paper 6, on tables. A field of an object goes by the class that resolution found, whatever the object's own class is: a getfield reads it (`getfield-reads`), a putfield writes it and no other
--- (`putfield-writes`), so that the one reads what the other wrote (`written-read`) and no access by another class, name or type changes or sees it (`others-apart`). An object that exists has a field for each class that
--- declares one, at or above its own (`holds-each`), at most 16 in all (`sixteen-in-all`). No call answers 8 (`never-hidden`, `run-never-hidden`).
+-- (`putfield-writes`). An object that exists has a field for each class that declares one, at or above its own (`holds-each`), at most 16 in all (`sixteen-in-all`). No call answers 8 (`never-hidden`,
+-- `run-never-hidden`).
 use mathlib.Core.Path.{_≡_, refl, sym, ap, _∙_, subst}
 use mathlib.Core.Bool.{Bool, true, false, false≢true}
 use mathlib.Core.Option.{Option, none, some, Option·none-ne-some, Option·some-injective}
 use mathlib.Core.List.{List, _∷_}
-use mathlib.Core.Logic.{_⊎_, inl, inr}
-use Prim.Native.Nat.{ℕ, suc, _≤_, _<_}
+use mathlib.Core.Logic.{inl, inr}
+use Prim.Native.Nat.{ℕ, _≤_, _<_}
 use native.Mathlib.Omega.{arith}
 use lib.ListN.{length, getElem?, set}
 use lib.Dec.{eqb}
 use Rattle.definition.specs.declared.Refusal.{Refusal}
-use Rattle.definition.specs.declared.Reply.{Reply}
 use Rattle.definition.specs.declared.Reply.the-variants.{RanFor}
 use Rattle.definition.specs.declared.Answer.the-variants.{Ran, Refused}
 use Rattle.definition.specs.declared.Instruction.{Instruction}
@@ -25,16 +24,16 @@ use Rattle.definition.specs.Classes.{Base, Class, find, hasField, slots, superO
 use Rattle.definition.specs.Constraints.{World}
 use Rattle.definition.specs.Instructions.{Decoded}
 use Rattle.definition.specs.Machine.{Value, objectValue, Object, Objects, existing, changed, Frame, Progress, Now, past, execute}
-use Rattle.definition.specs.Tables.{Tables, Rows, worldOf, sizeOf, framesIn, view}
+use Rattle.definition.specs.Tables.{Tables, worldOf, sizeOf, framesIn, view}
 use Rattle.definition.specs.Broken.{broken}
 use Rattle.definition.specs.Calls.{stepRefusals, loadDefine, loadRecord, loadRefusals, rowDefine, rowRecord, rowStart, rowDrop, rowSweep, rowTry, rowRefusals, Call, callBoot, callRows, callStep, callRun, refusalsOf, perform, stepTables, turn}
 use Rattle.definition.specs.Answers.{ok, number, numberOf}
 use Rattle.laws.specs.Agreement.{super-falls}
-use Rattle.laws.specs.FieldPlaces.{placeOf, Stands, place-slot, places-apart}
+use Rattle.laws.specs.FieldPlaces.{placeOf, place-slot, places-apart}
 use Rattle.laws.specs.Growth.{nth-lt}
-use Rattle.laws.specs.Members.{FieldPlace, field-place}
+use Rattle.laws.specs.Members.{field-place}
 use Rattle.laws.specs.Objects.{changed-there, changed-keeps, changed-from}
-use Rattle.laws.specs.Options.{some-bind, bind-some, set-there, set-apart}
+use Rattle.laws.specs.Options.{some-bind, set-there, set-apart}
 use Rattle.laws.specs.Refusals.{due-listed}
 use Rattle.laws.specs.Refused.{refusal, refused-listed, run-refusal}
 use Rattle.laws.specs.Results.{take-ok}
@@ -176,11 +175,11 @@ module _ (task : ℕ) (w : World) (os : Objects) (f : Frame) (fs : List Frame) (
         kept = λ _ _ _ _. refl;
       })))))))
 
-  abbrev PutRows : Progress → Type 0
+  abbrev pub PutRows : Progress → Type 0
   PutRows o = Put (w .base) (k .loader) f fs i c n t (fieldIn (w .base) os) (fieldIn (w .base) (o .objects)) (o .frames)
 
   -- where each object has as many values as its class has fields
-  put-rows : ((o : ℕ) (x : Object) → existing os o ≡ some x → length (x .values) ≡ sizeOf (w .base) (x .class)) → Ok (execute task w os f fs k i (Putfield c n t)) PutRows
+  pub put-rows : ((o : ℕ) (x : Object) → existing os o ≡ some x → length (x .values) ≡ sizeOf (w .base) (x .class)) → Ok (execute task w os f fs k i (Putfield c n t)) PutRows
   unfolding execute
   put-rows sized = then PutRows _ _ (λ e ce. then PutRows _ _ (λ d cd. then PutRows _ _ (λ v _. then PutRows _ _ (λ p cp. then PutRows _ _ (λ q cq. then PutRows _ _ (λ _ _. then PutRows _ _ (λ o co. then PutRows _ _ (λ j cj.
       let r = receiver-is (w .base) os e (q .top) o co in
@@ -222,17 +221,6 @@ module _ (t : Tables) (f : Frame) (fs : List Frame) (n : Now) (c x y k : ℕ) (t
       (ok-at (PutRows (turn (view t)) (worldOf (view t)) (view t .objects) f fs (n .theClass) (n .at) c x y) _
       (put-rows (turn (view t)) (worldOf (view t)) (view t .objects) f fs (n .theClass) (n .at) c x y (λ p z h. object-at _ _ _ (view t .objects) (w .objects) p z h .size)) o
       (subst (λ (i : Instruction). execute (turn (view t)) (worldOf (view t)) (view t .objects) f fs (n .theClass) (n .at) i ≡ ok o) e q)))
-
--- what a putfield wrote, a getfield of the same class, name and type reads from the same object
-pub written-read : (b d : Base) (l m : ℕ) (f g : Frame) (fs gs hs is : List Frame) (i j : Decoded) (c e n t : ℕ) (before after last : ℕ → ℕ → ℕ → ℕ → Option Value)
-    (p : Put b l f fs i c n t before after hs) (q : Got d m g gs j e n t after last is) → q .object ≡ p .object → q .declarer ≡ p .declarer → q .value ≡ p .value
-written-read b d l m f g fs gs hs is i j c e n t before after last p q o r = Option·some-injective _ _ (sym (q .sees) ∙ ((λ z. after (o z) (r z) n t) ∙ p .written))
-
--- and any other reads what it would have read before
-pub others-apart : (b d : Base) (l m : ℕ) (f g : Frame) (fs gs hs is : List Frame) (i j : Decoded) (c e n t x y : ℕ) (before after last : ℕ → ℕ → ℕ → ℕ → Option Value)
-    (p : Put b l f fs i c n t before after hs) (q : Got d m g gs j e x y after last is) → (SameField (q .object) (q .declarer) x y (p .object) (p .declarer) n t → ⊥)
-    → before (q .object) (q .declarer) x y ≡ some (q .value)
-others-apart b d l m f g fs gs hs is i j c e n t x y before after last p q h = sym (p .kept (q .object) (q .declarer) x y h) ∙ q .sees
 
 -- An object that exists has a field for each class that declares one, at or above its own
 pub holds-each : (t : Tables) → broken t ≡ false → (o : ℕ) (x : Object) → existing (view t .objects) o ≡ some x → (d n u : ℕ) → Below (superOf (worldOf (view t) .base)) (x .class) d

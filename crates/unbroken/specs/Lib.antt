@@ -23,3 +23,4 @@ pub mod Resolution
 pub mod Waiting
 pub mod Rates
 pub mod HiddenFields
+pub mod FieldsLast
