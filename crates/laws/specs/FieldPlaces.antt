@@ -41,8 +41,7 @@ pub places-apart : (b : Base) (c d n t e m u i j : ℕ) → Below (superOf b) c 
 places-apart b c d n t e m u i j x y p q z =
     let f = place-slot b c d n t i x p in
     let g = place-slot b c e m u j y q in
-    let s : f .slot ≡ g .slot = Option·some-injective (f .slot) (g .slot) (sym (f .isSlot) ∙ (ap (getElem? (slots b c)) z ∙ g .isSlot)) in
-    (
+    let s : f .slot ≡ g .slot = Option·some-injective (f .slot) (g .slot) (sym (f .isSlot) ∙ (ap (getElem? (slots b c)) z ∙ g .isSlot)) in (
       sym (f .owner) ∙ (ap (λ (r : Slot). r .owner) s ∙ g .owner),
       sym (f .name) ∙ (ap (λ (r : Slot). r .name) s ∙ g .name),
       sym (f .type) ∙ (ap (λ (r : Slot). r .type) s ∙ g .type),

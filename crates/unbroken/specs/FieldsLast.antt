@@ -126,19 +126,19 @@ module _ (t : Tables) (o d n u : ℕ) (v : Value) (h : fieldOf t o d n u ≡ som
           → PutRows 0 (worldOf (view t)) (view t .objects) f fs (m .theClass) (m .at) c x y q → (fieldIn (worldOf (view t) .base) (q .objects) o d n u ≡ some v) ⊎ Writes t o d n u
       put f fs m q c x y r i p = elim (same-field o d n u (p .object) (p .declarer) x y) [
         | inl s ↦ inr (record {
-            frame = f;
-            others = fs;
-            reads = m;
-            turns = r;
-            class = c;
-            puts = i ∙ (λ z. Putfield c (sym (s .2) z) (sym (s .3) z));
-            resolved = subst (λ (e : ℕ). Resolved (worldOf (view t) .base) (m .theClass .loader) c n u e) (sym (s .1))
-                (subst (λ (e : ℕ). Resolved (worldOf (view t) .base) (m .theClass .loader) c n e (p .declarer)) (sym (s .3))
-                (subst (λ (e : ℕ). Resolved (worldOf (view t) .base) (m .theClass .loader) c e y (p .declarer)) (sym (s .2)) (p .resolved)));
-            value = p .value;
-            rest = p .others;
-            operands = p .operands ∙ ap (λ (e : ℕ). p .value ∷ objectValue e ∷ p .others) (sym (s .0));
-          })
+          frame = f;
+          others = fs;
+          reads = m;
+          turns = r;
+          class = c;
+          puts = i ∙ (λ z. Putfield c (sym (s .2) z) (sym (s .3) z));
+          resolved = subst (λ (e : ℕ). Resolved (worldOf (view t) .base) (m .theClass .loader) c n u e) (sym (s .1))
+              (subst (λ (e : ℕ). Resolved (worldOf (view t) .base) (m .theClass .loader) c n e (p .declarer)) (sym (s .3))
+              (subst (λ (e : ℕ). Resolved (worldOf (view t) .base) (m .theClass .loader) c e y (p .declarer)) (sym (s .2)) (p .resolved)));
+          value = p .value;
+          rest = p .others;
+          operands = p .operands ∙ ap (λ (e : ℕ). p .value ∷ objectValue e ∷ p .others) (sym (s .0));
+        })
         | inr s ↦ inl (p .kept o d n u s ∙ h)
       ]
 
