@@ -3,8 +3,7 @@ use mathlib.Core.Path.{_≡_, refl}
 use mathlib.Core.Bool.{true, false}
 use mathlib.Core.List.{List, [], _∷_, _++_}
 use mathlib.Core.Logic.{inl}
-use Prim.Native.Nat.{ℕ, zero, suc}
-use lib.ListN.{length}
+use Prim.Native.Nat.{ℕ}
 use lib.IntN.{pos}
 use Rattle.definition.specs.Lists.{every, all, any, doubled, indexOf, isSome, isNone, toList}
 use Rattle.definition.specs.Maybe as Maybe
@@ -25,31 +24,14 @@ use Rattle.definition.specs.Tables.{Tables, subtype, fileAt, classAt}
 use Rattle.definition.specs.declared.Reply.the-variants.{Accepted}
 use Rattle.definition.specs.Calls.{Call, boot, callDefine, callRecord, callStart, callStep, callRun, turn, turnOf, defineRows, recordRows, startRows, dropRows, sweepRows, answerOf, stepTask, stepOn, stepRows}
 use Rattle.definition.specs.Computing.OnRows.{settle, onRows, runRows, performRows, performAllRows}
-use Rattle.definition.specs.Computing.Samples.{fileF, two, method, fileOf, plain, taker, coded, lifts, pushes, ready, tied12, tied123}
+use Rattle.definition.specs.Computing.Samples.{fileF, two, method, ints, fielded, into, from, fileOf, plain, taker, coded, lifts, pushes, ready, tied12, tied123}
 use Rattle.cases.specs.Cases.{Case, case, line, class, no, numbersFrom, accepted, Right}
 use Rattle.cases.specs.Computed.{rowsBefore, rowsAfter, answeredRows, size, same, other, Computed}
 use Rattle.cases.specs.Proved.{right}
 
--- k fields of type int, their names from n on
-unfoldable pub ints : ℕ → ℕ → List ℕ
-ints zero n = []
-ints (suc k) n = two n ++ two 1 ++ ints k (suc n)
-
--- a class of name n below s with f fields and k methods
-unfoldable pub fielded : ℕ → ℕ → ℕ → List ℕ → ℕ → List ℕ → List ℕ
-fielded n s f fs k ms = let body = two n ++ two s ++ (f ∷ fs) ++ (k ∷ ms) in 1 ∷ two (length body) ++ body
-
 -- the shared class 10, whose field 5 is an int
 unfoldable pub policy : List ℕ
 policy = fielded 10 2 1 (ints 1 5) 0 []
-
--- code: the int v into this one's field 5 of class c, 3 steps; an int out of it, 2 steps
-
-unfoldable pub into : ℕ → ℕ → List ℕ
-into c v = 0x19 ∷ 0 ∷ 0x11 ∷ two v ++ (0xB5 ∷ two c) ++ two 5 ++ two 1
-
-unfoldable pub from : ℕ → List ℕ
-from c = 0x19 ∷ 0 ∷ 0xB4 ∷ two c ++ two 5 ++ two 1
 
 -- class 11 below 10 with a field 5 of its own: a in the shared one, b in its own, and class c's is read: 8 steps and the return
 unfoldable pub insured : ℕ → ℕ → ℕ → List ℕ

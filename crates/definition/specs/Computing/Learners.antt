@@ -11,17 +11,17 @@ use Rattle.definition.specs.Constraints.{tieEdges, subtypeEdges, edges, 
 use Rattle.definition.specs.File.{byte, short, name, count, fieldsIn, signatureIn, namesIn, mapIn, mapsFrom, mapsIn, methodsIn, ends, sameField, sameMethod, readFile}
 use Rattle.definition.specs.Instructions.{pick, opcodeOf, inlineLength, shortAt, extend, instructionOf, sizedAs, decode}
 use Rattle.definition.specs.Verifier.{typeOfName, meetClass, meetInt, meets, meetKind, pop, effect, returns, returnKind, target, goesOn, mapAt, localType, meetLocal, meetAll, meetMap, flowInto, flowToTarget, startAt, after, turn, mapsPast, verify, typesAt, unmappedFrom, unmapped, notesOfMethod, notesOf}
-use Rattle.definition.specs.Machine.{existing, unused, roomless, initialValue, newObject, pop!, int!, reference!, ofKind!, kind!, compute, jumps, room!, object!, now, under!, give, execute, step}
+use Rattle.definition.specs.Machine.{objectHeld, existing, unused, made, rewritten, changed, roomless, initialValue, newObject, pop!, int!, reference!, ofKind!, kind!, compute, jumps, room!, object!, now, under!, give, execute, step}
 use Rattle.definition.specs.Loading.{subtypeIs, newSubtypes, overrideTie, overrideTies, define, recorded, started}
 use Rattle.definition.specs.Tables.{fileAt, classAt}
 use Rattle.definition.specs.Calls.{defineRows, recordRows, startRows, dropRows, answerOf, stepTask, stepOn, stepRows, carried}
 use Rattle.definition.specs.Answers.{refused, number, numberOfStep, numberOf, _>>=_, need, take?}
 use Rattle.definition.specs.Computing.OnRows.{settle, onRows, runRows, performRows, performAllRows}
-use Rattle.definition.specs.Computing.Samples.{two, method, fileOf, plain, fileF, taker, coded, lifts, pushes, ready, tied12, tied123}
+use Rattle.definition.specs.Computing.Samples.{two, method, ints, fielded, into, from, fileOf, plain, fileF, taker, coded, lifts, pushes, ready, tied12, tied123}
 use Rattle.definition.specs.Maybe as Maybe
-use Rattle.definition.specs.Answers.{Refusal, Denied}
+use Rattle.definition.specs.Answers.{Refusal, Finished, Accepted, Defined, RanFor, Denied}
 use Rattle.definition.specs.Tables.{Tables, rowNumbers}
-use Rattle.definition.specs.Calls.{bootRows, numberedOn, Call, callDefine, callRecord, callStart}
+use Rattle.definition.specs.Calls.{bootRows, numberedOn, Call, callDefine, callRecord, callStart, callRun}
 
 -- the numbers of the answers to the calls, from a boot
 unfoldable numbers : List Call → List ℕ
@@ -67,3 +67,14 @@ names = refl
 refused-leaves : (t : Tables) (w : Refusal) → carried Denied t (refused w) ≡ record { answer = Denied w; tables = t }
 unfolding carried
 refused-leaves t w = refl
+
+-- A field goes by the class that resolution finds, by name and type: 42 is below 41 below 40, all with a field 5, 42's of type 40. 9 goes into 40's and 4 into 41's, through an object of class 42; then 40's is read, and
+-- by class 42 the nearest int, 41's: 9 − 4
+hiding : List Call
+hiding = ready ++ callDefine 1 (fielded 40 2 1 (ints 1 5) 0 []) ∷ callDefine 1 (fielded 41 40 1 (ints 1 5) 0 [])
+    ∷ callDefine 1 (fielded 42 41 1 (two 5 ++ two 40) 1 (method 20 1 1 (into 40 9 ++ into 41 4 ++ from 40 ++ from 42 ++ (0x64 ∷ 0xAC ∷ [])))) ∷ []
+
+fields : performAllRows (hiding ++ callStart 0 1 42 20 7 ∷ callRun 12 ∷ []) bootRows .answer
+    ≡ Accepted ∷ Accepted ∷ Accepted ∷ Defined 1 ∷ Defined 2 ∷ Defined 3 ∷ Accepted ∷ RanFor 11 (Finished 0 5) ∷ []
+unfolding fielded into from ints hiding every all any doubled indexOf isNone toList sameRequest has fires rest grow reachFrom reach leads seek nearest below find lower superOf loaderOf ownSlots slotsIn slots slotIs hasField sameSignature alike methodsOf hasMethod selected tieEdges subtypeEdges edges pairAgrees rowAgrees agreesOver agrees tieIs newTie newTies signatureTies agreesAfter post byte short name count fieldsIn signatureIn namesIn mapIn mapsFrom mapsIn methodsIn ends sameField sameMethod readFile pick opcodeOf inlineLength shortAt extend instructionOf sizedAs decode typeOfName meetClass meetInt meets meetKind pop isNamed effect returns returnKind target goesOn mapAt localType meetLocal meetAll meetMap flowInto flowToTarget startAt after turn mapsPast verify typesAt unmappedFrom unmapped notesOf existing objectHeld made rewritten changed unused roomless initialValue newObject pop! int! reference! kind! room! object! now under! give execute step subtypeIs newSubtypes overrideTie overrideTies define recorded started fileAt classAt defineRows recordRows startRows dropRows answerOf stepTask stepOn stepRows number numberOfStep numberOf _>>=_ need take? settle onRows runRows performRows performAllRows two method fileOf plain fileF taker coded lifts pushes ready tied12 tied123 Maybe._>>=_ Maybe.need notesOfMethod ofKind! compute jumps
+fields = refl
