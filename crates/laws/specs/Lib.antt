@@ -12,6 +12,7 @@ pub mod Found
 pub mod Listed
 pub mod Growth
 pub mod Slots
+pub mod FieldPlaces
 pub mod Members
 pub mod Sized
 pub mod WalkTurns
@@ -27,7 +28,6 @@ pub mod Posted
 pub mod Objects
 pub mod Sweeps
 pub mod Stable
-pub mod FieldPlaces
 pub mod Refusals
 pub mod Tried
 pub mod Causes

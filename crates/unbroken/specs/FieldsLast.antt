@@ -260,9 +260,9 @@ module _ (t : Tables) (f : Frame) (fs : List Frame) (m : Now) (c n u k : ℕ) (t
   pub written-read : (cs : List Call) → All (λ c. Frees c → ⊥) cs → (WrittenIn cs left (wrote .object) (wrote .declarer) n u → ⊥)
       → (g : Frame) (gs : List Frame) (l : Now) (e j : ℕ) (r : Turns (performAll cs left .tables) g gs l) (a : stepTables (performAll cs left .tables) .answer ≡ Ran j) (i : l .at .instruction ≡ Getfield e n u)
       → (let read = getfield-reads (performAll cs left .tables) g gs l e n u j r a i in (read .object ≡ wrote .object) → (read .declarer ≡ wrote .declarer) → read .value ≡ wrote .value)
-  written-read cs fs unwritten g gs l e j r a i o d =
+  written-read cs frees unwritten g gs l e j r a i o d =
       let read = getfield-reads (performAll cs left .tables) g gs l e n u j r a i in
-      elim (fields-last-all cs fs left (wrote .object) (wrote .declarer) n u (wrote .value) (wrote .written)) [
+      elim (fields-last-all cs frees left (wrote .object) (wrote .declarer) n u (wrote .value) (wrote .written)) [
         | inl h ↦ Option·some-injective (read .value) (wrote .value) (sym (read .sees) ∙ ((λ z. fieldOf (performAll cs left .tables) (o z) (d z) n u) ∙ h))
         | inr w ↦ absurd (unwritten w)
       ]
