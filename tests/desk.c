@@ -367,6 +367,20 @@ static void flow_rules(void)
     code_is("if_icmplt in version 1", 6, 1, 1, CODE(0x15, 1, 0x15, 1, 0xA1, 0, 7, 0x15, 1, 0xAC));
 }
 
+/* Products and quotients are of version 2 and take two ints; their neighbours are no opcodes. */
+static void rates(void)
+{
+    for (uint8_t opcode = 0x65; opcode <= 0x70; opcode++) {
+        int known = opcode == 0x68 || opcode == 0x6C;
+        mapped_is("of two ints", known ? 0 : 6, CODE(0x15, 1, 0x15, 1, opcode, 0xAC), NONE);
+        mapped_is("of one int", 6, CODE(0x15, 1, opcode, 0xAC), NONE);
+        mapped_is("of a reference above", 6, CODE(0x15, 1, 0x19, 0, opcode, 0xAC), NONE);
+        mapped_is("of a reference below", 6, CODE(0x19, 0, 0x15, 1, opcode, 0xAC), NONE);
+        mapped_is("which leaves one int", 6, CODE(0x15, 1, 0x15, 1, opcode, 0x57, 0xAC), NONE);
+        code_is("in version 1", 6, 1, 1, CODE(0x15, 1, 0x15, 1, opcode, 0xAC));
+    }
+}
+
 /* 15 is said of any method before 6 is said of one. */
 static void map_words(void)
 {
@@ -429,6 +443,7 @@ int main(void)
     map_shapes();
     maps_wanted();
     flow_rules();
+    rates();
     map_words();
     last_method();
     lengths();

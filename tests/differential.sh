@@ -9,19 +9,21 @@ cd "$(dirname "$0")/.."
 tests/build host desk
 cd reference
 log=../target/differential.log
-compare() { # LIBRARIES LINKED SEEDS WORDS...
-    TARIFF_LIB=$1 TARIFF_LINK=$2 TARIFF_SEEDS=$3 ../tests/cargo-test 1 --features host --test host "${@:4}"
+compare() { # TESTS LIBRARIES LINKED SEEDS WORDS...
+    TARIFF_LIB=$2 TARIFF_LINK=$3 TARIFF_SEEDS=$4 ../tests/cargo-test "$1" --features host --test host "${@:5}"
 }
 
-TARIFF_SECONDS=${1:-0} compare "$PWD/../target/staticlib" static=host,static=desk 8000 -- --nocapture
+TARIFF_SECONDS=${1:-0} compare 2 "$PWD/../target/staticlib" static=host,static=desk 8000 -- --nocapture
 
 mirror=$PWD/target/mirror/release
 cargo build --offline --release --quiet -p mirror --target-dir target/mirror
-mirrored() { compare "$mirror" dylib=tariff 40 --target-dir target/mirror >"$log" 2>&1; }
-mirrored || { cat "$log"; exit 1; }
+mirrored() { # TESTS WORDS...: the tests that the words choose
+    compare "$1" "$mirror" dylib=tariff 40 --target-dir target/mirror "${@:2}" >"$log" 2>&1
+}
+mirrored 2 || { cat "$log"; exit 1; }
 # which chain a clash lists is left to the library
-MIRROR_FAULT=another-chain mirrored || { cat "$log"; exit 1; }
-tables="mirror/src/faults.rs mirror/src/mapped.rs mirror/src/tried.rs src/gen/plain.rs"
+MIRROR_FAULT=another-chain mirrored 2 || { cat "$log"; exit 1; }
+tables="mirror/src/faults.rs mirror/src/mapped.rs mirror/src/rates.rs mirror/src/tried.rs src/gen/plain.rs"
 # shellcheck disable=SC2086
 faults=$(sed -n 's/^    ("\([a-z-]*\)",.*/\1/p' $tables)
 # the list has every fault that the mirror can have
@@ -29,7 +31,7 @@ faults=$(sed -n 's/^    ("\([a-z-]*\)",.*/\1/p' $tables)
 declared=$(sed -n 's/.*const \(FAULTS\|DESKS\|SLIPS\): \[.*; \([0-9]*\)\].*/\2/p' $tables | paste -sd+ | bc)
 [ "$(echo "$faults" | wc -w)" -eq "$declared" ] || { echo "not every fault of the mirror is tried"; exit 1; }
 for fault in $faults; do
-    if MIRROR_FAULT=$fault mirrored || ! grep -q differs "$log"; then
+    if MIRROR_FAULT=$fault mirrored 1 the_two_machines_are_the_same || ! grep -q differs "$log"; then
         cat "$log"
         echo "not seen: $fault"
         exit 1

@@ -1,6 +1,6 @@
 /* The ten calls from C: tables of wrong lengths, damaged stores, every word of refusal, numbers at their limits, answer tables of every
-   length, a run beside its steps, objects freed and their numbers used again, files of version 2, loads tried on short and long lists, and the chains
-   of those that clash; and the desk beside define. */
+   length, a run beside its steps, objects freed and their numbers used again, files of version 2, products and quotients, loads tried on short and long
+   lists, and the chains of those that clash; and the desk beside define. */
 #define _GNU_SOURCE
 #include "host.h"
 
@@ -334,6 +334,88 @@ static void jumps(void)
     refuses("and what is there", step(), TARIFF_STUCK);
 }
 
+/* The int multiplied by itself, or divided by a number of 16 bits; or what divides by the int. */
+#define SQUARE CODE(0x15, 1, 0x15, 1, 0x68, 0xAC)
+#define BY(number) CODE(0x15, 1, 0x11, ((number) & 0xFFFF) / 256, (number) & 255, 0x6C, 0xAC)
+#define INTO(number) CODE(0x11, ((number) & 0xFFFF) / 256, (number) & 255, 0x15, 1, 0x6C, 0xAC)
+#define NO_MAPS CODE(0)
+
+/* A product or quotient in version 2: three steps run, and the fourth finishes. */
+static void gives(const char *what, struct call c, int32_t value, int32_t answer)
+{
+    mapped_quote(c, (uint32_t)value);
+    expect(what, run(9), 0, SIX(TARIFF_RAN_FOR, 0, TARIFF_FINISHED, TARIFF_QUOTE, (uint32_t)answer, 3));
+}
+
+static void rates(void)
+{
+    gives("a product", define_mapped(1, SQUARE, NO_MAPS), -7, 49);
+    gives("the largest square", define_mapped(1, SQUARE, NO_MAPS), 46340, 2147395600);
+    gives("one that wraps", define_mapped(1, SQUARE, NO_MAPS), 46341, -2147479015);
+    gives("the least int squared", define_mapped(1, SQUARE, NO_MAPS), INT32_MIN, 0);
+    gives("toward zero", define_mapped(1, BY(2), NO_MAPS), -7, -3);
+    gives("toward zero", define_mapped(1, BY(-2), NO_MAPS), 7, -3);
+    gives("two negatives", define_mapped(1, BY(-2), NO_MAPS), -7, 3);
+    gives("the lower by the upper", define_mapped(1, INTO(7), NO_MAPS), 2, 3);
+    gives("zero divided", define_mapped(1, INTO(0), NO_MAPS), -5, 0);
+    gives("the least int by -1", define_mapped(1, BY(-1), NO_MAPS), INT32_MIN, INT32_MIN);
+    gives("the greatest int by -1", define_mapped(1, BY(-1), NO_MAPS), INT32_MAX, -INT32_MAX);
+}
+
+/* A zero divisor leaves the store, and gets the same again. */
+static void zero_divisor(void)
+{
+    mapped_quote(define_mapped(1, INTO(7), NO_MAPS), 0);
+    keep(&first);
+    expect("a run into a zero divisor", run(9), 0, SIX(TARIFF_RAN_FOR, TARIFF_ZERO_DIVISOR, 0, 0, 0, 2));
+    keep(&after);
+    put_back(&first);
+    runs("the dividend", TARIFF_QUOTE);
+    runs("the divisor", TARIFF_QUOTE);
+    check("the run left what its steps leave", same(&after));
+    for (int i = 0; i < 2; i++)
+        refuses("a zero divisor", step(), TARIFF_ZERO_DIVISOR);
+    expect("a run of none", run(9), 0, SIX(TARIFF_RAN_FOR, TARIFF_ZERO_DIVISOR, 0, 0, 0, 0));
+    check("it stays", same(&after));
+}
+
+/* What is missing or of another kind comes before a zero divisor. */
+static void stuck_rates(void)
+{
+    mapped_quote(define_mapped(1, INTO(7), NO_MAPS), 0);
+    runs("the dividend", TARIFF_QUOTE);
+    runs("the divisor", TARIFF_QUOTE);
+    keep(&after);
+    set(7, 20, 2);
+    set(7, 21, 0);
+    refuses("null by zero", step(), TARIFF_STUCK);
+    put_back(&after);
+    set(7, 22, 2);
+    refuses("an int by null", step(), TARIFF_STUCK);
+    for (uint32_t operands = 0; operands < 2; operands++) {
+        put_back(&after);
+        set(7, 20, 1);
+        set(7, 21, 0);
+        set(7, 3, operands);
+        refuses("fewer than two operands", step(), TARIFF_STUCK);
+    }
+}
+
+/* Version 1 has no such opcodes, and in version 2 they take two ints. */
+static void unfit_rates(void)
+{
+    ready();
+    refuses("a product in version 1", define(1, 10, 2, 0, 1, SQUARE), TARIFF_UNVERIFIED);
+    refuses("a quotient in version 1", define(1, 10, 2, 0, 1, BY(2)), TARIFF_UNVERIFIED);
+    refuses("a product of one int", define_mapped(1, CODE(0x15, 1, 0x68, 0xAC), NO_MAPS), TARIFF_UNVERIFIED);
+    refuses("null by an int", define_mapped(1, CODE(0x01, 0x15, 1, 0x6C, 0xAC), NO_MAPS), TARIFF_UNVERIFIED);
+    quoting(CODE(0x15, 1, 0x15, 1, 0x60, 0xAC));
+    runs("an int", TARIFF_QUOTE);
+    runs("another", TARIFF_QUOTE);
+    set(2, 25, 0x68);
+    refuses("a sum of version 1 made a product", step(), TARIFF_STUCK);
+}
+
 /* What define says of files of version 2. */
 static void mapped_files(void)
 {
@@ -650,6 +732,10 @@ int main(void)
     mapped_files();
     many_maps();
     mapped_notes();
+    rates();
+    zero_divisor();
+    stuck_rates();
+    unfit_rates();
     limits();
     runs_and_steps();
     answer_tables();

@@ -1,6 +1,6 @@
 #!/usr/bin/env bash
 # The writer's tool: its own tests, the course's lessons on the proved machine, each mistake's lesson on a machine that makes it, the lessons
-# on dead objects, choices, loops and clashes on machines that do them wrongly, what ./box says of mistakes in a text, and any bytes for a
+# on dead objects, choices, loops, rates and clashes on machines that do them wrongly, what ./box says of mistakes in a text, and any bytes for a
 # minute.
 #
 #   tests/lessons.sh                   all of it
@@ -56,7 +56,7 @@ lessons() {
             grep -q "^R 1 2 0 .*loader 1 records Object as 0: recorded$" "$work/out" || fail "${lesson%.lesson}.box isn't in words"
         fi
     done
-    [ "$count" -gt 17 ] || fail "there are only $count lessons"
+    [ "$count" -gt 19 ] || fail "there are only $count lessons"
 }
 
 # Texts through the assembler, and their files listed and assembled again.
@@ -113,6 +113,7 @@ mistakes() {
         [dead-objects]="sweep-(forgets-locals|forgets-the-report|frees-[a-z]+|tells-[a-z-]+)|freed-objects-count-for-full"
         [age-bands]="less-than-[a-z-]+|jumps-from-the-instruction|offsets-from-the-instruction|unmapped-is-unverified|unset-for-int"
         [instalments]="ifeq-[a-z-]+|a-jump-to-itself-is-stuck|sweep-forgets-unset-locals|a-set-local-stays-set"
+        [rates]="quotients-are-[a-z]+|divide[sd]-[a-z-]+|the-least-by-[a-z-]+|zero-divisor-is-[a-z]+|a-refused-division-[a-z-]+|products-[a-z-]+|rates-in-version-one"
         [a-join]="flow-to-the-target-not-checked|notes-upside-down"
     )
     (cd reference && cargo build --offline --release --quiet -p mirror --target-dir target/mirror)

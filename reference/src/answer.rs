@@ -18,11 +18,12 @@ pub mod word {
     pub const STUCK: u8 = 14;
     pub const UNMAPPED: u8 = 15;
     pub const SHORT_LIST: u8 = 16;
+    pub const ZERO_DIVISOR: u8 = 17;
 
     /// The words in the order of their numbers, from 1.
-    pub const NAMES: [&str; 16] = [
+    pub const NAMES: [&str; 17] = [
         "broken", "file", "unknown", "taken", "wanted", "unverified", "absent", "hidden", "clash", "full",
-        "null", "busy", "misnamed", "stuck", "unmapped", "short list",
+        "null", "busy", "misnamed", "stuck", "unmapped", "short list", "zero divisor",
     ];
 }
 

@@ -23,15 +23,17 @@ pub mod op {
     pub const IFEQ: u8 = 0x99;
     pub const IF_ICMPLT: u8 = 0xA1;
     pub const GOTO: u8 = 0xA7;
+    pub const IMUL: u8 = 0x68;
+    pub const IDIV: u8 = 0x6C;
 
     /// Those of version 1 first.
-    pub const ALL: [u8; 19] = [
+    pub const ALL: [u8; 21] = [
         ACONST_NULL, SIPUSH, ILOAD, ALOAD, ISTORE, ASTORE, POP, DUP, IADD, ISUB, IRETURN, ARETURN, GETFIELD,
-        PUTFIELD, INVOKEVIRTUAL, NEW, IFEQ, IF_ICMPLT, GOTO,
+        PUTFIELD, INVOKEVIRTUAL, NEW, IFEQ, IF_ICMPLT, GOTO, IMUL, IDIV,
     ];
-    pub const NAMES: [&str; 19] = [
+    pub const NAMES: [&str; 21] = [
         "aconst_null", "sipush", "iload", "aload", "istore", "astore", "pop", "dup", "iadd", "isub", "ireturn",
-        "areturn", "getfield", "putfield", "invokevirtual", "new", "ifeq", "if_icmplt", "goto",
+        "areturn", "getfield", "putfield", "invokevirtual", "new", "ifeq", "if_icmplt", "goto", "imul", "idiv",
     ];
 
     /// What follows each opcode inline.
@@ -52,9 +54,9 @@ pub mod op {
     }
 
     use Inline::*;
-    pub const INLINE: [Inline; 19] = [
+    pub const INLINE: [Inline; 21] = [
         Nothing, Int, Local, Local, Local, Local, Nothing, Nothing, Nothing, Nothing, Nothing, Nothing, Field, Field,
-        Method, Class, Target, Target, Target,
+        Method, Class, Target, Target, Target, Nothing, Nothing,
     ];
 
     /// The opcode's name and what follows it.
@@ -107,6 +109,8 @@ pub enum Instruction {
     Ifeq(u16),
     IfIcmplt(u16),
     Goto(u16),
+    Imul,
+    Idiv,
 }
 
 use Instruction::*;
@@ -129,7 +133,7 @@ impl Instruction {
 /// The instruction at a point of a file of this version and the next point; nothing if it can't be read.
 pub fn decode(version: u8, code: &[u8], point: usize) -> Option<(Instruction, usize)> {
     let opcode = *code.get(point)?;
-    let branches = version >= MAPPED;
+    let is_later = version >= MAPPED;
     let inline = &code[point + 1..];
     let byte = || inline.first().copied();
     let word = |i: usize| inline.get(2 * i..2 * i + 2).map(|w| u16::from_be_bytes([w[0], w[1]]));
@@ -154,9 +158,11 @@ pub fn decode(version: u8, code: &[u8], point: usize) -> Option<(Instruction, us
         op::NEW => (New(word(0)?), 2),
         op::IRETURN => (Ireturn, 0),
         op::ARETURN => (Areturn, 0),
-        op::IFEQ if branches => (Ifeq(word(0)?), 2),
-        op::IF_ICMPLT if branches => (IfIcmplt(word(0)?), 2),
-        op::GOTO if branches => (Goto(word(0)?), 2),
+        op::IFEQ if is_later => (Ifeq(word(0)?), 2),
+        op::IF_ICMPLT if is_later => (IfIcmplt(word(0)?), 2),
+        op::GOTO if is_later => (Goto(word(0)?), 2),
+        op::IMUL if is_later => (Imul, 0),
+        op::IDIV if is_later => (Idiv, 0),
         _ => return None,
     };
     Some((instruction, point + 1 + inline_length))

@@ -6,8 +6,9 @@ use std::thread;
 use std::time::{Duration, Instant};
 
 use crate::agree::{agrees, Added};
-use crate::answer::{Answer, Reply};
+use crate::answer::{word, Answer, Refusal, Reply};
 use crate::broken::unbroken;
+use crate::code::op;
 use crate::gen::chains::chains;
 use crate::gen::clashes::{self, clash};
 use crate::gen::codes::{rejected, taken};
@@ -19,6 +20,7 @@ use crate::gen::limits::LIMITS;
 use crate::gen::list::list;
 use crate::gen::rng::Rng;
 use crate::gen::loops::loops;
+use crate::gen::rates;
 use crate::gen::stuck::stuck;
 use crate::gen::swept::swept;
 use crate::gen::{cases, large, mapped, Call, Trial, CALLS};
@@ -215,7 +217,7 @@ impl Comparison {
 
     /// What needs no seed.
     fn fixed(&mut self) {
-        for (at, trial) in cases::cases().iter().chain(&swept()).chain(&loops()).enumerate() {
+        for (at, trial) in cases::cases().iter().chain(&swept()).chain(&loops()).chain(&rates::rates()).enumerate() {
             self.play(trial, &format!("case {at}"));
         }
         for seed in 0..4 {
@@ -296,7 +298,8 @@ impl Comparison {
         }
         let (booted, damaged) = (self.booted.ended(), self.damaged.ended());
         demand(booted == ENDS_FROM_A_BOOT, format!("runs from a boot ended with {booted:?}"));
-        demand(damaged.contains(&14) && !damaged.contains(&1), format!("runs on damaged stores ended with {damaged:?}"));
+        let is_fit = damaged.contains(&14) && damaged.contains(&17) && !damaged.contains(&1);
+        demand(is_fit, format!("runs on damaged stores ended with {damaged:?}"));
         demand(self.booted.idle_opcodes().is_empty(), format!("never ran: {:?}", self.booted.idle_opcodes()));
         for (tally, what) in [(&self.booted, "from a boot"), (&self.damaged, "on damaged stores")] {
             demand(tally.unswept().is_empty(), format!("sweeps {what} never had {:?}", tally.unswept()));
@@ -323,6 +326,24 @@ impl fmt::Display for Comparison {
         let [sound, no_file, unmapped, unverified] = [0, 2, 15, 6].map(|number| self.desk[number]);
         writeln!(f, "The desk: {sound} sound, {no_file} no files, {unmapped} unmapped, {unverified} unverified")
     }
+}
+
+/// What java/Rates.java prints, by the library: each of its pairs by a step, beside ours, and a divisor 0 stepped twice.
+pub fn rates() -> String {
+    let [mut of_imul, mut of_idiv] = [op::IMUL, op::IDIV].map(|opcode| [rates::before(opcode), rates::before(opcode)]);
+    rates::figures(|opcode, lower, upper| {
+        let [ours, theirs] = if opcode == op::IMUL { &mut of_imul } else { &mut of_idiv };
+        let label = format!("{opcode:02X} of {lower} and {upper}");
+        rates::give(ours, lower, upper);
+        rates::give(theirs, lower, upper);
+        let reply = both(ours, theirs, &Call::Step, CELLS, &label);
+        if reply == Reply::Stepped(Answer::Ran(0)) {
+            return rates::result(theirs);
+        }
+        let refused = Reply::Stepped(Answer::Refused(Refusal::Word(word::ZERO_DIVISOR)));
+        assert_eq!([reply, both(ours, theirs, &Call::Step, CELLS, &label)], [refused; 2], "{label}");
+        None
+    })
 }
 
 /// Compares for so many seeds from 0, and for more until so much time is over, on all processors.

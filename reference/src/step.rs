@@ -77,8 +77,10 @@ impl Turn<'_> {
                 self.operand(0)?;
                 self.settle(1, None)
             }
-            Instruction::Iadd => self.arithmetic(u32::wrapping_add),
-            Instruction::Isub => self.arithmetic(u32::wrapping_sub),
+            Instruction::Iadd => self.arithmetic(|lower, upper| Ok(lower.wrapping_add(upper))),
+            Instruction::Isub => self.arithmetic(|lower, upper| Ok(lower.wrapping_sub(upper))),
+            Instruction::Imul => self.arithmetic(|lower, upper| Ok(lower.wrapping_mul(upper))),
+            Instruction::Idiv => self.arithmetic(quotient),
             Instruction::Getfield(at) => self.getfield(at),
             Instruction::Putfield(at) => self.putfield(at),
             Instruction::Invokevirtual(at) => self.invokevirtual(at),
@@ -152,9 +154,10 @@ impl Turn<'_> {
         self.settle(1, None)
     }
 
-    fn arithmetic(&mut self, of: fn(u32, u32) -> u32) -> Result<Answer, Refusal> {
-        let (left, right) = (self.int(1)?, self.int(0)?);
-        self.settle(2, Some(Value::Int(of(left, right))))
+    fn arithmetic(&mut self, of: fn(i32, i32) -> Result<i32, Refusal>) -> Result<Answer, Refusal> {
+        let (lower, upper) = (self.int(1)? as i32, self.int(0)? as i32);
+        let result = of(lower, upper)?;
+        self.settle(2, Some(Value::Int(result as u32)))
     }
 
     /// The loader of the frame's class.
@@ -286,6 +289,14 @@ impl Turn<'_> {
         self.store.counts[count::FRAMES + self.task] -= 1;
         Ok(answer)
     }
+}
+
+/// Toward zero; the least int divided by −1 is itself.
+fn quotient(dividend: i32, divisor: i32) -> Result<i32, Refusal> {
+    if divisor == 0 {
+        return Err(Refusal::Word(word::ZERO_DIVISOR));
+    }
+    Ok(dividend.wrapping_div(divisor))
 }
 
 fn is_int(value: &Value) -> bool {

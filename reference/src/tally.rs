@@ -18,7 +18,7 @@ pub const FROM_A_BOOT: [(&str, &[usize]); 10] = [
     ("define", &[0, 2, 3, 4, 5, 6, 8, 9, 10, 15]),
     ("record", &[0, 3, 4, 9, 10, 13]),
     ("start", &[0, 3, 5, 7, 10, 12]),
-    ("step", &[0, 5, 7, 9, 10, 11]),
+    ("step", &[0, 5, 7, 9, 10, 11, 17]),
     ("run", &[0, 3]),
     ("drop", &[0, 3]),
     ("sweep", &[0]),
@@ -41,7 +41,7 @@ pub const ONLY_DAMAGE: [(&str, &[usize]); 10] = [
 ];
 
 /// How runs end on lists from a boot; damage brings word 14 too.
-pub const ENDS_FROM_A_BOOT: [usize; 8] = [5, 7, 9, 10, 11, IDLE, RAN, FINISHED];
+pub const ENDS_FROM_A_BOOT: [usize; 9] = [5, 7, 9, 10, 11, 17, IDLE, RAN, FINISHED];
 
 #[derive(Clone)]
 pub struct Tally {
@@ -262,17 +262,17 @@ fn ran(answer: Answer) -> bool {
 
 impl fmt::Display for Tally {
     fn fmt(&self, f: &mut fmt::Formatter) -> fmt::Result {
-        write!(f, "{:<14}", "")?;
+        write!(f, "{:<15}", "")?;
         CALLS.iter().try_for_each(|name| write!(f, "{name:>11}"))?;
         writeln!(f, "{:>11}", "run's end")?;
         for number in 0..WORDS {
             let name = if number == 0 { "accepted" } else { word::NAMES[number - 1] };
-            write!(f, "{number:>2} {name:<11}")?;
+            write!(f, "{number:>2} {name:<12}")?;
             self.words.iter().try_for_each(|call| write!(f, "{:>11}", call[number]))?;
             writeln!(f, "{:>11}", if number == 0 { 0 } else { self.run_ends[number] })?;
         }
         for (at, name) in [(IDLE, "idle"), (RAN, "ran"), (FINISHED, "finished")] {
-            writeln!(f, "   {name:<11}{:>55}{:>66}", self.steps[at], self.run_ends[at])?;
+            writeln!(f, "   {name:<12}{:>55}{:>66}", self.steps[at], self.run_ends[at])?;
         }
         for (opcode, name) in op::ALL.iter().zip(op::NAMES) {
             writeln!(f, "   {opcode:02X} {name:<14}{:>9}", self.opcodes[usize::from(*opcode)])?;

@@ -216,7 +216,9 @@ pub fn follow(
             types.push(of)?;
             types.push(of)
         }
-        Instruction::Iadd | Instruction::Isub => types.pop_ints(2).and_then(|()| types.push(Type::Int)),
+        Instruction::Iadd | Instruction::Isub | Instruction::Imul | Instruction::Idiv => {
+            types.pop_ints(2).and_then(|()| types.push(Type::Int))
+        }
         Instruction::Getfield(at) => {
             meet(types.pop_reference()?, at.class, note)?;
             types.push(Type::named(at.of))

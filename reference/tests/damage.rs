@@ -18,7 +18,7 @@ const ON_DAMAGE: [(&str, &[usize]); 10] = [
     ("define", &[0, 4, 5, 6, 8, 9, 10, 15]),
     ("record", &[0, 3, 4, 9, 10, 13]),
     ("start", &[0, 3, 5, 7, 10, 12]),
-    ("step", &[0, 5, 7, 9, 10, 11]),
+    ("step", &[0, 5, 7, 9, 10, 11, 17]),
     ("run", &[0, 3]),
     ("drop", &[0, 3]),
     ("sweep", &[0]),
@@ -77,7 +77,7 @@ fn damaged_stores() {
         assert!(stores > 20, "{what}: {stores} damaged stores");
     }
     assert!(tally.long_runs > 20, "{} runs of 1,000 steps and more", tally.long_runs);
-    assert!(tally.run_ends[14] > 0 && whole > 1_000 && misplacing > 100);
+    assert!(tally.run_ends[14] > 0 && tally.run_ends[17] > 0 && whole > 1_000 && misplacing > 100);
     assert_eq!(tally.unswept(), Vec::<&str>::new(), "what sweeps never had");
 }
 

@@ -6,7 +6,7 @@
 
 use std::time::Duration;
 
-use reference::compare::all;
+use reference::compare::{all, rates};
 
 fn setting(name: &str) -> Option<u64> {
     std::env::var(name).ok().map(|value| value.parse().unwrap_or_else(|_| panic!("{name} is no number")))
@@ -18,4 +18,10 @@ fn the_two_machines_are_the_same() {
     let comparison = all(seeds, Duration::from_secs(setting("TARIFF_SECONDS").unwrap_or(0)));
     println!("{comparison}");
     assert_eq!(comparison.odd(), Vec::<String>::new());
+}
+
+/// java/Rates.out is what java/Rates.java printed.
+#[test]
+fn products_and_quotients_are_javas() {
+    assert_eq!(rates(), include_str!("../java/Rates.out"));
 }

@@ -8,6 +8,7 @@ use reference::gen::graphs::graphs;
 use reference::gen::limits::LIMITS;
 use reference::gen::list::list;
 use reference::gen::loops::loops;
+use reference::gen::rates::rates;
 use reference::gen::rng::Rng;
 use reference::gen::swept::swept;
 use reference::gen::{cases, Call, Trial};
@@ -125,7 +126,7 @@ fn random_lists() {
     println!("{SEEDS} random lists, as many about constraints, and as many about objects\n{tally}");
     assert_eq!(tally.unswept(), Vec::<&str>::new(), "what sweeps never had");
     assert_eq!(tally.unreasoned(), Vec::<&str>::new(), "what chains of clashes never had");
-    for trial in cases::cases().iter().chain(&swept()).chain(&loops()) {
+    for trial in cases::cases().iter().chain(&swept()).chain(&loops()).chain(&rates()) {
         watch(trial, "a case", &mut tally);
     }
     for (name, limit) in LIMITS {

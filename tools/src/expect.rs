@@ -76,7 +76,7 @@ impl Wish {
                 Ok(Wish::Finished(task, int))
             }
             "wanted" => Wish::wanted(at),
-            _ => Wish::refused(answer, span),
+            _ => Wish::refused(at, answer, span),
         }
     }
 
@@ -89,9 +89,10 @@ impl Wish {
         Ok(Wish::Wanted(Some((loader, at.name("a class's name")?))))
     }
 
-    /// A word of refusal.
-    fn refused(answer: &str, span: Span) -> Parsed<Wish> {
-        if let Some(place) = word::NAMES.iter().position(|&name| name == answer) {
+    /// A word of refusal; some are of two words.
+    fn refused(at: &mut Cursor, answer: &str, span: Span) -> Parsed<Wish> {
+        if let Some(place) = word::NAMES.iter().position(|name| name.split(' ').next() == Some(answer)) {
+            word::NAMES[place].split(' ').skip(1).try_for_each(|word| at.keyword(word))?;
             return Ok(Wish::Refused(place as u8 + 1));
         }
         let known = ANSWERS.into_iter().chain(word::NAMES);

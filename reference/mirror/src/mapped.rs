@@ -155,12 +155,12 @@ impl Jump {
 }
 
 /// The row of the frame at its turn.
-fn top(store: &Store) -> Option<usize> {
+pub fn top(store: &Store) -> Option<usize> {
     let task = store.turn()?;
     Some(frame_base(task, store.frame_count(task) - 1))
 }
 
-fn method_at(store: &Store, frame: usize) -> Option<Method<'_>> {
+pub fn method_at(store: &Store, frame: usize) -> Option<Method<'_>> {
     store.file(store.frames[frame + cell::CLASS] as u16)?.method(store.frames[frame + cell::METHOD] as usize)
 }
 

@@ -244,6 +244,14 @@ impl Code {
         self.plain(op::ISUB)
     }
 
+    pub fn imul(self) -> Code {
+        self.plain(op::IMUL)
+    }
+
+    pub fn idiv(self) -> Code {
+        self.plain(op::IDIV)
+    }
+
     pub fn getfield(self, class: u16, field: u16, of: u16) -> Code {
         self.names(op::GETFIELD, &[class, field, of])
     }

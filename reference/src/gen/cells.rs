@@ -4,7 +4,7 @@ use crate::store::{count, Store, FRAME_ROW, LENGTHS, OBJECT_ROW, ROW};
 
 /// The values a cell is changed to, besides its neighbours.
 const WORDS: [u16; 9] = [0, 1, 2, 3, 15, 16, 17, 256, u16::MAX];
-const BYTES: [u8; 8] = [0, 1, 2, 8, 9, 0x57, 0xAC, 0xFF];
+const BYTES: [u8; 9] = [0, 1, 2, 8, 9, 0x57, 0x6C, 0xAC, 0xFF];
 
 /// Which table, as `Store` orders them.
 fn ranges(store: &Store) -> [Vec<usize>; 8] {

@@ -6,7 +6,8 @@ use super::chains::chains;
 use super::graphs::graphs;
 use super::list::list;
 use super::rng::Rng;
-use super::Call;
+use super::{Call, Trial};
+use crate::answer::{denied, word};
 use crate::drive::{ANSWERS, HEAD, INPUT, LIST, ROW};
 use crate::store::{INT, LENGTHS};
 
@@ -69,11 +70,12 @@ impl Encoded {
 /// Lengths of the lists that tries are lent.
 const LISTS: [u32; 8] = [0, 1, 511, 512, 512, 513, 600, u32::MAX];
 
-/// The calls, with tries before some of their loads.
-fn trying(calls: &[Call], rng: &mut Rng) -> Vec<Call> {
+/// The calls, with tries before some of their loads, and more of them before one that clashes.
+fn trying(trial: &Trial, rng: &mut Rng) -> Vec<Call> {
     let mut all = Vec::new();
-    for call in calls {
-        for _ in 0..rng.pick(&[0, 0, 1, 1, 2]) {
+    for (call, &reply) in trial.calls.iter().zip(&trial.replies) {
+        let tries = if reply == denied(word::CLASH) { 4 } else { rng.pick(&[0, 0, 1, 1, 2]) };
+        for _ in 0..tries {
             all.extend(call.tried(rng.pick(&LISTS) as usize));
         }
         all.push(call.clone());
@@ -92,7 +94,7 @@ fn no_call(rng: &mut Rng) -> [u32; ROW] {
     }
 }
 
-/// A list of calls of every kind, a load that is accepted and one that clashes tried among them, then a row that has no call, then one that is not reached.
+/// A list of calls of every kind, a product, a quotient by 0, and a load that is accepted and one that clashes tried among them, then a row that has no call, then one that is not reached.
 pub fn fixed() -> Vec<u8> {
     let mut trial = cases::across(&cases::caller(), true, false);
     trial.run(3);
@@ -108,6 +110,13 @@ pub fn fixed() -> Vec<u8> {
     trial.run(100);
     trial.sweep();
     trial.run(0);
+    trial.define(1, &Draft::mapped(14).main(MAIN, &Code::new().int(-7).iload(1).idiv().iload(1).imul().ireturn()));
+    trial.start(0, 1, 14, MAIN, 2);
+    trial.run(100);
+    trial.start(0, 1, 14, MAIN, 0);
+    trial.run(100);
+    trial.step();
+    trial.drop_task(0);
     trial.define(1, &Draft::new(12));
     let clash = Draft::new(13).main(MAIN, &Code::new().object(12).getfield(10, 30, INT).ireturn()).file();
     let loads = [Call::Record { loader: 3, name: 12, class: 3 }, Call::Define { loader: 2, file: clash }];
@@ -132,7 +141,7 @@ pub fn drive(seed: u64) -> Vec<u8> {
         1 => graphs(seed, length),
         _ => chains(seed, length / 2),
     };
-    let mut calls = trying(&trial.calls, &mut rng);
+    let mut calls = trying(&trial, &mut rng);
     let room = |calls: &[Call]| Encoded::new(calls, 1).files.len() + 4 * (HEAD + LIST) <= INPUT;
     while calls.len() >= LIST / ROW || !room(&calls) {
         calls.pop();

@@ -195,6 +195,7 @@ fn random_jumps(rng: &mut Rng) -> Vec<u8> {
             2 => code.iload(1).int(rng.below(5) as i16).if_icmplt(to),
             3 => code.object(rng.pick(&[10, 11, 12])).astore(2),
             4 => code.null().astore(rng.pick(&[2, 3])),
+            5 if rng.percent(50) => code.iload(1).int(3).plain(rng.pick(&[op::IMUL, op::IDIV])).istore(1),
             5 => code.aload(2).pop(),
             6 => code.aload(0).null().putfield(rng.pick(&[12, 13]), 30, 12),
             _ => code.end(INT),

@@ -127,7 +127,8 @@ impl Lister {
             (row[0], row[1])
         };
         let method = if self.rng.percent(95) { MAIN } else { MAIN + 7 };
-        let (task, int) = (self.task(), self.rng.draw() as i32);
+        let task = self.task();
+        let int = if self.rng.percent(25) { self.rng.pick(&[0, 1, -1, i32::MIN, i32::MAX]) } else { self.rng.draw() as i32 };
         if let Reply::Denied(Refusal::Wanted(loader, name)) = self.trial.start(task, loader, name, method, int) {
             self.load(u16::from(loader), name, 4);
         }

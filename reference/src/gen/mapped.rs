@@ -10,6 +10,7 @@ const AGAIN: u16 = 1;
 const DONE: u16 = 2;
 
 const JUMPS: [u8; 3] = [op::IFEQ, op::IF_ICMPLT, op::GOTO];
+const RATES: [u8; 2] = [op::IMUL, op::IDIV];
 
 fn c() -> Code {
     Code::new()
@@ -86,6 +87,10 @@ pub fn taken() -> Vec<Draft> {
         c().point(AGAIN, &[10, INT], &[]).iload(1).ifeq(AGAIN).iload(1).int(9).if_icmplt(AGAIN).end(INT),
         of_maps(194).end(INT),
     ]);
+    for opcode in RATES {
+        all.push(main(c().iload(1).int(0).plain(opcode).ireturn()));
+        all.push(main(ints(16).plain(opcode).map(&[], &many[..15]).plain(opcode).ireturn()));
+    }
     all.push(Draft::mapped(10));
     all.push(Draft::mapped(10).method(20, 11, 12, &c().aload(1).map(&[], &[12]).areturn().map(&[], &[12]).areturn()));
     all.push(both(countdown(), c().end(INT)).main(22, &countdown()));
@@ -202,15 +207,35 @@ fn misfits() -> Vec<Code> {
     all
 }
 
+/// Products and quotients of what aren't two ints, and opcodes beside theirs, which nobody knows.
+fn unfit_rates() -> Vec<Code> {
+    let unknown = (0..=255u8).filter(|opcode| !op::ALL.contains(opcode));
+    let mut all: Vec<Code> = unknown.map(|opcode| c().iload(1).iload(1).plain(opcode).ireturn()).collect();
+    for opcode in RATES {
+        let operands = [
+            c(), c().iload(1), c().iload(1).null(), c().null().iload(1), c().iload(1).aload(0), c().aload(0).iload(1),
+            c().aload(0).int(0), c().int(0).aload(0),
+        ];
+        all.extend(operands.into_iter().map(|code| code.plain(opcode).ireturn()));
+        // one int is left, and no reference
+        all.push(c().iload(1).iload(1).plain(opcode).pop().ireturn());
+        all.push(c().iload(1).iload(1).plain(opcode).astore(2).end(INT));
+    }
+    all
+}
+
 /// The desk says 6.
 pub fn rejected() -> Vec<Draft> {
-    let mut all = mains(out_of_place().into_iter().chain(misfits()).collect());
+    let mut all = mains(out_of_place().into_iter().chain(misfits()).chain(unfit_rates()).collect());
     all.push(both(c().end(INT), rejected_code()));
     all.push(both(countdown(), c().plain(0xFF).goto(DONE).label(DONE).end(INT)));
     // in version 1 these are no opcodes
     for opcode in JUMPS {
         all.push(Draft::new(10).main(20, &to(operands_of(opcode), opcode, 0).end(INT)));
         all.push(Draft::new(10).main(20, &to(c().end(INT), opcode, 0)));
+    }
+    for opcode in RATES {
+        all.push(Draft::new(10).main(20, &c().iload(1).iload(1).plain(opcode).ireturn()));
     }
     all
 }

@@ -20,6 +20,7 @@ pub mod mapped;
 pub mod numbers;
 pub mod objects;
 pub mod plain;
+pub mod rates;
 pub mod reach;
 pub mod rng;
 pub mod scripts;

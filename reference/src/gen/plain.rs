@@ -2,7 +2,7 @@
 //! right, or has one slip, as a machine may have it.
 
 use crate::answer::word;
-use crate::code::{decode, Instruction};
+use crate::code::{decode, op, Instruction};
 use crate::file::{File, Map, Method, MAPPED};
 use crate::store::INT;
 use crate::verifier::{follow, Type, Types};
@@ -23,6 +23,8 @@ pub enum Slip {
     BadNamesEndTheReading,
     /// Version 1 is read for 15 as version 2 is.
     UnmappedInVersion1,
+    /// Version 1 knows imul and idiv.
+    RatesInVersion1,
     /// Flows that nobody checks.
     Target,
     Entry,
@@ -52,7 +54,7 @@ pub enum Slip {
 }
 
 /// The slips, with the name of the machine that has it.
-pub const SLIPS: [(&str, Slip); 26] = [
+pub const SLIPS: [(&str, Slip); 27] = [
     ("offsets-from-the-instruction", Slip::OffsetsFromTheInstruction),
     ("unmapped-after-unverified", Slip::UnmappedLast),
     ("unmapped-method-by-method", Slip::UnmappedByMethod),
@@ -60,6 +62,7 @@ pub const SLIPS: [(&str, Slip); 26] = [
     ("unreadable-needs-a-map", Slip::UnreadableNeedsMap),
     ("bad-names-end-the-reading", Slip::BadNamesEndTheReading),
     ("unmapped-in-version-one", Slip::UnmappedInVersion1),
+    ("rates-in-version-one", Slip::RatesInVersion1),
     ("flow-to-the-target-not-checked", Slip::Target),
     ("flow-from-entry-not-checked", Slip::Entry),
     ("flow-to-the-next-not-checked", Slip::Next),
@@ -109,13 +112,18 @@ pub fn judged(file: File, slip: Slip) -> Result<Vec<Note>, u8> {
 
 /// The instructions as far as they can be read, and whether that is all.
 fn lines(method: Method, slip: Slip) -> (Vec<Line>, bool) {
-    let version = if slip == Slip::UnmappedInVersion1 { MAPPED } else { method.version };
     let (mut all, mut point) = (Vec::new(), 0);
-    while let Some((instruction, next)) = decode(version, method.code, point) {
+    while let Some((instruction, next)) = read(method, point, slip) {
         all.push((point, instruction, next));
         point = next;
     }
     (all, point == method.code.len())
+}
+
+fn read(method: Method, point: usize, slip: Slip) -> Option<(Instruction, usize)> {
+    let is_rate = [op::IMUL, op::IDIV].map(Some).contains(&method.code.get(point).copied());
+    let is_later = slip == Slip::UnmappedInVersion1 || (slip == Slip::RatesInVersion1 && is_rate);
+    decode(if is_later { MAPPED } else { method.version }, method.code, point)
 }
 
 fn map_at(method: Method, offset: usize) -> Option<Map> {

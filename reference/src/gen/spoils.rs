@@ -139,7 +139,7 @@ fn an_unknown_opcode(rng: &mut Rng, code: &mut Code) {
     let starts = starts(code);
     if !starts.is_empty() {
         let at = rng.pick(&starts);
-        code.bytes[at] = rng.pick(&[0xFF, 0x00, 0x9A, 0xA2, 0xA8]);
+        code.bytes[at] = rng.pick(&[0xFF, 0x00, 0x9A, 0xA2, 0xA8, 0x69, 0x6D, 0x70]);
     }
 }
 

@@ -18,6 +18,7 @@ const FULL: Refusal = Refusal::Word(word::FULL);
 const TEN: Value = Value::Object(0);
 const ELEVEN: Value = Value::Object(1);
 const SEVEN: Value = Value::Int(7);
+const ZERO: Value = Value::Int(0);
 
 /// Loader 1 has class 10 with field 30 (int), 31 (class 10), the code as method 20, and method 21 from 10 to
 /// 10; and class 11. The quote is at the start of the code with these operands.
@@ -83,6 +84,8 @@ pub fn stuck() -> Vec<Stuck> {
     all.extend(no_room());
     all.extend(names_that_no_verifier_takes());
     all.extend(jumps());
+    all.extend(unfit_rates());
+    all.extend(zero_divisors());
     all
 }
 
@@ -107,6 +110,37 @@ fn jumps() -> Vec<Stuck> {
     ];
     for (opcode, operands) in rows {
         all.push((format!("{opcode:02X} of {operands:?}"), mapped(&names(opcode, &[0]), &operands), STUCK));
+    }
+    all
+}
+
+/// Products and quotients without two ints: that comes before a divisor 0.
+fn unfit_rates() -> Vec<Stuck> {
+    let mut all = Vec::new();
+    for opcode in [op::IMUL, op::IDIV] {
+        let code = Code::new().plain(opcode);
+        for upper in [SEVEN, ZERO, TEN, Value::Null] {
+            all.push((format!("{opcode:02X} of {upper:?} alone"), mapped(&code, &[upper]), STUCK));
+            for lower in [TEN, Value::Null] {
+                all.push((format!("{opcode:02X} of {lower:?}, {upper:?}"), mapped(&code, &[lower, upper]), STUCK));
+                all.push((format!("{opcode:02X} of {upper:?}, {lower:?}"), mapped(&code, &[upper, lower]), STUCK));
+            }
+        }
+        all.push((format!("{opcode:02X} with no operand"), mapped(&code, &[]), STUCK));
+        all.push((format!("{opcode:02X} in version 1"), holding(&code, &[SEVEN, ZERO]), STUCK));
+    }
+    all
+}
+
+/// Quotients of ints by 0, with nothing, one operand and as many as fit below them.
+fn zero_divisors() -> Vec<Stuck> {
+    let mut all = Vec::new();
+    for lower in [SEVEN, ZERO, Value::Int(u32::MAX), Value::Int(1 << 31)] {
+        for below in [vec![], vec![TEN], vec![Value::Null; OPERANDS - 2]] {
+            let operands = [below, vec![lower, ZERO]].concat();
+            let store = mapped(&Code::new().idiv().ireturn(), &operands);
+            all.push((format!("idiv of {operands:?}"), store, Refusal::Word(word::ZERO_DIVISOR)));
+        }
     }
     all
 }

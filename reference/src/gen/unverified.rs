@@ -1,4 +1,4 @@
-//! Damage to classes of version 2: jumps and maps that no verifier has seen, and frames among them.
+//! Damage to classes of version 2: jumps, maps, products and quotients that no verifier has seen, and frames among them.
 
 use super::build::{Code, Draft, MapDraft};
 use super::cases::MAIN;
@@ -6,7 +6,7 @@ use super::damage::{add_unseen, is_whole, start_in, unused_name};
 use super::rng::Rng;
 use crate::code::op;
 use crate::file::MAPPED;
-use crate::store::{cell, frame_base, Store, INT, OBJECT};
+use crate::store::{cell, frame_base, Store, Value, INT, OBJECT};
 
 /// Does some class have a file of version 2 that define would refuse?
 pub fn has_unverified(store: &Store) -> bool {
@@ -27,18 +27,22 @@ pub fn jumps_out(store: &Store) -> bool {
     is_whole(store) && store.turn().and_then(out) == Some(true)
 }
 
+const RATES: [u8; 2] = [op::IMUL, op::IDIV];
+
 /// Code with jumps to anywhere, some of it counting, and maps at any offsets that rise.
 fn anywhere(rng: &mut Rng) -> Code {
     let mut code = Code::new();
     for _ in 0..rng.within(1, 9) {
         let target = if rng.percent(85) { rng.below(30) as u16 } else { rng.word() };
-        code = match rng.below(7) {
+        code = match rng.below(9) {
             0 => code.names(op::GOTO, &[target]),
             1 => code.iload(1).names(op::IFEQ, &[target]),
             2 => code.iload(1).int(rng.below(9) as i16).names(op::IF_ICMPLT, &[target]),
             3 => code.iload(1).int(1).isub().istore(1),
             4 => code.object(OBJECT).astore(2),
             5 => code.iload(1).iload(1),
+            6 => code.iload(1).int(rng.pick(&[0, 1, -1, 7])).plain(rng.pick(&RATES)).istore(1),
+            7 => code.plain(rng.pick(&RATES)),
             _ => code.aload(0).iload(1).invoke(OBJECT, MAIN, INT, INT),
         };
     }
@@ -60,6 +64,29 @@ pub fn unseen_jumps(rng: &mut Rng, store: &mut Store) {
     let draft = if rng.percent(90) { Draft::mapped(name) } else { Draft::new(name) };
     if add_unseen(store, 0, &draft.main(MAIN, &code)).is_some() {
         start_in(rng, store, 0, name);
+    }
+}
+
+/// A task before a product or quotient of any operands, too few among them.
+pub fn unseen_rates(rng: &mut Rng, store: &mut Store) {
+    if !is_whole(store) || store.cached(0, OBJECT) != Some(0) {
+        return;
+    }
+    let name = unused_name(store);
+    let draft = if rng.percent(90) { Draft::mapped(name) } else { Draft::new(name) };
+    let code = Code::new().plain(rng.pick(&RATES)).ireturn();
+    if add_unseen(store, 0, &draft.main(MAIN, &code)).is_none() {
+        return;
+    }
+    let (Some(object), Some(task)) = (start_in(rng, store, 0, name), store.turn()) else {
+        return;
+    };
+    let base = frame_base(task, 0);
+    store.frames[base + cell::OPERANDS] = rng.pick(&[0, 1, 2, 2, 2, 2, 3]);
+    for place in 0..3 {
+        let int = Value::Int(rng.pick(&[0, 0, 0, 7, u32::MAX, 1 << 31, i32::MAX as u32]));
+        let value = if rng.percent(80) { int } else { rng.pick(&[Value::Null, Value::Object(object)]) };
+        value.write(&mut store.frames, base + cell::OPERAND_0 + 2 * place);
     }
 }
 

@@ -190,7 +190,9 @@ impl Walk<'_> {
     fn arithmetic(&mut self) {
         self.int();
         self.int();
-        let opcode = self.rng.pick(&[op::IADD, op::ISUB]);
+        // now and then in version 1, which doesn't know the last two
+        let known = if self.version >= MAPPED || self.rng.percent(3) { 4 } else { 2 };
+        let opcode = self.rng.pick(&[op::IADD, op::ISUB, op::IMUL, op::IDIV][..known]);
         self.emit(|code| code.plain(opcode));
         self.operands.pop();
     }
