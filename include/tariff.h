@@ -88,7 +88,7 @@ enum tariff_word {
     TARIFF_WANTED = 5,      /* a request needed isn't cached; it is named */
     TARIFF_UNVERIFIED = 6,  /* the verifier rejects */
     TARIFF_ABSENT = 7,      /* no such field or method upward */
-    TARIFF_HIDDEN = 8,      /* define: a field name that a superclass has */
+    TARIFF_HIDDEN = 8,      /* reserved: no call answers it */
     TARIFF_CLASH = 9,       /* the call adds a cache entry or constraint, and the new store wouldn't agree */
     TARIFF_FULL = 10,       /* a limit would be passed; of objects, 256 in use */
     TARIFF_NULL = 11,       /* receiver null */
@@ -107,7 +107,7 @@ uint8_t tariff_boot(uint16_t *counts, size_t counts_length, uint16_t *classes, s
                     const uint32_t *objects, size_t objects_length, const uint32_t *frames, size_t frames_length,
                     uint32_t *answer, size_t answer_length);
 
-/* define: a class of that loader, 0 to 15, from its file, which is kept. Answers the class's number. Refusals: 1 3 2 15 6 4 5 8 10 9,
+/* define: a class of that loader, 0 to 15, from its file, which is kept. Answers the class's number. Refusals: 1 3 2 15 6 4 5 10 9,
    the first that applies. */
 uint8_t tariff_define(uint16_t *counts, size_t counts_length, uint16_t *classes, size_t classes_length,
                       uint8_t *kept, size_t kept_length, uint16_t *cache, size_t cache_length,
@@ -169,7 +169,7 @@ uint8_t tariff_sweep(uint16_t *counts, size_t counts_length, const uint16_t *cla
 
 /* try define, try record: the load isn't made, and is answered as it would be. No table of the store changes. If it clashes, the first cells
    of the list get the numbers of the rows, upward, of one chain of constraints that breaks agreement, and TARIFF_CELL_STEPS how many they
-   are; the list past them stays, and on any other answer all of it. Refusals: 1 3 16 2 15 6 4 5 8 10 9, and 1 3 16 13 4 10 9. */
+   are; the list past them stays, and on any other answer all of it. Refusals: 1 3 16 2 15 6 4 5 10 9, and 1 3 16 13 4 10 9. */
 uint8_t tariff_try_define(const uint16_t *counts, size_t counts_length, const uint16_t *classes, size_t classes_length,
                           const uint8_t *kept, size_t kept_length, const uint16_t *cache, size_t cache_length,
                           const uint16_t *ties, size_t ties_length, const uint16_t *subtypes, size_t subtypes_length,

@@ -1,11 +1,11 @@
 -- Laws of fields and methods that were looked up: where a field stands in an object, what a receiver is, and the instructions case by case.
 use mathlib.Core.Path.{_≡_, refl, sym, ap, _∙_}
 use mathlib.Core.Bool.{Bool, true, false, _||_}
-use mathlib.Core.Option.{Option, none, some, Option·none-ne-some, Option·some-injective}
+use mathlib.Core.Option.{none, some}
 use mathlib.Core.List.{List, [], _∷_, _++_, append-nil}
 use mathlib.Core.Logic.{_≢_}
 use Prim.Native.Nat.{ℕ, suc, _+_, _<_, _≤_}
-use lib.ListN.{length, getElem?, getD}
+use lib.ListN.{length, getD}
 use lib.Dec.{eqb, leb}
 use borrow.Author.Tests.{eqb-true, ne-eqb, ltb-true}
 use Rattle.definition.specs.declared.Signature.{Signature}
@@ -25,6 +25,7 @@ use Rattle.definition.specs.Tables.{Tables, tables, entryAt, valueOf, objectAt,
 use Rattle.laws.specs.Agreement.{super-falls}
 use Rattle.laws.specs.Upward.{nearest-below, below-true, below-trans}
 use Rattle.laws.specs.Slots.{slots-below}
+use Rattle.laws.specs.Tests.{index-found}
 use Rattle.laws.specs.Members.{signature-ties}
 use Rattle.laws.specs.Growth.{nth-lt}
 use Rattle.frames.specs.Unused.{isUsed, used-there, used-none}
@@ -69,21 +70,6 @@ resolved task w os fs F b q room one two first second p us rest e h = (λ i. pos
 
 -- Where a field stands in an object
 
-index-there : {A : Type 0} (f : A → Bool) (xs : List A) (j : ℕ) → indexOf f xs ≡ some j → (x : A) × (getElem? xs j ≡ some x)
-unfolding indexOf
-index-there f [] j h = absurd (Option·none-ne-some j h)
-index-there {A} f (x ∷ xs) j h = go (f x) h (index-there f xs)
-  where
-    later : (o : Option ℕ) → ((i : ℕ) → o ≡ some i → (y : A) × (getElem? xs i ≡ some y))
-        → (elim o as (λ _. Option ℕ) [ none ↦ none | some i ↦ some (suc i) ]) ≡ some j → (y : A) × (getElem? (x ∷ xs) j ≡ some y)
-    later none ih r = absurd (Option·none-ne-some j r)
-    later (some i) ih r = let y = ih i refl in rw (← Option·some-injective (suc i) j r) (y .0, y .1)
-
-    go : (u : Bool) → (elim u as (λ _. Option ℕ) [ true ↦ some 0 | false ↦ elim (indexOf f xs) as (λ _. Option ℕ) [ none ↦ none | some i ↦ some (suc i) ] ]) ≡ some j
-        → ((i : ℕ) → indexOf f xs ≡ some i → (y : A) × (getElem? xs i ≡ some y)) → (y : A) × (getElem? (x ∷ xs) j ≡ some y)
-    go true e ih = rw (← Option·some-injective 0 j e) (x, refl)
-    go false e ih = later (indexOf f xs) ih e
-
 -- a field that class s declares stands in every object of a class c below e, from which s was found
 pub field-used : (B : Base) (c e s n t j : ℕ) → below (superOf B) c e ≡ true → nearest (superOf B) (hasField B n t) e ≡ some s → indexOf (slotIs s n t) (slots B s) ≡ some j
     → j < 16 → j < usedFields B c
@@ -95,7 +81,7 @@ field-used B c e s n t j h g i few = go (leb (sizeOf B c) 16) refl
         below-trans (below-true (superOf B) (super-falls B) c e h) (nearest-below (superOf B) (super-falls B) (hasField B n t) e s g .0)
 
     sized : j < sizeOf B c
-    sized = let x = index-there (slotIs s n t) (slots B s) j i in nth-lt (slots B c) j (x .0) (slots-below B declared j (x .0) (x .1))
+    sized = let x = index-found (slotIs s n t) (slots B s) j i in nth-lt (slots B c) j (x .0) (slots-below B declared j (x .0) (x .1))
 
     go : (u : Bool) → leb (sizeOf B c) 16 ≡ u → j < pick u (sizeOf B c) 16
     go true q = sized

@@ -54,7 +54,7 @@ abbrev pub no : ℕ → Shown
 no n = line n 0 0 (pos 0)
 
 -- the class that define answers
-abbrev class : ℕ → Shown
+abbrev pub class : ℕ → Shown
 class c = line 0 c 0 (pos 0)
 
 unfoldable pub table : List Case

@@ -5,4 +5,5 @@ pub mod Proved
 pub mod Sweeps
 pub mod Branches
 pub mod Rates
+pub mod HiddenFields
 pub mod Tried

@@ -8,7 +8,7 @@ use Prim.Native.Nat.{ℕ, _+_, _≤_, _<_}
 use native.Mathlib.Nat.{zero-add}
 use native.Mathlib.Omega.{arith}
 use lib.ListN.{length, take, drop, getElem?}
-use lib.Dec.{eqb, leb}
+use lib.Dec.{leb}
 use borrow.Author.Tests.{lt-ltb, le-ltb, eq-eqb, le-leb, lt-leb}
 use Rattle.definition.specs.Lists.{any, indexOf, isSome}
 use Rattle.definition.specs.Maybe.{_>>=_, need}
@@ -20,7 +20,7 @@ use Rattle.layout.specs.ReadBack.{empty-file}
 use Rattle.classfile.specs.declared.FieldFound.{FieldFound}
 use Rattle.classfile.specs.declared.MethodFound.{MethodFound}
 use Rattle.classfile.specs.Lists.{le-or-lt, shift, shift-some, any-index, any-map, index-map}
-use Rattle.classfile.specs.Reading.{methodCount, methodAt, methodPlace, methodIn, quickMethods, fieldIs, fieldNamed, fieldFound, methodFound, numbered, partOf}
+use Rattle.classfile.specs.Reading.{methodCount, methodAt, methodPlace, methodIn, quickMethods, fieldIs, fieldFound, methodFound, numbered, partOf}
 
 -- Fields
 
@@ -105,11 +105,6 @@ slot-is c n t f = rw (eq-eqb c c refl)
 -- the place of a field among the class's own slots
 pub own-index : (c n t : ℕ) (fs : List Field) → indexOf (slotIs c n t) (map (slotOf c) fs) ≡ indexOf (fieldIs n t) fs
 own-index c n t fs = index-map (slotIs c n t) (fieldIs n t) (slotOf c) (slot-is c n t) fs
-
--- a slot of a name
-pub own-named : (c n : ℕ) (fs : List Field) → any (λ s. eqb (s .name) n) (map (slotOf c) fs) ≡ any (fieldNamed n) fs
-unfolding fieldNamed
-own-named c n fs = any-map (λ s. eqb (s .name) n) (fieldNamed n) (slotOf c) (λ f. refl) fs
 
 module _ (b : Base) (c : ℕ) (k : Class) (h : getElem? (b .classes) c ≡ some k) where
   pub own-slots : ownSlots b c ≡ map (slotOf c) (k .fields)

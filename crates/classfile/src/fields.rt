@@ -36,7 +36,7 @@ pub(crate) fn field_place(i: u8) -> usize
     8 + 4 * cells::wide8(i)
 }
 
-pub fn field_name(bytes: &[u8], i: u8) -> u16
+pub(crate) fn field_name(bytes: &[u8], i: u8) -> u16
     ensures { λ r. ⌜ r ≡ fieldIn (now (bytes .entry)) i .name ⌝ }
 {
     cells::short_at(bytes, field_place(i))
@@ -85,10 +85,4 @@ pub(crate) fn named_from(bytes: &[u8], first: u8, name: u16) -> bool
         i += 1;
     }
     false
-}
-
-pub fn has_field(bytes: &[u8], name: u16) -> bool
-    ensures { λ r. ⌜ r ≡ any (fieldNamed name) (quickFields (now (bytes .entry))) ⌝ }
-{
-    named_from(bytes, 0, name)
 }

@@ -7,10 +7,8 @@ mod rules; // rules.rt: the rules of a file, one after another
 
 pub use fields::class_name;
 pub use fields::field_count;
-pub use fields::field_name;
 pub use fields::field_type;
 pub use fields::find_field;
-pub use fields::has_field;
 pub use fields::super_name;
 pub use fields::version;
 pub use maps::map_count;

@@ -17,11 +17,11 @@ use Rattle.definition.specs.Verifier.{Note, notesOf}
 use Rattle.definition.specs.File.{File, readFile, classOf}
 use Rattle.definition.specs.Answers.{wanted, Result, refused, ok, number, _>>=_, need, take?}
 use Rattle.definition.specs.Maybe as maybe
-use Rattle.definition.specs.Loading.{hides, define, withClass}
+use Rattle.definition.specs.Loading.{define, withClass}
 use Rattle.definition.specs.Reasons.{afterDefine}
 use Rattle.laws.specs.Options.{bind-at}
 use Rattle.laws.specs.Refusals.{Refuses, on-test, on-take}
-use Rattle.laws.specs.Results.{bind-ok, ok-inj, take-ok}
+use Rattle.laws.specs.Results.{bind-ok, take-ok}
 use Rattle.classfile.specs.declared.MethodFound.{MethodFound}
 use Rattle.classfile.specs.Reading.{fileVersion, methodCount, methodPlace, methodIn, methodAt, methodFound, numbered, quickMethods, quickFile}
 use Rattle.classfile.specs.Searches.{numbered-in, method-at, method-absent}
@@ -52,14 +52,9 @@ module _ (k : Class) (b : Base) (l n m : ℕ) (el : l ≡ k .loader) (en : n ≡
     unfolding superFor isNone need take? _>>=_
     super-wanted h = (λ i. refused (Wanted (k .loader) (em i))) ∙ (rw (own none free, above none h))
 
-    module _ (p : ℕ) (h : find (b .cache) (at l m) ≡ some p) where
-      pub super-hidden : any (hides b p) (k .fields) ≡ true → refused (Word 8) ≡ superFor k b
-      unfolding superFor isNone need take? _>>=_
-      super-hidden e = rw (own none free, above (some p) h, e)
-
-      pub super-fits : any (hides b p) (k .fields) ≡ false → ok p ≡ superFor k b
-      unfolding superFor isNone need take? _>>=_
-      super-fits e = rw (own none free, above (some p) h, e)
+    pub super-fits : (p : ℕ) → find (b .cache) (at l m) ≡ some p → ok p ≡ superFor k b
+    unfolding superFor isNone need take? _>>=_
+    super-fits p h = rw (own none free, above (some p) h)
 
 -- A file's method
 
@@ -88,22 +83,21 @@ bind-elim (some p) f = refl
 
 pub super-cached : (k : Class) (b : Base) (p : ℕ) → ok p ≡ superFor k b → find (b .cache) (at (k .loader) (k .super)) ≡ some p
 unfolding superFor
-super-cached k b p h =
-    let x = bind-ok _ _ (sym h) in
-    let y = bind-ok _ _ (x .2) in
-    let z = bind-ok _ _ (y .2) in
-    take-ok (find (b .cache) (at (k .loader) (k .super))) (wanted (at (k .loader) (k .super))) (y .1) ∙ ap some (ok-inj (z .2))
+super-cached k b p h = take-ok (find (b .cache) (at (k .loader) (k .super))) (wanted (at (k .loader) (k .super))) (bind-ok _ _ (sym h) .2)
 
 -- no refusal of the superclass is a clash
 pub super-words : (k : Class) (b : Base) (r : Refusal) → refused r ≡ superFor k b → number r ≡ 9 → ⊥
 unfolding superFor number
 super-words k b r h = subst (λ (o : Result ℕ). Refuses P o) (sym h)
     (on-test P (isNone (find (b .cache) (at (k .loader) (k .name)))) (Word 4) _ (λ _ z. omega arith)
-    (λ _. on-take P (find (b .cache) (at (k .loader) (k .super))) (wanted (at (k .loader) (k .super))) _ (λ _ z. omega arith)
-    (λ p _. on-test P (not (any (hides b p) (k .fields))) (Word 8) (λ _. ok p) (λ _ z. omega arith) (λ _. tt))))
+    (λ _. go (find (b .cache) (at (k .loader) (k .super)))))
   where
     P : Refusal → Type 0
     P w = number w ≡ 9 → ⊥
+
+    go : (o : Option ℕ) → Refuses P (take? o (wanted (at (k .loader) (k .super))))
+    go none = unfold take? in λ z. omega arith
+    go (some p) = unfold take? in tt
 
 module _ (room : Bool) (k : Class) (w : World) (ns : List Note) where
   pub placed-refused : (r : Refusal) → refused r ≡ superFor k (w .base) → refused r ≡ placedFor room k w ns
@@ -200,8 +194,8 @@ class-known : (room : Bool) (k : Class) (w : World) → Refuses NotThree (define
 unfolding define number
 class-known room k w =
     on-test NotThree _ (Word 15) _ (λ _ z. omega arith) (λ _. on-take NotThree _ (Word 6) _ (λ _ z. omega arith) (λ ns _. on-test NotThree _ (Word 4) _ (λ _ z. omega arith)
-    (λ _. on-take NotThree _ (wanted (at (k .loader) (k .super))) _ (λ _ z. omega arith) (λ p _. on-test NotThree _ (Word 8) _ (λ _ z. omega arith)
-    (λ _. on-test NotThree _ (Word 10) _ (λ _ z. omega arith) (λ _. on-test NotThree _ (Word 9) _ (λ _ z. omega arith) (λ _. tt)))))))
+    (λ _. on-take NotThree _ (wanted (at (k .loader) (k .super))) _ (λ _ z. omega arith) (λ p _. on-test NotThree _ (Word 10) _ (λ _ z. omega arith)
+    (λ _. on-test NotThree _ (Word 9) _ (λ _ z. omega arith) (λ _. tt))))))
 
 pub loader-known : (l : ℕ) (bs : List ℕ) (room : Bool) (w : World) → l < 16 → Refuses NotThree (definedFrom l bs room w)
 unfolding definedFrom need _>>=_ number

@@ -15,7 +15,7 @@ use Rattle.definition.specs.Verifier.{Note, unmapped, notesOf}
 use Rattle.definition.specs.declared.Refusal.the-variants.{Word}
 use Rattle.definition.specs.Answers.{wanted, Result, refused, ok, number, _>>=_, need, take?}
 use Rattle.definition.specs.File.{readFile, classOf}
-use Rattle.definition.specs.Loading.{hides, overrideTies, newSubtypes, withClass, define}
+use Rattle.definition.specs.Loading.{overrideTies, newSubtypes, withClass, define}
 use Rattle.classfile.specs.Reading.{className, fieldCount}
 use Rattle.entries.specs.World.{world, baseWith}
 use Rattle.entries.specs.Entering.{Tried}
@@ -23,12 +23,11 @@ use Rattle.defining.specs.declared.superclasses.Above.{Above}
 use Rattle.defining.specs.declared.constraining.Defining.{Defining}
 use Rattle.defining.specs.Writing.{Grown}
 
--- define: the direct superclass. Refusals: 4 5 8
+-- define: the direct superclass. Refusals: 4 5
 unfoldable pub superFor : Class → Base → Result ℕ
 superFor k b =
     need (isNone (find (b .cache) (at (k .loader) (k .name)))) (Word 4) >>= λ _.
-    take? (find (b .cache) (at (k .loader) (k .super))) (wanted (at (k .loader) (k .super))) >>= λ p.
-    need (not (any (hides b p) (k .fields))) (Word 8) >>= λ _. ok p
+    take? (find (b .cache) (at (k .loader) (k .super))) (wanted (at (k .loader) (k .super)))
 
 unfoldable pub aboveOf : Above → Result ℕ
 aboveOf (Above.Class p) = ok p
@@ -73,18 +72,12 @@ unfolding define superFor postedFor _>>=_ need take?
 define-stages room k w = ap (λ (r : Result World). need (not (any (unmapped k) (k .methods))) (Word 15) >>= λ _. r) (go (notesOf k (k .methods)) (isNone (find (w .base .cache) (at (k .loader) (k .name)))) (find (w .base .cache) (at (k .loader) (k .super))))
   where
     go : (o : Option (List Note)) (a : Bool) (q : Option ℕ)
-        → (take? o (Word 6) >>= λ ns. need a (Word 4) >>= λ _. take? q (wanted (at (k .loader) (k .super))) >>= λ p.
-        need (not (any (hides (w .base) p) (k .fields))) (Word 8) >>= λ _. postedFor room k w ns p)
-        ≡ (take? o (Word 6) >>= λ ns. (need a (Word 4) >>= λ _. take? q (wanted (at (k .loader) (k .super))) >>= λ p.
-        need (not (any (hides (w .base) p) (k .fields))) (Word 8) >>= λ _. ok p) >>= λ p. postedFor room k w ns p)
+        → (take? o (Word 6) >>= λ ns. need a (Word 4) >>= λ _. take? q (wanted (at (k .loader) (k .super))) >>= λ p. postedFor room k w ns p)
+        ≡ (take? o (Word 6) >>= λ ns. (need a (Word 4) >>= λ _. take? q (wanted (at (k .loader) (k .super)))) >>= λ p. postedFor room k w ns p)
     go none a q = refl
     go (some ns) false q = refl
     go (some ns) true none = refl
-    go (some ns) true (some p) = after (not (any (hides (w .base) p) (k .fields)))
-      where
-        after : (b : Bool) → (need b (Word 8) >>= λ _. postedFor room k w ns p) ≡ ((need b (Word 8) >>= λ _. ok p) >>= λ p. postedFor room k w ns p)
-        after true = refl
-        after false = refl
+    go (some ns) true (some p) = refl
 
 -- the superclass, then the constraints
 unfoldable pub placedFor : Bool → Class → World → List Note → Result World

@@ -184,7 +184,7 @@ fn decide_define(
 }
 
 // A class is added, with its defining loader, from its file, and cached under its own request. Answers its number.
-// Refusals: 1 3 2 15 6 4 5 8 10 9
+// Refusals: 1 3 2 15 6 4 5 10 9
 pub fn define(
     counts: &mut [u16],
     classes: &mut [u16],
@@ -240,7 +240,7 @@ pub fn define(
     }
 }
 
-// A class tried: what define would answer, and on a clash why, in the list. No table is written. Refusals: 1 3 16 2 15 6 4 5 8 10 9
+// A class tried: what define would answer, and on a clash why, in the list. No table is written. Refusals: 1 3 16 2 15 6 4 5 10 9
 pub fn try_define(
     counts: &[u16],
     classes: &[u16],

@@ -6,7 +6,7 @@ use mathlib.Core.List.{List, [], _∷_, _++_}
 use Prim.Native.Nat.{ℕ, zero, suc, _+_, _-_}
 use lib.ListN.{length}
 use lib.Dec.{eqb, leb, ltb}
-use Rattle.definition.specs.Numbers.{wordBroken, wordFile, wordUnknown, wordTaken, wordWanted, wordUnverified, wordAbsent, wordHidden, wordClash, wordFull, wordNull, wordBusy, wordMisnamed, wordStuck, wordUnmapped, wordShort, wordDivisor, nameObject, loaderLimit, taskLimit, keptLimit, runLimit, listLimit}
+use Rattle.definition.specs.Numbers.{wordBroken, wordFile, wordUnknown, wordTaken, wordWanted, wordUnverified, wordAbsent, wordClash, wordFull, wordNull, wordBusy, wordMisnamed, wordStuck, wordUnmapped, wordShort, wordDivisor, nameObject, loaderLimit, taskLimit, keptLimit, runLimit, listLimit}
 use Rattle.definition.specs.Lists.{rows}
 use Rattle.definition.specs.Constraints.{Tie, Subtype, World}
 use Rattle.definition.specs.Answers.{Refusal, Word, Answer, Idle, Ran, Finished, Refused, Reply, Accepted, Defined, Stepped, RanFor, Swept, Denied, Result, refused, ok, number, _>>=_, need, take?}
@@ -56,7 +56,7 @@ addEntry r w = withCache (w .base .cache) r
 abbrev pub progressed : ℕ → Rows → Progress → Rows
 progressed k r o = withFrames k (o .frames) (withObjects (o .objects) (withTies (o .world .ties) (withNumbers (numberedOn (o .world .ties) (r .subtypes) r) r)))
 
--- define. Refusals: 3 2 15 6 4 5 8 10 9
+-- define. Refusals: 3 2 15 6 4 5 10 9
 unfoldable pub defineRows : ℕ → List ℕ → Rows → Result (Given Reply)
 defineRows l bs r =
     need (ltb l loaderLimit) (Word wordUnknown) >>= λ _. take? (readFile bs) (Word wordFile) >>= λ f.
@@ -77,7 +77,7 @@ loadRows (loadDefine l bs) = defineRows l bs
 loadRows (loadRecord l n c) = recordRows l n c
 
 -- A load tried with a list of n numbers: it answers what the load would, and changes nothing. 16 comes straight after 3, a load's first test.
--- 3 16 2 15 6 4 5 8 10 9, or 3 16 13 4 10 9
+-- 3 16 2 15 6 4 5 10 9, or 3 16 13 4 10 9
 
 unfoldable pub triedWith : ℕ → Rows → Result (Given Reply) → Result (Given Reply)
 triedWith n r (ok g) = elim (ltb n listLimit) [ true ↦ refused (Word wordShort) | false ↦ given (g .answer) r ]
@@ -218,7 +218,7 @@ stepRefusals = wordBroken ∷ wordStuck ∷ wordWanted ∷ wordAbsent ∷ wordFu
 
 -- a load's after 'unknown'
 unfoldable pub loadRefusals : Load → List ℕ
-loadRefusals (loadDefine l bs) = wordFile ∷ wordUnmapped ∷ wordUnverified ∷ wordTaken ∷ wordWanted ∷ wordHidden ∷ wordFull ∷ wordClash ∷ []
+loadRefusals (loadDefine l bs) = wordFile ∷ wordUnmapped ∷ wordUnverified ∷ wordTaken ∷ wordWanted ∷ wordFull ∷ wordClash ∷ []
 loadRefusals (loadRecord l n c) = wordMisnamed ∷ wordTaken ∷ wordFull ∷ wordClash ∷ []
 
 -- those of a call on rows come after 'broken'

@@ -79,7 +79,7 @@ superOf w c = elim (getElem? (w .classes) c) [
 unfoldable pub loaderOf : Base → ℕ → ℕ
 loaderOf w c = elim (getElem? (w .classes) c) [ none ↦ 0 | some k ↦ k .loader ]
 
--- Fields of an object: those of the superclass, then the class's own, each with the class that declares it
+-- Fields of an object: those of the superclass, then the class's own, each with the class that declares it. Two of one name are two fields.
 
 pub record Slot : Type 0 where
   pub owner : ℕ

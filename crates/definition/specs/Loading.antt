@@ -5,10 +5,10 @@ use mathlib.Core.List.{List, [], _∷_, _++_}
 use Prim.Native.Nat.{ℕ, _+_}
 use lib.ListN.{length, getElem?}
 use lib.Dec.{eqb, leb, ltb}
-use Rattle.definition.specs.Numbers.{wordUnknown, wordTaken, wordUnverified, wordAbsent, wordHidden, wordClash, wordFull, wordBusy, wordMisnamed, wordUnmapped, nameObject, loaderLimit, classLimit, cacheLimit, tieLimit, subtypeLimit, fieldLimit}
+use Rattle.definition.specs.Numbers.{wordUnknown, wordTaken, wordUnverified, wordAbsent, wordClash, wordFull, wordBusy, wordMisnamed, wordUnmapped, nameObject, loaderLimit, classLimit, cacheLimit, tieLimit, subtypeLimit, fieldLimit}
 use Rattle.definition.specs.Lists.{every, any, isNone}
 use Rattle.definition.specs.Requests.{Request, at}
-use Rattle.definition.specs.Classes.{Base, Signature, Class, Field, Method, find, loaderOf, slots, selected, startSignature}
+use Rattle.definition.specs.Classes.{Base, Signature, Class, Method, find, loaderOf, slots, selected, startSignature}
 use Rattle.definition.specs.Constraints.{Tie, Subtype, World, agrees, signatureTies}
 use Rattle.definition.specs.Verifier.{Note, unmapped, notesOf}
 use Rattle.definition.specs.Machine.{intValue, Frame, Objects, unused, made, roomless, newObject, entryFrame, Progress}
@@ -38,10 +38,6 @@ unfoldable pub overrideTies : Base → ℕ → ℕ → List Tie → List Method 
 overrideTies b l p ts [] = []
 overrideTies b l p ts (m ∷ ms) = let us = overrideTie b l p ts (m .signature) in us ++ overrideTies b l p (ts ++ us) ms
 
--- a superclass has a field of that name
-unfoldable pub hides : Base → ℕ → Field → Bool
-hides b p f = any (λ s. eqb (s .name) (f .name)) (slots b p)
-
 -- one class more, cached under its own request, with the constraints it posts
 abbrev pub withClass : World → Class → List Tie → List Subtype → World
 withClass w k us ss = record {
@@ -60,14 +56,13 @@ withEntry w r c = record {
   subtypes = w .subtypes;
 }
 
--- define, of a file that was read as the class k; `room` is whether its bytes can be kept. Refusals: 15 6 4 5 8 10 9
+-- define, of a file that was read as the class k; `room` is whether its bytes can be kept. Refusals: 15 6 4 5 10 9
 unfoldable pub define : Bool → Class → World → Result World
 define room k w =
     need (not (any (unmapped k) (k .methods))) (Word wordUnmapped) >>= λ _.
     take? (notesOf k (k .methods)) (Word wordUnverified) >>= λ ns.
     need (isNone (find (w .base .cache) (at (k .loader) (k .name)))) (Word wordTaken) >>= λ _.
     take? (find (w .base .cache) (at (k .loader) (k .super))) (wanted (at (k .loader) (k .super))) >>= λ p.
-    need (not (any (hides (w .base) p) (k .fields))) (Word wordHidden) >>= λ _.
     (let us = overrideTies (w .base) (k .loader) p (w .ties) (k .methods) in
     let ss = newSubtypes (w .subtypes) (k .loader) ns in
     need (every

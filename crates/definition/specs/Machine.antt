@@ -201,7 +201,8 @@ give (g ∷ gs) w os v = ok (record {
   result = none;
 })
 
--- An instruction of frame f, of class k, above the frames fs of its task. Refusals in order: 5 7 10 9, then 14, then 11 and 17, which no instruction can both meet.
+-- An instruction of frame f, of class k, above the frames fs of its task. A field is that of the class that resolution finds, d, at its place among d's fields, whatever the object's own class declares.
+-- Refusals in order: 5 7 10 9, then 14, then 11 and 17, which no instruction can both meet.
 module _ (task : ℕ) (w : World) (os : Objects) (f : Frame) (fs : List Frame) (k : Class) (i : Decoded) where
   -- nothing but the frame changes
   abbrev pub on : List Value → List Value → Result Progress

@@ -26,6 +26,7 @@ wordUnverified = 6
 abbrev pub wordAbsent : ℕ
 wordAbsent = 7
 
+-- reserved: the first document's define gave it for a field name that a superclass has, which is allowed since paper 6 (`never-hidden`, crate unbroken)
 abbrev pub wordHidden : ℕ
 wordHidden = 8
 

@@ -18,6 +18,7 @@ pub const WORD_UNVERIFIED: u8 = 6;
 
 pub const WORD_ABSENT: u8 = 7;
 
+// Reserved: no call answers it.
 pub const WORD_HIDDEN: u8 = 8;
 
 pub const WORD_CLASH: u8 = 9;

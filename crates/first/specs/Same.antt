@@ -8,11 +8,18 @@
 -- 2, choices and loops: tables carry as before. Files of version 2 are involved: a define of one, and any call but boot on tables that keep one.
 -- 3, why a load clashed: `Carries` forgets the numbers of rows, which are some that aren't broken. Every call of the first document numbers on, so none is involved. A tried
 -- load is no call of the first document, as a sweep is none.
+-- 6, hidden fields: tables carry as before. A define that the first document's machine refuses for a hidden field, with 8, is involved, and no other call: a kept file that hides a field
+-- was never broken, and both machines find a field's place by the class that declares it.
 use mathlib.Core.Path.{_≡_, refl, ap}
 use mathlib.Core.Bool.{Bool, true, false}
 use mathlib.Core.List.{List, [], _∷_, map}
 use mathlib.Core.Logic.{_⊎_, inl, inr}
+use Prim.Native.Nat.{ℕ}
+use lib.Dec.{eqb}
+use borrow.Author.Tests.{eqb-true, eqb-false}
+use Rattle.definition.specs.Numbers.{wordHidden}
 use Rattle.definition.specs.Lists.{Each}
+use Rattle.definition.specs.Answers.{numberOf}
 use Rattle.definition.specs.declared.Reply.{Reply}
 use Rattle.definition.specs.declared.Reply.the-variants.{Accepted, Stepped}
 use Rattle.definition.specs.Tables.{Tables}
@@ -24,7 +31,7 @@ use Rattle.first.specs.SameRows.{BringsLater, BringsNone, todayRow}
 pub use Rattle.first.specs.Carries.{Carries, EarlyTables, keepsLater, keeps-none, same-broken}
 use Rattle.layout.specs.Tests.{All}
 use Rattle.first.specs.KeepsNone.{keeps-early, booted-early}
-use Rattle.first.specs.SameCalls.{same-boot, same-rows-call, same-step-tables, same-run}
+use Rattle.first.specs.SameCalls.{Unhidden, same-boot, same-rows-call, same-step-tables, same-run}
 
 -- a call of the first document, asked of today's machine
 abbrev pub today : FirstCall → Call
@@ -37,10 +44,10 @@ abbrev pub SameAnswer : FirstReply → Reply → Type 0
 SameAnswer a b = a ≡ b
 
 -- what the papers name is involved in call c on tables u, which the first document's machine answers with a and today's with b: a file of a later version, which the
--- tables keep or the call brings
+-- tables keep or the call brings, or a hidden field, for which the first document's machine refuses it
 abbrev pub Involved : FirstCall → FirstTables → FirstReply → Reply → Type 0
 Involved firstCallBoot u a b = ⊥
-Involved (firstCallRows c) u a b = (keepsLater u ≡ true) ⊎ BringsLater c
+Involved (firstCallRows c) u a b = (keepsLater u ≡ true) ⊎ (BringsLater c ⊎ (numberOf a ≡ wordHidden))
 Involved firstCallStep u a b = keepsLater u ≡ true
 Involved (firstCallRun n) u a b = keepsLater u ≡ true
 
@@ -61,12 +68,24 @@ boot-call : (u : FirstTables) (t : Tables) → Carries u t → Alike (firstPerfo
 unfolding firstPerform perform
 boot-call u t h = let d = same-boot u t h in record { answer = d .answer; tables = d .tables }
 
-same-call : (c : FirstCall) → CallBringsNone c → (u : FirstTables) (t : Tables) → Carries u t → EarlyTables u → Alike (firstPerform c u) (perform (today c) t)
-unfolding firstPerform perform
-same-call firstCallBoot b u t h x = boot-call u t h
-same-call (firstCallRows c) b u t h x = let d = same-rows-call c b u t h x in record { answer = d .answer; tables = d .tables }
-same-call firstCallStep b u t h x = let d = same-step-tables u t h x in record { answer = ap Stepped (d .answer); tables = d .tables }
-same-call (firstCallRun n) b u t h x = let d = same-run n u t h x in record { answer = d .answer; tables = d .tables }
+module _ (u : FirstTables) (t : Tables) (h : Carries u t) (x : EarlyTables u) where
+  row-call : (c : FirstRowCall) → BringsNone c → Unhidden (firstPerform (firstCallRows c) u .answer) → Alike (firstPerform (firstCallRows c) u) (perform (callRows (todayRow c)) t)
+  unfolding firstPerform perform
+  row-call c b n = let d = same-rows-call c b u t h x n in record { answer = d .answer; tables = d .tables }
+
+  step-call : Alike (firstPerform firstCallStep u) (perform callStep t)
+  unfolding firstPerform perform
+  step-call = let d = same-step-tables u t h x in record { answer = ap Stepped (d .answer); tables = d .tables }
+
+  run-call : (n : ℕ) → Alike (firstPerform (firstCallRun n) u) (perform (callRun n) t)
+  unfolding firstPerform perform
+  run-call n = let d = same-run n u t h x in record { answer = d .answer; tables = d .tables }
+
+  same-call : (c : FirstCall) → CallBringsNone c → Unhidden (firstPerform c u .answer) → Alike (firstPerform c u) (perform (today c) t)
+  same-call firstCallBoot b n = boot-call u t h
+  same-call (firstCallRows c) b n = row-call c b n
+  same-call firstCallStep b n = step-call
+  same-call (firstCallRun m) b n = run-call m
 
 brings : (c : FirstRowCall) → BringsLater c ⊎ BringsNone c
 brings (firstRowDefine l bs) = go (laterFile bs)
@@ -85,11 +104,17 @@ one-call c u t h = go c (keepsLater u) refl
     go : (c : FirstCall) (b : Bool) → keepsLater u ≡ b → Involved c u (firstPerform c u .answer) (perform (today c) t .answer) ⊎ Alike (firstPerform c u) (perform (today c) t)
     go firstCallBoot b e = inr (boot-call u t h)
     go (firstCallRows c) true e = inl (inl e)
-    go (firstCallRows c) false e = elim (brings c) [ inl l ↦ inl (inr l) | inr n ↦ inr (same-call (firstCallRows c) n u t h (keeps-none u e)) ]
+    go (firstCallRows c) false e = by (brings c) (eqb (numberOf (firstPerform (firstCallRows c) u .answer)) wordHidden) refl
+      where
+        by : BringsLater c ⊎ BringsNone c → (b : Bool) → eqb (numberOf (firstPerform (firstCallRows c) u .answer)) wordHidden ≡ b
+            → Involved (firstCallRows c) u (firstPerform (firstCallRows c) u .answer) (perform (callRows (todayRow c)) t .answer) ⊎ Alike (firstPerform (firstCallRows c) u) (perform (callRows (todayRow c)) t)
+        by (inl l) b q = inl (inr (inl l))
+        by (inr n) true q = inl (inr (inr (eqb-true _ _ q)))
+        by (inr n) false q = inr (row-call u t h (keeps-none u e) c n (eqb-false _ _ q))
     go firstCallStep true e = inl e
-    go firstCallStep false e = inr (same-call firstCallStep tt u t h (keeps-none u e))
+    go firstCallStep false e = inr (step-call u t h (keeps-none u e))
     go (firstCallRun n) true e = inl e
-    go (firstCallRun n) false e = inr (same-call (firstCallRun n) tt u t h (keeps-none u e))
+    go (firstCallRun n) false e = inr (run-call u t h (keeps-none u e) n)
 
 -- Lists of calls
 
@@ -115,23 +140,26 @@ many-calls (c ∷ cs) u t h n = go (one-call c u t h) (λ k. many-calls cs (firs
     go (inl x) later = absurd (n .0 x)
     go (inr a) later = let l = later (a .tables) in ((a .answer, l .0), l .1)
 
--- Version 1 alone: the calls bring no file of a later version, and the tables keep none. Then every answer is what it was, and the tables left keep none
+-- Version 1 alone: the calls bring no file of a later version, the tables keep none, and the first document's machine refuses none for a hidden field. Then every answer is what it
+-- was, and the tables left keep none
 
 abbrev SameLeft : List FirstCall → FirstTables → Tables → Type 0
 SameLeft cs u t = Each SameAnswer (firstPerformAll cs u .answer) (performAll (map today cs) t .answer) × Carries (firstPerformAll cs u .tables) (performAll (map today cs) t .tables)
 
-pub answers-kept : (cs : List FirstCall) → All CallBringsNone cs → (u : FirstTables) (t : Tables) → Carries u t → EarlyTables u → SameLeft cs u t × EarlyTables (firstPerformAll cs u .tables)
+pub answers-kept : (cs : List FirstCall) → All CallBringsNone cs → (u : FirstTables) (t : Tables) → Carries u t → EarlyTables u → All Unhidden (firstPerformAll cs u .answer)
+    → SameLeft cs u t × EarlyTables (firstPerformAll cs u .tables)
 unfolding performAll firstPerformAll
-answers-kept [] b u t h x = ((tt, h), x)
-answers-kept (c ∷ cs) b u t h x =
-    let a = same-call c (b .0) u t h x in
-    let r = answers-kept cs (b .1) (firstPerform c u .tables) (perform (today c) t .tables) (a .tables) (keeps-early c u x) in
+answers-kept [] b u t h x n = ((tt, h), x)
+answers-kept (c ∷ cs) b u t h x n =
+    let a = same-call u t h x c (b .0) (n .0) in
+    let r = answers-kept cs (b .1) (firstPerform c u .tables) (perform (today c) t .tables) (a .tables) (keeps-early c u x) (n .1) in
     (((a .answer, r .0 .0), r .0 .1), r .1)
 
 -- so from a boot that is accepted, whatever the tables held
-pub answers-from-boot : (u : FirstTables) (t : Tables) → Carries u t → firstBoot u .answer ≡ Accepted → (cs : List FirstCall) → All CallBringsNone cs → SameLeft (firstCallBoot ∷ cs) u t
+pub answers-from-boot : (u : FirstTables) (t : Tables) → Carries u t → firstBoot u .answer ≡ Accepted → (cs : List FirstCall) → All CallBringsNone cs
+    → All Unhidden (firstPerformAll cs (firstBoot u .tables) .answer) → SameLeft (firstCallBoot ∷ cs) u t
 unfolding performAll firstPerformAll firstPerform perform
-answers-from-boot u t h e cs b =
+answers-from-boot u t h e cs b n =
     let a = same-boot u t h in
-    let r = answers-kept cs b (firstBoot u .tables) (boot t .tables) (a .tables) (booted-early u e) in
+    let r = answers-kept cs b (firstBoot u .tables) (boot t .tables) (a .tables) (booted-early u e) n in
     ((a .answer, r .0 .0), r .0 .1)

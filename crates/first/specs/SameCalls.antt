@@ -1,5 +1,5 @@
--- A call of both machines on tables of which today's carry the first document's, where no file of a later version is kept or brought: the same answer, and tables
--- that carry again.
+-- A call of both machines on tables of which today's carry the first document's, where no file of a later version is kept or brought, and which the first document's machine
+-- doesn't refuse for a hidden field: the same answer, and tables that carry again.
 use mathlib.Core.Path.{_≡_, refl, sym, ap, _∙_, subst₂}
 use mathlib.Core.Bool.{Bool, true, false, _&&_}
 use mathlib.Core.List.{List, [], _∷_}
@@ -12,10 +12,10 @@ use Rattle.definition.specs.declared.Refusal.the-variants.{Word}
 use Rattle.definition.specs.declared.Answer.{Answer}
 use Rattle.definition.specs.declared.Answer.the-variants.{Idle, Ran, Finished, Refused}
 use Rattle.definition.specs.declared.Reply.the-variants.{Denied}
-use Rattle.definition.specs.Numbers.{wordBroken, wordUnknown, runLimit, countClasses, countKept}
+use Rattle.definition.specs.Numbers.{wordBroken, wordUnknown, wordHidden, runLimit, countClasses, countKept}
 use Rattle.definition.specs.Lists.{rows, writeRows}
 use Rattle.definition.specs.Machine.{Frame}
-use Rattle.definition.specs.Answers.{Result, refused, ok}
+use Rattle.definition.specs.Answers.{Result, refused, ok, number, numberOf}
 use Rattle.definition.specs.Tables.{Tables, ClassRow, Rows, classRowAt, putClassRow, classRowsOf, keptOf, view}
 use Rattle.laws.specs.Wrapped.{Ok, then}
 use Rattle.layout.specs.Places.{rows-getD}
@@ -29,11 +29,11 @@ use Rattle.unbroken.specs.Unbroken.{Keeps}
 use Rattle.definition.specs.Calls.{Given, bootRows, Done, done, carried, wrap, boot, stepRows, stepTables, goOn, runFrom, run, onRowCall}
 use Rattle.first.specs.Tables.{FirstTables, firstCountsLength, FirstRows, firstWorldOf, firstViewOver, firstView, firstCountsOf, firstPut}
 use Rattle.first.specs.Broken.{firstBroken}
-use Rattle.first.specs.Calls.{FirstGiven, firstBootRows, FirstDone, firstCarried, firstWrap, firstBoot, firstStepTask, firstStepOn, firstStepRows, firstStepTables, firstRun, FirstRowCall, firstOnRowCall}
+use Rattle.first.specs.Calls.{FirstGiven, FirstReply, firstBootRows, FirstDone, firstCarried, firstWrap, firstBoot, firstStepTask, firstStepOn, firstStepRows, firstStepTables, firstRun, FirstRowCall, firstOnRowCall}
 use Rattle.first.specs.SameObjects.{noObjects}
 use Rattle.first.specs.Likewise.{Likewise}
 use Rattle.first.specs.SameBases.{Early}
-use Rattle.first.specs.SameRows.{SameRows, EarlyRows, BringsNone, SameGiven, todayRow, same-row-call, same-step-rows}
+use Rattle.first.specs.SameRows.{SameRows, EarlyRows, BringsNone, FirstHidden, SameGiven, todayRow, same-row-call, same-step-rows}
 use Rattle.first.specs.Carries.{Carries, EarlyTables, early-rows, eight-counts, same-shaped, same-broken, same-store}
 use Rattle.first.specs.Written.{same-rows-put}
 
@@ -57,9 +57,9 @@ same-boot u t h = either _ _ _ _ _ _ (same-shaped u t h)
     (λ s. record { answer = refl; tables = same-rows-put u t h (eight-counts u t h s) firstBootRows bootRows (record { rest = refl; objects = noObjects }) (shaped-true t (sym (same-shaped u t h) ∙ s)) boot-whole })
     (λ _. same-left _ u t h)
 
--- a call on rows, where it is alike on the same rows
-module _ {A : Type 0} (deny : Refusal → A) (f : FirstRows → Result (FirstGiven A)) (g : Rows → Result (Given A))
-    (alike : (r : FirstRows) (q : Rows) → SameRows r q → EarlyRows q → Likewise SameGiven (f r) (g q)) (keeps : Keeps g) where
+-- a call on rows, where it is alike on the same rows, of the first document's such as `On` says
+module _ {A : Type 0} (deny : Refusal → A) (f : FirstRows → Result (FirstGiven A)) (g : Rows → Result (Given A)) (On : FirstRows → Type 0)
+    (alike : (r : FirstRows) (q : Rows) → SameRows r q → EarlyRows q → On r → Likewise SameGiven (f r) (g q)) (keeps : Keeps g) where
   same-carried : (u : FirstTables) (t : Tables) → Carries u t → Lengths t → length (u .counts) ≡ firstCountsLength → (o : Result (FirstGiven A)) (p : Result (Given A))
       → Likewise SameGiven o p → Ok p (λ g. Whole (g .rows)) → SameDone (firstCarried deny u o) (carried deny t p)
   unfolding firstCarried carried
@@ -68,20 +68,31 @@ module _ {A : Type 0} (deny : Refusal → A) (f : FirstRows → Result (FirstGiv
   same-carried u t h n e (ok a) (refused w) l k = absurd l
   same-carried u t h n e (ok a) (ok b) l k = record { answer = l .answer; tables = same-rows-put u t h e (a .rows) (b .rows) (l .rows) n k }
 
-  pub same-wrap : (u : FirstTables) (t : Tables) → Carries u t → EarlyTables u → SameDone (firstWrap deny f u) (wrap deny g t)
+  same-wrap : (u : FirstTables) (t : Tables) → Carries u t → EarlyTables u → (firstBroken u ≡ false → On (firstView u)) → SameDone (firstWrap deny f u) (wrap deny g t)
   unfolding firstWrap wrap
-  same-wrap u t h x = either _ _ _ _ _ _ (same-broken u t h x) (λ _. same-left _ u t h)
+  same-wrap u t h x on = either _ _ _ _ _ _ (same-broken u t h x) (λ _. same-left _ u t h)
       (λ b.
       let s = same-store u t h x b in
       let w = broken-false t (sym (same-broken u t h x) ∙ b) in
-      same-carried u t h (w .0) (s .eight) (f (firstView u)) (g (view t)) (alike (firstView u) (view t) (s .rows) (early-rows u t x (s .rows))) (keeps (view t) (w .1)))
+      same-carried u t h (w .0) (s .eight) (f (firstView u)) (g (view t)) (alike (firstView u) (view t) (s .rows) (early-rows u t x (s .rows)) (on b)) (keeps (view t) (w .1)))
 
 pub same-step-tables : (u : FirstTables) (t : Tables) → Carries u t → EarlyTables u → SameDone (firstStepTables u) (stepTables t)
 unfolding firstStepTables stepTables
-same-step-tables = same-wrap Refused firstStepRows stepRows (λ r q s x. rw (s .rest) (same-step-rows (r .objects) q (s .objects) x)) step-whole
+same-step-tables u t h x = same-wrap Refused firstStepRows stepRows (λ _. Unit {0}) (λ r q s e _. rw (s .rest) (same-step-rows (r .objects) q (s .objects) e)) step-whole u t h x (λ _. tt)
 
-pub same-rows-call : (c : FirstRowCall) → BringsNone c → (u : FirstTables) (t : Tables) → Carries u t → EarlyTables u → SameDone (firstWrap Denied (firstOnRowCall c) u) (wrap Denied (onRowCall (todayRow c)) t)
-same-rows-call c b = same-wrap Denied (firstOnRowCall c) (onRowCall (todayRow c)) (λ r q s x. rw (s .rest) (same-row-call (r .objects) q (s .objects) x c b)) (λ r w. rows-whole r w (todayRow c))
+-- an answer other than 8
+abbrev pub Unhidden : FirstReply → Type 0
+Unhidden a = numberOf a ≡ wordHidden → ⊥
+
+answers-hidden : (c : FirstRowCall) (u : FirstTables) → firstBroken u ≡ false → FirstHidden c (firstView u) → numberOf (firstWrap Denied (firstOnRowCall c) u .answer) ≡ wordHidden
+unfolding firstWrap firstCarried numberOf number
+answers-hidden c u b e = rw (b, firstWrap) (rw (e, firstCarried) refl)
+
+pub same-rows-call : (c : FirstRowCall) → BringsNone c → (u : FirstTables) (t : Tables) → Carries u t → EarlyTables u → Unhidden (firstWrap Denied (firstOnRowCall c) u .answer)
+    → SameDone (firstWrap Denied (firstOnRowCall c) u) (wrap Denied (onRowCall (todayRow c)) t)
+same-rows-call c b u t h x n =
+    same-wrap Denied (firstOnRowCall c) (onRowCall (todayRow c)) (λ r. FirstHidden c r → ⊥)
+    (λ r q s e m. rw (s .rest) (same-row-call (r .objects) q (s .objects) e c b (rw (s .rest) at m))) (λ r w. rows-whole r w (todayRow c)) u t h x (λ k e. n (answers-hidden c u k e))
 
 -- A step leaves the classes and their files
 

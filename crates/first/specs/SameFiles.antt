@@ -1,13 +1,16 @@
--- Files of version 1 are read, verified and defined as they were. A file of a later version begins with a 2.
+-- Files of version 1 are read and verified as they were, and defined but for hidden fields, which the first document refused. A file of a later version begins with a 2.
 use mathlib.Core.Path.{_≡_, refl, sym, ap, _∙_}
-use mathlib.Core.Bool.{Bool, true, false, _&&_}
+use mathlib.Core.Bool.{Bool, true, false, false≢true, not, _&&_}
 use mathlib.Core.Option.{Option, none, some, Option·none-ne-some, Option·some-injective}
+use mathlib.Core.Logic.{_⊎_, inl, inr}
 use mathlib.Core.List.{List, [], _∷_, _++_, append-nil}
 use Prim.Native.Nat.{ℕ, zero, suc, _+_}
 use native.Mathlib.Omega.{arith}
 use lib.ListN.{length, drop, getD}
 use lib.Dec.{eqb, leb}
 use borrow.Author.Tests.{eqb-true, eqb-false, leb-true}
+use Rattle.definition.specs.declared.Refusal.{Refusal}
+use Rattle.definition.specs.declared.Refusal.the-variants.{Word}
 use Rattle.definition.specs.declared.Kind.{Kind}
 use Rattle.definition.specs.declared.Operator.{Operator}
 use Rattle.definition.specs.declared.Operator.the-variants.{Add, Subtract, Multiply, Divide}
@@ -15,7 +18,7 @@ use Rattle.definition.specs.declared.Opcode.{Opcode}
 use Rattle.definition.specs.declared.Opcode.the-variants.{OpAconstNull, OpSipush, OpLoad, OpStore, OpPop, OpDup, OpArithmetic, OpGetfield, OpPutfield, OpInvokevirtual, OpNew, OpReturn, OpBranch, OpUnknown}
 use Rattle.definition.specs.declared.Instruction.{Instruction}
 use Rattle.definition.specs.declared.Instruction.the-variants.{AconstNull, Sipush, Load, Store, Pop, Dup, Arithmetic, Getfield, Putfield, Invokevirtual, New, Return, Branch}
-use Rattle.definition.specs.Numbers.{versionOne, versionTwo}
+use Rattle.definition.specs.Numbers.{wordHidden, versionOne, versionTwo}
 use Rattle.definition.specs.Lists.{any}
 use Rattle.definition.specs.Maybe.{_>>=_, need}
 use Rattle.definition.specs.Answers as Answers
@@ -311,6 +314,32 @@ unfolding any
 none-unmapped k [] old = refl
 none-unmapped k (m ∷ ms) old = rw (is-mapped k m old, any) (none-unmapped k ms old)
 
-pub same-define : (room : Bool) (k : Class) (w : World) → OldClass k → firstDefine room k w ≡ define room k w
+-- One test more: it refuses with w, or it makes no difference
+
+abbrev But : {A : Type 0} → Refusal → Answers.Result A → Answers.Result A → Type 0
+But w o p = (o ≡ Answers.refused w) ⊎ (o ≡ p)
+
+but-test : {A : Type 0} (t : Bool) (w : Refusal) (o : Answers.Result A) → But w (Answers._>>=_ (Answers.need t w) (λ _. o)) o
+unfolding Answers._>>=_ Answers.need
+but-test true w o = inr refl
+but-test false w o = inl refl
+
+but-then : {A B : Type 0} (w : Refusal) (o : Answers.Result A) (f g : A → Answers.Result B) → ((a : A) → But w (f a) (g a)) → But w (Answers._>>=_ o f) (Answers._>>=_ o g)
+unfolding Answers._>>=_
+but-then w (Answers.refused v) f g k = inr refl
+but-then w (Answers.ok a) f g k = k a
+
+-- a test of the other alone, which passes
+but-passed : {A : Type 0} (w v : Refusal) (t : Bool) (o : Answers.Result A) (f : Unit {0} → Answers.Result A) → t ≡ true → But w o (f tt) → But w o (Answers._>>=_ (Answers.need t v) f)
+unfolding Answers._>>=_ Answers.need
+but-passed w v true o f e h = h
+but-passed w v false o f e h = absurd (false≢true e)
+
+-- define of a class of version 1 gives the same, but where the first document's refuses a field name that a superclass has
+hidden-or-same : (room : Bool) (k : Class) (w : World) → OldClass k → But (Word wordHidden) (firstDefine room k w) (define room k w)
 unfolding firstDefine define
-same-define room k w h = rw (none-unmapped k (k .methods) (h .0), same-all-notes k (k .methods) (h .0) (h .1)) (unfold Answers._>>=_ Answers.need in refl)
+hidden-or-same room k w h = rw (same-all-notes k (k .methods) (h .0) (h .1)) (but-passed _ _ _ _ _ (ap not (none-unmapped k (k .methods) (h .0)))
+    (but-then _ _ _ _ (λ ns. but-then _ _ _ _ (λ _. but-then _ _ _ _ (λ p. but-test _ _ _)))))
+
+pub same-define : (room : Bool) (k : Class) (w : World) → OldClass k → (firstDefine room k w ≡ Answers.refused (Word wordHidden) → ⊥) → firstDefine room k w ≡ define room k w
+same-define room k w h n = elim (hidden-or-same room k w h) [ inl e ↦ absurd (n e) | inr e ↦ e ]

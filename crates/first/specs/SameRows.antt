@@ -1,5 +1,5 @@
 -- The same rows in both machines: the same objects, and every other part equal. Where no class's file is of a later version they are sound together, and a call
--- on them that brings none gives the same answer and leaves the same rows again.
+-- on them that brings none, and that the first document's machine doesn't refuse for a hidden field, gives the same answer and leaves the same rows again.
 use mathlib.Core.Path.{_≡_, refl, sym, ap, _∙_}
 use mathlib.Core.Option.{Option}
 use mathlib.Core.Bool.{Bool, true, false}
@@ -9,9 +9,9 @@ use native.Mathlib.Omega.{arith}
 use lib.ListN.{length}
 use lib.Dec.{leb, ltb}
 use borrow.Author.Tests.{ltb-true, lt-ltb}
-use Rattle.definition.specs.Numbers.{wordFile, taskLimit, keptLimit, operandLimit}
+use Rattle.definition.specs.Numbers.{wordFile, wordUnknown, wordHidden, loaderLimit, taskLimit, keptLimit, operandLimit}
 use Rattle.definition.specs.declared.Refusal.the-variants.{Word}
-use Rattle.definition.specs.Answers.{take?}
+use Rattle.definition.specs.Answers.{refused, ok, _>>=_, need, take?}
 use Rattle.definition.specs.Classes.{Base}
 use Rattle.definition.specs.File.{File, classOf}
 use Rattle.definition.specs.Loading.{recorded}
@@ -24,6 +24,7 @@ use Rattle.first.specs.Machine.{FirstProgress}
 use Rattle.first.specs.Tables.{FirstRows, firstRowsOf, firstBaseOf, firstWorldOf}
 use Rattle.first.specs.Broken.{firstValueFits, firstLocalFits, firstObjectFits, firstFrameFits, firstClassesFit, firstSound}
 use Rattle.laws.specs.Results.{take-ok}
+use Rattle.first.specs.Files.{firstReadFile}
 use Rattle.first.specs.Verifier.{firstDefine}
 use Rattle.first.specs.SameFiles.{laterFile, same-read, read-old, same-define}
 use Rattle.first.specs.SameBases.{Early, same-classes, classes-old, same-classes-fit}
@@ -97,6 +98,10 @@ BringsNone (firstRowRecord l n c) = Unit {0}
 BringsNone (firstRowStart k l n m v) = Unit {0}
 BringsNone (firstRowDrop k) = Unit {0}
 
+-- the first document's machine refuses the call for a hidden field
+abbrev pub FirstHidden : FirstRowCall → FirstRows → Type 0
+FirstHidden c r = firstOnRowCall c r ≡ refused (Word wordHidden)
+
 -- one more test that passes
 every-last : (xs : List Bool) → every xs ≡ every (xs ++ (true ∷ []))
 unfolding every
@@ -140,18 +145,26 @@ module _ (os : List Object) (q : Rows) (h : SameObjects os (q .objects)) (e : Ea
   same-progressed : (k : ℕ) (p : FirstProgress) (o : Progress) → SameProgress p o → SameRows (firstProgressed k (plain os q) p) (progressed k q o)
   same-progressed k p o g = record { rest = ap (firstProgressed k (plain os q)) (g .rest); objects = g .objects }
 
-  pub same-row-call : (c : FirstRowCall) → BringsNone c → Likewise SameGiven (firstOnRowCall c (plain os q)) (onRowCall (todayRow c) q)
+  -- a define that the first document's machine refuses for a hidden field is refused as a whole
+  hidden-rows : (l : ℕ) (bs : List ℕ) (f : File) (u : Unit {0}) → need (ltb l loaderLimit) (Word wordUnknown) ≡ ok u → take? (firstReadFile bs) (Word wordFile) ≡ ok f
+      → firstDefine (leb (length (q .kept) + length bs) keptLimit) (classOf l f) (worldOf q) ≡ refused (Word wordHidden) → FirstHidden (firstRowDefine l bs) (plain os q)
+  unfolding firstDefineRows _>>=_
+  hidden-rows l bs f u s t e = rw (s, t, same-world, e)
+
+  -- where no field is hidden
+  pub same-row-call : (c : FirstRowCall) → BringsNone c → (FirstHidden c (plain os q) → ⊥) → Likewise SameGiven (firstOnRowCall c (plain os q)) (onRowCall (todayRow c) q)
   unfolding firstDefineRows defineRows firstRecordRows recordRows firstStartRows startRows firstDropRows dropRows
-  same-row-call (firstRowDefine l bs) b =
+  same-row-call (firstRowDefine l bs) b n =
       let z = same-read bs b in
-      after SameGiven _ _ refl _ _ (λ _. after-in SameGiven _ _ (ap (λ (o : Option File). take? o (Word wordFile)) z) _ _ (λ f t.
-      after SameGiven _ _ (ap (firstDefine (leb (length (q .kept) + length bs) keptLimit) (classOf l f)) same-world ∙ same-define _ (classOf l f) (worldOf q) (read-old l bs b f (sym z ∙ take-ok _ _ t))) _ _
+      after-in SameGiven _ _ refl _ _ (λ u s. after-in SameGiven _ _ (ap (λ (o : Option File). take? o (Word wordFile)) z) _ _ (λ f t.
+      after SameGiven _ _ (ap (firstDefine (leb (length (q .kept) + length bs) keptLimit) (classOf l f)) same-world
+      ∙ same-define _ (classOf l f) (worldOf q) (read-old l bs b f (sym z ∙ take-ok _ _ t)) (λ e. n (hidden-rows l bs f u s t e))) _ _
       (λ w. record { answer = refl; rows = record { rest = refl; objects = h } })))
-  same-row-call (firstRowRecord l n c) b = after SameGiven _ _ (ap (recorded l n c) same-world) _ _ (λ w. record { answer = refl; rows = record { rest = refl; objects = h } })
-  same-row-call (firstRowStart k l n m v) b =
+  same-row-call (firstRowRecord l n c) b _ = after SameGiven _ _ (ap (recorded l n c) same-world) _ _ (λ w. record { answer = refl; rows = record { rest = refl; objects = h } })
+  same-row-call (firstRowStart k l n m v) b _ =
       passed SameGiven _ _ _ _ (λ t. both SameProgress SameGiven _ _ _ _ (rw same-world (same-started os (q .objects) h k (ltb-true k taskLimit t) (worldOf q) l n m v (framesIn k q)))
       (λ p o g. record { answer = refl; rows = same-progressed k p o g }))
-  same-row-call (firstRowDrop k) b = after SameGiven _ _ refl _ _ (λ _. record { answer = refl; rows = record { rest = refl; objects = h } })
+  same-row-call (firstRowDrop k) b _ = after SameGiven _ _ refl _ _ (λ _. record { answer = refl; rows = record { rest = refl; objects = h } })
 
   same-task : (k : ℕ) → k < taskLimit → (f : Frame) (fs : List Frame)
       → Likewise SameGiven (firstStepTask k (worldOf q) f fs (plain os q)) (stepTask k (worldOf q) f fs q)

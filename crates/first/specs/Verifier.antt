@@ -1,4 +1,4 @@
--- The first document's verifier, a straight walk over the code, and its define and desk, which don't ask for maps.
+-- The first document's verifier, a straight walk over the code, and its define and desk, which don't ask for maps. Its define refuses a field name that a superclass has.
 use mathlib.Core.Bool.{Bool, true, false, not}
 use mathlib.Core.Option.{Option, none, some}
 use mathlib.Core.List.{List, [], _∷_, _++_}
@@ -10,11 +10,11 @@ use Rattle.definition.specs.Numbers.{wordFile, wordTaken, wordUnverified, wordH
 use Rattle.definition.specs.Lists.{every, any, isNone}
 use Rattle.definition.specs.Maybe as Maybe
 use Rattle.definition.specs.Requests.{at}
-use Rattle.definition.specs.Classes.{Class, Method, find, slots}
+use Rattle.definition.specs.Classes.{Base, Class, Field, Method, find, slots}
 use Rattle.definition.specs.File.{classOf}
 use Rattle.definition.specs.Constraints.{World, agrees}
 use Rattle.definition.specs.Verifier.{Note, TypeState, entryTypes, effect, returns, returnKind}
-use Rattle.definition.specs.Loading.{newSubtypes, overrideTies, hides, withClass}
+use Rattle.definition.specs.Loading.{newSubtypes, overrideTies, withClass}
 use Rattle.definition.specs.Answers.{wanted, Result, ok, _>>=_, need, take?}
 use Rattle.first.specs.Files.{firstReadFile, firstDecode}
 
@@ -47,13 +47,17 @@ unfoldable pub firstNotesOf : Class → List Method → Option (List Note)
 firstNotesOf k [] = some []
 firstNotesOf k (m ∷ ms) = Maybe._>>=_ (firstNotesOfMethod k m) (λ ns. Maybe._>>=_ (firstNotesOf k ms) (λ rs. some (ns ++ rs)))
 
+-- a superclass has a field of that name
+unfoldable pub firstHides : Base → ℕ → Field → Bool
+firstHides b p f = any (λ s. eqb (s .name) (f .name)) (slots b p)
+
 -- define, of a file that was read as the class k; `room` is whether its bytes can be kept. Refusals: 6 4 5 8 10 9
 unfoldable pub firstDefine : Bool → Class → World → Result World
 firstDefine room k w =
     take? (firstNotesOf k (k .methods)) (Word wordUnverified) >>= λ ns.
     need (isNone (find (w .base .cache) (at (k .loader) (k .name)))) (Word wordTaken) >>= λ _.
     take? (find (w .base .cache) (at (k .loader) (k .super))) (wanted (at (k .loader) (k .super))) >>= λ p.
-    need (not (any (hides (w .base) p) (k .fields))) (Word wordHidden) >>= λ _.
+    need (not (any (firstHides (w .base) p) (k .fields))) (Word wordHidden) >>= λ _.
     (let us = overrideTies (w .base) (k .loader) p (w .ties) (k .methods) in
     let ss = newSubtypes (w .subtypes) (k .loader) ns in
     need (every

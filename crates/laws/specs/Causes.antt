@@ -24,7 +24,7 @@ use Rattle.definition.specs.Constraints.{Tie, World, agrees, newTie, signatureT
 use Rattle.definition.specs.Instructions.{decode}
 use Rattle.definition.specs.Verifier.{Note, notesOf, unmapped}
 use Rattle.definition.specs.Machine.{Value, emptyValue, intValue, nullValue, objectValue, unlistedValue, Objects, Frame, Now, existing, roomless}
-use Rattle.definition.specs.Loading.{newSubtypes, overrideTies, hides, withClass, withEntry}
+use Rattle.definition.specs.Loading.{newSubtypes, overrideTies, withClass, withEntry}
 use Rattle.definition.specs.File.{File, readFile, classOf}
 use Rattle.definition.specs.Tables.{Tables, shaped, Rows, framesIn, worldOf, view}
 use Rattle.definition.specs.Broken.{broken}
@@ -49,7 +49,7 @@ abbrev pub isSomeAnd : {A : Type 0} → Option A → (A → Bool) → Bool
 isSomeAnd none test = false
 isSomeAnd (some a) test = test a
 
--- define: 3 2 15 6 4 5 8 10 9, of the file that the bytes are read as, the superclass p and the verifier's notes
+-- define: 3 2 15 6 4 5 10 9, of the file that the bytes are read as, the superclass p and the verifier's notes
 
 module _ (r : Rows) (l : ℕ) (f : File) where
   -- a limit would be passed
@@ -78,7 +78,6 @@ defineCauses l bs r =
     ∷ cause 6 (isSomeAnd file (λ f. isNone (notesOf (classOf l f) (f .methods))))
     ∷ cause 4 (isSomeAnd file (λ f. not (isNone (find (r .cache) (at l (f .name))))))
     ∷ cause 5 (isSomeAnd file (λ f. isNone (find (r .cache) (at l (f .super)))))
-    ∷ cause 8 (isSomeAnd file (λ f. isSomeAnd super (λ p. any (hides (worldOf r .base) p) (f .fields))))
     ∷ cause 10 (isSomeAnd file (λ f. isSomeAnd super (λ p. isSomeAnd notes (definePasses r l f bs p))))
     ∷ cause 9 (isSomeAnd file (λ f. isSomeAnd super (λ p. isSomeAnd notes (defineClashes r l f p))))
     ∷ []

@@ -13,6 +13,7 @@ pub mod Found
 pub mod Listed
 pub mod Growth
 pub mod Slots
+pub mod FieldPlaces
 pub mod Members
 pub mod Sized
 pub mod WalkTurns

@@ -14,7 +14,8 @@ use Rattle.definition.specs.Lists.{any, indexOf}
 use Rattle.definition.specs.Maybe.{_>>=_}
 use Rattle.definition.specs.Superclasses.{Below, nearest}
 use Rattle.laws.specs.Agreement.{super-falls}
-use Rattle.laws.specs.Slots.{slots-below, slots-own}
+use Rattle.laws.specs.FieldPlaces.{place-slot}
+use Rattle.laws.specs.Slots.{slots-own}
 use Rattle.laws.specs.Tests.{and-true, any-found, any-right, any-true}
 use Rattle.laws.specs.Upward.{nearest-below}
 
@@ -28,22 +29,13 @@ pub record FieldPlace (b : Base) (c d n t : ℕ) : Type 0 where
   pub type : slot .type ≡ t
 
 pub field-place : (b : Base) (c d n t : ℕ) → hasField b n t d ≡ true → Below (superOf b) c d → FieldPlace b c d n t
-unfolding hasField slotIs
+unfolding hasField
 field-place b c d n t h bl =
     let so = slots-own b d in
     let hs : any (slotIs d n t) (slots b d) ≡ true = rw (so .1) (any-right (slotIs d n t) (so .0) (ownSlots b d) h) in
     let fo = any-found (slotIs d n t) (slots b d) hs in
-    let s = fo .item in
-    let pa = and-true (eqb (s .owner) d && eqb (s .name) n) (eqb (s .type) t) (fo .passes) in
-    let pb = and-true (eqb (s .owner) d) (eqb (s .name) n) (pa .0) in
-    record {
-      place = fo .place;
-      slot = s;
-      index = fo .index;
-      isSlot = slots-below b bl (fo .place) s (fo .there);
-      owner = eqb-true (s .owner) d (pb .0);
-      type = eqb-true (s .type) t (pa .1);
-    }
+    let st = place-slot b c d n t (fo .place) bl (fo .index) in
+    record { place = fo .place; slot = st .slot; index = fo .index; isSlot = st .isSlot; owner = st .owner; type = st .type }
 
 -- the test on signatures is true exactly where they are equal
 pub same-signature : (s t : Signature) → (sameSignature s t ≡ true → s ≡ t) × (s ≡ t → sameSignature s t ≡ true)

@@ -4,7 +4,8 @@ use mathlib.Core.Bool.{Bool, true, false}
 use mathlib.Core.Option.{Option, none, some, Option·none-ne-some, Option·some-injective}
 use mathlib.Core.List.{List, [], _∷_, _++_, List·Memᴰ, List·Memᴰ·head, List·Memᴰ·tail, reverse, reverseAux}
 use mathlib.Core.Logic.{_⊎_, inl, inr}
-use Prim.Native.Nat.{ℕ, zero, suc}
+use Prim.Native.Nat.{ℕ, zero, suc, _<_}
+use native.Mathlib.Omega.{arith}
 use lib.ListN.{length, getElem?, set}
 use Rattle.definition.specs.Maybe.{_>>=_, need}
 use Rattle.definition.specs.Lists.{Each}
@@ -90,6 +91,18 @@ set-nth (a ∷ xs) zero z zero y h = inr (refl, sym (Option·some-injective z y 
 set-nth (a ∷ xs) zero z (suc i) y h = inl h
 set-nth (a ∷ xs) (suc j) z zero y h = inl h
 set-nth (a ∷ xs) (suc j) z (suc i) y h = elim (set-nth xs j z i y h) [ inl e ↦ inl e | inr e ↦ inr (ap suc (e .0), e .1) ]
+
+pub set-there : {A : Type 0} (xs : List A) (j : ℕ) (z : A) → j < length xs → getElem? (set xs j z) j ≡ some z
+set-there [] j z h = absurd (omega arith)
+set-there (a ∷ xs) zero z h = refl
+set-there (a ∷ xs) (suc j) z h = set-there xs j z (omega arith)
+
+pub set-apart : {A : Type 0} (xs : List A) (j : ℕ) (z : A) (i : ℕ) → (i ≡ j → ⊥) → getElem? (set xs j z) i ≡ getElem? xs i
+set-apart [] j z i h = refl
+set-apart (a ∷ xs) zero z zero h = absurd (h refl)
+set-apart (a ∷ xs) zero z (suc i) h = refl
+set-apart (a ∷ xs) (suc j) z zero h = refl
+set-apart (a ∷ xs) (suc j) z (suc i) h = set-apart xs j z i (λ e. h (ap suc e))
 
 -- a place of a list with one more at the end
 pub nth-snoc : {A : Type 0} (xs : List A) (z : A) (i : ℕ) (y : A) → getElem? (xs ++ (z ∷ [])) i ≡ some y → (getElem? xs i ≡ some y) ⊎ ((i ≡ length xs) × (y ≡ z))

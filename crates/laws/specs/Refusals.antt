@@ -261,7 +261,7 @@ define-due l bs r =
     let P : Refusal → Type 0 = Due (callDefine l bs) r in
     on-need P _ _ _ refl (λ _. on-take P _ _ _ (λ _. refl) (λ f e. on-bind P _ _
     (on-need P _ _ _ refl (λ _. on-take P _ _ _ (λ _. refl) (λ _ _. on-need P _ _ _ refl (λ _. on-take P _ _ _ (λ m. (refl, (f, e, refl, refl), m)) (λ _ _.
-    on-need P _ _ _ refl (λ _. on-need P _ _ _ refl (λ _. on-need P _ _ _ refl (λ _. tt)))))))) (λ _ _. tt)))
+    on-need P _ _ _ refl (λ _. on-need P _ _ _ refl (λ _. tt))))))) (λ _ _. tt)))
 
 record-due : (l n c : ℕ) (r : Rows) → Refuses (Due (callRecord l n c) r) (recordRows l n c r)
 unfolding recordRows recorded refusalsOf rowRefusals loadRefusals any

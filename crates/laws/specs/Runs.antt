@@ -130,6 +130,35 @@ run-keeps P keep n t h = go (broken t) (leb 1 n && leb n 65535)
     go false true = runs-end stepTables P (λ _. P) keep (λ t _ i _. keep t i) n 0 Idle t h h .holds
     go false false = h
 
+-- what each step keeps unless S, the call keeps unless S at one of its steps
+module _ (P S : Tables → Type 0) (each : (t : Tables) → P t → P (stepTables t .tables) ⊎ S t) where
+  keeps-from : (n k : ℕ) (a : Answer) (t : Tables) → P t → P (runFrom stepTables n k a t .tables) ⊎ ((i : ℕ) × (i < n) × S (after stepTables i t))
+  unfolding runFrom after
+  keeps-from zero k a t h = inl h
+  keeps-from (suc n) k a t h = elim (each t h) [
+    | inl p ↦ go (stepTables t .answer) p (λ j. keeps-from n (suc k) (Ran j) (stepTables t .tables) p)
+    | inr s ↦ inr (0, omega arith, s)
+  ]
+    where
+      go : (x : Answer) → P (stepTables t .tables)
+          → ((j : ℕ) → P (runFrom stepTables n (suc k) (Ran j) (stepTables t .tables) .tables) ⊎ ((i : ℕ) × (i < n) × S (after stepTables i (stepTables t .tables)))) → P (goOn (runFrom stepTables n) k x (stepTables t .tables) .tables) ⊎ ((i : ℕ) × (i < suc n) × S (after stepTables i t))
+      go Idle p ih = inl p
+      go (Ran j) p ih = elim (ih j) [ inl q ↦ inl q | inr r ↦ inr (suc (r .0), omega (arith, r .1), r .2) ]
+      go (Finished j m) p ih = inl p
+      go (Refused w) p ih = inl p
+
+  pub run-keeps-unless : (n : ℕ) (t : Tables) → P t → P (run n t .tables) ⊎ ((i : ℕ) × (i < n) × S (after stepTables i t))
+  unfolding run
+  run-keeps-unless n t h = go (broken t) (leb 1 n && leb n 65535)
+    where
+      go : (b c : Bool) → P ((elim b as (λ _. Done Reply) [
+        | true ↦ done (Denied (Word 1)) t
+        | false ↦ elim c as (λ _. Done Reply) [ true ↦ runFrom stepTables n 0 Idle t | false ↦ done (Denied (Word 3)) t ]
+      ]) .tables) ⊎ ((i : ℕ) × (i < n) × S (after stepTables i t))
+      go true c = inl h
+      go false true = keeps-from n 0 Idle t h
+      go false false = inl h
+
 -- The call: on a store that isn't broken, for n from 1 to 65,535, it answers and leaves what its steps do
 pub run-steps : (n : ℕ) (t : Tables) → broken t ≡ false → leb 1 n && leb n 65535 ≡ true
     → (k : ℕ) × (a : Answer) × (s : Tables) × (perform (callRun n) t ≡ done (RanFor k a) s) × Run stepTables n Idle t k a s

@@ -1,7 +1,7 @@
 -- Tests on lists, and what they find.
 use mathlib.Core.Path.{_≡_, refl, sym}
 use mathlib.Core.Bool.{Bool, true, false, false≢true, _&&_, _||_}
-use mathlib.Core.Option.{Option, none, some}
+use mathlib.Core.Option.{Option, none, some, Option·none-ne-some, Option·some-injective}
 use mathlib.Core.List.{List, [], _∷_, _++_, List·Memᴰ, List·Memᴰ·head, List·Memᴰ·tail}
 use mathlib.Core.Logic.{_⊎_, inl, inr}
 use Prim.Native.Nat.{ℕ, suc}
@@ -63,3 +63,19 @@ any-found {A} f (x ∷ xs) h = go (f x) refl h (any-found f xs)
     go : (t : Bool) → f x ≡ t → (elim t as (λ _. Bool) [ true ↦ true | false ↦ any f xs ]) ≡ true → (any f xs ≡ true → Found f xs) → Found f (x ∷ xs)
     go true e r ih = record { place = 0; item = x; index = rw (e, indexOf) refl; there = refl; passes = e }
     go false e r ih = let a = ih r in record { place = suc (a .place); item = a .item; index = rw (e, indexOf) (rw (a .index) refl); there = a .there; passes = a .passes }
+
+-- what stands at the place that was found
+pub index-found : {A : Type 0} (f : A → Bool) (xs : List A) (j : ℕ) → indexOf f xs ≡ some j → (x : A) × (getElem? xs j ≡ some x) × (f x ≡ true)
+unfolding indexOf
+index-found f [] j h = absurd (Option·none-ne-some j h)
+index-found {A} f (x ∷ xs) j h = go (f x) refl h (index-found f xs)
+  where
+    later : (o : Option ℕ) → ((i : ℕ) → o ≡ some i → (y : A) × (getElem? xs i ≡ some y) × (f y ≡ true))
+        → (elim o as (λ _. Option ℕ) [ none ↦ none | some i ↦ some (suc i) ]) ≡ some j → (y : A) × (getElem? (x ∷ xs) j ≡ some y) × (f y ≡ true)
+    later none ih r = absurd (Option·none-ne-some j r)
+    later (some i) ih r = let y = ih i refl in rw (← Option·some-injective (suc i) j r) (y .0, y .1, y .2)
+
+    go : (u : Bool) → f x ≡ u → (elim u as (λ _. Option ℕ) [ true ↦ some 0 | false ↦ elim (indexOf f xs) as (λ _. Option ℕ) [ none ↦ none | some i ↦ some (suc i) ] ]) ≡ some j
+        → ((i : ℕ) → indexOf f xs ≡ some i → (y : A) × (getElem? xs i ≡ some y) × (f y ≡ true)) → (y : A) × (getElem? (x ∷ xs) j ≡ some y) × (f y ≡ true)
+    go true q e ih = rw (← Option·some-injective 0 j e) (x, refl, q)
+    go false q e ih = later (indexOf f xs) ih e

@@ -111,7 +111,7 @@ unfolding defineRows define afterDefine number
 define-clash l bs r =
     on-test P _ _ _ (λ _ e. absurd (omega arith)) (λ _. on-take P _ _ _ (λ _ e. absurd (omega arith)) (λ f ef. on-bind P _ _
     (on-test P _ _ _ (λ _ e. absurd (omega arith)) (λ _. on-take P _ _ _ (λ _ e. absurd (omega arith)) (λ ns en. on-test P _ _ _ (λ _ e. absurd (omega arith)) (λ _.
-    on-take P _ _ _ (λ _ e. absurd (omega arith)) (λ p ep. on-test P _ _ _ (λ _ e. absurd (omega arith)) (λ _. on-test P _ _ _ (λ _ e. absurd (omega arith)) (λ full.
+    on-take P _ _ _ (λ _ e. absurd (omega arith)) (λ p ep. on-test P _ _ _ (λ _ e. absurd (omega arith)) (λ full.
     on-test P _ _ _ (λ a _.
     let x = every-on _ _ full in
     let y = every-on _ _ (x .1) in
@@ -128,7 +128,7 @@ define-clash l bs r =
       subtypes = refl;
       tieRoom = λ _. leb-true _ _ (u .0);
       subtypeRoom = λ _. leb-true _ _ (v .0);
-    }) (λ _. tt)))))))) (λ _ _. tt)))
+    }) (λ _. tt))))))) (λ _ _. tt)))
   where
     P : Refusal → Type 0
     P = On9 r (afterLoad (loadDefine l bs) (worldOf r))

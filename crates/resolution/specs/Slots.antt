@@ -1,4 +1,4 @@
--- An object's fields: how many a class has with the inherited ones, which place a declared field has among them, and a field of a name.
+-- An object's fields: how many a class has with the inherited ones, and which place a declared field has among them.
 use mathlib.Core.Path.{_≡_, refl, sym, ap, _∙_}
 use mathlib.Core.Bool.{Bool, true, false}
 use mathlib.Core.Option.{Option, none, some}
@@ -6,22 +6,16 @@ use mathlib.Core.List.{List, [], _∷_, _++_, map}
 use Prim.Native.Nat.{ℕ, zero, suc, _+_, _≤_, _<_}
 use native.Mathlib.Omega.{arith}
 use lib.ListN.{length, getD, length-append, length-map}
-use lib.Dec.{eqb}
 use borrow.Author.Tests.{ne-eqb}
 use Rattle.definition.specs.Lists.{any, indexOf, rows}
 use Rattle.definition.specs.Classes.{Base, Field, Slot, superOf, ownSlots, slots, slotsIn, slotIs}
 use Rattle.laws.specs.Agreement.{super-falls}
 use Rattle.laws.specs.Slots.{slots-up, slots-own, slots-none}
-use Rattle.laws.specs.Tests.{any-right}
 use Rattle.layout.specs.Places.{rows-length}
 use Rattle.classfile.specs.Lists.{shift, index-append}
-use Rattle.classfile.specs.Reading.{fieldCount, quickFields, fieldIs, fieldNamed}
-use Rattle.classfile.specs.Searches.{slotOf, own-index, own-named}
+use Rattle.classfile.specs.Reading.{fieldCount, quickFields, fieldIs}
+use Rattle.classfile.specs.Searches.{slotOf, own-index}
 use Rattle.resolution.specs.Quick.{quickBase, fileIn, file-past, super-past, own-quick}
-
--- a slot of that name
-abbrev pub slotNamed : ℕ → Slot → Bool
-slotNamed n s = eqb (s .name) n
 
 abbrev pub slotType : Slot → ℕ
 slotType s = s .type
@@ -43,11 +37,6 @@ any-neither f (x ∷ xs) ys g h = go (f x) g (any-neither f xs ys)
     go : (t : Bool) → (elim t as (λ _. Bool) [ true ↦ true | false ↦ any f xs ]) ≡ false → (any f xs ≡ false → any f ys ≡ false → any f (xs ++ ys) ≡ false) → (elim t as (λ _. Bool) [ true ↦ true | false ↦ any f (xs ++ ys) ]) ≡ false
     go true e r = e
     go false e r = r e h
-
-any-left : {A : Type 0} (f : A → Bool) (xs ys : List A) → any f ys ≡ false → any f (xs ++ ys) ≡ any f xs
-unfolding any
-any-left f [] ys h = h
-any-left f (x ∷ xs) ys h = let e = any-left f xs ys h in λ i. elim (f x) as (λ _. Bool) [ true ↦ true | false ↦ e i ]
 
 module _ (b : Base) where
   -- How many
@@ -115,25 +104,6 @@ module _ (counts classes kept cache : List ℕ) where
       go (some p) e =
           ap (indexOf (slotIs d n t)) (slots-up b d p e)
           ∙ (index-append (slotIs d n t) (slots b p) (ownSlots b d) (above-none d n t p p (super-falls b d p e)) ∙ (λ i. shift (sym (inherited-some b d p e) i) (own-place d n t i)))
-
-  -- A field of a name: the class declares one, its superclass is asked next, or there is none
-
-  own-named-quick : (c n : ℕ) → any (slotNamed n) (ownSlots b c) ≡ any (fieldNamed n) (quickFields (file c))
-  own-named-quick c n = ap (any (slotNamed n)) (own-quick counts classes kept cache c) ∙ own-named c n (quickFields (file c))
-
-  module _ (c n : ℕ) where
-    pub named-here : any (fieldNamed n) (quickFields (file c)) ≡ true → any (slotNamed n) (slots b c) ≡ true
-    named-here h = go (superOf b c) refl
-      where
-        go : (o : Option ℕ) → superOf b c ≡ o → any (slotNamed n) (slots b c) ≡ true
-        go none e = ap (any (slotNamed n)) (slots-none b c e) ∙ (own-named-quick c n ∙ h)
-        go (some p) e = ap (any (slotNamed n)) (slots-up b c p e) ∙ any-right (slotNamed n) (slots b p) (ownSlots b c) (own-named-quick c n ∙ h)
-
-    pub named-up : (p : ℕ) → any (fieldNamed n) (quickFields (file c)) ≡ false → superOf b c ≡ some p → any (slotNamed n) (slots b c) ≡ any (slotNamed n) (slots b p)
-    named-up p h e = ap (any (slotNamed n)) (slots-up b c p e) ∙ any-left (slotNamed n) (slots b p) (ownSlots b c) (own-named-quick c n ∙ h)
-
-    pub named-none : any (fieldNamed n) (quickFields (file c)) ≡ false → superOf b c ≡ none → any (slotNamed n) (slots b c) ≡ false
-    named-none h e = ap (any (slotNamed n)) (slots-none b c e) ∙ (own-named-quick c n ∙ h)
 
   -- A class that is not there has none
 

@@ -13,7 +13,7 @@ ghost use Rattle.definition.specs.Superclasses.{nearest};
 ghost use Rattle.definition.specs.Classes.{superOf, slots, slotIs, hasField};
 ghost use Rattle.classfile.specs.Reading.{fieldIs, fieldCount, quickFields};
 ghost use Rattle.resolution.specs.Quick.{found, quickBase, fileIn};
-ghost use Rattle.resolution.specs.Slots.{inheritedIn, slotNamed, fieldType, slotType};
+ghost use Rattle.resolution.specs.Slots.{inheritedIn, fieldType, slotType};
 use classfile::FieldFound;
 
 fn declares_field(
@@ -115,29 +115,6 @@ pub fn slot_of(
         return Found::Absent;
     };
     Found::At(inherited(counts, classes, kept, cache, d) + cells::from16(cells::from8(i)))
-}
-
-// Whether an object of class c has a field of that name.
-pub fn has_slot(
-    counts: &[u16],
-    classes: &[u16],
-    kept: &[u8],
-    cache: &[u16],
-    c: u32,
-    name: u16,
-) -> bool
-    ensures { λ r. ⌜ r ≡ any (slotNamed name) (slots (quickBase (now (counts .entry)) (now (classes .entry)) (now (kept .entry)) (now (cache .entry))) c) ⌝ }
-{
-    let mut at = c;
-    loop {
-        if classfile::has_field(file_of(counts, classes, kept, at), name) {
-            return true;
-        }
-        let Found::At(p) = super_of(counts, classes, kept, cache, at) else {
-            return false;
-        };
-        at = p;
-    }
 }
 
 // The types of a file's fields, written from a place on.

@@ -14,7 +14,6 @@ pub use classes::loader_of;
 pub use classes::name_of;
 pub use classes::super_of;
 pub use classes::version_of;
-pub use fields::has_slot;
 pub use fields::inherited;
 pub use fields::nearest_field;
 pub use fields::size_of;

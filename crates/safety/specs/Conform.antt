@@ -8,7 +8,7 @@ use Rattle.definition.specs.Classes.{find, superOf}
 use Rattle.definition.specs.Constraints.{Agrees, Tie, World, edges, subtypeEdges, tieEdges}
 use Rattle.definition.specs.Chains.{Chain, Edge, stay}
 use Rattle.definition.specs.Requests.{Request, at}
-use Rattle.definition.specs.Superclasses.{Below, Falls, nearest, same, up}
+use Rattle.definition.specs.Superclasses.{Below, nearest, same, up}
 use Rattle.laws.specs.Agreement.{super-falls}
 use Rattle.laws.specs.Chains.{chain-join, chain-more, chain-turn, turned}
 use Rattle.laws.specs.Upward.{below-more, below-trans, nearest-below, nearest-finds, nearest-here, nearest-up}
@@ -76,14 +76,3 @@ override w R test {c} {d} {e} {f} ties (up {p} s b) he hf = go (test c) refl (λ
         let z = Option·some-injective c e (sym (nearest-here sup (super-falls (w .base)) test c t) ∙ he) in
         rw (sym z) (chain-join (ties c p (found .0) t s (found .1)) (ih (found .0) (found .1)))
     go false t ih = ih e (sym (nearest-up sup (super-falls (w .base)) test c p t s) ∙ he)
-
--- Lemma 8 of the loading paper: what is found from a class is found from each class below it, if no class that passes has one above it that passes
-pub unhidden : (sup : ℕ → Option ℕ) → Falls sup → (test : ℕ → Bool) {c d f : ℕ}
-    → ((x p y : ℕ) → test x ≡ true → sup x ≡ some p → nearest sup test p ≡ some y → ⊥)
-    → Below sup c d → nearest sup test d ≡ some f → nearest sup test c ≡ some f
-unhidden sup falls test {c} {d} {f} alone (same q) h = rw q h
-unhidden sup falls test {c} {d} {f} alone (up {p} s b) h = go (test c) refl (unhidden sup falls test alone b h)
-  where
-    go : (t : Bool) → test c ≡ t → nearest sup test p ≡ some f → nearest sup test c ≡ some f
-    go true t r = absurd (alone c p f t s r)
-    go false t r = nearest-up sup falls test c p t s ∙ r

@@ -14,4 +14,5 @@ pub mod Swept
 pub mod Misplaced
 pub mod Words
 pub mod Safety
+pub mod Fields
 pub mod Bits

@@ -60,8 +60,8 @@ pub define-kept : (b : Bool) (k : Class) (v : World) → Linked v → Wp (define
 unfolding define us ss
 define-kept b k v lk =
     wp-need (Loaded v) _ _ _ (not-word 15 (omega arith)) (λ _. wp-take (Loaded v) _ _ _ (not-word 6 (omega arith)) (λ ns vn. wp-need (Loaded v) _ _ _ (not-word 4 (omega arith)) (λ fr.
-    wp-take (Loaded v) _ _ _ (not-wanted _) (λ p fp. wp-need (Loaded v) _ _ _ (not-word 8 (omega arith)) (λ _. wp-need (Loaded v) _ _ _ (not-word 10 (omega arith)) (λ _. wp-need (Loaded v) _ _ _ (not-word 9 (omega arith)) (λ g.
-    record { linked = linked-class v k ns p lk vn (none-is _ fr) fp (agrees-true _ g); grows = grows-class v k _ _ })))))))
+    wp-take (Loaded v) _ _ _ (not-wanted _) (λ p fp. wp-need (Loaded v) _ _ _ (not-word 10 (omega arith)) (λ _. wp-need (Loaded v) _ _ _ (not-word 9 (omega arith)) (λ g.
+    record { linked = linked-class v k ns p lk vn (none-is _ fr) fp (agrees-true _ g); grows = grows-class v k _ _ }))))))
 
 pub record-kept : (l n c : ℕ) (v : World) → Linked v → Wp (recorded l n c v) (Loaded v)
 unfolding recorded

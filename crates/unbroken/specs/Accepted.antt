@@ -72,8 +72,7 @@ defined-is room k w v e =
     let d = bind-ok _ _ (c .2) in
     let f = bind-ok _ _ (d .2) in
     let g = bind-ok _ _ (f .2) in
-    let h = bind-ok _ _ (g .2) in
-    let p = every-true _ (need-ok _ _ (g .1)) in
+    let p = every-true _ (need-ok _ _ (f .1)) in
     record {
       super = d .0;
       cached = take-ok _ _ (d .1);
@@ -86,5 +85,5 @@ defined-is room k w v e =
       ties = leb-true _ _ (p .1 .1 .1 .0);
       subtypes = leb-true _ _ (p .1 .1 .1 .1 .0);
       size = leb-true _ _ (p .1 .1 .1 .1 .1 .0);
-      is = ok-inj (h .2);
+      is = ok-inj (g .2);
     }

@@ -2,7 +2,7 @@
 -- stand in the paper's order (`in-order`).
 use mathlib.Core.Path.{_≡_, refl, sym, ap, _∙_}
 use mathlib.Core.Bool.{Bool, true, false, not, _&&_}
-use mathlib.Core.Option.{none}
+use mathlib.Core.Option.{none, some}
 use mathlib.Core.List.{List, [], _∷_, _++_}
 use Prim.Native.Nat.{ℕ, suc}
 use native.Mathlib.Omega.{arith}
@@ -92,6 +92,18 @@ step-rows-first r w = go (r .quote) (r .report)
     go [] [] = unfold stepOn numberIn first in refl
 
 -- On tables
+
+pub refusal-number : (a : Reply) (w : Refusal) → refusal a ≡ some w → numberOf a ≡ number w
+unfolding numberOf numberOfStep
+refusal-number Accepted w h = cc
+refusal-number (Defined c) w h = cc
+refusal-number (Stepped Idle) w h = cc
+refusal-number (Stepped (Ran k)) w h = cc
+refusal-number (Stepped (Finished k n)) w h = cc
+refusal-number (Stepped (Refused v)) w h = cc
+refusal-number (RanFor k s) w h = cc
+refusal-number (Swept n) w h = cc
+refusal-number (Denied v) w h = cc
 
 pub zero-number : (a : Reply) → refusal a ≡ none → numberOf a ≡ 0
 unfolding numberOf numberOfStep

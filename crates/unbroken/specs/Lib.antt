@@ -22,3 +22,5 @@ pub mod Lasting
 pub mod Resolution
 pub mod Waiting
 pub mod Rates
+pub mod HiddenFields
+pub mod FieldsLast

@@ -17,7 +17,7 @@ use Rattle.definition.specs.Classes.{find, selected, startSignature}
 use Rattle.definition.specs.Constraints.{World, agrees}
 use Rattle.definition.specs.Lists.{any, isNone}
 use Rattle.definition.specs.Machine.{roomless}
-use Rattle.definition.specs.Loading.{hides, withEntry, define, recorded, started}
+use Rattle.definition.specs.Loading.{withEntry, define, recorded, started}
 use Rattle.definition.specs.Verifier.{unmapped, notesOf}
 use Rattle.definition.specs.File.{File, readFile, classOf}
 use Rattle.definition.specs.Tables.{Rows, worldOf, framesIn}
@@ -118,7 +118,6 @@ module _ (r : Rows) where
       ∷ cause 6 (isNone (notesOf (classOf l f) (f .methods)))
       ∷ cause 4 (not (isNone (find (r .cache) (at l (f .name)))))
       ∷ cause 5 (isNone (find (r .cache) (at l (f .super))))
-      ∷ cause 8 (isSomeAnd (find (r .cache) (at l (f .super))) (λ p. any (hides (W .base) p) (f .fields)))
       ∷ cause 10 (isSomeAnd (find (r .cache) (at l (f .super))) (λ p. isSomeAnd (notesOf (classOf l f) (f .methods)) (definePasses r l f bs p)))
       ∷ cause 9 (isSomeAnd (find (r .cache) (at l (f .super))) (λ p. isSomeAnd (notesOf (classOf l f) (f .methods)) (defineClashes r l f p)))
       ∷ [])
@@ -126,8 +125,8 @@ module _ (r : Rows) where
   define-class l bs f =
       first-unless _ (any (unmapped (classOf l f)) (f .methods)) (Word 15) _
       (first-take _ (notesOf (classOf l f) (f .methods)) (Word 6) _ (λ ns e. first-need _ (isNone (find (r .cache) (at l (f .name)))) (Word 4) _ (λ _.
-      first-take _ (find (r .cache) (at l (f .super))) (wanted (at l (f .super))) _ (λ p q. rw (q, e) (first-unless _ (any (hides (W .base) p) (f .fields)) (Word 8) _
-      (first-need _ _ (Word 10) _ (λ _. first-need [] _ (Word 9) _ (λ _. number-ok _))))))))
+      first-take _ (find (r .cache) (at l (f .super))) (wanted (at l (f .super))) _ (λ p q. rw (q, e)
+      (first-need _ _ (Word 10) _ (λ _. first-need [] _ (Word 9) _ (λ _. number-ok _)))))))
 
   define-first : (l : ℕ) (bs : List ℕ) → numberIn (defineRows l bs r) ≡ first (defineCauses l bs r)
   unfolding defineRows defineCauses number Maybe._>>=_

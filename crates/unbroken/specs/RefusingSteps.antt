@@ -32,7 +32,6 @@ use Rattle.laws.specs.Growth.{nth-lt}
 use Rattle.laws.specs.Members.{FieldPlace, field-place}
 use Rattle.laws.specs.Upward.{nearest-below, below-true, below-trans}
 use Rattle.laws.specs.Causes.{Cause, cause, first, isSomeAnd, anInt, aNull, aReference, aValueOf, ofKind, isEmpty, noRoom, noRoomBelow, receives, selects, fieldTies, methodTies, plainly, branches, zeroDivisor, accessing, reading, readCauses, frameCauses, instructionCauses}
-use Rattle.layout.specs.Whole.{ObjectSound}
 use Rattle.unbroken.specs.Steps.{Ready, object-at}
 use Rattle.unbroken.specs.WholeRows.{nth-there}
 use Rattle.unbroken.specs.Refusing.{numberIn, first-need, first-unless, first-take, first-skip, number-on, number-ok, number-there}

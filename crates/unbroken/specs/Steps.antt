@@ -10,10 +10,11 @@ use lib.Dec.{eqb, leb, ltb}
 use borrow.Author.Tests.{leb-true, leb-false, ltb-true, ltb-false, not-true}
 use Rattle.definition.specs.declared.Signature.{Signature}
 use Rattle.definition.specs.Answers.{Result, ok, refused, take?}
-use Rattle.definition.specs.Classes.{Base, Class, Slot, find, loaderOf, slots, Selected, selected, signatureTypes}
+use Rattle.definition.specs.Classes.{Base, Class, Slot, find, superOf, loaderOf, slots, Selected, selected, signatureTypes}
 use Rattle.definition.specs.Constraints.{Tie, World, newTie, post, posted, tieIs, newTies, signatureTies}
 use Rattle.definition.specs.Instructions.{Decoded, pick}
 use Rattle.definition.specs.Lists.{any}
+use Rattle.definition.specs.Superclasses.{below}
 use Rattle.definition.specs.Machine.{Frame, Now, Object, ObjectRow, free, owned, Objects, objectHeld, Exists, unused, made, roomless, rewritten, changed, Progress, Value, entryFrame, execute, give, initialValue, int!, intValue, jumps, newObject, now, nullValue, object!, objectValue, ofKind!, past, pop!, reference!, room!, step, under!, emptyValue, unlistedValue, existing}
 use Rattle.definition.specs.Requests.{Request, at}
 use Rattle.definition.specs.Verifier.{pop}
@@ -123,10 +124,13 @@ jumps-left X IfLess vs j h e =
     let q = pop-all X (a .0 .more) (b .0) (p .more) (b .1) in
     rw (sym (ok-inj (d .2))) (q .more, omega (arith, p .less, q .less))
 
-pop-less : (vs : List Value) (p : record { top : Value; more : List Value }) → pop! vs ≡ ok p → suc (length (p .more)) ≡ length vs
+pub pop-is : (vs : List Value) (p : record { top : Value; more : List Value }) → pop! vs ≡ ok p → vs ≡ p .top ∷ p .more
 unfolding pop! pop take?
-pop-less [] p e = never _ _ e
-pop-less (v ∷ vs) p e = rw (sym (ok-inj e)) refl
+pop-is [] p e = never _ _ e
+pop-is (v ∷ vs) p e = rw (sym (ok-inj e)) refl
+
+pop-less : (vs : List Value) (p : record { top : Value; more : List Value }) → pop! vs ≡ ok p → suc (length (p .more)) ≡ length vs
+pop-less vs p e = ap length (sym (pop-is vs p e))
 
 pub jumps-same : (c : Condition) (vs : List Value) (j : record { taken : Bool; more : List Value }) → jumps c vs ≡ ok j → length (j .more) ≡ length vs → (c ≡ Always) × (j .taken ≡ true)
 unfolding jumps
@@ -144,16 +148,21 @@ jumps-same IfLess vs j e q =
     let z : length (b .0 .more) ≡ length vs = ap (λ (x : record { taken : Bool; more : List Value }). length (x .more)) (ok-inj (d .2)) ∙ q in
     absurd (omega (arith, pop-less vs (a .0) (a .1), pop-less (a .0 .more) (b .0) (b .1), z))
 
-pub object-is : (b : Base) (os : Objects) (e : ℕ) (v : Value) (p : record { number : ℕ; object : Object }) → object! b os e v ≡ ok p → existing os (p .number) ≡ some (p .object)
+-- a receiver: an object that exists, of a class that is e or below it
+pub receiver-is : (b : Base) (os : Objects) (e : ℕ) (v : Value) (p : record { number : ℕ; object : Object }) → object! b os e v ≡ ok p
+    → (v ≡ objectValue (p .number)) × (existing os (p .number) ≡ some (p .object)) × (below (superOf b) (p .object .class) e ≡ true)
 unfolding object!
-object-is b os e emptyValue p h = never _ _ h
-object-is b os e (unlistedValue α β) p h = never _ _ h
-object-is b os e (intValue n) p h = never _ _ h
-object-is b os e nullValue p h = never _ _ h
-object-is b os e (objectValue o) p h =
+receiver-is b os e emptyValue p h = never _ _ h
+receiver-is b os e (unlistedValue α β) p h = never _ _ h
+receiver-is b os e (intValue n) p h = never _ _ h
+receiver-is b os e nullValue p h = never _ _ h
+receiver-is b os e (objectValue o) p h =
     let x = bind-ok _ _ h in
     let y = bind-ok _ _ (x .2) in
-    rw (sym (ok-inj (y .2))) (take-ok _ _ (x .1))
+    rw (sym (ok-inj (y .2))) (refl, take-ok _ _ (x .1), need-ok _ _ (y .1))
+
+pub object-is : (b : Base) (os : Objects) (e : ℕ) (v : Value) (p : record { number : ℕ; object : Object }) → object! b os e v ≡ ok p → existing os (p .number) ≡ some (p .object)
+object-is b os e v p h = receiver-is b os e v p h .1
 
 -- Ties
 

@@ -299,34 +299,38 @@ pub progressed-frames : (j : ℕ) (r : Rows) (o : Progress) → framesIn j (prog
 progressed-frames zero r o = refl
 progressed-frames (suc j) r o = refl
 
-abbrev Made : Tables → Frame → List Frame → Now → Rows → Type 0
-Made t f fs n s =
-    Takes (turn (view t)) (view t .objects) (s .objects) (unused (view t .objects))
-    × (framesIn (turn (view t)) s ≡ past f (n .at) (objectValue (unused (view t .objects)) ∷ f .operands) (f .locals) ∷ fs)
+-- what holds of what the instruction leaves holds of what the tables show after a step that ran
+pub ran-shows : (t : Tables) (f : Frame) (fs : List Frame) (n : Now) (k : ℕ) (P : Rows → Type 0) → Turns t f fs n → stepTables t .answer ≡ Ran k
+    → (Whole (view t) → (o : Progress) → execute (turn (view t)) (worldOf (view t)) (view t .objects) f fs (n .theClass) (n .at) (n .at .instruction) ≡ ok o → P (progressed (turn (view t)) (view t) o))
+    → P (view (stepTables t .tables))
+unfolding stepTables stepRows stepOn stepTask step turn turnOf
+ran-shows t f fs n k P r ran h = shown Refused stepRows (λ a s. a ≡ Ran k → P s) t step-whole (λ w e. let z : _≡_ {A = ℕ} 0 1 = cc in absurd (omega arith))
+    (λ w g e _. go w (view t .quote) (view t .report) refl (r .frames) g e) ran
+  where
+    task : Whole (view t) → (j : ℕ) → turn (view t) ≡ j → (g : Given Answer) → stepTask j (worldOf (view t)) f fs (view t) ≡ ok g → P (g .rows)
+    task w j q g e =
+        let a = bind-ok _ _ e in
+        let b = bind-ok _ _ (a .1) in
+        let same : b .0 ≡ n = ok-inj (sym (b .1) ∙ r .reads) in
+        let did : execute j (worldOf (view t)) (view t .objects) f fs (n .theClass) (n .at) (n .at .instruction) ≡ ok (a .0) =
+        subst (λ (x : Now). execute j (worldOf (view t)) (view t .objects) f fs (x .theClass) (x .at) (x .at .instruction) ≡ ok (a .0)) same (b .2) in
+        subst P (ap (λ (x : Given Answer). x .rows) (ok-inj (a .2)))
+        (subst (λ (x : ℕ). P (progressed x (view t) (a .0))) q
+        (h w (a .0) (subst (λ (x : ℕ). execute x (worldOf (view t)) (view t .objects) f fs (n .theClass) (n .at) (n .at .instruction) ≡ ok (a .0)) (sym q) did)))
+
+    go : Whole (view t) → (q p : List Frame) → view t .quote ≡ q → running q p ≡ f ∷ fs → (g : Given Answer) → stepOn q p (worldOf (view t)) (view t) ≡ ok g → P (g .rows)
+    go w (h ∷ hs) p x z g e = task w 0 (ap turnOf x) g (subst (λ (us : List Frame). stepOn us p (worldOf (view t)) (view t) ≡ ok g) z e)
+    go w [] (h ∷ hs) x z g e = task w 1 (ap turnOf x) g (subst (λ (us : List Frame). stepOn [] us (worldOf (view t)) (view t) ≡ ok g) z e)
+    go w [] [] x z g e = absurd (let l : length {A = Frame} [] ≡ length (f ∷ fs) = ap length z in omega arith)
 
 pub new-takes : (t : Tables) (f : Frame) (fs : List Frame) (n : Now) (c k : ℕ) → Turns t f fs n → n .at .instruction ≡ New c → stepTables t .answer ≡ Ran k
     → Takes (turn (view t)) (view t .objects) (view (stepTables t .tables) .objects) (unused (view t .objects))
     × (framesIn (turn (view t)) (view (stepTables t .tables)) ≡ past f (n .at) (objectValue (unused (view t .objects)) ∷ f .operands) (f .locals) ∷ fs)
-unfolding stepTables stepRows stepOn stepTask step turn turnOf
-new-takes t f fs n c k r i = shown Refused stepRows (λ a s. a ≡ Ran k → Made t f fs n s) t step-whole (λ w e. let z : _≡_ {A = ℕ} 0 1 = cc in absurd (omega arith))
-    (λ _ g e _. go (view t .quote) (view t .report) refl refl (r .frames) g e)
-  where
-    task : (j : ℕ) → turn (view t) ≡ j → (g : Given Answer) → stepTask j (worldOf (view t)) f fs (view t) ≡ ok g → Made t f fs n (g .rows)
-    task j q g e =
-        let a = bind-ok _ _ e in
-        let b = bind-ok _ _ (a .1) in
-        let same : b .0 ≡ n = ok-inj (sym (b .1) ∙ r .reads) in
-        let did : execute j (worldOf (view t)) (view t .objects) f fs (n .theClass) (n .at) (New c) ≡ ok (a .0) =
-        subst (λ (x : Instruction). execute j (worldOf (view t)) (view t .objects) f fs (n .theClass) (n .at) x ≡ ok (a .0)) i
-        (subst (λ (x : Now). execute j (worldOf (view t)) (view t .objects) f fs (x .theClass) (x .at) (x .at .instruction) ≡ ok (a .0)) same (b .2)) in
-        let m = ok-at (λ (o : Progress). Takes j (view t .objects) (o .objects) (unused (view t .objects)) × (o .frames ≡ past f (n .at) (objectValue (unused (view t .objects)) ∷ f .operands) (f .locals) ∷ fs)) _
-        (pushed-rows j (worldOf (view t)) (view t .objects) f fs (n .theClass) (n .at) c) (a .0) did in
-        let rows : progressed j (view t) (a .0) ≡ g .rows = ap (λ (x : Given Answer). x .rows) (ok-inj (a .2)) in
-        subst (λ (x : ℕ). Takes x (view t .objects) (g .rows .objects) (unused (view t .objects)) × (framesIn x (g .rows) ≡ past f (n .at) (objectValue (unused (view t .objects)) ∷ f .operands) (f .locals) ∷ fs)) (sym q)
-        (subst (λ (s : Rows). Takes j (view t .objects) (s .objects) (unused (view t .objects)) × (framesIn j s ≡ past f (n .at) (objectValue (unused (view t .objects)) ∷ f .operands) (f .locals) ∷ fs)) rows
-        (m .0, progressed-frames j (view t) (a .0) ∙ m .1))
-
-    go : (q p : List Frame) → view t .quote ≡ q → view t .report ≡ p → running q p ≡ f ∷ fs → (g : Given Answer) → stepOn q p (worldOf (view t)) (view t) ≡ ok g → Made t f fs n (g .rows)
-    go (h ∷ hs) p x y z g e = task 0 (ap turnOf x) g (subst (λ (us : List Frame). stepOn us p (worldOf (view t)) (view t) ≡ ok g) z e)
-    go [] (h ∷ hs) x y z g e = task 1 (ap turnOf x) g (subst (λ (us : List Frame). stepOn [] us (worldOf (view t)) (view t) ≡ ok g) z e)
-    go [] [] x y z g e = absurd (let l : length {A = Frame} [] ≡ length (f ∷ fs) = ap length z in omega arith)
+new-takes t f fs n c k r i ran = ran-shows t f fs n k
+    (λ s. Takes (turn (view t)) (view t .objects) (s .objects) (unused (view t .objects))
+    × (framesIn (turn (view t)) s ≡ past f (n .at) (objectValue (unused (view t .objects)) ∷ f .operands) (f .locals) ∷ fs)) r ran
+    (λ _ o e.
+    let m = ok-at (λ (o : Progress). Takes (turn (view t)) (view t .objects) (o .objects) (unused (view t .objects)) × (o .frames ≡ past f (n .at) (objectValue (unused (view t .objects)) ∷ f .operands) (f .locals) ∷ fs)) _
+    (pushed-rows (turn (view t)) (worldOf (view t)) (view t .objects) f fs (n .theClass) (n .at) c) o
+    (subst (λ (x : Instruction). execute (turn (view t)) (worldOf (view t)) (view t .objects) f fs (n .theClass) (n .at) x ≡ ok o) i e) in
+    (m .0, progressed-frames (turn (view t)) (view t) o ∙ m .1))

@@ -69,12 +69,12 @@ define-world : (room : Bool) (k : Class) (w : World) → ClassFits k → WorldFi
 unfolding define
 define-world room k w h f =
     then WorldFits _ _ (λ _ _. then-on (All NoteFits) WorldFits _ _ (take-read (All NoteFits) _ _ (notes-fit k (h .name) (k .methods) (h .methods .each))) (λ ns hn.
-    then WorldFits _ _ (λ _ _. then WorldFits _ _ (λ p _. then WorldFits _ _ (λ _ _. then WorldFits _ _ (λ _ _. then WorldFits _ _ (λ _ _.
+    then WorldFits _ _ (λ _ _. then WorldFits _ _ (λ p _. then WorldFits _ _ (λ _ _. then WorldFits _ _ (λ _ _.
     record {
       cache = all-both EntryFits (w .base .cache) _ (f .cache) (h .name, tt);
       ties = all-both TieFits (w .ties) _ (f .ties) (overrides-fit (w .base) (k .loader) p (w .ties) (k .methods) (h .methods .each));
       subtypes = all-both SubtypeFits (w .subtypes) _ (f .subtypes) (subtypes-fit (w .subtypes) (k .loader) ns hn);
-    })))))))
+    }))))))
 
 record-world : (l n c : ℕ) (w v : World) → n < 65536 → WorldFits w → recorded l n c w ≡ ok v → WorldFits v
 record-world l n c w v h f e = elim (recorded-is l n c w v e) [

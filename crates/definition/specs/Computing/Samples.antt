@@ -50,3 +50,22 @@ tied12 = ready ++ callDefine 1 (taker 40 2) ∷ callRecord 2 40 1 ∷ callDefine
 -- ready, and ties 1–2 and 2–3 on 12
 unfoldable pub tied123 : List Call
 tied123 = tied12 ++ callRecord 3 41 2 ∷ callDefine 3 (taker 42 41) ∷ []
+
+-- Fields
+
+-- k fields of type int, their names from n on
+unfoldable pub ints : ℕ → ℕ → List ℕ
+ints zero n = []
+ints (suc k) n = two n ++ two 1 ++ ints k (suc n)
+
+-- a class of name n below s with f fields and k methods
+unfoldable pub fielded : ℕ → ℕ → ℕ → List ℕ → ℕ → List ℕ → List ℕ
+fielded n s f fs k ms = let body = two n ++ two s ++ (f ∷ fs) ++ (k ∷ ms) in 1 ∷ two (length body) ++ body
+
+-- code: the int v into this one's field 5 of class c, 3 steps; an int out of it, 2 steps
+
+unfoldable pub into : ℕ → ℕ → List ℕ
+into c v = 0x19 ∷ 0 ∷ 0x11 ∷ two v ++ (0xB5 ∷ two c) ++ two 5 ++ two 1
+
+unfoldable pub from : ℕ → List ℕ
+from c = 0x19 ∷ 0 ∷ 0xB4 ∷ two c ++ two 5 ++ two 1

@@ -1,11 +1,11 @@
--- The file's own request must be free; then its superclass is looked up, and its fields compared.
+-- The file's own request must be free; then its superclass is looked up.
 use mathlib.Core.Path.{refl, sym, _∙_}
 use denote.Ref.{now}
 use Rattle.definition.specs.File.{classOf}
 use Rattle.classfile.specs.Reading.{quickFile, superName}
 use Rattle.resolution.specs.Quick.{quickBase, found-at, found-absent}
 use Rattle.defining.specs.Stages.{aboveOf}
-use Rattle.defining.proofs.Defined.{super-taken, super-wanted, super-hidden, super-fits}
+use Rattle.defining.proofs.Defined.{super-taken, super-wanted, super-fits}
 use borrow.Author.Needs.{needs}
 use Rattle.defining.proofs.superclasses.find_super.Statement.{statement}
 use Rattle.defining.proofs.superclasses.find_super.Tie as tie
@@ -27,20 +27,11 @@ returns-2 c =
 returns-3 : tie.Need-returns-3
 unfolding aboveOf quickFile quickBase
 returns-3 c =
-    let at9 = c .before .before .before .before .before .before .before .before .before in
-    let at10 = at9 .before in
-    let at11 = at10 .before in
-    let at17 = at11 .before .before .before .before .before .before in
-    super-hidden (classOf (at17 .args .loader) (quickFile (now (at17 .args .file)))) (quickBase (now (at17 .args .counts)) (now (at17 .args .classes)) (now (at17 .args .kept)) (now (at17 .args .cache))) _ _ _ (at11 .from8 .ensures .0) (at10 .class-name .ensures) (c .before .before .before .before .before .before .super-name .ensures) (found-absent _ (sym (at9 .find .ensures) ∙ c .before .before .before .before .before .before .before .enum-told .given .1)) _ (found-at _ _ (sym (c .before .before .before .before .before .find2 .ensures) ∙ c .before .before .before .p .given .1)) (sym (c .before .hides-any .ensures) ∙ c .if1 .taken)
-
-returns-4 : tie.Need-returns-4
-unfolding aboveOf quickFile quickBase
-returns-4 c =
-    let at9 = c .before .before .before .before .before .before .before .before .before in
-    let at10 = at9 .before in
-    let at11 = at10 .before in
-    let at17 = at11 .before .before .before .before .before .before in
-    super-fits (classOf (at17 .args .loader) (quickFile (now (at17 .args .file)))) (quickBase (now (at17 .args .counts)) (now (at17 .args .classes)) (now (at17 .args .kept)) (now (at17 .args .cache))) _ _ _ (at11 .from8 .ensures .0) (at10 .class-name .ensures) (c .before .before .before .before .before .before .super-name .ensures) (found-absent _ (sym (at9 .find .ensures) ∙ c .before .before .before .before .before .before .before .enum-told .given .1)) _ (found-at _ _ (sym (c .before .before .before .before .before .find2 .ensures) ∙ c .before .before .before .p .given .1)) (sym (c .before .hides-any .ensures) ∙ c .if1 .left)
+    let at7 = c .before .before .before .before .before .before .before in
+    let at8 = at7 .before in
+    let at9 = at8 .before in
+    let at15 = at9 .before .before .before .before .before .before in
+    super-fits (classOf (at15 .args .loader) (quickFile (now (at15 .args .file)))) (quickBase (now (at15 .args .counts)) (now (at15 .args .classes)) (now (at15 .args .kept)) (now (at15 .args .cache))) _ _ _ (at9 .from8 .ensures .0) (at8 .class-name .ensures) (c .before .before .before .before .super-name .ensures) (found-absent _ (sym (at7 .find .ensures) ∙ c .before .before .before .before .before .enum-told .given .1)) _ (found-at _ _ (sym (c .before .before .before .find2 .ensures) ∙ c .before .p .given .1))
 
 pub find-super-spec : {M : Type 1} → statement M
-find-super-spec = tie.close (tie.spec (λ c κs. search needs) (λ c κs. search needs) (λ c κs. search needs) (λ c. search needs) (λ c. search needs) returns (λ c κs. search needs) (λ c κs. search needs) (λ c. search needs) (λ c. search needs) returns-2 (λ c κs. search needs) returns-3 returns-4)
+find-super-spec = tie.close (tie.spec (λ c κs. search needs) (λ c κs. search needs) (λ c κs. search needs) (λ c. search needs) (λ c. search needs) returns (λ c κs. search needs) (λ c κs. search needs) (λ c. search needs) (λ c. search needs) returns-2 returns-3)
