@@ -1,23 +1,35 @@
 //! Hidden fields taken for others, refused, or not counted.
 
+use reference::agree::tie;
 use reference::answer::{denied, word};
 use reference::file::{File, Flaw, Rule};
 use reference::gen::build::set_length;
 use reference::gen::reach::Without;
 use reference::gen::Call;
 use reference::hidden::{declared, is_full_by_hiding, Access};
+use reference::load::is_new_tie;
 use reference::step::take_step;
-use reference::store::{count, Value, LIMITS};
+use reference::store::{cell, count, Value, LIMITS};
 use reference::{Answer, Refusal, Reply, Store};
 
 use crate::faults::{stepping, Fault};
 use crate::made::write;
+use crate::mapped::top;
 use crate::swept;
 
 /// Accesses first, then define, then sweep.
-pub const FAULTS: [Fault; 12] = [
-    ("the-slot-from-the-objects-class", |call, store| {
-        accessing(call, store, |access| access.namesakes().filter(|&place| access.fields[place].of == access.at.of).last())
+pub const FAULTS: [Fault; 13] = [
+    ("the-slot-from-the-objects-class", |call, store| accessing(call, store, |access| Some(from_the_objects_class(access)))),
+    ("the-tie-from-the-objects-class", |call, store| {
+        stepping(call, store, |store, classes| {
+            let (before, access) = (store.count(count::TIES), Access::at_turn(store, classes));
+            let answer = take_step(store, classes);
+            if let (Some(access), Answer::Ran(_)) = (access, answer) {
+                store.counts[count::TIES] = before as u16;
+                tie_to(store, &access, access.fields[from_the_objects_class(&access)].class);
+            }
+            answer
+        })
     }),
     ("the-first-slot-of-that-name", |call, store| accessing(call, store, |access| access.namesakes().next())),
     ("the-last-slot-of-that-name", |call, store| accessing(call, store, |access| access.namesakes().last())),
@@ -56,6 +68,20 @@ pub const FAULTS: [Fault; 12] = [
     }),
     ("sweep-forgets-hidden-fields", |call, store| swept::without(call, store, Without::HiddenFields)),
 ];
+
+/// The nearest field of that name and type from the object's own class upward.
+fn from_the_objects_class(access: &Access) -> usize {
+    access.namesakes().filter(|&place| access.fields[place].of == access.at.of).last().unwrap_or(access.place)
+}
+
+/// Ties the type of an access that ran between the loaders of this class and of the frame's.
+fn tie_to(store: &mut Store, access: &Access, class: u16) {
+    let frame = top(store).map(|frame| store.frames[frame + cell::CLASS] as u16);
+    let row = frame.and_then(|frame| tie(store.loader_of(class), store.loader_of(frame), access.at.of));
+    if let Some(row) = row.filter(|&row| is_new_tie(store, &[], row)) {
+        store.add_tie(row);
+    }
+}
 
 /// The nearest field of that name, of any type, from the named class upward.
 fn nearest_by_name(access: &Access) -> Option<usize> {
