@@ -1,6 +1,6 @@
 /* The ten calls from C: tables of wrong lengths, damaged stores, every word of refusal, numbers at their limits, answer tables of every
-   length, a run beside its steps, objects freed and their numbers used again, files of version 2, products and quotients, fields of one name in a class and above it, loads tried on short and long
-   lists, and the chains of those that clash; and the desk beside define. */
+   length, a run beside its steps, objects freed and their numbers used again, files of version 2, products and quotients, fields of one name in
+   a class and above it, loads tried on short and long lists, and the chains of those that clash; and the desk beside define. */
 #define _GNU_SOURCE
 #include "host.h"
 
@@ -444,7 +444,9 @@ static void hidden_fields(void)
     defines("same name, another type",
             define_fields(1, 12, 10, FIELDS({5, 10}), CODE(PUT(12, 10, 0x19, 0), PUT(12, 1, NUMBER(4)), GET(12, 10), 0xB4, 0, 10, 0, 5, 0, 1, 0xAC)), 3);
     holds("found by name and type", 1, 12, 4, 9, VALUES({1, 4}, {3, 0}));
-    defines("hidden twice", define(1, 13, 11, 5, 1, CODE(PUT(10, 1, NUMBER(3)), PUT(11, 1, NUMBER(8)), PUT(13, 1, NUMBER(20)), GET(13, 1), GET(11, 1), 0x64, GET(10, 1), 0x64, 0xAC)), 4);
+    defines("hidden twice",
+            define(1, 13, 11, 5, 1,
+                   CODE(PUT(10, 1, NUMBER(3)), PUT(11, 1, NUMBER(8)), PUT(13, 1, NUMBER(20)), GET(13, 1), GET(11, 1), 0x64, GET(10, 1), 0x64, 0xAC)), 4);
     holds("three apart", 1, 13, 20 - 8 - 3, 17, VALUES({1, 3}, {1, 8}, {1, 20}));
     defines("three, written through two", define(1, 14, 13, 0, 1, APART(11, 14)), 5);
     holds("through a class in the middle and one without a field", 1, 14, 3 - 8, 11, VALUES({1, 0}, {1, 3}, {1, 8}));

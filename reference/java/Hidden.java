@@ -46,6 +46,14 @@ class Hidden {
         return value instanceof A ? value.getClass().getSimpleName() : String.valueOf(value);
     }
 
+    static void print(String what, A object) throws Throwable {
+        StringBuilder line = new StringBuilder(what + ":");
+        for (Access access : accesses(object)) {
+            line.append(" ").append(said(access.read(object)));
+        }
+        System.out.println(line);
+    }
+
     /** A C is written through casts and read by accesses. */
     static void casts() throws Throwable {
         C c = new C();
@@ -55,11 +63,7 @@ class Hidden {
         c.g = new D();
         ((B) c).g = 4;
         ((A) c).g = new B();
-        StringBuilder line = new StringBuilder("by casts:");
-        for (Access access : accesses(c)) {
-            line.append(" ").append(said(access.read(c)));
-        }
-        System.out.println(line);
+        print("by casts", c);
     }
 
     public static void main(String[] arguments) throws Throwable {
@@ -70,11 +74,8 @@ class Hidden {
             for (Access access : accesses(object)) {
                 written++;
                 access.write(object, access.of == int.class ? (Object) written : objects[written / 4 % 4]);
-                StringBuilder line = new StringBuilder("new " + said(object) + ", " + access.named.getSimpleName() + "." + access.field + " " + access.of.getSimpleName() + ":");
-                for (Access other : accesses(object)) {
-                    line.append(" ").append(said(other.read(object)));
-                }
-                System.out.println(line);
+                String by = access.named.getSimpleName() + "." + access.field + " " + access.of.getSimpleName();
+                print("new " + said(object) + ", " + by, object);
             }
         }
         casts();
