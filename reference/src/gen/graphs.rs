@@ -23,6 +23,9 @@ pub fn graphs(seed: u64, turns: usize) -> Trial {
     let [lower, lowest] = [LOWER, LOWEST].map(|name| hiding(&mut rng, Draft::new(name).under(name - 1)));
     trial.define(1, &with_methods(&mut rng, lower.field(OWN, NODE), 50));
     trial.define(1, &lowest);
+    if rng.percent(20) {
+        (LOWEST + 1..LOWEST + 3).for_each(|name| crowd(&mut rng, &mut trial, name));
+    }
     // Some lists hardly sweep, so that the store fills up.
     let sweeps = rng.pick(&[1, 4, 4, 8]);
     let mut graphs = Graphs { rng, trial, sweeps };
@@ -39,6 +42,13 @@ fn hiding(rng: &mut Rng, draft: Draft) -> Draft {
         2 => draft.field(field, rng.pick(&[INT, LOWER])),
         _ => draft,
     })
+}
+
+/// A class with many fields, whose names those above have or have not; two of them pass the limit of fields at times.
+fn crowd(rng: &mut Rng, trial: &mut Trial, name: u16) {
+    let fields = rng.within(1, 8) as u16;
+    let draft = (0..fields).fold(Draft::new(name).under(name - 1), |draft, i| draft.field(29 + i, NODE));
+    trial.define(1, &draft);
 }
 
 /// Adds the methods, each so many times in a hundred.
