@@ -1,6 +1,6 @@
 /* The ten calls from C: tables of wrong lengths, damaged stores, every word of refusal, numbers at their limits, answer tables of every
-   length, a run beside its steps, objects freed and their numbers used again, files of version 2, products and quotients, loads tried on short and long
-   lists, and the chains of those that clash; and the desk beside define. */
+   length, a run beside its steps, objects freed and their numbers used again, files of version 2, products and quotients, fields of one name in
+   a class and above it, loads tried on short and long lists, and the chains of those that clash; and the desk beside define. */
 #define _GNU_SOURCE
 #include "host.h"
 
@@ -140,7 +140,6 @@ static void loading_words(void)
     wants("define of a loader without Object", define(4, 10, 2, 0, 1, IDENTITY), 4, 2);
     defines("class 10", define(1, 10, 2, 5, 12, ZERO), 1);
     refuses("class 10 again", define(1, 10, 2, 0, 1, IDENTITY), TARIFF_TAKEN);
-    refuses("a field that the superclass has", define(1, 11, 10, 5, 0, 0, NULL), TARIFF_HIDDEN);
     refuses("another name", record(2, 11, 1), TARIFF_MISNAMED);
     defines("another class 10", define(3, 10, 2, 0, 0, 0, NULL), 2);
     accepts("loader 2 asks loader 1 for 10", record(2, 10, 1));
@@ -416,6 +415,63 @@ static void unfit_rates(void)
     refuses("a sum of version 1 made a product", step(), TARIFF_STUCK);
 }
 
+/* Field 5 of this object, by the class that is named and the type. */
+#define GET(class, type) 0x19, 0, 0xB4, 0, class, 0, 5, 0, type
+#define PUT(class, type, ...) 0x19, 0, __VA_ARGS__, 0xB5, 0, class, 0, 5, 0, type
+#define NUMBER(n) 0x11, 0, n
+#define FIELDS(...) sizeof((struct field[]){__VA_ARGS__}) / sizeof(struct field), (struct field[]){__VA_ARGS__}
+
+/* Writes two numbers through two classes, the second the object's own, and reads them apart. */
+#define APART(upper, own) CODE(PUT(upper, 1, NUMBER(3)), PUT(own, 1, NUMBER(8)), GET(upper, 1), GET(own, 1), 0x64, 0xAC)
+
+/* A quote of that class: it ends after so many steps with this int, and its object has these values in its fields. */
+static void holds(const char *what, uint32_t loader, uint16_t name, int32_t answer, uint32_t steps, size_t values, const uint32_t (*value)[2])
+{
+    frees("what an earlier quote left", ((uint16_t *)table[0])[5] ? 1 : 0);
+    accepts(what, start(TARIFF_QUOTE, loader, name, 20, 7));
+    expect(what, run(99), 0, SIX(TARIFF_RAN_FOR, 0, TARIFF_FINISHED, TARIFF_QUOTE, (uint32_t)answer, steps));
+    check(what, memcmp((uint32_t *)table[6] + 1, value, values * 8) == 0);
+}
+
+#define VALUES(...) sizeof((uint32_t[][2]){__VA_ARGS__}) / 8, (const uint32_t[][2]){__VA_ARGS__}
+
+static void hidden_fields(void)
+{
+    ready();
+    defines("class 10", define(1, 10, 2, 5, 0, 0, NULL), 1);
+    defines("same name, same type", define(1, 11, 10, 5, 1, APART(10, 11)), 2);
+    holds("read apart", 1, 11, 3 - 8, 11, VALUES({1, 3}, {1, 8}));
+    defines("same name, another type",
+            define_fields(1, 12, 10, FIELDS({5, 10}), CODE(PUT(12, 10, 0x19, 0), PUT(12, 1, NUMBER(4)), GET(12, 10), 0xB4, 0, 10, 0, 5, 0, 1, 0xAC)), 3);
+    holds("found by name and type", 1, 12, 4, 9, VALUES({1, 4}, {3, 0}));
+    defines("hidden twice",
+            define(1, 13, 11, 5, 1,
+                   CODE(PUT(10, 1, NUMBER(3)), PUT(11, 1, NUMBER(8)), PUT(13, 1, NUMBER(20)), GET(13, 1), GET(11, 1), 0x64, GET(10, 1), 0x64, 0xAC)), 4);
+    holds("three apart", 1, 13, 20 - 8 - 3, 17, VALUES({1, 3}, {1, 8}, {1, 20}));
+    defines("three, written through two", define(1, 14, 13, 0, 1, APART(11, 14)), 5);
+    holds("through a class in the middle and one without a field", 1, 14, 3 - 8, 11, VALUES({1, 0}, {1, 3}, {1, 8}));
+    for (uint32_t loader = 2; loader <= 3; loader++) {
+        accepts("the shared class", record(loader, 10, 1));
+        defines("an insurer's", define(loader, 15, 10, 5, 1, APART(10, 15)), 4 + loader);
+        holds("its own and the shared", loader, 15, 3 - 8, 11, VALUES({1, 3}, {1, 8}));
+    }
+}
+
+/* The limit counts every field, and two of one name in one file are a bad file. */
+static void counted_fields(void)
+{
+    struct field eight[8];
+    for (unsigned i = 0; i < 8; i++)
+        eight[i] = (struct field){50 + i, 1};
+    ready();
+    defines("eight fields", define_fields(1, 10, 2, 8, eight, 0, NULL), 1);
+    defines("eight more by their names", define_fields(1, 11, 10, 8, eight, 0, NULL), 2);
+    refuses("a seventeenth by one of them", define(1, 12, 11, 50, 0, 0, NULL), TARIFF_FULL);
+    refuses("two of one name", define_fields(1, 12, 10, FIELDS({50, 1}, {50, 1}), 0, NULL), TARIFF_FILE);
+    refuses("two of one name and two types", define_fields(1, 12, 10, FIELDS({50, 1}, {50, 10}), 0, NULL), TARIFF_FILE);
+    defines("no more", define(1, 12, 11, 0, 0, 0, NULL), 3);
+}
+
 /* What define says of files of version 2. */
 static void mapped_files(void)
 {
@@ -616,7 +672,7 @@ static void long_list(void)
     refuses("taken", tried(define(1, 12, 2, 0, 0, 0, NULL)), TARIFF_TAKEN);
     refuses("an unset local", tried(define(2, 14, 2, 0, 1, CODE(0x15, 2, 0xAC))), TARIFF_UNVERIFIED);
     refuses("a target without a map", tried(define_mapped(2, CODE(0xA7, 0, 0), CODE(0))), TARIFF_UNMAPPED);
-    refuses("a field that the superclass has", tried(define(2, 14, 13, 5, 0, 0, NULL)), TARIFF_HIDDEN);
+    would("a field that the superclass has", define(2, 14, 13, 5, 0, 0, NULL), TARIFF_DEFINED, 4);
     wants("no Object", tried(define(4, 14, 2, 0, 0, 0, NULL)), 4, 2);
     struct call cut = define(2, 12, 2, 0, 0, 0, NULL);
     cut.size--;
@@ -736,6 +792,8 @@ int main(void)
     zero_divisor();
     stuck_rates();
     unfit_rates();
+    hidden_fields();
+    counted_fields();
     limits();
     runs_and_steps();
     answer_tables();

@@ -164,19 +164,29 @@ static void put(size_t size, const uint8_t *bytes)
         byte(bytes[i]);
 }
 
-/* Version, room for the length, names, and the int field of that name, if it isn't 0. */
-static void head(unsigned version, unsigned name, unsigned super, unsigned field)
+struct field {
+    unsigned name, type;
+};
+
+/* Version, room for the length, names and the fields. */
+static void head_with(unsigned version, unsigned name, unsigned super, size_t fields, const struct field *field)
 {
     written = 0;
     byte(version);
     pair(0);
     pair(name);
     pair(super);
-    byte(field ? 1 : 0);
-    if (field) {
-        pair(field);
-        pair(1);
+    byte((unsigned)fields);
+    for (size_t i = 0; i < fields; i++) {
+        pair(field[i].name);
+        pair(field[i].type);
     }
+}
+
+/* The same with the int field of that name, if it isn't 0. */
+static void head(unsigned version, unsigned name, unsigned super, unsigned field)
+{
+    head_with(version, name, super, field ? 1 : 0, &(struct field){field, 1});
 }
 
 /* A method of that argument and an int as its result. */
@@ -189,14 +199,27 @@ static void method(unsigned name, unsigned argument, size_t size, const uint8_t 
     put(size, code);
 }
 
-/* A file with the int field of that name, if it isn't 0, and with method 20 of that argument, if there is code. */
-static struct call define(uint32_t loader, unsigned name, unsigned super, unsigned field, unsigned argument, size_t size, const uint8_t *code)
+/* The file whose head was written, with method 20 of that argument, if there is code. */
+static struct call defined_with(uint32_t loader, unsigned argument, size_t size, const uint8_t *code)
 {
-    head(1, name, super, field);
     byte(size ? 1 : 0);
     if (size)
         method(20, argument, size, code);
     return defined(loader);
+}
+
+/* A file with the int field of that name, if it isn't 0, and with method 20 of that argument, if there is code. */
+static struct call define(uint32_t loader, unsigned name, unsigned super, unsigned field, unsigned argument, size_t size, const uint8_t *code)
+{
+    head(1, name, super, field);
+    return defined_with(loader, argument, size, code);
+}
+
+/* A file with these fields, and with method 20 of an int, if there is code. */
+static struct call define_fields(uint32_t loader, unsigned name, unsigned super, size_t fields, const struct field *field, size_t size, const uint8_t *code)
+{
+    head_with(1, name, super, fields, field);
+    return defined_with(loader, 1, size, code);
 }
 
 /* Class 10 below Object of version 2, with method 20 of an int; the maps come with their count. */

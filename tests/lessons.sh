@@ -1,6 +1,6 @@
 #!/usr/bin/env bash
 # The writer's tool: its own tests, the course's lessons on the proved machine, each mistake's lesson on a machine that makes it, the lessons
-# on dead objects, choices, loops, rates and clashes on machines that do them wrongly, what ./box says of mistakes in a text, and any bytes for a
+# on dead objects, choices, loops, rates, hidden fields and clashes on machines that do them wrongly, what ./box says of mistakes in a text, and any bytes for a
 # minute.
 #
 #   tests/lessons.sh                   all of it
@@ -114,6 +114,7 @@ mistakes() {
         [age-bands]="less-than-[a-z-]+|jumps-from-the-instruction|offsets-from-the-instruction|unmapped-is-unverified|unset-for-int"
         [instalments]="ifeq-[a-z-]+|a-jump-to-itself-is-stuck|sweep-forgets-unset-locals|a-set-local-stays-set"
         [rates]="quotients-are-[a-z]+|divide[sd]-[a-z-]+|the-least-by-[a-z-]+|zero-divisor-is-[a-z]+|a-refused-division-[a-z-]+|products-[a-z-]+|rates-in-version-one"
+        [hidden-fields]="the-[a-z]+-slot-[a-z-]+|the-slot-[a-z-]+|resolution-by-name-alone|another-type-nearer-is-absent|the-field-nearest-to-the-top|one-place-[a-z-]+|define-refuses-hidden-[a-z-]+|hidden-fields-dont-count"
         [a-join]="flow-to-the-target-not-checked|notes-upside-down"
     )
     (cd reference && cargo build --offline --release --quiet -p mirror --target-dir target/mirror)

@@ -9,6 +9,7 @@ pub mod word {
     pub const WANTED: u8 = 5;
     pub const UNVERIFIED: u8 = 6;
     pub const ABSENT: u8 = 7;
+    /// Reserved since paper 6: no call answers it.
     pub const HIDDEN: u8 = 8;
     pub const CLASH: u8 = 9;
     pub const FULL: u8 = 10;

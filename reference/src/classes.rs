@@ -88,12 +88,6 @@ impl Classes {
         })
     }
 
-    /// Does the class or one upward have a field of that name?
-    pub fn has_field_named(&self, store: &Store, from: u16, name: u16) -> bool {
-        let mut files = self.upward(from).filter_map(|class| store.file(class));
-        files.any(|file| file.fields().any(|field| field.name == name))
-    }
-
     /// The nearest class upward with a method of that name and those types.
     pub fn method<'a>(
         &self,

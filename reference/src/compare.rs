@@ -16,6 +16,7 @@ use crate::gen::damage::{damaged, probes, SHAPES};
 use crate::gen::cells::each_cell;
 use crate::gen::files::file;
 use crate::gen::graphs::graphs;
+use crate::gen::hidden::hidden;
 use crate::gen::limits::LIMITS;
 use crate::gen::list::list;
 use crate::gen::rng::Rng;
@@ -23,7 +24,7 @@ use crate::gen::loops::loops;
 use crate::gen::rates;
 use crate::gen::stuck::stuck;
 use crate::gen::swept::swept;
-use crate::gen::{cases, large, mapped, Call, Trial, CALLS};
+use crate::gen::{cases, javas, large, mapped, Call, Trial, CALLS};
 use crate::host::{self, expected, CELLS};
 use crate::placed::misplaced;
 use crate::store::{Store, LENGTHS, MOST_ROWS};
@@ -217,7 +218,7 @@ impl Comparison {
 
     /// What needs no seed.
     fn fixed(&mut self) {
-        for (at, trial) in cases::cases().iter().chain(&swept()).chain(&loops()).chain(&rates::rates()).enumerate() {
+        for (at, trial) in cases::cases().iter().chain(&swept()).chain(&loops()).chain(&rates::rates()).chain(&hidden()).enumerate() {
             self.play(trial, &format!("case {at}"));
         }
         for seed in 0..4 {
@@ -305,7 +306,9 @@ impl Comparison {
         for (tally, what) in [(&self.booted, "from a boot"), (&self.damaged, "on damaged stores")] {
             demand(tally.unswept().is_empty(), format!("sweeps {what} never had {:?}", tally.unswept()));
             demand(tally.unreasoned().is_empty(), format!("chains of clashes {what} never had {:?}", tally.unreasoned()));
+            demand(tally.hiding.unmet().is_empty(), format!("accesses {what} never met {:?}", tally.hiding.unmet()));
         }
+        demand(self.booted.hiding.undone().is_empty(), format!("no define from a boot {:?}", self.booted.hiding.undone()));
         demand(self.misshapen.iter().all(|&calls| calls > 0), format!("calls on misshapen tables: {:?}", self.misshapen));
         for ((what, _), &stores) in SHAPES.iter().zip(&self.shapes) {
             demand(stores > 0, format!("no damaged store has {what}"));
@@ -344,6 +347,14 @@ pub fn rates() -> String {
         let refused = Reply::Stepped(Answer::Refused(Refusal::Word(word::ZERO_DIVISOR)));
         assert_eq!([reply, both(ours, theirs, &Call::Step, CELLS, &label)], [refused; 2], "{label}");
         None
+    })
+}
+
+/// What java/Hidden.java prints, by the library: each access by steps, beside ours.
+pub fn hidden_fields() -> String {
+    javas::printed(|store| {
+        let mut ours = store.clone();
+        both(&mut ours, store, &Call::Step, CELLS, "Java's accesses")
     })
 }
 

@@ -78,7 +78,7 @@ pub fn plan_define(
     let file = File::read(bytes).ok_or(Refusal::Word(word::FILE))?;
     let mut notes = Notes::new(store, loader);
     judge(file, &mut notes).map_err(Refusal::Word)?;
-    let superclass = superclass_for(store, &classes, loader, file)?;
+    let superclass = superclass_for(store, loader, file)?;
     let ties = overriding_ties(store, &classes, loader, superclass, file);
     let entry = [loader, file.name(), store.counts[count::CLASSES]];
     let is_too_much = is_class_too_much(store, &classes, superclass, file, bytes.len());
@@ -90,17 +90,13 @@ pub fn plan_define(
     Ok(plan)
 }
 
-/// The superclass of a file that is neither taken nor wants for one nor hides a field.
-fn superclass_for(store: &Store, classes: &Classes, loader: u16, file: File) -> Result<u16, Refusal> {
+/// The superclass of a file that is neither taken nor wants for one.
+fn superclass_for(store: &Store, loader: u16, file: File) -> Result<u16, Refusal> {
     if store.cached(loader, file.name()).is_some() {
         return Err(Refusal::Word(word::TAKEN));
     }
     let wanted = Refusal::Wanted(loader as u8, file.superclass());
-    let superclass = store.cached(loader, file.superclass()).ok_or(wanted)?;
-    if file.fields().any(|field| classes.has_field_named(store, superclass, field.name)) {
-        return Err(Refusal::Word(word::HIDDEN));
-    }
-    Ok(superclass)
+    store.cached(loader, file.superclass()).ok_or(wanted)
 }
 
 /// Would the class pass the limit of classes, kept bytes or fields?

@@ -1,4 +1,4 @@
-//! How often each word was given to each call, how often each opcode ran, what sweeps met, and what chains were reasons.
+//! How often each word was given to each call, how often each opcode ran, what sweeps and accesses to fields met, and what chains were reasons.
 
 use std::fmt;
 
@@ -8,6 +8,7 @@ use crate::breaks::{walked, ways, Pairs};
 use crate::code::op;
 use crate::gen::reach::{reached, Without, LEFT_OUT};
 use crate::gen::{Call, CALLS};
+use crate::hidden::Hiding;
 use crate::reason::chain;
 use crate::step::{instruction_of, take_step};
 use crate::store::{cell, frame_base, Store, FREE};
@@ -15,14 +16,14 @@ use crate::store::{cell, frame_base, Store, FREE};
 /// The words that a call is given on lists from a boot; 0 is accepted.
 pub const FROM_A_BOOT: [(&str, &[usize]); 10] = [
     ("boot", &[0]),
-    ("define", &[0, 2, 3, 4, 5, 6, 8, 9, 10, 15]),
+    ("define", &[0, 2, 3, 4, 5, 6, 9, 10, 15]),
     ("record", &[0, 3, 4, 9, 10, 13]),
     ("start", &[0, 3, 5, 7, 10, 12]),
     ("step", &[0, 5, 7, 9, 10, 11, 17]),
     ("run", &[0, 3]),
     ("drop", &[0, 3]),
     ("sweep", &[0]),
-    ("try define", &[0, 2, 3, 4, 5, 6, 8, 9, 10, 15, 16]),
+    ("try define", &[0, 2, 3, 4, 5, 6, 9, 10, 15, 16]),
     ("try record", &[0, 3, 4, 9, 10, 13, 16]),
 ];
 
@@ -61,6 +62,8 @@ pub struct Tally {
     pub reused: u64,
     /// Clashes of tries whose chain is each of `REASONS`.
     pub reasons: [u64; REASONS.len()],
+    /// What hidden fields were met.
+    pub hiding: Hiding,
 }
 
 /// What a chain that breaks agreement may have, and the test for it.
@@ -130,6 +133,7 @@ impl Default for Tally {
             freed: 0,
             reused: 0,
             reasons: [0; REASONS.len()],
+            hiding: Hiding::default(),
         }
     }
 }
@@ -164,6 +168,7 @@ impl Tally {
     pub fn count(&mut self, before: &Store, call: &Call, reply: Reply, after: &Store) {
         let number = reply.refusal().map_or(0, |refusal| usize::from(refusal.number()));
         self.words[call.kind()][number] += 1;
+        self.hiding.count_define(before, call, reply);
         match reply {
             Reply::Stepped(answer) => {
                 self.steps[ending(answer)] += 1;
@@ -202,7 +207,7 @@ impl Tally {
         self.reused += owners.filter(|(&then, &now)| then == FREE && now != FREE).count() as u64;
     }
 
-    /// Runs a copy of the store again for the opcodes of its first steps.
+    /// Runs a copy of the store again for the opcodes and accesses of its first steps.
     fn count_opcodes(&mut self, before: &Store, steps: u16) {
         if steps == 0 {
             return;
@@ -215,6 +220,7 @@ impl Tally {
             if let Some(opcode) = opcode(&store) {
                 self.opcodes[usize::from(opcode)] += 1;
             }
+            self.hiding.count_access(&store, &classes);
             take_step(&mut store, &classes);
         }
     }
@@ -231,6 +237,7 @@ impl Tally {
         self.freed += other.freed;
         self.reused += other.reused;
         (0..REASONS.len()).for_each(|what| self.reasons[what] += other.reasons[what]);
+        self.hiding.add(&other.hiding);
     }
 
     /// The words given to a call, by number; 0 is accepted.
@@ -290,6 +297,7 @@ impl fmt::Display for Tally {
         for ((what, _), chains) in REASONS.iter().zip(self.reasons) {
             writeln!(f, "   chains with {what:<28}{chains:>6}")?;
         }
+        write!(f, "{}", self.hiding)?;
         writeln!(f, "   objects freed{:>33}\n   objects in freed rows{:>25}", self.freed, self.reused)?;
         writeln!(f, "   runs of 1,000 steps and more{:>18}", self.long_runs)
     }

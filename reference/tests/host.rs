@@ -6,7 +6,7 @@
 
 use std::time::Duration;
 
-use reference::compare::{all, rates};
+use reference::compare::{all, hidden_fields, rates};
 
 fn setting(name: &str) -> Option<u64> {
     std::env::var(name).ok().map(|value| value.parse().unwrap_or_else(|_| panic!("{name} is no number")))
@@ -24,4 +24,10 @@ fn the_two_machines_are_the_same() {
 #[test]
 fn products_and_quotients_are_javas() {
     assert_eq!(rates(), include_str!("../java/Rates.out"));
+}
+
+/// java/Hidden.out is what java/Hidden.java printed.
+#[test]
+fn hidden_fields_are_javas() {
+    assert_eq!(hidden_fields(), include_str!("../java/Hidden.out"));
 }

@@ -5,6 +5,7 @@ use reference::answer::{word, Answer, Refusal, Reply};
 use reference::broken::unbroken;
 use reference::gen::chains::chains;
 use reference::gen::graphs::graphs;
+use reference::gen::hidden::hidden;
 use reference::gen::limits::LIMITS;
 use reference::gen::list::list;
 use reference::gen::loops::loops;
@@ -126,7 +127,8 @@ fn random_lists() {
     println!("{SEEDS} random lists, as many about constraints, and as many about objects\n{tally}");
     assert_eq!(tally.unswept(), Vec::<&str>::new(), "what sweeps never had");
     assert_eq!(tally.unreasoned(), Vec::<&str>::new(), "what chains of clashes never had");
-    for trial in cases::cases().iter().chain(&swept()).chain(&loops()).chain(&rates()) {
+    assert_eq!(tally.hiding.unmet(), Vec::<&str>::new(), "what accesses never met");
+    for trial in cases::cases().iter().chain(&swept()).chain(&loops()).chain(&rates()).chain(&hidden()) {
         watch(trial, "a case", &mut tally);
     }
     for (name, limit) in LIMITS {

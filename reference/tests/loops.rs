@@ -95,7 +95,7 @@ fn the_order_of_words_and_notes() {
 
 #[test]
 fn full_counts_different_notes() {
-    assert_eq!(defines(&many_notes()), [0, 0, 4, 5, 8, 10, 0, 10, 0]);
+    assert_eq!(defines(&many_notes()), [0, 0, 4, 5, 10, 0, 10, 0]);
     let of = |draft: Draft| {
         let mut trial = Trial::ready([1]);
         let reply = trial.define(1, &draft).refusal().map_or(0, Refusal::number);

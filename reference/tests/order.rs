@@ -54,7 +54,7 @@ fn define_order() {
     let fields = |draft: Draft, first: u16| (0..8).fold(draft, |draft, i| draft.field(first + i, INT));
     trial.define(1, &fields(Draft::new(10), 100));
     trial.define(1, &fields(Draft::new(11).under(10), 200));
-    assert_eq!(trial.define(1, &Draft::new(12).under(11).field(100, 7)), word(8), "8 before 10, by name alone");
+    assert_eq!(trial.define(1, &Draft::new(12).under(11).field(100, 7)), word(10), "no 8 before 10");
     assert_eq!(trial.define(1, &Draft::new(12).under(11).field(99, 7)), word(10));
     assert_eq!(trial.define(1, &Draft::new(12).under(77).field(100, 7)), Reply::Denied(Refusal::Wanted(1, 77)));
 }

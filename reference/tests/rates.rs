@@ -3,7 +3,6 @@
 use reference::answer::{word, Answer, Refusal, Reply};
 use reference::code::op;
 use reference::gen::rates::{before, figures, give, in_version_1, products, quotients, result, within, zero_divisor};
-use reference::gen::Trial;
 use reference::{misplaced, step};
 
 const ZERO_DIVISOR: Answer = Answer::Refused(Refusal::Word(word::ZERO_DIVISOR));
@@ -27,26 +26,16 @@ fn products_and_quotients_are_javas() {
     assert_eq!(printed, include_str!("../java/Rates.out"));
 }
 
-/// What the runs of a list ended with: an int or a word.
-fn ends(trial: &Trial) -> Vec<Result<i32, u8>> {
-    let end = |reply: &Reply| match *reply {
-        Reply::RanFor(_, Answer::Finished(_, int)) => Some(Ok(int as i32)),
-        Reply::RanFor(_, Answer::Refused(refusal)) => Some(Err(refusal.number())),
-        _ => None,
-    };
-    trial.replies.iter().filter_map(end).collect()
-}
-
 #[test]
 fn lists_end_so() {
-    let squares: Vec<_> = ends(&products()).into_iter().step_by(5).collect();
+    let squares: Vec<_> = products().ends().into_iter().step_by(5).collect();
     let wrapped = [0, 1, 1, 49, 49, 2_147_395_600, -2_147_479_015, -2_147_479_015, -131_071, 0, 0, 1];
     assert_eq!(squares, wrapped.map(Ok));
-    let by_int = |int: usize| ends(&quotients())[8 * int..][..8].to_vec();
+    let by_int = |int: usize| quotients().ends()[8 * int..][..8].to_vec();
     assert_eq!(by_int(0), [Ok(0), Ok(0), Ok(0), Ok(0), Err(17), Err(17), Err(17), Err(17)]);
     assert_eq!(by_int(7), [Ok(-3), Ok(3), Ok(-7), Ok(7), Err(17), Ok(-1), Ok(1), Ok(0)]);
     assert_eq!(by_int(8), [Ok(-1_073_741_824), Ok(1_073_741_824), Ok(i32::MIN), Ok(i32::MIN), Err(17), Ok(0), Ok(0), Ok(0)]);
-    assert_eq!(ends(&within()), [Ok(150), Err(17), Err(17)]);
+    assert_eq!(within().ends(), [Ok(150), Err(17), Err(17)]);
     assert!(in_version_1().replies[4..].iter().all(|reply| reply.refusal() == Some(Refusal::Word(word::UNVERIFIED))));
 }
 

@@ -70,7 +70,7 @@ pub const FAULTS: [Fault; 17] = [
         _ => None,
     }),
     ("full-of-notes-comes-first", |call, store| {
-        let early = [word::TAKEN, word::WANTED, word::HIDDEN];
+        let early = [word::TAKEN, word::WANTED];
         let number = call.apply(&mut store.clone()).refusal().map(Refusal::number);
         let mut notes = notes(call)?;
         notes.sort_unstable();

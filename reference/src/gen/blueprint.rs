@@ -45,7 +45,7 @@ impl Blueprint {
             lower => self.sketches[rng.below(lower)].name,
         };
         let first = FIELD + 4 * (name - FIRST);
-        let fields = (0..rng.within(0, 3) as u16).map(|i| (first + i, random_type(rng, names))).collect();
+        let fields = self.fields(rng, superclass, first, names);
         let mut methods = vec![(MAIN, INT, INT)];
         let inherited: Vec<_> = self.upward(superclass).iter().flat_map(|up| up.methods.clone()).collect();
         for _ in 0..rng.within(0, 4) {
@@ -58,6 +58,23 @@ impl Blueprint {
             }
         }
         Sketch { name, superclass, fields, methods }
+    }
+
+    /// Up to three fields, some of which hide one upward, of the same type or another.
+    fn fields(&self, rng: &mut Rng, superclass: u16, first: u16, names: &[u16]) -> Vec<(u16, u16)> {
+        let above: Vec<_> = self.upward(superclass).iter().flat_map(|up| up.fields.clone()).collect();
+        let mut fields: Vec<(u16, u16)> = Vec::new();
+        for i in 0..rng.within(0, 3) as u16 {
+            let other = random_type(rng, names);
+            let field = match above.len() {
+                1.. if rng.percent(35) => rng.pick(&above),
+                _ => (first + i, other),
+            };
+            if fields.iter().all(|there| there.0 != field.0) {
+                fields.push(if rng.percent(30) { (field.0, other) } else { field });
+            }
+        }
+        fields
     }
 
     pub fn find(&self, name: u16) -> Option<&Sketch> {
@@ -96,7 +113,7 @@ impl Blueprint {
         draft
     }
 
-    /// Now and then another superclass, a field or method less, or a field that hides one.
+    /// Now and then another superclass, a field or method less, or a field more that hides one.
     fn vary(&self, rng: &mut Rng, sketch: &mut Sketch) {
         if rng.percent(12) {
             sketch.superclass = OBJECT;
@@ -112,8 +129,8 @@ impl Blueprint {
             sketch.methods.remove(at);
         }
         let hidden = self.find(sketch.superclass).and_then(|up| up.fields.first().copied());
-        if let Some((name, _)) = hidden.filter(|_| rng.percent(6)) {
-            sketch.fields.push((name, INT));
+        if let Some((name, of)) = hidden.filter(|_| rng.percent(6)) {
+            sketch.fields.push((name, rng.pick(&[of, INT])));
         }
     }
 }

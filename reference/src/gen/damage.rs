@@ -4,6 +4,7 @@ use super::blueprint::Blueprint;
 use super::build::{Code, Draft};
 use super::cases::{self, MAIN};
 use super::graphs::graphs;
+use super::hides::hidden_fields;
 use super::large;
 use super::list::busy_list;
 use super::loops::{spinning, unset_at_a_join, waiting};
@@ -16,10 +17,10 @@ use crate::file::File;
 use crate::store::{cell, count, frame_base, Store, FIELDS, FRAME_ROW, INT, LENGTHS, LIMITS, OBJECT, OBJECT_ROW, ROW, TASKS};
 
 /// Kinds of damage, each a way to change a good store.
-const KINDS: [fn(&mut Rng, &mut Store); 32] = [
+const KINDS: [fn(&mut Rng, &mut Store); 33] = [
     any_cells, a_count, uniform_table, wrong_length, second_cache_row, overlapping_files, superclass_not_lower,
     code_bytes, kept_byte, top_frame, operand_count, a_value, constraints, full_frames, uniform_store, file_place,
-    nested_file, full_rows, many_fields, repeated_field, many_classes, report_past_its_code, an_owner, free_rows,
+    nested_file, full_rows, many_fields, hidden_fields, hidden_fields, many_classes, report_past_its_code, an_owner, free_rows,
     unused_number, links, many_objects, unseen_jumps, unseen_jumps, other_version, map_bytes,
     unseen_rates,
 ];
@@ -28,9 +29,10 @@ const KINDS: [fn(&mut Rng, &mut Store); 32] = [
 pub type Shape = (&'static str, fn(&Store) -> bool);
 
 /// What damaged stores must have among them.
-pub const SHAPES: [Shape; 14] = [
+pub const SHAPES: [Shape; 15] = [
     ("a class of more than 16 fields", |store| classes(store).iter().any(|&class| field_names(store, class).len() > FIELDS)),
-    ("a field's name repeated below", has_repeated_field),
+    ("a field's name repeated below", |store| has_repeated_field(store, 2)),
+    ("a field's name in three classes", |store| has_repeated_field(store, 3)),
     ("19 and more classes", |store| store.counts.first() >= Some(&19) && is_whole(store)),
     ("a report's frame past its code, and a quote", has_report_past_its_code),
     ("a value in field 3 or above", has_high_value),
@@ -488,11 +490,12 @@ fn field_names(store: &Store, class: u16) -> Vec<u16> {
     names
 }
 
-fn has_repeated_field(store: &Store) -> bool {
+/// Has a class, with those above it, a field's name so many times?
+fn has_repeated_field(store: &Store, times: usize) -> bool {
     let repeats = |&class: &u16| {
         let mut names = field_names(store, class);
         names.sort_unstable();
-        names.windows(2).any(|pair| pair[0] == pair[1])
+        names.windows(times).any(|few| few[0] == few[times - 1])
     };
     is_whole(store) && classes(store).iter().any(repeats)
 }
@@ -570,23 +573,6 @@ fn many_fields(rng: &mut Rng, store: &mut Store) {
         let value = if rng.percent(97) { [1, value[1]] } else { value };
         let at = Store::field_cell(object, field);
         store.objects[at..at + 2].copy_from_slice(&value);
-    }
-}
-
-/// A class with a field whose name a superclass has, of the same type or another, and a task that uses both.
-fn repeated_field(rng: &mut Rng, store: &mut Store) {
-    if !is_whole(store) || store.cached(0, OBJECT) != Some(0) {
-        return;
-    }
-    let (upper, lower) = (unused_name(store), unused_name(store) + 1);
-    let other = rng.pick(&[INT, upper]);
-    let above = Draft::new(upper).field(30, INT).field(31, INT);
-    let used = rng.pick(&[upper, lower]);
-    let code = Code::new().aload(0).int(9).putfield(used, 30, INT).aload(0).getfield(lower, 30, INT).aload(0);
-    let code = code.getfield(upper, 30, INT).isub().ireturn();
-    let below = Draft::new(lower).under(upper).field(30, other).field(32, lower).main(MAIN, &code);
-    if add_unseen(store, 0, &above).and_then(|_| add_unseen(store, 0, &below)).is_some() {
-        start_in(rng, store, 0, lower);
     }
 }
 

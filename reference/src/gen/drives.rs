@@ -94,7 +94,7 @@ fn no_call(rng: &mut Rng) -> [u32; ROW] {
     }
 }
 
-/// A list of calls of every kind, a product, a quotient by 0, and a load that is accepted and one that clashes tried among them, then a row that has no call, then one that is not reached.
+/// A list of calls of every kind, a product, a quotient by 0, a hidden field, and a load that is accepted and one that clashes tried among them, then a row that has no call, then one that is not reached.
 pub fn fixed() -> Vec<u8> {
     let mut trial = cases::across(&cases::caller(), true, false);
     trial.run(3);
@@ -117,6 +117,11 @@ pub fn fixed() -> Vec<u8> {
     trial.run(100);
     trial.step();
     trial.drop_task(0);
+    let apart = Code::new().aload(0).int(3).putfield(11, 31, INT).aload(0).int(8).putfield(16, 31, INT);
+    let apart = apart.aload(0).getfield(11, 31, INT).aload(0).getfield(16, 31, INT).isub().ireturn();
+    trial.define(1, &Draft::new(16).under(11).field(31, INT).main(MAIN, &apart));
+    trial.start(0, 1, 16, MAIN, 0);
+    trial.run(100);
     trial.define(1, &Draft::new(12));
     let clash = Draft::new(13).main(MAIN, &Code::new().object(12).getfield(10, 30, INT).ireturn()).file();
     let loads = [Call::Record { loader: 3, name: 12, class: 3 }, Call::Define { loader: 2, file: clash }];

@@ -1,9 +1,9 @@
-//! Random call lists from a boot about objects: chains, cycles and webs of them, held by locals, operands and frames that wait, in both
-//! tasks, let go and swept, until the store is full and after that.
+//! Random call lists from a boot about objects: chains, cycles and webs of them, held by locals, operands, frames that wait and fields, hidden
+//! ones too, in both tasks, let go and swept, until the store is full and after that.
 
 use super::build::{Code, Draft};
 use super::rng::Rng;
-use super::swept::{prepend, FIELDS, LOWER, NODE, OWN};
+use super::swept::{prepend, FIELDS, LOWER, LOWEST, NODE, OWN};
 use super::Trial;
 use crate::answer::{word, Answer, Refusal, Reply};
 use crate::store::INT;
@@ -20,7 +20,12 @@ pub fn graphs(seed: u64, turns: usize) -> Trial {
     let mut trial = Trial::ready([1]);
     let fields = |draft: Draft| FIELDS.into_iter().fold(draft, |draft, field| draft.field(field, NODE));
     trial.define(1, &with_methods(&mut rng, fields(Draft::new(NODE).field(29, INT)), 100));
-    trial.define(1, &with_methods(&mut rng, Draft::new(LOWER).under(NODE).field(OWN, NODE), 50));
+    let [lower, lowest] = [LOWER, LOWEST].map(|name| hiding(&mut rng, Draft::new(name).under(name - 1)));
+    trial.define(1, &with_methods(&mut rng, lower.field(OWN, NODE), 50));
+    trial.define(1, &lowest);
+    if rng.percent(20) {
+        (LOWEST + 1..LOWEST + 3).for_each(|name| crowd(&mut rng, &mut trial, name));
+    }
     // Some lists hardly sweep, so that the store fills up.
     let sweeps = rng.pick(&[1, 4, 4, 8]);
     let mut graphs = Graphs { rng, trial, sweeps };
@@ -28,6 +33,22 @@ pub fn graphs(seed: u64, turns: usize) -> Trial {
         graphs.turn();
     }
     graphs.trial
+}
+
+/// Adds fields that hide those of the node, mostly with their type.
+fn hiding(rng: &mut Rng, draft: Draft) -> Draft {
+    FIELDS.into_iter().fold(draft, |draft, field| match rng.below(5) {
+        0 | 1 => draft.field(field, NODE),
+        2 => draft.field(field, rng.pick(&[INT, LOWER])),
+        _ => draft,
+    })
+}
+
+/// A class with many fields, whose names those above have or have not; two of them pass the limit of fields at times.
+fn crowd(rng: &mut Rng, trial: &mut Trial, name: u16) {
+    let fields = rng.within(1, 8) as u16;
+    let draft = (0..fields).fold(Draft::new(name).under(name - 1), |draft, i| draft.field(29 + i, NODE));
+    trial.define(1, &draft);
 }
 
 /// Adds the methods, each so many times in a hundred.
@@ -175,16 +196,17 @@ impl<'a> Weaver<'a> {
         self.emit(|code| if is_null { code.null() } else { code.aload(local) });
     }
 
-    /// A class to name and one of its fields.
+    /// A class to name, the receiver's or one above it, and one of its fields.
     fn some_field(&mut self, of: u16) -> (u16, u16) {
+        let class = self.rng.within(NODE.into(), of.into()) as u16;
         match self.rng.below(3) {
-            0 if of == LOWER => (LOWER, OWN),
-            place => (NODE, FIELDS[place % 2]),
+            0 if class != NODE => (class, OWN),
+            place => (class, FIELDS[place % 2]),
         }
     }
 
     fn make(&mut self) {
-        let class = self.rng.pick(&[NODE, NODE, LOWER]);
+        let class = self.rng.pick(&[NODE, NODE, LOWER, LOWEST]);
         self.emit(|code| code.object(class));
         self.store(Held { of: Some(class), sure: true });
     }
@@ -211,7 +233,7 @@ impl<'a> Weaver<'a> {
     /// Leaves an object among the operands.
     fn leave(&mut self) {
         if self.left < 8 {
-            let class = self.rng.pick(&[NODE, LOWER]);
+            let class = self.rng.pick(&[NODE, LOWER, LOWEST]);
             let is_new = self.rng.percent(50);
             if is_new {
                 self.emit(|code| code.object(class));

@@ -8,14 +8,15 @@ use crate::store::INT;
 
 pub type Limit = (&'static str, fn(&mut Rng) -> Trial);
 
-pub const LIMITS: [Limit; 15] = [
+pub const LIMITS: [Limit; 16] = [
     ("define: classes", classes),
     ("define: kept bytes", kept_bytes),
     ("define: cache entries", cache_by_define),
     ("define: ties", ties_by_define),
     ("define: subtype constraints", subtypes),
     ("define: subtype constraints of one file", subtypes_at_once),
-    ("define: fields", fields),
+    ("define: fields", |rng| fields(rng, |name| 100 * name)),
+    ("define: fields of a few names", |rng| fields(rng, |_| 98)),
     ("record: cache entries", cache_by_record),
     ("start: objects", objects_by_start),
     ("step: objects", objects_by_new),
@@ -150,13 +151,14 @@ fn subtypes_at_once(_: &mut Rng) -> Trial {
     trial
 }
 
-fn fields(rng: &mut Rng) -> Trial {
+/// Classes below each other with 16 fields in all, then one more; the first name of each class's is given.
+fn fields(rng: &mut Rng, first: fn(u16) -> u16) -> Trial {
     let mut trial = Trial::ready([3]);
     let mut left = 16;
     let mut name = 10;
     while left > 0 {
         let count = (rng.within(1, 8) as u16).min(left);
-        let draft = (0..count).fold(Draft::new(name), |draft, i| draft.field(100 * name + i, INT + (i & 1)));
+        let draft = (0..count).fold(Draft::new(name), |draft, i| draft.field(first(name) + i, INT + (i & 1)));
         trial.define(3, &draft.under(if name == 10 { 2 } else { name - 1 }));
         left -= count;
         name += 1;

@@ -157,12 +157,12 @@ impl Code {
     }
 }
 
-/// A define whose notes pass the limit is full only after taken, wanted and hidden.
+/// A define whose notes pass the limit is full only after taken and wanted.
 pub fn many_notes() -> Trial {
     let mut trial = ready();
     trial.define(1, &Draft::new(9).field(30, INT));
     trial.define(1, &Draft::new(10));
-    for draft in [flooding(10, 2), flooding(11, 77), flooding(11, 9).field(30, INT), flooding(11, 9)] {
+    for draft in [flooding(10, 2), flooding(11, 77), flooding(11, 9).field(30, INT)] {
         trial.define(1, &draft);
     }
     // as many as the table has room for, and one more

@@ -11,6 +11,9 @@ pub mod damage;
 pub mod drives;
 pub mod files;
 pub mod graphs;
+pub mod hidden;
+pub mod hides;
+pub mod javas;
 pub mod jumps;
 pub mod large;
 pub mod limits;
@@ -30,7 +33,7 @@ pub mod swept;
 pub mod unverified;
 pub mod walk;
 
-use crate::answer::Reply;
+use crate::answer::{Answer, Reply};
 use crate::breaks::breaks;
 use crate::load::{judge, plan_define, plan_record, Plan};
 use crate::store::{Store, MOST_ROWS};
@@ -195,5 +198,15 @@ impl Trial {
 
     pub fn sweep(&mut self) -> Reply {
         self.call(Call::Sweep)
+    }
+
+    /// What its runs ended with: an int or a word.
+    pub fn ends(&self) -> Vec<Result<i32, u8>> {
+        let end = |reply: &Reply| match *reply {
+            Reply::RanFor(_, Answer::Finished(_, int)) => Some(Ok(int as i32)),
+            Reply::RanFor(_, Answer::Refused(refusal)) => Some(Err(refusal.number())),
+            _ => None,
+        };
+        self.replies.iter().filter_map(end).collect()
     }
 }

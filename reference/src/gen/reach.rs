@@ -4,6 +4,7 @@ use std::collections::BTreeSet;
 
 use crate::broken::unbroken;
 use crate::classes::Classes;
+use crate::hidden::{fields, is_hidden};
 use crate::store::{cell, frame_base, Store, Value, FRAME_ROW, LOCALS, TASKS};
 
 #[derive(Clone, Copy, Debug, PartialEq, Eq)]
@@ -17,16 +18,19 @@ pub enum Without {
     /// What fields of objects in fields hold.
     FarLinks,
     InheritedFields,
+    /// Fields whose name a class further down declares too.
+    HiddenFields,
 }
 
 /// What can be left out, in words.
-pub const LEFT_OUT: [(&str, Without); 6] = [
+pub const LEFT_OUT: [(&str, Without); 7] = [
     ("locals", Without::Locals),
     ("operands", Without::Operands),
     ("frames below the top", Without::LowerFrames),
     ("the report", Without::Report),
     ("links behind the first", Without::FarLinks),
     ("inherited fields", Without::InheritedFields),
+    ("hidden fields", Without::HiddenFields),
 ];
 
 /// The objects that values name, so many from this cell on.
@@ -58,21 +62,28 @@ fn roots(store: &Store, without: Without) -> BTreeSet<u32> {
 
 fn in_fields(store: &Store, classes: &Classes, object: u32, without: Without) -> Vec<u32> {
     let class = store.object_class(object);
-    let first = if without == Without::InheritedFields { classes.first_own_field(class) } else { 0 };
-    named(&store.objects, Store::field_cell(object, first), classes.field_count(class) - first).collect()
+    let held = |place: usize| named(&store.objects, Store::field_cell(object, place), 1);
+    let all = fields(store, classes, class);
+    let is_left_out = |&place: &usize| match without {
+        Without::InheritedFields => all[place].class != class,
+        Without::HiddenFields => is_hidden(&all, place),
+        _ => false,
+    };
+    (0..all.len()).filter(|place| !is_left_out(place)).flat_map(held).collect()
 }
 
 /// The objects that the frames of a store reach. The store isn't broken.
 pub fn reached(store: &Store, without: Without) -> BTreeSet<u32> {
     let classes = unbroken(store).expect("a store");
     let mut reached = roots(store, without);
+    let mut newest = reached.clone();
     loop {
-        let linked = reached.iter().flat_map(|&object| in_fields(store, &classes, object, without));
-        let more: BTreeSet<u32> = linked.filter(|object| !reached.contains(object)).collect();
-        if more.is_empty() {
+        let linked = newest.iter().flat_map(|&object| in_fields(store, &classes, object, without));
+        newest = linked.filter(|object| !reached.contains(object)).collect();
+        if newest.is_empty() {
             return reached;
         }
-        reached.extend(more);
+        reached.extend(&newest);
         if without == Without::FarLinks {
             return reached;
         }

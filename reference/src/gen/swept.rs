@@ -7,9 +7,10 @@ use crate::store::INT;
 const MAIN: u16 = 20;
 /// A method that gives its argument back.
 const BACK: u16 = 21;
-/// A class with two fields of itself, and one below it with a third.
+/// A class with two fields of itself, one below it with a third, and one below that.
 pub const NODE: u16 = 10;
 pub const LOWER: u16 = 11;
+pub const LOWEST: u16 = 12;
 pub const FIELDS: [u16; 2] = [30, 31];
 pub const OWN: u16 = 32;
 
