@@ -4,7 +4,7 @@
 use mathlib.Core.Path.{_≡_, refl, sym, ap, _∙_}
 use mathlib.Core.Bool.{Bool, true, false, false≢true}
 use mathlib.Core.Option.{Option}
-use mathlib.Core.List.{List, [], List·Memᴰ}
+use mathlib.Core.List.{List, []}
 use mathlib.Core.Logic.{_⊎_, inl, inr}
 use Prim.Native.Nat.{ℕ, zero, suc, _+_, _<_, _≤_}
 use native.Mathlib.Omega.{arith}
@@ -20,7 +20,7 @@ use Rattle.laws.specs.Chains.{requests, leads-chain, chain-leads}
 use Rattle.laws.specs.Upward.{below-true, true-below, below-trans}
 use Rattle.constraints.specs.Groups.{Rooted}
 use Rattle.constraints.specs.Search.{startOf, linksOf, leadsOn, Led, Link, Marked}
-use Rattle.constraints.specs.Upward.{Raised, isAbove}
+use Rattle.constraints.specs.Upward.{isAbove}
 use Rattle.constraints.specs.Pairs.{Found, NoPair, Pair, isPair, pairIs, pairOn, agreeOn, outMarked, inMarked, PairFine, NextMet, Judged, fine, tied, out, into, Fresh, Finding, agree, apart}
 use Rattle.constraints.specs.Looking.{Span, requestAt, NextTurn, FirstTurn, Links, Tables, LookedFirst, LookedBack, LookedAhead, Looked}
 use Rattle.constraints.proofs.Rows.{Order, less, equal, more, order, in-rows, rows-in}

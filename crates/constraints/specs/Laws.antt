@@ -19,7 +19,7 @@ use Rattle.definition.specs.Verifier.{Note}
 use Rattle.definition.specs.Tables.{entryAt, tieAt, subtypeAt, putSubtype}
 use Rattle.layout.specs.Places.{writeRows-length}
 use Rattle.layout.specs.Cells.{tie-rows, subtype-rows, rows-after-last, rows-after-more, rows-parts}
-use Rattle.constraints.specs.Agreement.{atMost, superIn, entriesIn, tiesIn, edgesIn, newIn}
+use Rattle.constraints.specs.Agreement.{atMost, superIn, entriesIn, tiesIn, edgesIn}
 use Rattle.constraints.specs.Posting.{tiesAfter, newSubtypesIn, subtypesAfter, Noted, noted, postNote, postNotes}
 
 -- Agreement

@@ -1,5 +1,5 @@
 -- By its cases.
-use mathlib.Core.Path.{refl, sym}
+use mathlib.Core.Path.{refl}
 use native.Mathlib.Omega.{arith}
 use Rattle.definition.specs.Tables.{entryAt}
 use Rattle.constraints.specs.Agreement.{toldOf}

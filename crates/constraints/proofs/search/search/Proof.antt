@@ -4,7 +4,6 @@ use mathlib.Core.Path.{sym, _∙_}
 use native.Mathlib.Omega.{arith}
 use denote.Ref.{now}
 use Rattle.constraints.proofs.Searching.{Searching, searching-start, searching-one, searched, queued-none, none-marked, tail-low, queue-low}
-use borrow.Author.Needs.{needs}
 use Rattle.constraints.proofs.search.search.Statement.{statement}
 use Rattle.constraints.proofs.search.search.Tie as tie
 

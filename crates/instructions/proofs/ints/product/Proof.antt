@@ -1,5 +1,5 @@
 -- The product of the bits doesn't pass 64 bits; its lowest 32 are those of the ints' product.
-use mathlib.Core.Path.{sym, _∙_}
+use mathlib.Core.Path.{sym}
 use Prim.Native.Nat.{ℕ, _*_, _<_}
 use native.Mathlib.Nat.{mul-le-mul}
 use native.Mathlib.Omega.{arith}

@@ -2,7 +2,6 @@
 use borrow.Author.Tests.{ne-eqb, le-leb, lt-leb}
 use Rattle.definition.specs.Instructions.{pick}
 use Rattle.verifier.specs.Decoding.{laterOf}
-use borrow.Author.Needs.{needs}
 use Rattle.verifier.proofs.decoding.later_of.Statement.{statement}
 use Rattle.verifier.proofs.decoding.later_of.Tie as tie
 
