@@ -6,27 +6,41 @@ use Prim.Native.Nat.{ℕ, zero, suc}
 use lib.ListN.{getElem?}
 use lib.Dec.{eqb, leb, ltb}
 use Rattle.definition.specs.Numbers.{nameInt}
-use Rattle.definition.specs.Lists.{any, indexOf}
+use Rattle.definition.specs.Lists.{any, all, indexOf, sameList}
 use Rattle.definition.specs.Maybe.{_>>=_}
 use Rattle.definition.specs.Requests.{Request, at, sameRequest}
 use Rattle.definition.specs.Superclasses.{nearest}
+pub use Rattle.definition.specs.declared.Arguments.{Arguments}
+pub use Rattle.definition.specs.declared.Arguments.the-variants.{NoArguments, OneArgument, TwoArguments, ThreeArguments, FourArguments}
 pub use Rattle.definition.specs.declared.Signature.{Signature}
 
 pub record Field : Type 0 where
   pub name : ℕ
   pub type : ℕ
 
--- a signature, the name and both types, is one value: from the file to the search, the call, the override and selection
-abbrev pub signature : ℕ → ℕ → ℕ → Signature
-signature n a r = record { name = n; argument = a; result = r }
+-- arguments are a list of types, of four at most
+abbrev pub typesOf : Arguments → List ℕ
+typesOf NoArguments = []
+typesOf (OneArgument a) = a ∷ []
+typesOf (TwoArguments a b) = a ∷ b ∷ []
+typesOf (ThreeArguments a b c) = a ∷ b ∷ c ∷ []
+typesOf (FourArguments a b c d) = a ∷ b ∷ c ∷ d ∷ []
 
--- its types, in the order in which ties go on them: the argument, then the result
+-- a signature, the name, the whole list and the result, is one value: from the file to the search, the call, the override and selection
+abbrev pub signature : ℕ → Arguments → ℕ → Signature
+signature n a r = record { name = n; arguments = a; result = r }
+
+-- the types of its arguments, in their order
+abbrev pub argumentTypes : Signature → List ℕ
+argumentTypes s = typesOf (s .arguments)
+
+-- its types, in the order in which ties go on them: each argument in turn, then the result
 abbrev pub signatureTypes : Signature → List ℕ
-signatureTypes s = s .argument ∷ s .result ∷ []
+signatureTypes s = argumentTypes s ++ (s .result ∷ [])
 
 -- neither the name nor a type is 0
 unfoldable pub isNamed : Signature → Bool
-isNamed s = leb 1 (s .name) && leb 1 (s .argument) && leb 1 (s .result)
+isNamed s = leb 1 (s .name) && all (leb 1) (argumentTypes s) && leb 1 (s .result)
 
 -- A map, the paper's word for a stack map frame: the types that a file gives a point of its code. The offset from the start of the code; the types of the eight
 -- locals, 0 for unset; those of the operands, from the lowest.
@@ -103,10 +117,10 @@ slotIs d f t s = eqb (s .owner) d && eqb (s .name) f && eqb (s .type) t
 unfoldable pub hasField : Base → ℕ → ℕ → ℕ → Bool
 hasField w f t c = any (slotIs c f t) (ownSlots w c)
 
--- Methods are alike in name and both types
+-- Methods are alike if the name, the whole list and the result agree
 
 unfoldable pub sameSignature : Signature → Signature → Bool
-sameSignature s t = eqb (s .name) (t .name) && eqb (s .argument) (t .argument) && eqb (s .result) (t .result)
+sameSignature s t = eqb (s .name) (t .name) && sameList (argumentTypes s) (argumentTypes t) && eqb (s .result) (t .result)
 
 unfoldable pub alike : Signature → Method → Bool
 alike s m = sameSignature (m .signature) s
@@ -127,6 +141,6 @@ pub record Selected : Type 0 where
 unfoldable pub selected : Base → Signature → ℕ → Option Selected
 selected w s c = nearest (superOf w) (hasMethod w s) c >>= λ d. indexOf (alike s) (methodsOf w d) >>= λ j. some (record { class = d; place = j })
 
--- start's method is of (m, int, int)
+-- start's method is of (m, [int], int), whatever its file's version
 abbrev pub startSignature : ℕ → Signature
-startSignature m = signature m nameInt nameInt
+startSignature m = signature m (OneArgument nameInt) nameInt

@@ -90,7 +90,7 @@ unfoldable pub newTies : List Tie → ℕ → ℕ → List ℕ → List Tie
 newTies ts l m [] = []
 newTies ts l m (n ∷ ns) = let us = newTie ts l m n in us ++ newTies (ts ++ us) l m ns
 
--- the ties of a signature between two loaders: on its argument, then on its result
+-- the ties of a signature between two loaders: on each argument in turn, then on its result; one that was posted a moment ago isn't added again
 unfoldable pub signatureTies : List Tie → ℕ → ℕ → Signature → List Tie
 signatureTies ts l m s = newTies ts l m (signatureTypes s)
 

@@ -8,7 +8,7 @@ use lib.Dec.{eqb, leb}
 use Rattle.definition.specs.Numbers.{nameObject, operandLimit, localCount, versionOne, versionTwo, fileLimit, memberLimit, codeLimit, byteRange}
 use Rattle.definition.specs.Lists.{doubled}
 use Rattle.definition.specs.Maybe.{_>>=_, need}
-use Rattle.definition.specs.Classes.{Signature, signature, Class, Field, Map, Method, alike}
+use Rattle.definition.specs.Classes.{OneArgument, Signature, signature, Class, Field, Map, Method, alike}
 
 pub record File : Type 0 where
   pub version : ℕ
@@ -45,9 +45,9 @@ fieldsIn (suc k) bs =
     name 1 bs >>= λ n. name 1 (n .more) >>= λ t. fieldsIn k (t .more) >>= λ fs.
     some (record { value = record { name = n .value; type = t .value } ∷ fs .value; more = fs .more })
 
--- name, argument type, result type
+-- name, argument type, result type: a list of one
 unfoldable pub signatureIn : List ℕ → Option (Got Signature)
-signatureIn bs = name 1 bs >>= λ n. name 1 (n .more) >>= λ a. name 1 (a .more) >>= λ r. some (record { value = signature (n .value) (a .value) (r .value); more = r .more })
+signatureIn bs = name 1 bs >>= λ n. name 1 (n .more) >>= λ a. name 1 (a .more) >>= λ r. some (record { value = signature (n .value) (OneArgument (a .value)) (r .value); more = r .more })
 
 -- k types of at least n
 unfoldable pub namesIn : ℕ → ℕ → List ℕ → Option (Got (List ℕ))
@@ -84,7 +84,7 @@ unfoldable pub ends : List ℕ → Bool
 ends [] = true
 ends (x ∷ xs) = false
 
--- two fields of one name; two methods alike in name and both types
+-- two fields of one name; two methods alike in name, list and result
 unfoldable pub sameField : Field → Field → Bool
 sameField f g = eqb (g .name) (f .name)
 

@@ -12,7 +12,7 @@ pub use Rattle.definition.specs.declared.Operator.{Operator}
 pub use Rattle.definition.specs.declared.Operator.the-variants.{Add, Subtract, Multiply, Divide}
 pub use Rattle.definition.specs.declared.Condition.{Condition}
 pub use Rattle.definition.specs.declared.Condition.the-variants.{Always, IfZero, IfLess}
-use Rattle.definition.specs.Classes.{Signature, signature}
+use Rattle.definition.specs.Classes.{OneArgument, Signature, signature}
 pub use Rattle.definition.specs.declared.Opcode.{Opcode}
 pub use Rattle.definition.specs.declared.Opcode.the-variants.{OpAconstNull, OpSipush, OpLoad, OpStore, OpPop, OpDup, OpArithmetic, OpGetfield, OpPutfield, OpInvokevirtual, OpNew, OpReturn, OpBranch, OpUnknown}
 pub use Rattle.definition.specs.declared.Instruction.{Instruction}
@@ -56,9 +56,9 @@ inlineLength OpUnknown = 0
 unfoldable pub shortAt : List ℕ → ℕ → ℕ
 shortAt s i = getD s i 0 * byteRange + getD s (i + 1) 0
 
--- a signature inline at place i: name, argument, result
+-- a signature inline at place i: name, argument, result; the list is of one
 abbrev pub signatureAt : List ℕ → ℕ → Signature
-signatureAt s i = signature (shortAt s i) (shortAt s (i + 2)) (shortAt s (i + 4))
+signatureAt s i = signature (shortAt s i) (OneArgument (shortAt s (i + 2))) (shortAt s (i + 4))
 
 -- signed 16 bits as 32
 unfoldable pub extend : ℕ → ℕ

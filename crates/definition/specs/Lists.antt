@@ -4,6 +4,7 @@ use mathlib.Core.Option.{Option, none, some}
 use mathlib.Core.List.{List, [], _∷_}
 use Prim.Native.Nat.{ℕ, zero, suc}
 use lib.ListN.{length}
+use lib.Dec.{eqb}
 
 -- Tests
 
@@ -45,6 +46,19 @@ isNone (some a) = false
 unfoldable pub toList : {A : Type 0} → Option A → List A
 toList none = []
 toList (some a) = a ∷ []
+
+-- the same numbers, in the same order
+unfoldable pub sameList : List ℕ → List ℕ → Bool
+sameList [] [] = true
+sameList [] (y ∷ ys) = false
+sameList (x ∷ xs) [] = false
+sameList (x ∷ xs) (y ∷ ys) = elim (eqb x y) [ true ↦ sameList xs ys | false ↦ false ]
+
+-- k of them: the list's, as far as it goes, then d
+unfoldable pub filled : {A : Type 0} → ℕ → A → List A → List A
+filled zero d xs = []
+filled (suc k) d [] = d ∷ filled k d []
+filled (suc k) d (x ∷ xs) = x ∷ filled k d xs
 
 -- element by element, none too many or too few
 abbrev pub Each : {A B : Type 0} → (A → B → Type 0) → List A → List B → Type 0

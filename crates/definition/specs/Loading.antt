@@ -29,7 +29,7 @@ newSubtypes ss l (n ∷ ns) = elim (any (subtypeIs l n) ss) [
   | false ↦ subtypeOf l n ∷ newSubtypes (ss ++ (subtypeOf l n ∷ [])) l ns
 ]
 
--- For each method, ties on argument and result between its loader l and that of the nearest superclass with a method alike, from p upward
+-- For each method, ties on each argument and the result between its loader l and that of the nearest superclass with a method alike, from p upward
 
 unfoldable pub overrideTie : Base → ℕ → ℕ → List Tie → Signature → List Tie
 overrideTie b l p ts s = elim (selected b s p) [ none ↦ [] | some y ↦ signatureTies ts l (loaderOf b (y .class)) s ]
@@ -87,7 +87,7 @@ recorded l n c w =
           need (agrees (withEntry w (at l n) c)) (Word wordClash) >>= λ _. ok (withEntry w (at l n) c)
     ]
 
--- start of task k: a new object and a first frame in the method selected for (m, int, int). Refusals: 3 12 5 7 10
+-- start of task k: a new object and a first frame in the method selected for (m, [int], int). Refusals: 3 12 5 7 10
 unfoldable pub started : ℕ → ℕ → ℕ → ℕ → ℕ → World → Objects → List Frame → Result Progress
 started k l n m v w os fs =
     need (ltb l loaderLimit && leb nameObject n && leb 1 m) (Word wordUnknown) >>= λ _.
@@ -95,4 +95,4 @@ started k l n m v w os fs =
     take? (find (w .base .cache) (at l n)) (wanted (at l n)) >>= λ c.
     take? (selected (w .base) (startSignature m) c) (Word wordAbsent) >>= λ s.
     need (not (roomless k os)) (Word wordFull) >>= λ _.
-    ok (record { world = w; objects = made k (newObject (w .base) c) os; frames = entryFrame (s .class) (s .place) (unused os) (intValue v) ∷ []; result = none })
+    ok (record { world = w; objects = made k (newObject (w .base) c) os; frames = entryFrame (s .class) (s .place) (unused os) (intValue v ∷ []) ∷ []; result = none })

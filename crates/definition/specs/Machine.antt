@@ -8,14 +8,14 @@ use lib.ListN.{length, getElem?, set}
 use lib.Dec.{eqb, leb, ltb}
 use lib.IntN.{_*ℤ_}
 use lib.Signed.{quotZ}
-use Rattle.definition.specs.Numbers.{wordAbsent, wordFull, wordNull, wordStuck, wordDivisor, nameInt, objectLimit, frameLimit, operandLimit, intRange}
-use Rattle.definition.specs.Lists.{indexOf}
+use Rattle.definition.specs.Numbers.{wordAbsent, wordFull, wordNull, wordStuck, wordDivisor, nameInt, objectLimit, frameLimit, operandLimit, localCount, intRange}
+use Rattle.definition.specs.Lists.{indexOf, filled}
 use Rattle.definition.specs.Requests.{at}
 use Rattle.definition.specs.Superclasses.{nearest, below}
-use Rattle.definition.specs.Classes.{Base, Class, Method, find, superOf, loaderOf, Slot, slots, slotIs, hasField, selected}
+use Rattle.definition.specs.Classes.{Base, Class, Method, argumentTypes, find, superOf, loaderOf, Slot, slots, slotIs, hasField, selected}
 use Rattle.definition.specs.Constraints.{World, newTie, signatureTies, post}
 use Rattle.definition.specs.Instructions.{Kind, IntKind, ReferenceKind, Operator, Add, Subtract, Multiply, Divide, Instruction, AconstNull, Sipush, Load, Store, Pop, Dup, Arithmetic, Getfield, Putfield, Invokevirtual, New, Return, Condition, Always, IfZero, IfLess, Branch, Decoded, decode, pick}
-use Rattle.definition.specs.Verifier.{pop}
+use Rattle.definition.specs.Verifier.{pop, popAll}
 use Rattle.definition.specs.Answers.{signed, intBits, less, Word, wanted, Result, refused, ok, _>>=_, need, take?}
 
 -- an empty local, an int's 32 bits, null, an object's number, or a pair of cells that docs/STORE.md doesn't list
@@ -90,7 +90,7 @@ rewritten x (owned k y) = owned k x
 unfoldable pub changed : Objects → ℕ → Object → Objects
 changed os o x = elim (getElem? os o) [ none ↦ os | some y ↦ set os o (rewritten x y) ]
 
--- Fields begin as 0 or null; local 0 holds this and local 1 the argument, the rest begin empty
+-- Fields begin as 0 or null; local 0 holds this and the locals from 1 on the arguments in their order, the rest begin empty
 
 unfoldable pub initialValue : Slot → Value
 initialValue s = elim (eqb (s .type) nameInt) [ true ↦ intValue 0 | false ↦ nullValue ]
@@ -98,16 +98,17 @@ initialValue s = elim (eqb (s .type) nameInt) [ true ↦ intValue 0 | false ↦ 
 unfoldable pub newObject : Base → ℕ → Object
 newObject w c = record { class = c; values = map initialValue (slots w c) }
 
-abbrev pub emptyLocals : List Value
-emptyLocals = emptyValue ∷ emptyValue ∷ emptyValue ∷ emptyValue ∷ emptyValue ∷ emptyValue ∷ []
-
-abbrev pub entryFrame : ℕ → ℕ → ℕ → Value → Frame
-entryFrame c j o v = record { class = c; method = j; point = 0; operands = []; locals = objectValue o ∷ v ∷ emptyLocals }
+abbrev pub entryFrame : ℕ → ℕ → ℕ → List Value → Frame
+entryFrame c j o vs = record { class = c; method = j; point = 0; operands = []; locals = filled localCount emptyValue (objectValue o ∷ vs) }
 
 -- Operands and locals, refused 14 if missing or of the wrong kind
 
 unfoldable pub pop! : List Value → Result (record { top : Value; more : List Value })
 pop! vs = take? (pop vs) (Word wordStuck)
+
+-- what n pops take, in the order in which it was pushed
+unfoldable pub popAll! : ℕ → List Value → Result (record { all : List Value; more : List Value })
+popAll! n vs = take? (popAll n vs) (Word wordStuck)
 
 unfoldable pub int! : Value → Result ℕ
 int! emptyValue = refused (Word wordStuck)
@@ -131,6 +132,13 @@ ofKind! ReferenceKind v = reference! v >>= λ _. ok tt
 -- an int for int, a reference for a class name
 unfoldable pub kind! : ℕ → Value → Result (Unit {0})
 kind! t v = elim (eqb t nameInt) [ true ↦ ofKind! IntKind v | false ↦ ofKind! ReferenceKind v ]
+
+-- each value is of its own type's kind
+unfoldable pub kinds! : List ℕ → List Value → Result (Unit {0})
+kinds! [] [] = ok tt
+kinds! [] (v ∷ vs) = refused (Word wordStuck)
+kinds! (t ∷ ts) [] = refused (Word wordStuck)
+kinds! (t ∷ ts) (v ∷ vs) = kind! t v >>= λ _. kinds! ts vs
 
 -- The 32 bits that an operator makes of the lower operand a and the upper operand b, or its refusal. All wrap. imul and idiv go by signed ints, idiv toward zero (`quotZ`),
 -- so that the least int divided by −1 wraps to itself; a divisor 0 is refused 17.
@@ -201,7 +209,7 @@ give (g ∷ gs) w os v = ok (record {
   result = none;
 })
 
--- An instruction of frame f, of class k, above the frames fs of its task. A field is that of the class that resolution finds, d, at its place among d's fields, whatever the object's own class declares.
+-- An instruction of frame f, of class k, above the frames fs of its task. A call's receiver is the lowest of its operands, its arguments follow in their order. A field is that of the class that resolution finds, d, at its place among d's fields, whatever the object's own class declares.
 -- Refusals in order: 5 7 10 9, then 14, then 11 and 17, which no instruction can both meet.
 module _ (task : ℕ) (w : World) (os : Objects) (f : Frame) (fs : List Frame) (k : Class) (i : Decoded) where
   -- nothing but the frame changes
@@ -244,9 +252,9 @@ module _ (task : ℕ) (w : World) (os : Objects) (f : Frame) (fs : List Frame) (
       take? (find (w .base .cache) (at (k .loader) c)) (wanted (at (k .loader) c)) >>= λ e.
       take? (selected (w .base) s e) (Word wordAbsent) >>= λ d.
       post w (ltb (suc (length fs)) frameLimit) (signatureTies (w .ties) (loaderOf (w .base) (d .class)) (k .loader) s) >>= λ w′.
-      pop! (f .operands) >>= λ p. pop! (p .more) >>= λ q. kind! (s .argument) (p .top) >>= λ _. object! (w .base) os e (q .top) >>= λ o.
+      popAll! (length (argumentTypes s)) (f .operands) >>= λ p. pop! (p .more) >>= λ q. kinds! (argumentTypes s) (p .all) >>= λ _. object! (w .base) os e (q .top) >>= λ o.
       take? (selected (w .base) s (o .object .class)) (Word wordStuck) >>= λ m.
-      ok (record { world = w′; objects = os; frames = entryFrame (m .class) (m .place) (o .number) (p .top) ∷ past f i (q .more) (f .locals) ∷ fs; result = none })
+      ok (record { world = w′; objects = os; frames = entryFrame (m .class) (m .place) (o .number) (p .all) ∷ past f i (q .more) (f .locals) ∷ fs; result = none })
   execute (New c) =
       take? (find (w .base .cache) (at (k .loader) c)) (wanted (at (k .loader) c)) >>= λ e.
       need (not (roomless task os) && ltb (length (f .operands)) operandLimit) (Word wordFull) >>= λ _.

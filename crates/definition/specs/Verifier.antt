@@ -6,10 +6,10 @@ use mathlib.Core.List.{List, [], _∷_, _++_, map, reverse}
 use Prim.Native.Nat.{ℕ, zero, suc, _+_}
 use lib.ListN.{length, getElem?, set}
 use lib.Dec.{eqb, leb, ltb}
-use Rattle.definition.specs.Numbers.{nameInt, nameObject, operandLimit, versionTwo}
-use Rattle.definition.specs.Lists.{any, isNone, toList}
+use Rattle.definition.specs.Numbers.{nameInt, nameObject, operandLimit, localCount, versionTwo}
+use Rattle.definition.specs.Lists.{any, isNone, toList, filled}
 use Rattle.definition.specs.Maybe.{_>>=_, need}
-use Rattle.definition.specs.Classes.{Class, Map, Method, isNamed}
+use Rattle.definition.specs.Classes.{Class, Map, Method, argumentTypes, isNamed}
 use Rattle.definition.specs.Instructions.{Kind, IntKind, ReferenceKind, Instruction, AconstNull, Sipush, Load, Store, Pop, Dup, Arithmetic, Getfield, Putfield, Invokevirtual, New, Return, Branch, Always, IfZero, IfLess, decode}
 
 -- int, null, or a class name
@@ -36,9 +36,9 @@ pub record Flow : Type 0 where
 unfoldable pub typeOfName : ℕ → VerifierType
 typeOfName n = elim (eqb n nameInt) [ true ↦ typeInt | false ↦ typeClass n ]
 
--- point 0: local 0 the class's own name, local 1 the argument type, the rest unset
+-- point 0: local 0 the class's own name, the locals from 1 on the argument types in their order, the rest unset
 abbrev pub entryTypes : Class → Method → TypeState
-entryTypes k m = record { operands = []; locals = some (typeClass (k .name)) ∷ some (typeOfName (m .signature .argument)) ∷ none ∷ none ∷ none ∷ none ∷ none ∷ none ∷ [] }
+entryTypes k m = record { operands = []; locals = filled localCount none (some (typeClass (k .name)) ∷ map (λ n. some (typeOfName n)) (argumentTypes (m .signature))) }
 
 -- The notes under which a type stands where class b, int, or name b is demanded
 
@@ -68,11 +68,23 @@ unfoldable pub pop : {A : Type 0} → List A → Option (record { top : A; more 
 pop [] = none
 pop (x ∷ xs) = some (record { top = x; more = xs })
 
+-- what n pops take, in the order in which it was pushed: the last argument stands on top
+unfoldable pub popAll : {A : Type 0} → ℕ → List A → Option (record { all : List A; more : List A })
+popAll zero xs = some (record { all = []; more = xs })
+popAll (suc n) xs = pop xs >>= λ p. popAll n (p .more) >>= λ q. some (record { all = q .all ++ (p .top ∷ []); more = q .more })
+
+-- each in turn meets its own of the list: the notes in their order, and none where one doesn't, or the list is longer or shorter
+unfoldable pub meetAll : {A : Type 0} → (A → ℕ → Option (List Note)) → List A → List ℕ → Option (List Note)
+meetAll f [] [] = some []
+meetAll f [] (n ∷ ns) = none
+meetAll f (x ∷ xs) [] = none
+meetAll f (x ∷ xs) (n ∷ ns) = f x n >>= λ a. meetAll f xs ns >>= λ b. some (a ++ b)
+
 -- at most 16 operands
 abbrev pub flow : List VerifierType → List (Option VerifierType) → List Note → Option Flow
 flow o l n = need (leb (length o) operandLimit) >>= λ _. some (record { types = record { operands = o; locals = l }; notes = n })
 
--- the effect of an instruction that is no return; notes on the receiver before those on the value
+-- the effect of an instruction that is no return; notes on the receiver before those on the value, or on the arguments in their order
 unfoldable pub effect : Instruction → TypeState → Option Flow
 effect AconstNull s = flow (typeNull ∷ s .operands) (s .locals) []
 effect (Sipush n) s = flow (typeInt ∷ s .operands) (s .locals) []
@@ -89,8 +101,8 @@ effect (Putfield c f t) s =
     need (leb nameObject c && leb 1 f && leb 1 t) >>= λ _. pop (s .operands) >>= λ p. pop (p .more) >>= λ q.
     meetClass c (q .top) >>= λ a. meets (p .top) t >>= λ b. flow (q .more) (s .locals) (a ++ b)
 effect (Invokevirtual c m) s =
-    need (leb nameObject c && isNamed m) >>= λ _. pop (s .operands) >>= λ p. pop (p .more) >>= λ q.
-    meetClass c (q .top) >>= λ a. meets (p .top) (m .argument) >>= λ b. flow (typeOfName (m .result) ∷ q .more) (s .locals) (a ++ b)
+    need (leb nameObject c && isNamed m) >>= λ _. popAll (length (argumentTypes m)) (s .operands) >>= λ p. pop (p .more) >>= λ q.
+    meetClass c (q .top) >>= λ a. meetAll meets (p .all) (argumentTypes m) >>= λ b. flow (typeOfName (m .result) ∷ q .more) (s .locals) (a ++ b)
 effect (New c) s = need (leb nameObject c) >>= λ _. flow (typeClass c ∷ s .operands) (s .locals) []
 effect (Branch Always p) s = flow (s .operands) (s .locals) []
 effect (Branch IfZero p) s = pop (s .operands) >>= λ p. meetInt (p .top) >>= λ _. flow (p .more) (s .locals) []
@@ -167,12 +179,6 @@ mapTypes m = record { operands = reverse (map typeOfName (m .operands)); locals 
 -- a local may become unset; what is unset meets nothing else
 unfoldable pub meetLocal : Option VerifierType → ℕ → Option (List Note)
 meetLocal t n = elim (eqb n 0) [ true ↦ some [] | false ↦ t >>= λ u. meets u n ]
-
-unfoldable pub meetAll : {A : Type 0} → (A → ℕ → Option (List Note)) → List A → List ℕ → Option (List Note)
-meetAll f [] [] = some []
-meetAll f [] (n ∷ ns) = none
-meetAll f (x ∷ xs) [] = none
-meetAll f (x ∷ xs) (n ∷ ns) = f x n >>= λ a. meetAll f xs ns >>= λ b. some (a ++ b)
 
 unfoldable pub meetMap : TypeState → Map → Option (List Note)
 meetMap s m = meetAll meetLocal (s .locals) (m .locals) >>= λ a. meetAll meets (reverse (s .operands)) (m .operands) >>= λ b. some (a ++ b)

@@ -47,10 +47,19 @@ pub struct Details {
     pub three: u32,
 }
 
-// A method's signature: its name, its argument's type and its result's.
+// The types of a method's arguments in their order: none to four.
+pub enum Arguments {
+    NoArguments,
+    OneArgument(u16),
+    TwoArguments(u16, u16),
+    ThreeArguments(u16, u16, u16),
+    FourArguments(u16, u16, u16, u16),
+}
+
+// A method's signature: its name, its arguments' types and its result's.
 pub struct Signature {
     pub name: u16,
-    pub argument: u16,
+    pub arguments: Arguments,
     pub result: u16,
 }
 
