@@ -26,6 +26,15 @@ typesOf (TwoArguments a b) = a ∷ b ∷ []
 typesOf (ThreeArguments a b c) = a ∷ b ∷ c ∷ []
 typesOf (FourArguments a b c d) = a ∷ b ∷ c ∷ d ∷ []
 
+-- the arguments of those types; there are none of more than four
+unfoldable pub argumentsOf : List ℕ → Option Arguments
+argumentsOf [] = some NoArguments
+argumentsOf (a ∷ []) = some (OneArgument a)
+argumentsOf (a ∷ b ∷ []) = some (TwoArguments a b)
+argumentsOf (a ∷ b ∷ c ∷ []) = some (ThreeArguments a b c)
+argumentsOf (a ∷ b ∷ c ∷ d ∷ []) = some (FourArguments a b c d)
+argumentsOf (a ∷ b ∷ c ∷ d ∷ e ∷ ts) = none
+
 -- a signature, the name, the whole list and the result, is one value: from the file to the search, the call, the override and selection
 abbrev pub signature : ℕ → Arguments → ℕ → Signature
 signature n a r = record { name = n; arguments = a; result = r }

@@ -19,7 +19,7 @@ use Rattle.definition.specs.Lists.{every, any, isSome, isNone}
 use Rattle.definition.specs.Maybe.{_>>=_}
 use Rattle.definition.specs.Requests.{at}
 use Rattle.definition.specs.Superclasses.{nearest, below}
-use Rattle.definition.specs.Classes.{Class, find, superOf, loaderOf, slots, hasField, Selected, selected, startSignature}
+use Rattle.definition.specs.Classes.{argumentTypes, Class, find, superOf, loaderOf, slots, hasField, Selected, selected, startSignature}
 use Rattle.definition.specs.Constraints.{Tie, World, agrees, newTie, signatureTies, agreesAfter}
 use Rattle.definition.specs.Instructions.{decode}
 use Rattle.definition.specs.Verifier.{Note, notesOf, unmapped}
@@ -232,6 +232,11 @@ module _ (task : ℕ) (w : World) (os : Objects) (f : Frame) (fs : List Frame) (
   zeroDivisor Multiply = false
   zeroDivisor Divide = isSomeAnd (operand 0) aZero
 
+  -- a call's arguments are there, each of its own type's kind: the last stands on top, so that one which n others follow is operand n
+  unfoldable pub argumentsFit : List ℕ → Bool
+  argumentsFit [] = true
+  argumentsFit (t ∷ ts) = isSomeAnd (operand (length ts)) (ofKind t) && argumentsFit ts
+
   unfoldable pub instructionCauses : Instruction → List Cause
   instructionCauses AconstNull = plainly (noRoom (f .operands)) false
   instructionCauses (Sipush n) = plainly (noRoom (f .operands)) false
@@ -256,7 +261,8 @@ module _ (task : ℕ) (w : World) (os : Objects) (f : Frame) (fs : List Frame) (
       (λ e. isSomeAnd (operand 0) (ofKind t) && isSomeAnd (operand 1) (receives w os e)) (isSomeAnd (operand 1) aNull)
   instructionCauses (Invokevirtual c s) =
       accessing w k (named w k c) (selected (w .base) s) (methodTies w k s) (ltb (suc (length fs)) 32)
-      (λ e. isSomeAnd (operand 0) (ofKind (s .argument)) && isSomeAnd (operand 1) (λ v. receives w os e v && selects w os s v)) (isSomeAnd (operand 1) aNull)
+      (λ e. argumentsFit (argumentTypes s) && isSomeAnd (operand (length (argumentTypes s))) (λ v. receives w os e v && selects w os s v))
+      (isSomeAnd (operand (length (argumentTypes s))) aNull)
   instructionCauses (New c) =
       cause 5 (isNone (named w k c)) ∷ cause 7 false ∷ cause 10 (not (not (roomless task os) && ltb (length (f .operands)) 16)) ∷ cause 9 false ∷ cause 14 false ∷ cause 11 false ∷ cause 17 false ∷ []
   instructionCauses (Branch c p) = plainly false (not (branches c))

@@ -1,6 +1,7 @@
 -- Laws of the definitions.
 pub mod Options
 pub mod Results
+pub mod Arguments
 pub mod Chains
 pub mod Upward
 pub mod Agreement

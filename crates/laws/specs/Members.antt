@@ -1,16 +1,17 @@
 -- Where a class keeps what a lookup found: a field's place in the objects of each class below, a method's place in its class.
-use mathlib.Core.Path.{_≡_, refl, sym, _∙_}
-use mathlib.Core.Bool.{true, _&&_}
+use mathlib.Core.Path.{_≡_, refl, sym, ap, _∙_}
+use mathlib.Core.Bool.{Bool, true, false, false≢true, _&&_}
 use mathlib.Core.Option.{Option, none, some, Option·none-ne-some, Option·some-injective}
-use mathlib.Core.List.{List, [], _++_, append-nil, List·Memᴰ·not-nil}
+use mathlib.Core.List.{List, [], _∷_, List·Memᴰ·not-nil}
 use Prim.Native.Nat.{ℕ}
 use lib.ListN.{getElem?}
 use lib.Dec.{eqb}
 use borrow.Author.Tests.{eqb-true, eq-eqb}
-use Rattle.definition.specs.Classes.{Base, Class, Method, Selected, Slot, alike, hasField, hasMethod, loaderOf, methodsOf, ownSlots, sameSignature, selected, slotIs, slots, superOf}
+use Rattle.definition.specs.Classes.{typesOf, argumentsOf, argumentTypes, Base, Class, Method, Selected, Slot, alike, hasField, hasMethod, loaderOf, methodsOf, ownSlots, sameSignature, selected, slotIs, slots, superOf}
+use Rattle.definition.specs.declared.Arguments.{Arguments}
+use Rattle.definition.specs.declared.Arguments.the-variants.{NoArguments, OneArgument, TwoArguments, ThreeArguments, FourArguments}
 use Rattle.definition.specs.declared.Signature.{Signature}
-use Rattle.definition.specs.Constraints.{Tie, newTie, newTies, signatureTies}
-use Rattle.definition.specs.Lists.{any, indexOf}
+use Rattle.definition.specs.Lists.{any, indexOf, sameList}
 use Rattle.definition.specs.Maybe.{_>>=_}
 use Rattle.definition.specs.Superclasses.{Below, nearest}
 use Rattle.laws.specs.Agreement.{super-falls}
@@ -37,25 +38,50 @@ field-place b c d n t h bl =
     let st = place-slot b c d n t (fo .place) bl (fo .index) in
     record { place = fo .place; slot = st .slot; index = fo .index; isSlot = st .isSlot; owner = st .owner; type = st .type }
 
+-- the test on lists is true exactly where they are equal
+pub same-list : (xs ys : List ℕ) → sameList xs ys ≡ true → xs ≡ ys
+unfolding sameList
+same-list [] [] h = refl
+same-list [] (y ∷ ys) h = absurd (false≢true h)
+same-list (x ∷ xs) [] h = absurd (false≢true h)
+same-list (x ∷ xs) (y ∷ ys) h = go (eqb x y) refl h (same-list xs ys)
+  where
+    go : (t : Bool) → eqb x y ≡ t → (elim t as (λ _. Bool) [ true ↦ sameList xs ys | false ↦ false ]) ≡ true → (sameList xs ys ≡ true → xs ≡ ys) → x ∷ xs ≡ y ∷ ys
+    go true e q ih = λ i. eqb-true x y e i ∷ ih q i
+    go false e q ih = absurd (false≢true q)
+
+pub list-same : (xs : List ℕ) → sameList xs xs ≡ true
+unfolding sameList
+list-same [] = refl
+list-same (x ∷ xs) = rw (sameList, eq-eqb x x refl) (list-same xs)
+
+-- arguments are told apart by their types
+pub arguments-of : (a : Arguments) → argumentsOf (typesOf a) ≡ some a
+unfolding argumentsOf
+arguments-of NoArguments = refl
+arguments-of (OneArgument a) = refl
+arguments-of (TwoArguments a b) = refl
+arguments-of (ThreeArguments a b c) = refl
+arguments-of (FourArguments a b c d) = refl
+
+pub same-arguments : (a b : Arguments) → typesOf a ≡ typesOf b → a ≡ b
+same-arguments a b e = Option·some-injective a b (sym (arguments-of a) ∙ ap argumentsOf e ∙ arguments-of b)
+
 -- the test on signatures is true exactly where they are equal
 pub same-signature : (s t : Signature) → (sameSignature s t ≡ true → s ≡ t) × (s ≡ t → sameSignature s t ≡ true)
 unfolding sameSignature
-same-signature s t = (to, λ e. rw e (rw (eq-eqb (t .name) (t .name) refl, eq-eqb (t .argument) (t .argument) refl, eq-eqb (t .result) (t .result) refl) refl))
+same-signature s t = (to, λ e. rw e (rw (eq-eqb (t .name) (t .name) refl, list-same (argumentTypes t), eq-eqb (t .result) (t .result) refl) refl))
   where
-    to : (eqb (s .name) (t .name) && eqb (s .argument) (t .argument) && eqb (s .result) (t .result)) ≡ true → s ≡ t
+    to : (eqb (s .name) (t .name) && sameList (argumentTypes s) (argumentTypes t) && eqb (s .result) (t .result)) ≡ true → s ≡ t
     to h =
-        let a = and-true (eqb (s .name) (t .name) && eqb (s .argument) (t .argument)) (eqb (s .result) (t .result)) h in
-        let b = and-true (eqb (s .name) (t .name)) (eqb (s .argument) (t .argument)) (a .0) in
-        λ i. record { name = eqb-true (s .name) (t .name) (b .0) i; argument = eqb-true (s .argument) (t .argument) (b .1) i; result = eqb-true (s .result) (t .result) (a .1) i }
+        let a = and-true (eqb (s .name) (t .name) && sameList (argumentTypes s) (argumentTypes t)) (eqb (s .result) (t .result)) h in
+        let b = and-true (eqb (s .name) (t .name)) (sameList (argumentTypes s) (argumentTypes t)) (a .0) in
+        let c = same-arguments (s .arguments) (t .arguments) (same-list (argumentTypes s) (argumentTypes t) (b .1)) in
+        λ i. record { name = eqb-true (s .name) (t .name) (b .0) i; arguments = c i; result = eqb-true (s .result) (t .result) (a .1) i }
 
 pub alike-is : (s : Signature) (m : Method) → alike s m ≡ true → m .signature ≡ s
 unfolding alike
 alike-is s m h = same-signature (m .signature) s .0 h
-
--- the ties of a signature are two, one after the other: on its argument and on its result
-pub signature-ties : (ts : List Tie) (l m : ℕ) (s : Signature) → signatureTies ts l m s ≡ newTie ts l m (s .argument) ++ newTie (ts ++ newTie ts l m (s .argument)) l m (s .result)
-unfolding signatureTies newTies
-signature-ties ts l m s = rw (append-nil (newTie (ts ++ newTie ts l m (s .argument)) l m (s .result))) refl
 
 -- the method of that class and place, of signature s
 pub record MethodAt (b : Base) (s : Signature) (m : Selected) : Type 0 where

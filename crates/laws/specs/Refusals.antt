@@ -21,11 +21,11 @@ use Rattle.definition.specs.declared.Instruction.the-variants.{AconstNull, Sipu
 use Rattle.definition.specs.Lists.{any}
 use Rattle.definition.specs.Requests.{at}
 use Rattle.definition.specs.Answers.{number, wanted, Result, refused, ok, _>>=_, need, take?}
-use Rattle.definition.specs.Classes.{Base, Class, find}
+use Rattle.definition.specs.Classes.{Base, Class, argumentTypes, find}
 use Rattle.definition.specs.Constraints.{Tie, World, agrees, post}
 use Rattle.definition.specs.File.{File, readFile}
 use Rattle.definition.specs.Instructions.{Decoded}
-use Rattle.definition.specs.Machine.{Value, emptyValue, intValue, nullValue, objectValue, unlistedValue, Object, Objects, Frame, Now, pop!, int!, reference!, ofKind!, kind!, compute, jumps, room!, object!, now, under!, give, execute, step}
+use Rattle.definition.specs.Machine.{Value, emptyValue, intValue, nullValue, objectValue, unlistedValue, Object, Objects, Frame, Now, pop!, popAll!, int!, reference!, ofKind!, kind!, kinds!, compute, jumps, room!, object!, now, under!, give, execute, step}
 use Rattle.definition.specs.Loading.{define, recorded, started, withEntry}
 use Rattle.definition.specs.Tables.{Rows, worldOf}
 use Rattle.definition.specs.Calls.{Given, stepRefusals, loadRefusals, refusalsOf, Call, callBoot, callDefine, callRecord, callStart, callTry, callStep, callRun, callDrop, Load as Offer, loadDefine, loadRecord, loadRows, triedWith, tryRows, defineRows, recordRows, startRows, dropRows, sweepRows, stepTask, stepOn, stepRows, RowCall, rowDefine, rowRecord, rowStart, rowDrop, rowSweep, rowTry, onRowCall, callRows, rowRefusals}
@@ -104,6 +104,13 @@ module _ (P : Refusal → Type 0) (stuck : P (Word 14)) (full : P (Word 10)) (cl
       go true = of-kind-refuses IntKind v
       go false = of-kind-refuses ReferenceKind v
 
+  kinds-refuses : (ts : List ℕ) (vs : List Value) → Refuses P (kinds! ts vs)
+  unfolding kinds!
+  kinds-refuses [] [] = tt
+  kinds-refuses [] (v ∷ vs) = stuck
+  kinds-refuses (t ∷ ts) [] = stuck
+  kinds-refuses (t ∷ ts) (v ∷ vs) = on-bind P (kind! t v) _ (kind-refuses t v) (λ _ _. kinds-refuses ts vs)
+
   compute-refuses : (o : Operator) (a b : ℕ) → Refuses P (compute o a b)
   unfolding compute
   compute-refuses Add a b = tt
@@ -137,6 +144,10 @@ module _ (P : Refusal → Type 0) (stuck : P (Word 14)) (full : P (Word 10)) (cl
   popped : {B : Type 0} (vs : List Value) (f : record { top : Value; more : List Value } → Result B) → ((p : record { top : Value; more : List Value }) → Refuses P (f p)) → Refuses P (pop! vs >>= f)
   unfolding pop!
   popped vs f k = on-take P _ (Word 14) f (λ _. stuck) (λ p _. k p)
+
+  all-popped : {B : Type 0} (n : ℕ) (vs : List Value) (f : record { all : List Value; more : List Value } → Result B) → ((p : record { all : List Value; more : List Value }) → Refuses P (f p)) → Refuses P (popAll! n vs >>= f)
+  unfolding popAll!
+  all-popped n vs f k = on-take P _ (Word 14) f (λ _. stuck) (λ p _. k p)
 
   local : {A B : Type 0} (o : Option A) (f : A → Result B) → ((a : A) → Refuses P (f a)) → Refuses P (take? o (Word 14) >>= f)
   local o f k = on-take P o (Word 14) f (λ _. stuck) (λ a _. k a)
@@ -178,8 +189,8 @@ module _ (P : Refusal → Type 0) (stuck : P (Word 14)) (full : P (Word 10)) (cl
         on-take P _ _ _ (h c refl) (λ e _. on-take P _ _ _ (λ _. absent) (λ d _. posting w true _ _ (λ _. popped _ _ (λ p. popped _ _ (λ q.
         on-bind P (kind! t (p .top)) _ (kind-refuses t (p .top)) (λ _ _. receiver (w .base) os e (q .top) _ (λ _. local _ _ (λ _. tt))))))))
     execute-refuses (Invokevirtual c s) h =
-        on-take P _ _ _ (h c refl) (λ e _. on-take P _ _ _ (λ _. absent) (λ d _. posting w (ltb (suc (length fs)) 32) _ _ (λ _. popped _ _ (λ p. popped _ _ (λ q.
-        on-bind P (kind! (s .argument) (p .top)) _ (kind-refuses (s .argument) (p .top)) (λ _ _. receiver (w .base) os e (q .top) _ (λ _. local _ _ (λ _. tt))))))))
+        on-take P _ _ _ (h c refl) (λ e _. on-take P _ _ _ (λ _. absent) (λ d _. posting w (ltb (suc (length fs)) 32) _ _ (λ _. all-popped _ _ _ (λ p. popped _ _ (λ q.
+        on-bind P (kinds! (argumentTypes s) (p .all)) _ (kinds-refuses (argumentTypes s) (p .all)) (λ _ _. receiver (w .base) os e (q .top) _ (λ _. local _ _ (λ _. tt))))))))
     execute-refuses (New c) h = on-take P _ _ _ (h c refl) (λ e _. on-need P _ _ _ full (λ _. tt))
     execute-refuses (Branch c p) h = on-bind P (jumps c (f .operands)) _ (jumps-refuses c (f .operands)) (λ _ _. tt)
     execute-refuses (Return kind) h = under fs _ (λ _. popped _ _ (λ p. of-kind kind (p .top) _ (λ _. give-refuses fs w os (p .top))))
