@@ -23,6 +23,12 @@ pub aux-nth : {A : Type 0} (xs ms : List A) (i : ℕ) → getElem? (reverseAux x
 aux-nth [] ms i = let z : 0 + i ≡ i = omega arith in ap (getElem? ms) z
 aux-nth (x ∷ xs) ms i = let z : suc (length xs) + i ≡ length xs + suc i = omega arith in ap (getElem? (reverseAux xs (x ∷ ms))) z ∙ aux-nth xs (x ∷ ms) (suc i)
 
+-- past its end a list has none
+pub nth-past : {A : Type 0} (xs : List A) (i : ℕ) → length xs < i → getElem? xs i ≡ none
+nth-past [] i h = refl
+nth-past (x ∷ xs) zero h = absurd (omega arith)
+nth-past (x ∷ xs) (suc i) h = nth-past xs i (omega arith)
+
 pub pop-some-is : {A : Type 0} (xs : List A) (p : record { top : A; more : List A }) → pop xs ≡ some p → xs ≡ p .top ∷ p .more
 unfolding pop
 pop-some-is [] p e = absurd (Option·none-ne-some p e)

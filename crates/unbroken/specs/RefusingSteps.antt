@@ -2,8 +2,8 @@
 use mathlib.Core.Path.{_≡_, refl, sym, ap, _∙_}
 use mathlib.Core.Bool.{Bool, true, false, not, _&&_, _||_}
 use mathlib.Core.Option.{Option, none, some}
-use mathlib.Core.List.{List, [], _∷_, _++_}
-use Prim.Native.Nat.{ℕ}
+use mathlib.Core.List.{List, [], _∷_, _++_, reverseAux}
+use Prim.Native.Nat.{ℕ, _+_}
 use native.Mathlib.Omega.{arith}
 use lib.ListN.{length, getElem?, set}
 use lib.Dec.{eqb, leb, ltb}
@@ -19,19 +19,20 @@ use Rattle.definition.specs.declared.Condition.the-variants.{Always, IfZero, If
 use Rattle.definition.specs.declared.Instruction.the-variants.{AconstNull, Sipush, Load, Store, Pop, Dup, Arithmetic, Getfield, Putfield, Invokevirtual, New, Return, Branch}
 use Rattle.definition.specs.Requests.{Request, at}
 use Rattle.definition.specs.Superclasses.{Below, below, nearest}
-use Rattle.definition.specs.Answers.{number, wanted, Result, ok, _>>=_, need, take?}
-use Rattle.definition.specs.Classes.{Class, find, superOf, slots, slotIs, hasField, selected}
+use Rattle.definition.specs.Answers.{number, wanted, Result, refused, ok, _>>=_, need, take?}
+use Rattle.definition.specs.Classes.{Class, argumentTypes, find, superOf, slots, slotIs, hasField, selected}
 use Rattle.definition.specs.Constraints.{Tie, World, posted, agreesAfter, post}
 use Rattle.definition.specs.Instructions.{Decoded}
 use Rattle.definition.specs.Lists.{indexOf, isSome, isNone}
-use Rattle.definition.specs.Machine.{Value, emptyValue, intValue, nullValue, objectValue, unlistedValue, Object, Objects, Exists, changed, Frame, Progress, Now, existing, pop!, int!, reference!, ofKind!, kind!, compute, jumps, room!, object!, past, entryFrame, now, under!, give, execute, step}
-use Rattle.definition.specs.Verifier.{pop}
+use Rattle.definition.specs.Machine.{Value, emptyValue, intValue, nullValue, objectValue, unlistedValue, Object, Objects, Exists, changed, Frame, Progress, Now, existing, pop!, popAll!, int!, reference!, ofKind!, kind!, kinds!, compute, jumps, room!, object!, past, entryFrame, now, under!, give, execute, step}
+use Rattle.definition.specs.Verifier.{pop, popAll}
 use Rattle.definition.specs.Maybe as Maybe
 use Rattle.laws.specs.Agreement.{super-falls}
+use Rattle.laws.specs.Arguments.{PoppedAll, aux-nth, nth-past, popped-is, popped-few}
 use Rattle.laws.specs.Growth.{nth-lt}
 use Rattle.laws.specs.Members.{FieldPlace, field-place}
 use Rattle.laws.specs.Upward.{nearest-below, below-true, below-trans}
-use Rattle.laws.specs.Causes.{Cause, cause, first, isSomeAnd, anInt, aNull, aReference, aValueOf, ofKind, isEmpty, noRoom, noRoomBelow, receives, selects, fieldTies, methodTies, plainly, branches, zeroDivisor, accessing, reading, readCauses, frameCauses, instructionCauses}
+use Rattle.laws.specs.Causes.{Cause, cause, first, isSomeAnd, anInt, aNull, aReference, aValueOf, ofKind, isEmpty, noRoom, noRoomBelow, receives, selects, fieldTies, methodTies, plainly, branches, zeroDivisor, argumentsFit, accessing, reading, readCauses, frameCauses, instructionCauses}
 use Rattle.unbroken.specs.Steps.{Ready, object-at}
 use Rattle.unbroken.specs.WholeRows.{nth-there}
 use Rattle.unbroken.specs.Refusing.{numberIn, first-need, first-unless, first-take, first-skip, number-on, number-ok, number-there}
@@ -47,6 +48,11 @@ first-and n false b cs = refl
 first-past : (c : Cause) (n : ℕ) (cs : List Cause) → first (c ∷ cause n false ∷ cs) ≡ first (c ∷ cs)
 unfolding first
 first-past c n cs = refl
+
+bind-bind : {A B C : Type 0} (r : Result A) (f : A → Result B) (g : B → Result C) → ((r >>= f) >>= g) ≡ (r >>= λ a. f a >>= g)
+unfolding _>>=_
+bind-bind (refused x) f g = refl
+bind-bind (ok a) f g = refl
 
 -- Values
 
@@ -240,16 +246,68 @@ module _ (task : ℕ) (w : World) (n : ℕ) (os : Objects) (rd : Ready w n os) (
       first-two (cause 11 (lower aNull) ∷ []) (f .operands) (ofKind t) (receives w os e) _ (λ y u us q. rw q (first-kind _ t y _ (first-object w os e u (λ _. true) _ refl (λ o b h l.
       number-there [] _ (Word 14) _ (place e d x t b o h l p .index) (number-ok _) ∙ sym (first-skip 14 [])) ∙ first-past _ 14 _))) ∙ sym (first-and 14 (upper (ofKind t)) (lower (receives w os e)) (cause 11 (lower aNull) ∷ []))
 
-  invoke-first : (s : Signature) (e : ℕ) (v : World) → numberIn {A = Progress} (pop! (f .operands) >>= λ p. pop! (p .more) >>= λ q. kind! (s .argument) (p .top) >>= λ _. object! (w .base) os e (q .top) >>= λ o.
-      take? (selected (w .base) s (o .object .class)) (Word 14) >>= λ m.
-      ok (record { world = v; objects = os; frames = entryFrame (m .class) (m .place) (o .number) (p .top) ∷ past f i (q .more) (f .locals) ∷ fs; result = none }))
-      ≡ first (cause 14 (not (upper (ofKind (s .argument)) && lower (λ v. receives w os e v && selects w os s v)))
-      ∷ cause 11 (lower aNull) ∷ [])
-  invoke-first s e v =
-      first-two (cause 11 (lower aNull) ∷ []) (f .operands) (ofKind (s .argument)) (λ v. receives w os e v && selects w os s v) _ (λ y u us q. rw q (first-kind _ (s .argument) y _
-      (first-object w os e u (selects w os s) _ refl (λ o b h l. rw h (first-there [] (selected (w .base) s (b .class)) _ (λ _ _. number-ok _)))
-      ∙ sym (first-and 14 (receives w os e u) (selects w os s u) (cause 11 (aNull u) ∷ [])))))
-      ∙ sym (first-and 14 (upper (ofKind (s .argument))) (lower (λ v. receives w os e v && selects w os s v)) (cause 11 (lower aNull) ∷ []))
+  -- the arguments of a call are those popped: each passes its own test exactly if its operand does
+  first-kinds : {B : Type 0} (cs : List Cause) (ts : List ℕ) (vs more : List Value) → length vs ≡ length ts → f .operands ≡ reverseAux vs more → (g : Unit {0} → Result B) → numberIn (g tt) ≡ first cs
+      → numberIn (kinds! ts vs >>= g) ≡ first (cause 14 (not (argumentsFit task w os f fs k ts)) ∷ cs)
+  unfolding kinds! argumentsFit _>>=_
+  first-kinds cs [] [] more l e g h = h ∙ sym (first-skip 14 cs)
+  first-kinds cs [] (v ∷ vs) more l e g h = absurd (omega (arith, l))
+  first-kinds cs (t ∷ ts) [] more l e g h = absurd (omega (arith, l))
+  first-kinds cs (t ∷ ts) (v ∷ vs) more l e g h =
+      let z : length vs + 0 ≡ length ts = omega (arith, l) in
+      let there : getElem? (f .operands) (length ts) ≡ some v = ap (getElem? (f .operands)) (sym z) ∙ ap (λ (us : List Value). getElem? us (length vs + 0)) e ∙ aux-nth vs (v ∷ more) 0 in
+      ap numberIn (bind-bind (kind! t v) (λ _. kinds! ts vs) g)
+      ∙ first-kind (cause 14 (not (argumentsFit task w os f fs k ts)) ∷ cs) t v (λ _. kinds! ts vs >>= g) (first-kinds cs ts vs (v ∷ more) (omega (arith, l)) e g h)
+      ∙ sym (first-and 14 (ofKind t v) (argumentsFit task w os f fs k ts) cs)
+      ∙ ap (λ (o : Option Value). first (cause 14 (not (isSomeAnd o (ofKind t) && argumentsFit task w os f fs k ts)) ∷ cs)) (sym there)
+
+  invoke-first : (s : Signature) (e : ℕ) (v : World) → numberIn {A = Progress} (popAll! (length (argumentTypes s)) (f .operands) >>= λ p. pop! (p .more) >>= λ q. kinds! (argumentTypes s) (p .all) >>= λ _.
+      object! (w .base) os e (q .top) >>= λ o. take? (selected (w .base) s (o .object .class)) (Word 14) >>= λ m.
+      ok (record { world = v; objects = os; frames = entryFrame (m .class) (m .place) (o .number) (p .all) ∷ past f i (q .more) (f .locals) ∷ fs; result = none }))
+      ≡ first (cause 14 (not (argumentsFit task w os f fs k (argumentTypes s) && isSomeAnd (getElem? (f .operands) (length (argumentTypes s))) (λ v. receives w os e v && selects w os s v)))
+      ∷ cause 11 (isSomeAnd (getElem? (f .operands) (length (argumentTypes s))) aNull) ∷ [])
+  unfolding popAll! take? _>>=_
+  invoke-first s e v = go (popAll (length ts) (f .operands)) refl
+    where
+      ts : List ℕ
+      ts = argumentTypes s
+
+      fits : Bool
+      fits = argumentsFit task w os f fs k ts
+
+      test : Value → Bool
+      test u = receives w os e u && selects w os s u
+
+      -- the receiver isn't there
+      stuck : (b : Bool) (o : Option Value) → o ≡ none → _≡_ {A = ℕ} 14 (first (cause 14 (not (b && isSomeAnd o test)) ∷ cause 11 (isSomeAnd o aNull) ∷ []))
+      stuck b o q = unfold first in rw q (unfold first in both b)
+        where
+          both : (b : Bool) → _≡_ {A = ℕ} 14 (first (cause 14 (not (b && false)) ∷ cause 11 false ∷ []))
+          both true = unfold first in refl
+          both false = unfold first in refl
+
+      rest : (p : PoppedAll Value) (q : Popped) → Result Progress
+      rest p q = kinds! ts (p .all) >>= λ _. object! (w .base) os e (q .top) >>= λ o. take? (selected (w .base) s (o .object .class)) (Word 14) >>= λ m.
+          ok (record { world = v; objects = os; frames = entryFrame (m .class) (m .place) (o .number) (p .all) ∷ past f i (q .more) (f .locals) ∷ fs; result = none })
+
+      below : (p : PoppedAll Value) (us : List Value) → p .more ≡ us → length (p .all) ≡ length ts → f .operands ≡ reverseAux (p .all) (p .more)
+          → numberIn (pop! us >>= rest p) ≡ first (cause 14 (not (fits && isSomeAnd (getElem? us 0) test)) ∷ cause 11 (isSomeAnd (getElem? us 0) aNull) ∷ [])
+      below p [] m l q = unfold pop! pop numberIn number in stuck fits none refl
+      below p (u ∷ us) m l q = unfold pop! pop in
+          first-kinds (cause 14 (not (test u)) ∷ cause 11 (aNull u) ∷ []) ts (p .all) (p .more) l q _
+          (first-object w os e u (selects w os s) _ refl (λ o b h l. rw h (first-there [] (selected (w .base) s (b .class)) _ (λ _ _. number-ok _)))
+          ∙ sym (first-and 14 (receives w os e u) (selects w os s u) (cause 11 (aNull u) ∷ [])))
+          ∙ sym (first-and 14 fits (test u) (cause 11 (aNull u) ∷ []))
+
+      go : (o : Option (PoppedAll Value)) → popAll (length ts) (f .operands) ≡ o
+          → numberIn (take? o (Word 14) >>= λ p. pop! (p .more) >>= rest p)
+          ≡ first (cause 14 (not (fits && isSomeAnd (getElem? (f .operands) (length ts)) test)) ∷ cause 11 (isSomeAnd (getElem? (f .operands) (length ts)) aNull) ∷ [])
+      go none q = unfold numberIn number in stuck fits (getElem? (f .operands) (length ts)) (nth-past (f .operands) (length ts) (popped-few (length ts) (f .operands) q))
+      go (some p) q =
+          let a = popped-is (length ts) (f .operands) p q in
+          let z : length (p .all) + 0 ≡ length ts = omega (arith, a .0) in
+          let there : getElem? (f .operands) (length ts) ≡ getElem? (p .more) 0 = ap (getElem? (f .operands)) (sym z) ∙ ap (λ (us : List Value). getElem? us (length (p .all) + 0)) (a .1) ∙ aux-nth (p .all) (p .more) 0 in
+          below p (p .more) refl (a .0) (a .1) ∙ ap (λ (o : Option Value). first (cause 14 (not (fits && isSomeAnd o test)) ∷ cause 11 (isSomeAnd o aNull) ∷ [])) (sym there)
 
   jumps-first : (c : Condition) → numberIn (jumps c (f .operands)) ≡ first (cause 14 (not (branches task w os f fs k c)) ∷ [])
   unfolding jumps branches

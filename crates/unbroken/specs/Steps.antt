@@ -13,11 +13,12 @@ use Rattle.definition.specs.Answers.{Result, ok, refused, take?}
 use Rattle.definition.specs.Classes.{Base, Class, Slot, find, superOf, loaderOf, slots, Selected, selected, signatureTypes}
 use Rattle.definition.specs.Constraints.{Tie, World, newTie, post, posted, tieIs, newTies, signatureTies}
 use Rattle.definition.specs.Instructions.{Decoded, pick}
-use Rattle.definition.specs.Lists.{any}
+use Rattle.definition.specs.Lists.{any, filled}
+use Rattle.definition.specs.Maybe as Maybe
 use Rattle.definition.specs.Superclasses.{below}
-use Rattle.definition.specs.Machine.{Frame, Now, Object, ObjectRow, free, owned, Objects, objectHeld, Exists, unused, made, roomless, rewritten, changed, Progress, Value, entryFrame, execute, give, initialValue, int!, intValue, jumps, newObject, now, nullValue, object!, objectValue, ofKind!, past, pop!, reference!, room!, step, under!, emptyValue, unlistedValue, existing}
+use Rattle.definition.specs.Machine.{Frame, Now, Object, ObjectRow, free, owned, Objects, objectHeld, Exists, unused, made, roomless, rewritten, changed, Progress, Value, entryFrame, execute, give, initialValue, int!, intValue, jumps, newObject, now, nullValue, object!, objectValue, ofKind!, past, pop!, popAll!, reference!, room!, step, under!, emptyValue, unlistedValue, existing}
 use Rattle.definition.specs.Requests.{Request, at}
-use Rattle.definition.specs.Verifier.{pop}
+use Rattle.definition.specs.Verifier.{pop, popAll}
 use Rattle.definition.specs.declared.Kind.{Kind}
 use Rattle.definition.specs.declared.Kind.the-variants.{IntKind, ReferenceKind}
 use Rattle.definition.specs.declared.Instruction.{Instruction}
@@ -25,6 +26,8 @@ use Rattle.definition.specs.declared.Condition.{Condition}
 use Rattle.definition.specs.declared.Condition.the-variants.{Always, IfZero, IfLess}
 use Rattle.definition.specs.declared.Instruction.the-variants.{AconstNull, Arithmetic, Branch, Dup, Getfield, Invokevirtual, Load, New, Pop, Putfield, Return, Sipush, Store}
 use Rattle.definition.specs.declared.Refusal.{Refusal}
+use Rattle.laws.specs.Arguments.{PoppedAll, filled-length}
+use Rattle.laws.specs.Options.{bind-some}
 use Rattle.laws.specs.Growth.{nth-lt}
 use Rattle.laws.specs.Objects.{existing-none, existing-tail, made-there, made-exists, changed-exists}
 use Rattle.laws.specs.Results.{bind-ok, need-ok, ok-inj, take-ok}
@@ -103,6 +106,25 @@ pop-all : (X : ℕ → Type 0) (vs : List Value) (p : record { top : Value; more
 unfolding pop! pop take?
 pop-all X [] p h e = never _ _ e
 pop-all X (v ∷ vs) p h e = rw (sym (ok-inj e)) (record { top = h .0; more = h .1; less = refl })
+
+-- the arguments of a call, and what is left
+record PoppedArguments (X : ℕ → Type 0) (vs : List Value) (p : PoppedAll Value) : Type 0 where
+  all : All (ValueSound X) (p .all)
+  more : All (ValueSound X) (p .more)
+  less : length (p .more) ≤ length vs
+
+pops-all : (X : ℕ → Type 0) (n : ℕ) (vs : List Value) (p : PoppedAll Value) → All (ValueSound X) vs → popAll n vs ≡ some p → PoppedArguments X vs p
+unfolding popAll pop Maybe._>>=_
+pops-all X zero vs p h e = rw (sym (Option·some-injective _ _ e)) (record { all = tt; more = h; less = omega arith })
+pops-all X (suc n) [] p h e = absurd (Option·none-ne-some p e)
+pops-all X (suc n) (v ∷ vs) p h e =
+    let b = bind-some _ _ e in
+    let i = pops-all X n vs (b .0) (h .1) (b .1) in
+    rw (sym (Option·some-injective _ _ (b .2))) (record { all = all-both (ValueSound X) (b .0 .all) (v ∷ []) (i .all) (h .0, tt); more = i .more; less = omega (arith, i .less) })
+
+arguments-all : (X : ℕ → Type 0) (n : ℕ) (vs : List Value) (p : PoppedAll Value) → All (ValueSound X) vs → popAll! n vs ≡ ok p → PoppedArguments X vs p
+unfolding popAll!
+arguments-all X n vs p h e = pops-all X n vs p h (take-ok _ _ e)
 
 -- A branch leaves operands that were there, fewer unless it is a goto, which jumps
 
@@ -292,8 +314,14 @@ made-few k x os l h = rw (made-count k x os (length os) refl) (go (ltb (unused o
     go true e = unfold pick in l
     go false e = unfold pick in omega (arith, few, ltb-false (unused os) (length os) e)
 
-pub entered-frame : (n : ℕ) (X : ℕ → Type 0) (s j o : ℕ) (v : Value) → s < n → X o → Local X v → Framed n X (entryFrame s j o v)
-entered-frame n X s j o v a b c = record { class = a; depth = omega arith; operands = tt; eight = refl; locals = (b, (c, (tt, (tt, (tt, (tt, (tt, (tt, tt)))))))) }
+all-filled : (X : ℕ → Type 0) (k : ℕ) (vs : List Value) → All (Local X) vs → All (Local X) (filled k emptyValue vs)
+unfolding filled
+all-filled X zero vs h = tt
+all-filled X (suc k) [] h = (tt, all-filled X k [] tt)
+all-filled X (suc k) (v ∷ vs) h = (h .0, all-filled X k vs (h .1))
+
+pub entered-frame : (n : ℕ) (X : ℕ → Type 0) (s j o : ℕ) (vs : List Value) → s < n → X o → All (Local X) vs → Framed n X (entryFrame s j o vs)
+entered-frame n X s j o vs a b c = record { class = a; depth = omega arith; operands = tt; eight = filled-length 8 emptyValue (objectValue o ∷ vs); locals = all-filled X 8 (objectValue o ∷ vs) (b, c) }
 
 module _ (w : World) (n : ℕ) (os : Objects) (rd : Ready w n os) where
   pub class-found : (r : Request) (c : ℕ) → find (w .base .cache) r ≡ some c → c < n
@@ -373,11 +401,11 @@ module _ (w : World) (n : ℕ) (os : Objects) (rd : Ready w n os) where
         (λ _. omega arith)
         (all-more (grow-frame n M (Exists qs) more) (past f i (q .more) (f .locals) ∷ fs) (framed (q .more) (f .locals) (omega (arith, y .less, z .less, fr .depth)) (z .more) (fr .eight) (fr .locals), frs))))))))))
     each-kept (Invokevirtual c s) = then Q _ _ (λ e _. then Q _ _ (λ d _. then Q _ _ (λ v pv. then Q _ _ (λ p ep. then Q _ _ (λ q eq. then Q _ _ (λ _ _. then Q _ _ (λ o eo. then Q _ _ (λ m em.
-        let y = pop-all M (f .operands) p (fr .operands) ep in
+        let y = arguments-all M _ (f .operands) p (fr .operands) ep in
         let z = pop-all M (p .more) q (y .more) eq in
         let h : M (o .number) = (o .object, object-is (w .base) os e (q .top) o eo) in
         tied _ _ v os _ pv (betweens (d .class) s) (λ _ h. h) (rd .objects) (rd .each) (λ h. omega (arith, ltb-true (suc (length fs)) 32 h)) (
-          entered-frame n M (m .class) (m .place) (o .number) (p .top) (class-selected s _ m (take-ok _ _ em)) h (value-local M (p .top) (y .top)),
+          entered-frame n M (m .class) (m .place) (o .number) (p .all) (class-selected s _ m (take-ok _ _ em)) h (all-more (value-local M) (p .all) (y .all)),
           (framed (q .more) (f .locals) (omega (arith, y .less, z .less, fr .depth)) (z .more) (fr .eight) (fr .locals), frs),
         )))))))))
     each-kept (New c) = then Q _ _ (λ e fe. then Q _ _ (λ _ h.

@@ -253,7 +253,7 @@ takes-made k x os = record { object = x; is = refl; there = made-there k x os; w
 -- of a start that is accepted, `this` of the first frame has it
 
 abbrev pub Begun : ℕ → ℕ → Rows → Rows → Type 0
-Begun k v r s = Takes k (r .objects) (s .objects) (unused (r .objects)) × ((c : ℕ) × (j : ℕ) × (framesIn k s ≡ entryFrame c j (unused (r .objects)) (intValue v) ∷ []))
+Begun k v r s = Takes k (r .objects) (s .objects) (unused (r .objects)) × ((c : ℕ) × (j : ℕ) × (framesIn k s ≡ entryFrame c j (unused (r .objects)) (intValue v ∷ []) ∷ []))
 
 begun-rows : (k l n m v : ℕ) (r : Rows) → Ok (startRows k l n m v r) (λ g. Begun k v r (g .rows))
 unfolding startRows started
@@ -263,7 +263,7 @@ begun-rows k l n m v r = then G _ _ (λ _ _. then G _ _ (λ o e. let q = ok-at Q
     G g = Begun k v r (g .rows)
 
     Q : Progress → Type 0
-    Q o = Takes k (r .objects) (o .objects) (unused (r .objects)) × ((c : ℕ) × (j : ℕ) × (o .frames ≡ entryFrame c j (unused (r .objects)) (intValue v) ∷ []))
+    Q o = Takes k (r .objects) (o .objects) (unused (r .objects)) × ((c : ℕ) × (j : ℕ) × (o .frames ≡ entryFrame c j (unused (r .objects)) (intValue v ∷ []) ∷ []))
 
     frames-of : (k : ℕ) (o : Progress) → framesIn k (progressed k r o) ≡ o .frames
     frames-of zero o = refl

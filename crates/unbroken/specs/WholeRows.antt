@@ -177,7 +177,7 @@ module _ (r : Rows) (w : Whole r) where
         each = made-objects (W .base) N k os c two lc (w .objects);
         many = omega arith;
         frames = (
-          entered-frame N _ (s .class) (s .place) (unused os) (intValue v) (class-selected W N os ready (startSignature m) c s (take-ok _ _ es)) (x, made-there k x os) tt,
+          entered-frame N _ (s .class) (s .place) (unused os) (intValue v ∷ []) (class-selected W N os ready (startSignature m) c s (take-ok _ _ es)) (x, made-there k x os) (tt, tt),
           tt,
         );
       })))))
