@@ -16,10 +16,10 @@ use Rattle.definition.specs.Numbers.{wordUnknown, wordAbsent, wordFull, wordNul
 use Rattle.definition.specs.Lists.{indexOf}
 use Rattle.definition.specs.Requests.{at}
 use Rattle.definition.specs.Superclasses.{nearest, below}
-use Rattle.definition.specs.Classes.{Base, Class, find, superOf, loaderOf, slots, slotIs, hasField, selected, startSignature}
+use Rattle.definition.specs.Classes.{argumentTypes, Base, Class, find, superOf, loaderOf, slots, slotIs, hasField, selected, startSignature}
 use Rattle.definition.specs.Constraints.{World, newTie, signatureTies, post}
 use Rattle.definition.specs.Instructions.{Decoded}
-use Rattle.definition.specs.Machine.{Value, emptyValue, intValue, nullValue, objectValue, unlistedValue, Object, Frame, newObject, entryFrame, pop!, int!, ofKind!, kind!, room!, under!, Now, past}
+use Rattle.definition.specs.Machine.{Value, emptyValue, intValue, nullValue, objectValue, unlistedValue, Object, Frame, newObject, entryFrame, pop!, popAll!, int!, ofKind!, kind!, kinds!, room!, under!, Now, past}
 use Rattle.first.specs.Files.{firstDecode}
 use Rattle.definition.specs.Answers.{wanted, Result, refused, ok, _>>=_, need, take?}
 
@@ -67,7 +67,7 @@ firstGive (g ∷ gs) w os v = ok (record {
   result = none;
 })
 
--- An instruction of frame f, above fs, of class k. Refusals in order: 5 7 10 9, then 14, then 11.
+-- An instruction of frame f, above fs, of class k; its files' signatures have one argument. Refusals in order: 5 7 10 9, then 14, then 11.
 module _ (w : World) (os : List Object) (f : Frame) (fs : List Frame) (k : Class) (i : Decoded) where
   -- nothing but the frame changes
   abbrev pub firstOn : List Value → List Value → Result FirstProgress
@@ -109,9 +109,9 @@ module _ (w : World) (os : List Object) (f : Frame) (fs : List Frame) (k : Class
       take? (find (w .base .cache) (at (k .loader) c)) (wanted (at (k .loader) c)) >>= λ e.
       take? (selected (w .base) s e) (Word wordAbsent) >>= λ d.
       post w (ltb (suc (length fs)) frameLimit) (signatureTies (w .ties) (loaderOf (w .base) (d .class)) (k .loader) s) >>= λ w′.
-      pop! (f .operands) >>= λ p. pop! (p .more) >>= λ q. kind! (s .argument) (p .top) >>= λ _. firstObject! (w .base) os e (q .top) >>= λ o.
+      popAll! (length (argumentTypes s)) (f .operands) >>= λ p. pop! (p .more) >>= λ q. kinds! (argumentTypes s) (p .all) >>= λ _. firstObject! (w .base) os e (q .top) >>= λ o.
       take? (selected (w .base) s (o .object .class)) (Word wordStuck) >>= λ m.
-      ok (record { world = w′; objects = os; frames = entryFrame (m .class) (m .place) (o .number) (p .top) ∷ past f i (q .more) (f .locals) ∷ fs; result = none })
+      ok (record { world = w′; objects = os; frames = entryFrame (m .class) (m .place) (o .number) (p .all) ∷ past f i (q .more) (f .locals) ∷ fs; result = none })
   firstExecute (New c) =
       take? (find (w .base .cache) (at (k .loader) c)) (wanted (at (k .loader) c)) >>= λ e.
       need (ltb (length os) objectLimit && ltb (length (f .operands)) operandLimit) (Word wordFull) >>= λ _.
@@ -123,7 +123,7 @@ module _ (w : World) (os : List Object) (f : Frame) (fs : List Frame) (k : Class
 unfoldable pub firstStep : World → List Object → Frame → List Frame → Result FirstProgress
 firstStep w os f fs = firstNow w f >>= λ n. firstExecute w os f fs (n .theClass) (n .at) (n .at .instruction)
 
--- start: a new object and a first frame in the method selected for (m, int, int). Refusals: 3 12 5 7 10
+-- start: a new object and a first frame in the method selected for (m, [int], int). Refusals: 3 12 5 7 10
 unfoldable pub firstStarted : ℕ → ℕ → ℕ → ℕ → World → List Object → List Frame → Result FirstProgress
 firstStarted l n m v w os fs =
     need (ltb l loaderLimit && leb nameObject n && leb 1 m) (Word wordUnknown) >>= λ _.
@@ -131,4 +131,4 @@ firstStarted l n m v w os fs =
     take? (find (w .base .cache) (at l n)) (wanted (at l n)) >>= λ c.
     take? (selected (w .base) (startSignature m) c) (Word wordAbsent) >>= λ s.
     need (ltb (length os) objectLimit) (Word wordFull) >>= λ _.
-    ok (record { world = w; objects = os ++ (newObject (w .base) c ∷ []); frames = entryFrame (s .class) (s .place) (length os) (intValue v) ∷ []; result = none })
+    ok (record { world = w; objects = os ++ (newObject (w .base) c ∷ []); frames = entryFrame (s .class) (s .place) (length os) (intValue v ∷ []) ∷ []; result = none })

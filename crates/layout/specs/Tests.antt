@@ -3,8 +3,8 @@ use mathlib.Core.Path.{_≡_, refl, sym}
 use mathlib.Core.Bool.{Bool, true, false, false≢true}
 use mathlib.Core.List.{List, [], _∷_, _++_}
 use mathlib.Core.Option.{Option, none, some}
-use Prim.Native.Nat.{ℕ, suc}
-use Rattle.definition.specs.Lists.{every, all, allFrom, isSome}
+use Prim.Native.Nat.{ℕ, zero, suc}
+use Rattle.definition.specs.Lists.{every, all, allFrom, isSome, filled}
 
 -- what holds of each
 abbrev pub All : {A : Type 0} → (A → Type 0) → List A → Type 0
@@ -90,6 +90,16 @@ all-more f (x ∷ xs) h = (f x (h .0), all-more f xs (h .1))
 pub all-both : {A : Type 0} (P : A → Type 0) (xs ys : List A) → All P xs → All P ys → All P (xs ++ ys)
 all-both P [] ys h k = k
 all-both P (x ∷ xs) ys h k = (h .0, all-both P xs ys (h .1) k)
+
+pub all-parts : {A : Type 0} (P : A → Type 0) (xs ys : List A) → All P (xs ++ ys) → All P xs × All P ys
+all-parts P [] ys h = (tt, h)
+all-parts P (x ∷ xs) ys h = let i = all-parts P xs ys (h .1) in ((h .0, i .0), i .1)
+
+pub all-filled : {A : Type 0} (P : A → Type 0) (k : ℕ) (d : A) (xs : List A) → P d → All P xs → All P (filled k d xs)
+unfolding filled
+all-filled P zero d xs p h = tt
+all-filled P (suc k) d [] p h = (p, all-filled P k d [] p tt)
+all-filled P (suc k) d (x ∷ xs) p h = (h .0, all-filled P k d xs p (h .1))
 
 pub all-each : {A : Type 0} (P : A → Type 0) → ((x : A) → P x) → (xs : List A) → All P xs
 all-each P f [] = tt

@@ -1,19 +1,20 @@
 -- What holds of objects, classes and constraints holds in a later store: ties posted, a field written, an object made, a class or a cache entry added.
 use mathlib.Core.Path.{_≡_, refl, sym, subst}
 use mathlib.Core.Bool.{Bool, true, false}
-use mathlib.Core.Option.{Option, some}
+use mathlib.Core.Option.{Option, none, some}
 use mathlib.Core.List.{List, [], _∷_, _++_, map, List·Memᴰ, Memᴰ·append-left}
 use mathlib.Core.Logic.{_⊎_, inl, inr}
 use Prim.Native.Nat.{ℕ}
 use lib.ListN.{getElem?}
 use lib.Dec.{eqb}
 use Rattle.definition.specs.declared.Signature.{Signature}
-use Rattle.definition.specs.Classes.{Class, Slot, loaderOf, slots, superOf, Selected}
+use Rattle.definition.specs.Classes.{Class, Slot, argumentTypes, loaderOf, slots, superOf, Selected}
 use Rattle.definition.specs.Constraints.{Agrees, Tie, World, posted, tieEdges}
-use Rattle.definition.specs.Machine.{Object, Progress, Value, entryFrame, initialValue, intValue, nullValue, Objects, existing, Exists, made, changed}
+use Rattle.definition.specs.Machine.{Object, Progress, Value, entryFrame, emptyValue, initialValue, intValue, nullValue, objectValue, Objects, existing, Exists, made, changed}
 use Rattle.definition.specs.Chains.{Edge}
 use Rattle.definition.specs.Requests.{Request}
 use Rattle.definition.specs.Verifier.{VerifierType, typeClass, typeInt, typeOfName, entryTypes}
+use Rattle.laws.specs.Arguments.{each-filled}
 use Rattle.laws.specs.Chains.{chain-more}
 use Rattle.laws.specs.Options.{each-more, each-more-in}
 use Rattle.safety.specs.Flows.{lands, operands-flow, locals-flow}
@@ -114,16 +115,28 @@ heap-grows v w lk gr os hp z o b e =
           (λ s u m h. rw (loader-stable v w lk gr (s .owner) (slot-real v w lk gr (b .class) (b .class) q s m)) (later-conforms z (loaderOf (v .base) (s .owner)) (typeOfName (s .type)) u h)) (x .filled));
     }
 
--- a frame that enters a method: its object, of the method's class or below, and its argument
+-- the types of a list of names, held by a list of values
+abbrev pub ConformAll : World → Objects → ℕ → List ℕ → List Value → Type 0
+ConformAll w os l ts vs = Each (λ t v. Conforms w os l (typeOfName t) v) ts vs
+
+locals-named : (w : World) (os : Objects) (l : ℕ) (ts : List ℕ) (vs : List Value) → ConformAll w os l ts vs → Each (Local w os l) (map (λ n. some (typeOfName n)) ts) vs
+locals-named w os l [] [] h = tt
+locals-named w os l [] (v ∷ vs) h = h
+locals-named w os l (t ∷ ts) [] h = h
+locals-named w os l (t ∷ ts) (v ∷ vs) h = (h .0, locals-named w os l ts vs (h .1))
+
+-- a frame that enters a method: its object, of the method's class or below, and its arguments
 pub entered-top : (w : World) (os : Objects) → Linked w → (s : Signature) (m : Selected) (ma : MethodAt (w .base) s m) (o : ℕ) (b : Object) → existing os o ≡ some b → Below (superOf (w .base)) (b .class) (m .class)
-    → (v : Value) → Conforms w os (loaderOf (w .base) (m .class)) (typeOfName (s .argument)) v → Top w os (entryFrame (m .class) (m .place) o v) (ma .theClass) (ma .method)
-entered-top w os lk s m ma o b th bl v cv =
+    → (vs : List Value) → ConformAll w os (loaderOf (w .base) (m .class)) (argumentTypes s) vs → Top w os (entryFrame (m .class) (m .place) o vs) (ma .theClass) (ma .method)
+entered-top w os lk s m ma o b th bl vs cv =
     let ve = lk .verified (m .class) (m .place) (ma .theClass) (ma .method) (ma .isClass) (ma .isMethod) in
     let to = lands w (ma .theClass) (ma .method) ve 0 (entryTypes (ma .theClass) (ma .method)) (entry (ma .theClass) (ma .method) (ve .notes) (ve .passes)) in
-    let f = entryFrame (m .class) (m .place) o v in
+    let f = entryFrame (m .class) (m .place) o vs in
     let ls : List (Option VerifierType) = entryTypes (ma .theClass) (ma .method) .locals in
+    let cs : ConformAll w os (ma .theClass .loader) (argumentTypes (ma .method .signature)) vs = rw (ma .isSignature, sym (ma .loader)) cv in
     let held : Each (Local w os (ma .theClass .loader)) ls (f .locals)
-    = (record { object = b; there = th; fits = fits-own (lk .own (m .class) (ma .theClass) (ma .isClass)) bl }, (rw (ma .isSignature, sym (ma .loader)) cv, (tt, (tt, (tt, (tt, (tt, (tt, tt)))))))) in
+    = each-filled (Local w os (ma .theClass .loader)) 8 none emptyValue (some (typeClass (ma .theClass .name)) ∷ map (λ n. some (typeOfName n)) (argumentTypes (ma .method .signature))) (objectValue o ∷ vs) tt
+    (record { object = b; there = th; fits = fits-own (lk .own (m .class) (ma .theClass) (ma .isClass)) bl }, locals-named w os (ma .theClass .loader) (argumentTypes (ma .method .signature)) vs cs) in
     record {
       τ = to .τ;
       typed = record { isClass = ma .isClass; isMethod = ma .isMethod; types = to .types };

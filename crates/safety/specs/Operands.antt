@@ -10,14 +10,15 @@ use lib.Dec.{eqb}
 use Rattle.definition.specs.Answers.{Result, _>>=_, ok, take?}
 use Rattle.definition.specs.Classes.{find, hasField, loaderOf, slots, superOf}
 use Rattle.definition.specs.Constraints.{Agrees, Tie, World, post, posted}
-use Rattle.definition.specs.Machine.{Object, Value, compute, int!, intValue, kind!, nullValue, object!, objectValue, ofKind!, pop!, reference!, room!, emptyValue, unlistedValue, existing, Objects}
+use Rattle.definition.specs.Machine.{Object, Value, compute, int!, intValue, kind!, kinds!, nullValue, object!, objectValue, ofKind!, pop!, popAll!, reference!, room!, emptyValue, unlistedValue, existing, Objects}
 use Rattle.definition.specs.Requests.{at}
 use Rattle.definition.specs.Superclasses.{Below}
 use Rattle.definition.specs.declared.Kind.{Kind}
 use Rattle.definition.specs.declared.Kind.the-variants.{IntKind, ReferenceKind}
 use Rattle.definition.specs.declared.Operator.{Operator}
 use Rattle.definition.specs.declared.Operator.the-variants.{Add, Subtract, Multiply, Divide}
-use Rattle.definition.specs.Verifier.{Flow, Note, VerifierType, flow, meetInt, meetKind, pop, typeClass, typeInt, typeNull, typeOfName}
+use Rattle.definition.specs.Verifier.{Flow, Note, VerifierType, flow, meetInt, meetKind, pop, popAll, typeClass, typeInt, typeNull, typeOfName}
+use Rattle.laws.specs.Arguments.{PoppedAll, each-popped}
 use Rattle.laws.specs.Agreement.{super-falls}
 use Rattle.laws.specs.Options.{bind-some, each-at}
 use Rattle.laws.specs.Results.{Wp, not-word, wp-bind, wp-need, wp-sure, wp-there}
@@ -88,6 +89,20 @@ kind-of w os l t v h = go (eqb t 1) h
         → (elim z as (λ _. Result (Unit {0})) [ true ↦ ofKind! IntKind v | false ↦ ofKind! ReferenceKind v ]) ≡ ok tt
     go true h = of-kind w os l IntKind typeInt v {u = tt} refl h
     go false h = of-kind w os l ReferenceKind (typeClass t) v {u = tt} refl h
+
+-- arguments, each of its own type's kind
+pub kinds-of : (w : World) (os : Objects) (l : ℕ) (ts : List ℕ) (vs : List Value) → Each (λ t v. Conforms w os l (typeOfName t) v) ts vs → kinds! ts vs ≡ ok tt
+unfolding kinds! _>>=_
+kinds-of w os l [] [] h = refl
+kinds-of w os l [] (v ∷ vs) h = absurd h
+kinds-of w os l (t ∷ ts) [] h = absurd h
+kinds-of w os l (t ∷ ts) (v ∷ vs) h = rw (kind-of w os l t v (h .0)) (kinds-of w os l ts vs (h .1))
+
+-- as many are popped of the values as of their types
+pub all-popped : (R : VerifierType → Value → Type 0) (n : ℕ) (ts : List VerifierType) (vs : List Value) (p : PoppedAll VerifierType) → popAll n ts ≡ some p → Each R ts vs
+    → (q : PoppedAll Value) × (popAll! n vs ≡ ok q) × Each R (p .all) (q .all) × Each R (p .more) (q .more)
+unfolding popAll! take?
+all-popped R n ts vs p e h = let a = each-popped R n ts vs h p e in (a .popped, rw (a .is) refl, a .all, a .more)
 
 -- an operator isn't stuck
 pub wp-compute : {B : Type 0} (Q : B → Type 0) (o : Operator) (a b : ℕ) (f : ℕ → Result B) → ((n : ℕ) → Wp (f n) Q) → Wp (compute o a b >>= f) Q

@@ -8,13 +8,14 @@ use Prim.Native.Nat.{ℕ}
 use lib.Dec.{eqb}
 use borrow.Author.Tests.{eqb-true, eqb-false, ne-eqb}
 use Rattle.definition.specs.Constraints.{Agrees, Tie, World, agreesAfter, edges, newTie, newTies, posted, subtypeEdges, tieEdges, tieIs}
-use Rattle.definition.specs.Lists.{any}
+use Rattle.definition.specs.Lists.{Each, any}
 use Rattle.definition.specs.Machine.{Value, intValue, nullValue, objectValue, emptyValue, unlistedValue, Objects}
 use Rattle.definition.specs.Chains.{Chain, Edge, hop, stay}
 use Rattle.definition.specs.Requests.{Request, at}
-use Rattle.definition.specs.Verifier.{Note, VerifierType, meetClass, meetInt, meets, typeClass, typeInt, typeNull, typeOfName}
+use Rattle.definition.specs.Verifier.{Note, VerifierType, meetAll, meetClass, meetInt, meets, typeClass, typeInt, typeNull, typeOfName}
 use Rattle.laws.specs.Agreement.{agrees-true}
 use Rattle.laws.specs.Chains.{chain-more}
+use Rattle.laws.specs.Options.{bind-some}
 use Rattle.laws.specs.Growth.{tie-edges-more}
 use Rattle.laws.specs.Tests.{and-true, any-true, or-true}
 use Rattle.safety.specs.Conform.{Fits, Tied, fits-on, fits-tied, tie-turned}
@@ -60,6 +61,21 @@ meet-name w os l b t v ns e p h = go (eqb b 1) t e h
     go true typeNull r h = absurd (Option·none-ne-some ns r)
     go true (typeClass a) r h = absurd (Option·none-ne-some ns r)
     go false t r h = meet-class w os l b t v ns r p h
+
+-- values whose types meet the names of a list, each its own
+pub meet-names : (w : World) (os : Objects) (l : ℕ) (ts : List VerifierType) (bs : List ℕ) (vs : List Value) (ns : List Note) → meetAll meets ts bs ≡ some ns → Noted w l ns → Each (Conforms w os l) ts vs
+    → Each (λ b v. Conforms w os l (typeOfName b) v) bs vs
+unfolding meetAll
+meet-names w os l [] [] [] ns e p h = tt
+meet-names w os l [] [] (v ∷ vs) ns e p h = absurd h
+meet-names w os l [] (b ∷ bs) vs ns e p h = absurd (Option·none-ne-some ns e)
+meet-names w os l (t ∷ ts) [] vs ns e p h = absurd (Option·none-ne-some ns e)
+meet-names w os l (t ∷ ts) (b ∷ bs) [] ns e p h = absurd h
+meet-names w os l (t ∷ ts) (b ∷ bs) (v ∷ vs) ns e p h =
+    let x = bind-some _ _ e in
+    let y = bind-some _ _ (x .2) in
+    let q : Noted w l (x .0 ++ y .0) = rw (Option·some-injective _ _ (y .2)) p in
+    (meet-name w os l b t v (x .0) (x .1) (λ a m. q a (Memᴰ·append-left (y .0) m)) (h .0), meet-names w os l ts bs vs (y .0) (y .1) (λ a m. q a (Memᴰ·append-right (x .0) m)) (h .1))
 
 -- ties carry a value over
 pub carry : (w : World) (os : Objects) (l m n : ℕ) (v : Value) → (n ≢ 1 → Tied w (at l n) (at m n)) → Conforms w os l (typeOfName n) v → Conforms w os m (typeOfName n) v

@@ -82,7 +82,7 @@ start-kept k l n m x v os fs lk hp =
     wp-need (Kept v os) _ _ _ (not-word 10 (omega arith)) (λ _. begun c s fc (selected-at (v .base) (startSignature m) c s fs))))))
   where
     begun : (c : ℕ) (s : Selected) → find (v .base .cache) (at l n) ≡ some c → SelectedAt (v .base) (startSignature m) c s
-        → Kept v os (record { world = v; objects = made k (record { class = c; values = map initialValue (slots (v .base) c) }) os; frames = entryFrame (s .class) (s .place) (unused os) (intValue x) ∷ []; result = none })
+        → Kept v os (record { world = v; objects = made k (record { class = c; values = map initialValue (slots (v .base) c) }) os; frames = entryFrame (s .class) (s .place) (unused os) (intValue x ∷ []) ∷ []; result = none })
     begun c s fc found =
         let b : Object = record { class = c; values = map initialValue (slots (v .base) c) } in
         let qs = made k b os in
@@ -95,7 +95,7 @@ start-kept k l n m x v os fs lk hp =
           stack = (
             ma .theClass,
             ma .method,
-            entered-top v qs lk (startSignature m) s ma (unused os) b (made-there k b os) (found .above) (intValue x) (as-int v qs (loaderOf (v .base) (s .class)) 1 (intValue x) refl tt),
+            entered-top v qs lk (startSignature m) s ma (unused os) b (made-there k b os) (found .above) (intValue x ∷ []) (as-int v qs (loaderOf (v .base) (s .class)) 1 (intValue x) refl tt, tt),
             ap (λ (z : Signature). z .result) (ma .isSignature),
           );
         }

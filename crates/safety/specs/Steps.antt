@@ -10,13 +10,13 @@ use lib.ListN.{length, set}
 use lib.Dec.{eqb, ltb}
 use Rattle.definition.specs.declared.Signature.{Signature}
 use Rattle.definition.specs.Answers.{less, ok, signed}
-use Rattle.definition.specs.Classes.{Class, Method, hasField, hasMethod, loaderOf, slots, superOf, Selected, signatureTypes}
+use Rattle.definition.specs.Classes.{Class, Method, hasField, hasMethod, loaderOf, slots, superOf, Selected, argumentTypes, signatureTypes}
 use Rattle.definition.specs.Constraints.{Agrees, Tie, World, newTie, posted, signatureTies}
 use Rattle.definition.specs.Instructions.{Decoded, pick}
 use Rattle.definition.specs.Machine.{Frame, Object, Progress, Value, entryFrame, execute, initialValue, intValue, jumps, newObject, now, nullValue, objectValue, past, pop!, step, Objects, existing, unused, made, changed}
 use Rattle.definition.specs.Requests.{at}
 use Rattle.definition.specs.Superclasses.{Below, same}
-use Rattle.definition.specs.Verifier.{Flow, Note, TypeState, VerifierType, goesOn, target, effect, flow, meetClass, meets, pop, typeClass, typeInt, typeNull, typeOfName, typesIn}
+use Rattle.definition.specs.Verifier.{Flow, Note, TypeState, VerifierType, goesOn, target, effect, flow, meetClass, meetAll, meets, pop, popAll, typeClass, typeInt, typeNull, typeOfName, typesIn}
 use Rattle.definition.specs.declared.Kind.{Kind}
 use Rattle.definition.specs.declared.Operator.{Operator}
 use Rattle.definition.specs.declared.Instruction.{Instruction}
@@ -25,19 +25,20 @@ use Rattle.definition.specs.declared.Condition.the-variants.{Always, IfZero, If
 use Rattle.definition.specs.declared.Instruction.the-variants.{AconstNull, Arithmetic, Branch, Dup, Getfield, Invokevirtual, Load, New, Pop, Putfield, Return, Sipush, Store}
 use Rattle.laws.specs.Agreement.{super-falls}
 use Rattle.laws.specs.Chains.{chain-join, chain-more}
-use Rattle.laws.specs.Options.{bind-some, each-at, each-both, each-more, each-set}
+use Rattle.laws.specs.Options.{bind-some, each-at, each-both, each-more, each-more-in, each-set}
+use Rattle.laws.specs.Arguments.{PoppedAll}
 use Rattle.laws.specs.Results.{Wp, not-wanted, not-word, wp-bind, wp-known, wp-need, wp-take, wp-there}
 use Rattle.laws.specs.Upward.{below-trans, nearest-below, nearest-finds}
 use Rattle.safety.specs.Conform.{Tied, fits-own, override, tied-turn}
-use Rattle.safety.specs.Places.{carry, meet-class, meet-name, tie-there, ties-there}
+use Rattle.safety.specs.Places.{carry, meet-class, meet-name, meet-names, tie-there, ties-there}
 use Rattle.laws.specs.Walk.{Known, known, successors}
 use Rattle.safety.specs.Flows.{Lands, lands, later-lands, operands-flow, locals-flow}
 use Rattle.safety.specs.Valid.{Conforms, Flows, Heap, Later, Linked, Local, Noted, Stack, Top, Under, Verified, later-conforms, later-local, later-ops, later-under}
 use Rattle.definition.specs.Lists.{Each, toList}
 use Rattle.laws.specs.Members.{MethodAt, selected-at, SelectedAt, nearest-selected}
 use Rattle.laws.specs.Objects.{made-there}
-use Rattle.safety.specs.Operands.{Popped, each-pop, int-of, of-kind, wp-compute, flow-is, kind-of, wp-room, wp-post, wp-object, FieldAt, field-at}
-use Rattle.safety.specs.Later.{ties-more, Kept, later-same, later-posted, heap-posted, linked-posted, later-changed, later-join, heap-changed, later-made, heap-made, zeros-conform, entered-top}
+use Rattle.safety.specs.Operands.{Popped, each-pop, int-of, of-kind, wp-compute, flow-is, kind-of, kinds-of, all-popped, wp-room, wp-post, wp-object, FieldAt, field-at}
+use Rattle.safety.specs.Later.{ties-more, Kept, later-same, later-posted, heap-posted, linked-posted, later-changed, later-join, heap-changed, later-made, heap-made, zeros-conform, ConformAll, entered-top}
 use Rattle.safety.specs.Returns.{each-ret}
 
 -- the list on the right has as many, a first and others
@@ -239,10 +240,10 @@ module _ (task : ℕ) (w : World) (os : Objects) (f : Frame) (fs : List Frame) (
 
     -- a frame is entered, and this one waits
     enter : (u : World) → Later w os u os → Linked u → Heap u os → (s : Signature) (a : Selected) (ma : MethodAt (u .base) s a) (o : ℕ) (z : Object) → existing os o ≡ some z → Below (superOf (u .base)) (z .class) (a .class)
-        → (v : Value) → Conforms u os (loaderOf (u .base) (a .class)) (typeOfName (s .argument)) v → (s .result ≢ 1 → Tied u (at (loaderOf (u .base) (a .class)) (s .result)) (at (k .loader) (s .result)))
+        → (xs : List Value) → ConformAll u os (loaderOf (u .base) (a .class)) (argumentTypes s) xs → (s .result ≢ 1 → Tied u (at (loaderOf (u .base) (a .class)) (s .result)) (at (k .loader) (s .result)))
         → (ts : List VerifierType) (ns : List Note) → flow (typeOfName (s .result) ∷ ts) (tp .τ .locals) ns ≡ some fl → (vs : List Value) → Each (Conforms w os (k .loader)) ts vs
-        → Kept w os (record { world = u; objects = os; frames = entryFrame (a .class) (a .place) o v ∷ past f i vs (f .locals) ∷ fs; result = none })
-    enter u y lu hu s a ma o z th bl v cv tr ts ns e vs ev =
+        → Kept w os (record { world = u; objects = os; frames = entryFrame (a .class) (a .place) o xs ∷ past f i vs (f .locals) ∷ fs; result = none })
+    enter u y lu hu s a ma o z th bl xs cv tr ts ns e vs ev =
         let q = flow-is (typeOfName (s .result) ∷ ts) (tp .τ .locals) ns fl e in
         let at = later-lands y nx in
         let sp = each-cons (Flows u (k .loader)) (typeOfName (s .result)) ts (at .τ .operands)
@@ -254,7 +255,7 @@ module _ (task : ℕ) (w : World) (os : Objects) (f : Frame) (fs : List Frame) (
           stack = (
             ma .theClass,
             ma .method,
-            entered-top u os lu s a ma o z th bl v cv,
+            entered-top u os lu s a ma o z th bl xs cv,
             (
               k,
               m,
@@ -275,38 +276,39 @@ module _ (task : ℕ) (w : World) (os : Objects) (f : Frame) (fs : List Frame) (
           );
         }
 
-    do-call : (c : ℕ) (s : Signature) {p q : record { top : VerifierType; more : List VerifierType }} {ns ms : List Note} → pop (tp .τ .operands) ≡ some p → pop (p .more) ≡ some q → meetClass c (q .top) ≡ some ns → meets (p .top) (s .argument) ≡ some ms
+    do-call : (c : ℕ) (s : Signature) {p : PoppedAll VerifierType} {q : record { top : VerifierType; more : List VerifierType }} {ns ms : List Note} → popAll (length (argumentTypes s)) (tp .τ .operands) ≡ some p → pop (p .more) ≡ some q → meetClass c (q .top) ≡ some ns → meetAll meets (p .all) (argumentTypes s) ≡ some ms
         → flow (typeOfName (s .result) ∷ q .more) (tp .τ .locals) (ns ++ ms) ≡ some fl → Wp (execute task w os f fs k i (Invokevirtual c s)) Q
     unfolding execute Q signatureTies
     do-call c s {p} {q} {ns} {ms} e₁ e₂ e₃ e₄ e =
-        let x = popped e₁ in
+        let x = all-popped (Conforms w os (k .loader)) (length (argumentTypes s)) (tp .τ .operands) (f .operands) p e₁ (tp .operands) in
         let y = each-pop (Conforms w os (k .loader)) (p .more) (x .0 .more) (q .top) (q .more) e₂ (x .3) in
         let nd = noted (typeOfName (s .result) ∷ q .more) (tp .τ .locals) (ns ++ ms) e in
         let cf : Conforms w os (k .loader) (typeClass c) (y .0 .top) = meet-class w os (k .loader) c (q .top) (y .0 .top) ns e₃ (λ a h. nd a (Memᴰ·append-left ms h)) (y .2) in
-        let cv : Conforms w os (k .loader) (typeOfName (s .argument)) (x .0 .top) = meet-name w os (k .loader) (s .argument) (p .top) (x .0 .top) ms e₄ (λ a h. nd a (Memᴰ·append-right ns h)) (x .2) in
+        let cv : ConformAll w os (k .loader) (argumentTypes s) (x .0 .all) = meet-names w os (k .loader) (p .all) (argumentTypes s) (x .0 .all) ms e₄ (λ a h. nd a (Memᴰ·append-right ns h)) (x .2) in
         wp-take (Kept w os) _ _ _ (not-wanted _) (λ b fb. wp-take (Kept w os) _ _ _ (not-word 7 (omega arith)) (λ d fd.
         wp-bind (Kept w os) _ _ (wp-post w (ltb (suc (length fs)) 32) (signatureTies (w .ties) (loaderOf (w .base) (d .class)) (k .loader) s) _ (lk .agreed) (λ g.
-        wp-known (Kept w os) _ _ (x .1) (wp-known (Kept w os) _ _ (y .1) (wp-known (Kept w os) _ _ (kind-of w os (k .loader) (s .argument) (x .0 .top) cv) (wp-bind (Kept w os) _ _ (wp-object w os (k .loader) c b (y .0 .top) _ (lk .agreed) fb cf (λ o z th bl ve.
+        wp-known (Kept w os) _ _ (x .1) (wp-known (Kept w os) _ _ (y .1) (wp-known (Kept w os) _ _ (kinds-of w os (k .loader) (argumentTypes s) (x .0 .all) cv) (wp-bind (Kept w os) _ _ (wp-object w os (k .loader) c b (y .0 .top) _ (lk .agreed) fb cf (λ o z th bl ve.
         let sd = selected-at (w .base) s b d fd in
         let nf = nearest-finds (superOf (w .base)) (super-falls (w .base)) (hasMethod (w .base) s) (below-trans bl (sd .above)) (sd .has) in
         let sa = nearest-selected (w .base) s (z .class) (nf .0) (nf .1) in
-        wp-there (Kept w os) _ _ _ (sa .1) (into d b _ g o z th bl (sa .2) sd (x .0 .top) cv (q .more) _ e (y .0 .more) (y .3)))))))))))
+        wp-there (Kept w os) _ _ _ (sa .1) (into d b _ g o z th bl (sa .2) sd (x .0 .all) cv (q .more) _ e (y .0 .more) (y .3)))))))))))
       where
         -- d is found from the class named, a selected from the object's own
         into : (d : Selected) (b : ℕ) (a : Selected) → Agrees (posted w (signatureTies (w .ties) (loaderOf (w .base) (d .class)) (k .loader) s)) → (o : ℕ) (z : Object) → existing os o ≡ some z → Below (superOf (w .base)) (z .class) b
-            → SelectedAt (w .base) s (z .class) a → SelectedAt (w .base) s b d → (v : Value) → Conforms w os (k .loader) (typeOfName (s .argument)) v
+            → SelectedAt (w .base) s (z .class) a → SelectedAt (w .base) s b d → (xs : List Value) → ConformAll w os (k .loader) (argumentTypes s) xs
             → (ts : List VerifierType) (rs : List Note) → flow (typeOfName (s .result) ∷ ts) (tp .τ .locals) rs ≡ some fl → (vs : List Value) → Each (Conforms w os (k .loader)) ts vs
-            → Kept w os (record { world = posted w (signatureTies (w .ties) (loaderOf (w .base) (d .class)) (k .loader) s); objects = os; frames = entryFrame (a .class) (a .place) o v ∷ past f i vs (f .locals) ∷ fs; result = none })
-        into d b a g o z th bl sa sd v cv ts rs fe vs ev =
+            → Kept w os (record { world = posted w (signatureTies (w .ties) (loaderOf (w .base) (d .class)) (k .loader) s); objects = os; frames = entryFrame (a .class) (a .place) o xs ∷ past f i vs (f .locals) ∷ fs; result = none })
+        into d b a g o z th bl sa sd xs cv ts rs fe vs ev =
             let us = signatureTies (w .ties) (loaderOf (w .base) (d .class)) (k .loader) s in
             let u = posted w us in
             let yy = later-posted w os us in
             let tied : (t : ℕ) → List·Memᴰ t (signatureTypes s) → t ≢ 1 → Tied u (at (loaderOf (w .base) (a .class)) t) (at (k .loader) t)
             = λ t j h. chain-join (chain-more (ties-more w us) (override w (λ x. at (loaderOf (w .base) x) t) (hasMethod (w .base) s) (λ x p y hx sx qx. lk .over s x p y t hx sx qx j h) bl (sa .near) (sd .near)))
             (ties-there (w .ties) (loaderOf (w .base) (d .class)) (k .loader) (signatureTypes s) t j h) in
-            enter u yy (linked-posted w us lk g) (heap-posted w os us hp) s a (sa .there) o z th (sa .above) v
-            (carry u os (k .loader) (loaderOf (w .base) (a .class)) (s .argument) v (λ h. tied-turn u (tied (s .argument) (List·Memᴰ·head refl) h)) (later-conforms yy (k .loader) (typeOfName (s .argument)) v cv))
-            (tied (s .result) (List·Memᴰ·tail (List·Memᴰ·head refl))) ts rs fe vs ev
+            enter u yy (linked-posted w us lk g) (heap-posted w os us hp) s a (sa .there) o z th (sa .above) xs
+            (each-more-in (argumentTypes s) xs
+            (λ t x j h. carry u os (k .loader) (loaderOf (w .base) (a .class)) t x (λ z. tied-turn u (tied t (Memᴰ·append-left (s .result ∷ []) j) z)) (later-conforms yy (k .loader) (typeOfName t) x h)) cv)
+            (tied (s .result) (Memᴰ·append-right (argumentTypes s) (List·Memᴰ·head refl))) ts rs fe vs ev
 
     ex-call : (c : ℕ) (s : Signature) → effect (Invokevirtual c s) (tp .τ) ≡ some fl → Wp (execute task w os f fs k i (Invokevirtual c s)) Q
     unfolding effect

@@ -13,7 +13,7 @@ use Rattle.definition.specs.Answers.{Result, ok, refused, take?}
 use Rattle.definition.specs.Classes.{Base, Class, Slot, find, superOf, loaderOf, slots, Selected, selected, signatureTypes}
 use Rattle.definition.specs.Constraints.{Tie, World, newTie, post, posted, tieIs, newTies, signatureTies}
 use Rattle.definition.specs.Instructions.{Decoded, pick}
-use Rattle.definition.specs.Lists.{any, filled}
+use Rattle.definition.specs.Lists.{any}
 use Rattle.definition.specs.Maybe as Maybe
 use Rattle.definition.specs.Superclasses.{below}
 use Rattle.definition.specs.Machine.{Frame, Now, Object, ObjectRow, free, owned, Objects, objectHeld, Exists, unused, made, roomless, rewritten, changed, Progress, Value, entryFrame, execute, give, initialValue, int!, intValue, jumps, newObject, now, nullValue, object!, objectValue, ofKind!, past, pop!, popAll!, reference!, room!, step, under!, emptyValue, unlistedValue, existing}
@@ -33,7 +33,7 @@ use Rattle.laws.specs.Objects.{existing-none, existing-tail, made-there, made-e
 use Rattle.laws.specs.Results.{bind-ok, need-ok, ok-inj, take-ok}
 use Rattle.laws.specs.Stable.{Rooted}
 use Rattle.laws.specs.Tests.{and-true}
-use Rattle.layout.specs.Tests.{All, all-both, all-more}
+use Rattle.layout.specs.Tests.{All, all-both, all-more, all-filled}
 use Rattle.layout.specs.OwnedRows.{rowsWith, made-count, changed-length}
 use Rattle.layout.specs.Whole.{Between, Framed, Local, ObjectSound, RowSound, ValueSound}
 use Rattle.laws.specs.Wrapped.{Ok, then}
@@ -314,14 +314,8 @@ made-few k x os l h = rw (made-count k x os (length os) refl) (go (ltb (unused o
     go true e = unfold pick in l
     go false e = unfold pick in omega (arith, few, ltb-false (unused os) (length os) e)
 
-all-filled : (X : ℕ → Type 0) (k : ℕ) (vs : List Value) → All (Local X) vs → All (Local X) (filled k emptyValue vs)
-unfolding filled
-all-filled X zero vs h = tt
-all-filled X (suc k) [] h = (tt, all-filled X k [] tt)
-all-filled X (suc k) (v ∷ vs) h = (h .0, all-filled X k vs (h .1))
-
 pub entered-frame : (n : ℕ) (X : ℕ → Type 0) (s j o : ℕ) (vs : List Value) → s < n → X o → All (Local X) vs → Framed n X (entryFrame s j o vs)
-entered-frame n X s j o vs a b c = record { class = a; depth = omega arith; operands = tt; eight = filled-length 8 emptyValue (objectValue o ∷ vs); locals = all-filled X 8 (objectValue o ∷ vs) (b, c) }
+entered-frame n X s j o vs a b c = record { class = a; depth = omega arith; operands = tt; eight = filled-length 8 emptyValue (objectValue o ∷ vs); locals = all-filled (Local X) 8 emptyValue (objectValue o ∷ vs) tt (b, c) }
 
 module _ (w : World) (n : ℕ) (os : Objects) (rd : Ready w n os) where
   pub class-found : (r : Request) (c : ℕ) → find (w .base .cache) r ≡ some c → c < n

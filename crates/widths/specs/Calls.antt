@@ -159,7 +159,7 @@ module _ (r : Rows) (f : RowsFit r) where
       record {
         ties = f .ties;
         objects = made-fits k (newObject (worldOf r .base) c) (r .objects) (new-fits (worldOf r .base) c) (f .objects);
-        frames = (entered-fits (s .class) (s .place) _ (intValue v) hs h, tt);
+        frames = (entered-fits (s .class) (s .place) _ (intValue v ∷ []) hs (h, tt), tt);
       })))))
 
   start-fits : (k l n m v : ℕ) → v < 4294967296 → Ok (startRows k l n m v r) Fit

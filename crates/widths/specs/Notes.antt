@@ -4,19 +4,20 @@ use mathlib.Core.Path.{_≡_, refl}
 use mathlib.Core.Bool.{Bool, true, false}
 use mathlib.Core.Option.{Option, none, some, Option·none-ne-some, Option·some-injective}
 use mathlib.Core.List.{List, [], _∷_, _++_, map, reverse, reverseAux}
-use Prim.Native.Nat.{ℕ, _+_, _<_}
-use lib.ListN.{set}
+use Prim.Native.Nat.{ℕ, zero, suc, _+_, _<_}
+use lib.ListN.{length, set}
 use lib.Dec.{eqb}
 use Rattle.definition.specs.declared.Kind.{Kind}
 use Rattle.definition.specs.declared.Instruction.{Instruction}
 use Rattle.definition.specs.declared.Condition.the-variants.{Always, IfZero, IfLess}
 use Rattle.definition.specs.declared.Instruction.the-variants.{AconstNull, Sipush, Load, Store, Pop, Dup, Arithmetic, Getfield, Putfield, Invokevirtual, New, Return, Branch}
 use Rattle.definition.specs.Maybe.{_>>=_}
-use Rattle.definition.specs.Classes.{Class, Map, Method}
+use Rattle.definition.specs.Classes.{Class, Map, Method, argumentTypes}
 use Rattle.definition.specs.Instructions.{decode}
-use Rattle.definition.specs.Verifier.{VerifierType, typeInt, typeNull, typeClass, Note, TypeState, Flow, typeOfName, entryTypes, meetClass, meetInt, meets, pop, flow, effect, returns, mapAt, localType, mapTypes, meetLocal, meetAll, meetMap, notesOfMethod, notesOf}
+use Rattle.definition.specs.Verifier.{VerifierType, typeInt, typeNull, typeClass, Note, TypeState, Flow, typeOfName, entryTypes, meetClass, meetInt, meets, pop, popAll, flow, effect, returns, mapAt, localType, mapTypes, meetLocal, meetAll, meetMap, notesOfMethod, notesOf}
+use Rattle.laws.specs.Arguments.{PoppedAll}
 use Rattle.laws.specs.Walk.{notes-have}
-use Rattle.layout.specs.Tests.{All, all-both}
+use Rattle.layout.specs.Tests.{All, all-both, all-parts, all-filled}
 use Rattle.unbroken.specs.Steps.{all-set}
 use Rattle.widths.specs.Files.{Read, read-on, read-past, read-need, read-nth, InstructionFits, DecodedFits, decode-fits, MapFits, MethodFits}
 
@@ -81,6 +82,23 @@ unfolding pop
 popped [] h = tt
 popped (t ∷ ts) h = (h .0, h .1)
 
+abbrev PoppedTypes : PoppedAll VerifierType → Type 0
+PoppedTypes p = All TypeFits (p .all) × All TypeFits (p .more)
+
+-- the arguments of a call
+all-popped : (n : ℕ) (ts : List VerifierType) → All TypeFits ts → Read (popAll n ts) PoppedTypes
+unfolding popAll
+all-popped zero ts h = (tt, h)
+all-popped (suc n) ts h = read-on Popped PoppedTypes _ _ (popped ts h) (λ p hp. read-on PoppedTypes PoppedTypes _ _ (all-popped n (p .more) (hp .1)) (λ q hq.
+    (all-both TypeFits (q .all) (p .top ∷ []) (hq .0) (hp .0, tt), hq .1)))
+
+types-met : (ts : List VerifierType) (ns : List ℕ) → All TypeFits ts → All (λ n. n < 65536) ns → Read (meetAll meets ts ns) (All NoteFits)
+unfolding meetAll
+types-met [] [] h l = tt
+types-met [] (n ∷ ns) h l = tt
+types-met (t ∷ ts) [] h l = tt
+types-met (t ∷ ts) (n ∷ ns) h l = read-on (All NoteFits) (All NoteFits) _ _ (met t n (l .0) (h .0)) (λ a ha. read-on (All NoteFits) (All NoteFits) _ _ (types-met ts ns (h .1) (l .1)) (λ b hb. all-both NoteFits a b ha hb))
+
 flows : (o : List VerifierType) (l : List (Option VerifierType)) (n : List Note) → All TypeFits o → All LocalFits l → All NoteFits n → Read (flow o l n) FlowFits
 flows o l n a b c = read-need FlowFits _ _ (λ _. record { types = record { operands = a; locals = b }; notes = c })
 
@@ -105,9 +123,10 @@ module _ (s : TypeState) (h : StateFits s) where
       read-on (All NoteFits) FlowFits _ _ (class-met c (q .top) (f .0) (hq .0)) (λ a ha. read-on (All NoteFits) FlowFits _ _ (met (p .top) t (f .1) (hp .0)) (λ b hb.
       flows (q .more) (s .locals) (a ++ b) (hq .1) (h .locals) (all-both NoteFits a b ha hb))))))
   effect-fits (Invokevirtual c m) f = read-need FlowFits _ _ (λ _.
-      read-on Popped FlowFits _ _ (popped (s .operands) (h .operands)) (λ p hp. read-on Popped FlowFits _ _ (popped (p .more) (hp .1)) (λ q hq.
-      read-on (All NoteFits) FlowFits _ _ (class-met c (q .top) (f .0) (hq .0)) (λ a ha. read-on (All NoteFits) FlowFits _ _ (met (p .top) (m .argument) (f .1 .0) (hp .0)) (λ b hb.
-      flows (typeOfName (m .result) ∷ q .more) (s .locals) (a ++ b) (name-type (m .result) (f .1 .1 .0), hq .1) (h .locals) (all-both NoteFits a b ha hb))))))
+      let g = all-parts (λ n. n < 65536) (argumentTypes m) (m .result ∷ []) (f .1) in
+      read-on PoppedTypes FlowFits _ _ (all-popped (length (argumentTypes m)) (s .operands) (h .operands)) (λ p hp. read-on Popped FlowFits _ _ (popped (p .more) (hp .1)) (λ q hq.
+      read-on (All NoteFits) FlowFits _ _ (class-met c (q .top) (f .0) (hq .0)) (λ a ha. read-on (All NoteFits) FlowFits _ _ (types-met (p .all) (argumentTypes m) (hp .0) (g .0)) (λ b hb.
+      flows (typeOfName (m .result) ∷ q .more) (s .locals) (a ++ b) (name-type (m .result) (g .1 .0), hq .1) (h .locals) (all-both NoteFits a b ha hb))))))
   effect-fits (New c) f = read-need FlowFits _ _ (λ _. flows (typeClass c ∷ s .operands) (s .locals) [] (f, h .operands) (h .locals) tt)
   effect-fits (Branch Always p) f = flows (s .operands) (s .locals) [] (h .operands) (h .locals) tt
   effect-fits (Branch IfZero p) f = read-on Popped FlowFits _ _ (popped (s .operands) (h .operands)) (λ p hp. read-past FlowFits _ _ (λ _. flows (p .more) (s .locals) [] (hp .1) (h .locals) tt))
@@ -119,9 +138,6 @@ module _ (s : TypeState) (h : StateFits s) where
   unfolding returns
   returns-fit kind r l =
       read-past (All NoteFits) _ _ (λ _. read-on Popped (All NoteFits) _ _ (popped (s .operands) (h .operands)) (λ p hp. met (p .top) r l (hp .0)))
-
-entry-fits : (k : Class) (m : Method) → k .name < 65536 → MethodFits m → StateFits (entryTypes k m)
-entry-fits k m l h = record { operands = tt; locals = (l, (name-type (m .signature .argument) (h .types .0), (tt, (tt, (tt, (tt, (tt, (tt, tt)))))))) }
 
 -- Maps
 
@@ -135,6 +151,15 @@ all-reverse {A} P xs h = go xs [] h tt
 all-mapped : {A B : Type 0} (P : A → Type 0) (Q : B → Type 0) (f : A → B) → ((x : A) → P x → Q (f x)) → (xs : List A) → All P xs → All Q (map f xs)
 all-mapped P Q f k [] h = tt
 all-mapped P Q f k (x ∷ xs) h = (k x (h .0), all-mapped P Q f k xs (h .1))
+
+entry-fits : (k : Class) (m : Method) → k .name < 65536 → MethodFits m → StateFits (entryTypes k m)
+entry-fits k m l h =
+    let ts = argumentTypes (m .signature) in
+    let g = all-parts (λ n. n < 65536) ts (m .signature .result ∷ []) (h .types) in
+    record {
+      operands = tt;
+      locals = all-filled LocalFits 8 none (some (typeClass (k .name)) ∷ map (λ n. some (typeOfName n)) ts) tt (l, all-mapped (λ n. n < 65536) LocalFits (λ n. some (typeOfName n)) name-type ts (g .0));
+    }
 
 local-type : (n : ℕ) → n < 65536 → LocalFits (localType n)
 unfolding localType
@@ -199,7 +224,7 @@ method-notes-fit k m l h = some-read (All NoteFits) (notesOfMethod k m) (λ ns v
     let x = read-some (DecodedFits (m .code) (h .code) p) (decode (k .version) (m .code) p) i (decode-fits (m .code) (h .code) (k .version) p) r in
     let y = read-some FlowFits (effect (i .instruction) s) f (effect-fits s hs (i .instruction) (x .instruction)) e in
     (y .types, y .notes))
-    (λ kind s a hs e. read-some (All NoteFits) (returns kind (m .signature .result) s) a (returns-fit s hs kind (m .signature .result) (h .types .1 .0)) e)
+    (λ kind s a hs e. read-some (All NoteFits) (returns kind (m .signature .result) s) a (returns-fit s hs kind (m .signature .result) (all-parts (λ n. n < 65536) (argumentTypes (m .signature)) (m .signature .result ∷ []) (h .types) .1 .0)) e)
     (λ p x e. map-types-fit x (at-map p x e))
     (λ p x s a e hs d. read-some (All NoteFits) (meetMap s x) a (map-met s x hs (at-map p x e)) d) (entry-fits k m l h))
   where

@@ -2,7 +2,7 @@
 use mathlib.Core.Bool.{Bool, true, false, _||_}
 use mathlib.Core.Option.{Option, none, some}
 use mathlib.Core.List.{List, [], _∷_, _++_}
-use Prim.Native.Nat.{ℕ, suc, _+_, _-_, _<_}
+use Prim.Native.Nat.{ℕ, zero, suc, _+_, _-_, _<_}
 use native.Mathlib.Nat.{mod-lt}
 use native.Mathlib.Omega.{arith}
 use lib.ListN.{length, getElem?, set}
@@ -18,14 +18,15 @@ use Rattle.definition.specs.declared.Refusal.{Refusal}
 use Rattle.definition.specs.declared.Refusal.the-variants.{Word}
 use Rattle.definition.specs.Answers.{Result, refused, ok, _>>=_, take?}
 use Rattle.definition.specs.Lists.{any, indexOf}
-use Rattle.definition.specs.Classes.{Base, Class, slots, loaderOf, methodsOf, alike, Selected, selected, signatureTypes}
+use Rattle.definition.specs.Classes.{Base, Class, argumentTypes, slots, loaderOf, methodsOf, alike, Selected, selected, signatureTypes}
 use Rattle.definition.specs.Constraints.{Tie, World, tieIs, newTie, post, newTies, signatureTies}
 use Rattle.definition.specs.Instructions.{Decoded, pick}
-use Rattle.definition.specs.Verifier.{pop}
-use Rattle.definition.specs.Machine.{Value, emptyValue, intValue, nullValue, objectValue, unlistedValue, Object, Frame, existing, initialValue, newObject, entryFrame, pop!, compute, jumps, object!, Progress, Now, now, past, give, execute, step, ObjectRow, free, owned, Objects, objectHeld, unused, made, rewritten, changed}
+use Rattle.definition.specs.Verifier.{pop, popAll}
+use Rattle.definition.specs.Machine.{Value, emptyValue, intValue, nullValue, objectValue, unlistedValue, Object, Frame, existing, initialValue, newObject, entryFrame, pop!, popAll!, compute, jumps, object!, Progress, Now, now, past, give, execute, step, ObjectRow, free, owned, Objects, objectHeld, unused, made, rewritten, changed}
+use Rattle.laws.specs.Arguments.{PoppedAll}
 use Rattle.laws.specs.Wrapped.{Ok, then}
 use Rattle.laws.specs.Ints.{bits-below}
-use Rattle.layout.specs.Tests.{All, all-both}
+use Rattle.layout.specs.Tests.{All, all-both, all-filled}
 use Rattle.unbroken.specs.Steps.{all-set}
 use Rattle.widths.specs.Below.{all-map}
 use Rattle.widths.specs.Fits.{IntFits, TieFits, ObjectFits, FrameFits, ObjectRowFits}
@@ -52,6 +53,24 @@ pop-fits : (vs : List Value) → All IntFits vs → Ok (pop! vs) Popped
 unfolding pop! pop take?
 pop-fits [] h = tt
 pop-fits (v ∷ vs) h = (h .0, h .1)
+
+-- the arguments of a call
+abbrev PoppedValues : PoppedAll Value → Type 0
+PoppedValues p = All IntFits (p .all) × All IntFits (p .more)
+
+values-read : (n : ℕ) (vs : List Value) → All IntFits vs → Read (popAll n vs) PoppedValues
+unfolding popAll
+values-read zero vs h = (tt, h)
+values-read (suc n) vs h = read-on Popped PoppedValues _ _ (popped vs h) (λ p hp. read-on PoppedValues PoppedValues _ _ (values-read n (p .more) (hp .1)) (λ q hq.
+    (all-both IntFits (q .all) (p .top ∷ []) (hq .0) (hp .0, tt), hq .1)))
+  where
+    popped : (vs : List Value) → All IntFits vs → Read (pop vs) Popped
+    popped [] h = unfold pop in tt
+    popped (v ∷ vs) h = unfold pop in (h .0, h .1)
+
+values-fit : (n : ℕ) (vs : List Value) → All IntFits vs → Ok (popAll! n vs) PoppedValues
+unfolding popAll!
+values-fit n vs h = take-read PoppedValues (popAll n vs) (Word 14) (values-read n vs h)
 
 -- Operators
 
@@ -178,8 +197,8 @@ unfolding selected
 selected-fits b h s c = read-past PlaceFits _ _ (λ d. read-on (λ j. j < length (methodsOf b d)) PlaceFits _ _ (index-lt (alike s) (methodsOf b d)) (λ j x. omega (arith, methods-of-fit b h d .many)))
 
 -- a method's first frame
-pub entered-fits : (s j o : ℕ) (v : Value) → j < 4294967296 → IntFits v → FrameFits (entryFrame s j o v)
-entered-fits s j o v l h = record { method = l; point = omega arith; operands = tt; locals = (tt, (h, (tt, (tt, (tt, (tt, (tt, (tt, tt)))))))) }
+pub entered-fits : (s j o : ℕ) (vs : List Value) → j < 4294967296 → All IntFits vs → FrameFits (entryFrame s j o vs)
+entered-fits s j o vs l h = record { method = l; point = omega arith; operands = tt; locals = all-filled IntFits 8 emptyValue (objectValue o ∷ vs) tt (tt, h) }
 
 -- What a step leaves
 
@@ -257,13 +276,13 @@ module _ (task : ℕ) (w : World) (os : Objects) (classes : All ClassFits (w .ba
         })))))))
     execute-fits (Invokevirtual c s) x = then Q _ _ (λ e _. then Q _ _ (λ d _.
         then-on Tied Q _ _ (post-fits w _ _ ties (signature-ties-fit (w .ties) (loaderOf (w .base) (d .class)) (k .loader) s (x .1))) (λ v tied.
-        two-popped _ (λ p q hp hq. then Q _ _ (λ _ _. then Q _ _ (λ o _.
+        then-on PoppedValues Q _ _ (values-fit (length (argumentTypes s)) (f .operands) (top .operands)) (λ p hp. then-on Popped Q _ _ (pop-fits (p .more) (hp .1)) (λ q hq. then Q _ _ (λ _ _. then Q _ _ (λ o _.
         then-on PlaceFits Q _ _ (take-read PlaceFits _ _ (selected-fits (w .base) classes s (o .object .class))) (λ m l.
         record {
           ties = tied;
           objects = objects;
-          frames = (entered-fits (m .class) (m .place) (o .number) (p .top) l (hp .0), (moved (q .more) (f .locals) (hq .1) (top .locals), rest));
-        })))))))
+          frames = (entered-fits (m .class) (m .place) (o .number) (p .all) l (hp .0), (moved (q .more) (f .locals) (hq .1) (top .locals), rest));
+        }))))))))
     execute-fits (New c) x = then Q _ _ (λ e _. then Q _ _ (λ _ _.
         record {
           ties = ties;
