@@ -12,7 +12,7 @@ use Rattle.definition.specs.Answers.{number, numberOf, _>>=_, need, take?}
 use Rattle.definition.specs.Superclasses.{seek, nearest, below}
 use Rattle.definition.specs.Classes.{find, lower, superOf, loaderOf, ownSlots, slotsIn, slots, slotIs, hasField, sameSignature, alike, methodsOf, hasMethod, selected, isNamed}
 use Rattle.definition.specs.Constraints.{tieEdges, subtypeEdges, edges, pairAgrees, rowAgrees, agreesOver, agrees, tieIs, newTie, newTies, signatureTies, agreesAfter, post}
-use Rattle.definition.specs.File.{byte, short, name, count, fieldsIn, signatureIn, namesIn, mapIn, mapsFrom, mapsIn, methodsIn, ends, sameField, sameMethod, readFile}
+use Rattle.definition.specs.File.{byte, short, name, count, fieldsIn, oneIn, argumentsIn, signatureIn, namesIn, mapIn, mapsFrom, mapsIn, methodsIn, ends, sameField, sameMethod, readFile}
 use Rattle.definition.specs.Instructions.{pick, opcodeOf, inlineLength, shortAt, extend, instructionOf, sizedAs, decode}
 use Rattle.definition.specs.Verifier.{typeOfName, meetClass, meetInt, meets, meetKind, pop, popAll, effect, returns, returnKind, target, goesOn, mapAt, localType, meetLocal, meetAll, meetMap, flowInto, flowToTarget, startAt, after, mapsPast, verify, typesAt, unmappedFrom, unmapped, notesOfMethod, notesOf}
 use Rattle.definition.specs.Verifier as Verifier
@@ -82,7 +82,7 @@ unfoldable pub expected : TriedCase → List ℕ
 expected c = c .word ∷ c .chain
 
 computed : map (λ c. told (triedRows c)) tryings ≡ map expected tryings
-unfolding told expected tryings triedRows tryLoadRows tryRows triedWith tried listed afterDefine reasonAfter reason reasonOver shortest ofLength bestFrom best along ended firstOf earlier precedes tieLinks subtypeLinks numberedOn rows writeRows every all any doubled indexOf isSome isNone toList sameList filled Maybe._>>=_ Maybe.need has fires rest grow reachFrom reach leads sameRequest number numberOf _>>=_ need take? seek nearest below find lower superOf loaderOf ownSlots slotsIn slots slotIs hasField sameSignature alike methodsOf hasMethod selected isNamed tieEdges subtypeEdges edges pairAgrees rowAgrees agreesOver agrees tieIs newTie newTies signatureTies agreesAfter post byte short name count fieldsIn signatureIn namesIn mapIn mapsFrom mapsIn methodsIn ends sameField sameMethod readFile pick opcodeOf inlineLength shortAt extend instructionOf sizedAs decode typeOfName meetClass meetInt meets meetKind pop popAll effect returns returnKind target goesOn mapAt localType meetLocal meetAll meetMap flowInto flowToTarget startAt after mapsPast verify typesAt unmappedFrom unmapped notesOfMethod notesOf subtypeIs newSubtypes overrideTie overrideTies define recorded fileAt classAt defineRows recordRows settle onRows performRows performAllRows two method fileOf plain taker lifts ready tied12 tied123 Verifier.turn
+unfolding told expected tryings triedRows tryLoadRows tryRows triedWith tried listed afterDefine reasonAfter reason reasonOver shortest ofLength bestFrom best along ended firstOf earlier precedes tieLinks subtypeLinks numberedOn rows writeRows every all any doubled indexOf isSome isNone toList sameList filled Maybe._>>=_ Maybe.need has fires rest grow reachFrom reach leads sameRequest number numberOf _>>=_ need take? seek nearest below find lower superOf loaderOf ownSlots slotsIn slots slotIs hasField sameSignature alike methodsOf hasMethod selected isNamed tieEdges subtypeEdges edges pairAgrees rowAgrees agreesOver agrees tieIs newTie newTies signatureTies agreesAfter post byte short name count fieldsIn oneIn argumentsIn signatureIn namesIn mapIn mapsFrom mapsIn methodsIn ends sameField sameMethod readFile pick opcodeOf inlineLength shortAt extend instructionOf sizedAs decode typeOfName meetClass meetInt meets meetKind pop popAll effect returns returnKind target goesOn mapAt localType meetLocal meetAll meetMap flowInto flowToTarget startAt after mapsPast verify typesAt unmappedFrom unmapped notesOfMethod notesOf subtypeIs newSubtypes overrideTie overrideTies define recorded fileAt classAt defineRows recordRows settle onRows performRows performAllRows two method fileOf plain taker lifts ready tied12 tied123 Verifier.turn
 computed = refl
 
 -- on tables

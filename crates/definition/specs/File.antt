@@ -5,10 +5,10 @@ use mathlib.Core.List.{List, [], _∷_}
 use Prim.Native.Nat.{ℕ, zero, suc, _+_, _*_}
 use lib.ListN.{length, take, drop}
 use lib.Dec.{eqb, leb}
-use Rattle.definition.specs.Numbers.{nameObject, operandLimit, localCount, versionOne, versionTwo, fileLimit, memberLimit, codeLimit, byteRange}
+use Rattle.definition.specs.Numbers.{nameObject, operandLimit, localCount, versionOne, versionTwo, versionThree, fileLimit, memberLimit, argumentLimit, codeLimit, byteRange}
 use Rattle.definition.specs.Lists.{doubled}
 use Rattle.definition.specs.Maybe.{_>>=_, need}
-use Rattle.definition.specs.Classes.{OneArgument, Signature, signature, Class, Field, Map, Method, alike}
+use Rattle.definition.specs.Classes.{Arguments, OneArgument, argumentsOf, Signature, signature, Class, Field, Map, Method, alike}
 
 pub record File : Type 0 where
   pub version : ℕ
@@ -45,14 +45,29 @@ fieldsIn (suc k) bs =
     name 1 bs >>= λ n. name 1 (n .more) >>= λ t. fieldsIn k (t .more) >>= λ fs.
     some (record { value = record { name = n .value; type = t .value } ∷ fs .value; more = fs .more })
 
--- name, argument type, result type: a list of one
-unfoldable pub signatureIn : List ℕ → Option (Got Signature)
-signatureIn bs = name 1 bs >>= λ n. name 1 (n .more) >>= λ a. name 1 (a .more) >>= λ r. some (record { value = signature (n .value) (OneArgument (a .value)) (r .value); more = r .more })
-
 -- k types of at least n
 unfoldable pub namesIn : ℕ → ℕ → List ℕ → Option (Got (List ℕ))
 namesIn n zero bs = some (record { value = []; more = bs })
 namesIn n (suc k) bs = name n bs >>= λ t. namesIn n k (t .more) >>= λ ts. some (record { value = t .value ∷ ts .value; more = ts .more })
+
+-- a byte with the count of arguments, 0 to 4, then their types
+unfoldable pub listIn : List ℕ → Option (Got Arguments)
+listIn bs =
+    byte bs >>= λ k. need (leb (k .value) argumentLimit) >>= λ _. namesIn 1 (k .value) (k .more) >>= λ ts.
+    argumentsOf (ts .value) >>= λ a. some (record { value = a; more = ts .more })
+
+-- the argument type alone, a list of one
+unfoldable pub oneIn : List ℕ → Option (Got Arguments)
+oneIn bs = name 1 bs >>= λ a. some (record { value = OneArgument (a .value); more = a .more })
+
+unfoldable pub argumentsIn : ℕ → List ℕ → Option (Got Arguments)
+argumentsIn version bs = elim (leb versionThree version) [ true ↦ listIn bs | false ↦ oneIn bs ]
+
+-- name, arguments, result type
+unfoldable pub signatureIn : ℕ → List ℕ → Option (Got Signature)
+signatureIn version bs =
+    name 1 bs >>= λ n. argumentsIn version (n .more) >>= λ a. name 1 (a .more) >>= λ r.
+    some (record { value = signature (n .value) (a .value) (r .value); more = r .more })
 
 -- a map: its offset, which is o or more, eight local types, a byte with the operand count, 0 to 16, operand types, none 0
 unfoldable pub mapIn : ℕ → List ℕ → Option (Got Map)
@@ -75,7 +90,7 @@ mapsIn version bs = elim (leb versionTwo version) [ true ↦ byte bs >>= λ k. m
 unfoldable pub methodsIn : ℕ → ℕ → List ℕ → Option (Got (List Method))
 methodsIn version zero bs = some (record { value = []; more = bs })
 methodsIn version (suc k) bs =
-    signatureIn bs >>= λ s. short (s .more) >>= λ l.
+    signatureIn version bs >>= λ s. short (s .more) >>= λ l.
     need (leb 1 (l .value) && leb (l .value) codeLimit && leb (l .value) (length (l .more))) >>= λ _.
     mapsIn version (drop (l .value) (l .more)) >>= λ maps. methodsIn version k (maps .more) >>= λ ms.
     some (record { value = record { signature = s .value; code = take (l .value) (l .more); maps = maps .value } ∷ ms .value; more = ms .more })
@@ -91,10 +106,10 @@ sameField f g = eqb (g .name) (f .name)
 unfoldable pub sameMethod : Method → Method → Bool
 sameMethod m n = alike (m .signature) n
 
--- version 1 or 2, the length of all that follows it, both class names, fields, methods, nothing after, at most 4,096 bytes, none doubled
+-- version 1, 2 or 3, the length of all that follows it, both class names, fields, methods, nothing after, at most 4,096 bytes, none doubled
 unfoldable pub readFile : List ℕ → Option File
 readFile bs =
-    need (leb (length bs) fileLimit) >>= λ _. byte bs >>= λ v. need (leb versionOne (v .value) && leb (v .value) versionTwo) >>= λ _.
+    need (leb (length bs) fileLimit) >>= λ _. byte bs >>= λ v. need (leb versionOne (v .value) && leb (v .value) versionThree) >>= λ _.
     short (v .more) >>= λ n. need (eqb (n .value) (length (n .more))) >>= λ _.
     name nameObject (n .more) >>= λ c. name nameObject (c .more) >>= λ s.
     count (s .more) >>= λ k. fieldsIn (k .value) (k .more) >>= λ fs.

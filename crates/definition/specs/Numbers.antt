@@ -123,11 +123,19 @@ versionOne = 1
 abbrev pub versionTwo : ℕ
 versionTwo = 2
 
+-- the first with lists of arguments
+abbrev pub versionThree : ℕ
+versionThree = 3
+
 abbrev pub fileLimit : ℕ
 fileLimit = 4096
 
 abbrev pub memberLimit : ℕ
 memberLimit = 8
+
+-- the arguments of a method
+abbrev pub argumentLimit : ℕ
+argumentLimit = 4
 
 abbrev pub codeLimit : ℕ
 codeLimit = 512
@@ -263,8 +271,8 @@ allNumbers =
     ∷ wordAbsent ∷ wordHidden ∷ wordClash ∷ wordFull ∷ wordNull ∷ wordBusy
     ∷ wordMisnamed ∷ wordStuck ∷ wordUnmapped ∷ wordShort ∷ wordDivisor ∷ nameInt ∷ nameObject ∷ loaderLimit ∷ taskLimit
     ∷ classLimit ∷ keptLimit ∷ cacheLimit ∷ tieLimit ∷ subtypeLimit ∷ objectLimit
-    ∷ fieldLimit ∷ frameLimit ∷ operandLimit ∷ localCount ∷ runLimit ∷ listLimit ∷ versionOne ∷ versionTwo
-    ∷ fileLimit ∷ memberLimit ∷ codeLimit ∷ countClasses ∷ countKept ∷ countCache
+    ∷ fieldLimit ∷ frameLimit ∷ operandLimit ∷ localCount ∷ runLimit ∷ listLimit ∷ versionOne ∷ versionTwo ∷ versionThree
+    ∷ fileLimit ∷ memberLimit ∷ argumentLimit ∷ codeLimit ∷ countClasses ∷ countKept ∷ countCache
     ∷ countTies ∷ countSubtypes ∷ countObjects ∷ countFrames ∷ ownersCell ∷ tieNumbersCell ∷ subtypeNumbersCell ∷ rowCells ∷ valueCells
     ∷ fieldsCell ∷ objectCells ∷ methodCell ∷ pointCell ∷ depthCell ∷ localsCell
     ∷ operandsCell ∷ frameCells ∷ countsLength ∷ classesLength ∷ keptLength ∷ cacheLength

@@ -84,7 +84,8 @@ pub enum Condition {
     IfLess,
 }
 
-// What an opcode byte is: load, store and return go by a kind, arithmetic by an operator, a branch by its condition.
+// What an opcode byte is: load, store and return go by a kind, arithmetic by an operator, a branch by its condition. invokevirtual has one argument type
+// inline before version 3, a list from there on.
 pub enum Opcode {
     OpAconstNull,
     OpSipush,
@@ -96,6 +97,7 @@ pub enum Opcode {
     OpGetfield,
     OpPutfield,
     OpInvokevirtual,
+    OpInvokevirtualList,
     OpNew,
     OpReturn(Kind),
     OpBranch(Condition),

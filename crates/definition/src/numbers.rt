@@ -77,10 +77,14 @@ pub const LIST_LIMIT: usize = 512;
 pub const VERSION_ONE: u8 = 1;
 // The first with branches and maps, imul and idiv.
 pub const VERSION_TWO: u8 = 2;
+// The first with lists of arguments.
+pub const VERSION_THREE: u8 = 3;
 
 pub const FILE_LIMIT: usize = 4096;
 
 pub const MEMBER_LIMIT: u8 = 8;
+// The arguments of a method.
+pub const ARGUMENT_LIMIT: u8 = 4;
 
 pub const CODE_LIMIT: u16 = 512;
 
@@ -165,7 +169,7 @@ pub const INT_RANGE: usize = 4294967296;
 pub const SIGN_BIT: u32 = 2147483648;
 
 // Every number above, in the order of their names in specs/Numbers.antt.
-pub fn all_numbers() -> [u64; 74]
+pub fn all_numbers() -> [u64; 76]
     ensures { λ r. ⌜ r ≡ allNumbers ⌝ }
 {
     [
@@ -204,8 +208,10 @@ pub fn all_numbers() -> [u64; 74]
         LIST_LIMIT as u64,
         VERSION_ONE as u64,
         VERSION_TWO as u64,
+        VERSION_THREE as u64,
         FILE_LIMIT as u64,
         MEMBER_LIMIT as u64,
+        ARGUMENT_LIMIT as u64,
         CODE_LIMIT as u64,
         COUNT_CLASSES as u64,
         COUNT_KEPT as u64,
