@@ -103,7 +103,8 @@ unfoldable pub sizedAs : ℕ → Option Instruction → Option Decoded
 sizedAs n none = none
 sizedAs n (some i) = some (record { instruction = i; size = n })
 
--- the instruction at point p of code of that version; none past the end, for an unknown opcode, or if the end cuts its inline bytes off
+-- the instruction at point p of code of that version; none past the end, for an unknown opcode, for a count of arguments above 4, or if the end cuts its
+-- inline bytes off
 unfoldable pub decode : ℕ → List ℕ → ℕ → Option Decoded
 decode version code p =
     let o = opcodeOf version (getD code p 0) in

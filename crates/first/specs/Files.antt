@@ -20,7 +20,7 @@ use Rattle.definition.specs.Instructions.{pick, inlineLength, instructionOf, De
 unfoldable pub firstMethodsIn : ℕ → List ℕ → Option (Got (List Method))
 firstMethodsIn zero bs = some (record { value = []; more = bs })
 firstMethodsIn (suc k) bs =
-    signatureIn bs >>= λ s. short (s .more) >>= λ l.
+    signatureIn versionOne bs >>= λ s. short (s .more) >>= λ l.
     need (leb 1 (l .value) && leb (l .value) codeLimit && leb (l .value) (length (l .more))) >>= λ _.
     firstMethodsIn k (drop (l .value) (l .more)) >>= λ ms.
     some (record { value = record { signature = s .value; code = take (l .value) (l .more); maps = [] } ∷ ms .value; more = ms .more })
@@ -49,4 +49,5 @@ firstOpcodeOf b =
 unfoldable pub firstDecode : List ℕ → ℕ → Option Decoded
 firstDecode code p =
     let o = firstOpcodeOf (getD code p 0) in
-    elim (leb (p + suc (inlineLength o)) (length code)) [ true ↦ sizedAs (suc (inlineLength o)) (instructionOf code (p + 1) o) | false ↦ none ]
+    let n = suc (inlineLength code (p + 1) o) in
+    elim (leb (p + n) (length code)) [ true ↦ sizedAs n (instructionOf code (p + 1) o) | false ↦ none ]

@@ -5,11 +5,12 @@
 -- machine as `today` says, and what the paper names is a case of `Involved`. Of the papers so far:
 --
 -- 1, dead objects: `Carries` forgets the owners. No call of the first document frees a row, so none is involved.
--- 2, choices and loops: tables carry as before. Files of version 2 are involved: a define of one, and any call but boot on tables that keep one.
+-- 2, choices and loops: tables carry as before. Files of a later version are involved: a define of one, and any call but boot on tables that keep one.
 -- 3, why a load clashed: `Carries` forgets the numbers of rows, which are some that aren't broken. Every call of the first document numbers on, so none is involved. A tried
 -- load is no call of the first document, as a sweep is none.
 -- 6, hidden fields: tables carry as before. A define that the first document's machine refuses for a hidden field, with 8, is involved, and no other call: a kept file that hides a field
 -- was never broken, and both machines find a field's place by the class that declares it.
+-- 7, more than one argument: tables carry as before. Files of version 3 are involved as those of version 2 are. A signature of a version 1 file has a list of one argument, and a list of one does what the argument did.
 use mathlib.Core.Path.{_≡_, refl, ap}
 use mathlib.Core.Bool.{Bool, true, false}
 use mathlib.Core.List.{List, [], _∷_, map}

@@ -29,7 +29,7 @@ use Rattle.first.specs.Tables.{firstFileAt, firstClassAt}
 use Rattle.first.specs.Broken.{firstClassFits, firstClassesFit}
 use Rattle.first.specs.SameFiles.{laterFile, Old, Straight, same-read, read-early, read-old, same-decode, decode-straight}
 
--- the row's bytes begin with version 2
+-- the row's bytes begin with version 2 or 3
 unfoldable pub laterRow : List ℕ → ClassRow → Bool
 laterRow bs k = laterFile (take (k .size) (drop (k .start) bs))
 

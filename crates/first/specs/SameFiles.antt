@@ -1,4 +1,4 @@
--- Files of version 1 are read and verified as they were, and defined but for hidden fields, which the first document refused. A file of a later version begins with a 2.
+-- Files of version 1 are read and verified as they were, and defined but for hidden fields, which the first document refused. A file of a later version begins with a 2 or a 3.
 use mathlib.Core.Path.{_≡_, refl, sym, ap, _∙_}
 use mathlib.Core.Bool.{Bool, true, false, false≢true, not, _&&_}
 use mathlib.Core.Option.{Option, none, some, Option·none-ne-some, Option·some-injective}
@@ -8,17 +8,17 @@ use Prim.Native.Nat.{ℕ, zero, suc, _+_}
 use native.Mathlib.Omega.{arith}
 use lib.ListN.{length, drop, getD}
 use lib.Dec.{eqb, leb}
-use borrow.Author.Tests.{eqb-true, eqb-false, leb-true}
+use borrow.Author.Tests.{eqb-true, eqb-false, leb-true, leb-false}
 use Rattle.definition.specs.declared.Refusal.{Refusal}
 use Rattle.definition.specs.declared.Refusal.the-variants.{Word}
 use Rattle.definition.specs.declared.Kind.{Kind}
 use Rattle.definition.specs.declared.Operator.{Operator}
 use Rattle.definition.specs.declared.Operator.the-variants.{Add, Subtract, Multiply, Divide}
 use Rattle.definition.specs.declared.Opcode.{Opcode}
-use Rattle.definition.specs.declared.Opcode.the-variants.{OpAconstNull, OpSipush, OpLoad, OpStore, OpPop, OpDup, OpArithmetic, OpGetfield, OpPutfield, OpInvokevirtual, OpNew, OpReturn, OpBranch, OpUnknown}
+use Rattle.definition.specs.declared.Opcode.the-variants.{OpAconstNull, OpSipush, OpLoad, OpStore, OpPop, OpDup, OpArithmetic, OpGetfield, OpPutfield, OpInvokevirtual, OpInvokevirtualList, OpNew, OpReturn, OpBranch, OpUnknown}
 use Rattle.definition.specs.declared.Instruction.{Instruction}
 use Rattle.definition.specs.declared.Instruction.the-variants.{AconstNull, Sipush, Load, Store, Pop, Dup, Arithmetic, Getfield, Putfield, Invokevirtual, New, Return, Branch}
-use Rattle.definition.specs.Numbers.{wordHidden, versionOne, versionTwo}
+use Rattle.definition.specs.Numbers.{wordHidden, versionOne, versionTwo, versionThree}
 use Rattle.definition.specs.Lists.{any}
 use Rattle.definition.specs.Maybe.{_>>=_, need}
 use Rattle.definition.specs.Answers as Answers
@@ -33,10 +33,10 @@ use Rattle.layout.specs.Tests.{All}
 use Rattle.first.specs.Files.{firstMethodsIn, firstReadFile, firstOpcodeOf, firstDecode}
 use Rattle.first.specs.Verifier.{firstVerify, firstNotesOfMethod, firstNotesOf, firstDefine}
 
--- the bytes begin with version 2
+-- the bytes begin with version 2 or 3
 unfoldable pub laterFile : List ℕ → Bool
 laterFile [] = false
-laterFile (b ∷ bs) = eqb b versionTwo
+laterFile (b ∷ bs) = leb versionTwo b && leb b versionThree
 
 -- a version before 2
 abbrev pub Old : ℕ → Type 0
@@ -84,23 +84,24 @@ same-methods zero bs = refl
 same-methods (suc k) bs = bind-same _ _ _ (λ s. bind-same _ _ _ (λ (l : Got ℕ). bind-same _ _ _ (λ _.
     bind-known _ _ (no-maps (drop (l .value) (l .more))) _ _ (bind-eq _ _ (same-methods k (drop (l .value) (l .more))) _ _ (λ ms. refl)))))
 
-tested : (b : ℕ) (t : Bool) → eqb b versionOne ≡ t → eqb b versionTwo ≡ false → (leb versionOne b && leb b versionTwo) ≡ t
+tested : (b : ℕ) (t : Bool) → eqb b versionOne ≡ t → (leb versionTwo b && leb b versionThree) ≡ false → (leb versionOne b && leb b versionThree) ≡ t
 tested b true e n = rw (eqb-true b versionOne e) refl
-tested b false e n = go (leb versionOne b) refl (leb b versionTwo) refl
+tested b false e n = go (leb versionOne b) refl (leb b versionThree) refl (leb versionTwo b) refl n
   where
-    go : (x : Bool) → leb versionOne b ≡ x → (y : Bool) → leb b versionTwo ≡ y → (x && y) ≡ false
-    go true q true r = absurd (eqb-false b versionTwo n (omega (arith, leb-true versionOne b q, leb-true b versionTwo r, eqb-false b versionOne e)))
-    go true q false r = refl
-    go false q y r = refl
+    go : (x : Bool) → leb versionOne b ≡ x → (y : Bool) → leb b versionThree ≡ y → (z : Bool) → leb versionTwo b ≡ z → (z && y) ≡ false → (x && y) ≡ false
+    go true q true r true s h = absurd (false≢true (sym h))
+    go true q true r false s h = absurd (eqb-false b versionOne e (omega (arith, leb-true versionOne b q, leb-false versionTwo b s)))
+    go true q false r z s h = refl
+    go false q y r z s h = refl
 
-not-two : (bs : List ℕ) (v : Got ℕ) → laterFile bs ≡ false → byte bs ≡ some v → eqb (v .value) versionTwo ≡ false
+not-later : (bs : List ℕ) (v : Got ℕ) → laterFile bs ≡ false → byte bs ≡ some v → (leb versionTwo (v .value) && leb (v .value) versionThree) ≡ false
 unfolding laterFile byte
-not-two [] v h e = absurd (Option·none-ne-some v e)
-not-two (b ∷ bs) v h e = rw (sym (Option·some-injective _ _ e)) h
+not-later [] v h e = absurd (Option·none-ne-some v e)
+not-later (b ∷ bs) v h e = rw (sym (Option·some-injective _ _ e)) h
 
 pub same-read : (bs : List ℕ) → laterFile bs ≡ false → firstReadFile bs ≡ readFile bs
 unfolding firstReadFile readFile
-same-read bs h = bind-same _ _ _ (λ _. bind-in _ _ _ (λ v q. need-eq (eqb (v .value) versionOne) _ (tested (v .value) (eqb (v .value) versionOne) refl (not-two bs v h q)) _ _ (λ e.
+same-read bs h = bind-same _ _ _ (λ _. bind-in _ _ _ (λ v q. need-eq (eqb (v .value) versionOne) _ (tested (v .value) (eqb (v .value) versionOne) refl (not-later bs v h q)) _ _ (λ e.
     bind-same _ _ _ (λ n. bind-same _ _ _ (λ _. bind-same _ _ _ (λ c. bind-same _ _ _ (λ s. bind-same _ _ _ (λ k. bind-same _ _ _ (λ fs. bind-same _ _ _ (λ (j : Got ℕ).
     bind-eq _ _ (same-methods (j .value) (j .more) ∙ ap (λ (y : ℕ). methodsIn y (j .value) (j .more)) (sym (eqb-true (v .value) versionOne e))) _ _ (λ ms. refl)))))))))))
 
@@ -142,14 +143,21 @@ read-old l bs h f e = holds-at (λ g. OldClass (classOf l g)) (firstReadFile bs)
 
 -- Instructions: no branch, imul or idiv
 
+old-three : (version : ℕ) → Old version → leb versionThree version ≡ false
+old-three version h = go (leb versionThree version) refl
+  where
+    go : (t : Bool) → leb versionThree version ≡ t → t ≡ false
+    go true e = absurd (omega (arith, leb-true versionThree version e, leb-false versionTwo version h))
+    go false e = refl
+
 same-opcode : (version b : ℕ) → Old version → firstOpcodeOf b ≡ opcodeOf version b
 unfolding firstOpcodeOf opcodeOf
-same-opcode version b h = rw h (unfold pick in refl)
+same-opcode version b h = rw (h, old-three version h) (unfold pick in refl)
 
 pub same-decode : (version : ℕ) (code : List ℕ) (p : ℕ) → Old version → firstDecode code p ≡ decode version code p
 unfolding firstDecode decode
 same-decode version code p h = ap
-    (λ (o : Opcode). elim (leb (p + suc (inlineLength o)) (length code)) as (λ _. Option Decoded) [ true ↦ sizedAs (suc (inlineLength o)) (instructionOf code (p + 1) o) | false ↦ none ])
+    (λ (o : Opcode). elim (leb (p + suc (inlineLength code (p + 1) o)) (length code)) as (λ _. Option Decoded) [ true ↦ sizedAs (suc (inlineLength code (p + 1) o)) (instructionOf code (p + 1) o) | false ↦ none ])
     (same-opcode version (getD code p 0) h)
 
 -- an operator of version 1
@@ -170,6 +178,7 @@ PlainCode (OpArithmetic o) = Early o
 PlainCode OpGetfield = Unit {0}
 PlainCode OpPutfield = Unit {0}
 PlainCode OpInvokevirtual = Unit {0}
+PlainCode OpInvokevirtualList = ⊥
 PlainCode OpNew = Unit {0}
 PlainCode (OpReturn k) = Unit {0}
 PlainCode (OpBranch c) = ⊥
@@ -220,6 +229,7 @@ instruction-straight s i (OpArithmetic o) h = record { nowhere = refl; on = λ _
 instruction-straight s i OpGetfield h = record { nowhere = refl; on = λ _. refl; early = tt }
 instruction-straight s i OpPutfield h = record { nowhere = refl; on = λ _. refl; early = tt }
 instruction-straight s i OpInvokevirtual h = record { nowhere = refl; on = λ _. refl; early = tt }
+instruction-straight s i OpInvokevirtualList h = absurd h
 instruction-straight s i OpNew h = record { nowhere = refl; on = λ _. refl; early = tt }
 instruction-straight s i (OpReturn k) h = record { nowhere = refl; on = λ e. absurd (Option·none-ne-some k (sym e)); early = tt }
 instruction-straight s i (OpBranch c) h = absurd h
@@ -227,12 +237,12 @@ instruction-straight s i OpUnknown h = tt
 
 pub decode-straight : (code : List ℕ) (p : ℕ) → Holds (firstDecode code p) (λ i. Straight (i .instruction))
 unfolding firstDecode
-decode-straight code p = go (leb (p + suc (inlineLength o)) (length code)) (instructionOf code (p + 1) o) (instruction-straight code (p + 1) o (opcode-plain (getD code p 0)))
+decode-straight code p = go (leb (p + suc (inlineLength code (p + 1) o)) (length code)) (instructionOf code (p + 1) o) (instruction-straight code (p + 1) o (opcode-plain (getD code p 0)))
   where
     o : Opcode
     o = firstOpcodeOf (getD code p 0)
 
-    go : (t : Bool) (x : Option Instruction) → Holds x Straight → Holds {A = Decoded} (elim t as (λ _. Option Decoded) [ true ↦ sizedAs (suc (inlineLength o)) x | false ↦ none ]) (λ i. Straight (i .instruction))
+    go : (t : Bool) (x : Option Instruction) → Holds x Straight → Holds {A = Decoded} (elim t as (λ _. Option Decoded) [ true ↦ sizedAs (suc (inlineLength code (p + 1) o)) x | false ↦ none ]) (λ i. Straight (i .instruction))
     go true none h = unfold sizedAs in tt
     go true (some j) h = unfold sizedAs in h
     go false x h = tt

@@ -17,6 +17,7 @@ pub mod Slots
 pub mod FieldPlaces
 pub mod Members
 pub mod Sized
+pub mod Inline
 pub mod WalkTurns
 pub mod Walk
 pub mod Points

@@ -64,6 +64,15 @@ arguments-of (TwoArguments a b) = refl
 arguments-of (ThreeArguments a b c) = refl
 arguments-of (FourArguments a b c d) = refl
 
+pub types-of : (ts : List ℕ) (a : Arguments) → argumentsOf ts ≡ some a → typesOf a ≡ ts
+unfolding argumentsOf
+types-of [] a e = ap typesOf (sym (Option·some-injective _ _ e))
+types-of (t ∷ []) a e = ap typesOf (sym (Option·some-injective _ _ e))
+types-of (t ∷ u ∷ []) a e = ap typesOf (sym (Option·some-injective _ _ e))
+types-of (t ∷ u ∷ v ∷ []) a e = ap typesOf (sym (Option·some-injective _ _ e))
+types-of (t ∷ u ∷ v ∷ w ∷ []) a e = ap typesOf (sym (Option·some-injective _ _ e))
+types-of (t ∷ u ∷ v ∷ w ∷ x ∷ ts) a e = absurd (Option·none-ne-some a e)
+
 pub same-arguments : (a b : Arguments) → typesOf a ≡ typesOf b → a ≡ b
 same-arguments a b e = Option·some-injective a b (sym (arguments-of a) ∙ ap argumentsOf e ∙ arguments-of b)
 

@@ -18,17 +18,17 @@ sized-as n (some j) i e = let z : suc n ≡ i .size = ap (λ (d : Decoded). d .s
 
 pub within : (v : ℕ) (s : List ℕ) (p : ℕ) (i : Decoded) → decode v s p ≡ some i → p < length s
 unfolding decode
-within v s p i h = go (leb (p + suc (inlineLength (opcodeOf v (getD s p 0)))) (length s)) refl h
+within v s p i h = go (leb (p + suc (inlineLength s (p + 1) (opcodeOf v (getD s p 0)))) (length s)) refl h
   where
-    go : (t : Bool) → leb (p + suc (inlineLength (opcodeOf v (getD s p 0)))) (length s) ≡ t
-        → (elim t as (λ _. Option Decoded) [ true ↦ sizedAs (suc (inlineLength (opcodeOf v (getD s p 0)))) (instructionOf s (p + 1) (opcodeOf v (getD s p 0))) | false ↦ none ]) ≡ some i → p < length s
-    go true q e = let l = leb-true (p + suc (inlineLength (opcodeOf v (getD s p 0)))) (length s) q in omega arith
+    go : (t : Bool) → leb (p + suc (inlineLength s (p + 1) (opcodeOf v (getD s p 0)))) (length s) ≡ t
+        → (elim t as (λ _. Option Decoded) [ true ↦ sizedAs (suc (inlineLength s (p + 1) (opcodeOf v (getD s p 0)))) (instructionOf s (p + 1) (opcodeOf v (getD s p 0))) | false ↦ none ]) ≡ some i → p < length s
+    go true q e = let l = leb-true (p + suc (inlineLength s (p + 1) (opcodeOf v (getD s p 0)))) (length s) q in omega arith
     go false q e = absurd (Option·none-ne-some i e)
 
 pub sized : (v : ℕ) (s : List ℕ) (p : ℕ) (i : Decoded) → decode v s p ≡ some i → 0 < i .size
 unfolding decode
-sized v s p i h = go (leb (p + suc (inlineLength (opcodeOf v (getD s p 0)))) (length s)) h
+sized v s p i h = go (leb (p + suc (inlineLength s (p + 1) (opcodeOf v (getD s p 0)))) (length s)) h
   where
-    go : (t : Bool) → (elim t as (λ _. Option Decoded) [ true ↦ sizedAs (suc (inlineLength (opcodeOf v (getD s p 0)))) (instructionOf s (p + 1) (opcodeOf v (getD s p 0))) | false ↦ none ]) ≡ some i → 0 < i .size
+    go : (t : Bool) → (elim t as (λ _. Option Decoded) [ true ↦ sizedAs (suc (inlineLength s (p + 1) (opcodeOf v (getD s p 0)))) (instructionOf s (p + 1) (opcodeOf v (getD s p 0))) | false ↦ none ]) ≡ some i → 0 < i .size
     go true e = sized-as _ _ i e
     go false e = absurd (Option·none-ne-some i e)

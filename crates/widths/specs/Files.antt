@@ -3,24 +3,26 @@ use mathlib.Core.Path.{_≡_, refl}
 use mathlib.Core.Bool.{Bool, true, false, _&&_}
 use mathlib.Core.Option.{Option, none, some}
 use mathlib.Core.List.{List, [], _∷_, map}
-use Prim.Native.Nat.{ℕ, zero, suc, _+_, _<_, _≤_}
+use Prim.Native.Nat.{ℕ, zero, suc, _+_, _*_, _<_, _≤_}
 use native.Mathlib.Omega.{arith}
 use lib.ListN.{length, take, drop, getD, getElem?, length-take}
 use lib.Dec.{leb, ltb}
 use borrow.Author.Tests.{leb-true}
+use Rattle.definition.specs.declared.Arguments.{Arguments}
 use Rattle.definition.specs.declared.Signature.{Signature}
 use Rattle.definition.specs.declared.Opcode.{Opcode}
-use Rattle.definition.specs.declared.Opcode.the-variants.{OpAconstNull, OpSipush, OpLoad, OpStore, OpPop, OpDup, OpArithmetic, OpGetfield, OpPutfield, OpInvokevirtual, OpNew, OpReturn, OpBranch, OpUnknown}
+use Rattle.definition.specs.declared.Opcode.the-variants.{OpAconstNull, OpSipush, OpLoad, OpStore, OpPop, OpDup, OpArithmetic, OpGetfield, OpPutfield, OpInvokevirtual, OpInvokevirtualList, OpNew, OpReturn, OpBranch, OpUnknown}
 use Rattle.definition.specs.declared.Instruction.{Instruction}
 use Rattle.definition.specs.declared.Instruction.the-variants.{AconstNull, Sipush, Load, Store, Pop, Dup, Arithmetic, Getfield, Putfield, Invokevirtual, New, Return, Branch}
 use Rattle.definition.specs.Maybe.{_>>=_, need}
-use Rattle.definition.specs.Classes.{Base, Class, Map, Method, methodsOf, signatureTypes}
-use Rattle.definition.specs.File.{File, Got, byte, short, name, count, fieldsIn, namesIn, mapIn, mapsFrom, mapsIn, methodsIn, readFile, classOf, objectClass, signatureIn}
-use Rattle.definition.specs.Instructions.{opcodeOf, inlineLength, shortAt, extend, instructionOf, Decoded, sizedAs, decode}
+use Rattle.definition.specs.Classes.{Base, Class, Map, Method, argumentsOf, methodsOf, signatureTypes, typesOf}
+use Rattle.definition.specs.File.{File, Got, byte, short, name, count, fieldsIn, namesIn, mapIn, mapsFrom, mapsIn, methodsIn, readFile, classOf, objectClass, oneIn, listIn, argumentsIn, signatureIn}
+use Rattle.definition.specs.Instructions.{opcodeOf, inlineLength, shortAt, shortsAt, listSignatureAt, extend, instructionOf, Decoded, sizedAs, decode}
 use Rattle.definition.specs.Tables.{ClassRow, fileAt, classAt}
 use Rattle.definition.specs.Widths.{EachBelow}
+use Rattle.laws.specs.Members.{types-of}
 use Rattle.laws.specs.Tests.{and-true}
-use Rattle.layout.specs.Tests.{All}
+use Rattle.layout.specs.Tests.{All, all-both}
 use Rattle.unbroken.specs.Steps.{all-nth}
 use Rattle.widths.specs.Below.{all-map, below-cell, below-take, below-drop}
 
@@ -115,19 +117,41 @@ pub record MethodsFit (k : ℕ) (ms : List Method) : Type 0 where
   pub many : length ms ≤ k
   pub each : All MethodFits ms
 
-signature-fits : (bs : List ℕ) → EachBelow 256 bs → Read (signatureIn bs) (GotFits SignatureFits)
-unfolding signatureIn
-signature-fits bs h =
-    read-on (GotFits Short) (GotFits SignatureFits) _ _ (name-fits 1 bs h) (λ n x.
-    read-on (GotFits Short) (GotFits SignatureFits) _ _ (name-fits 1 (n .more) (x .more)) (λ a y.
-    read-on (GotFits Short) (GotFits SignatureFits) _ _ (name-fits 1 (a .more) (y .more)) (λ r z. record { value = (y .value, (z .value, tt)); more = z .more })))
-
 names-fit : (n k : ℕ) (bs : List ℕ) → EachBelow 256 bs → Read (namesIn n k bs) (GotFits (All Short))
 unfolding namesIn
 names-fit n zero bs h = record { value = tt; more = h }
 names-fit n (suc k) bs h =
     read-on (GotFits Short) (GotFits (All Short)) _ _ (name-fits n bs h) (λ t x.
     read-on (GotFits (All Short)) (GotFits (All Short)) _ _ (names-fit n k (t .more) (x .more)) (λ ts y. record { value = (x .value, y .value); more = y .more }))
+
+-- arguments of a list of types
+arguments-fit : (ts : List ℕ) → All Short ts → Read (argumentsOf ts) (λ a. All Short (typesOf a))
+arguments-fit ts h = go (argumentsOf ts) refl
+  where
+    go : (o : Option Arguments) → argumentsOf ts ≡ o → Read o (λ a. All Short (typesOf a))
+    go none e = tt
+    go (some a) e = rw (types-of ts a e) h
+
+arguments-in-fit : (version : ℕ) (bs : List ℕ) → EachBelow 256 bs → Read (argumentsIn version bs) (GotFits (λ a. All Short (typesOf a)))
+unfolding argumentsIn listIn oneIn
+arguments-in-fit version bs h = go (leb 3 version)
+  where
+    A : Arguments → Type 0
+    A a = All Short (typesOf a)
+
+    go : (t : Bool) → Read (elim t as (λ _. Option (Got Arguments)) [ true ↦ listIn bs | false ↦ oneIn bs ]) (GotFits A)
+    go true = read-on (GotFits (λ b. b < 256)) (GotFits A) _ _ (byte-fits bs h) (λ k x. read-need (GotFits A) _ _ (λ _.
+        read-on (GotFits (All Short)) (GotFits A) _ _ (names-fit 1 (k .value) (k .more) (x .more)) (λ ts y.
+        read-on A (GotFits A) _ _ (arguments-fit (ts .value) (y .value)) (λ a z. record { value = z; more = y .more }))))
+    go false = read-on (GotFits Short) (GotFits A) _ _ (name-fits 1 bs h) (λ a x. record { value = (x .value, tt); more = x .more })
+
+signature-fits : (version : ℕ) (bs : List ℕ) → EachBelow 256 bs → Read (signatureIn version bs) (GotFits SignatureFits)
+unfolding signatureIn
+signature-fits version bs h =
+    read-on (GotFits Short) (GotFits SignatureFits) _ _ (name-fits 1 bs h) (λ n x.
+    read-on (GotFits (λ a. All Short (typesOf a))) (GotFits SignatureFits) _ _ (arguments-in-fit version (n .more) (x .more)) (λ a y.
+    read-on (GotFits Short) (GotFits SignatureFits) _ _ (name-fits 1 (a .more) (y .more)) (λ r z.
+    record { value = all-both Short (typesOf (a .value)) (r .value ∷ []) (y .value) (z .value, tt); more = z .more })))
 
 map-fits : (o : ℕ) (bs : List ℕ) → EachBelow 256 bs → Read (mapIn o bs) (GotFits MapFits)
 unfolding mapIn
@@ -157,7 +181,7 @@ methods-fit : (version k : ℕ) (bs : List ℕ) → EachBelow 256 bs → Read (m
 unfolding methodsIn
 methods-fit version zero bs h = record { value = record { many = omega arith; each = tt }; more = h }
 methods-fit version (suc k) bs h =
-    read-on (GotFits SignatureFits) G _ _ (signature-fits bs h) (λ s x.
+    read-on (GotFits SignatureFits) G _ _ (signature-fits version bs h) (λ s x.
     read-on (GotFits Short) G _ _ (short-fits (s .more) (x .more)) (λ l w.
     read-need G _ _ (λ e.
     read-on (GotFits (All MapFits)) G _ _ (maps-fit version (drop (l .value) (l .more)) (below-drop 256 (l .value) (l .more) (w .more))) (λ maps z.
@@ -267,6 +291,16 @@ module _ (code : List ℕ) (h : EachBelow 256 code) where
       go true = omega arith
       go false = omega arith
 
+  shorts-at : (i n : ℕ) → All Short (shortsAt code i n)
+  unfolding shortsAt
+  shorts-at i zero = tt
+  shorts-at i (suc n) = (short-at i, shorts-at (i + 2) n)
+
+  list-fits : (i n : ℕ) → Read (listSignatureAt code i n) SignatureFits
+  unfolding listSignatureAt
+  list-fits i n = read-need SignatureFits _ _ (λ _. read-on (λ a. All Short (typesOf a)) SignatureFits _ _ (arguments-fit (shortsAt code (i + 3) n) (shorts-at (i + 3) n)) (λ a h.
+      all-both Short (typesOf a) (shortAt code (i + 3 + 2 * n) ∷ []) h (short-at (i + 3 + 2 * n), tt)))
+
   instruction-fits : (i : ℕ) (o : Opcode) → Read (instructionOf code i o) InstructionFits
   unfolding instructionOf
   instruction-fits i OpAconstNull = tt
@@ -279,6 +313,7 @@ module _ (code : List ℕ) (h : EachBelow 256 code) where
   instruction-fits i OpGetfield = (short-at i, short-at (i + 4))
   instruction-fits i OpPutfield = (short-at i, short-at (i + 4))
   instruction-fits i OpInvokevirtual = (short-at i, (short-at (i + 2 + 2), (short-at (i + 2 + 4), tt)))
+  instruction-fits i OpInvokevirtualList = read-on SignatureFits InstructionFits _ _ (list-fits (i + 2) (getD code (i + 4) 0)) (λ m h. (short-at i, h))
   instruction-fits i OpNew = short-at i
   instruction-fits i (OpReturn kind) = tt
   instruction-fits i (OpBranch c) = short-at i
@@ -291,10 +326,10 @@ module _ (code : List ℕ) (h : EachBelow 256 code) where
 
   pub decode-fits : (v p : ℕ) → Read (decode v code p) (DecodedFits p)
   unfolding decode sizedAs
-  decode-fits v p = go (leb (p + suc (inlineLength (opcodeOf v (getD code p 0)))) (length code)) refl
+  decode-fits v p = go (leb (p + suc (inlineLength code (p + 1) (opcodeOf v (getD code p 0)))) (length code)) refl
     where
       n : ℕ
-      n = suc (inlineLength (opcodeOf v (getD code p 0)))
+      n = suc (inlineLength code (p + 1) (opcodeOf v (getD code p 0)))
 
       sized : p + n ≤ length code → (o : Option Instruction) → Read o InstructionFits → Read (sizedAs n o) (DecodedFits p)
       sized l none x = tt
