@@ -6,4 +6,5 @@ pub mod Sweeps
 pub mod Branches
 pub mod Rates
 pub mod HiddenFields
+pub mod Arguments
 pub mod Tried

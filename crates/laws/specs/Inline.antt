@@ -2,7 +2,7 @@
 -- posts five ties at most, on a name one.
 use mathlib.Core.Path.{_≡_, refl, sym, ap, _∙_}
 use mathlib.Core.Bool.{Bool, true, false, _||_}
-use mathlib.Core.Option.{Option, none, some}
+use mathlib.Core.Option.{Option, none, some, Option·none-ne-some}
 use mathlib.Core.List.{List, [], _∷_, _++_}
 use Prim.Native.Nat.{ℕ, suc, _+_, _<_, _≤_}
 use native.Mathlib.Omega.{arith}
@@ -15,7 +15,6 @@ use Rattle.definition.specs.declared.Signature.{Signature}
 use Rattle.definition.specs.declared.Opcode.{Opcode}
 use Rattle.definition.specs.declared.Opcode.the-variants.{OpInvokevirtual, OpInvokevirtualList}
 use Rattle.definition.specs.declared.Instruction.{Instruction}
-use Rattle.definition.specs.declared.Instruction.the-variants.{Invokevirtual}
 use Rattle.definition.specs.Numbers.{versionThree, argumentLimit}
 use Rattle.definition.specs.Lists.{any}
 use Rattle.definition.specs.Maybe.{_>>=_, need}
@@ -34,17 +33,18 @@ pub above-four : (s : List ℕ) (i : ℕ) → argumentLimit < getD s (i + 4) 0 �
 unfolding instructionOf listSignatureAt
 above-four s i h = rw (lt-leb (getD s (i + 4) 0) argumentLimit h) (unfold need _>>=_ in refl)
 
+unread : (n : ℕ) (t : Bool) (x : Option Instruction) → x ≡ none → _≡_ {A = Option Decoded} (elim t as (λ _. Option Decoded) [ true ↦ sizedAs n x | false ↦ none ]) none
+unfolding sizedAs
+unread n true none e = refl
+unread n true (some i) e = absurd (Option·none-ne-some i (sym e))
+unread n false x e = refl
+
 pub above-unread : (version : ℕ) (code : List ℕ) (p : ℕ) → leb versionThree version ≡ true → getD code p 0 ≡ 0xB6 → argumentLimit < getD code (p + 1 + 4) 0 → decode version code p ≡ none
 unfolding decode
-above-unread version code p v b h = go (opcodeOf version (getD code p 0)) (ap (opcodeOf version) b ∙ invoke-read version ∙ (rw v (unfold pick in refl)))
-  where
-    go : (o : Opcode) → o ≡ OpInvokevirtualList
-        → (elim (leb (p + suc (inlineLength code (p + 1) o)) (length code)) as (λ _. Option Decoded) [ true ↦ sizedAs (suc (inlineLength code (p + 1) o)) (instructionOf code (p + 1) o) | false ↦ none ]) ≡ none
-    go o e = rw (e, above-four code (p + 1) h) (either (leb (p + suc (inlineLength code (p + 1) OpInvokevirtualList)) (length code)))
-      where
-        either : (t : Bool) → (elim t as (λ _. Option Decoded) [ true ↦ sizedAs (suc (inlineLength code (p + 1) OpInvokevirtualList)) none | false ↦ none ]) ≡ none
-        either true = unfold sizedAs in refl
-        either false = refl
+above-unread version code p v b h =
+    let q : opcodeOf version (getD code p 0) ≡ OpInvokevirtualList = ap (opcodeOf version) b ∙ invoke-read version ∙ (rw v (unfold pick in refl)) in
+    let n = suc (inlineLength code (p + 1) (opcodeOf version (getD code p 0))) in
+    unread n (leb (p + n) (length code)) (instructionOf code (p + 1) (opcodeOf version (getD code p 0))) (ap (instructionOf code (p + 1)) q ∙ above-four code (p + 1) h)
 
 -- At most four arguments, so five types and five ties
 
@@ -59,7 +59,7 @@ pub one-tie : (ts : List Tie) (l m n : ℕ) → length (newTie ts l m n) ≤ 1
 unfolding newTie
 one-tie ts l m n = go (eqb l m || eqb n 1 || any (tieIs l m n) ts)
   where
-    go : (z : Bool) → length (elim z as (λ _. List Tie) [ true ↦ [] | false ↦ record { one = l; two = m; name = n } ∷ [] ]) ≤ 1
+    go : (z : Bool) → length {A = Tie} (elim z as (λ _. List Tie) [ true ↦ [] | false ↦ record { one = l; two = m; name = n } ∷ [] ]) ≤ 1
     go true = omega arith
     go false = omega arith
 
