@@ -1,5 +1,6 @@
 // Cells of a table, read and written totally: a read past the end answers 0, a write past the end does nothing.
 pub mod arguments;
+
 use definition::numbers::BYTE_RANGE;
 use definition::numbers::ROW_CELLS;
 use definition::numbers::SIGN_BIT;
