@@ -20,6 +20,7 @@ use Rattle.definition.specs.Lists.{any}
 use Rattle.definition.specs.Maybe.{_>>=_, need}
 use Rattle.definition.specs.Classes.{argumentTypes, signatureTypes, typesOf}
 use Rattle.definition.specs.Constraints.{Tie, newTie, newTies, signatureTies, tieIs}
+use Rattle.definition.specs.File.{byte, oneIn, listIn, argumentsIn}
 use Rattle.definition.specs.Instructions.{pick, opcodeOf, inlineLength, listSignatureAt, instructionOf, Decoded, sizedAs, decode}
 
 -- the byte B6 says a list from version 3 on, one type before
@@ -27,7 +28,20 @@ pub invoke-read : (version : ℕ) → opcodeOf version 0xB6 ≡ pick (leb versio
 unfolding opcodeOf pick
 invoke-read version = refl
 
--- A count above 4 can't be read
+-- Before version 3 a method has one argument type, and so has a call
+
+pub one-in : (version : ℕ) (bs : List ℕ) → leb versionThree version ≡ false → argumentsIn version bs ≡ oneIn bs
+unfolding argumentsIn
+one-in version bs h = rw (h, argumentsIn) refl
+
+pub one-inline : (version : ℕ) → leb versionThree version ≡ false → opcodeOf version 0xB6 ≡ OpInvokevirtual
+one-inline version h = invoke-read version ∙ (rw h (unfold pick in refl))
+
+-- A count above 4 is a bad file in a method, and can't be read inline
+
+pub above-bad : (n : ℕ) (bs : List ℕ) → argumentLimit < n → listIn (n ∷ bs) ≡ none
+unfolding listIn byte _>>=_ need
+above-bad n bs h = rw (lt-leb n argumentLimit h) refl
 
 pub above-four : (s : List ℕ) (i : ℕ) → argumentLimit < getD s (i + 4) 0 → instructionOf s i OpInvokevirtualList ≡ none
 unfolding instructionOf listSignatureAt
