@@ -19,10 +19,10 @@ initialOf t = pick (eqb t 1) (intValue 0) nullValue
 abbrev pub initialObject : ℕ → List ℕ → ℕ → Object
 initialObject c ts n = record { class = c; values = rows (λ i. initialOf (getD ts i 0)) n 0 }
 
--- locals 2 to 7 emptied
+-- locals 5 to 7 emptied
 unfoldable pub putEmpty : ℕ → List ℕ → List ℕ
 putEmpty b t =
-    putLocal b (putLocal b (putLocal b (putLocal b (putLocal b (putLocal b t 7 emptyValue) 6 emptyValue) 5 emptyValue) 4 emptyValue) 3 emptyValue) 2 emptyValue
+    putLocal b (putLocal b (putLocal b t 7 emptyValue) 6 emptyValue) 5 emptyValue
 
 pub initial-value : (s : Slot) → initialValue s ≡ initialOf (s .type)
 unfolding initialValue initialOf pick

@@ -17,6 +17,7 @@ use definition::numbers::OPERANDS_CELL;
 use definition::numbers::POINT_CELL;
 use definition::numbers::VALUE_CELLS;
 ghost use mathlib.Core.Path.{_≡_};
+ghost use mathlib.Core.List.{[], _∷_};
 ghost use Prim.Native.Nat.{_+_, _*_, _<_};
 ghost use lib.ListN.{getD, set};
 ghost use Rattle.definition.specs.Numbers.{objectCells, methodCell, pointCell, depthCell};
@@ -40,12 +41,15 @@ pub struct Cell {
     pub bits: u32,
 }
 
-// A frame to be entered: a class and its method, the object that is this, and the argument.
+// A frame to be entered: a class and its method, the object that is this, and four arguments, of which those that the method hasn't are empty.
 pub struct Entry {
     pub class: u32,
     pub method: u32,
     pub object: u32,
-    pub argument: Cell,
+    pub first: Cell,
+    pub second: Cell,
+    pub third: Cell,
+    pub fourth: Cell,
 }
 
 // The top frame of a task: its row, the cell at which that row begins, its number of operands, and the loader of its class.
@@ -210,18 +214,18 @@ fn write_empty(frames: &mut [u32], b: u32)
     write_local(frames, b, 7, empty);
     write_local(frames, b, 6, empty);
     write_local(frames, b, 5, empty);
-    write_local(frames, b, 4, empty);
-    write_local(frames, b, 3, empty);
-    write_local(frames, b, 2, empty);
 }
 
 // A frame entered, in the row at cell b.
 pub fn write_entry(frames: &mut [u32], b: u32, e: Entry)
-    ensures { λ _. ⌜ now (frames .exit) ≡ putFrame (now (frames .entry)) b (entryFrame (e .class) (e .method) (e .object) (valueOf (e .argument .kind) (e .argument .bits))) ⌝ }
+    ensures { λ _. ⌜ now (frames .exit) ≡ putFrame (now (frames .entry)) b (entryFrame (e .class) (e .method) (e .object) (valueOf (e .first .kind) (e .first .bits) ∷ valueOf (e .second .kind) (e .second .bits) ∷ valueOf (e .third .kind) (e .third .bits) ∷ valueOf (e .fourth .kind) (e .fourth .bits) ∷ [])) ⌝ }
 {
     write_head(frames, b, e.class, e.method);
     write_empty(frames, b);
-    write_local(frames, b, 1, e.argument);
+    write_local(frames, b, 4, e.fourth);
+    write_local(frames, b, 3, e.third);
+    write_local(frames, b, 2, e.second);
+    write_local(frames, b, 1, e.first);
     write_local(
         frames,
         b,

@@ -1,4 +1,4 @@
--- Locals 2 to 7 of a frame are written as not set.
+-- Locals 5 to 7 of a frame are written as not set.
 use borrow.Author.Needs.{needs}
 use Rattle.frames.specs.Initial.{putEmpty}
 use Rattle.definition.specs.Instructions.{pick}
@@ -9,21 +9,9 @@ use Rattle.frames.proofs.write_empty.Tie as tie
 returns : tie.Need-returns
 unfolding putEmpty valueOf pick
 returns c =
-    let at10 = c .before .before .before .before .before .before .before .before .before .before in
-    let at14 = at10 .before .before .before .before in
-    let at18 = at14 .before .before .before .before in
-    let at22 = at18 .before .before .before .before in
-    rw (c .before .before .write-local6 .ensures, c .before .before .before .before .before .before .write-local5 .ensures, at10 .write-local4 .ensures, at14 .write-local3 .ensures, at18 .write-local2 .ensures, at22 .write-local .ensures)
+    let at6 = c .before .before .before .before .before .before in
+    let at10 = at6 .before .before .before .before in
+    rw (c .before .before .write-local3 .ensures, at6 .write-local2 .ensures, at10 .write-local .ensures)
 
 pub write-empty-spec : {M : Type 1} → statement M
-write-empty-spec =
-    tie.close
-    (tie.spec
-    (λ c κs. search needs)
-    (λ c κs. search needs)
-    (λ c κs. search needs)
-    (λ c κs. search needs)
-    (λ c κs. search needs)
-    (λ c κs. search needs)
-    (λ c. search needs)
-    returns)
+write-empty-spec = tie.close (tie.spec (λ c κs. search needs) (λ c κs. search needs) (λ c κs. search needs) (λ c. search needs) returns)
