@@ -148,7 +148,7 @@ module _ (B : Base) (N L K E I S O F : List ℕ) (k m b q : ℕ) (us : List Tie)
       (object-set before B o i (valueOf (v .kind) (v .bits)) (l .0) (l .1) (f .1)) (top-kept before k m (r .low) q d))))
 
   pub out-enter : (d : ℕ) (x : Entry) (D G : List ℕ) → p ≡ Enter d x → D ≡ set C (6 + k) (m + 2)
-      → G ≡ putFrame (moved F b q d) (frameBase k (m + 1)) (entryFrame (x .class) (x .method) (x .object) (valueOf (x .argument .kind) (x .argument .bits))) → done (Ran k) (tables (numberedTies N us D) L K E J S O G) ≡ plans
+      → G ≡ putFrame (moved F b q d) (frameBase k (m + 1)) (entryFrame (x .class) (x .method) (x .object) (entryValues x)) → done (Ran k) (tables (numberedTies N us D) L K E J S O G) ≡ plans
   unfolding planned meaning _>>=_ carried answerOf
   out-enter d x D G e f g =
       let h : suc m < 32 = rw e at (r .fits) in
@@ -156,8 +156,8 @@ module _ (B : Base) (N L K E I S O F : List ℕ) (k m b q : ℕ) (us : List Tie)
       let z : m + 1 ≡ suc m = omega arith in
       rw (e, f, g, c, j, r .row, y, z)
       (ap (done (Ran k)) (sym (same-objects B before k m q us (r .two) (objectsOf B before) _ none (suc (suc m)) O
-      (putFrame (moved F (frameBase k m) q d) (frameBase k (suc m)) (entryFrame (x .class) (x .method) (x .object) (valueOf (x .argument .kind) (x .argument .bits)))) (objects-fill before B)
-      (top-entered before k m (r .low) q d (entryFrame (x .class) (x .method) (x .object) (valueOf (x .argument .kind) (x .argument .bits))) h (omega arith) (omega arith)))))
+      (putFrame (moved F (frameBase k m) q d) (frameBase k (suc m)) (entryFrame (x .class) (x .method) (x .object) (entryValues x))) (objects-fill before B)
+      (top-entered before k m (r .low) q d (entryFrame (x .class) (x .method) (x .object) (entryValues x)) h (omega arith) (omega arith)))))
 
   -- the count n of objects rises only if row o is the next
   pub out-make : (d s o n : ℕ) (D G P : List ℕ) → p ≡ Make d s o → n ≡ getD N 5 0 → D ≡ set (set C 5 (rowsWith o n)) (8 + o) (suc k)
@@ -242,7 +242,7 @@ Left B N O F k m b q (Give v) a C P G =
 Left B N O F k m b q (Finish v) a C P G = (a ≡ Finished k v) × (C ≡ set N (6 + k) 0) × (P ≡ O) × (G ≡ F)
 Left B N O F k m b q (Field d o i v) a C P G = (a ≡ Ran k) × (C ≡ N) × (P ≡ putField o O i (valueOf (v .kind) (v .bits))) × (G ≡ moved F b q d)
 Left B N O F k m b q (Enter d e) a C P G =
-    (a ≡ Ran k) × (C ≡ set N (6 + k) (m + 2)) × (P ≡ O) × (G ≡ putFrame (moved F b q d) (frameBase k (m + 1)) (entryFrame (e .class) (e .method) (e .object) (valueOf (e .argument .kind) (e .argument .bits))))
+    (a ≡ Ran k) × (C ≡ set N (6 + k) (m + 2)) × (P ≡ O) × (G ≡ putFrame (moved F b q d) (frameBase k (m + 1)) (entryFrame (e .class) (e .method) (e .object) (entryValues e)))
 Left B N O F k m b q (Make d s o) a C P G =
     (a ≡ Ran k) × (C ≡ set (set N 5 (rowsWith o (getD N 5 0))) (8 + o) (suc k)) × (P ≡ putObject O o (newObject B s))
     × (G ≡ putOperand b (moved F b q (d + 1)) d (objectValue o))

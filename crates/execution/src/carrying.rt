@@ -108,7 +108,7 @@ fn give(counts: &mut [u16], frames: &mut [u32], top: Top, v: Cell)
 fn enter(counts: &mut [u16], frames: &mut [u32], top: Top, q: u32, d: u32, e: Entry)
     requires { ⌜ top .row < frameLimit ⌝ }
     ensures counted { λ _. ⌜ now (counts .exit) ≡ set (now (counts .entry)) (countFrames + top .task) (top .row + 2) ⌝ }
-    ensures written { λ _. ⌜ now (frames .exit) ≡ putFrame (moved (now (frames .entry)) (top .base) q d) (frameBase (top .task) (top .row + 1)) (entryFrame (e .class) (e .method) (e .object) (valueOf (e .argument .kind) (e .argument .bits))) ⌝ }
+    ensures written { λ _. ⌜ now (frames .exit) ≡ putFrame (moved (now (frames .entry)) (top .base) q d) (frameBase (top .task) (top .row + 1)) (entryFrame (e .class) (e .method) (e .object) (entryValues e)) ⌝ }
 {
     let m = top.row;
     frames::write_moved(frames, top.base, q, d);

@@ -17,14 +17,13 @@ use definition::numbers::OPERANDS_CELL;
 use definition::numbers::POINT_CELL;
 use definition::numbers::VALUE_CELLS;
 ghost use mathlib.Core.Path.{_≡_};
-ghost use mathlib.Core.List.{[], _∷_};
 ghost use Prim.Native.Nat.{_+_, _*_, _<_};
 ghost use lib.ListN.{getD, set};
 ghost use Rattle.definition.specs.Numbers.{objectCells, methodCell, pointCell, depthCell};
 ghost use Rattle.definition.specs.Machine.{entryFrame};
 ghost use Rattle.definition.specs.Tables.{valueOf, valueAt, putCells, operandAt, putOperand, localAt, putLocal, fieldAt, putField, putHead, putFrame, putObject, frameBase};
 ghost use Rattle.layout.specs.Cells.{moved};
-ghost use Rattle.frames.specs.Initial.{initialOf, initialObject, putEmpty};
+ghost use Rattle.frames.specs.Initial.{initialOf, initialObject, putEmpty, entryValues};
 pub use owners::is_used;
 pub use owners::owner;
 pub use owners::unused;
@@ -218,7 +217,7 @@ fn write_empty(frames: &mut [u32], b: u32)
 
 // A frame entered, in the row at cell b.
 pub fn write_entry(frames: &mut [u32], b: u32, e: Entry)
-    ensures { λ _. ⌜ now (frames .exit) ≡ putFrame (now (frames .entry)) b (entryFrame (e .class) (e .method) (e .object) (valueOf (e .first .kind) (e .first .bits) ∷ valueOf (e .second .kind) (e .second .bits) ∷ valueOf (e .third .kind) (e .third .bits) ∷ valueOf (e .fourth .kind) (e .fourth .bits) ∷ [])) ⌝ }
+    ensures { λ _. ⌜ now (frames .exit) ≡ putFrame (now (frames .entry)) b (entryFrame (e .class) (e .method) (e .object) (entryValues e)) ⌝ }
 {
     write_head(frames, b, e.class, e.method);
     write_empty(frames, b);

@@ -16,6 +16,7 @@ use Rattle.definition.specs.Answers.{Result, refused, ok, _>>=_, take?}
 use Rattle.definition.specs.Machine.{Value, intValue, objectValue, Objects, Frame, existing, made, changed, newObject, entryFrame, Progress, give, execute}
 use Rattle.definition.specs.Tables.{Tables, valueOf, operandAt, localAt, frameOf, frameBase, frameIn, sizeOf, usedFields, objectAt}
 use Rattle.layout.specs.Cells.{frameWith, withField}
+use Rattle.frames.specs.Initial.{entryValues}
 use Rattle.frames.specs.Unused.{isUsed, unusedFrom}
 pub use Rattle.instructions.specs.declared.Plan.{Plan}
 pub use Rattle.instructions.specs.declared.Plan.the-variants.{Refuse, Keep, Jump, Above, Local, Give, Finish, Field, Enter, Make}
@@ -44,7 +45,7 @@ module _ (task : ℕ) (w : World) (os : Objects) (fs : List Frame) (F : List ℕ
   meaning (Give v) = give fs w os (valueOf (v .kind) (v .bits))
   meaning (Finish v) = ok (record { world = w; objects = os; frames = []; result = some v })
   meaning (Field d o j v) = take? (existing os o) (Word 14) >>= λ x. leaves (changed os o (withField x j (valueOf (v .kind) (v .bits)))) (frameOf F b q d ∷ fs)
-  meaning (Enter d e) = leaves os (entryFrame (e .class) (e .method) (e .object) (valueOf (e .argument .kind) (e .argument .bits)) ∷ frameOf F b q d ∷ fs)
+  meaning (Enter d e) = leaves os (entryFrame (e .class) (e .method) (e .object) (entryValues e) ∷ frameOf F b q d ∷ fs)
   meaning (Make d c o) = leaves (made task (newObject (w .base) c) os) (withAbove F b q d (objectValue o) ∷ fs)
 
 -- What becomes of a computed int: it stands above d operands, unless the operator refuses
