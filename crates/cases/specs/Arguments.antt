@@ -21,7 +21,7 @@ use Rattle.definition.specs.Verifier as Verifier
 use Rattle.definition.specs.Machine.{objectHeld, existing, inUse, unused, made, roomless, rewritten, changed, initialValue, newObject, pop!, popAll!, int!, reference!, ofKind!, kind!, kinds!, compute, jumps, room!, object!, now, under!, give, execute, step}
 use Rattle.definition.specs.Loading.{subtypeIs, newSubtypes, overrideTie, overrideTies, define, recorded, started}
 use Rattle.definition.specs.Sweeping.{named, roots, linksFrom, reached, sweptFrom, freedFrom}
-use Rattle.definition.specs.Tables.{Tables, tie, subtype, fileAt, classAt}
+use Rattle.definition.specs.Tables.{Tables, tie, fileAt, classAt}
 use Rattle.definition.specs.declared.Reply.the-variants.{Accepted}
 use Rattle.definition.specs.Calls.{Call, boot, callDefine, callRecord, callStart, callStep, callRun, turn, turnOf, defineRows, recordRows, startRows, dropRows, sweepRows, answerOf, stepTask, stepOn, stepRows}
 use Rattle.definition.specs.Computing.OnRows.{settle, onRows, runRows, performRows, performAllRows}

@@ -12,7 +12,6 @@ use borrow.Author.Tests.{lt-leb}
 use Rattle.definition.specs.declared.Arguments.{Arguments}
 use Rattle.definition.specs.declared.Arguments.the-variants.{NoArguments, OneArgument, TwoArguments, ThreeArguments, FourArguments}
 use Rattle.definition.specs.declared.Signature.{Signature}
-use Rattle.definition.specs.declared.Opcode.{Opcode}
 use Rattle.definition.specs.declared.Opcode.the-variants.{OpInvokevirtual, OpInvokevirtualList}
 use Rattle.definition.specs.declared.Instruction.{Instruction}
 use Rattle.definition.specs.Numbers.{versionThree, argumentLimit}

@@ -1,10 +1,9 @@
 -- Types that stand two bytes apart are the list's.
-use mathlib.Core.Path.{_≡_, refl, ap}
-use mathlib.Core.Option.{Option, some}
+use mathlib.Core.Path.{_≡_, refl}
+use mathlib.Core.Option.{some}
 use mathlib.Core.List.{List}
 use Prim.Native.Nat.{ℕ, zero, suc, _+_, _≤_}
 use native.Mathlib.Omega.{arith}
-use Rattle.definition.specs.declared.Arguments.{Arguments}
 use Rattle.definition.specs.declared.Arguments.the-variants.{NoArguments, OneArgument, TwoArguments, ThreeArguments, FourArguments}
 use Rattle.definition.specs.Classes.{argumentsOf}
 use Rattle.definition.specs.Instructions.{shortAt, shortsAt}
