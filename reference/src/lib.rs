@@ -20,6 +20,7 @@ pub mod load;
 pub mod placed;
 pub mod reason;
 pub mod script;
+pub mod signature;
 pub mod step;
 pub mod store;
 pub mod sweep;

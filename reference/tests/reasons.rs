@@ -138,8 +138,7 @@ fn a_sketch_has_what_a_file_has() {
         assert_eq!((sketch.name, sketch.superclass), (Some(file.name()), Some(file.superclass())));
         assert_eq!(sketch.fields, file.fields().collect::<Vec<_>>());
         let maps = |method: reference::file::Method| format!("{:?}", method.maps().collect::<Vec<_>>());
-        let methods =
-            |method: reference::file::Method| (method.name, method.argument, method.result, method.code.to_vec(), maps(method));
+        let methods = |method: reference::file::Method| (method.signature, method.code.to_vec(), maps(method));
         let own: Vec<_> = file.methods().map(methods).collect();
         assert_eq!(sketch.methods.into_iter().map(methods).collect::<Vec<_>>(), own);
     }

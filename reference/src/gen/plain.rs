@@ -139,7 +139,7 @@ fn is_badly_named(instruction: Instruction) -> bool {
     match instruction {
         Instruction::Iload(local) | Instruction::Aload(local) | Instruction::Istore(local) | Instruction::Astore(local) => local > 7,
         Instruction::Getfield(at) | Instruction::Putfield(at) => at.class < 2 || at.field == 0 || at.of == 0,
-        Instruction::Invokevirtual(at) => at.class < 2 || at.method == 0 || at.argument == 0 || at.result == 0,
+        Instruction::Invokevirtual(at) => at.class < 2 || at.signature.has_name_0(),
         Instruction::New(class) => class < 2,
         _ => false,
     }
@@ -233,7 +233,7 @@ fn types_at(line: Line, flowing: Option<Types>, method: Method, slip: Slip) -> O
 /// The notes of a line in their order, and the types behind it; nothing if it is rejected.
 fn line_notes(method: Method, line: Line, mut types: Types, slip: Slip) -> Option<(Vec<Note>, Types)> {
     let mut own = Vec::new();
-    follow(&mut types, line.1, method.result, &mut |lower, higher| own.push((lower, higher))).ok()?;
+    follow(&mut types, line.1, method.signature.result, &mut |lower, higher| own.push((lower, higher))).ok()?;
     let stands_last = method.version < MAPPED || slip == Slip::ReturnsLast;
     let is_return = matches!(line.1, Instruction::Ireturn | Instruction::Areturn);
     if stands_last && is_return && line.2 < method.code.len() {
@@ -254,7 +254,7 @@ fn verified(own_name: u16, method: Method, slip: Slip) -> Option<Vec<Note>> {
     if !is_all || !maps_stand(method, &all, slip) {
         return None;
     }
-    let types = Types::at_point_0(own_name, method.argument);
+    let types = Types::at_point_0(own_name, method.signature.arguments.types());
     let entry = map_at(method, 0).filter(|_| slip != Slip::Entry).map_or(Some(Vec::new()), |map| flowed(&types, map, slip))?;
     let (mut rest, mut flowing) = (Vec::new(), Some(types));
     for (place, &line) in all.iter().enumerate() {

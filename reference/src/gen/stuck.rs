@@ -45,7 +45,7 @@ fn drafted(draft: Draft, code: &Code, operands: &[Value]) -> Store {
     for class in 1..3 {
         make_object(&mut store, &classes, class, 0).expect("room");
     }
-    store.enter(0, 1, 0, TEN, SEVEN);
+    store.enter(0, 1, 0, TEN, &[SEVEN]);
     put(&mut store, 0, operands);
     store
 }
@@ -243,7 +243,7 @@ fn wrong_kinds() -> Vec<Stuck> {
         rows.iter().map(|(what, code, operands)| ((*what).into(), holding(code, operands), STUCK)).collect();
     for (code, operand) in [(Code::new().ireturn(), TEN), (Code::new().areturn(), SEVEN)] {
         let mut store = holding(&code, &[]);
-        store.enter(0, 1, 0, TEN, SEVEN);
+        store.enter(0, 1, 0, TEN, &[SEVEN]);
         put(&mut store, 1, &[operand]);
         all.push((format!("{:02X} to a caller", code.bytes[0]), store, STUCK));
     }
@@ -261,14 +261,14 @@ fn no_room() -> Vec<Stuck> {
     }
     for (code, operands) in [(Code::new().ireturn(), vec![SEVEN]), (Code::new().areturn(), vec![])] {
         let mut store = holding(&code, &[SEVEN; OPERANDS]);
-        store.enter(0, 1, 0, TEN, SEVEN);
+        store.enter(0, 1, 0, TEN, &[SEVEN]);
         put(&mut store, 1, &operands);
         all.push((format!("{:02X} onto 16 operands", code.bytes[0]), store, FULL));
     }
     for operands in [vec![], vec![Value::Null, Value::Null], vec![TEN, TEN]] {
         let mut store = holding(&call(21, 10, 10), &[]);
         while store.counts[count::FRAMES] < 32 {
-            store.enter(0, 1, 0, TEN, SEVEN);
+            store.enter(0, 1, 0, TEN, &[SEVEN]);
         }
         put(&mut store, 31, &operands);
         all.push(("a call from 32 frames".into(), store, FULL));
