@@ -19,12 +19,13 @@ use crate::gen::graphs::graphs;
 use crate::gen::hidden::hidden;
 use crate::gen::limits::LIMITS;
 use crate::gen::list::list;
+use crate::gen::listed::listed;
 use crate::gen::rng::Rng;
 use crate::gen::loops::loops;
 use crate::gen::rates;
 use crate::gen::stuck::stuck;
 use crate::gen::swept::swept;
-use crate::gen::{cases, javas, large, mapped, Call, Trial, CALLS};
+use crate::gen::{cases, counts, javas, large, mapped, Call, Trial, CALLS};
 use crate::host::{self, expected, CELLS};
 use crate::placed::misplaced;
 use crate::store::{Store, LENGTHS, MOST_ROWS};
@@ -218,7 +219,7 @@ impl Comparison {
 
     /// What needs no seed.
     fn fixed(&mut self) {
-        for (at, trial) in cases::cases().iter().chain(&swept()).chain(&loops()).chain(&rates::rates()).chain(&hidden()).enumerate() {
+        for (at, trial) in cases::cases().iter().chain(&swept()).chain(&loops()).chain(&rates::rates()).chain(&hidden()).chain(&listed()).enumerate() {
             self.play(trial, &format!("case {at}"));
         }
         for seed in 0..4 {
@@ -235,6 +236,10 @@ impl Comparison {
         for draft in mapped::taken().iter().chain(&mapped::unmapped()).chain(&mapped::rejected()) {
             self.file(&store, draft.file(), "a method of version 2");
         }
+        for draft in counts::taken().iter().chain(&counts::unmapped()).chain(&counts::rejected()) {
+            self.file(&store, draft.file(), "a method of version 3");
+        }
+        counts::bad().into_iter().for_each(|bytes| self.file(&store, bytes, "a bad file of version 3"));
         mapped::bad().into_iter().for_each(|bytes| self.file(&store, bytes, "a bad file of version 2"));
         for (what, store, load, _) in clashes::cases() {
             self.call(&store, &load, CELLS, what);

@@ -69,6 +69,11 @@ impl Signature {
         Signature::new(name, &[INT], INT)
     }
 
+    /// Can a file of this version have such a method?
+    pub fn is_of(&self, version: u8) -> bool {
+        version >= LISTED || self.arguments.count() == 1
+    }
+
     /// The types that ties go on, in their order: each argument in turn, then the result.
     pub fn types(&self) -> impl Iterator<Item = u16> + '_ {
         self.arguments.types().iter().copied().chain([self.result])

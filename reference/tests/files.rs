@@ -4,7 +4,7 @@ use reference::check;
 use reference::gen::build::{Code, Draft};
 use reference::gen::codes::{rejected, taken};
 use reference::gen::files::{edge, file, of_length};
-use reference::gen::mapped;
+use reference::gen::{counts, mapped};
 use reference::gen::rng::Rng;
 use reference::gen::Trial;
 use reference::store::INT;
@@ -129,17 +129,27 @@ fn the_verifier_takes() {
     }
 }
 
-#[test]
-fn files_of_version_2_by_hand() {
-    for (number, drafts) in [(0, mapped::taken()), (15, mapped::unmapped()), (6, mapped::rejected())] {
+/// Files by the desk's number for them.
+fn by_hand(drafts: [(u8, Vec<Draft>); 3], bad: Vec<Vec<u8>>) {
+    for (number, drafts) in drafts {
         for (at, draft) in drafts.into_iter().enumerate() {
             assert_eq!(check(&draft.file()), number, "case {at}: {:02X?}", draft.methods);
         }
     }
-    for (at, bytes) in mapped::bad().into_iter().enumerate() {
+    for (at, bytes) in bad.into_iter().enumerate() {
         assert_eq!(check(&bytes), 2, "case {at}: {bytes:02X?}");
         assert!(reads(&bytes).is_none(), "case {at}");
     }
+}
+
+#[test]
+fn files_of_version_2_by_hand() {
+    by_hand([(0, mapped::taken()), (15, mapped::unmapped()), (6, mapped::rejected())], mapped::bad());
+}
+
+#[test]
+fn files_of_version_3_by_hand() {
+    by_hand([(0, counts::taken()), (15, counts::unmapped()), (6, counts::rejected())], counts::bad());
 }
 
 #[test]

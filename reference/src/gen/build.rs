@@ -95,7 +95,7 @@ impl Draft {
         bytes.push(self.methods.len() as u8);
         for method in &self.methods {
             put(&mut bytes, method.name);
-            put_list(&mut bytes, self.version, &method.arguments);
+            put_list(&mut bytes, self.version >= LISTED, &method.arguments);
             put(&mut bytes, method.result);
             put(&mut bytes, method.code.len() as u16);
             bytes.extend_from_slice(&method.code);
@@ -110,8 +110,8 @@ impl Draft {
 }
 
 /// The types, and from version 3 on their count before them.
-fn put_list(bytes: &mut Vec<u8>, version: u8, types: &[u16]) {
-    if version >= LISTED {
+fn put_list(bytes: &mut Vec<u8>, listed: bool, types: &[u16]) {
+    if listed {
         bytes.push(types.len() as u8);
     }
     types.iter().for_each(|&of| put(bytes, of));
@@ -141,6 +141,8 @@ pub fn set_length(bytes: &mut [u8]) {
 pub struct Code {
     pub bytes: Vec<u8>,
     pub maps: Vec<MapDraft>,
+    /// Do its calls have a count before the types of their arguments, as from version 3 on?
+    pub listed: bool,
     /// The labels that are placed, and where.
     labels: Vec<(u16, u16)>,
     /// The jumps to labels that aren't placed yet, by the place of their inline bytes.
@@ -150,6 +152,15 @@ pub struct Code {
 impl Code {
     pub fn new() -> Code {
         Code::default()
+    }
+
+    /// Code of a file of version 3.
+    pub fn listed() -> Code {
+        Code::of_version(LISTED)
+    }
+
+    pub fn of_version(version: u8) -> Code {
+        Code { listed: version >= LISTED, ..Code::default() }
     }
 
     /// These bytes, without maps.
@@ -280,14 +291,15 @@ impl Code {
         self.names(op::PUTFIELD, &[class, field, of])
     }
 
+    /// A call with one argument.
     pub fn invoke(self, class: u16, method: u16, argument: u16, result: u16) -> Code {
-        self.names(op::INVOKEVIRTUAL, &[class, method, argument, result])
+        self.call(class, method, &[argument], result)
     }
 
-    /// A call in a file of this version, with a list of arguments.
-    pub fn call(self, version: u8, class: u16, method: u16, arguments: &[u16], result: u16) -> Code {
+    /// A call with a list of arguments.
+    pub fn call(self, class: u16, method: u16, arguments: &[u16], result: u16) -> Code {
         let mut code = self.names(op::INVOKEVIRTUAL, &[class, method]);
-        put_list(&mut code.bytes, version, arguments);
+        put_list(&mut code.bytes, code.listed, arguments);
         put(&mut code.bytes, result);
         code
     }

@@ -123,7 +123,7 @@ fn lines(method: Method, slip: Slip) -> (Vec<Line>, bool) {
 fn read(method: Method, point: usize, slip: Slip) -> Option<(Instruction, usize)> {
     let is_rate = [op::IMUL, op::IDIV].map(Some).contains(&method.code.get(point).copied());
     let is_later = slip == Slip::UnmappedInVersion1 || (slip == Slip::RatesInVersion1 && is_rate);
-    decode(if is_later { MAPPED } else { method.version }, method.code, point)
+    decode(if is_later { method.version.max(MAPPED) } else { method.version }, method.code, point)
 }
 
 fn map_at(method: Method, offset: usize) -> Option<Map> {

@@ -90,6 +90,34 @@ pub fn unseen_rates(rng: &mut Rng, store: &mut Store) {
     }
 }
 
+/// A task before a call with a list of any length, with any operands, too few among them. Mostly the method is there.
+pub fn unseen_calls(rng: &mut Rng, store: &mut Store) {
+    if !is_whole(store) || store.cached(0, OBJECT) != Some(0) {
+        return;
+    }
+    let name = unused_name(store);
+    let types: Vec<u16> = (0..rng.below(5)).map(|_| rng.pick(&[INT, name])).collect();
+    let mut named = types.clone();
+    if rng.percent(10) {
+        named = (0..rng.below(6)).map(|_| rng.pick(&[INT, name])).collect();
+    }
+    let code = Code::listed().call(name, MAIN + 1, &named, INT).ireturn();
+    let draft = Draft::listed(name).main(MAIN, &code).method_of(MAIN + 1, &types, INT, &Code::listed().end(INT));
+    if add_unseen(store, 0, &draft).is_none() {
+        return;
+    }
+    let (Some(object), Some(task)) = (start_in(rng, store, 0, name), store.turn()) else {
+        return;
+    };
+    let (base, count) = (frame_base(task, 0), types.len() + 1 - usize::from(rng.percent(15)));
+    store.frames[base + cell::OPERANDS] = count as u32;
+    for (place, of) in [OBJECT].into_iter().chain(types).enumerate() {
+        let fits = if of == INT { Value::Int(place as u32 + 5) } else { rng.pick(&[Value::Object(object), Value::Null]) };
+        let value = if rng.percent(92) { fits } else { rng.pick(&[Value::Int(3), Value::Null, Value::Object(object)]) };
+        value.write(&mut store.frames, base + cell::OPERAND_0 + 2 * place);
+    }
+}
+
 /// The version byte of a class's file, which then may read by the other version's rules.
 pub fn other_version(rng: &mut Rng, store: &mut Store) {
     let classes = store.counts.first().map_or(0, |&classes| usize::from(classes));
