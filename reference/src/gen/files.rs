@@ -11,7 +11,7 @@ use crate::store::INT;
 /// A file, or bytes that might have been one.
 pub fn file(seed: u64) -> Vec<u8> {
     let mut rng = Rng::new(seed ^ 0x66_69_6C_65);
-    match rng.weighted(&[3, 5, 2, 1, 3, 3, 4, 2]) {
+    match rng.weighted(&[3, 5, 2, 1, 3, 3, 4, 2, 1]) {
         0 => good(&mut rng),
         1 => mutated(&mut rng),
         2 => cut(&mut rng),
@@ -22,7 +22,8 @@ pub fn file(seed: u64) -> Vec<u8> {
         4 => edge(&mut rng),
         5 => random_code(&mut rng),
         6 => spoiled(&mut rng),
-        _ => random_jumps(&mut rng),
+        7 => random_jumps(&mut rng),
+        _ => random_calls(&mut rng),
     }
 }
 
@@ -244,4 +245,23 @@ fn random_jumps(rng: &mut Rng) -> Vec<u8> {
     code = if rng.percent(90) { code.end(INT) } else { code };
     code = if rng.percent(20) { code.plain(0xFF) } else { code };
     Draft::mapped(10).main(20, &code).file()
+}
+
+/// Readable files of version 3 with a few calls: operands that fit mostly, other names than the lists say, now and then a count of 5.
+fn random_calls(rng: &mut Rng) -> Vec<u8> {
+    let mut code = Code::listed();
+    for _ in 0..rng.within(1, 3) {
+        let types: Vec<u16> = (0..rng.within(0, 4)).map(|_| rng.pick(&[INT, 11, 12, 13])).collect();
+        code = code.object(rng.pick(&[10, 11]));
+        for &of in &types {
+            let of = if rng.percent(95) { of } else { rng.pick(&[INT, 11]) };
+            code = if of == INT { code.iload(1) } else { code.object(rng.pick(&[of, 12, 14])) };
+        }
+        let at = code.bytes.len() + 5;
+        code = code.call(10, 21, &types, INT).pop();
+        if rng.percent(15) {
+            code.bytes[at] = rng.pick(&[types.len() as u8 + 1, 5]);
+        }
+    }
+    Draft::listed(10).main(20, &code.end(INT)).file()
 }

@@ -144,15 +144,13 @@ fn an_unknown_opcode(rng: &mut Rng, code: &mut Code) {
     }
 }
 
-/// Another count of arguments inline; 4 is the most, and the types behind it stay.
+/// Another count of arguments inline, 5 if there is one of 4; the types behind it stay.
 fn another_count(rng: &mut Rng, code: &mut Code) {
-    let calls = points_of(code, &[op::INVOKEVIRTUAL]);
-    if code.listed && !calls.is_empty() {
-        let (at, count) = (rng.pick(&calls) + 5, rng.pick(&[0, 1, 2, 3, 4, 5, 5, 5, 6, 255]));
+    let counts: Vec<usize> = points_of(code, &[op::INVOKEVIRTUAL]).iter().map(|point| point + 5).collect();
+    let four = counts.iter().copied().find(|&at| code.bytes.get(at) == Some(&4));
+    if code.listed && !counts.is_empty() {
+        let (at, count) = four.map_or_else(|| (rng.pick(&counts), rng.pick(&[0, 1, 2, 3, 4, 5, 6, 255])), |at| (at, 5));
         code.bytes.get_mut(at).into_iter().for_each(|byte| *byte = count);
-    }
-    if rng.percent(50) {
-        without_a_map(rng, code);
     }
 }
 
