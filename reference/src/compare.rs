@@ -19,13 +19,12 @@ use crate::gen::graphs::graphs;
 use crate::gen::hidden::hidden;
 use crate::gen::limits::LIMITS;
 use crate::gen::list::list;
-use crate::gen::listed::listed;
 use crate::gen::rng::Rng;
 use crate::gen::loops::loops;
 use crate::gen::rates;
 use crate::gen::stuck::stuck;
 use crate::gen::swept::swept;
-use crate::gen::{cases, counts, javas, large, mapped, Call, Trial, CALLS};
+use crate::gen::{cases, counts, javas, large, listed, mapped, Call, Trial, CALLS};
 use crate::host::{self, expected, CELLS};
 use crate::placed::misplaced;
 use crate::store::{Store, LENGTHS, MOST_ROWS};
@@ -219,7 +218,7 @@ impl Comparison {
 
     /// What needs no seed.
     fn fixed(&mut self) {
-        for (at, trial) in cases::cases().iter().chain(&swept()).chain(&loops()).chain(&rates::rates()).chain(&hidden()).chain(&listed()).enumerate() {
+        for (at, trial) in cases::cases().iter().chain(&swept()).chain(&loops()).chain(&rates::rates()).chain(&hidden()).chain(&listed::listed()).enumerate() {
             self.play(trial, &format!("case {at}"));
         }
         for seed in 0..4 {
