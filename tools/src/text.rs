@@ -180,17 +180,24 @@ fn arguments(at: &mut Cursor, version: u8) -> Parsed<Vec<u16>> {
     let open = at.sign('(')?;
     let mut all = Vec::new();
     while !at.has_sign(')') {
+        if version < LISTED && all.len() == 1 {
+            return Err(one_argument(at, version));
+        }
         all.push(at.name("an argument's type, or ')'")?);
     }
-    let list = open.to(at.take());
-    if version < LISTED && all.len() != 1 {
-        let problem = Problem::new(list, format!("a file of version {version} has one argument"));
-        return Err(problem.help(format!("say so behind the superclass: class Premium extends Object version {LISTED} {{ .. }}")));
+    if version < LISTED && all.is_empty() {
+        return Err(one_argument(at, version));
     }
+    let list = open.to(at.take());
     if all.len() > 255 {
         return Err(Problem::new(list, format!("{} arguments: a file has one byte for their count", all.len())));
     }
     Ok(all)
+}
+
+fn one_argument(at: &Cursor, version: u8) -> Problem {
+    let problem = Problem::new(at.peek().span, format!("a file of version {version} has one argument"));
+    problem.help(format!("more, or none, with a version behind the superclass: class Premium extends Object version {LISTED} {{ .. }}"))
 }
 
 /// The code of a method as far as it is read.

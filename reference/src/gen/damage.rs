@@ -17,11 +17,11 @@ use crate::file::File;
 use crate::store::{cell, count, frame_base, Store, FIELDS, FRAME_ROW, INT, LENGTHS, LIMITS, OBJECT, OBJECT_ROW, ROW, TASKS};
 
 /// Kinds of damage, each a way to change a good store.
-const KINDS: [fn(&mut Rng, &mut Store); 34] = [
+const KINDS: [fn(&mut Rng, &mut Store); 35] = [
     any_cells, a_count, uniform_table, wrong_length, second_cache_row, overlapping_files, superclass_not_lower,
     code_bytes, kept_byte, top_frame, operand_count, a_value, constraints, full_frames, uniform_store, file_place,
     nested_file, full_rows, many_fields, hidden_fields, hidden_fields, many_classes, report_past_its_code, an_owner, free_rows,
-    unused_number, links, many_objects, unseen_jumps, unseen_jumps, other_version, map_bytes,
+    unused_number, links, many_objects, unseen_jumps, unseen_jumps, unseen_jumps, other_version, map_bytes,
     unseen_rates, unseen_calls,
 ];
 

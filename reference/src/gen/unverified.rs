@@ -60,7 +60,7 @@ pub fn unseen_jumps(rng: &mut Rng, store: &mut Store) {
         return;
     }
     let name = unused_name(store);
-    let code = if rng.percent(15) { Code::new().names(op::GOTO, &[rng.pick(&[3, 4, 500, 0xFFFF])]) } else { anywhere(rng) };
+    let code = if rng.percent(25) { Code::new().names(op::GOTO, &[rng.pick(&[3, 4, 500, 0xFFFF])]) } else { anywhere(rng) };
     let draft = if rng.percent(90) { Draft::mapped(name) } else { Draft::new(name) };
     if add_unseen(store, 0, &draft.main(MAIN, &code)).is_some() {
         start_in(rng, store, 0, name);
