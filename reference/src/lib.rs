@@ -17,6 +17,7 @@ pub mod gen;
 pub mod hidden;
 pub mod host;
 pub mod load;
+pub mod passing;
 pub mod placed;
 pub mod reason;
 pub mod script;

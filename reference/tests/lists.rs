@@ -141,6 +141,7 @@ fn random_lists() {
     }
     assert_eq!(tally.ended(), ENDS_FROM_A_BOOT, "the ends of runs");
     assert_eq!(tally.idle_opcodes(), Vec::<&str>::new(), "opcodes that never ran");
+    assert_eq!(tally.passing.unmet(), Vec::<&str>::new(), "what no call met");
 }
 
 #[test]
