@@ -310,9 +310,10 @@ impl Comparison {
         for (tally, what) in [(&self.booted, "from a boot"), (&self.damaged, "on damaged stores")] {
             demand(tally.unswept().is_empty(), format!("sweeps {what} never had {:?}", tally.unswept()));
             demand(tally.unreasoned().is_empty(), format!("chains of clashes {what} never had {:?}", tally.unreasoned()));
-            demand(tally.passing.unmet().is_empty(), format!("calls {what} never met {:?}", tally.passing.unmet()));
+            demand(tally.passing.unpassed().is_empty(), format!("calls {what} never had {:?}", tally.passing.unpassed()));
             demand(tally.hiding.unmet().is_empty(), format!("accesses {what} never met {:?}", tally.hiding.unmet()));
         }
+        demand(self.booted.passing.unmet().is_empty(), format!("calls from a boot never met {:?}", self.booted.passing.unmet()));
         demand(self.booted.hiding.undone().is_empty(), format!("no define from a boot {:?}", self.booted.hiding.undone()));
         demand(self.misshapen.iter().all(|&calls| calls > 0), format!("calls on misshapen tables: {:?}", self.misshapen));
         for ((what, _), &stores) in SHAPES.iter().zip(&self.shapes) {

@@ -7,9 +7,9 @@ use crate::classes::Classes;
 use crate::code::Instruction;
 use crate::file::LISTED;
 use crate::load::is_new_tie;
-use crate::signature::Signature;
+use crate::signature::{Signature, MOST_ARGUMENTS};
 use crate::step::instruction_of;
-use crate::store::{cell, count, frame_base, Store};
+use crate::store::{cell, count, frame_base, Store, LIMITS};
 
 /// A call at its turn that finds a method.
 struct Passed {
@@ -38,7 +38,7 @@ impl Passed {
         let rows = at.signature.types().filter_map(|of| tie(store.loader_of(nearest), here, of));
         let rows: Vec<[u16; 3]> = rows.filter(|&row| is_new_tie(store, &[], row)).collect();
         let ties = (0..rows.len()).filter(|&place| is_new_tie(store, &rows[..place], rows[place])).count();
-        let signatures = classes.upward(named).filter_map(|class| store.file(class)).flat_map(|file| file.methods().map(|method| method.signature));
+        let mut signatures = classes.upward(named).filter_map(|class| store.file(class)).flat_map(|file| file.methods().map(|method| method.signature));
         let is_namesake = |other: Signature| {
             (other.name, other.result) == (at.signature.name, at.signature.result) && other.arguments != at.signature.arguments
         };
@@ -47,8 +47,8 @@ impl Passed {
             versions: [store.file(caller)?.version(), found.version],
             ties,
             tied: rows.len(),
-            room: usize::from(crate::store::LIMITS[count::TIES]) - store.count(count::TIES),
-            has_namesake: signatures.into_iter().any(is_namesake),
+            room: usize::from(LIMITS[count::TIES]) - store.count(count::TIES),
+            has_namesake: signatures.any(is_namesake),
         })
     }
 
@@ -95,6 +95,12 @@ impl Passing {
     /// What no call met.
     pub fn unmet(&self) -> Vec<&'static str> {
         CALLS.iter().zip(self.calls).filter(|(_, times)| *times == 0).map(|((what, _), _)| *what).collect()
+    }
+
+    /// The numbers of arguments that no call had: the first of what calls may meet.
+    pub fn unpassed(&self) -> Vec<&'static str> {
+        let unmet = self.unmet();
+        CALLS[..=MOST_ARGUMENTS].iter().map(|(what, _)| *what).filter(|what| unmet.contains(what)).collect()
     }
 }
 

@@ -138,9 +138,9 @@ impl Blueprint {
     }
 }
 
-/// One argument mostly, or none, or up to four.
+/// One argument, or none, or up to four.
 fn random_list(rng: &mut Rng, names: &[u16]) -> Vec<u16> {
-    let count = if rng.percent(45) { 1 } else { rng.below(MOST_ARGUMENTS + 1) };
+    let count = if rng.percent(35) { 1 } else { rng.below(MOST_ARGUMENTS + 1) };
     (0..count).map(|_| random_type(rng, names)).collect()
 }
 

@@ -238,7 +238,12 @@ impl Walk<'_> {
         let class = self.rng.pick(&names);
         let of_chain = self.blueprint.upward(class).into_iter().flat_map(|sketch| sketch.methods.clone());
         let methods: Vec<Signature> = of_chain.filter(|method| method.is_of(self.version)).collect();
-        let method = if self.rng.percent(3) { self.absent() } else { self.rng.pick(&methods) };
+        let others: Vec<Signature> = methods.iter().copied().filter(|method| method.arguments.count() != 1).collect();
+        let method = match self.rng.below(100) {
+            0..=2 => self.absent(),
+            3..=50 if !others.is_empty() => self.rng.pick(&others),
+            _ => self.rng.pick(&methods),
+        };
         let arguments = method.arguments.types();
         self.reference(class);
         arguments.iter().for_each(|&of| self.value(of));
