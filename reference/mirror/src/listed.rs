@@ -163,9 +163,10 @@ fn starting(call: &Call, store: &mut Store, arguments: &[u16]) -> Option<Reply> 
     let Call::Start { loader, name, method, .. } = *call else {
         return None;
     };
+    let classes = unbroken(store)?;
     let is_absent = call.apply(&mut store.clone()) == denied(word::ABSENT);
     let class = store.cached(u16::try_from(loader).ok()?, name)?;
-    let other = unbroken(store)?.method(store, class, Signature::new(method, arguments, INT)).is_some();
+    let other = classes.method(store, class, Signature::new(method, arguments, INT)).is_some();
     (is_absent && other).then_some(Reply::Accepted)
 }
 
