@@ -25,7 +25,7 @@ impl Added<'_> {
     }
 
     /// The constraints in the order in which they are posted. Document 01, 'Constraints': "define posts the verifier's notes under its loader;
-    /// then, for each method, ties on argument and result". The notes are in the verifier's order, the ties method by method.
+    /// then, for each method, ties on argument and result"; paper 7 ties each argument in turn. The notes are in the verifier's order, the ties method by method.
     pub fn posted(&self) -> impl Iterator<Item = Constraint> + '_ {
         let notes = self.subtypes.iter().map(|&row| Constraint::Subtype(row));
         notes.chain(self.ties.iter().map(|&row| Constraint::Tie(row)))

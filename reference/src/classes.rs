@@ -1,6 +1,7 @@
 //! The classes of a store: superclasses, below, counts of fields, and searches upward.
 
 use crate::file::{File, Method};
+use crate::signature::Signature;
 use crate::store::{count, Store, FIELDS, LIMITS, LOADERS, ROW};
 
 const MOST: usize = LIMITS[count::CLASSES] as usize;
@@ -88,17 +89,10 @@ impl Classes {
         })
     }
 
-    /// The nearest class upward with a method of that name and those types.
-    pub fn method<'a>(
-        &self,
-        store: &'a Store,
-        from: u16,
-        name: u16,
-        argument: u16,
-        result: u16,
-    ) -> Option<(u16, Method<'a>)> {
+    /// The nearest class upward with a method of that name, those arguments and that result.
+    pub fn method<'a>(&self, store: &'a Store, from: u16, signature: Signature) -> Option<(u16, Method<'a>)> {
         self.upward(from).find_map(|class| {
-            let method = store.file(class)?.methods().find(|method| method.is(name, argument, result))?;
+            let method = store.file(class)?.methods().find(|method| method.signature == signature)?;
             Some((class, method))
         })
     }

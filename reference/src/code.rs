@@ -1,6 +1,7 @@
 //! Instructions: one decision over opcode bytes, by the version, gives what follows inline and how long it is.
 
 use crate::file::MAPPED;
+use crate::signature::{Arguments, Signature};
 
 /// Opcode numbers, the JVMS's.
 pub mod op {
@@ -47,7 +48,7 @@ pub mod op {
         Class,
         /// Class, field, type.
         Field,
-        /// Class, method, argument, result.
+        /// Class, method, argument, result; from version 3 on a list in place of the argument.
         Method,
         /// An offset from the start of the method's code.
         Target,
@@ -83,9 +84,7 @@ pub struct FieldRef {
 #[derive(Clone, Copy, Debug, PartialEq, Eq)]
 pub struct MethodRef {
     pub class: u16,
-    pub method: u16,
-    pub argument: u16,
-    pub result: u16,
+    pub signature: Signature,
 }
 
 #[derive(Clone, Copy, Debug, PartialEq, Eq)]
@@ -152,8 +151,8 @@ pub fn decode(version: u8, code: &[u8], point: usize) -> Option<(Instruction, us
         op::GETFIELD => (Getfield(field()?), 6),
         op::PUTFIELD => (Putfield(field()?), 6),
         op::INVOKEVIRTUAL => {
-            let method = MethodRef { class: word(0)?, method: word(1)?, argument: word(2)?, result: word(3)? };
-            (Invokevirtual(method), 8)
+            let (method, length) = method(version, inline)?;
+            (Invokevirtual(method), length)
         }
         op::NEW => (New(word(0)?), 2),
         op::IRETURN => (Ireturn, 0),
@@ -168,6 +167,15 @@ pub fn decode(version: u8, code: &[u8], point: usize) -> Option<(Instruction, us
     Some((instruction, point + 1 + inline_length))
 }
 
+/// The method that inline bytes name, and how many they are; nothing if they are cut off or count too many arguments.
+fn method(version: u8, inline: &[u8]) -> Option<(MethodRef, usize)> {
+    let word = |at: usize| inline.get(at..at + 2).map(|w| u16::from_be_bytes([w[0], w[1]]));
+    let (class, name) = (word(0)?, word(2)?);
+    let (arguments, length) = Arguments::read(version, &inline[4..]).ok()?;
+    let result = word(4 + length)?;
+    Some((MethodRef { class, signature: Signature { name, arguments, result } }, 6 + length))
+}
+
 #[cfg(test)]
 mod tests {
     use super::op::{Inline, ALL, INLINE};
@@ -176,17 +184,29 @@ mod tests {
     #[test]
     fn the_table_has_the_lengths_that_are_decoded() {
         for (opcode, inline) in ALL.into_iter().zip(INLINE) {
-            let length = match inline {
-                Inline::Nothing => 0,
-                Inline::Local => 1,
-                Inline::Int | Inline::Class | Inline::Target => 2,
-                Inline::Field => 6,
-                Inline::Method => 8,
-            };
-            for version in [1, 2] {
+            for version in [1, 2, 3] {
+                let length = match inline {
+                    Inline::Nothing => 0,
+                    Inline::Local => 1,
+                    Inline::Int | Inline::Class | Inline::Target => 2,
+                    Inline::Field => 6,
+                    // from version 3 on the fifth byte is a count
+                    Inline::Method if version == 3 => 7,
+                    Inline::Method => 8,
+                };
                 let next = decode(version, &[opcode, 0, 3, 0, 3, 0, 3, 0, 3], 0).map(|(_, next)| next);
                 assert_eq!(next, op::of(version).contains(&opcode).then_some(1 + length));
             }
+        }
+    }
+
+    #[test]
+    fn a_count_has_its_types_behind_it() {
+        for count in 0..=255 {
+            let code = [&[op::INVOKEVIRTUAL, 0, 10, 0, 20, count][..], &[0, 1].repeat(usize::from(count) + 1)].concat();
+            let next = decode(3, &code, 0).map(|(_, next)| next);
+            assert_eq!(next, (count <= 4).then_some(code.len()));
+            assert!((1..code.len()).all(|length| decode(3, &code[..length], 0).is_none()));
         }
     }
 }

@@ -24,7 +24,7 @@ use crate::gen::loops::loops;
 use crate::gen::rates;
 use crate::gen::stuck::stuck;
 use crate::gen::swept::swept;
-use crate::gen::{cases, javas, large, mapped, Call, Trial, CALLS};
+use crate::gen::{cases, counts, javas, large, listed, mapped, Call, Trial, CALLS};
 use crate::host::{self, expected, CELLS};
 use crate::placed::misplaced;
 use crate::store::{Store, LENGTHS, MOST_ROWS};
@@ -218,7 +218,7 @@ impl Comparison {
 
     /// What needs no seed.
     fn fixed(&mut self) {
-        for (at, trial) in cases::cases().iter().chain(&swept()).chain(&loops()).chain(&rates::rates()).chain(&hidden()).enumerate() {
+        for (at, trial) in cases::cases().iter().chain(&swept()).chain(&loops()).chain(&rates::rates()).chain(&hidden()).chain(&listed::listed()).enumerate() {
             self.play(trial, &format!("case {at}"));
         }
         for seed in 0..4 {
@@ -235,6 +235,10 @@ impl Comparison {
         for draft in mapped::taken().iter().chain(&mapped::unmapped()).chain(&mapped::rejected()) {
             self.file(&store, draft.file(), "a method of version 2");
         }
+        for draft in counts::taken().iter().chain(&counts::unmapped()).chain(&counts::rejected()) {
+            self.file(&store, draft.file(), "a method of version 3");
+        }
+        counts::bad().into_iter().for_each(|bytes| self.file(&store, bytes, "a bad file of version 3"));
         mapped::bad().into_iter().for_each(|bytes| self.file(&store, bytes, "a bad file of version 2"));
         for (what, store, load, _) in clashes::cases() {
             self.call(&store, &load, CELLS, what);
@@ -306,8 +310,10 @@ impl Comparison {
         for (tally, what) in [(&self.booted, "from a boot"), (&self.damaged, "on damaged stores")] {
             demand(tally.unswept().is_empty(), format!("sweeps {what} never had {:?}", tally.unswept()));
             demand(tally.unreasoned().is_empty(), format!("chains of clashes {what} never had {:?}", tally.unreasoned()));
+            demand(tally.passing.unpassed().is_empty(), format!("calls {what} never had {:?}", tally.passing.unpassed()));
             demand(tally.hiding.unmet().is_empty(), format!("accesses {what} never met {:?}", tally.hiding.unmet()));
         }
+        demand(self.booted.passing.unmet().is_empty(), format!("calls from a boot never met {:?}", self.booted.passing.unmet()));
         demand(self.booted.hiding.undone().is_empty(), format!("no define from a boot {:?}", self.booted.hiding.undone()));
         demand(self.misshapen.iter().all(|&calls| calls > 0), format!("calls on misshapen tables: {:?}", self.misshapen));
         for ((what, _), &stores) in SHAPES.iter().zip(&self.shapes) {

@@ -1,21 +1,22 @@
-//! The file rules, the rule that bytes break, and a view of a file that fits them.
+//! The file rules of all versions, the rule that bytes break, and a view of a file that fits them.
 
+use crate::signature::{Arguments, Signature, Unlisted};
 use crate::store::{LOCALS, OPERANDS};
 
 pub const MOST_BYTES: usize = 4_096;
 pub const MOST_MEMBERS: usize = 8;
 pub const MOST_CODE: usize = 512;
 
-/// The first version, and the first in which a method has maps and jumps.
+/// The first version, the first in which a method has maps and jumps, and the first in which it has a list of arguments.
 const FIRST: u8 = 1;
 pub const MAPPED: u8 = 2;
-const LAST: u8 = MAPPED;
+pub const LISTED: u8 = 3;
+pub const LAST: u8 = LISTED;
 
 const NAME: usize = 3;
 const SUPERCLASS: usize = 5;
 const FIELDS: usize = 7;
 const FIELD: usize = 4;
-const METHOD_HEAD: usize = 8;
 /// Offset, eight local types, operand count.
 const MAP_HEAD: usize = 19;
 
@@ -36,13 +37,45 @@ pub struct Method<'a> {
     pub place: usize,
     /// The file's.
     pub version: u8,
-    pub name: u16,
-    pub argument: u16,
-    pub result: u16,
+    pub signature: Signature,
     pub code: &'a [u8],
-    /// The file's bytes, and where in them the code ends and the maps begin.
+    /// The file's bytes, and where in them the method begins, and its code ends and the maps begin.
     bytes: &'a [u8],
+    at: usize,
     end: usize,
+}
+
+/// What stands before a method's code.
+struct Head {
+    signature: Signature,
+    /// Where the code begins.
+    code: usize,
+    code_length: u16,
+}
+
+impl Head {
+    /// The head that begins at this byte, if it isn't cut off and has no more arguments than a method can have.
+    fn read(bytes: &[u8], at: usize) -> Result<Head, Flaw> {
+        let cut_off = Flaw { at: bytes.len(), rule: Rule::CutOff };
+        let list = at + 2;
+        let (arguments, length) = Arguments::read(bytes[0], bytes.get(list..).ok_or(cut_off)?).map_err(|why| match why {
+            Unlisted::CutOff => cut_off,
+            Unlisted::TooMany(count) => Flaw { at: list, rule: Rule::TooManyArguments(count) },
+        })?;
+        let result = list + length;
+        let code = result + 4;
+        if code > bytes.len() {
+            return Err(cut_off);
+        }
+        let signature = Signature { name: pair(bytes, at), arguments, result: pair(bytes, result) };
+        Ok(Head { signature, code, code_length: pair(bytes, result + 2) })
+    }
+
+    /// Where the types of a head that begins at this byte stand: the arguments', then the result's.
+    fn types(&self, bytes: &[u8], at: usize) -> impl Iterator<Item = usize> {
+        let first = at + 2 + usize::from(bytes[0] >= LISTED);
+        (first..self.code - 2).step_by(2)
+    }
 }
 
 /// A map, the paper's word for a stack map frame of the JVMS: the types at a point of a method's code. It is a part of the file's bytes.
@@ -109,6 +142,7 @@ pub enum Rule {
     Name0,
     TooManyFields(u8),
     TooManyMethods(u8),
+    TooManyArguments(u8),
     CodeLength(u16),
     /// A map's offset, which isn't above that of the map before.
     MapOffset(u16),
@@ -135,10 +169,6 @@ fn keeps(holds: bool, at: usize, rule: Rule) -> Result<(), Flaw> {
 }
 
 impl<'a> Method<'a> {
-    pub fn is(&self, name: u16, argument: u16, result: u16) -> bool {
-        self.name == name && self.argument == argument && self.result == result
-    }
-
     /// Methods of version 1 have none.
     pub fn maps(&self) -> Maps<'a> {
         maps(self.version, &self.bytes[self.end..])
@@ -243,9 +273,8 @@ impl<'a> File<'a> {
     fn methods_differ(&self) -> Result<(), Flaw> {
         self.methods().try_for_each(|method| {
             let mut before = self.methods().take(method.place);
-            let differs = before.all(|other| !other.is(method.name, method.argument, method.result));
-            let at = method.code.as_ptr() as usize - self.bytes.as_ptr() as usize - METHOD_HEAD;
-            keeps(differs, at, Rule::SameMethod(method.name))
+            let differs = before.all(|other| other.signature != method.signature);
+            keeps(differs, method.at, Rule::SameMethod(method.signature.name))
         })
     }
 }
@@ -272,18 +301,9 @@ impl<'a> Iterator for Methods<'a> {
             self.at += maps_length(version, &bytes[self.at..]);
         }
         let at = self.at;
-        let start = at + METHOD_HEAD;
-        let end = start + usize::from(pair(bytes, at + 6));
-        let method = Method {
-            place: self.place,
-            version,
-            name: pair(bytes, at),
-            argument: pair(bytes, at + 2),
-            result: pair(bytes, at + 4),
-            code: &bytes[start..end],
-            bytes,
-            end,
-        };
+        let Head { signature, code, code_length } = Head::read(bytes, at).ok()?;
+        let end = code + usize::from(code_length);
+        let method = Method { place: self.place, version, signature, code: &bytes[code..end], bytes, at, end };
         self.at = end;
         self.place += 1;
         Some(method)
@@ -306,12 +326,12 @@ fn methods_end(bytes: &[u8], at: usize) -> Result<usize, Flaw> {
     keeps(usize::from(count) <= MOST_MEMBERS, at, Rule::TooManyMethods(count))?;
     let mut end = at + 1;
     for _ in 0..count {
-        let code_at = end + METHOD_HEAD;
-        keeps(code_at <= bytes.len(), bytes.len(), Rule::CutOff)?;
-        (0..3).map(|word| end + 2 * word).try_for_each(|at| keeps(pair(bytes, at) != 0, at, Rule::Name0))?;
-        let code = pair(bytes, end + 6);
-        keeps(code != 0 && usize::from(code) <= MOST_CODE, end + 6, Rule::CodeLength(code))?;
-        end = code_at + usize::from(code);
+        let head = Head::read(bytes, end)?;
+        let mut names = std::iter::once(end).chain(head.types(bytes, end));
+        names.try_for_each(|at| keeps(pair(bytes, at) != 0, at, Rule::Name0))?;
+        let length = head.code_length;
+        keeps(length != 0 && usize::from(length) <= MOST_CODE, head.code - 2, Rule::CodeLength(length))?;
+        end = head.code + usize::from(length);
         keeps(end <= bytes.len(), bytes.len(), Rule::CutOff)?;
         end = if bytes[0] >= MAPPED { maps_end(bytes, end)? } else { end };
     }
@@ -364,16 +384,12 @@ impl<'a> Sketch<'a> {
         let methods = count(at);
         at += 1;
         for place in 0..methods {
-            let (Some(name), Some(argument), Some(result)) = (word(at), word(at + 2), word(at + 4)) else {
+            let Ok(Head { signature, code, code_length }) = Head::read(bytes, at) else {
                 break;
             };
-            let Some(length) = word(at + 6) else {
-                break;
-            };
-            let start = at + METHOD_HEAD;
-            at = bytes.len().min(start + usize::from(length));
-            sketch.methods.push(Method { place, version: bytes[0], name, argument, result, code: &bytes[start..at], bytes, end: at });
-            at += maps_length(bytes[0], &bytes[at..]);
+            let end = bytes.len().min(code + usize::from(code_length));
+            sketch.methods.push(Method { place, version: bytes[0], signature, code: &bytes[code..end], bytes, at, end });
+            at = end + maps_length(bytes[0], &bytes[end..]);
         }
         sketch
     }

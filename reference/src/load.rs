@@ -144,15 +144,14 @@ pub fn is_new_tie(store: &Store, among: &[[u16; 3]], row: [u16; 3]) -> bool {
     !among.iter().any(|&other| same_tie(other, row)) && !store.tie_rows().any(|other| same_tie(other, row))
 }
 
-/// The new ties of the methods that override one upward, on argument and then result.
+/// The new ties of the methods that override one upward, on each argument in turn and then the result.
 pub fn overriding_ties(store: &Store, classes: &Classes, loader: u16, superclass: u16, file: File) -> Vec<[u16; 3]> {
     let mut new = Vec::new();
     for method in file.methods() {
-        let overridden = classes.method(store, superclass, method.name, method.argument, method.result);
-        let Some((nearest, _)) = overridden else {
+        let Some((nearest, _)) = classes.method(store, superclass, method.signature) else {
             continue;
         };
-        for of in [method.argument, method.result] {
+        for of in method.signature.types() {
             let row = tie(loader, store.loader_of(nearest), of);
             new.extend(row.filter(|&row| is_new_tie(store, &new, row)));
         }

@@ -6,6 +6,7 @@ use crate::broken::unbroken;
 use crate::classes::Classes;
 use crate::code::{decode, FieldRef, Instruction, MethodRef};
 use crate::load::is_new_tie;
+use crate::signature::MOST_ARGUMENTS;
 use crate::store::{cell, count, frame_base, Store, Value, LOCALS, OPERANDS};
 use crate::task::make_object;
 
@@ -51,9 +52,12 @@ struct Turn<'a> {
     next: usize,
 }
 
-/// The new ties of one instruction: at most two.
+/// The most ties of one instruction: on each argument and the result of a call.
+const MOST_TIES: usize = MOST_ARGUMENTS + 1;
+
+/// The new ties of one instruction.
 struct NewTies {
-    rows: [[u16; 3]; 2],
+    rows: [[u16; 3]; MOST_TIES],
     count: usize,
 }
 
@@ -172,10 +176,10 @@ impl Turn<'_> {
     }
 
     /// The ties between the nearest class's loader and the frame class's that are no rows yet.
-    fn new_ties(&self, nearest: u16, types: &[u16]) -> NewTies {
-        let mut new = NewTies { rows: [[0; 3]; 2], count: 0 };
+    fn new_ties(&self, nearest: u16, types: impl Iterator<Item = u16>) -> NewTies {
+        let mut new = NewTies { rows: [[0; 3]; MOST_TIES], count: 0 };
         let (there, here) = (self.store.loader_of(nearest), self.loader());
-        for row in types.iter().filter_map(|&of| tie(there, here, of)) {
+        for row in types.filter_map(|of| tie(there, here, of)) {
             if is_new_tie(self.store, new.rows(), row) {
                 new.rows[new.count] = row;
                 new.count += 1;
@@ -209,9 +213,18 @@ impl Turn<'_> {
         }
     }
 
-    /// The value of a putfield or the argument of a call.
-    fn passed(&self, of: u16) -> Result<Value, Refusal> {
-        Some(self.operand(0)?).filter(|value| value.is_kind_of(of)).ok_or(STUCK)
+    /// The value of a putfield or an argument of a call, so far below the top.
+    fn passed(&self, depth: usize, of: u16) -> Result<Value, Refusal> {
+        Some(self.operand(depth)?).filter(|value| value.is_kind_of(of)).ok_or(STUCK)
+    }
+
+    /// The arguments of a call, the last of them on top; places past their count hold null.
+    fn all_passed(&self, types: &[u16]) -> Result<[Value; MOST_ARGUMENTS], Refusal> {
+        let mut values = [Value::Null; MOST_ARGUMENTS];
+        for (place, &of) in types.iter().enumerate() {
+            values[place] = self.passed(types.len() - 1 - place, of)?;
+        }
+        Ok(values)
     }
 
     fn getfield(&mut self, at: FieldRef) -> Result<Answer, Refusal> {
@@ -219,7 +232,7 @@ impl Turn<'_> {
         let Some((nearest, field)) = self.classes.field(self.store, named, at.field, at.of) else {
             return Err(Refusal::Word(word::ABSENT));
         };
-        let ties = self.new_ties(nearest, &[at.of]);
+        let ties = self.new_ties(nearest, [at.of].into_iter());
         self.judge(&ties, true)?;
         let object = self.receiver(0, named)?.ok_or(Refusal::Word(word::NULL))?;
         let value = Value::read(&self.store.objects, Store::field_cell(object, field)).ok_or(STUCK)?;
@@ -232,9 +245,9 @@ impl Turn<'_> {
         let Some((nearest, field)) = self.classes.field(self.store, named, at.field, at.of) else {
             return Err(Refusal::Word(word::ABSENT));
         };
-        let ties = self.new_ties(nearest, &[at.of]);
+        let ties = self.new_ties(nearest, [at.of].into_iter());
         self.judge(&ties, true)?;
-        let value = self.passed(at.of)?;
+        let value = self.passed(0, at.of)?;
         let object = self.receiver(1, named)?.ok_or(Refusal::Word(word::NULL))?;
         value.write(&mut self.store.objects, Store::field_cell(object, field));
         self.post(&ties);
@@ -243,20 +256,20 @@ impl Turn<'_> {
 
     fn invokevirtual(&mut self, at: MethodRef) -> Result<Answer, Refusal> {
         let named = self.named_class(at.class)?;
-        let found = self.classes.method(self.store, named, at.method, at.argument, at.result);
-        let Some((nearest, _)) = found else {
+        let Some((nearest, _)) = self.classes.method(self.store, named, at.signature) else {
             return Err(Refusal::Word(word::ABSENT));
         };
-        let ties = self.new_ties(nearest, &[at.argument, at.result]);
+        let ties = self.new_ties(nearest, at.signature.types());
         self.judge(&ties, !self.store.is_full(count::FRAMES + self.task))?;
-        let argument = self.passed(at.argument)?;
-        let object = self.receiver(1, named)?.ok_or(Refusal::Word(word::NULL))?;
+        let passed = at.signature.arguments.count();
+        let arguments = self.all_passed(at.signature.arguments.types())?;
+        let object = self.receiver(passed, named)?.ok_or(Refusal::Word(word::NULL))?;
         let own = self.store.object_class(object);
-        let selected = self.classes.method(self.store, own, at.method, at.argument, at.result);
+        let selected = self.classes.method(self.store, own, at.signature);
         let (owner, place) = selected.map(|(class, method)| (class, method.place)).ok_or(STUCK)?;
         self.post(&ties);
-        let answer = self.settle(2, None);
-        self.store.enter(self.task, owner, place, Value::Object(object), argument);
+        let answer = self.settle(passed + 1, None);
+        self.store.enter(self.task, owner, place, Value::Object(object), &arguments[..passed]);
         answer
     }
 

@@ -335,8 +335,8 @@ impl Store {
         add_row(&mut self.subtypes, &mut self.counts[count::SUBTYPES], row);
     }
 
-    /// Appends a frame at point 0 with no operands; the caller has seen that there is room.
-    pub fn enter(&mut self, task: usize, class: u16, method: usize, this: Value, argument: Value) {
+    /// Appends a frame at point 0 with no operands; the caller has seen that there is room. The arguments are local 1 and so on.
+    pub fn enter(&mut self, task: usize, class: u16, method: usize, this: Value, arguments: &[Value]) {
         let base = frame_base(task, self.frame_count(task));
         let frame = &mut self.frames[base..base + FRAME_ROW];
         frame[cell::CLASS] = u32::from(class);
@@ -344,8 +344,8 @@ impl Store {
         frame[cell::POINT] = 0;
         frame[cell::OPERANDS] = 0;
         this.write(frame, cell::LOCAL_0);
-        argument.write(frame, cell::LOCAL_0 + 2);
-        frame[cell::LOCAL_0 + 4..cell::OPERAND_0].fill(0);
+        frame[cell::LOCAL_0 + 2..cell::OPERAND_0].fill(0);
+        arguments.iter().zip(1..).for_each(|(argument, local)| argument.write(frame, cell::LOCAL_0 + 2 * local));
         self.counts[count::FRAMES + task] += 1;
     }
 }

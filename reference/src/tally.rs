@@ -9,6 +9,7 @@ use crate::code::op;
 use crate::gen::reach::{reached, Without, LEFT_OUT};
 use crate::gen::{Call, CALLS};
 use crate::hidden::Hiding;
+use crate::passing::Passing;
 use crate::reason::chain;
 use crate::step::{instruction_of, take_step};
 use crate::store::{cell, frame_base, Store, FREE};
@@ -64,6 +65,8 @@ pub struct Tally {
     pub reasons: [u64; REASONS.len()],
     /// What hidden fields were met.
     pub hiding: Hiding,
+    /// What calls met.
+    pub passing: Passing,
 }
 
 /// What a chain that breaks agreement may have, and the test for it.
@@ -134,6 +137,7 @@ impl Default for Tally {
             reused: 0,
             reasons: [0; REASONS.len()],
             hiding: Hiding::default(),
+            passing: Passing::default(),
         }
     }
 }
@@ -209,9 +213,6 @@ impl Tally {
 
     /// Runs a copy of the store again for the opcodes and accesses of its first steps.
     fn count_opcodes(&mut self, before: &Store, steps: u16) {
-        if steps == 0 {
-            return;
-        }
         let Some(classes) = crate::broken::unbroken(before) else {
             return;
         };
@@ -221,8 +222,10 @@ impl Tally {
                 self.opcodes[usize::from(opcode)] += 1;
             }
             self.hiding.count_access(&store, &classes);
+            self.passing.count(&store, &classes);
             take_step(&mut store, &classes);
         }
+        self.passing.count(&store, &classes);
     }
 
     pub fn add(&mut self, other: &Tally) {
@@ -238,6 +241,7 @@ impl Tally {
         self.reused += other.reused;
         (0..REASONS.len()).for_each(|what| self.reasons[what] += other.reasons[what]);
         self.hiding.add(&other.hiding);
+        self.passing.add(&other.passing);
     }
 
     /// The words given to a call, by number; 0 is accepted.
@@ -297,7 +301,7 @@ impl fmt::Display for Tally {
         for ((what, _), chains) in REASONS.iter().zip(self.reasons) {
             writeln!(f, "   chains with {what:<28}{chains:>6}")?;
         }
-        write!(f, "{}", self.hiding)?;
+        write!(f, "{}{}", self.hiding, self.passing)?;
         writeln!(f, "   objects freed{:>33}\n   objects in freed rows{:>25}", self.freed, self.reused)?;
         writeln!(f, "   runs of 1,000 steps and more{:>18}", self.long_runs)
     }

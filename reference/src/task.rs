@@ -3,8 +3,9 @@
 use crate::answer::{denied, word, Answer, Refusal, Reply};
 use crate::broken::unbroken;
 use crate::classes::Classes;
+use crate::signature::Signature;
 use crate::step::take_step;
-use crate::store::{count, Store, Value, INT, LOADERS, OBJECT_ROW, TASKS};
+use crate::store::{count, Store, Value, LOADERS, OBJECT_ROW, TASKS};
 
 /// The most steps of a run.
 const MOST_STEPS: u32 = 65_535;
@@ -35,14 +36,14 @@ pub fn start(store: &mut Store, task: u32, loader: u32, name: u16, method: u16, 
     let Some(class) = store.cached(loader, name) else {
         return Reply::Denied(Refusal::Wanted(loader as u8, name));
     };
-    let Some((owner, selected)) = classes.method(store, class, method, INT, INT) else {
+    let Some((owner, selected)) = classes.method(store, class, Signature::of_ints(method)) else {
         return denied(word::ABSENT);
     };
     let place = selected.place;
     let Some(this) = make_object(store, &classes, class, task) else {
         return denied(word::FULL);
     };
-    store.enter(task, owner, place, this, Value::Int(int));
+    store.enter(task, owner, place, this, &[Value::Int(int)]);
     Reply::Accepted
 }
 

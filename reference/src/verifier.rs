@@ -4,6 +4,7 @@
 use crate::answer::word;
 use crate::code::{decode, op, Instruction};
 use crate::file::{File, Map, Method, MAPPED};
+use crate::signature::{Arguments, Unlisted};
 use crate::store::{INT, LOCALS, OPERANDS};
 
 #[derive(Clone, Copy, Debug, PartialEq, Eq)]
@@ -44,6 +45,8 @@ pub enum Why {
     UnknownOpcode(u8),
     /// The end of the code cuts off what follows the opcode.
     CutOff(u8),
+    /// A call with so many arguments inline, which is as an unknown opcode is.
+    TooManyArguments(u8),
     Name0,
     ClassBelow2(u16),
     NoLocal(u8),
@@ -98,10 +101,11 @@ pub struct Types {
 }
 
 impl Types {
-    pub fn at_point_0(own_name: u16, argument: u16) -> Types {
+    /// Local 0 is this, and from local 1 on there are the arguments.
+    pub fn at_point_0(own_name: u16, arguments: &[u16]) -> Types {
         let mut locals = [Type::Unset; LOCALS];
         locals[0] = Type::Class(own_name);
-        locals[1] = Type::named(argument);
+        locals[1..].iter_mut().zip(arguments).for_each(|(local, &of)| *local = Type::named(of));
         Types { operands: [Type::Unset; OPERANDS], count: 0, locals }
     }
 
@@ -158,11 +162,12 @@ impl Types {
         Ok(())
     }
 
-    /// Takes a value of this type, and below it a receiver of this class; the receiver's note comes first.
-    fn receive(&mut self, class: u16, value: u16, note: &mut impl FnMut(u16, u16)) -> Result<(), Why> {
-        let stands = self.pop()?;
+    /// Takes values of these types, the last of them on top, and below them a receiver of this class; the receiver's note comes first.
+    fn receive(&mut self, class: u16, values: &[u16], note: &mut impl FnMut(u16, u16)) -> Result<(), Why> {
+        let first = self.count.checked_sub(values.len()).ok_or(Why::TooFewOperands)?;
+        self.count = first;
         meet(self.pop_reference()?, class, note)?;
-        meet(stands, value, note)
+        values.iter().zip(&self.operands[first..]).try_for_each(|(&value, &stands)| meet(stands, value, note))
     }
 }
 
@@ -187,7 +192,7 @@ fn meet(stands: Type, demanded: u16, note: &mut impl FnMut(u16, u16)) -> Result<
 fn inline_names_fit(instruction: Instruction) -> Result<(), Why> {
     let (class, named) = match instruction {
         Instruction::Getfield(at) | Instruction::Putfield(at) => (at.class, at.field != 0 && at.of != 0),
-        Instruction::Invokevirtual(at) => (at.class, at.method != 0 && at.argument != 0 && at.result != 0),
+        Instruction::Invokevirtual(at) => (at.class, !at.signature.has_name_0()),
         Instruction::New(class) => (class, true),
         _ => return Ok(()),
     };
@@ -223,10 +228,10 @@ pub fn follow(
             meet(types.pop_reference()?, at.class, note)?;
             types.push(Type::named(at.of))
         }
-        Instruction::Putfield(at) => types.receive(at.class, at.of, note),
+        Instruction::Putfield(at) => types.receive(at.class, &[at.of], note),
         Instruction::Invokevirtual(at) => {
-            types.receive(at.class, at.argument, note)?;
-            types.push(Type::named(at.result))
+            types.receive(at.class, at.signature.arguments.types(), note)?;
+            types.push(Type::named(at.signature.result))
         }
         Instruction::New(class) => types.push(Type::Class(class)),
         Instruction::Ireturn => ensure(result == INT, Why::ResultIsNoInt(result)).and_then(|()| types.pop_ints(1)),
@@ -242,11 +247,21 @@ pub fn follow(
 
 /// The instruction at a point within the code, and the next point.
 fn read(method: Method, point: usize) -> Result<(Instruction, usize), Why> {
+    decode(method.version, method.code, point).ok_or_else(|| unread(method, point))
+}
+
+/// Why the instruction at a point can't be read.
+fn unread(method: Method, point: usize) -> Why {
     let opcode = method.code[point];
-    decode(method.version, method.code, point).ok_or(match op::of(method.version).contains(&opcode) {
-        true => Why::CutOff(opcode),
-        false => Why::UnknownOpcode(opcode),
-    })
+    let list = || Arguments::read(method.version, method.code.get(point + 5..).unwrap_or_default());
+    match opcode {
+        op::INVOKEVIRTUAL => match list() {
+            Err(Unlisted::TooMany(count)) => Why::TooManyArguments(count),
+            _ => Why::CutOff(opcode),
+        },
+        _ if op::of(method.version).contains(&opcode) => Why::CutOff(opcode),
+        _ => Why::UnknownOpcode(opcode),
+    }
 }
 
 /// The maps of a method, found by their offset without a search.
@@ -305,7 +320,7 @@ struct Walk<'a> {
 impl<'a> Walk<'a> {
     /// Stands at point 0, with what flows there from entry.
     fn begin(own_name: u16, method: Method<'a>, note: &mut impl FnMut(u16, u16)) -> Result<Walk<'a>, Rejected> {
-        let types = Types::at_point_0(own_name, method.argument);
+        let types = Types::at_point_0(own_name, method.signature.arguments.types());
         let mut walk = Walk { method, mapped: Mapped::new(method), stood: 0, point: 0, types };
         let entered = walk.enter(0, note).and_then(|()| walk.stand(0));
         entered.map_err(|why| walk.rejected(why))?;
@@ -349,7 +364,7 @@ impl<'a> Walk<'a> {
     /// The next point, with its types, once the instruction's own effect, the flow to its target and that to the next point are fine.
     fn next(&mut self, note: &mut impl FnMut(u16, u16)) -> Result<usize, Why> {
         let (instruction, next) = read(self.method, self.point)?;
-        follow(&mut self.types, instruction, self.method.result, note)?;
+        follow(&mut self.types, instruction, self.method.signature.result, note)?;
         if let Some(target) = instruction.target() {
             let map = self.mapped.at(target).ok_or(Why::TargetUnmapped(target))?;
             flow(&self.types, map, note)?;

@@ -89,6 +89,32 @@ fn with_maps(s: &mut Store) -> usize {
     start
 }
 
+/// The same of version 3, with a method of two arguments.
+fn with_lists(s: &mut Store) -> usize {
+    let start = s.count(1);
+    let class = s.add_class(1, &Draft::listed(40).method_of(20, &[INT, 40], INT, &Code::listed().end(INT)).file());
+    s.add_cached([1, 40, class]);
+    start
+}
+
+#[test]
+fn files_of_version_3() {
+    check(false, "a list", |s| { with_lists(s); });
+    // The count of arguments stands at 11, behind the method's name.
+    let changed = |at: usize, byte: u8| move |s: &mut Store| {
+        let start = with_lists(s);
+        s.kept[start + at] = byte;
+    };
+    check(true, "version 2", changed(0, 2));
+    check(true, "version 4", changed(0, 4));
+    check(true, "an argument more", changed(11, 3));
+    check(true, "an argument less", changed(11, 1));
+    check(true, "five arguments", changed(11, 5));
+    check(true, "an argument of type 0", changed(13, 0));
+    check(false, "another argument", changed(13, 7));
+    check(true, "a result of type 0", changed(17, 0));
+}
+
 #[test]
 fn files_of_version_2() {
     check(false, "maps", |s| { with_maps(s); });

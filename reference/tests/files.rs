@@ -4,7 +4,7 @@ use reference::check;
 use reference::gen::build::{Code, Draft};
 use reference::gen::codes::{rejected, taken};
 use reference::gen::files::{edge, file, of_length};
-use reference::gen::mapped;
+use reference::gen::{counts, mapped};
 use reference::gen::rng::Rng;
 use reference::gen::Trial;
 use reference::store::INT;
@@ -28,6 +28,12 @@ impl Reader<'_> {
         self.word().filter(|&word| word >= least)
     }
 
+    /// The types of the arguments: one, or in version 3 as many as a byte says.
+    fn list(&mut self, version: u8) -> Option<Vec<u16>> {
+        let count = if version == 3 { self.byte().filter(|&count| count <= 4)? } else { 1 };
+        (0..count).map(|_| self.word_from(1)).collect()
+    }
+
     fn maps(&mut self) -> Option<()> {
         let mut offsets = Vec::new();
         for _ in 0..self.byte()? {
@@ -42,7 +48,7 @@ impl Reader<'_> {
 
 fn reads(bytes: &[u8]) -> Option<()> {
     let mut reader = Reader(bytes);
-    let version = reader.byte().filter(|version| [1, 2].contains(version))?;
+    let version = reader.byte().filter(|version| [1, 2, 3].contains(version))?;
     (bytes.len() <= 4_096).then_some(())?;
     (usize::from(reader.word()?) == reader.0.len()).then_some(())?;
     reader.word_from(2)?;
@@ -55,12 +61,12 @@ fn reads(bytes: &[u8]) -> Option<()> {
     }
     let mut methods = Vec::new();
     for _ in 0..reader.byte().filter(|&count| count <= 8)? {
-        let method = (reader.word_from(1)?, reader.word_from(1)?, reader.word_from(1)?);
+        let method = (reader.word_from(1)?, reader.list(version)?, reader.word_from(1)?);
         (!methods.contains(&method)).then(|| methods.push(method))?;
         for _ in 0..reader.word().filter(|&length| (1..=512).contains(&length))? {
             reader.byte()?;
         }
-        if version == 2 {
+        if version > 1 {
             reader.maps()?;
         }
     }
@@ -123,17 +129,27 @@ fn the_verifier_takes() {
     }
 }
 
-#[test]
-fn files_of_version_2_by_hand() {
-    for (number, drafts) in [(0, mapped::taken()), (15, mapped::unmapped()), (6, mapped::rejected())] {
+/// Files by the desk's number for them.
+fn by_hand(drafts: [(u8, Vec<Draft>); 3], bad: Vec<Vec<u8>>) {
+    for (number, drafts) in drafts {
         for (at, draft) in drafts.into_iter().enumerate() {
             assert_eq!(check(&draft.file()), number, "case {at}: {:02X?}", draft.methods);
         }
     }
-    for (at, bytes) in mapped::bad().into_iter().enumerate() {
+    for (at, bytes) in bad.into_iter().enumerate() {
         assert_eq!(check(&bytes), 2, "case {at}: {bytes:02X?}");
         assert!(reads(&bytes).is_none(), "case {at}");
     }
+}
+
+#[test]
+fn files_of_version_2_by_hand() {
+    by_hand([(0, mapped::taken()), (15, mapped::unmapped()), (6, mapped::rejected())], mapped::bad());
+}
+
+#[test]
+fn files_of_version_3_by_hand() {
+    by_hand([(0, counts::taken()), (15, counts::unmapped()), (6, counts::rejected())], counts::bad());
 }
 
 #[test]

@@ -8,6 +8,7 @@ use reference::gen::graphs::graphs;
 use reference::gen::hidden::hidden;
 use reference::gen::limits::LIMITS;
 use reference::gen::list::list;
+use reference::gen::listed::listed;
 use reference::gen::loops::loops;
 use reference::gen::rates::rates;
 use reference::gen::rng::Rng;
@@ -128,7 +129,7 @@ fn random_lists() {
     assert_eq!(tally.unswept(), Vec::<&str>::new(), "what sweeps never had");
     assert_eq!(tally.unreasoned(), Vec::<&str>::new(), "what chains of clashes never had");
     assert_eq!(tally.hiding.unmet(), Vec::<&str>::new(), "what accesses never met");
-    for trial in cases::cases().iter().chain(&swept()).chain(&loops()).chain(&rates()).chain(&hidden()) {
+    for trial in cases::cases().iter().chain(&swept()).chain(&loops()).chain(&rates()).chain(&hidden()).chain(&listed()) {
         watch(trial, "a case", &mut tally);
     }
     for (name, limit) in LIMITS {
@@ -140,6 +141,7 @@ fn random_lists() {
     }
     assert_eq!(tally.ended(), ENDS_FROM_A_BOOT, "the ends of runs");
     assert_eq!(tally.idle_opcodes(), Vec::<&str>::new(), "opcodes that never ran");
+    assert_eq!(tally.passing.unmet(), Vec::<&str>::new(), "what no call met");
 }
 
 #[test]
@@ -169,6 +171,8 @@ fn limits_are_at_their_counts() {
     assert_eq!(counts("define: ties")[3], 256);
     assert_eq!(counts("step: a tie")[3], 256);
     assert_eq!(counts("step: two ties with room for one")[3], 255);
+    assert_eq!(counts("step: five ties with room for four")[3], 252);
+    assert_eq!(counts("define: five ties with room for two")[3], 254);
     assert_eq!(counts("define: subtype constraints")[4], 256);
     assert_eq!(counts("start: objects")[5], 256);
     assert_eq!(counts("step: objects")[5], 256);

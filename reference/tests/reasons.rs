@@ -90,6 +90,34 @@ fn places_and_reasons_of_maps() {
 }
 
 #[test]
+fn places_and_reasons_of_lists() {
+    let c = Code::listed;
+    let file = |types: &[u16]| Draft::listed(10).method_of(20, types, INT, &c().end(INT)).file();
+    assert_eq!(flaw(&file(&[INT; 5])), (11, Rule::TooManyArguments(5)));
+    assert_eq!(flaw(&file(&[INT, 10, 0])), (16, Rule::Name0));
+    let twice = Draft::listed(10).method_of(20, &[], INT, &c().end(INT)).method_of(20, &[], INT, &c().end(INT));
+    assert_eq!(flaw(&twice.file()), (21, Rule::SameMethod(20)));
+    let mut five = c().aload(0).call(10, 20, &[INT; 3], INT).end(INT);
+    five.bytes[7] = 5;
+    let cut = Code::of(c().aload(0).call(10, 20, &[INT; 3], INT).bytes[..12].to_vec());
+    let cases = [
+        (five, 2, Why::TooManyArguments(5)),
+        (cut, 2, Why::CutOff(op::INVOKEVIRTUAL)),
+        (c().aload(0).names(op::INVOKEVIRTUAL, &[10, 20]), 2, Why::CutOff(op::INVOKEVIRTUAL)),
+        (c().aload(0).int(1).call(10, 20, &[INT, INT], INT).ireturn(), 5, Why::TooFewOperands),
+        (c().int(0).int(1).int(2).call(10, 20, &[INT, INT], INT).ireturn(), 9, Why::NoReference(Type::Int)),
+        (c().aload(0).null().int(1).call(10, 20, &[INT, INT], INT).ireturn(), 6, Why::NoInt(Type::Null)),
+        (c().aload(0).call(10, 20, &[10, 0], INT).ireturn(), 2, Why::Name0),
+        (c().call(10, 20, &[], INT).ireturn(), 0, Why::TooFewOperands),
+    ];
+    for (code, point, why) in cases {
+        let bytes = Draft::listed(10).main(20, &code).file();
+        let rejected = Rejected { method: 0, point, why };
+        assert_eq!(verify(File::read(&bytes).expect("a file"), &mut |_, _| ()), Err(rejected));
+    }
+}
+
+#[test]
 fn places_and_reasons_of_the_verifier() {
     let c = Code::new;
     let cases = [
@@ -138,8 +166,7 @@ fn a_sketch_has_what_a_file_has() {
         assert_eq!((sketch.name, sketch.superclass), (Some(file.name()), Some(file.superclass())));
         assert_eq!(sketch.fields, file.fields().collect::<Vec<_>>());
         let maps = |method: reference::file::Method| format!("{:?}", method.maps().collect::<Vec<_>>());
-        let methods =
-            |method: reference::file::Method| (method.name, method.argument, method.result, method.code.to_vec(), maps(method));
+        let methods = |method: reference::file::Method| (method.signature, method.code.to_vec(), maps(method));
         let own: Vec<_> = file.methods().map(methods).collect();
         assert_eq!(sketch.methods.into_iter().map(methods).collect::<Vec<_>>(), own);
     }

@@ -71,6 +71,6 @@ fn place(bytes: &[u8], names: &Names) -> Option<(usize, String, String)> {
     let code = method.code.as_ptr() as usize - bytes.as_ptr() as usize;
     let point = rejected.point;
     let (instruction, _) = listing::instruction_at(method, point, names, &[]);
-    let place = format!("method {}, point {point}, {instruction}", names.method(method.name, method.argument, method.result));
+    let place = format!("method {}, point {point}, {instruction}", names.method(method.signature));
     Some((code + point, place, reasons::why(rejected.why, names)))
 }

@@ -2,7 +2,7 @@
 
 use std::fmt::Write;
 
-use reference::code::decode;
+use reference::code::{decode, Instruction};
 use reference::code::op::{self, Inline};
 use reference::file::{File, Flaw, Map, Method, Sketch, MAPPED};
 use reference::verifier::{seen, Rejected, Seen, Type, Types, Why};
@@ -53,7 +53,7 @@ fn class(sketch: &Sketch, called: Option<&str>, names: &Names, seeing: Seeing) -
         let _ = writeln!(out, "    field {} {}", names.member(field.name), names.class(field.of));
     }
     for method in &sketch.methods {
-        let _ = writeln!(out, "    method {} {{", names.method(method.name, method.argument, method.result));
+        let _ = writeln!(out, "    method {} {{", names.method(method.signature));
         out.push_str(&code(*method, names, seeing(sketch.name.unwrap_or(0), *method)));
         out.push_str("    }\n");
     }
@@ -113,8 +113,8 @@ pub fn instruction_at(method: Method, point: usize, names: &Names, labels: &[usi
 
 /// The instruction at any point and the next point, if it can be read.
 pub fn readable_at(method: Method, point: usize, names: &Names, labels: &[usize]) -> Option<(String, usize)> {
-    let (_, next) = decode(method.version, method.code, point)?;
-    Some((instruction(&method.code[point..next], names, labels), next))
+    let (decoded, next) = decode(method.version, method.code, point)?;
+    Some((instruction(decoded, &method.code[point..next], names, labels), next))
 }
 
 fn remark(seen: Option<&Seen>, rejected: Option<Rejected>, names: &Names) -> String {
@@ -137,7 +137,7 @@ fn types(types: &Types, names: &Names) -> String {
 }
 
 /// One instruction, whole, as the text form writes it.
-fn instruction(bytes: &[u8], names: &Names, labels: &[usize]) -> String {
+fn instruction(decoded: Instruction, bytes: &[u8], names: &Names, labels: &[usize]) -> String {
     let Some(((name, inline), rest)) = bytes.split_first().and_then(|(&code, rest)| Some((op::form(code)?, rest))) else {
         return format!("bytes {}", hexadecimal(bytes));
     };
@@ -151,6 +151,9 @@ fn instruction(bytes: &[u8], names: &Names, labels: &[usize]) -> String {
         Inline::Target if labels.contains(&word(0).into()) => format!("{name} L{}", word(0)),
         Inline::Target => format!("{name} {}", word(0)),
         Inline::Field => format!("{name} {} {}", member(), names.class(word(2))),
-        Inline::Method => format!("{name} {}({}) {}", member(), names.class(word(2)), names.class(word(3))),
+        Inline::Method => match decoded {
+            Instruction::Invokevirtual(at) => format!("{name} {}.{}", names.class(at.class), names.method(at.signature)),
+            _ => name.into(),
+        },
     }
 }

@@ -1,5 +1,6 @@
 //! Names and their numbers: those that a file declares, and the two that every file has.
 
+use reference::signature::Signature;
 use reference::store::{INT, OBJECT};
 
 #[derive(Clone, Debug)]
@@ -64,8 +65,9 @@ impl Names {
         self.class(number)
     }
 
-    /// A method with its argument and result.
-    pub fn method(&self, name: u16, argument: u16, result: u16) -> String {
-        format!("{}({}) {}", self.member(name), self.class(argument), self.class(result))
+    /// A method with its arguments and result.
+    pub fn method(&self, method: Signature) -> String {
+        let arguments: Vec<String> = method.arguments.types().iter().map(|&of| self.class(of)).collect();
+        format!("{}({}) {}", self.member(method.name), arguments.join(" "), self.class(method.result))
     }
 }

@@ -21,12 +21,13 @@ pub fn rule(rule: Rule, names: &Names) -> String {
     match rule {
         Rule::TooLong => "a file has at most 4,096 bytes".into(),
         Rule::CutOff => "the file ends here, and more should follow".into(),
-        Rule::Version(version) => format!("the version byte is {version}, and versions 1 and 2 are known"),
+        Rule::Version(version) => format!("the version byte is {version}, and versions 1 to 3 are known"),
         Rule::Length(said, follow) => format!("the length bytes say {said}, and {follow} bytes follow them"),
         Rule::ClassBelow2(name) => format!("a class's or superclass's name is 2 or more, and this is {name}"),
         Rule::Name0 => "a name or type is 0".into(),
         Rule::TooManyFields(count) => format!("{count} fields, and a class has at most 8"),
         Rule::TooManyMethods(count) => format!("{count} methods, and a class has at most 8"),
+        Rule::TooManyArguments(count) => format!("{count} arguments, and a method has at most 4"),
         Rule::CodeLength(length) => format!("a method of {length} bytes of code, and it has 1 to 512"),
         Rule::MapOffset(offset) => format!("a map at {offset}, and the maps' offsets rise"),
         Rule::TooManyMapOperands(count) => format!("a map with {count} operands, and it has at most 16"),
@@ -46,6 +47,7 @@ pub fn why(why: Why, names: &Names) -> String {
             let name = op::form(opcode).map_or("the instruction", |form| form.0);
             format!("the code ends before all that belongs to {name}")
         }
+        Why::TooManyArguments(count) => format!("a call with {count} arguments, and a method has at most 4"),
         Why::Name0 => "a name in the instruction is 0".into(),
         Why::ClassBelow2(name) => format!("a class is demanded, and {name} is none: a class's name is 2 or more"),
         Why::NoLocal(number) => format!("there is no local {number}: locals are 0 to 7"),

@@ -108,7 +108,7 @@ fn class_says(store: &Store, class: u16, names: &Names) -> String {
         let _ = write!(says, ", field {} {}", names.member(field.name), names.class(field.of));
     }
     for method in file.methods() {
-        let _ = write!(says, ", method {}", names.method(method.name, method.argument, method.result));
+        let _ = write!(says, ", method {}", names.method(method.signature));
     }
     says
 }
@@ -148,7 +148,7 @@ fn frame_says(store: &Store, task: usize, depth: usize, names: &Names) -> String
     let frame = &store.frames[base..base + FRAME_ROW];
     let (class, point) = (frame[cell::CLASS] as u16, frame[cell::POINT] as usize);
     let method = store.file(class).and_then(|file| file.method(frame[cell::METHOD] as usize));
-    let place = method.map_or("no method".into(), |method| names.method(method.name, method.argument, method.result));
+    let place = method.map_or("no method".into(), |method| names.method(method.signature));
     let next = method.and_then(|method| listing::readable_at(method, point, names, &[]));
     let next = next.map_or("nothing".into(), |(instruction, _)| instruction);
     let values = |first: usize, count: usize| (0..count).map(|i| value(frame, first + 2 * i)).collect::<Vec<_>>();

@@ -3,11 +3,12 @@
 //! ```text
 //! class Discount extends Object { field rate int  method of(int) int { iload 1  ireturn } }
 //! class Endless extends Object version 2 { method of(int) int { again: map [] {Endless int}  goto again } }
+//! class Premium extends Object version 3 { method of(int Region int) int { iload 1  iload 3  iadd  ireturn } }
 //! file Damaged { 01 0006 000A 0002 00 }
 //! ```
 
 use reference::code::op::{self, Inline};
-use reference::file::MAPPED;
+use reference::file::{LAST, LISTED, MAPPED};
 use reference::gen::build::{Code, Draft, MapDraft, MethodDraft};
 use reference::store::LOCALS;
 
@@ -35,7 +36,8 @@ impl Text {
 const HEAD: usize = 3;
 const FIELDS: usize = 8;
 const FIELD: usize = 4;
-const METHOD_HEAD: usize = 8;
+/// A method's name, result and code length.
+const METHOD_HEAD: usize = 6;
 const MAP_HEAD: usize = 19;
 
 /// `class NAME extends NAME [version N] [as WORD] { members }`, behind the word class.
@@ -48,7 +50,7 @@ pub fn class(at: &mut Cursor) -> Parsed<Text> {
     let above = at.peek().span;
     draft = draft.under(at.name("the superclass's name")?);
     if at.took("version") {
-        draft.version = at.number("a version", 1, MAPPED.into())? as u8;
+        draft.version = at.number("a version", 1, LAST.into())? as u8;
     }
     let mut span = begin.to(at.last().span);
     if at.took("as") {
@@ -76,6 +78,8 @@ struct Members {
 
 struct MethodPlaces {
     head: Span,
+    /// How many bytes the list of arguments has.
+    list: usize,
     instructions: Vec<(usize, Span)>,
     length: usize,
     /// How many bytes each map has.
@@ -88,7 +92,7 @@ impl Members {
         let mut at = FIELDS + FIELD * self.fields.len() + 1;
         for method in &self.methods {
             marks.push((at, method.head));
-            let code = at + METHOD_HEAD;
+            let code = at + METHOD_HEAD + method.list;
             marks.extend(method.instructions.iter().map(|&(point, span)| (code + point, span)));
             at = code + method.length;
             if version >= MAPPED {
@@ -151,34 +155,49 @@ fn not_closed(at: &Cursor, brace: Span) -> String {
     format!("the '{{' of line {} isn't closed yet", at.source.place(brace.start).0)
 }
 
-/// `method NAME(TYPE) TYPE { code }`
+/// `method NAME(TYPES) TYPE { code }`
 fn method(at: &mut Cursor, version: u8) -> Parsed<(MethodDraft, MethodPlaces)> {
     let begin = at.take();
     let name = at.name("the method's name")?;
-    let argument = argument(at)?;
+    let arguments = arguments(at, version)?;
     let result = at.name("the result's type")?;
     let head = begin.to(at.last().span);
     let brace = at.sign('{')?;
-    let mut body = Body { version, brace, ..Body::default() };
+    let mut body = Body { version, brace, code: Code::of_version(version), ..Body::default() };
     while !at.has_sign('}') {
         body.part(at)?;
     }
     at.take();
     body.labels_are_there(at)?;
     let Body { code, instructions, maps, .. } = body;
-    let places = MethodPlaces { head, instructions, length: code.bytes.len(), maps };
-    Ok((MethodDraft { name, argument, result, code: code.bytes, maps: code.maps }, places))
+    let list = usize::from(version >= LISTED) + 2 * arguments.len();
+    let places = MethodPlaces { head, list, instructions, length: code.bytes.len(), maps };
+    Ok((MethodDraft { name, arguments, result, code: code.bytes, maps: code.maps }, places))
 }
 
-/// `(TYPE)`: the list of arguments, which has one in a file of version 1.
-fn argument(at: &mut Cursor) -> Parsed<u16> {
-    at.sign('(')?;
-    let one = at.name("the argument's type: a file of version 1 has one argument")?;
-    if at.has_sign(',') {
-        return Err(Problem::new(at.peek().span, "a file of version 1 has one argument"));
+/// `(TYPES)`: the list of arguments, which has one in a file before version 3. Whether there are too many is for the desk to say.
+fn arguments(at: &mut Cursor, version: u8) -> Parsed<Vec<u16>> {
+    let open = at.sign('(')?;
+    let mut all = Vec::new();
+    while !at.has_sign(')') {
+        if version < LISTED && all.len() == 1 {
+            return Err(one_argument(at, version));
+        }
+        all.push(at.name("an argument's type, or ')'")?);
     }
-    at.sign(')')?;
-    Ok(one)
+    if version < LISTED && all.is_empty() {
+        return Err(one_argument(at, version));
+    }
+    let list = open.to(at.take());
+    if all.len() > 255 {
+        return Err(Problem::new(list, format!("{} arguments: a file has one byte for their count", all.len())));
+    }
+    Ok(all)
+}
+
+fn one_argument(at: &Cursor, version: u8) -> Problem {
+    let problem = Problem::new(at.peek().span, format!("a file of version {version} has one argument"));
+    problem.help(format!("more, or none, with a version behind the superclass: class Premium extends Object version {LISTED} {{ .. }}"))
 }
 
 /// The code of a method as far as it is read.
@@ -299,8 +318,10 @@ impl Body {
             }
             Inline::Method => {
                 let [class, method] = dotted(at, "a method")?;
-                let argument = argument(at)?;
-                vec![class, method, argument, at.name("the result's type")?]
+                let arguments = arguments(at, self.version)?;
+                let result = at.name("the result's type")?;
+                self.emit(|code| code.call(class, method, &arguments, result));
+                return Ok(());
             }
             Inline::Target if at.has_number() => vec![at.number("an offset", 0, u16::MAX.into())? as u16],
             Inline::Target => {

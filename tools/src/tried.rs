@@ -57,7 +57,7 @@ fn stepped(store: &Store, classes: &Classes) -> Option<Vec<[u16; 3]>> {
         }
         Instruction::Invokevirtual(at) => {
             let named = store.cached(here, at.class)?;
-            (classes.method(store, named, at.method, at.argument, at.result)?.0, vec![at.argument, at.result])
+            (classes.method(store, named, at.signature)?.0, at.signature.types().collect())
         }
         _ => return None,
     };

@@ -18,8 +18,9 @@ use writer::script;
 use writer::source::Source;
 
 /// Pieces that make sense somewhere.
-const WORDS: [&str; 42] = [
+const WORDS: [&str; 43] = [
     "version 2 ",
+    "version 3 ",
     "again: ",
     "again:\n",
     "goto again\n",

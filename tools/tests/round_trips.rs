@@ -5,7 +5,7 @@ mod common;
 use reference::file::File;
 use reference::gen::codes::{rejected, taken};
 use reference::gen::files::{edge, file, of_length};
-use reference::gen::mapped;
+use reference::gen::{counts, mapped};
 use reference::gen::rng::Rng;
 use writer::input;
 use writer::lesson::Lesson;
@@ -54,6 +54,13 @@ fn files_of_version_2() {
     let drafts = mapped::taken().into_iter().chain(mapped::unmapped()).chain(mapped::rejected());
     drafts.for_each(|draft| goes_round(&draft.file()));
     mapped::bad().iter().for_each(|bytes| goes_round(bytes));
+}
+
+#[test]
+fn files_of_version_3() {
+    let drafts = counts::taken().into_iter().chain(counts::unmapped()).chain(counts::rejected());
+    drafts.for_each(|draft| goes_round(&draft.file()));
+    counts::bad().iter().for_each(|bytes| goes_round(bytes));
 }
 
 #[test]

@@ -62,9 +62,9 @@ pub const FAULTS: [Fault; 17] = [
     ("offsets-are-the-verifiers", |call, store| ruled(call, store, |rule| matches!(rule, Rule::MapOffset(_)))),
     ("operand-counts-are-the-verifiers", |call, store| ruled(call, store, |rule| matches!(rule, Rule::TooManyMapOperands(_)))),
     ("operand-types-are-the-verifiers", |call, store| ruled(call, store, |rule| rule == Rule::MapOperand0)),
-    ("version-three-is-version-two", |call, store| match *call {
-        Call::Define { loader, ref file } if file.first() == Some(&3) => {
-            let file = [&[2], &file[1..]].concat();
+    ("version-four-is-version-three", |call, store| match *call {
+        Call::Define { loader, ref file } if file.first() == Some(&4) => {
+            let file = [&[3], &file[1..]].concat();
             Some(Call::Define { loader, file }.apply(store))
         }
         _ => None,

@@ -4,6 +4,8 @@
 use super::build::Draft;
 use super::rng::Rng;
 use super::walk;
+use crate::file::LISTED;
+use crate::signature::{Signature, MOST_ARGUMENTS};
 use crate::store::{INT, OBJECT};
 
 /// The name of the blueprint's first class.
@@ -17,8 +19,7 @@ pub struct Sketch {
     pub name: u16,
     pub superclass: u16,
     pub fields: Vec<(u16, u16)>,
-    /// Name, argument type, result type.
-    pub methods: Vec<(u16, u16, u16)>,
+    pub methods: Vec<Signature>,
 }
 
 #[derive(Clone, Debug)]
@@ -46,12 +47,12 @@ impl Blueprint {
         };
         let first = FIELD + 4 * (name - FIRST);
         let fields = self.fields(rng, superclass, first, names);
-        let mut methods = vec![(MAIN, INT, INT)];
+        let mut methods = vec![Signature::of_ints(MAIN)];
         let inherited: Vec<_> = self.upward(superclass).iter().flat_map(|up| up.methods.clone()).collect();
         for _ in 0..rng.within(0, 4) {
             let method = match inherited.len() {
                 1.. if rng.percent(60) => rng.pick(&inherited),
-                _ => (MAIN + rng.below(3) as u16, random_type(rng, names), random_type(rng, names)),
+                _ => Signature::new(MAIN + rng.below(3) as u16, &random_list(rng, names), random_type(rng, names)),
             };
             if !methods.contains(&method) {
                 methods.push(method);
@@ -103,12 +104,14 @@ impl Blueprint {
         };
         let mut sketch = sketch.clone();
         self.vary(rng, &mut sketch);
-        let draft = if rng.percent(50) { Draft::mapped(name) } else { Draft::new(name) };
-        let mut draft = draft.under(sketch.superclass);
+        let mut draft = Draft::new(name).under(sketch.superclass);
+        let version = rng.pick(&[1, 1, 1, 2, 2, 2, LISTED, LISTED, LISTED, LISTED]);
+        draft.version = version;
         draft.fields = sketch.fields;
-        for (method, argument, result) in sketch.methods {
-            let code = walk::method(rng, self, draft.version, name, argument, result);
-            draft = draft.method(method, argument, result, &code);
+        for method in sketch.methods.into_iter().filter(|method| method.is_of(version)) {
+            let arguments = method.arguments.types();
+            let code = walk::method(rng, self, version, name, arguments, method.result);
+            draft = draft.method_of(method.name, arguments, method.result, &code);
         }
         draft
     }
@@ -133,6 +136,12 @@ impl Blueprint {
             sketch.fields.push((name, rng.pick(&[of, INT])));
         }
     }
+}
+
+/// One argument, or none, or up to four.
+fn random_list(rng: &mut Rng, names: &[u16]) -> Vec<u16> {
+    let count = if rng.percent(35) { 1 } else { rng.below(MOST_ARGUMENTS + 1) };
+    (0..count).map(|_| random_type(rng, names)).collect()
 }
 
 fn random_type(rng: &mut Rng, names: &[u16]) -> u16 {

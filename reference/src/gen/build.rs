@@ -1,7 +1,7 @@
 //! Files and code, written out by hand.
 
 use crate::code::op;
-use crate::file::MAPPED;
+use crate::file::{LISTED, MAPPED};
 use crate::store::{INT, LOCALS, OBJECT};
 
 /// A class before it is a file.
@@ -17,7 +17,7 @@ pub struct Draft {
 #[derive(Clone, Debug)]
 pub struct MethodDraft {
     pub name: u16,
-    pub argument: u16,
+    pub arguments: Vec<u16>,
     pub result: u16,
     pub code: Vec<u8>,
     pub maps: Vec<MapDraft>,
@@ -50,6 +50,11 @@ impl Draft {
         Draft { version: MAPPED, ..Draft::new(name) }
     }
 
+    /// A class of version 3.
+    pub fn listed(name: u16) -> Draft {
+        Draft { version: LISTED, ..Draft::new(name) }
+    }
+
     pub fn under(mut self, superclass: u16) -> Draft {
         self.superclass = superclass;
         self
@@ -60,8 +65,15 @@ impl Draft {
         self
     }
 
-    pub fn method(mut self, name: u16, argument: u16, result: u16, code: &Code) -> Draft {
-        self.methods.push(MethodDraft { name, argument, result, code: code.bytes.clone(), maps: code.maps.clone() });
+    /// A method with one argument.
+    pub fn method(self, name: u16, argument: u16, result: u16, code: &Code) -> Draft {
+        self.method_of(name, &[argument], result, code)
+    }
+
+    /// A method with a list of arguments.
+    pub fn method_of(mut self, name: u16, arguments: &[u16], result: u16, code: &Code) -> Draft {
+        let (code, maps) = (code.bytes.clone(), code.maps.clone());
+        self.methods.push(MethodDraft { name, arguments: arguments.to_vec(), result, code, maps });
         self
     }
 
@@ -83,7 +95,7 @@ impl Draft {
         bytes.push(self.methods.len() as u8);
         for method in &self.methods {
             put(&mut bytes, method.name);
-            put(&mut bytes, method.argument);
+            put_list(&mut bytes, self.version >= LISTED, &method.arguments);
             put(&mut bytes, method.result);
             put(&mut bytes, method.code.len() as u16);
             bytes.extend_from_slice(&method.code);
@@ -95,6 +107,14 @@ impl Draft {
         set_length(&mut bytes);
         bytes
     }
+}
+
+/// The types, and from version 3 on their count before them.
+fn put_list(bytes: &mut Vec<u8>, listed: bool, types: &[u16]) {
+    if listed {
+        bytes.push(types.len() as u8);
+    }
+    types.iter().for_each(|&of| put(bytes, of));
 }
 
 fn put_map(bytes: &mut Vec<u8>, map: &MapDraft) {
@@ -121,6 +141,8 @@ pub fn set_length(bytes: &mut [u8]) {
 pub struct Code {
     pub bytes: Vec<u8>,
     pub maps: Vec<MapDraft>,
+    /// Do its calls have a count before the types of their arguments, as from version 3 on?
+    pub listed: bool,
     /// The labels that are placed, and where.
     labels: Vec<(u16, u16)>,
     /// The jumps to labels that aren't placed yet, by the place of their inline bytes.
@@ -130,6 +152,15 @@ pub struct Code {
 impl Code {
     pub fn new() -> Code {
         Code::default()
+    }
+
+    /// Code of a file of version 3.
+    pub fn listed() -> Code {
+        Code::of_version(LISTED)
+    }
+
+    pub fn of_version(version: u8) -> Code {
+        Code { listed: version >= LISTED, ..Code::default() }
     }
 
     /// These bytes, without maps.
@@ -260,8 +291,17 @@ impl Code {
         self.names(op::PUTFIELD, &[class, field, of])
     }
 
+    /// A call with one argument.
     pub fn invoke(self, class: u16, method: u16, argument: u16, result: u16) -> Code {
-        self.names(op::INVOKEVIRTUAL, &[class, method, argument, result])
+        self.call(class, method, &[argument], result)
+    }
+
+    /// A call with a list of arguments.
+    pub fn call(self, class: u16, method: u16, arguments: &[u16], result: u16) -> Code {
+        let mut code = self.names(op::INVOKEVIRTUAL, &[class, method]);
+        put_list(&mut code.bytes, code.listed, arguments);
+        put(&mut code.bytes, result);
+        code
     }
 
     pub fn object(self, class: u16) -> Code {

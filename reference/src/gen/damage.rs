@@ -11,18 +11,18 @@ use super::loops::{spinning, unset_at_a_join, waiting};
 use super::numbers::{has_wrong_numbers, renumber, wrong_numbers};
 use super::objects::{all_in_use, an_owner, free_rows, links, many_objects, unused_number};
 use super::rng::Rng;
-use super::unverified::{has_unverified, jumps_out, map_bytes, other_version, unseen_jumps, unseen_rates};
+use super::unverified::{has_unverified, jumps_out, map_bytes, other_version, unseen_calls, unseen_jumps, unseen_rates};
 use super::{Call, Trial};
 use crate::file::File;
 use crate::store::{cell, count, frame_base, Store, FIELDS, FRAME_ROW, INT, LENGTHS, LIMITS, OBJECT, OBJECT_ROW, ROW, TASKS};
 
 /// Kinds of damage, each a way to change a good store.
-const KINDS: [fn(&mut Rng, &mut Store); 33] = [
+const KINDS: [fn(&mut Rng, &mut Store); 35] = [
     any_cells, a_count, uniform_table, wrong_length, second_cache_row, overlapping_files, superclass_not_lower,
     code_bytes, kept_byte, top_frame, operand_count, a_value, constraints, full_frames, uniform_store, file_place,
     nested_file, full_rows, many_fields, hidden_fields, hidden_fields, many_classes, report_past_its_code, an_owner, free_rows,
-    unused_number, links, many_objects, unseen_jumps, unseen_jumps, other_version, map_bytes,
-    unseen_rates,
+    unused_number, links, many_objects, unseen_jumps, unseen_jumps, unseen_jumps, other_version, map_bytes,
+    unseen_rates, unseen_calls,
 ];
 
 /// What a damaged store may have, and the test for it.

@@ -11,7 +11,7 @@ use crate::store::INT;
 /// A file, or bytes that might have been one.
 pub fn file(seed: u64) -> Vec<u8> {
     let mut rng = Rng::new(seed ^ 0x66_69_6C_65);
-    match rng.weighted(&[3, 5, 2, 1, 3, 3, 4, 2]) {
+    match rng.weighted(&[3, 5, 2, 1, 3, 3, 4, 2, 1]) {
         0 => good(&mut rng),
         1 => mutated(&mut rng),
         2 => cut(&mut rng),
@@ -22,7 +22,8 @@ pub fn file(seed: u64) -> Vec<u8> {
         4 => edge(&mut rng),
         5 => random_code(&mut rng),
         6 => spoiled(&mut rng),
-        _ => random_jumps(&mut rng),
+        7 => random_jumps(&mut rng),
+        _ => random_calls(&mut rng),
     }
 }
 
@@ -33,11 +34,13 @@ fn good(rng: &mut Rng) -> Vec<u8> {
     blueprint.draft(rng, name).file()
 }
 
-/// A class of version 2 with two methods, spoiled or not.
+/// A class of version 2 or 3 with two methods, spoiled or not.
 fn spoiled(rng: &mut Rng) -> Vec<u8> {
     let blueprint = Blueprint::new(rng);
-    let (own, argument) = (blueprint.names()[0], rng.pick(&[INT, FIRST, FIRST + 1]));
-    let mut codes: Vec<Code> = (0..2).map(|_| walk::method(rng, &blueprint, 2, own, argument, INT)).collect();
+    let (own, version) = (blueprint.names()[0], rng.pick(&[2, 3]));
+    let count = if version == 2 { 1 } else { rng.below(5) };
+    let arguments: Vec<u16> = (0..count).map(|_| rng.pick(&[INT, FIRST, FIRST + 1])).collect();
+    let mut codes: Vec<Code> = (0..2).map(|_| walk::method(rng, &blueprint, version, own, &arguments, INT)).collect();
     for _ in 0..rng.below(3) {
         let at = rng.below(2);
         spoil(rng, &mut codes[at]);
@@ -45,7 +48,8 @@ fn spoiled(rng: &mut Rng) -> Vec<u8> {
     let [one, other] = &codes[..] else {
         unreachable!("two methods")
     };
-    Draft::mapped(own).method(20, argument, INT, one).method(21, argument, INT, other).file()
+    let draft = Draft { version, ..Draft::new(own) };
+    draft.method_of(20, &arguments, INT, one).method_of(21, &arguments, INT, other).file()
 }
 
 fn mutated(rng: &mut Rng) -> Vec<u8> {
@@ -87,7 +91,7 @@ fn cut(rng: &mut Rng) -> Vec<u8> {
 pub fn edge(rng: &mut Rng) -> Vec<u8> {
     let end = Code::new().end(INT);
     let many = |count: u16| (0..count).fold(Draft::new(10), |draft, i| draft.main(20 + i, &end));
-    match rng.below(13) {
+    match rng.below(14) {
         0 => (0..rng.within(7, 9) as u16).fold(Draft::new(10), |draft, i| draft.field(30 + i, INT)).file(),
         1 => many(rng.within(7, 9) as u16).file(),
         2 => Draft::new(rng.below(4) as u16).under(rng.below(4) as u16).file(),
@@ -103,9 +107,10 @@ pub fn edge(rng: &mut Rng) -> Vec<u8> {
             of_length(10, length)
         }
         11 => edge_of_maps(rng).file(),
+        12 => edge_of_lists(rng),
         _ => {
             let mut bytes = many(1).file();
-            bytes[0] = rng.below(4) as u8;
+            bytes[0] = rng.below(5) as u8;
             bytes
         }
     }
@@ -126,6 +131,36 @@ fn edge_of_maps(rng: &mut Rng) -> Draft {
         _ => code.maps = vec![MapDraft::new(0, &[10, INT], &[rng.below(2) as u16])],
     }
     Draft::mapped(10).main(20, &code.end(INT))
+}
+
+/// Lists at one edge of the file rules: 3 to 6 arguments, type 0, two methods alike or hardly, a count or its types cut off.
+fn edge_of_lists(rng: &mut Rng) -> Vec<u8> {
+    let (end, types) = (Code::listed().end(INT), [INT, 10, INT, 10, INT, 10]);
+    let mut arguments = types[..rng.within(3, 6)].to_vec();
+    match rng.below(4) {
+        0 => Draft::listed(10).method_of(20, &arguments, INT, &end).file(),
+        1 => {
+            arguments.truncate(rng.within(1, 4));
+            let at = rng.below(arguments.len());
+            arguments[at] = rng.below(2) as u16;
+            Draft::listed(10).method_of(20, &arguments, INT, &end).file()
+        }
+        2 => {
+            let mut other = types[..rng.below(5)].to_vec();
+            if rng.percent(30) {
+                other.reverse();
+            }
+            arguments.truncate(rng.within(0, 4));
+            Draft::listed(10).method_of(20, &arguments, INT, &end).method_of(20, &other, rng.pick(&[INT, INT, 10]), &end).file()
+        }
+        _ => {
+            arguments.truncate(4);
+            let mut bytes = Draft::listed(10).method_of(20, &arguments, INT, &end).file();
+            bytes.truncate(rng.within(9, 24));
+            set_length(&mut bytes);
+            bytes
+        }
+    }
 }
 
 /// Code with so many maps: 194 are as many as a file has room for.
@@ -162,9 +197,10 @@ pub fn of_length(name: u16, length: usize) -> Vec<u8> {
 
 /// Readable files whose code is drawn instruction by instruction with no regard to types.
 fn random_code(rng: &mut Rng) -> Vec<u8> {
-    let mut code = Code::new();
+    let own = rng.pick(&[1, 3]);
+    let mut code = Code::of_version(own);
     for _ in 0..rng.within(1, 8) {
-        let version = if rng.percent(95) { 1 } else { 2 };
+        let version = if rng.percent(95) { own } else { 2 };
         let opcode = rng.pick(op::of(version));
         let mut name = || rng.pick(&[1, 2, 10, 11, 30]) - u16::from(rng.percent(3));
         code = match opcode {
@@ -172,12 +208,17 @@ fn random_code(rng: &mut Rng) -> Vec<u8> {
             op::IFEQ | op::IF_ICMPLT | op::GOTO => code.names(opcode, &[rng.below(12) as u16]),
             op::ILOAD | op::ALOAD | op::ISTORE | op::ASTORE => code.local(opcode, rng.below(9) as u8),
             op::GETFIELD | op::PUTFIELD => code.names(opcode, &[name(), name(), name()]),
-            op::INVOKEVIRTUAL => code.names(opcode, &[name(), name(), name(), name()]),
+            op::INVOKEVIRTUAL => {
+                let (class, method, result, types) = (name(), name(), name(), [name(), name(), name(), name(), name()]);
+                let count = if own < 3 { 1 } else { rng.pick(&[0, 1, 1, 2, 3, 4, 5]) };
+                code.call(class, method, &types[..count], result)
+            }
             _ => code.plain(opcode),
         };
     }
     let result = rng.pick(&[INT, 11]);
-    Draft::new(10).method(20, rng.pick(&[INT, 10]), result, &code.end(result)).file()
+    let draft = Draft { version: own, ..Draft::new(10) };
+    draft.method(20, rng.pick(&[INT, 10]), result, &code.end(result)).file()
 }
 
 /// Readable files of version 2 with a map at most instructions, each with names of its own, so that most flows make notes.
@@ -204,4 +245,23 @@ fn random_jumps(rng: &mut Rng) -> Vec<u8> {
     code = if rng.percent(90) { code.end(INT) } else { code };
     code = if rng.percent(20) { code.plain(0xFF) } else { code };
     Draft::mapped(10).main(20, &code).file()
+}
+
+/// Readable files of version 3 with a few calls: operands that fit mostly, other names than the lists say, now and then a count of 5.
+fn random_calls(rng: &mut Rng) -> Vec<u8> {
+    let mut code = Code::listed();
+    for _ in 0..rng.within(1, 3) {
+        let types: Vec<u16> = (0..rng.within(0, 4)).map(|_| rng.pick(&[INT, 11, 12, 13])).collect();
+        code = code.object(rng.pick(&[10, 11]));
+        for &of in &types {
+            let of = if rng.percent(95) { of } else { rng.pick(&[INT, 11]) };
+            code = if of == INT { code.iload(1) } else { code.object(rng.pick(&[of, 12, 14])) };
+        }
+        let at = code.bytes.len() + 5;
+        code = code.call(10, 21, &types, INT).pop();
+        if rng.percent(15) {
+            code.bytes[at] = rng.pick(&[types.len() as u8 + 1, 5]);
+        }
+    }
+    Draft::listed(10).main(20, &code.end(INT)).file()
 }

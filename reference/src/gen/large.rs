@@ -239,7 +239,7 @@ pub fn full(repeated: Repeated) -> Store {
 }
 
 fn fill_frame(store: &mut Store, task: usize, depth: usize) {
-    store.enter(task, 1, 0, Value::Object(255), Value::Int(7));
+    store.enter(task, 1, 0, Value::Object(255), &[Value::Int(7)]);
     let base = frame_base(task, depth);
     store.frames[base + cell::OPERANDS] = OPERANDS as u32 - 1;
     for place in 0..OPERANDS - 1 {
@@ -287,7 +287,7 @@ pub fn objects(held: Held) -> Store {
 fn hold_eight(store: &mut Store, depth: usize) {
     let first = 8 * depth as u32;
     if depth > 0 {
-        store.enter(0, 1, 0, Value::Object(first), Value::Int(7));
+        store.enter(0, 1, 0, Value::Object(first), &[Value::Int(7)]);
     }
     let base = frame_base(0, depth);
     store.frames[base + cell::OPERANDS] = 2;

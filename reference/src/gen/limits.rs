@@ -8,7 +8,7 @@ use crate::store::INT;
 
 pub type Limit = (&'static str, fn(&mut Rng) -> Trial);
 
-pub const LIMITS: [Limit; 16] = [
+pub const LIMITS: [Limit; 18] = [
     ("define: classes", classes),
     ("define: kept bytes", kept_bytes),
     ("define: cache entries", cache_by_define),
@@ -25,6 +25,8 @@ pub const LIMITS: [Limit; 16] = [
     ("step: frames", frames),
     ("step: a tie", tie_by_field),
     ("step: two ties with room for one", ties_by_invoke),
+    ("step: five ties with room for four", five_by_invoke),
+    ("define: five ties with room for two", five_by_define),
 ];
 
 const MAIN: u16 = 20;
@@ -269,5 +271,37 @@ fn ties_by_invoke(_: &mut Rng) -> Trial {
     use_across(&mut trial, &code.pop().end(INT));
     trial.run(5);
     trial.step();
+    trial
+}
+
+/// 252 ties, and then loader 1's class 30 with methods of four arguments and a result: five types, or two that repeat.
+fn room_for_four() -> Trial {
+    let mut trial = many_ties(4);
+    let end = Code::listed().end(904);
+    let thirty = Draft::listed(30).method_of(62, &[900, 901, 902, 903], 904, &end).method_of(63, &[901, 902, 901, 902], 901, &end);
+    trial.define(1, &thirty);
+    let number = trial.store.counts[0] - 1;
+    trial.record(2, 30, number);
+    trial.record(3, 30, number);
+    trial
+}
+
+fn five_by_invoke(_: &mut Rng) -> Trial {
+    let mut trial = room_for_four();
+    let nulls = Code::listed().object(30).null().null().null().null();
+    let code = nulls.call(30, 62, &[900, 901, 902, 903], 904);
+    trial.define(2, &Draft::listed(31).main(MAIN, &code.pop().end(INT)));
+    trial.start(0, 2, 31, MAIN, 0);
+    trial.run(5);
+    trial.step();
+    trial
+}
+
+fn five_by_define(_: &mut Rng) -> Trial {
+    let mut trial = room_for_four();
+    let end = Code::listed().end(904);
+    trial.define(2, &Draft::listed(31).under(30).method_of(63, &[901, 902, 901, 902], 901, &end));
+    // two of the four are left, and five would be needed
+    trial.define(3, &Draft::listed(31).under(30).method_of(62, &[900, 901, 902, 903], 904, &end));
     trial
 }

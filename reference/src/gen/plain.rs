@@ -3,8 +3,9 @@
 
 use crate::answer::word;
 use crate::code::{decode, op, Instruction};
-use crate::file::{File, Map, Method, MAPPED};
-use crate::store::INT;
+use crate::file::{File, Map, Method, LISTED, MAPPED};
+use crate::signature::{Arguments, Signature};
+use crate::store::{INT, OBJECT};
 use crate::verifier::{follow, Type, Types};
 
 /// What goes wrong.
@@ -51,10 +52,18 @@ pub enum Slip {
     DeadCode,
     /// A return is the last instruction in version 2 too.
     ReturnsLast,
+    /// The arguments are taken in reverse, or only the last one is looked at, or the notes of a call come in reverse.
+    ArgumentsReversed,
+    LastArgumentAlone,
+    CallsNotesReversed,
+    /// The arguments are local 0 and so on.
+    LocalsFrom0,
+    /// An inline count of 5 is taken for 4.
+    CountOf5,
 }
 
 /// The slips, with the name of the machine that has it.
-pub const SLIPS: [(&str, Slip); 27] = [
+pub const SLIPS: [(&str, Slip); 32] = [
     ("offsets-from-the-instruction", Slip::OffsetsFromTheInstruction),
     ("unmapped-after-unverified", Slip::UnmappedLast),
     ("unmapped-method-by-method", Slip::UnmappedByMethod),
@@ -82,6 +91,11 @@ pub const SLIPS: [(&str, Slip); 27] = [
     ("off-the-end", Slip::OffTheEnd),
     ("dead-code-not-verified", Slip::DeadCode),
     ("returns-stand-last", Slip::ReturnsLast),
+    ("verifies-arguments-in-reverse", Slip::ArgumentsReversed),
+    ("verifies-the-last-argument-alone", Slip::LastArgumentAlone),
+    ("notes-of-a-call-in-reverse", Slip::CallsNotesReversed),
+    ("locals-from-zero", Slip::LocalsFrom0),
+    ("a-count-of-five-is-taken", Slip::CountOf5),
 ];
 
 /// A requirement 'a below b'.
@@ -123,7 +137,12 @@ fn lines(method: Method, slip: Slip) -> (Vec<Line>, bool) {
 fn read(method: Method, point: usize, slip: Slip) -> Option<(Instruction, usize)> {
     let is_rate = [op::IMUL, op::IDIV].map(Some).contains(&method.code.get(point).copied());
     let is_later = slip == Slip::UnmappedInVersion1 || (slip == Slip::RatesInVersion1 && is_rate);
-    decode(if is_later { MAPPED } else { method.version }, method.code, point)
+    let is_listed = method.version >= LISTED && method.code.get(point) == Some(&op::INVOKEVIRTUAL);
+    if slip == Slip::CountOf5 && is_listed && method.code.get(point + 5) == Some(&5) {
+        let four = [&method.code[..point + 5], &[4], &method.code[point + 6..]].concat();
+        return decode(method.version, &four, point);
+    }
+    decode(if is_later { method.version.max(MAPPED) } else { method.version }, method.code, point)
 }
 
 fn map_at(method: Method, offset: usize) -> Option<Map> {
@@ -139,7 +158,7 @@ fn is_badly_named(instruction: Instruction) -> bool {
     match instruction {
         Instruction::Iload(local) | Instruction::Aload(local) | Instruction::Istore(local) | Instruction::Astore(local) => local > 7,
         Instruction::Getfield(at) | Instruction::Putfield(at) => at.class < 2 || at.field == 0 || at.of == 0,
-        Instruction::Invokevirtual(at) => at.class < 2 || at.method == 0 || at.argument == 0 || at.result == 0,
+        Instruction::Invokevirtual(at) => at.class < 2 || at.signature.has_name_0(),
         Instruction::New(class) => class < 2,
         _ => false,
     }
@@ -230,10 +249,42 @@ fn types_at(line: Line, flowing: Option<Types>, method: Method, slip: Slip) -> O
     }
 }
 
+/// What a slip about arguments takes a call for.
+fn taken_for(instruction: Instruction, types: &Types, slip: Slip) -> Instruction {
+    let Instruction::Invokevirtual(mut at) = instruction else {
+        return instruction;
+    };
+    let mut list = at.signature.arguments.types().to_vec();
+    let count = list.len();
+    match slip {
+        Slip::ArgumentsReversed => list.reverse(),
+        Slip::LastArgumentAlone if count > 1 && count <= types.operands().len() => {
+            let stand = &types.operands()[types.operands().len() - count..];
+            list.iter_mut().zip(stand).take(count - 1).for_each(|(of, &stands)| *of = own_type(stands));
+        }
+        _ => {}
+    }
+    at.signature = Signature { arguments: Arguments::new(&list), ..at.signature };
+    Instruction::Invokevirtual(at)
+}
+
+/// A type that something of this one meets without a note.
+fn own_type(stands: Type) -> u16 {
+    match stands {
+        Type::Int => INT,
+        Type::Class(name) => name,
+        _ => OBJECT,
+    }
+}
+
 /// The notes of a line in their order, and the types behind it; nothing if it is rejected.
 fn line_notes(method: Method, line: Line, mut types: Types, slip: Slip) -> Option<(Vec<Note>, Types)> {
     let mut own = Vec::new();
-    follow(&mut types, line.1, method.result, &mut |lower, higher| own.push((lower, higher))).ok()?;
+    let instruction = taken_for(line.1, &types, slip);
+    follow(&mut types, instruction, method.signature.result, &mut |lower, higher| own.push((lower, higher))).ok()?;
+    if slip == Slip::CallsNotesReversed && matches!(instruction, Instruction::Invokevirtual(_)) {
+        own.reverse();
+    }
     let stands_last = method.version < MAPPED || slip == Slip::ReturnsLast;
     let is_return = matches!(line.1, Instruction::Ireturn | Instruction::Areturn);
     if stands_last && is_return && line.2 < method.code.len() {
@@ -254,7 +305,10 @@ fn verified(own_name: u16, method: Method, slip: Slip) -> Option<Vec<Note>> {
     if !is_all || !maps_stand(method, &all, slip) {
         return None;
     }
-    let types = Types::at_point_0(own_name, method.argument);
+    let mut types = Types::at_point_0(own_name, method.signature.arguments.types());
+    if slip == Slip::LocalsFrom0 {
+        types.locals.rotate_left(1);
+    }
     let entry = map_at(method, 0).filter(|_| slip != Slip::Entry).map_or(Some(Vec::new()), |map| flowed(&types, map, slip))?;
     let (mut rest, mut flowing) = (Vec::new(), Some(types));
     for (place, &line) in all.iter().enumerate() {

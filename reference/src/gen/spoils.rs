@@ -1,15 +1,15 @@
-//! Methods of version 2 with one thing changed: mostly a rule of the file, of the maps or of the verifier is broken by it.
+//! Methods of version 2 or 3 with one thing changed: mostly a rule of the file, of the maps or of the verifier is broken by it.
 
 use super::build::{Code, MapDraft};
 use super::rng::Rng;
 use crate::code::{decode, op};
-use crate::file::MAPPED;
+use crate::file::{LISTED, MAPPED};
 
 /// Ways to change a method.
-const WAYS: [fn(&mut Rng, &mut Code); 17] = [
+const WAYS: [fn(&mut Rng, &mut Code); 19] = [
     without_a_map, another_local, another_operand, an_operand_less, an_operand_more, offset_moved, maps_swapped, an_offset_twice,
     operand_0, many_operands, map_inside, map_behind, another_target, an_unknown_opcode, a_bad_local,
-    cut_off, not_ended,
+    cut_off, not_ended, another_count, cut_list,
 ];
 
 /// Changes the method in some way, if it can be changed so.
@@ -79,7 +79,8 @@ fn many_operands(rng: &mut Rng, code: &mut Code) {
 
 /// The starts of the instructions that can be read.
 fn starts(code: &Code) -> Vec<usize> {
-    let next = |&point: &usize| decode(MAPPED, &code.bytes, point).map(|(_, next)| next);
+    let version = if code.listed { LISTED } else { MAPPED };
+    let next = |&point: &usize| decode(version, &code.bytes, point).map(|(_, next)| next);
     std::iter::successors(Some(0), next).filter(|&point| point < code.bytes.len()).collect()
 }
 
@@ -140,6 +141,24 @@ fn an_unknown_opcode(rng: &mut Rng, code: &mut Code) {
     if !starts.is_empty() {
         let at = rng.pick(&starts);
         code.bytes[at] = rng.pick(&[0xFF, 0x00, 0x9A, 0xA2, 0xA8, 0x69, 0x6D, 0x70]);
+    }
+}
+
+/// Another count of arguments inline, 5 if there is one of 4; the types behind it stay.
+fn another_count(rng: &mut Rng, code: &mut Code) {
+    let counts: Vec<usize> = points_of(code, &[op::INVOKEVIRTUAL]).iter().map(|point| point + 5).collect();
+    let four = counts.iter().copied().find(|&at| code.bytes.get(at) == Some(&4));
+    if code.listed && !counts.is_empty() {
+        let (at, count) = four.map_or_else(|| (rng.pick(&counts), rng.pick(&[0, 1, 2, 3, 4, 5, 6, 255])), |at| (at, 5));
+        code.bytes.get_mut(at).into_iter().for_each(|byte| *byte = count);
+    }
+}
+
+/// The end of the code cuts off a call: before its count, or within what follows it.
+fn cut_list(rng: &mut Rng, code: &mut Code) {
+    let calls = points_of(code, &[op::INVOKEVIRTUAL]);
+    if !calls.is_empty() {
+        code.bytes.truncate(rng.pick(&calls) + rng.within(5, 8));
     }
 }
 

@@ -4,6 +4,7 @@
 use super::build::{Code, Draft};
 use crate::answer::{word, Refusal};
 use crate::code::op;
+use crate::file::LISTED;
 use crate::store::{cell, count, frame_base, Store, Value, INT, OPERANDS};
 use crate::task::make_object;
 
@@ -31,12 +32,21 @@ fn mapped(code: &Code, operands: &[Value]) -> Store {
     drafted(Draft::mapped(10), code, operands)
 }
 
+/// The same with a class of version 3, and method 23 with four arguments.
+fn listed(code: &Code, operands: &[Value]) -> Store {
+    drafted(Draft::listed(10), code, operands)
+}
+
+/// The arguments of method 23.
+const FOUR: [u16; 4] = [10, INT, 10, INT];
+
 fn drafted(draft: Draft, code: &Code, operands: &[Value]) -> Store {
     let mut store = Store::zeros();
     crate::boot(&mut store);
     store.add_cached([1, 2, 0]);
     let ten = draft.field(30, INT).field(31, 10).main(MAIN, code);
     let ten = ten.method(21, 10, 10, &Code::new().aload(1).areturn()).main(22, &Code::new().iload(1).ireturn());
+    let ten = if ten.version >= LISTED { ten.method_of(23, &FOUR, INT, &Code::new().iload(2).ireturn()) } else { ten };
     for (name, draft) in [(10, ten), (11, Draft::new(11))] {
         let class = store.add_class(1, &draft.file());
         store.add_cached([1, name, class]);
@@ -45,7 +55,7 @@ fn drafted(draft: Draft, code: &Code, operands: &[Value]) -> Store {
     for class in 1..3 {
         make_object(&mut store, &classes, class, 0).expect("room");
     }
-    store.enter(0, 1, 0, TEN, SEVEN);
+    store.enter(0, 1, 0, TEN, &[SEVEN]);
     put(&mut store, 0, operands);
     store
 }
@@ -86,6 +96,7 @@ pub fn stuck() -> Vec<Stuck> {
     all.extend(jumps());
     all.extend(unfit_rates());
     all.extend(zero_divisors());
+    all.extend(lists());
     all
 }
 
@@ -111,6 +122,55 @@ fn jumps() -> Vec<Stuck> {
     for (opcode, operands) in rows {
         all.push((format!("{opcode:02X} of {operands:?}"), mapped(&names(opcode, &[0]), &operands), STUCK));
     }
+    all
+}
+
+/// Calls with lists: counts that can't be, lists that are cut off or not found, operands missing or of another kind at each place.
+fn lists() -> Vec<Stuck> {
+    let call = |types: &[u16]| Code::listed().call(10, 23, types, INT);
+    let good = [TEN, ELEVEN, SEVEN, Value::Null, ZERO];
+    let mut all = Vec::new();
+    for count in 5..=255 {
+        let mut code = Code::listed().call(10, 23, &[INT; 6], INT);
+        code.bytes[5] = count;
+        all.push((format!("a count of {count}"), listed(&code, &good), STUCK));
+    }
+    let whole = call(&FOUR);
+    for length in 1..whole.bytes.len() {
+        let code = Code::of(whole.bytes[..length].to_vec());
+        all.push((format!("a call cut off after {length} bytes"), listed(&code, &good), STUCK));
+    }
+    for there in 0..good.len() {
+        all.push((format!("a call with {there} operands of 5"), listed(&whole, &good[good.len() - there..]), STUCK));
+    }
+    for place in 0..good.len() {
+        let wrong = if matches!(good[place], Value::Int(_)) { [TEN, Value::Null] } else { [SEVEN, ZERO] };
+        for operand in wrong {
+            for receiver in [TEN, Value::Null] {
+                let mut operands = good;
+                operands[0] = receiver;
+                operands[place] = operand;
+                all.push((format!("{operand:?} at place {place} of a call on {receiver:?}"), listed(&whole, &operands), STUCK));
+            }
+        }
+    }
+    all.push(("a call of four on another class".into(), listed(&whole, &[ELEVEN, TEN, SEVEN, TEN, SEVEN]), STUCK));
+    all.push(("a call of four on null".into(), listed(&whole, &[Value::Null, TEN, SEVEN, TEN, SEVEN]), Refusal::Word(word::NULL)));
+    let absent = Refusal::Word(word::ABSENT);
+    for types in [&[][..], &FOUR[..1], &FOUR[..2], &FOUR[..3], &[INT, 10, 10, INT], &[10, INT, INT, 10], &[INT, 10, INT, 10], &[10, INT, 10, 0]] {
+        all.push((format!("no method of {types:?}"), listed(&call(types), &good), absent));
+    }
+    for version in [1, 2] {
+        let code = Code::new().call(10, 23, &[10], INT);
+        let draft = Draft { version, ..Draft::new(10) };
+        all.push((format!("no such method in version {version}"), drafted(draft, &code, &good), absent));
+    }
+    let mut store = listed(&whole, &[]);
+    while store.counts[count::FRAMES] < 32 {
+        store.enter(0, 1, 0, TEN, &[SEVEN]);
+    }
+    put(&mut store, 31, &good);
+    all.push(("a call of four from 32 frames".into(), store, FULL));
     all
 }
 
@@ -243,7 +303,7 @@ fn wrong_kinds() -> Vec<Stuck> {
         rows.iter().map(|(what, code, operands)| ((*what).into(), holding(code, operands), STUCK)).collect();
     for (code, operand) in [(Code::new().ireturn(), TEN), (Code::new().areturn(), SEVEN)] {
         let mut store = holding(&code, &[]);
-        store.enter(0, 1, 0, TEN, SEVEN);
+        store.enter(0, 1, 0, TEN, &[SEVEN]);
         put(&mut store, 1, &[operand]);
         all.push((format!("{:02X} to a caller", code.bytes[0]), store, STUCK));
     }
@@ -261,14 +321,14 @@ fn no_room() -> Vec<Stuck> {
     }
     for (code, operands) in [(Code::new().ireturn(), vec![SEVEN]), (Code::new().areturn(), vec![])] {
         let mut store = holding(&code, &[SEVEN; OPERANDS]);
-        store.enter(0, 1, 0, TEN, SEVEN);
+        store.enter(0, 1, 0, TEN, &[SEVEN]);
         put(&mut store, 1, &operands);
         all.push((format!("{:02X} onto 16 operands", code.bytes[0]), store, FULL));
     }
     for operands in [vec![], vec![Value::Null, Value::Null], vec![TEN, TEN]] {
         let mut store = holding(&call(21, 10, 10), &[]);
         while store.counts[count::FRAMES] < 32 {
-            store.enter(0, 1, 0, TEN, SEVEN);
+            store.enter(0, 1, 0, TEN, &[SEVEN]);
         }
         put(&mut store, 31, &operands);
         all.push(("a call from 32 frames".into(), store, FULL));

@@ -60,7 +60,7 @@ pub fn unseen_jumps(rng: &mut Rng, store: &mut Store) {
         return;
     }
     let name = unused_name(store);
-    let code = if rng.percent(15) { Code::new().names(op::GOTO, &[rng.pick(&[3, 4, 500, 0xFFFF])]) } else { anywhere(rng) };
+    let code = if rng.percent(25) { Code::new().names(op::GOTO, &[rng.pick(&[3, 4, 500, 0xFFFF])]) } else { anywhere(rng) };
     let draft = if rng.percent(90) { Draft::mapped(name) } else { Draft::new(name) };
     if add_unseen(store, 0, &draft.main(MAIN, &code)).is_some() {
         start_in(rng, store, 0, name);
@@ -86,6 +86,34 @@ pub fn unseen_rates(rng: &mut Rng, store: &mut Store) {
     for place in 0..3 {
         let int = Value::Int(rng.pick(&[0, 0, 0, 7, u32::MAX, 1 << 31, i32::MAX as u32]));
         let value = if rng.percent(80) { int } else { rng.pick(&[Value::Null, Value::Object(object)]) };
+        value.write(&mut store.frames, base + cell::OPERAND_0 + 2 * place);
+    }
+}
+
+/// A task before a call with a list of any length, with any operands, too few among them. Mostly the method is there.
+pub fn unseen_calls(rng: &mut Rng, store: &mut Store) {
+    if !is_whole(store) || store.cached(0, OBJECT) != Some(0) {
+        return;
+    }
+    let name = unused_name(store);
+    let types: Vec<u16> = (0..rng.below(5)).map(|_| rng.pick(&[INT, name])).collect();
+    let mut named = types.clone();
+    if rng.percent(10) {
+        named = (0..rng.below(6)).map(|_| rng.pick(&[INT, name])).collect();
+    }
+    let code = Code::listed().call(name, MAIN + 1, &named, INT).ireturn();
+    let draft = Draft::listed(name).main(MAIN, &code).method_of(MAIN + 1, &types, INT, &Code::listed().end(INT));
+    if add_unseen(store, 0, &draft).is_none() {
+        return;
+    }
+    let (Some(object), Some(task)) = (start_in(rng, store, 0, name), store.turn()) else {
+        return;
+    };
+    let (base, count) = (frame_base(task, 0), types.len() + 1 - usize::from(rng.percent(15)));
+    store.frames[base + cell::OPERANDS] = count as u32;
+    for (place, of) in [OBJECT].into_iter().chain(types).enumerate() {
+        let fits = if of == INT { Value::Int(place as u32 + 5) } else { rng.pick(&[Value::Object(object), Value::Null]) };
+        let value = if rng.percent(92) { fits } else { rng.pick(&[Value::Int(3), Value::Null, Value::Object(object)]) };
         value.write(&mut store.frames, base + cell::OPERAND_0 + 2 * place);
     }
 }

@@ -1,11 +1,12 @@
 //! Code that the verifier takes, mostly: a walk over points that keeps the types in mind. The jumps are in jumps.rs.
 
-use super::blueprint::Blueprint;
+use super::blueprint::{Blueprint, MAIN};
 use super::build::Code;
 use super::rng::Rng;
 use super::spoils;
 use crate::code::op;
-use crate::file::MAPPED;
+use crate::file::{LISTED, MAPPED};
+use crate::signature::Signature;
 use crate::store::{INT, OBJECT};
 use crate::verifier::Type;
 
@@ -29,12 +30,12 @@ pub struct Walk<'a> {
 }
 
 /// The code of a method of class `own`, with its maps if the version has them.
-pub fn method(rng: &mut Rng, blueprint: &Blueprint, version: u8, own: u16, argument: u16, result: u16) -> Code {
+pub fn method(rng: &mut Rng, blueprint: &Blueprint, version: u8, own: u16, arguments: &[u16], result: u16) -> Code {
     let mut locals = [Type::Unset; 8];
     locals[0] = Type::Class(own);
-    locals[1] = Type::named(argument);
+    locals[1..].iter_mut().zip(arguments).for_each(|(local, &of)| *local = Type::named(of));
     let length = rng.within(0, 7);
-    let (code, operands) = (Code::new(), Vec::new());
+    let (code, operands) = (Code::of_version(version), Vec::new());
     let mut walk =
         Walk { rng, blueprint, code, operands, locals, version, result, floor: 0, fixed: 0, depth: 0, labels: 0 };
     if version >= MAPPED && walk.rng.percent(10) {
@@ -191,7 +192,7 @@ impl Walk<'_> {
         self.int();
         self.int();
         // now and then in version 1, which doesn't know the last two
-        let known = if self.version >= MAPPED || self.rng.percent(3) { 4 } else { 2 };
+        let known = if self.version >= MAPPED || self.rng.percent(6) { 4 } else { 2 };
         let opcode = self.rng.pick(&[op::IADD, op::ISUB, op::IMUL, op::IDIV][..known]);
         self.emit(|code| code.plain(opcode));
         self.operands.pop();
@@ -235,16 +236,29 @@ impl Walk<'_> {
     fn invoke(&mut self) {
         let names = self.blueprint.names();
         let class = self.rng.pick(&names);
-        let methods: Vec<(u16, u16, u16)> =
-            self.blueprint.upward(class).iter().flat_map(|sketch| sketch.methods.clone()).collect();
-        let (method, argument, result) =
-            if self.rng.percent(3) { (98, INT, INT) } else { self.rng.pick(&methods) };
+        let of_chain = self.blueprint.upward(class).into_iter().flat_map(|sketch| sketch.methods.clone());
+        let methods: Vec<Signature> = of_chain.filter(|method| method.is_of(self.version)).collect();
+        let others: Vec<Signature> = methods.iter().copied().filter(|method| method.arguments.count() != 1).collect();
+        let method = match self.rng.below(100) {
+            0..=2 => self.absent(),
+            3..=50 if !others.is_empty() => self.rng.pick(&others),
+            _ => self.rng.pick(&methods),
+        };
+        let arguments = method.arguments.types();
         self.reference(class);
-        self.value(argument);
-        self.emit(|code| code.invoke(class, method, argument, result));
-        self.operands.pop();
-        self.operands.pop();
-        self.operands.push(Type::named(result));
+        arguments.iter().for_each(|&of| self.value(of));
+        self.emit(|code| code.call(class, method.name, arguments, method.result));
+        self.operands.truncate(self.operands.len() - arguments.len() - 1);
+        self.operands.push(Type::named(method.result));
+    }
+
+    /// A method that isn't there: of another name, or with a list that no class has.
+    fn absent(&mut self) -> Signature {
+        if self.version < LISTED || self.rng.percent(50) {
+            return Signature::of_ints(98);
+        }
+        let count = self.rng.pick(&[0, 2, 3, 4]);
+        Signature::new(MAIN, &[INT; 4][..count], INT)
     }
 
     pub fn give_back(&mut self) {
