@@ -1,6 +1,7 @@
 // The test of agreement: a pair of requests that breaks it.
 use crate::grouping::group_places;
 use crate::joining::join;
+use crate::looking::beside;
 use crate::looking::first_turn;
 use crate::looking::look;
 use crate::looking::next_turn;
@@ -30,7 +31,8 @@ ghost use Rattle.constraints.specs.Looking.{Links, Tables};
 ghost use Rattle.constraints.specs.Pairs.{Pair, Finding};
 
 // A pair of cached requests that breaks agreement, if there is one, and one with the newcomer if there is one of those. The newcomer is looked at first,
-// beside all that chains out of it and into it reach, then each other request in turn; the first pair that breaks agreement ends the search.
+// beside all that chains out of it and into it reach; then tied requests; then each other request in turn beside what it leads to. The first pair that breaks agreement ends
+// the search.
 fn find_pair(
     supers: &[u8],
     groups: &[u16],
@@ -49,8 +51,8 @@ fn find_pair(
     ensures { λ r. ⌜ Finding (superIn (now (supers .entry))) (now (groups .entry)) (now (classes .entry)) cached noted newcomer r ⌝ }
 {
     let mut found = Found::NoPair;
-    let mut turn = first_turn(groups, heads, cached, newcomer);
-    'pairs: while turn <= cached {
+    let mut turn = first_turn(cached, newcomer);
+    'pairs: while turn <= cached + 1 {
         let a = request_at(turn, newcomer);
         let stamp = (turn + 1) as u16;
         let span = look(
@@ -68,16 +70,18 @@ fn find_pair(
             queue,
             aboves,
         );
-        let mut b = next_met(outs, stamp, span.all, span.from, span.end);
+        let who = span.who;
+        let mut b = next_met(groups, outs, stamp, who, span.from, span.end);
         while b < span.end {
-            let pair = pair_at(supers, groups, classes, outs, ins, aboves, stamp, a, b);
+            let lead = beside(turn, groups, a, b);
+            let pair = pair_at(supers, groups, classes, outs, ins, aboves, stamp, lead, b);
             if is_pair(pair) {
                 found = pair;
                 break 'pairs;
             }
-            b = next_met(outs, stamp, span.all, b + 1, span.end);
+            b = next_met(groups, outs, stamp, who, b + 1, span.end);
         }
-        turn = next_turn(groups, heads, cached, turn);
+        turn = next_turn(heads, cached, noted, turn);
     }
     found
 }
