@@ -185,7 +185,7 @@ module _ (counts classes kept cache ties subtypes : List ℕ) (ld : Loadable cou
     pub cut : take 768 u ≡ writeRows putTie us (getD counts 3 0) ties
     pub after : tied ≤ 256 → rows (tieAt u) tied 0 ≡ w .ties ++ us
 
-  module _ (z t u : List ℕ) (i tied : ℕ) (zl : length z ≡ 816) (et : t ≡ writeRows set ties 0 z) (ei : i ≡ getD counts 3 0)
+  module _ (z t u : List ℕ) (i tied : ℕ) (zl : length z ≡ 888) (et : t ≡ writeRows set ties 0 z) (ei : i ≡ getD counts 3 0)
       (tp : TiesPosted (overrideTies b l p (rows (tieAt t) i 0) (quickMethods bs)) t i u tied) where
     before : rows (tieAt t) i 0 ≡ w .ties
     before =
@@ -209,7 +209,7 @@ module _ (counts classes kept cache ties subtypes : List ℕ) (ld : Loadable cou
           let cut : take 768 t ≡ ties = ap (take 768) et ∙ rw (ld .tiesLong) at (copy-cut ties z (omega (arith, ld .tiesLong))) in
           ap (take 768) cells ∙ (take-ties 768 us (getD counts 3 0) t ∙ ap (writeRows putTie us (getD counts 3 0)) cut);
       after = λ h.
-          let long : length t ≡ 816 = ap length et ∙ (writeRows-length set length-set ties 0 z ∙ zl) in
+          let long : length t ≡ 888 = ap length et ∙ (writeRows-length set length-set ties 0 z ∙ zl) in
           (λ x. rows (tieAt (cells x)) (tied-is x) 0)
           ∙ (rows-after-more tie-rows us t (getD counts 3 0) (omega (arith, tied-is))
           ∙ ap (λ (x : List Tie). x ++ us) (ap (λ (x : ℕ). rows (tieAt t) x 0) (sym ei) ∙ before));

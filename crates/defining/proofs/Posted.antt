@@ -1,14 +1,14 @@
 -- Ties posted one method after another behind the rows that a table has: the rows that were written, and the ties that they stand for.
 use mathlib.Core.Path.{_≡_, refl, sym, ap, _∙_}
 use mathlib.Core.Option.{Option, none, some}
-use mathlib.Core.List.{List, [], _++_}
+use mathlib.Core.List.{List, [], _∷_, _++_}
 use Prim.Native.Nat.{ℕ, _+_, _*_, _-_, _≤_, _<_}
 use native.Mathlib.Omega.{arith}
 use lib.ListN.{length, length-append}
 use Rattle.definition.specs.declared.Signature.{Signature}
 use Rattle.definition.specs.Lists.{rows, writeRows}
 use Rattle.definition.specs.Classes.{Base, Method, loaderOf, Selected, selected}
-use Rattle.definition.specs.Constraints.{Tie, newTie, signatureTies}
+use Rattle.definition.specs.Constraints.{Tie, newTie, newTies, signatureTies}
 use Rattle.definition.specs.Loading.{overrideTie, overrideTies}
 use Rattle.definition.specs.Tables.{tieAt, putTie}
 use Rattle.layout.specs.Places.{rows-step, rows-none, rows-start, writeRows-length}
@@ -16,31 +16,60 @@ use Rattle.layout.specs.Cells.{rows-parts, rows-after-more, tie-rows}
 use Rattle.constraints.specs.Posting.{newTieIn, tiesAfter}
 use Rattle.constraints.specs.Laws.{tie-few}
 use Rattle.defining.specs.Posting.{TiesPosted}
-use Rattle.laws.specs.Members.{signature-ties}
+use Rattle.laws.specs.Inline.{five-ties}
 
--- At most one tie is new, and at most two for a method
+-- At most one tie is new, and at most five for a method
 
-pub override-few : (b : Base) (l p : ℕ) (ts : List Tie) (s : Signature) → length (overrideTie b l p ts s) ≤ 2
+pub override-few : (b : Base) (l p : ℕ) (ts : List Tie) (s : Signature) → length (overrideTie b l p ts s) ≤ 5
 unfolding overrideTie
 override-few b l p ts s = go (selected b s p)
   where
-    go : (o : Option Selected) → length {A = Tie} (elim o as (λ _. List Tie) [ none ↦ [] | some y ↦ signatureTies ts l (loaderOf b (y .class)) s ]) ≤ 2
+    go : (o : Option Selected) → length {A = Tie} (elim o as (λ _. List Tie) [ none ↦ [] | some y ↦ signatureTies ts l (loaderOf b (y .class)) s ]) ≤ 5
     go none = omega arith
-    go (some y) =
-        let m : ℕ = loaderOf b (y .class) in
-        let us : List Tie = newTie ts l m (s .argument) in
-        let vs : List Tie = newTie (ts ++ us) l m (s .result) in
-        omega (arith, ap length (signature-ties ts l m s), length-append us vs, tie-few ts l m (s .argument), tie-few (ts ++ us) l m (s .result))
+    go (some y) = five-ties ts l (loaderOf b (y .class)) s
+
+-- One type after another: N rows that leave X are what the types still to come post behind the k rows of t
+
+module _ (l m : ℕ) where
+  abbrev pub typesLeft : List ℕ → ℕ → List ℕ → List Tie
+  typesLeft t k ns = newTies (rows (tieAt t) k 0) l m ns
+
+  pub posts-type : (n : ℕ) (ns : List ℕ) (t u X : List ℕ) (k i N : ℕ) → (k + 1) * 3 ≤ length t → TiesPosted (typesLeft t k (n ∷ ns)) t k X N
+      → i ≡ k + length (newTieIn t k l m n) → u ≡ tiesAfter t k (newTieIn t k l m n) → TiesPosted (typesLeft u i ns) u i X N
+  unfolding newTies newTieIn tiesAfter
+  posts-type n ns t u X k i N room inv ei eu = record { count = count; cells = cells }
+    where
+      ts : List Tie
+      ts = rows (tieAt t) k 0
+
+      us : List Tie
+      us = newTie ts l m n
+
+      vs : List Tie
+      vs = newTies (ts ++ us) l m ns
+
+      same : rows (tieAt u) i 0 ≡ ts ++ us
+      same =
+          ap (λ (x : List ℕ). rows (tieAt x) i 0) eu
+          ∙ (ap (λ (x : ℕ). rows (tieAt (writeRows putTie us k t)) x 0) ei ∙ rows-after-more tie-rows us t k (omega (arith, tie-few ts l m n)))
+
+      rest : typesLeft u i ns ≡ vs
+      rest = ap (λ (x : List Tie). newTies x l m ns) same
+
+      count : N ≡ i + length (typesLeft u i ns)
+      count = omega (arith, inv .count, ei, ap length rest, length-append us vs)
+
+      cells : X ≡ writeRows putTie (typesLeft u i ns) i u
+      cells = inv .cells ∙ (rows-parts tie-rows us vs k t ∙ (λ x. writeRows putTie (sym rest x) (sym ei x) (sym eu x)))
+
+  -- where no type is left, all is posted
+  pub posts-types : (t X : List ℕ) (k N : ℕ) → TiesPosted (typesLeft t k []) t k X N → (k ≡ N) × (t ≡ X)
+  unfolding newTies writeRows
+  posts-types t X k N inv = (omega (arith, inv .count), sym (inv .cells))
 
 -- One method
 
 module _ (b : Base) (l p : ℕ) (s : Signature) (t : List ℕ) (k : ℕ) where
-  abbrev a : ℕ
-  a = s .argument
-
-  abbrev r : ℕ
-  r = s .result
-
   abbrev ts : List Tie
   ts = rows (tieAt t) k 0
 
@@ -49,33 +78,11 @@ module _ (b : Base) (l p : ℕ) (s : Signature) (t : List ℕ) (k : ℕ) where
   unfolding overrideTie writeRows
   posts-none e = rw (e, overrideTie) (record { count = sym (omega arith); cells = refl })
 
-  -- one has: two ties, one after the other
-  pub posts-two : (y : Selected) (m : ℕ) (u v : List ℕ) (i j : ℕ) → selected b s p ≡ some y → loaderOf b (y .class) ≡ m → (k + 1) * 3 ≤ length t
-      → i ≡ k + length (newTieIn t k l m a) → u ≡ tiesAfter t k (newTieIn t k l m a) → j ≡ i + length (newTieIn u i l m r)
-      → v ≡ tiesAfter u i (newTieIn u i l m r) → TiesPosted (overrideTie b l p ts s) t k v j
-  unfolding overrideTie newTieIn tiesAfter
-  posts-two y m u v i j e q h ei eu ej ev = rw (e, overrideTie) (rw (q, signature-ties ts l m s) (record { count = count; cells = cells }))
-    where
-      us : List Tie
-      us = newTie ts l m a
-
-      few : length us ≤ 1
-      few = tie-few ts l m a
-
-      same : rows (tieAt u) i 0 ≡ ts ++ us
-      same = ap (λ (x : List ℕ). rows (tieAt x) i 0) eu ∙ (ap (λ (x : ℕ). rows (tieAt (writeRows putTie us k t)) x 0) ei ∙ rows-after-more tie-rows us t k (omega (arith, few)))
-
-      vs : List Tie
-      vs = newTie (ts ++ us) l m r
-
-      next : newTie (rows (tieAt u) i 0) l m r ≡ vs
-      next = ap (λ (x : List Tie). newTie x l m r) same
-
-      count : j ≡ k + length (us ++ vs)
-      count = omega (arith, ej, ei, length-append us vs, ap length next)
-
-      cells : v ≡ writeRows putTie (us ++ vs) k t
-      cells = ev ∙ ((λ x. writeRows putTie (next x) (ei x) (eu x)) ∙ sym (rows-parts tie-rows us vs k t))
+  -- one has: the ties of the signature
+  pub posts-all : (y : Selected) (m : ℕ) (u : List ℕ) (j : ℕ) → selected b s p ≡ some y → loaderOf b (y .class) ≡ m
+      → TiesPosted (signatureTies ts l m s) t k u j → TiesPosted (overrideTie b l p ts s) t k u j
+  unfolding overrideTie
+  posts-all y m u j e q h = rw (e, overrideTie) (rw q h)
 
 -- One method after another: N rows that leave X are what the methods from j on post behind the k rows of t
 
@@ -87,7 +94,7 @@ module _ (b : Base) (l p : ℕ) (g : ℕ → Method) (n : ℕ) where
       → TiesPosted (left t k 0) t k (writeRows putTie (overrideTies b l p (rows (tieAt t) k 0) (rows g n 0)) k t) (k + length (overrideTies b l p (rows (tieAt t) k 0) (rows g n 0)))
   posts-start t k = rw (rows-start g n) (record { count = refl; cells = refl })
 
-  pub posts-on : (t u X : List ℕ) (k i j N : ℕ) → j < n → (k + 2) * 3 ≤ length t → TiesPosted (left t k j) t k X N
+  pub posts-on : (t u X : List ℕ) (k i j N : ℕ) → j < n → (k + 5) * 3 ≤ length t → TiesPosted (left t k j) t k X N
       → TiesPosted (overrideTie b l p (rows (tieAt t) k 0) (g j .signature)) t k u i → TiesPosted (left u i (j + 1)) u i X N
   unfolding overrideTies
   posts-on t u X k i j N h room inv one = record { count = count; cells = cells }
@@ -101,7 +108,7 @@ module _ (b : Base) (l p : ℕ) (g : ℕ → Method) (n : ℕ) where
       vs : List Tie
       vs = overrideTies b l p (ts ++ us) (rows g (n - (j + 1)) (j + 1))
 
-      few : length us ≤ 2
+      few : length us ≤ 5
       few = override-few b l p ts (g j .signature)
 
       all : left t k j ≡ us ++ vs
@@ -135,11 +142,8 @@ pub new-few : (t : List ℕ) (k l m n : ℕ) → length (newTieIn t k l m n) ≤
 unfolding newTieIn
 new-few t k l m n = tie-few (rows (tieAt t) k 0) l m n
 
-pub two-few : (t u : List ℕ) (k l m a r i j : ℕ) → i ≡ k + length (newTieIn t k l m a) → j ≡ i + length (newTieIn u i l m r) → j ≤ k + 2
-two-few t u k l m a r i j e q = omega (arith, new-few t k l m a, new-few u i l m r)
-
--- what a method posts: at most two rows, and the table keeps its length
-pub posted-few : (b : Base) (l p : ℕ) (ts : List Tie) (s : Signature) (t : List ℕ) (k : ℕ) (u : List ℕ) (j : ℕ) → TiesPosted (overrideTie b l p ts s) t k u j → j ≤ k + 2
+-- what a method posts: at most five rows, and the table keeps its length
+pub posted-few : (b : Base) (l p : ℕ) (ts : List Tie) (s : Signature) (t : List ℕ) (k : ℕ) (u : List ℕ) (j : ℕ) → TiesPosted (overrideTie b l p ts s) t k u j → j ≤ k + 5
 posted-few b l p ts s t k u j h = omega (arith, h .count, override-few b l p ts s)
 
 pub posted-long : (us : List Tie) (t : List ℕ) (k : ℕ) (u : List ℕ) (j : ℕ) → TiesPosted us t k u j → length u ≡ length t

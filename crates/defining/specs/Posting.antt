@@ -10,9 +10,9 @@ use Rattle.definition.specs.Tables.{putTie}
 use Rattle.definition.specs.Verifier.{Note}
 use Rattle.constraints.specs.Posting.{noted, postNotes}
 
--- cells for all ties that may be there and two more for each method of a file
+-- cells for all ties that may be there and five more for each method of a file
 abbrev pub triedTiesLength : ℕ
-triedTiesLength = (tieLimit + 2 * memberLimit) * rowCells
+triedTiesLength = (tieLimit + 5 * memberLimit) * rowCells
 
 -- ties written behind the first k rows of t, and the count of rows with them
 pub record TiesPosted (us : List Tie) (t : List ℕ) (k : ℕ) (u : List ℕ) (j : ℕ) : Type 0 where

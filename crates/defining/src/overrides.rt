@@ -1,4 +1,6 @@
 // The ties of a file's methods that override others.
+use cells::arguments::argument_at;
+use cells::arguments::argument_count;
 use classfile::MethodFound;
 use definition::Signature;
 use resolution::Selection;
@@ -8,13 +10,30 @@ ghost use lib.ListN.{length};
 ghost use Rattle.definition.specs.Numbers.{loaderLimit, tieLimit, memberLimit, rowCells};
 ghost use Rattle.definition.specs.Lists.{rows};
 ghost use Rattle.definition.specs.Tables.{tieAt};
+ghost use Rattle.definition.specs.Constraints.{signatureTies};
 ghost use Rattle.definition.specs.Loading.{overrideTie, overrideTies};
 ghost use Rattle.definition.specs.Classes.{loaderOf};
 ghost use Rattle.classfile.specs.Reading.{methodCount, methodIn, quickMethods};
 ghost use Rattle.resolution.specs.Quick.{quickBase};
 ghost use Rattle.defining.specs.Posting.{TiesPosted, triedTiesLength};
 
-// Ties on argument and result between a loader and that of the nearest class, p or one upward, with a method alike, behind the first rows of a table.
+// Ties between two loaders on each argument in turn, then on the result, behind the first rows of a table. Answers the new count.
+fn post_signature(ties: &mut [u16], count: u16, one: u8, two: u8, s: Signature) -> u16
+    requires { ⌜ (count < 65531) × ((count + 5) * rowCells ≤ length (now ties)) ⌝ }
+    ensures { λ r. ⌜ TiesPosted (signatureTies (rows (tieAt (now (ties .entry))) count 0) one two s) (now (ties .entry)) count (now (ties .exit)) r ⌝ }
+{
+    let arguments = s.arguments;
+    let n = argument_count(arguments);
+    let mut total = count;
+    let mut i: u8 = 0;
+    while i < n {
+        total = constraints::add_tie(ties, total, one, two, argument_at(arguments, i)) as u16;
+        i += 1;
+    }
+    constraints::add_tie(ties, total, one, two, s.result) as u16
+}
+
+// Ties on a signature's types between a loader and that of the nearest class, p or one upward, with a method alike, behind the first rows of a table.
 // Answers the new count.
 fn post_override(
     counts: &[u16],
@@ -27,7 +46,7 @@ fn post_override(
     p: u32,
     s: Signature,
 ) -> u16
-    requires { ⌜ (count < 65534) × ((count + 2) * rowCells ≤ length (now ties)) × ((c : ℕ) → loaderOf (quickBase (now counts) (now classes) (now kept) (now cache)) c < loaderLimit) ⌝ }
+    requires { ⌜ (count < 65531) × ((count + 5) * rowCells ≤ length (now ties)) × ((c : ℕ) → loaderOf (quickBase (now counts) (now classes) (now kept) (now cache)) c < loaderLimit) ⌝ }
     ensures { λ r. ⌜ TiesPosted (overrideTie (quickBase (now (counts .entry)) (now (classes .entry)) (now (kept .entry)) (now (cache .entry))) loader p (rows (tieAt (now (ties .entry))) count 0) s) (now (ties .entry)) count (now (ties .exit)) r ⌝ }
 {
     let Selection::Selected(y, _) = resolution::select_method(counts, classes, kept, cache, p, s)
@@ -35,8 +54,7 @@ fn post_override(
         return count;
     };
     let other = resolution::loader_of(counts, classes, y) as u8;
-    let first = constraints::add_tie(ties, count, loader, other, s.argument) as u16;
-    constraints::add_tie(ties, first, loader, other, s.result) as u16
+    post_signature(ties, count, loader, other, s)
 }
 
 // The ties of the file's method number j.
@@ -52,7 +70,7 @@ fn post_method(
     file: &[u8],
     j: u8,
 ) -> u16
-    requires { ⌜ (j < methodCount (now file)) × (count < 65534) × ((count + 2) * rowCells ≤ length (now ties)) × ((c : ℕ) → loaderOf (quickBase (now counts) (now classes) (now kept) (now cache)) c < loaderLimit) ⌝ }
+    requires { ⌜ (j < methodCount (now file)) × (count < 65531) × ((count + 5) * rowCells ≤ length (now ties)) × ((c : ℕ) → loaderOf (quickBase (now counts) (now classes) (now kept) (now cache)) c < loaderLimit) ⌝ }
     ensures { λ r. ⌜ TiesPosted (overrideTie (quickBase (now (counts .entry)) (now (classes .entry)) (now (kept .entry)) (now (cache .entry))) loader p (rows (tieAt (now (ties .entry))) count 0) (methodIn (now (file .entry)) j .signature)) (now (ties .entry)) count (now (ties .exit)) r ⌝ }
 {
     let MethodFound::At(_, place) = classfile::method_place(file, j) else {

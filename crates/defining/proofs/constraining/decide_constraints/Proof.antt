@@ -22,7 +22,7 @@ module _ (c : tie.After-at16) where
   abbrev start : tie.Start
   start = copy .before .before .before .before .before .before .before .before .before .before .before
 
-  copy-long : length (copy .write-cells .last .0) ≡ 816
+  copy-long : length (copy .write-cells .last .0) ≡ 888
   copy-long = ap length (copy .write-cells .ensures) ∙ (writeRows-length set length-set _ _ _ ∙ start .pre .3)
 
 module _ (c : tie.After-post-methods) where

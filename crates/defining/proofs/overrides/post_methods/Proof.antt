@@ -1,4 +1,4 @@
--- Before method j is posted, what the methods from j on post is what is left; there is room for two ties a method.
+-- Before method j is posted, what the methods from j on post is what is left; there is room for five ties a method.
 use mathlib.Core.Path.{_≡_, sym, _∙_}
 use Prim.Native.Nat.{_+_, _*_, _-_, _≤_}
 use native.Mathlib.Omega.{arith}
@@ -15,7 +15,7 @@ use Rattle.defining.proofs.overrides.post_methods.Statement.{statement}
 use Rattle.defining.proofs.overrides.post_methods.Tie as tie
 
 abbrev Inv-loop : tie.InvT-loop
-Inv-loop counts classes kept cache ties₀ count loader p file n total₀ j₀ ties total j = (j ≤ n) × (total + 2 * (n - j) ≤ 272) × (length ties ≡ 816) × TiesPosted (overrideTies (quickBase counts classes kept cache) loader p (rows (tieAt ties) total 0) (rows (methodIn file) (n - j) j)) ties total (writeRows putTie (overrideTies (quickBase counts classes kept cache) loader p (rows (tieAt ties₀) count 0) (rows (methodIn file) n 0)) count ties₀) (count + length (overrideTies (quickBase counts classes kept cache) loader p (rows (tieAt ties₀) count 0) (rows (methodIn file) n 0)))
+Inv-loop counts classes kept cache ties₀ count loader p file n total₀ j₀ ties total j = (j ≤ n) × (total + 5 * (n - j) ≤ 296) × (length ties ≡ 888) × TiesPosted (overrideTies (quickBase counts classes kept cache) loader p (rows (tieAt ties) total 0) (rows (methodIn file) (n - j) j)) ties total (writeRows putTie (overrideTies (quickBase counts classes kept cache) loader p (rows (tieAt ties₀) count 0) (rows (methodIn file) n 0)) count ties₀) (count + length (overrideTies (quickBase counts classes kept cache) loader p (rows (tieAt ties₀) count 0) (rows (methodIn file) n 0)))
 
 abbrev μ-loop : tie.MeasureT-loop
 μ-loop counts classes kept cache ties₀ count loader p file n total₀ j₀ ties total j = n - j
