@@ -1,8 +1,8 @@
 -- A name or type that is 0 is answered at once.
 use borrow.Author.Tests.{le-leb, lt-leb}
 use Rattle.definition.specs.Classes.{isNamed}
-use Rattle.classfile.proofs.methods.is_named.Statement.{statement}
-use Rattle.classfile.proofs.methods.is_named.Tie as tie
+use Rattle.classfile.proofs.signatures.is_named.Statement.{statement}
+use Rattle.classfile.proofs.signatures.is_named.Tie as tie
 
 returns : tie.Need-returns
 unfolding isNamed

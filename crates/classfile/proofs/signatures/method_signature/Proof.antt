@@ -1,8 +1,8 @@
 -- The name, the argument type and the result type, each as it was read.
 use Rattle.classfile.specs.Reading.{methodAt}
 use borrow.Author.Needs.{needs}
-use Rattle.classfile.proofs.methods.method_signature.Statement.{statement}
-use Rattle.classfile.proofs.methods.method_signature.Tie as tie
+use Rattle.classfile.proofs.signatures.method_signature.Statement.{statement}
+use Rattle.classfile.proofs.signatures.method_signature.Tie as tie
 
 returns : tie.Need-returns
 unfolding methodAt

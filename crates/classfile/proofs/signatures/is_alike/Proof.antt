@@ -2,8 +2,8 @@
 use borrow.Author.Tests.{eq-eqb, ne-eqb}
 use Rattle.definition.specs.Classes.{alike, sameSignature}
 use borrow.Author.Needs.{needs}
-use Rattle.classfile.proofs.methods.is_alike.Statement.{statement}
-use Rattle.classfile.proofs.methods.is_alike.Tie as tie
+use Rattle.classfile.proofs.signatures.is_alike.Statement.{statement}
+use Rattle.classfile.proofs.signatures.is_alike.Tie as tie
 
 returns : tie.Need-returns
 unfolding alike sameSignature

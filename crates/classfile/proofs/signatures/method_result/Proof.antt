@@ -1,8 +1,8 @@
 -- The result type stands four bytes after the record's place.
 use Rattle.classfile.specs.Reading.{methodAt}
 use borrow.Author.Needs.{needs}
-use Rattle.classfile.proofs.methods.method_result.Statement.{statement}
-use Rattle.classfile.proofs.methods.method_result.Tie as tie
+use Rattle.classfile.proofs.signatures.method_result.Statement.{statement}
+use Rattle.classfile.proofs.signatures.method_result.Tie as tie
 
 returns : tie.Need-returns
 unfolding methodAt

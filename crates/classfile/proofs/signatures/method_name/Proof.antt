@@ -1,8 +1,8 @@
 -- The name begins at the record's place.
 use Rattle.classfile.specs.Reading.{methodAt}
 use borrow.Author.Needs.{needs}
-use Rattle.classfile.proofs.methods.method_name.Statement.{statement}
-use Rattle.classfile.proofs.methods.method_name.Tie as tie
+use Rattle.classfile.proofs.signatures.method_name.Statement.{statement}
+use Rattle.classfile.proofs.signatures.method_name.Tie as tie
 
 returns : tie.Need-returns
 unfolding methodAt
