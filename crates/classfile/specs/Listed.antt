@@ -10,7 +10,7 @@ use lib.Dec.{leb}
 use borrow.Author.Tests.{leb-true, le-leb}
 use Rattle.definition.specs.Lists.{all, rows}
 use Rattle.definition.specs.Maybe.{_>>=_, need}
-use Rattle.definition.specs.Classes.{Arguments, typesOf, argumentsOf}
+use Rattle.definition.specs.Classes.{typesOf, argumentsOf}
 use Rattle.definition.specs.Instructions.{shortAt, shortsAt}
 use Rattle.classfile.specs.Lists.{Each, each-more, each-rest}
 use Rattle.classfile.specs.Reading.{typeAt, orNoArguments, listAt}
@@ -56,14 +56,14 @@ module _ (bs : List ℕ) (p : ℕ) where
   pub set-types : (n i : ℕ) → Each (λ j. 1 ≤ typeAt bs p j) n i → all (leb 1) (rows (typeAt bs p) n i) ≡ true
   unfolding all rows
   set-types zero i h = refl
-  set-types (suc n) i h = let q = each-rest (λ j. 1 ≤ typeAt bs p j) n i h in rw (le-leb 1 (typeAt bs p i) (q .0)) (set-types n (suc i) (q .1))
+  set-types (suc n) i h = let q = each-rest (λ j. 1 ≤ typeAt bs p j) n i h in rw (all, le-leb 1 (typeAt bs p i) (q .0)) (set-types n (suc i) (q .1))
 
   pub types-set : (n i : ℕ) → all (leb 1) (rows (typeAt bs p) n i) ≡ true → Each (λ j. 1 ≤ typeAt bs p j) n i
   unfolding all rows
   types-set zero i h = λ j l m. absurd (omega arith)
-  types-set (suc n) i h = go (leb 1 (typeAt bs p i)) refl h
+  types-set (suc n) i h = go (leb 1 (typeAt bs p i)) refl h (types-set n (suc i))
     where
       go : (t : Bool) → leb 1 (typeAt bs p i) ≡ t → (elim t as (λ _. Bool) [ true ↦ all (leb 1) (rows (typeAt bs p) n (suc i)) | false ↦ false ]) ≡ true
-          → Each (λ j. 1 ≤ typeAt bs p j) (suc n) i
-      go true e q = each-more (λ j. 1 ≤ typeAt bs p j) n i (leb-true 1 (typeAt bs p i) e) (types-set n (suc i) q)
-      go false e q = absurd (false≢true q)
+          → (all (leb 1) (rows (typeAt bs p) n (suc i)) ≡ true → Each (λ j. 1 ≤ typeAt bs p j) n (suc i)) → Each (λ j. 1 ≤ typeAt bs p j) (suc n) i
+      go true e q f = each-more (λ j. 1 ≤ typeAt bs p j) n i (leb-true 1 (typeAt bs p i) e) (f q)
+      go false e q f = absurd (false≢true q)

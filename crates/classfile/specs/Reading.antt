@@ -9,7 +9,10 @@ use lib.ListN.{length, getD, take, drop}
 use lib.Dec.{eqb, leb, ltb}
 use Rattle.definition.specs.Lists.{rows}
 use Rattle.definition.specs.Maybe.{_>>=_, need}
-use Rattle.definition.specs.Classes.{Arguments, NoArguments, OneArgument, argumentsOf, Signature, signature, Field, Map, Method}
+use Rattle.definition.specs.declared.Arguments.{Arguments}
+use Rattle.definition.specs.declared.Arguments.the-variants.{NoArguments, OneArgument}
+use Rattle.definition.specs.declared.Signature.{Signature}
+use Rattle.definition.specs.Classes.{argumentsOf, signature, Field, Map, Method}
 use Rattle.definition.specs.Instructions.{pick, shortAt, shortsAt}
 use Rattle.definition.specs.File.{File}
 use Rattle.classfile.specs.declared.FieldFound.{FieldFound}

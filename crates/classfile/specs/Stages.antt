@@ -338,39 +338,38 @@ module _ (bs : List ℕ) where
       let set : all (leb 1) (rows (typeAt bs (p + 3)) n 0) ≡ true = rw (e, pick, types-list bs (p + 3) n few) at (h .2) in
       (omega (arith, w)) and few and (λ j l m. (omega (arith, w)) and types-set bs (p + 3) n 0 set j l m) and tt
 
+  list-end : (p : ℕ) → leb 3 (fileVersion bs) ≡ true → resultPlace bs p ≡ p + 3 + 2 * argumentNumber bs p
+  unfolding resultPlace argumentsSize pick
+  list-end p e = rw (e, pick) (omega arith)
+
+  list-is : (p : ℕ) → leb 3 (fileVersion bs) ≡ true → argumentsAt bs p ≡ listAt bs (p + 3) (argumentNumber bs p)
+  unfolding argumentsAt pick
+  list-is p e = rw (e, pick) refl
+
   list-at : (p : ℕ) → leb 3 (fileVersion bs) ≡ true → Arguing p
   unfolding argumentsIn listIn argumentNumber
   list-at p e =
       let n = argumentNumber bs p in
       let three : p + 2 + 1 ≡ p + 3 = omega arith in
-      let end : resultPlace bs p ≡ p + 3 + 2 * n = list-end in
       let o : Outcome (listIn (drop (p + 2) bs)) (ListTests p) (got bs (listAt bs (p + 3) n) (p + 3 + 2 * n)) =
       then _ (moved bs three (byte-at bs (p + 2))) (λ _. then _ (needs-le n 4) (λ few.
       then _ (types-at bs 1 (p + 3) n (p + 3 + 2 * n) refl) (λ _. made _ (passes tt (list-some bs (p + 3) n few))))) in
-      meant (list-rule p e) (list-tests p e) (rw (e, argumentsIn, list-is, end) o)
-    where
-      list-end : resultPlace bs p ≡ p + 3 + 2 * argumentNumber bs p
-      unfolding resultPlace argumentsSize pick
-      list-end = rw (e, pick) (omega arith)
-
-      list-is : argumentsAt bs p ≡ listAt bs (p + 3) (argumentNumber bs p)
-      unfolding argumentsAt pick
-      list-is = rw (e, pick) refl
+      meant (list-rule p e) (list-tests p e) (rw (e, argumentsIn, list-is p e, list-end p e) o)
 
   one-at : (p : ℕ) → leb 3 (fileVersion bs) ≡ false → Arguing p
   unfolding argumentsIn oneIn resultPlace argumentsSize argumentsAt listedMethod all pick
   one-at p e =
       meant
-      (λ h. rw (e, pick, le-leb 1 (shortAt bs (p + 2)) (h .1)) (h .0, refl, refl))
+      (λ (h : NameRule bs (p + 2)). rw (e, pick, all, le-leb 1 (shortAt bs (p + 2)) (h .1)) (h .0, refl, refl))
       (λ h.
       let w : p + 2 + 2 ≤ length bs = rw (e, pick) at (h .0) in
       let set : all (leb 1) (shortAt bs (p + 2) ∷ []) ≡ true = rw (e, pick) at (h .2) in
-      (w, leb-true 1 (shortAt bs (p + 2)) (sole set)))
+      (w, leb-true 1 (shortAt bs (p + 2)) (sole _ set)))
       (rw (e, argumentsIn, pick) (made _ (name-at bs 1 (p + 2))))
     where
-      sole : {t : Bool} → (elim t as (λ _. Bool) [ true ↦ true | false ↦ false ]) ≡ true → t ≡ true
-      sole {true} h = refl
-      sole {false} h = absurd (false≢true h)
+      sole : (t : Bool) → (elim t as (λ _. Bool) [ true ↦ true | false ↦ false ]) ≡ true → t ≡ true
+      sole true h = refl
+      sole false h = absurd (false≢true h)
 
   arguments-at : (p : ℕ) → Arguing p
   arguments-at p = go (leb 3 (fileVersion bs)) refl
@@ -418,20 +417,20 @@ module _ (bs : List ℕ) where
       and m .maps
       and p .1
 
+  after-name : (p : ℕ) → p + 2 ≤ resultPlace bs p
+  unfolding resultPlace
+  after-name p = omega arith
+
   signature-at : (p : ℕ) → Outcome (signatureIn (fileVersion bs) (drop p bs)) (SignatureRule p) (got bs (quickSignature bs p) (resultPlace bs p + 2))
   unfolding signatureIn quickSignature namedMethod isNamed
   signature-at p =
-      let starts : p + 2 ≤ resultPlace bs p = after-name in
+      let starts = after-name p in
       meant
       (λ h. (h .1 .1 .0, h .1 .0 .1, rw (le-leb _ _ (h .0 .1), h .1 .0 .2, le-leb _ _ (h .1 .1 .1))))
       (λ h.
       let t = and-rule _ _ _ (h .2) in
       (omega (arith, h .0, starts), leb-true _ _ (t .0)) and (omega (arith, h .0), h .1, t .1) and (h .0, leb-true _ _ (t .2)))
       (then _ (name-at bs 1 p) (λ _. then _ (arguments-at p) (λ _. made _ (name-at bs 1 (resultPlace bs p)))))
-    where
-      after-name : p + 2 ≤ resultPlace bs p
-      unfolding resultPlace
-      after-name = omega arith
 
   -- after the code of the method at place p
   rest-at : (p : ℕ) {T : Type 0} {x : Got (List Map)}

@@ -1,9 +1,9 @@
 // A method's signature: its name, arguments and result, and the comparison of signatures.
+use crate::fields::version;
 use cells::arguments::argument_at;
 use cells::arguments::argument_count;
 use cells::arguments::arguments_at;
 use cells::arguments::same_arguments;
-use crate::fields::version;
 use definition::Arguments;
 use definition::Signature;
 use definition::numbers::ARGUMENT_LIMIT;
@@ -81,10 +81,11 @@ pub fn is_named(s: Signature) -> bool
     if s.name < 1 {
         return false;
     }
-    let n = argument_count(s.arguments);
+    let arguments = s.arguments;
+    let n = argument_count(arguments);
     let mut i: u8 = 0;
     while i < n {
-        if argument_at(s.arguments, i) < 1 {
+        if argument_at(arguments, i) < 1 {
             return false;
         }
         i += 1;
@@ -99,7 +100,8 @@ pub(crate) fn is_alike(bytes: &[u8], place: u32, s: Signature) -> bool
     if method_name(bytes, place) != s.name {
         return false;
     }
-    if !same_arguments(method_arguments(bytes, place), s.arguments) {
+    let arguments = s.arguments;
+    if !same_arguments(method_arguments(bytes, place), arguments) {
         return false;
     }
     method_result(bytes, place) == s.result
