@@ -76,7 +76,7 @@ pub(crate) fn entry_types(own: u16, s: Signature) -> Types
 }
 
 // The type of the operand at place i, from the lowest; 0 past the end.
-fn operand(types: Types, i: usize) -> u32
+pub(crate) fn operand(types: Types, i: usize) -> u32
     ensures { λ r. ⌜ r ≡ getD (types .operands) i 0 ⌝ }
 {
     if i < OPERANDS { types.operands[i] } else { 0 }
