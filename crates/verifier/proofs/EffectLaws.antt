@@ -144,10 +144,6 @@ module _ (c n t : ℕ) where
 
 -- A receiver alone
 
-pub no-values : (o : List ℕ) (d : ℕ) → meetValues o d NoArguments ≡ some []
-unfolding meetValues meetAll rows
-no-values o d = refl
-
 alone : (a : Meeting) (k : List Note → Option Flow) → (notesIn a >>= λ x. some [] >>= λ y. k (x ++ y)) ≡ (notesIn a >>= k)
 unfolding notesIn _>>=_
 alone Unmet k = refl

@@ -1,13 +1,12 @@
 -- The values above a receiver: taken off the operands, and met one after another.
 use mathlib.Core.Path.{_≡_, refl, sym, ap, _∙_}
-use mathlib.Core.Bool.{Bool, true, _&&_}
+use mathlib.Core.Bool.{Bool, true}
 use mathlib.Core.Option.{Option, none, some, Option·none-ne-some, Option·some-injective}
 use mathlib.Core.List.{List, [], _∷_, _++_, append-nil}
 use Prim.Native.Nat.{ℕ, zero, suc, _+_, _-_, _<_, _≤_}
 use native.Mathlib.Omega.{arith}
-use lib.ListN.{length, take, getD, set}
+use lib.ListN.{length, getD, set}
 use lib.Seq.{take-length, getD-set-other}
-use lib.Dec.{leb}
 use borrow.Author.Tests.{le-leb}
 use Rattle.definition.specs.declared.Signature.{Signature}
 use Rattle.definition.specs.declared.Instruction.the-variants.{Invokevirtual}
@@ -16,13 +15,13 @@ use Rattle.definition.specs.Maybe.{_>>=_, need}
 use Rattle.definition.specs.declared.Arguments.{Arguments}
 use Rattle.definition.specs.declared.Arguments.the-variants.{OneArgument}
 use Rattle.definition.specs.Classes.{typesOf as namesOf, argumentTypes, isNamed}
-use Rattle.definition.specs.Verifier.{VerifierType, Note, Flow, flow, pop, popAll, meets, meetAll, meetClass, typeOfName, effect}
-use Rattle.layout.specs.Places.{stack-length, stack-top, rows-last, rows-cong, rows-take}
+use Rattle.definition.specs.Verifier.{VerifierType, Note, pop, popAll, meets, meetAll, meetClass, typeOfName, effect}
+use Rattle.layout.specs.Places.{stack-length, rows-last, rows-cong, rows-take}
 use Rattle.constraints.specs.Posting.{Noted}
 use Rattle.verifier.specs.declared.types.Types.{Types}
 use Rattle.verifier.specs.declared.effects.Meeting.{Meeting}
 use Rattle.verifier.specs.declared.effects.Effect.the-variants.{Pushed}
-use Rattle.verifier.specs.Types.{typeOf, operandAt, localsOf, typesOf}
+use Rattle.verifier.specs.Types.{typeOf, operandAt, typesOf}
 use Rattle.verifier.specs.Effects.{notesIn, meetValue, meetValues, going, outcomeOf}
 use Rattle.verifier.specs.Trace.{Trace, meetEach, meetFrom, valuesTrace, granted, acceptedNotes, posting}
 use Rattle.verifier.proofs.MeetLaws.{each-says}
