@@ -96,9 +96,9 @@ pub fn same_arguments(a: Arguments, b: Arguments) -> bool
     true
 }
 
-// The arguments whose types, n of them and four at most, stand in the bytes from that place on.
+// The arguments whose types, n of them and four at most, stand in the bytes from that place on; any place will do that has eight more behind it.
 pub fn arguments_at(bytes: &[u8], place: usize, n: u8) -> Arguments
-    requires { ⌜ (n ≤ 4) × (place ≤ 8589934592) ⌝ }
+    requires { ⌜ (n ≤ 4) × (place + 8 ≤ 18446744073709551616) ⌝ }
     ensures { λ r. ⌜ some r ≡ argumentsOf (shortsAt (now (bytes .entry)) place n) ⌝ }
 {
     match n {

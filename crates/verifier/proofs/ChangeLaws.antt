@@ -1,6 +1,6 @@
--- An effect carried out: at most 16 operands, a type pushed, a local set, and meetings that are met.
+-- An effect carried out: at most 16 operands, a type pushed, a local set, a receiver and values that are met.
 use mathlib.Core.Path.{_≡_, refl, sym, ap, _∙_, fun-ext}
-use mathlib.Core.Bool.{true, false}
+use mathlib.Core.Bool.{Bool, true, false}
 use mathlib.Core.Option.{Option, none, some}
 use mathlib.Core.List.{List, [], _∷_, _++_}
 use Prim.Native.Nat.{ℕ, suc, _+_, _<_, _≤_}
@@ -11,7 +11,9 @@ use lib.Seq.{getD-set-same, getD-set-other, set-out}
 use borrow.Author.Tests.{le-leb, lt-leb}
 use Rattle.definition.specs.Lists.{stack, rows, isSome}
 use Rattle.definition.specs.Maybe.{_>>=_, need}
-use Rattle.definition.specs.Verifier.{VerifierType, Note, TypeState, Flow, flow}
+use Rattle.definition.specs.declared.Arguments.{Arguments}
+use Rattle.definition.specs.declared.Arguments.the-variants.{NoArguments}
+use Rattle.definition.specs.Verifier.{VerifierType, Note, TypeState, Flow, flow, meetAll}
 use Rattle.layout.specs.Places.{stack-length, stack-cong, rows-length, rows-set}
 use Rattle.verifier.specs.declared.types.Types.{Types}
 use Rattle.verifier.specs.declared.effects.Meeting.{Meeting}
@@ -19,8 +21,10 @@ use Rattle.verifier.specs.declared.effects.Meeting.the-variants.{Unmet, 
 use Rattle.verifier.specs.declared.effects.Effect.{Effect}
 use Rattle.verifier.specs.declared.effects.Effect.the-variants.{Kept, Pushed, Stored}
 use Rattle.verifier.specs.Types.{typeOf, localOf, operandAt, localAt, localsOf, typesOf}
-use Rattle.verifier.specs.Effects.{notesIn, going, leftBy, outcomeOf}
+use Rattle.verifier.specs.Effects.{notesIn, meetValues, going, leftBy, outcomeOf}
+use Rattle.verifier.specs.Trace.{meetFrom, valuesTrace, granted}
 use Rattle.verifier.specs.Answers.{made, madeFlow}
+use Rattle.verifier.proofs.ValueLaws.{values-kept, values-by}
 
 -- At most 16 operands
 
@@ -33,32 +37,35 @@ module _ (o : List VerifierType) (l : List (Option VerifierType)) (ns : List Not
   unfolding _>>=_ need
   flow-full h = rw (lt-leb (length o) 16 h)
 
--- Two meetings
+-- The receiver and the values above it
 
 nothing : {A B : Type 0} (m : Option A) → _≡_ {A = Option B} (m >>= λ _. none) none
 unfolding _>>=_
 nothing none = refl
 nothing (some a) = refl
 
-module _ (a b : Meeting) where
+module _ (s : Types) (d : ℕ) (a : Meeting) (vs : Arguments) where
   both : (List Note → Option Flow) → Option Flow
-  both k = notesIn a >>= λ x. notesIn b >>= λ y. k (x ++ y)
+  both k = notesIn a >>= λ x. meetValues (s .operands) d vs >>= λ y. k (x ++ y)
 
   both-none : (k : List Note → Option Flow) → ((ns : List Note) → k ns ≡ none) → both k ≡ none
   unfolding both
-  both-none k h = ap both (fun-ext h) ∙ (ap (λ (f : List Note → Option Flow). notesIn a >>= f) (fun-ext (λ x. nothing (notesIn b))) ∙ nothing (notesIn a))
+  both-none k h =
+      ap both (fun-ext h)
+      ∙ (ap (λ (f : List Note → Option Flow). notesIn a >>= f) (fun-ext (λ x. nothing (meetValues (s .operands) d vs))) ∙ nothing (notesIn a))
 
-  both-flow : (s : TypeState) (k : List Note → Option Flow) → ((ns : List Note) → k ns ≡ some (record { types = s; notes = ns })) → both k ≡ madeFlow s a b
-  unfolding both madeFlow
-  both-flow s k h = ap both (fun-ext h)
+  both-flow : (u : TypeState) (k : List Note → Option Flow) → ((ns : List Note) → k ns ≡ some (record { types = u; notes = ns }))
+      → both k ≡ (notesIn a >>= λ x. meetValues (s .operands) d vs >>= λ y. some (record { types = u; notes = x ++ y }))
+  unfolding both
+  both-flow u k h = ap both (fun-ext h)
 
-  pub unmet-first : (s : TypeState) → notesIn a ≡ none → madeFlow s a b ≡ none
+  pub unmet-first : notesIn a ≡ none → madeFlow s d a vs ≡ none
   unfolding madeFlow _>>=_
-  unmet-first s h = rw h
+  unmet-first h = rw h
 
-  pub unmet-second : (s : TypeState) → notesIn b ≡ none → madeFlow s a b ≡ none
-  unfolding madeFlow _>>=_
-  unmet-second s h = rw h (nothing (notesIn a))
+  pub unmet-values : (b : Bool) → b ≡ valuesTrace (s .operands) d vs .accepts → b ≡ false → madeFlow s d a vs ≡ none
+  unfolding madeFlow granted _>>=_
+  unmet-values b e h = rw (values-by (s .operands) d vs b e, h) (nothing (notesIn a))
 
 -- a meeting that is met has the notes that it makes
 pub met-notes : (m : Meeting) → isSome (notesIn m) ≡ true → notesIn m ≡ some (made m)
@@ -74,16 +81,17 @@ unmet-notes Met h = let z : _≡_ {A = ℕ} 0 1 = cc in absurd (omega arith)
 unmet-notes (Noted a b) h = let z : _≡_ {A = ℕ} 0 1 = cc in absurd (omega arith)
 
 pub met-both :
-    (s : TypeState) (a b : Meeting) → isSome (notesIn a) ≡ true → isSome (notesIn b) ≡ true →
-    madeFlow s a b ≡ some (record { types = s; notes = made a ++ made b })
-unfolding madeFlow _>>=_
-met-both s a b h k = rw (met-notes a h, met-notes b k)
+    (s : Types) (d : ℕ) (a : Meeting) (vs : Arguments) (b : Bool) → isSome (notesIn a) ≡ true → b ≡ valuesTrace (s .operands) d vs .accepts → b ≡ true →
+    madeFlow s d a vs ≡ some (record { types = typesOf s; notes = made a ++ valuesTrace (s .operands) d vs .notes })
+unfolding madeFlow granted _>>=_
+met-both s d a vs b h e k = rw (met-notes a h, values-by (s .operands) d vs b e, k)
 
-pub made-alone : (m : Meeting) → made m ++ made Met ≡ made m
-unfolding made
-made-alone Unmet = refl
-made-alone Met = refl
-made-alone (Noted a b) = refl
+-- a meeting alone makes its own notes
+pub made-alone : (m : Meeting) (o : List ℕ) (d : ℕ) → made m ++ valuesTrace o d NoArguments .notes ≡ made m
+unfolding made valuesTrace meetFrom
+made-alone Unmet o d = refl
+made-alone Met o d = refl
+made-alone (Noted a b) o d = refl
 
 -- Effects carried out
 
@@ -101,14 +109,14 @@ lowest types d = stack (operandAt (types .operands)) d
 abbrev after : Types → ℕ → Types
 after types d = record { operands = types .operands; depth = d; locals = types .locals }
 
-module _ (types : Types) (d : ℕ) (a b : Meeting) where
-  pub kept-full : 16 < d → comes types (Kept d a b) ≡ none
+module _ (types : Types) (d : ℕ) (a : Meeting) (vs : Arguments) where
+  pub kept-full : 16 < d → comes types (Kept d a vs) ≡ none
   unfolding outcomeOf both
-  kept-full h = going-left _ _ ∙ both-none a b _ (λ ns. flow-full (lowest types d) (localsOf (types .locals)) ns (rw (stack-length (operandAt (types .operands)) d) h))
+  kept-full h = going-left _ _ ∙ both-none types d a vs _ (λ ns. flow-full (lowest types d) (localsOf (types .locals)) ns (rw (stack-length (operandAt (types .operands)) d) h))
 
-  pub kept-fits : d ≤ 16 → comes types (Kept d a b) ≡ madeFlow (typesOf (after types d)) a b
-  unfolding outcomeOf both typesOf
-  kept-fits h = going-left _ _ ∙ both-flow a b _ _ (λ ns. flow-fits _ _ ns (rw (stack-length (operandAt (types .operands)) d) h))
+  pub kept-fits : d ≤ 16 → comes types (Kept d a vs) ≡ madeFlow (after types d) d a vs
+  unfolding outcomeOf both typesOf madeFlow
+  kept-fits h = going-left _ _ ∙ both-flow types d a vs _ _ (λ ns. flow-fits _ _ ns (rw (stack-length (operandAt (types .operands)) d) h))
 
 module _ (o : List ℕ) (d t : ℕ) (full : length o ≡ 16) (h : d < 16) where
   stack-pushed : stack (operandAt (set o d t)) (suc d) ≡ typeOf t ∷ stack (operandAt o) d
@@ -119,19 +127,20 @@ module _ (o : List ℕ) (d t : ℕ) (full : length o ≡ 16) (h : d < 16) where
         stack-cong (λ i. typeOf (getD (set o d t) i 0)) (λ i. typeOf (getD o i 0)) d (λ i l. ap typeOf (getD-set-other o d i t 0 (λ q. omega arith))),
       )
 
-module _ (types : Types) (d t : ℕ) (a b : Meeting) where
-  pub pushed-full : 16 ≤ d → comes types (Pushed d t a b) ≡ none
+module _ (types : Types) (d t : ℕ) (a : Meeting) (vs : Arguments) where
+  pub pushed-full : 16 ≤ d → comes types (Pushed d t a vs) ≡ none
   unfolding outcomeOf both
-  pushed-full h = going-left _ _ ∙ both-none a b _ (λ ns. flow-full (typeOf t ∷ lowest types d) (localsOf (types .locals)) ns (rw (stack-length (operandAt (types .operands)) d) (omega arith)))
+  pushed-full h =
+      going-left _ _
+      ∙ both-none types d a vs _ (λ ns. flow-full (typeOf t ∷ lowest types d) (localsOf (types .locals)) ns (rw (stack-length (operandAt (types .operands)) d) (omega arith)))
 
   pub pushed-fits :
       length (types .operands) ≡ 16 → d < 16 →
-      comes types (Pushed d t a b) ≡
-      madeFlow (typesOf (record { operands = set (types .operands) d t; depth = d + 1; locals = types .locals })) a b
-  unfolding outcomeOf both typesOf
+      comes types (Pushed d t a vs) ≡ madeFlow (record { operands = set (types .operands) d t; depth = d + 1; locals = types .locals }) d a vs
+  unfolding outcomeOf both typesOf madeFlow
   pushed-fits full h =
-      rw (add-one d, stack-pushed (types .operands) d t full h)
-      (going-left _ _ ∙ both-flow a b _ _ (λ ns. flow-fits _ _ ns (rw (stack-length (operandAt (types .operands)) d) (omega arith))))
+      rw (add-one d, stack-pushed (types .operands) d t full h, values-kept (types .operands) d t vs)
+      (going-left _ _ ∙ both-flow types d a vs _ _ (λ ns. flow-fits _ _ ns (rw (stack-length (operandAt (types .operands)) d) (omega arith))))
 
 module _ (l : List ℕ) (i t : ℕ) where
   locals-set : length l ≡ 8 → i < 8 → localsOf (set l i t) ≡ set (localsOf l) i (localOf t)
@@ -152,14 +161,14 @@ module _ (types : Types) (d i t : ℕ) where
 
   stored-fits :
       (l : List ℕ) → set (localsOf (types .locals)) i (localOf t) ≡ localsOf l → d ≤ 16 →
-      comes types (Stored d i t) ≡ madeFlow (typesOf (record { operands = types .operands; depth = d; locals = l })) Met Met
-  unfolding outcomeOf typesOf madeFlow notesIn _>>=_
+      comes types (Stored d i t) ≡ madeFlow (record { operands = types .operands; depth = d; locals = l }) d Met NoArguments
+  unfolding outcomeOf typesOf madeFlow notesIn meetValues meetAll rows _>>=_
   stored-fits l e h = rw e (going-left _ _ ∙ flow-fits _ _ [] (rw (stack-length (operandAt (types .operands)) d) h))
 
   pub stored-at :
       length (types .locals) ≡ 8 → d ≤ 16 → i < 8 →
-      comes types (Stored d i t) ≡ madeFlow (typesOf (record { operands = types .operands; depth = d; locals = set (types .locals) i t })) Met Met
+      comes types (Stored d i t) ≡ madeFlow (record { operands = types .operands; depth = d; locals = set (types .locals) i t }) d Met NoArguments
   stored-at full h k = stored-fits (set (types .locals) i t) (sym (locals-set (types .locals) i t full k)) h
 
-  pub stored-past : d ≤ 16 → 8 ≤ i → comes types (Stored d i t) ≡ madeFlow (typesOf (after types d)) Met Met
+  pub stored-past : d ≤ 16 → 8 ≤ i → comes types (Stored d i t) ≡ madeFlow (after types d) d Met NoArguments
   stored-past h k = stored-fits (types .locals) (locals-past (types .locals) i t k) h

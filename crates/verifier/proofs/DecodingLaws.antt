@@ -21,25 +21,25 @@ module _ (version : ℕ) (code : List ℕ) (p : ℕ) where
   there = opcodeOf version (getD code p 0)
 
   by-room :
-      (t : Bool) → leb (p + suc (inlineLength there)) (length code) ≡ t →
-      decode version code p ≡ (elim t [ true ↦ sizedAs (suc (inlineLength there)) (instructionOf code (p + 1) there) | false ↦ none ])
+      (t : Bool) → leb (p + suc (inlineLength code (p + 1) there)) (length code) ≡ t →
+      decode version code p ≡ (elim t [ true ↦ sizedAs (suc (inlineLength code (p + 1) there)) (instructionOf code (p + 1) there) | false ↦ none ])
   unfolding decode there
   by-room t e = rw (← e)
 
   pub decode-past : length code ≤ p → decode version code p ≡ none
-  decode-past h = by-room false (lt-leb (p + suc (inlineLength there)) (length code) (omega arith))
+  decode-past h = by-room false (lt-leb (p + suc (inlineLength code (p + 1) there)) (length code) (omega arith))
 
-  module _ (o : Opcode) (n : ℕ) (e : o ≡ opcodeOf version (getD code p 0)) (l : n ≡ inlineLength o) (h : p < length code) where
-    length-there : inlineLength there ≡ n
+  module _ (o : Opcode) (n : ℕ) (e : o ≡ opcodeOf version (getD code p 0)) (l : n ≡ inlineLength code (p + 1) o) (h : p < length code) where
+    length-there : inlineLength code (p + 1) there ≡ n
     unfolding there
     length-there = rw (← e, ← l)
 
     pub decode-cut : length code - p ≤ n → decode version code p ≡ none
-    decode-cut k = by-room false (lt-leb (p + suc (inlineLength there)) (length code) (omega (arith, length-there)))
+    decode-cut k = by-room false (lt-leb (p + suc (inlineLength code (p + 1) there)) (length code) (omega (arith, length-there)))
 
     pub decode-whole : n < length code - p → decode version code p ≡ sizedAs (n + 1) (instructionOf code (p + 1) o)
     unfolding there
-    decode-whole k = by-room true (le-leb (p + suc (inlineLength there)) (length code) (omega (arith, length-there))) ∙ rw (length-there, add-one n, e)
+    decode-whole k = by-room true (le-leb (p + suc (inlineLength code (p + 1) there)) (length code) (omega (arith, length-there))) ∙ rw (length-there, add-one n, e)
 
 -- an instruction that was decoded: its size, and itself
 bytes : Option Decoded → ℕ
@@ -63,18 +63,18 @@ module _ (d : Decoded) (n : ℕ) where
 
 module _ (version : ℕ) (code : List ℕ) (p : ℕ) (d : Decoded) (e : decode version code p ≡ some d) where
   -- there is room for its inline bytes
-  room : leb (p + suc (inlineLength (there version code p))) (length code) ≡ true
-  room = go (leb (p + suc (inlineLength (there version code p))) (length code)) refl
+  room : leb (p + suc (inlineLength code (p + 1) (there version code p))) (length code) ≡ true
+  room = go (leb (p + suc (inlineLength code (p + 1) (there version code p))) (length code)) refl
     where
-      go : (t : Bool) → leb (p + suc (inlineLength (there version code p))) (length code) ≡ t → t ≡ true
+      go : (t : Bool) → leb (p + suc (inlineLength code (p + 1) (there version code p))) (length code) ≡ t → t ≡ true
       go true q = refl
       go false q = let f : _≡_ {A = Option Decoded} none (some d) = sym (by-room version code p false q) ∙ e in cc
 
-  decode-sized : sizedAs (suc (inlineLength (there version code p))) (instructionOf code (p + 1) (there version code p)) ≡ some d
+  decode-sized : sizedAs (suc (inlineLength code (p + 1) (there version code p))) (instructionOf code (p + 1) (there version code p)) ≡ some d
   decode-sized = sym (by-room version code p true room) ∙ e
 
   -- its size goes by its opcode
-  pub decode-size : d .size ≡ suc (inlineLength (opcodeOf version (getD code p 0)))
+  pub decode-size : d .size ≡ suc (inlineLength code (p + 1) (opcodeOf version (getD code p 0)))
   unfolding there
   decode-size = size-is d _ _ decode-sized
 
@@ -86,7 +86,7 @@ module _ (version : ℕ) (code : List ℕ) (p : ℕ) (d : Decoded) (e : decode v
   pub decode-within : (p + d .size ≤ length code) × (1 ≤ d .size)
   unfolding there
   decode-within =
-      let l : p + suc (inlineLength (there version code p)) ≤ length code = leb-true (p + suc (inlineLength (there version code p))) (length code) room in
+      let l : p + suc (inlineLength code (p + 1) (there version code p)) ≤ length code = leb-true (p + suc (inlineLength code (p + 1) (there version code p))) (length code) room in
       rw decode-size (l, omega arith)
 
 -- what decoding answers, read back

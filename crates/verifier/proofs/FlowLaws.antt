@@ -18,11 +18,11 @@ use Rattle.layout.specs.Places.{rows-last, rows-cong, rows-length, rows-map, st
 use Rattle.classfile.specs.Reading.{mapDepth, typeAt, mapOf}
 use Rattle.verifier.specs.Types.{typeOf, localAt, operandAt, localsOf, typesOf}
 use Rattle.constraints.specs.Posting.{Noted, postNotes}
-use Rattle.constraints.specs.Laws.{post-append}
-use Rattle.verifier.specs.Trace.{Trace, refusing, after, followed, meetEach, meetFrom, fits, meetTrace, verification, posting}
+use Rattle.verifier.specs.Trace.{Trace, refusing, accepting, after, followed, meetEach, meetFrom, fits, meetTrace, Verification, verification, posting}
 use Rattle.verifier.specs.declared.types.Types.{Types}
 use Rattle.verifier.specs.declared.flows.Part.the-variants.{Locals, Operands}
 use Rattle.verifier.specs.Answers.{meetAt}
+use Rattle.verifier.proofs.PostingLaws.{posting-after}
 
 -- the operand at place i is set, where those below it are known
 pub operand-set : (o : List ℕ) (i a t : ℕ) (f : ℕ → VerifierType) → a ≡ i → i < length o → typeOf t ≡ f i → ((j : ℕ) → j < i → operandAt o j ≡ f j)
@@ -55,32 +55,48 @@ operands-mapped o ms p l h =
     (rows-cong (operandAt o) (λ j. typeOfName (typeAt ms (p + 19) j)) k 0 (λ m a b. h m (omega arith))
     ∙ sym (rows-map typeOfName (typeAt ms (p + 19)) k 0))
 
--- The places of a part, one after another
+-- Demands, one after another
 
-pub meet-start : (l : ℕ) (f : ℕ → Option (List Note)) (n : ℕ) (k : Noted) → posting l (meetFrom f (n - 0) 0) k ≡ posting l (meetFrom f n 0) k
-meet-start l f n k = let z : n - 0 ≡ n = omega arith in rw z refl
-
-module _ (l : ℕ) (f : ℕ → Option (List Note)) (n i : ℕ) (k : Noted) where
-  pub meet-end : n ≤ i → posting l (meetFrom f (n - i) i) k ≡ verification true k
-  unfolding meetFrom posting postNotes
-  meet-end h = let z : n - i ≡ 0 = omega arith in rw z refl
+module _ (f : ℕ → Option (List Note)) (n i : ℕ) where
+  pub places-end : n ≤ i → meetFrom f (n - i) i ≡ accepting
+  unfolding meetFrom
+  places-end h = let z : n - i ≡ 0 = omega arith in rw z refl
 
   module _ (h : i < n) where
     one : n - i ≡ suc (n - (i + 1))
     one = omega arith
 
+    pub places-unmet : f i ≡ none → meetFrom f (n - i) i ≡ refusing
+    unfolding meetFrom
+    places-unmet e = rw (one, meetFrom, e) refl
+
+    pub places-met : (a : List Note) → f i ≡ some a → meetFrom f (n - i) i ≡ after a (meetFrom f (n - (i + 1)) (i + 1))
+    unfolding meetFrom
+    places-met a e = let s : i + 1 ≡ suc i = omega arith in rw (one, meetFrom, e, s) refl
+
+-- and their notes posted
+
+pub meet-start : (l : ℕ) (f : ℕ → Option (List Note)) (n : ℕ) (k : Noted) → posting l (meetFrom f (n - 0) 0) k ≡ posting l (meetFrom f n 0) k
+meet-start l f n k = let z : n - 0 ≡ n = omega arith in rw z refl
+
+module _ (l : ℕ) (f : ℕ → Option (List Note)) (n i : ℕ) (k : Noted) where
+  abbrev posted : Trace → Verification
+  posted w = posting l w k
+
+  pub meet-end : n ≤ i → posting l (meetFrom f (n - i) i) k ≡ verification true k
+  unfolding posting postNotes
+  meet-end h = ap posted (places-end f n i h)
+
+  module _ (h : i < n) where
     pub meet-unmet : f i ≡ none → posting l (meetFrom f (n - i) i) k ≡ verification false k
-    unfolding meetFrom posting postNotes
-    meet-unmet e = rw (one, meetFrom, e) refl
+    unfolding posting postNotes
+    meet-unmet e = ap posted (places-unmet f n i h e)
 
     pub meet-met : (a : List Note) → f i ≡ some a → posting l (meetFrom f (n - i) i) k ≡ posting l (meetFrom f (n - (i + 1)) (i + 1)) (postNotes l a k)
-    unfolding meetFrom posting after
-    meet-met a e =
-        let s : i + 1 ≡ suc i = omega arith in
-        rw (one, meetFrom, e, s) (λ j. verification (meetFrom f (n - suc i) (suc i) .accepts) (post-append l a (meetFrom f (n - suc i) (suc i) .notes) k j))
+    meet-met a e = ap posted (places-met f n i h a e) ∙ posting-after l a (meetFrom f (n - (i + 1)) (i + 1)) k
 
 -- places one after another are the lists' members one after another
-from-each : {A : Type 0} (g : A → ℕ → Option (List Note)) (a : ℕ → A) (b : ℕ → ℕ) (k i : ℕ) → meetFrom (λ (j : ℕ). g (a j) (b j)) k i ≡ meetEach g (rows a k i) (rows b k i)
+pub from-each : {A : Type 0} (g : A → ℕ → Option (List Note)) (a : ℕ → A) (b : ℕ → ℕ) (k i : ℕ) → meetFrom (λ (j : ℕ). g (a j) (b j)) k i ≡ meetEach g (rows a k i) (rows b k i)
 unfolding meetFrom meetEach rows
 from-each g a b zero i = refl
 from-each g a b (suc k) i = ap (λ (t : Trace). elim (g (a i) (b i)) as (λ _. Trace) [ none ↦ refusing | some x ↦ after x t ]) (from-each g a b k (suc i))

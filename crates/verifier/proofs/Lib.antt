@@ -2,6 +2,7 @@
 pub mod DecodingLaws
 pub mod TypeLaws
 pub mod EffectLaws
+pub mod ValueLaws
 pub mod ChangeLaws
 pub mod LookupLaws
 pub mod PostingLaws

@@ -25,10 +25,10 @@ use Rattle.verifier.specs.declared.decoding.Reading.{Reading}
 use Rattle.verifier.specs.declared.decoding.Reading.the-variants.{At, Unreadable}
 use Rattle.verifier.specs.Decoding.{readingOf, decodedOf}
 use Rattle.verifier.specs.Effects.{Outcome, outcome, leftBy, leaves}
-use Rattle.verifier.specs.Trace.{Trace, refusing, fits, meetTrace, Onward, refused, accepted, onto, Turned, bound, once, targetTrace, intoTurn, startTurn, nextTurn, flowing, turnedTo, turned, turnedBy, Verification, verification, posting, Turning, turning, taking}
+use Rattle.verifier.specs.Trace.{Trace, refusing, valuesTrace, fits, meetTrace, Onward, refused, accepted, onto, Turned, bound, once, targetTrace, intoTurn, startTurn, nextTurn, flowing, turnedTo, turned, turnedBy, Verification, verification, posting, Turning, turning, taking}
 use Rattle.verifier.specs.Answers.{made, changeOf}
 use Rattle.verifier.proofs.DecodingLaws.{decode-is, decode-at}
-use Rattle.verifier.proofs.PostingLaws.{taking-once-on}
+use Rattle.verifier.proofs.PostingLaws.{taking-once-on, rows-say}
 use Rattle.verifier.proofs.FlowLaws.{fits-few}
 
 -- a map that is met has at most 16 operands
@@ -113,13 +113,17 @@ module _ (n : ℕ) (maps : List Map) (i : Instruction) (q : ℕ) (c : Change) wh
   unfolding turnedTo changeOf pick
   change-unfit e = rw e refl
 
-  pub change-fits : (l : ℕ) (k : Noted) → c .fits ≡ true → (a b : Noted) → a ≡ postNotes l (made (c .receiver)) k → b ≡ postNotes l (made (c .value)) a
+  abbrev values : Trace
+  values = valuesTrace (c .types .operands) (c .place) (c .names)
+
+  -- the receiver's note is posted, then those of the values
+  pub change-fits : (l : ℕ) (k : Noted) → c .fits ≡ true → (a b : Noted) (y : Bool) → a ≡ postNotes l (made (c .receiver)) k → verification y b ≡ posting l values a
       → (r : Turning) → r ≡ taking l (flowing n maps i q (typesOf (c .types))) b → r ≡ taking l (turnedTo n maps i q (changeOf c)) k
   unfolding turnedTo changeOf pick posting
-  change-fits l k e a b ea eb r h =
-      let own : List Note = made (c .receiver) ++ made (c .value) in
+  change-fits l k e a b y ea eb r h =
+      let own : List Note = made (c .receiver) ++ values .notes in
       let rest : Turned = flowing n maps i q (typesOf (c .types)) in
-      let both : postNotes l own k ≡ b = post-append l (made (c .receiver)) (made (c .value)) k ∙ (ap (postNotes l (made (c .value))) (sym ea) ∙ sym eb) in
+      let both : postNotes l own k ≡ b = post-append l (made (c .receiver)) (values .notes) k ∙ (ap (postNotes l (values .notes)) (sym ea) ∙ sym (rows-say l values a b y eb)) in
       rw e (h ∙ sym (taking-once-on l (record { notes = own; accepts = true }) k rest refl ∙ ap (taking l rest) both))
 
 -- The whole turn, by what decoding answers

@@ -1,22 +1,25 @@
 -- The types that numbers stand for.
 use mathlib.Core.Path.{_≡_, refl, sym, ap, _∙_}
 use mathlib.Core.Option.{Option, none, some}
-use mathlib.Core.List.{List, [], _∷_}
+use mathlib.Core.List.{List, [], _∷_, map}
 use mathlib.Core.Logic.{_≢_}
 use mathlib.Core.Bool.{Bool, true, false}
-use Prim.Native.Nat.{ℕ, _%_, _-_, _<_, _≤_}
+use Prim.Native.Nat.{ℕ, zero, suc, _%_, _-_, _<_, _≤_}
 use native.Mathlib.Omega.{arith}
-use lib.ListN.{getD, getElem?}
+use lib.ListN.{length, getD, getElem?, length-map, List·getD-eq-default}
 use lib.Dec.{eqb}
 use borrow.Author.Tests.{eq-eqb, ne-eqb}
+use Rattle.definition.specs.declared.Arguments.{Arguments}
+use Rattle.definition.specs.declared.Arguments.the-variants.{NoArguments, OneArgument, TwoArguments, ThreeArguments, FourArguments}
 use Rattle.definition.specs.declared.Signature.{Signature}
+use Rattle.definition.specs.Classes.{typesOf as argumentList}
 use Rattle.definition.specs.Instructions.{pick}
-use Rattle.definition.specs.Lists.{stack, rows}
+use Rattle.definition.specs.Lists.{filled, stack, rows}
 use Rattle.definition.specs.Maybe.{_>>=_}
 use Rattle.definition.specs.Verifier.{VerifierType, typeInt, typeNull, typeClass, typeOfName, pop}
 use Rattle.verifier.specs.declared.types.Popped.{Popped}
 use Rattle.verifier.specs.declared.types.Popped.the-variants.{Top, Empty}
-use Rattle.verifier.specs.Types.{typeOf, localOf, operandAt, localAt, localsOf, typesOf, entryOf, popped, knownLocal}
+use Rattle.verifier.specs.Types.{typeOf, localOf, operandAt, localAt, localsOf, typesOf, argumentLocal, entryOf, popped, knownLocal}
 use Rattle.layout.specs.Places.{stack-top, rows-there, rows-past}
 
 -- A number's type
@@ -109,14 +112,44 @@ unset : localOf 65538 ≡ none
 unfolding localOf pick
 unset = refl
 
--- point 0: the own name and the argument type as numbers, and six unset locals
+mapped-there : {A B : Type 0} (f : A → B) (xs : List A) (i : ℕ) (d : A) (e : B) → i < length xs → getD (map f xs) i e ≡ f (getD xs i d)
+mapped-there f [] i d e h = absurd (omega arith)
+mapped-there f (x ∷ xs) zero d e h = refl
+mapped-there f (x ∷ xs) (suc i) d e h = mapped-there f xs i d e (omega arith)
+
+-- the local of an argument has its type; where there is no such argument, it is unset
+module _ (a : Arguments) (i : ℕ) where
+  pub argument-there : (n : ℕ) → i < length (argumentList a) → typeOf n ≡ typeOfName (getD (argumentList a) i 0) → n < 65537 → localOf n ≡ argumentLocal a i
+  unfolding argumentLocal
+  argument-there n h e l = local-set n (λ k. omega arith) ∙ ap some e ∙ sym (mapped-there (λ m. some (typeOfName m)) (argumentList a) i 0 none h)
+
+  pub argument-past : length (argumentList a) ≤ i → localOf 65538 ≡ argumentLocal a i
+  unfolding argumentLocal
+  argument-past h =
+      let l : length (map (λ m. some (typeOfName m)) (argumentList a)) ≤ i = omega (arith, length-map (argumentList a) (λ m. some (typeOfName m))) in
+      unset ∙ sym (List·getD-eq-default (map (λ m. some (typeOfName m)) (argumentList a)) none l)
+
+-- no method has an argument number 4
+locals-of :
+    (own : ℕ) (a : Arguments) → filled 8 none (some (typeClass own) ∷ map (λ n. some (typeOfName n)) (argumentList a))
+    ≡ some (typeClass own) ∷ argumentLocal a 0 ∷ argumentLocal a 1 ∷ argumentLocal a 2 ∷ argumentLocal a 3 ∷ none ∷ none ∷ none ∷ []
+unfolding filled argumentLocal
+locals-of own NoArguments = refl
+locals-of own (OneArgument a) = refl
+locals-of own (TwoArguments a b) = refl
+locals-of own (ThreeArguments a b c) = refl
+locals-of own (FourArguments a b c d) = refl
+
+-- point 0: the own name and the argument types as numbers, the other locals unset
 pub entry-is :
-    (own : ℕ) (s : Signature) (first second : ℕ) (o : List ℕ) → first ≡ own → first < 65536 → typeOf second ≡ typeOfName (s .argument) → second < 65537 →
+    (own : ℕ) (s : Signature) (first second third fourth fifth : ℕ) (o : List ℕ) → first ≡ own → first < 65536
+    → localOf second ≡ argumentLocal (s .arguments) 0 → localOf third ≡ argumentLocal (s .arguments) 1
+    → localOf fourth ≡ argumentLocal (s .arguments) 2 → localOf fifth ≡ argumentLocal (s .arguments) 3 →
     typesOf (record {
       operands = o;
       depth = 0;
-      locals = first ∷ second ∷ 65538 ∷ 65538 ∷ 65538 ∷ 65538 ∷ 65538 ∷ 65538 ∷ [];
+      locals = first ∷ second ∷ third ∷ fourth ∷ fifth ∷ 65538 ∷ 65538 ∷ 65538 ∷ [];
     }) ≡ entryOf own s
 unfolding typesOf entryOf stack localsOf rows localAt
-entry-is own s first second o e l f m =
-    rw (local-set first (λ k. omega arith), local-set second (λ k. omega arith), type-name first l, e, f, unset)
+entry-is own s first second third fourth fifth o e l p q r t =
+    rw (locals-of own (s .arguments), local-set first (λ k. omega arith), type-name first l, e, p, q, r, t, unset)

@@ -5,6 +5,7 @@ use mathlib.Core.List.{List, [], _∷_, _++_}
 use Prim.Native.Nat.{ℕ, _+_, _*_, _≤_}
 use Rattle.definition.specs.Instructions.{pick}
 use Rattle.definition.specs.Maybe.{_>>=_}
+use Rattle.definition.specs.declared.Arguments.{Arguments}
 use Rattle.definition.specs.Classes.{Map}
 use Rattle.definition.specs.Verifier.{Note, TypeState, Flow, meetLocal, meets}
 use Rattle.classfile.specs.Reading.{mapPlace, typeAt}
@@ -19,21 +20,21 @@ use Rattle.verifier.specs.declared.turns.Step.the-variants.{Stop, End, N
 use Rattle.verifier.specs.declared.methods.Passed.{Passed}
 use Rattle.verifier.specs.declared.methods.Passed.the-variants.{Inside, To}
 use Rattle.verifier.specs.Types.{localAt, operandAt, typesOf}
-use Rattle.verifier.specs.Effects.{notesIn}
-use Rattle.verifier.specs.Trace.{Onward, refused, accepted, onto, leftFrom}
+use Rattle.verifier.specs.Effects.{notesIn, meetValues}
+use Rattle.verifier.specs.Trace.{valuesTrace, Onward, refused, accepted, onto, leftFrom}
 
 unfoldable pub made : Meeting → List Note
 made Unmet = []
 made Met = []
 made (Noted a b) = record { low = a; high = b } ∷ []
 
--- the flow to the types s under two meetings
-unfoldable pub madeFlow : TypeState → Meeting → Meeting → Option Flow
-madeFlow s a b = notesIn a >>= λ x. notesIn b >>= λ y. some (record { types = s; notes = x ++ y })
+-- the flow to the types s, if the receiver at place d and the values above it are met
+unfoldable pub madeFlow : Types → ℕ → Meeting → Arguments → Option Flow
+madeFlow s d a vs = notesIn a >>= λ x. meetValues (s .operands) d vs >>= λ y. some (record { types = typesOf s; notes = x ++ y })
 
 -- what an instruction leaves, if it fits
 unfoldable pub changeOf : Change → Option Flow
-changeOf c = pick (c .fits) (some (record { types = typesOf (c .types); notes = made (c .receiver) ++ made (c .value) })) none
+changeOf c = pick (c .fits) (some (record { types = typesOf (c .types); notes = made (c .receiver) ++ valuesTrace (c .types .operands) (c .place) (c .names) .notes })) none
 
 unfoldable pub nextOf : Step → TypeState → Onward
 nextOf Stop s = refused

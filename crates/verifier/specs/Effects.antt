@@ -1,12 +1,14 @@
 -- What an instruction comes to, and what the code's answers on it stand for.
 use mathlib.Core.Option.{Option, none, some}
 use mathlib.Core.List.{List, [], _∷_, _++_}
-use Prim.Native.Nat.{ℕ}
-use lib.ListN.{set}
-use Rattle.definition.specs.Lists.{stack}
+use Prim.Native.Nat.{ℕ, _+_}
+use lib.ListN.{length, getD, set}
+use Rattle.definition.specs.Lists.{rows, stack}
 use Rattle.definition.specs.Maybe.{_>>=_}
 use Rattle.definition.specs.declared.Instruction.{Instruction}
-use Rattle.definition.specs.Verifier.{Note, TypeState, Flow, flow, effect, returns, returnKind}
+use Rattle.definition.specs.declared.Arguments.{Arguments}
+use Rattle.definition.specs.Classes.{typesOf as namesOf}
+use Rattle.definition.specs.Verifier.{Note, TypeState, Flow, flow, meets, meetAll, effect, returns, returnKind}
 use Rattle.verifier.specs.declared.types.Types.{Types}
 use Rattle.verifier.specs.declared.effects.Meeting.{Meeting}
 use Rattle.verifier.specs.declared.effects.Meeting.the-variants.{Unmet, Met, Noted}
@@ -19,6 +21,14 @@ unfoldable pub notesIn : Meeting → Option (List Note)
 notesIn Unmet = none
 notesIn Met = some []
 notesIn (Noted a b) = some (record { low = a; high = b } ∷ [])
+
+-- value i above the receiver at place d, where name i is demanded
+unfoldable pub meetValue : List ℕ → ℕ → Arguments → ℕ → Option (List Note)
+meetValue o d a i = meets (operandAt o (d + 1 + i)) (getD (namesOf a) i 0)
+
+-- the values above it, as many as there are names, each where its own is demanded
+unfoldable pub meetValues : List ℕ → ℕ → Arguments → Option (List Note)
+meetValues o d a = meetAll meets (rows (operandAt o) (length (namesOf a)) (d + 1)) (namesOf a)
 
 -- rejected, on to the next instruction, or a return that fits
 pub data Outcome : Type 0 where
@@ -57,7 +67,7 @@ pushed s d t ns = flow (typeOf t ∷ stack (operandAt (s .operands)) d) (localsO
 
 unfoldable pub outcomeOf : Types → Effect → Outcome
 outcomeOf s Rejected = rejected
-outcomeOf s (Kept d a b) = going (notesIn a >>= λ x. notesIn b >>= λ y. kept s d (x ++ y))
-outcomeOf s (Pushed d t a b) = going (notesIn a >>= λ x. notesIn b >>= λ y. pushed s d t (x ++ y))
+outcomeOf s (Kept d a vs) = going (notesIn a >>= λ x. meetValues (s .operands) d vs >>= λ y. kept s d (x ++ y))
+outcomeOf s (Pushed d t a vs) = going (notesIn a >>= λ x. meetValues (s .operands) d vs >>= λ y. pushed s d t (x ++ y))
 outcomeOf s (Stored d i t) = going (flow (stack (operandAt (s .operands)) d) (set (localsOf (s .locals)) i (localOf t)) [])
 outcomeOf s (Ended a) = ending (notesIn a)

@@ -11,12 +11,13 @@ use Rattle.definition.specs.declared.Signature.{Signature}
 use Rattle.definition.specs.declared.Instruction.{Instruction}
 use Rattle.definition.specs.Instructions.{Decoded, decode, pick}
 use Rattle.definition.specs.Lists.{rows}
-use Rattle.definition.specs.Classes.{Map, Method}
+use Rattle.definition.specs.declared.Arguments.{Arguments}
+use Rattle.definition.specs.Classes.{typesOf as namesOf, Map, Method}
 use Rattle.definition.specs.Verifier.{Note, TypeState, Flow, mapAt, mapTypes, meetLocal, meets, target, goesOn, mapsPast}
 use Rattle.classfile.specs.Reading.{mapCount, mapNumbered, fileVersion, className, quickMethods}
 use Rattle.constraints.specs.Posting.{Noted, postNotes}
 use Rattle.verifier.specs.Types.{entryOf}
-use Rattle.verifier.specs.Effects.{leaves}
+use Rattle.verifier.specs.Effects.{meetValue, leaves}
 
 -- Notes, and whether all demands are met
 
@@ -49,6 +50,10 @@ meetEach f (x ∷ xs) (n ∷ ns) = elim (f x n) [ none ↦ refusing | some a ↦
 unfoldable pub meetFrom : (ℕ → Option (List Note)) → ℕ → ℕ → Trace
 meetFrom f zero i = accepting
 meetFrom f (suc k) i = elim (f i) [ none ↦ refusing | some a ↦ after a (meetFrom f k (suc i)) ]
+
+-- the values above the receiver at place d, one after another
+unfoldable pub valuesTrace : List ℕ → ℕ → Arguments → Trace
+valuesTrace o d a = meetFrom (meetValue o d a) (length (namesOf a)) 0
 
 -- a map that could be met: at most 16 operands, as every file that reads has
 unfoldable pub fits : Map → Bool

@@ -1,12 +1,15 @@
 -- The verifier's types as numbers. A class name is itself, int is 65536, null 65537, and 65538 in a local is unset.
 use mathlib.Core.Option.{Option, none, some}
-use mathlib.Core.List.{List, [], _∷_}
+use mathlib.Core.List.{List, [], _∷_, map}
 use Prim.Native.Nat.{ℕ, _%_}
 use lib.ListN.{getD, getElem?}
 use lib.Dec.{eqb}
+use Rattle.definition.specs.declared.Arguments.{Arguments}
 use Rattle.definition.specs.declared.Signature.{Signature}
+use Rattle.definition.specs.Numbers.{localCount}
+use Rattle.definition.specs.Classes.{typesOf as argumentList, argumentTypes}
 use Rattle.definition.specs.Instructions.{pick}
-use Rattle.definition.specs.Lists.{rows, stack}
+use Rattle.definition.specs.Lists.{filled, rows, stack}
 use Rattle.definition.specs.Maybe.{_>>=_}
 use Rattle.definition.specs.Verifier.{VerifierType, typeInt, typeNull, typeClass, TypeState, typeOfName}
 use Rattle.verifier.specs.declared.types.Types.{Types}
@@ -35,10 +38,11 @@ typesOf t = record { operands = stack (operandAt (t .operands)) (t .depth); loca
 
 -- point 0 of a method of the class of that name, with that signature
 unfoldable pub entryOf : ℕ → Signature → TypeState
-entryOf own s = record {
-  operands = [];
-  locals = some (typeClass own) ∷ some (typeOfName (s .argument)) ∷ none ∷ none ∷ none ∷ none ∷ none ∷ none ∷ [];
-}
+entryOf own s = record { operands = []; locals = filled localCount none (some (typeClass own) ∷ map (λ n. some (typeOfName n)) (argumentTypes s)) }
+
+-- the local of argument i there: unset where there is no such argument
+unfoldable pub argumentLocal : Arguments → ℕ → Option VerifierType
+argumentLocal a i = getD (map (λ n. some (typeOfName n)) (argumentList a)) i none
 
 -- the last operand, and those below it
 unfoldable pub popped : List ℕ → Popped → Option (record { top : VerifierType; more : List VerifierType })

@@ -1,21 +1,27 @@
 // An effect carried out: the types that an instruction leaves, and its own notes.
 use crate::effects::Effect;
 use crate::effects::Meeting;
+use crate::effects::meet_value;
 use crate::types::LOCALS;
 use crate::types::OPERANDS;
 use crate::types::Types;
+use cells::arguments::argument_count;
+use definition::Arguments;
 ghost use mathlib.Core.Path.{_≡_};
 ghost use mathlib.Core.Option.{none};
 ghost use Rattle.definition.specs.Lists.{isSome};
 ghost use Rattle.verifier.specs.Types.{typesOf};
 ghost use Rattle.verifier.specs.Effects.{notesIn, leftBy, outcomeOf};
+ghost use Rattle.verifier.specs.Trace.{valuesTrace};
 ghost use Rattle.verifier.specs.Answers.{changeOf, madeFlow};
 
-// What an instruction leaves, if it fits: the meetings of the receiver and of the value, and the types.
+// What an instruction leaves, if it fits: the types, the receiver's meeting, its place, and the names that are demanded of the values above it. Those values are
+// still among the operands, past the last.
 pub struct Change {
     pub types: Types,
+    pub place: usize,
     pub receiver: Meeting,
-    pub value: Meeting,
+    pub names: Arguments,
     pub fits: bool,
 }
 
@@ -35,44 +41,61 @@ fn unfit(types: Types) -> Change
     Change {
         fits: false,
         receiver: Meeting::Met,
-        value: Meeting::Met,
+        names: Arguments::NoArguments,
+        place: 0,
         types,
     }
 }
 
-// These types are left, if both meetings are met.
-fn left(types: Types, receiver: Meeting, value: Meeting) -> Change
-    ensures { λ r. ⌜ changeOf r ≡ madeFlow (typesOf types) receiver value ⌝ }
+// Whether the values above place d are all met.
+fn are_met(types: Types, d: usize, names: Arguments) -> bool
+    ensures { λ r. ⌜ r ≡ valuesTrace (types .operands) d names .accepts ⌝ }
+{
+    let n = argument_count(names);
+    let mut i: u8 = 0;
+    while i < n {
+        if !met(meet_value(types, d, names, i)) {
+            return false;
+        }
+        i += 1;
+    }
+    true
+}
+
+// These types are left, if the receiver at place d and the values above it are met.
+fn left(types: Types, d: usize, receiver: Meeting, names: Arguments) -> Change
+    ensures { λ r. ⌜ changeOf r ≡ madeFlow types d receiver names ⌝ }
 {
     if !met(receiver) {
         return unfit(types);
     }
-    if !met(value) {
+    if !are_met(types, d, names) {
         return unfit(types);
     }
     Change {
         fits: true,
+        place: d,
         receiver,
-        value,
+        names,
         types,
     }
 }
 
 // The lowest d operands are kept.
-fn kept(types: Types, d: usize, receiver: Meeting, value: Meeting) -> Change
-    ensures { λ r. ⌜ changeOf r ≡ leftBy (typesOf types) (outcomeOf types (Effect.Kept d receiver value)) ⌝ }
+fn kept(types: Types, d: usize, receiver: Meeting, names: Arguments) -> Change
+    ensures { λ r. ⌜ changeOf r ≡ leftBy (typesOf types) (outcomeOf types (Effect.Kept d receiver names)) ⌝ }
 {
     if OPERANDS < d {
         return unfit(types);
     }
     let mut next = types;
     next.depth = d;
-    left(next, receiver, value)
+    left(next, d, receiver, names)
 }
 
 // A type is pushed on the lowest d operands.
-fn pushed(types: Types, d: usize, t: u32, receiver: Meeting, value: Meeting) -> Change
-    ensures { λ r. ⌜ changeOf r ≡ leftBy (typesOf types) (outcomeOf types (Effect.Pushed d t receiver value)) ⌝ }
+fn pushed(types: Types, d: usize, t: u32, receiver: Meeting, names: Arguments) -> Change
+    ensures { λ r. ⌜ changeOf r ≡ leftBy (typesOf types) (outcomeOf types (Effect.Pushed d t receiver names)) ⌝ }
 {
     if OPERANDS <= d {
         return unfit(types);
@@ -80,7 +103,7 @@ fn pushed(types: Types, d: usize, t: u32, receiver: Meeting, value: Meeting) -> 
     let mut next = types;
     next.operands[d] = t;
     next.depth = d + 1;
-    left(next, receiver, value)
+    left(next, d, receiver, names)
 }
 
 // The lowest d operands are kept, and a local is set.
@@ -93,10 +116,10 @@ fn stored(types: Types, d: usize, i: usize, t: u32) -> Change
     let mut next = types;
     next.depth = d;
     if LOCALS <= i {
-        return left(next, Meeting::Met, Meeting::Met);
+        return left(next, d, Meeting::Met, Arguments::NoArguments);
     }
     next.locals[i] = t;
-    left(next, Meeting::Met, Meeting::Met)
+    left(next, d, Meeting::Met, Arguments::NoArguments)
 }
 
 // A return that is met leaves the types as they are.
@@ -108,8 +131,9 @@ fn ended(types: Types, m: Meeting) -> Change
     }
     Change {
         fits: true,
+        place: 0,
         receiver: m,
-        value: Meeting::Met,
+        names: Arguments::NoArguments,
         types,
     }
 }
@@ -120,8 +144,8 @@ pub(crate) fn carried_out(types: Types, e: Effect) -> Change
 {
     match e {
         Effect::Rejected => unfit(types),
-        Effect::Kept(d, receiver, value) => kept(types, d, receiver, value),
-        Effect::Pushed(d, t, receiver, value) => pushed(types, d, t, receiver, value),
+        Effect::Kept(d, receiver, names) => kept(types, d, receiver, names),
+        Effect::Pushed(d, t, receiver, names) => pushed(types, d, t, receiver, names),
         Effect::Stored(d, i, t) => stored(types, d, i, t),
         Effect::Ended(m) => ended(types, m),
     }

@@ -2,16 +2,20 @@
 ghost use mathlib.Core.Path.{_≡_};
 ghost use mathlib.Core.Option.{some};
 ghost use Prim.Native.Nat.{_+_, _≤_};
-ghost use lib.ListN.{length};
-ghost use Rattle.definition.specs.Instructions.{opcodeOf, inlineLength, shortAt, signatureAt, extend, instructionOf, sizedAs, decode};
+ghost use lib.ListN.{length, getD};
+ghost use Rattle.definition.specs.Instructions.{opcodeOf, inlineLength, shortAt, signatureAt, listSignatureAt, extend, instructionOf, sizedAs, decode};
 ghost use Rattle.verifier.specs.Decoding.{laterOf, readingOf};
+use cells::arguments::arguments_at;
 use cells::short_at;
+use definition::Arguments;
 use definition::Condition;
 use definition::Instruction;
 use definition::Kind;
 use definition::Opcode;
 use definition::Operator;
 use definition::Signature;
+use definition::numbers::ARGUMENT_LIMIT;
+use definition::numbers::VERSION_THREE;
 use definition::numbers::VERSION_TWO;
 
 // What stands at a point of the code: an instruction with its size in bytes, or nothing that can be read.
@@ -37,6 +41,17 @@ fn later_of(version: u8, b: u8) -> Opcode
     }
 }
 
+// invokevirtual has one argument type inline before version 3, a list from there on.
+fn invokevirtual_of(version: u8) -> Opcode
+    ensures { λ r. ⌜ r ≡ opcodeOf version 0xB6 ⌝ }
+{
+    if version < VERSION_THREE {
+        Opcode::OpInvokevirtual
+    } else {
+        Opcode::OpInvokevirtualList
+    }
+}
+
 // The one decision over opcode bytes, by the version of the class's file: every version has these; the later ones come with version 2.
 pub fn opcode_of(version: u8, b: u8) -> Opcode
     ensures { λ r. ⌜ r ≡ opcodeOf version b ⌝ }
@@ -54,7 +69,7 @@ pub fn opcode_of(version: u8, b: u8) -> Opcode
         0x64 => Opcode::OpArithmetic(Operator::Subtract),
         0xB4 => Opcode::OpGetfield,
         0xB5 => Opcode::OpPutfield,
-        0xB6 => Opcode::OpInvokevirtual,
+        0xB6 => invokevirtual_of(version),
         0xBB => Opcode::OpNew,
         0xAC => Opcode::OpReturn(Kind::IntKind),
         0xB0 => Opcode::OpReturn(Kind::ReferenceKind),
@@ -62,9 +77,20 @@ pub fn opcode_of(version: u8, b: u8) -> Opcode
     }
 }
 
-// How many bytes follow an opcode inline.
-pub fn inline_length(o: Opcode) -> usize
-    ensures { λ r. ⌜ r ≡ inlineLength o ⌝ }
+// The count of a list of arguments, behind two names that begin at place i; the place may be the last that a slice can have.
+fn list_count(code: &[u8], i: usize) -> u8
+    ensures { λ r. ⌜ r ≡ getD (now (code .entry)) (i + 4) 0 ⌝ }
+{
+    if i < code.len() {
+        cells::at8(code, i + 4)
+    } else {
+        0
+    }
+}
+
+// How many bytes follow an opcode inline, from place i on.
+pub fn inline_length(code: &[u8], i: usize, o: Opcode) -> usize
+    ensures { λ r. ⌜ r ≡ inlineLength (now (code .entry)) i o ⌝ }
 {
     match o {
         Opcode::OpAconstNull => 0,
@@ -77,6 +103,7 @@ pub fn inline_length(o: Opcode) -> usize
         Opcode::OpGetfield => 6,
         Opcode::OpPutfield => 6,
         Opcode::OpInvokevirtual => 8,
+        Opcode::OpInvokevirtualList => 7 + 2 * cells::wide8(list_count(code, i)),
         Opcode::OpNew => 2,
         Opcode::OpReturn(_) => 0,
         Opcode::OpBranch(_) => 2,
@@ -126,7 +153,7 @@ fn signature_at(code: &[u8], i: usize) -> Signature
 {
     Signature {
         name: short_at(code, i),
-        argument: short_at(code, i + 2),
+        arguments: Arguments::OneArgument(short_at(code, i + 2)),
         result: short_at(code, i + 4),
     }
 }
@@ -136,6 +163,31 @@ fn invokevirtual_at(code: &[u8], i: usize) -> Instruction
     ensures { λ r. ⌜ some r ≡ instructionOf (now (code .entry)) i Opcode.OpInvokevirtual ⌝ }
 {
     Instruction::Invokevirtual(short_at(code, i), signature_at(code, i + 2))
+}
+
+// A signature inline with its list of n: name, count, argument types, result.
+fn list_signature_at(code: &[u8], i: usize, n: u8) -> Signature
+    requires { ⌜ (i ≤ length (now code) + 2) × (n ≤ 4) ⌝ }
+    ensures { λ r. ⌜ some r ≡ listSignatureAt (now (code .entry)) i n ⌝ }
+{
+    Signature {
+        name: short_at(code, i),
+        arguments: arguments_at(code, i + 3, n),
+        result: short_at(code, i + 3 + 2 * cells::wide8(n)),
+    }
+}
+
+// A list of more than four can't be read, as an unknown opcode can't.
+fn invokevirtual_list_at(code: &[u8], i: usize, n: usize) -> Reading
+    requires { ⌜ i ≤ length (now code) ⌝ }
+    ensures { λ r. ⌜ r ≡ readingOf (sizedAs n (instructionOf (now (code .entry)) i Opcode.OpInvokevirtualList)) ⌝ }
+{
+    let count = list_count(code, i);
+    if ARGUMENT_LIMIT < count {
+        return Reading::Unreadable;
+    }
+    let s = list_signature_at(code, i + 2, count);
+    Reading::At(Instruction::Invokevirtual(short_at(code, i), s), n)
 }
 
 // The point that a branch names: its offset counts from the start of the method's code, not from the branch.
@@ -162,6 +214,7 @@ fn instruction_of(code: &[u8], i: usize, o: Opcode, n: usize) -> Reading
         Opcode::OpGetfield => Reading::At(getfield_at(code, i), n),
         Opcode::OpPutfield => Reading::At(putfield_at(code, i), n),
         Opcode::OpInvokevirtual => Reading::At(invokevirtual_at(code, i), n),
+        Opcode::OpInvokevirtualList => invokevirtual_list_at(code, i, n),
         Opcode::OpNew => Reading::At(Instruction::New(short_at(code, i)), n),
         Opcode::OpReturn(k) => Reading::At(Instruction::Return(k), n),
         Opcode::OpBranch(k) => Reading::At(Instruction::Branch(k, target_at(code, i)), n),
@@ -177,7 +230,7 @@ pub fn decode(version: u8, code: &[u8], p: usize) -> Reading
         return Reading::Unreadable;
     }
     let o = opcode_of(version, cells::at8(code, p));
-    let n = inline_length(o);
+    let n = inline_length(code, p + 1, o);
     if code.len() - p <= n {
         return Reading::Unreadable;
     }

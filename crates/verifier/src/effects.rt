@@ -2,12 +2,17 @@
 use crate::types::INT;
 use crate::types::LOCALS;
 use crate::types::NULL;
+use crate::types::OPERANDS;
 use crate::types::Popped;
 use crate::types::Types;
 use crate::types::UNSET;
 use crate::types::local;
+use crate::types::operand;
 use crate::types::pop;
 use crate::types::type_of_name;
+use cells::arguments::argument_at;
+use cells::arguments::argument_count;
+use definition::Arguments;
 use definition::Condition;
 use definition::Instruction;
 use definition::Kind;
@@ -18,13 +23,14 @@ use definition::numbers::SHORT_RANGE;
 ghost use mathlib.Core.Bool.{_&&_};
 ghost use mathlib.Core.Option.{some};
 ghost use mathlib.Core.Path.{_≡_};
-ghost use Prim.Native.Nat.{ℕ};
+ghost use Prim.Native.Nat.{ℕ, _+_};
 ghost use lib.Dec.{leb};
+ghost use lib.ListN.{getD};
 ghost use Rattle.definition.specs.Numbers.{nameObject};
 ghost use Rattle.definition.specs.Maybe.{need};
 ghost use Rattle.definition.specs.Verifier.{meetClass, meetInt, meets, meetKind, effect, returns};
 ghost use Rattle.verifier.specs.Types.{typeOf, localOf, typesOf};
-ghost use Rattle.verifier.specs.Effects.{notesIn, going, ending, outcome, outcomeOf};
+ghost use Rattle.verifier.specs.Effects.{notesIn, meetValue, going, ending, outcome, outcomeOf};
 
 // How a type meets what is demanded: not at all, as it stands, or under the note 'low below high'.
 pub enum Meeting {
@@ -34,11 +40,11 @@ pub enum Meeting {
 }
 
 // What an instruction does: it is rejected, or keeps the lowest operands, then pushes a type or sets a local, or it ends the method.
-// The meetings are the receiver's and the value's.
+// The meeting is the receiver's, which is the lowest operand that isn't kept. The names are demanded of the values above it, in their order.
 pub enum Effect {
     Rejected,
-    Kept(usize, Meeting, Meeting),
-    Pushed(usize, u32, Meeting, Meeting),
+    Kept(usize, Meeting, Arguments),
+    Pushed(usize, u32, Meeting, Arguments),
     Stored(usize, usize, u32),
     Ended(Meeting),
 }
@@ -83,6 +89,23 @@ pub(crate) fn meet_name(t: u32, b: u16) -> Meeting
     }
 }
 
+// The type of value i above the receiver at place d, from the lowest; 0 past the end.
+fn value(types: Types, d: usize, i: u8) -> u32
+    ensures { λ r. ⌜ r ≡ getD (types .operands) (d + 1 + i) 0 ⌝ }
+{
+    if OPERANDS <= d {
+        return 0;
+    }
+    operand(types, d + 1 + cells::wide8(i))
+}
+
+// Value i above the receiver at place d, where name i is demanded.
+pub(crate) fn meet_value(types: Types, d: usize, names: Arguments, i: u8) -> Meeting
+    ensures { λ r. ⌜ notesIn r ≡ meetValue (types .operands) d names i ⌝ }
+{
+    meet_name(value(types, d, i), argument_at(names, i))
+}
+
 // Whether a type is of the kind: int, or null or a class name.
 fn of_kind(kind: Kind, t: u32) -> bool
     ensures { λ r. ⌜ meetKind kind (typeOf t) ≡ need r ⌝ }
@@ -117,9 +140,9 @@ fn named(c: u16, n: u16, t: u16) -> bool
 }
 
 fn push(types: Types, t: u32) -> Effect
-    ensures { λ r. ⌜ r ≡ Effect.Pushed (types .depth) t Meeting.Met Meeting.Met ⌝ }
+    ensures { λ r. ⌜ r ≡ Effect.Pushed (types .depth) t Meeting.Met Arguments.NoArguments ⌝ }
 {
-    Effect::Pushed(types.depth, t, Meeting::Met, Meeting::Met)
+    Effect::Pushed(types.depth, t, Meeting::Met, Arguments::NoArguments)
 }
 
 fn load(types: Types, kind: Kind, i: u8) -> Effect
@@ -157,7 +180,7 @@ fn drop(types: Types) -> Effect
     let Popped::Top(_, d) = pop(types, types.depth) else {
         return Effect::Rejected;
     };
-    Effect::Kept(d, Meeting::Met, Meeting::Met)
+    Effect::Kept(d, Meeting::Met, Arguments::NoArguments)
 }
 
 fn dup(types: Types) -> Effect
@@ -185,7 +208,7 @@ fn arithmetic(types: Types) -> Effect
     if y != INT {
         return Effect::Rejected;
     }
-    Effect::Pushed(e, INT, Meeting::Met, Meeting::Met)
+    Effect::Pushed(e, INT, Meeting::Met, Arguments::NoArguments)
 }
 
 fn getfield(types: Types, c: u16, f: u16, t: u16) -> Effect
@@ -197,7 +220,7 @@ fn getfield(types: Types, c: u16, f: u16, t: u16) -> Effect
     let Popped::Top(x, d) = pop(types, types.depth) else {
         return Effect::Rejected;
     };
-    Effect::Pushed(d, type_of_name(t), meet_class(c, x), Meeting::Met)
+    Effect::Pushed(d, type_of_name(t), meet_class(c, x), Arguments::NoArguments)
 }
 
 fn putfield(types: Types, c: u16, f: u16, t: u16) -> Effect
@@ -206,15 +229,16 @@ fn putfield(types: Types, c: u16, f: u16, t: u16) -> Effect
     if !named(c, f, t) {
         return Effect::Rejected;
     }
-    let Popped::Top(x, d) = pop(types, types.depth) else {
+    let Popped::Top(_, d) = pop(types, types.depth) else {
         return Effect::Rejected;
     };
     let Popped::Top(y, e) = pop(types, d) else {
         return Effect::Rejected;
     };
-    Effect::Kept(e, meet_class(c, y), meet_name(x, t))
+    Effect::Kept(e, meet_class(c, y), Arguments::OneArgument(t))
 }
 
+// The arguments stand above the receiver, the last on top.
 fn invokevirtual(types: Types, c: u16, s: Signature) -> Effect
     ensures { λ q. ⌜ outcomeOf types q ≡ going (effect (Instruction.Invokevirtual c s) (typesOf types)) ⌝ }
 {
@@ -224,18 +248,14 @@ fn invokevirtual(types: Types, c: u16, s: Signature) -> Effect
     if !classfile::is_named(s) {
         return Effect::Rejected;
     }
-    let Popped::Top(x, d) = pop(types, types.depth) else {
+    let arguments = s.arguments;
+    let n = cells::wide8(argument_count(arguments));
+    if types.depth <= n {
         return Effect::Rejected;
-    };
-    let Popped::Top(y, e) = pop(types, d) else {
-        return Effect::Rejected;
-    };
-    Effect::Pushed(
-        e,
-        type_of_name(s.result),
-        meet_class(c, y),
-        meet_name(x, s.argument),
-    )
+    }
+    let d = types.depth - n - 1;
+    let receiver = meet_class(c, operand(types, d));
+    Effect::Pushed(d, type_of_name(s.result), receiver, arguments)
 }
 
 fn new(types: Types, c: u16) -> Effect
@@ -257,7 +277,7 @@ fn compared_with_zero(types: Types) -> Effect
     if x != INT {
         return Effect::Rejected;
     }
-    Effect::Kept(d, Meeting::Met, Meeting::Met)
+    Effect::Kept(d, Meeting::Met, Arguments::NoArguments)
 }
 
 // Two ints go, and they are compared.
@@ -276,14 +296,14 @@ fn compared(types: Types) -> Effect
     if y != INT {
         return Effect::Rejected;
     }
-    Effect::Kept(e, Meeting::Met, Meeting::Met)
+    Effect::Kept(e, Meeting::Met, Arguments::NoArguments)
 }
 
 fn branch(types: Types, condition: Condition) -> Effect
     ensures { λ r. ⌜ ((p : ℕ) → outcomeOf types r ≡ going (effect (Instruction.Branch condition p) (typesOf types))) ⌝ }
 {
     match condition {
-        Condition::Always => Effect::Kept(types.depth, Meeting::Met, Meeting::Met),
+        Condition::Always => Effect::Kept(types.depth, Meeting::Met, Arguments::NoArguments),
         Condition::IfZero => compared_with_zero(types),
         Condition::IfLess => compared(types),
     }

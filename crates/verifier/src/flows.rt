@@ -1,7 +1,8 @@
-// What flows into a map: each local and operand against the map's type.
+// Demands met in their order, each note posted as it comes: the values above a receiver; and what flows into a map, each local and operand against the map's type.
 use crate::changes::met;
 use crate::effects::Meeting;
 use crate::effects::meet_name;
+use crate::effects::meet_value;
 use crate::notes::Verified;
 use crate::notes::post_meeting;
 use crate::notes::rejected;
@@ -10,6 +11,8 @@ use crate::types::OPERANDS;
 use crate::types::Types;
 use crate::types::UNSET;
 use crate::types::type_of_name;
+use cells::arguments::argument_count;
+use definition::Arguments;
 ghost use mathlib.Core.Path.{_≡_};
 ghost use Rattle.definition.specs.Verifier.{localType, mapTypes, meetLocal, meets, typeOfName};
 ghost use mathlib.Core.List.{map};
@@ -18,8 +21,36 @@ ghost use Rattle.classfile.specs.Reading.{mapDepth, typeAt, mapOf};
 ghost use Rattle.verifier.specs.Types.{localOf, localAt, localsOf, operandAt, typesOf};
 ghost use Rattle.verifier.specs.Effects.{notesIn};
 ghost use Rattle.constraints.specs.Posting.{noted};
-ghost use Rattle.verifier.specs.Trace.{verification, posting, fits, meetFrom, meetTrace};
+ghost use Rattle.verifier.specs.Trace.{verification, posting, fits, meetFrom, valuesTrace, meetTrace};
 ghost use Rattle.verifier.specs.Answers.{meetAt, partLimit};
+
+// The values above the receiver at place d, in their order.
+pub(crate) fn meet_values(
+    types: Types,
+    d: usize,
+    names: Arguments,
+    loader: u8,
+    subtypes: &mut [u16],
+    count: u16,
+) -> Verified
+    ensures { λ r. ⌜ verification (r .accepts) (noted (now (subtypes .exit)) (r .count)) ≡ posting loader (valuesTrace (types .operands) d names) (noted (now (subtypes .entry)) count) ⌝ }
+{
+    let n = argument_count(names);
+    let mut total = count;
+    let mut i: u8 = 0;
+    while i < n {
+        let m = meet_value(types, d, names, i);
+        if !met(m) {
+            return rejected(total);
+        }
+        total = post_meeting(m, loader, subtypes, total);
+        i += 1;
+    }
+    Verified {
+        accepts: true,
+        count: total,
+    }
+}
 
 // The type that a map gives a local: 0 is unset.
 fn local_type(n: u16) -> u32

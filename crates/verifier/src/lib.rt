@@ -6,7 +6,7 @@ mod unmapped; // unmapped.rt: a method that lacks a map
 mod effects; // effects.rt: what each instruction does to the state
 mod changes; // changes.rt: an effect carried out
 mod notes; // notes.rt: notes posted as they come
-mod flows; // flows.rt: what flows into a map
+mod flows; // flows.rt: the values above a receiver, and what flows into a map
 mod turns; // turns.rt: one turn of the walk over the code
 mod methods; // methods.rt: the walk over a method
 mod classes; // classes.rt: all methods of a class file

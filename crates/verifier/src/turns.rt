@@ -7,6 +7,7 @@ use crate::effects::effect_of;
 use crate::flows::is_fitting;
 use crate::flows::mapped_types;
 use crate::flows::meet_map;
+use crate::flows::meet_values;
 use crate::lookups::Target;
 use crate::lookups::find_map;
 use crate::lookups::goes_on;
@@ -183,10 +184,10 @@ fn flow_from(
         return stop(types, count);
     }
     let receiver = change.receiver;
-    let value = change.value;
+    let names = change.names;
     let first = post_meeting(receiver, loader, subtypes, count);
-    let second = post_meeting(value, loader, subtypes, first);
-    flow(n, maps, places, i, q, types, loader, subtypes, second)
+    let values = meet_values(types, change.place, names, loader, subtypes, first);
+    flow(n, maps, places, i, q, types, loader, subtypes, values.count)
 }
 
 // The instruction at point p of a method with that result type.

@@ -1,4 +1,7 @@
 // The verifier's types as numbers, and its state at a point.
+use cells::arguments::argument_at;
+use cells::arguments::argument_count;
+use definition::Arguments;
 use definition::Signature;
 use definition::numbers::LOCAL_COUNT;
 use definition::numbers::OPERAND_LIMIT;
@@ -8,7 +11,7 @@ ghost use Prim.Native.Nat.{_<_};
 ghost use lib.ListN.{getD};
 ghost use Rattle.definition.specs.Lists.{stack};
 ghost use Rattle.definition.specs.Verifier.{typeOfName, pop};
-ghost use Rattle.verifier.specs.Types.{typeOf, localOf, operandAt, localsOf, popped, entryOf, typesOf, knownLocal};
+ghost use Rattle.verifier.specs.Types.{typeOf, localOf, operandAt, localsOf, popped, argumentLocal, entryOf, typesOf, knownLocal};
 
 // How many operands there are at most, and how many locals.
 pub(crate) const OPERANDS: usize = OPERAND_LIMIT as usize;
@@ -44,21 +47,36 @@ pub(crate) fn type_of_name(n: u16) -> u32
     if n == 1 { INT } else { cells::from16(n) }
 }
 
-// The types at point 0.
+// The local of argument i at point 0; unset where there is no such argument.
+fn argument_local(a: Arguments, i: u8) -> u32
+    ensures { λ r. ⌜ localOf r ≡ argumentLocal a i ⌝ }
+{
+    if i < argument_count(a) {
+        type_of_name(argument_at(a, i))
+    } else {
+        UNSET
+    }
+}
+
+// The types at point 0: local 0 has the own name, the locals behind it the argument types in their order.
 pub(crate) fn entry_types(own: u16, s: Signature) -> Types
     ensures { λ r. ⌜ typesOf r ≡ entryOf own s ⌝ }
 {
     let first = cells::from16(own);
-    let second = type_of_name(s.argument);
+    let a = s.arguments;
+    let second = argument_local(a, 0);
+    let third = argument_local(a, 1);
+    let fourth = argument_local(a, 2);
+    let fifth = argument_local(a, 3);
     Types {
         operands: [0; OPERANDS],
         depth: 0,
-        locals: [first, second, UNSET, UNSET, UNSET, UNSET, UNSET, UNSET],
+        locals: [first, second, third, fourth, fifth, UNSET, UNSET, UNSET],
     }
 }
 
 // The type of the operand at place i, from the lowest; 0 past the end.
-fn operand(types: Types, i: usize) -> u32
+pub(crate) fn operand(types: Types, i: usize) -> u32
     ensures { λ r. ⌜ r ≡ getD (types .operands) i 0 ⌝ }
 {
     if i < OPERANDS { types.operands[i] } else { 0 }

@@ -15,7 +15,7 @@ returns c = rw (unmet-notes _ (sym (c .before .before .met .ensures) ∙ not-tru
 
 returns-2 : tie.Need-returns-2
 unfolding outcomeOf ending leftBy changeOf pick
-returns-2 c = rw (met-notes _ (sym (c .before .met .ensures) ∙ not-false _ (c .if1 .left)), made-alone (c .before .before .args .m))
+returns-2 c = rw (met-notes _ (sym (c .before .met .ensures) ∙ not-false _ (c .if1 .left)), made-alone (c .before .before .args .m) _ _)
 
 pub ended-spec : {M : Type 1} → statement M
 ended-spec = tie.close (tie.spec (λ c κs. search needs) (λ c κs. search needs) returns returns-2)

@@ -34,6 +34,7 @@ opcode-of-spec =
     tie.close
     (tie.spec
     (λ c κs. search needs)
+    (λ c κs. search needs)
     (λ c. unfold opcodeOf pick in rw (c .match .keys1))
     (λ c. unfold opcodeOf pick in rw (c .match .keys2))
     (λ c. unfold opcodeOf pick in rw (c .match .keys3))
@@ -46,7 +47,7 @@ opcode-of-spec =
     (λ c. unfold opcodeOf pick in rw (c .match .keys10))
     (λ c. unfold opcodeOf pick in rw (c .match .keys11))
     (λ c. unfold opcodeOf pick in rw (c .match .keys12))
-    (λ c. unfold opcodeOf pick in rw (c .match .keys13))
+    (λ c. rw (c .before .match .keys13) (c .invokevirtual-of .ensures))
     (λ c. unfold opcodeOf pick in rw (c .match .keys14))
     (λ c. unfold opcodeOf pick in rw (c .match .keys15))
     (λ c. unfold opcodeOf pick in rw (c .match .keys16))

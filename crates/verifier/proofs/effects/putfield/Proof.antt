@@ -4,6 +4,7 @@ use borrow.Author.Tests.{not-true, not-false}
 use Rattle.definition.specs.Verifier.{effect}
 use Rattle.verifier.specs.Types.{typesOf}
 use Rattle.verifier.proofs.TypeLaws.{popped-empty, popped-top}
+use Rattle.verifier.proofs.ValueLaws.{one-value}
 use Rattle.definition.specs.Maybe.{_>>=_, need}
 use Rattle.verifier.specs.Effects.{going, outcomeOf}
 use borrow.Author.Needs.{needs}
@@ -29,24 +30,25 @@ returns-3 c =
     rw (
       sym (at8 .named .ensures)
           ∙ not-false _ (c .before .before .before .before .before .before .before .if1 .left),
-      popped-top _ _ _ (c .before .before .before .before .before .before .pop .ensures) (c .before .before .before .before .x .given .1),
+      popped-top _ _ _ (c .before .before .before .before .before .before .pop .ensures) (c .before .before .before .before .d .given .1),
       popped-empty _ _ _ (c .before .before .pop2 .ensures) (c .enum-told2 .given .1),
     )
 
 returns-4 : tie.Need-returns-4
 unfolding outcomeOf going effect typesOf _>>=_ need
 returns-4 c =
-    let at9 = c .before .before .before .before .before .before .before .before .before in
-    let at10 = at9 .before in
-    let at11 = at10 .before in
+    let second = c .before .before in
+    let first = second .before .before .before .before in
+    let named = first .before .before in
+    let args = named .before .before .before .args in
+    let top = popped-top _ _ _ (named .pop .ensures) (first .d .given .1) in
+    let below = popped-top _ _ _ (second .before .before .pop2 .ensures) (second .y .given .1) in
     rw (
-      sym (at11 .named .ensures)
-          ∙ not-false _ (at10 .if1 .left),
-      popped-top _ _ _ (at9 .pop .ensures)
-          (c .before .before .before .before .before .before .before .x .given .1),
-      popped-top _ _ _ (c .before .before .before .before .before .pop2 .ensures) (c .before .before .before .y .given .1),
-      c .before .meet-class .ensures,
-      c .meet-name .ensures,
+      sym (named .before .before .named .ensures) ∙ not-false _ (named .before .if1 .left),
+      top,
+      below,
+      c .meet-class .ensures,
+      one-value (args .types .operands) (args .t) _ _ _ _ _ top below,
     )
 
 pub putfield-spec : {M : Type 1} → statement M
@@ -63,6 +65,5 @@ putfield-spec =
     (λ c. search needs)
     (λ c. search needs)
     returns-3
-    (λ c κs. search needs)
     (λ c κs. search needs)
     returns-4)

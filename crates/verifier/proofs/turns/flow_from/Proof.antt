@@ -1,4 +1,4 @@
--- The receiver's note, the value's, then the flows.
+-- The receiver's note, those of the values, then the flows.
 use borrow.Author.Tests.{not-true, not-false}
 use Rattle.verifier.proofs.TurnLaws.{taken-stop, change-unfit, change-fits}
 use borrow.Author.Needs.{needs}
@@ -13,7 +13,7 @@ returns-2 c =
     let last = c .before .before in
     let second = last .before .before .before .before in
     let first = second .before .before .before .before in
-    change-fits _ _ _ _ _ _ _ (not-false _ (first .before .before .if1 .left)) _ _ (first .post-meeting .ensures) (second .post-meeting2 .ensures) _ (last .flow .ensures)
+    change-fits _ _ _ _ _ _ _ (not-false _ (first .before .before .if1 .left)) _ _ _ (first .post-meeting .ensures) (second .meet-values .ensures) _ (last .flow .ensures)
 
 pub flow-from-spec : {M : Type 1} → statement M
 flow-from-spec =
