@@ -3,6 +3,7 @@ ghost use mathlib.Core.Path.{_≡_};
 ghost use mathlib.Core.Option.{some};
 ghost use Prim.Native.Nat.{_+_, _≤_};
 ghost use lib.ListN.{length, getD};
+ghost use Rattle.definition.specs.Numbers.{argumentLimit};
 ghost use Rattle.definition.specs.Instructions.{opcodeOf, inlineLength, shortAt, signatureAt, listSignatureAt, extend, instructionOf, sizedAs, decode};
 ghost use Rattle.verifier.specs.Decoding.{laterOf, readingOf};
 use cells::arguments::arguments_at;
@@ -167,7 +168,7 @@ fn invokevirtual_at(code: &[u8], i: usize) -> Instruction
 
 // A signature inline with its list of n: name, count, argument types, result.
 fn list_signature_at(code: &[u8], i: usize, n: u8) -> Signature
-    requires { ⌜ (i ≤ length (now code) + 2) × (n ≤ 4) ⌝ }
+    requires { ⌜ (i ≤ length (now code) + 2) × (n ≤ argumentLimit) ⌝ }
     ensures { λ r. ⌜ some r ≡ listSignatureAt (now (code .entry)) i n ⌝ }
 {
     Signature {

@@ -1,5 +1,5 @@
 -- A count above 4 can't be read; else the class's name, then the signature with its list.
-use mathlib.Core.Path.{_≡_, refl, sym, ap, _∙_}
+use mathlib.Core.Path.{_≡_}
 use mathlib.Core.Option.{some}
 use mathlib.Core.List.{List}
 use Prim.Native.Nat.{ℕ, _+_, _<_}
@@ -7,6 +7,7 @@ use lib.ListN.{getD}
 use Rattle.definition.specs.declared.Opcode.the-variants.{OpInvokevirtualList}
 use Rattle.definition.specs.declared.Instruction.the-variants.{Invokevirtual}
 use Rattle.definition.specs.declared.Signature.{Signature}
+use Rattle.definition.specs.Numbers.{argumentLimit}
 use Rattle.definition.specs.Instructions.{shortAt, listSignatureAt, instructionOf, sizedAs}
 use Rattle.definition.specs.Maybe.{_>>=_}
 use Rattle.laws.specs.Inline.{above-four}
@@ -17,7 +18,7 @@ use Rattle.verifier.proofs.decoding.invokevirtual_list_at.Statement.{st
 use Rattle.verifier.proofs.decoding.invokevirtual_list_at.Tie as tie
 
 module _ (s : List ℕ) (i n count : ℕ) (e : count ≡ getD s (i + 4) 0) where
-  above : 4 < count → Unreadable ≡ readingOf (sizedAs n (instructionOf s i OpInvokevirtualList))
+  above : argumentLimit < count → Unreadable ≡ readingOf (sizedAs n (instructionOf s i OpInvokevirtualList))
   unfolding readingOf sizedAs
   above h = rw (above-four s i (rw e at h))
 
