@@ -6,7 +6,7 @@ use definition::numbers::WORD_ABSENT;
 use definition::numbers::WORD_STUCK;
 ghost use mathlib.Core.Path.{_≡_};
 ghost use mathlib.Core.Option.{some};
-ghost use Rattle.definition.specs.Classes.{selected};
+ghost use Rattle.definition.specs.Classes.{signatureTypes, selected};
 ghost use Rattle.resolution.specs.Quick.{quickBase};
 ghost use Rattle.resolution.specs.Lookups.{selection};
 ghost use Rattle.access.specs.Accesses.{Accessing, frameRoom, callMethod};
@@ -104,7 +104,7 @@ pub fn invokevirtual(
     class: u16,
     s: Signature,
 ) -> Access
-    ensures { λ r. ⌜ Accessing (now (counts .entry)) (now (classes .entry)) (now (kept .entry)) (now (cache .entry)) (now (objects .entry)) (now (frames .entry)) (top .base) (top .depth) (top .loader) frameRoom (s .argument) (s .result) (Instruction.Invokevirtual class s) r ⌝ }
+    ensures { λ r. ⌜ Accessing (now (counts .entry)) (now (classes .entry)) (now (kept .entry)) (now (cache .entry)) (now (objects .entry)) (now (frames .entry)) (top .base) (top .depth) (top .loader) frameRoom (signatureTypes s) (Instruction.Invokevirtual class s) r ⌝ }
 {
     let Found::At(e) = resolution::find(counts, cache, cells::from8(top.loader), class) else {
         return Access::Unresolved(Refusal::Wanted(top.loader, class));
