@@ -6,6 +6,7 @@ ghost use mathlib.Core.Option.{some};
 ghost use mathlib.Core.List.{[], _∷_};
 ghost use Prim.Native.Nat.{_+_, _≤_};
 ghost use lib.ListN.{length, getD};
+ghost use Rattle.definition.specs.Lists.{sameList};
 ghost use Rattle.definition.specs.Classes.{typesOf, argumentsOf};
 ghost use Rattle.definition.specs.Instructions.{shortsAt};
 
@@ -75,6 +76,24 @@ fn four_at(i: u8, x: u16, y: u16, z: u16, t: u16) -> u16
         3 => t,
         _ => 0,
     }
+}
+
+// Two lists with the same types in the same order; a longer one is another.
+pub fn same_arguments(a: Arguments, b: Arguments) -> bool
+    ensures { λ r. ⌜ r ≡ sameList (typesOf a) (typesOf b) ⌝ }
+{
+    let n = argument_count(a);
+    if argument_count(b) != n {
+        return false;
+    }
+    let mut i: u8 = 0;
+    while i < n {
+        if argument_at(a, i) != argument_at(b, i) {
+            return false;
+        }
+        i += 1;
+    }
+    true
 }
 
 // The arguments whose types, n of them and four at most, stand in the bytes from that place on.

@@ -13,7 +13,7 @@ use Rattle.classfile.specs.Lists.{le-or-lt}
 use Rattle.classfile.specs.Rules.{leastOffset}
 use Rattle.classfile.specs.Reading.{mapDepth, mapEnd, mapPlace, nextPlace, methodPlace, Placed}
 
-pub placed-next : (bs : List ℕ) (j p q : ℕ) → Placed bs j p → q ≡ nextPlace bs p → q ≤ p + 200439 → Placed bs (j + 1) q
+pub placed-next : (bs : List ℕ) (j p q : ℕ) → Placed bs j p → q ≡ nextPlace bs p → q ≤ p + 200948 → Placed bs (j + 1) q
 unfolding methodPlace
 placed-next bs j p q h e l = record { place = e ∙ rw (h .place, add-one); low = omega (arith, h .low) }
 

@@ -30,7 +30,7 @@ module _ (bs : List ℕ) where
   Asked =
       (length bs ≤ 4096)
       × ((0 < length bs)
-      × (((1 ≤ fileVersion bs) × (fileVersion bs ≤ 2))
+      × (((1 ≤ fileVersion bs) × (fileVersion bs ≤ 3))
       × ((1 + 2 ≤ length bs)
       × ((shortAt bs 1 ≡ length (drop 3 bs))
       × (((3 + 2 ≤ length bs) × (2 ≤ className bs))
@@ -89,7 +89,7 @@ module _ (bs : List ℕ) where
   unfolding readFile quickFile fileVersion quickFields quickMethods className superName fieldCount fieldPlace methodCount methodPlace
   file-read =
       meant readable-asked asked-readable
-      (then _ (needs-le (length bs) 4096) (λ _. then _ (byte-at bs 0) (λ _. then _ (needs-both 1 (fileVersion bs) 2) (λ _.
+      (then _ (needs-le (length bs) 4096) (λ _. then _ (byte-at bs 0) (λ _. then _ (needs-both 1 (fileVersion bs) 3) (λ _.
       then _ (short-at bs 1) (λ _. then _ (needs-eq (shortAt bs 1) (length (drop 3 bs))) (λ _.
       then _ (name-at bs 2 3) (λ _. then _ (name-at bs 2 5) (λ _. then _ (count-at bs 7) (λ _.
       then _ (moved bs (ap fieldPlace (zero-add (fieldCount bs))) (fields-at bs (fieldCount bs) 0)) (λ _.

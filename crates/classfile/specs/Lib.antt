@@ -2,6 +2,7 @@
 pub mod Lists
 pub mod Reading
 pub mod Rules
+pub mod Listed
 pub mod Stages
 pub mod Laws
 pub mod Searches

@@ -8,8 +8,12 @@ use Prim.Native.Nat.{ℕ, zero, suc, _+_, _-_, _*_, _≤_}
 use lib.ListN.{length, getD, take, drop}
 use lib.Dec.{eqb, leb, ltb}
 use Rattle.definition.specs.Lists.{rows}
-use Rattle.definition.specs.Classes.{Field, Map, Method}
-use Rattle.definition.specs.Instructions.{pick, shortAt, signatureAt}
+use Rattle.definition.specs.Maybe.{_>>=_, need}
+use Rattle.definition.specs.declared.Arguments.{Arguments}
+use Rattle.definition.specs.declared.Arguments.the-variants.{NoArguments, OneArgument}
+use Rattle.definition.specs.declared.Signature.{Signature}
+use Rattle.definition.specs.Classes.{argumentsOf, signature, Field, Map, Method}
+use Rattle.definition.specs.Instructions.{pick, shortAt, shortsAt}
 use Rattle.definition.specs.File.{File}
 use Rattle.classfile.specs.declared.FieldFound.{FieldFound}
 use Rattle.classfile.specs.declared.MethodFound.{MethodFound}
@@ -78,16 +82,45 @@ mapsOf ms = rows (mapNumbered ms) (mapCount ms) 0
 unfoldable pub methodCount : List ℕ → ℕ
 methodCount bs = getD bs (fieldPlace (fieldCount bs)) 0
 
--- of the record that begins at place p
+-- of the record that begins at place p: the byte with the count of its arguments, from version 3 on
+unfoldable pub argumentNumber : List ℕ → ℕ → ℕ
+argumentNumber bs p = getD bs (p + 2) 0
+
+-- how many bytes the arguments take: one type before version 3, from there on the byte with their count and as many types
+unfoldable pub argumentsSize : List ℕ → ℕ → ℕ
+argumentsSize bs p = pick (leb 3 (fileVersion bs)) (1 + 2 * argumentNumber bs p) 2
+
+-- arguments that can't be read are none at all
+unfoldable pub orNoArguments : Option Arguments → Arguments
+orNoArguments none = NoArguments
+orNoArguments (some a) = a
+
+-- n types from place p on, four at most
+unfoldable pub listAt : List ℕ → ℕ → ℕ → Arguments
+listAt bs p n = orNoArguments (need (leb n 4) >>= λ _. argumentsOf (shortsAt bs p n))
+
+unfoldable pub argumentsAt : List ℕ → ℕ → Arguments
+argumentsAt bs p = pick (leb 3 (fileVersion bs)) (listAt bs (p + 3) (argumentNumber bs p)) (OneArgument (shortAt bs (p + 2)))
+
+-- behind the name and the arguments the result type, then the code length, then the code
+unfoldable pub resultPlace : List ℕ → ℕ → ℕ
+resultPlace bs p = p + 2 + argumentsSize bs p
+
+unfoldable pub quickSignature : List ℕ → ℕ → Signature
+quickSignature bs p = signature (shortAt bs p) (argumentsAt bs p) (shortAt bs (resultPlace bs p))
+
 unfoldable pub codeLength : List ℕ → ℕ → ℕ
-codeLength bs p = shortAt bs (p + 6)
+codeLength bs p = shortAt bs (resultPlace bs p + 2)
+
+unfoldable pub codePlace : List ℕ → ℕ → ℕ
+codePlace bs p = resultPlace bs p + 4
 
 -- the code, as much of it as the bytes have
 unfoldable pub codeAt : List ℕ → ℕ → List ℕ
-codeAt bs p = take (codeLength bs p) (drop (p + 8) bs)
+codeAt bs p = take (codeLength bs p) (drop (codePlace bs p) bs)
 
 unfoldable pub codeEnd : List ℕ → ℕ → ℕ
-codeEnd bs p = p + 8 + codeLength bs p
+codeEnd bs p = codePlace bs p + codeLength bs p
 
 -- the bytes that begin with the count of the maps; none in version 1
 unfoldable pub mapBytes : List ℕ → ℕ → List ℕ
@@ -98,7 +131,7 @@ unfoldable pub mapsSize : List ℕ → ℕ → ℕ
 mapsSize bs p = pick (leb 2 (fileVersion bs)) (mapPlace (mapBytes bs p) (mapCount (mapBytes bs p))) 0
 
 unfoldable pub methodAt : List ℕ → ℕ → Method
-methodAt bs p = record { signature = signatureAt bs p; code = codeAt bs p; maps = mapsOf (mapBytes bs p) }
+methodAt bs p = record { signature = quickSignature bs p; code = codeAt bs p; maps = mapsOf (mapBytes bs p) }
 
 unfoldable pub nextPlace : List ℕ → ℕ → ℕ
 nextPlace bs p = codeEnd bs p + mapsSize bs p
@@ -111,7 +144,7 @@ methodPlace bs (suc j) = nextPlace bs (methodPlace bs j)
 -- p is the place of method j, and so low that no place after it is larger than 32 bits can say
 pub record Placed (bs : List ℕ) (j p : ℕ) : Type 0 where
   pub place : p ≡ methodPlace bs j
-  pub low : p ≤ 1029 + 200439 * j
+  pub low : p ≤ 1029 + 200948 * j
 
 unfoldable pub methodIn : List ℕ → ℕ → Method
 methodIn bs j = methodAt bs (methodPlace bs j)

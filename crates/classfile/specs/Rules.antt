@@ -8,22 +8,22 @@ use lib.ListN.{length}
 use lib.Dec.{eqb, leb}
 use borrow.Author.Tests.{leb-true, eqb-true, le-leb, eq-eqb, not-true}
 use Rattle.definition.specs.Lists.{every, rows, doubled}
-use Rattle.definition.specs.Instructions.{pick, shortAt, signatureAt}
+use Rattle.definition.specs.Instructions.{pick, shortAt}
 use Rattle.definition.specs.Classes.{isNamed}
 use Rattle.definition.specs.File.{sameField, sameMethod}
 use Rattle.layout.specs.Tests.{every-true, true-every}
 use Rattle.classfile.specs.Lists.{_and_, each-true, true-each}
-use Rattle.classfile.specs.Reading.{fileVersion, className, superName, fieldCount, fieldIn, quickFields, mapCount, mapDepth, mapEnd, typeAt, mapPlace, methodCount, codeLength, codeEnd, mapBytes, methodPlace, quickMethods}
+use Rattle.classfile.specs.Reading.{fileVersion, className, superName, fieldCount, fieldIn, quickFields, mapCount, mapDepth, mapEnd, typeAt, mapPlace, methodCount, argumentNumber, quickSignature, codeLength, codeEnd, mapBytes, methodPlace, quickMethods}
 
 -- The tests
 
--- at most 4,096 bytes, all of the fields and the byte with the method count among them; version 1 or 2, the length of all that follows it
+-- at most 4,096 bytes, all of the fields and the byte with the method count among them; version 1, 2 or 3, the length of all that follows it
 unfoldable pub sized : List ℕ → Bool
 sized bs = every
     (leb (length bs) 4096
     ∷ leb (methodPlace bs 0) (length bs)
     ∷ leb 1 (fileVersion bs)
-    ∷ leb (fileVersion bs) 2
+    ∷ leb (fileVersion bs) 3
     ∷ eqb (shortAt bs 1 + 3) (length bs)
     ∷ [])
 
@@ -35,9 +35,13 @@ titled bs = every (leb 2 (className bs) ∷ leb 2 (superName bs) ∷ leb (fieldC
 unfoldable pub namedField : List ℕ → ℕ → Bool
 namedField bs i = every (leb 1 (fieldIn bs i .name) ∷ leb 1 (fieldIn bs i .type) ∷ [])
 
+-- of the record at place p: from version 3 on it has at most four arguments
+unfoldable pub listedMethod : List ℕ → ℕ → Bool
+listedMethod bs p = pick (leb 3 (fileVersion bs)) (leb (argumentNumber bs p) 4) true
+
 -- of the record at place p: neither name nor a type is 0
 unfoldable pub namedMethod : List ℕ → ℕ → Bool
-namedMethod bs p = isNamed (signatureAt bs p)
+namedMethod bs p = isNamed (quickSignature bs p)
 
 -- of the record at place p: the code has 1 to 512 bytes, and they are there
 unfoldable pub codedMethod : List ℕ → ℕ → Bool
@@ -72,7 +76,7 @@ unfoldable pub mappedMethod : List ℕ → ℕ → Bool
 mappedMethod bs p = pick (leb 2 (fileVersion bs)) (wholeMaps (mapBytes bs p)) true
 
 unfoldable pub wholeMethod : List ℕ → ℕ → Bool
-wholeMethod bs p = every (namedMethod bs p ∷ codedMethod bs p ∷ mappedMethod bs p ∷ [])
+wholeMethod bs p = every (listedMethod bs p ∷ namedMethod bs p ∷ codedMethod bs p ∷ mappedMethod bs p ∷ [])
 
 unfoldable pub namedFields : List ℕ → Bool
 namedFields bs = every (rows (namedField bs) (fieldCount bs) 0)
@@ -111,6 +115,7 @@ pub record WholeMaps (ms : List ℕ) : Type 0 where
   pub each : (i : ℕ) → i < mapCount ms → WholeMap ms (leastOffset ms i) (mapPlace ms i)
 
 pub record WholeMethod (bs : List ℕ) (p : ℕ) : Type 0 where
+  pub listed : listedMethod bs p ≡ true
   pub named : namedMethod bs p ≡ true
   pub some : 1 ≤ codeLength bs p
   pub few : codeLength bs p ≤ 512
@@ -122,7 +127,7 @@ pub record Readable (bs : List ℕ) : Type 0 where
   pub size : length bs ≤ 4096
   pub within : methodPlace bs 0 ≤ length bs
   pub versionLow : 1 ≤ fileVersion bs
-  pub versionHigh : fileVersion bs ≤ 2
+  pub versionHigh : fileVersion bs ≤ 3
   pub rest : shortAt bs 1 + 3 ≡ length bs
   pub name : 2 ≤ className bs
   pub super : 2 ≤ superName bs
@@ -165,13 +170,14 @@ said-method : (bs : List ℕ) (p : ℕ) → wholeMethod bs p ≡ true → WholeM
 unfolding wholeMethod codedMethod
 said-method bs p h =
     let q = every-true _ h in
-    let l = every-true _ (q .1 .0) in
+    let l = every-true _ (q .1 .1 .0) in
     record {
-      named = q .0;
+      listed = q .0;
+      named = q .1 .0;
       some = leb-true _ _ (l .0);
       few = leb-true _ _ (l .1 .0);
       within = leb-true _ _ (l .1 .1 .0);
-      maps = said-mapped bs p (q .1 .1 .0);
+      maps = said-mapped bs p (q .1 .1 .1 .0);
     }
 
 pub said : (bs : List ℕ) → readable bs ≡ true → Readable bs
@@ -226,7 +232,8 @@ test-method : (bs : List ℕ) (p : ℕ) → WholeMethod bs p → wholeMethod bs 
 unfolding wholeMethod codedMethod
 test-method bs p h =
     true-every _
-    (h .named
+    (h .listed
+    and h .named
     and true-every _ (le-leb _ _ (h .some) and le-leb _ _ (h .few) and le-leb _ _ (h .within) and tt)
     and test-mapped bs p (h .maps)
     and tt)

@@ -3,21 +3,22 @@ use mathlib.Core.Path.{_≡_, refl, sym, ap, _∙_}
 use mathlib.Core.Logic.{⊎-elim}
 use mathlib.Core.Bool.{Bool, true, false, false≢true, _&&_}
 use mathlib.Core.Option.{Option, none, some}
-use mathlib.Core.List.{List}
+use mathlib.Core.List.{List, [], _∷_}
 use Prim.Native.Nat.{ℕ, zero, suc, _+_, _*_, _≤_, _<_}
 use native.Mathlib.Omega.{arith}
 use lib.ListN.{length, getD, drop, length-drop, drop-of-length-le}
 use lib.Seq.{drop-cons, drop-drop}
 use lib.Dec.{eqb, leb}
 use borrow.Author.Tests.{leb-true, eqb-true, le-leb, eq-eqb}
-use Rattle.definition.specs.Lists.{rows}
+use Rattle.definition.specs.Lists.{all, rows}
 use Rattle.definition.specs.Maybe.{_>>=_, need}
-use Rattle.definition.specs.Classes.{Map, isNamed}
-use Rattle.definition.specs.Instructions.{pick, shortAt, signatureAt}
-use Rattle.definition.specs.File.{Got, byte, short, name, count, fieldsIn, signatureIn, namesIn, mapIn, mapsFrom, mapsIn, methodsIn, ends}
+use Rattle.definition.specs.Classes.{typesOf, Map, isNamed}
+use Rattle.definition.specs.Instructions.{pick, shortAt}
+use Rattle.definition.specs.File.{Got, byte, short, name, count, fieldsIn, listIn, oneIn, argumentsIn, signatureIn, namesIn, mapIn, mapsFrom, mapsIn, methodsIn, ends}
 use Rattle.classfile.specs.Lists.{le-or-lt, _and_, Each, each-more, each-rest}
-use Rattle.classfile.specs.Reading.{fileVersion, fieldPlace, fieldIn, mapCount, mapDepth, mapEnd, typeAt, mapOf, mapPlace, mapNumbered, mapsOf, codeLength, codeEnd, codeAt, mapBytes, mapsSize, methodAt, nextPlace, methodPlace, methodIn}
-use Rattle.classfile.specs.Rules.{NamedField, namedMethod, WholeMap, WholeMaps, leastOffset, WholeMethod}
+use Rattle.classfile.specs.Reading.{fileVersion, fieldPlace, fieldIn, mapCount, mapDepth, mapEnd, typeAt, mapOf, mapPlace, mapNumbered, mapsOf, argumentNumber, argumentsSize, listAt, argumentsAt, resultPlace, quickSignature, codeLength, codePlace, codeEnd, codeAt, mapBytes, mapsSize, methodAt, nextPlace, methodPlace, methodIn}
+use Rattle.classfile.specs.Listed.{list-some, types-list, set-types, types-set}
+use Rattle.classfile.specs.Rules.{NamedField, listedMethod, namedMethod, WholeMap, WholeMaps, leastOffset, WholeMethod}
 
 -- a reading that gives x where T holds, and else fails
 pub data Outcome {A : Type 0} (m : Option A) (T : Type 0) (x : A) : Type 0 where
@@ -307,12 +308,86 @@ module _ (bs : List ℕ) where
       (λ r. rw (le-leb 1 l (r .0), le-leb l 512 (r .1), le-leb l (length (drop p bs)) (omega (arith, r .2, length-drop p bs))))
       (needs _)
 
+  -- Arguments
+
+  -- what is asked of the arguments: they are there, at most four, and none is 0
+  abbrev ArgumentsRule : ℕ → Type 0
+  ArgumentsRule p = (resultPlace bs p ≤ length bs) × (listedMethod bs p ≡ true) × (all (leb 1) (typesOf (argumentsAt bs p)) ≡ true)
+
+  abbrev Arguing : ℕ → Type 0
+  Arguing p = Outcome (argumentsIn (fileVersion bs) (drop (p + 2) bs)) (ArgumentsRule p) (got bs (argumentsAt bs p) (resultPlace bs p))
+
+  -- as a list is tested
+  abbrev ListTests : ℕ → Type 0
+  ListTests p = (p + 2 < length bs) × ((argumentNumber bs p ≤ 4) × (Each (TypeRule bs 1 (p + 3)) (argumentNumber bs p) 0 × Unit {0}))
+
+  list-rule : (p : ℕ) → leb 3 (fileVersion bs) ≡ true → ListTests p → ArgumentsRule p
+  unfolding resultPlace argumentsSize argumentsAt listedMethod pick
+  list-rule p e h =
+      let n = argumentNumber bs p in
+      let w = types-within bs 1 (p + 3) n (omega (arith, h .0)) (h .1 .1 .0) in
+      rw (e, pick, le-leb n 4 (h .1 .0), types-list bs (p + 3) n (h .1 .0))
+      (omega (arith, w), refl, set-types bs (p + 3) n 0 (λ j l m. h .1 .1 .0 j l m .1))
+
+  list-tests : (p : ℕ) → leb 3 (fileVersion bs) ≡ true → ArgumentsRule p → ListTests p
+  unfolding resultPlace argumentsSize argumentsAt listedMethod pick
+  list-tests p e h =
+      let n = argumentNumber bs p in
+      let w : p + 2 + (1 + 2 * n) ≤ length bs = rw (e, pick) at (h .0) in
+      let few = leb-true n 4 (rw (e, pick) at (h .1)) in
+      let set : all (leb 1) (rows (typeAt bs (p + 3)) n 0) ≡ true = rw (e, pick, types-list bs (p + 3) n few) at (h .2) in
+      (omega (arith, w)) and few and (λ j l m. (omega (arith, w)) and types-set bs (p + 3) n 0 set j l m) and tt
+
+  list-end : (p : ℕ) → leb 3 (fileVersion bs) ≡ true → resultPlace bs p ≡ p + 3 + 2 * argumentNumber bs p
+  unfolding resultPlace argumentsSize pick
+  list-end p e = rw (e, pick) (omega arith)
+
+  list-is : (p : ℕ) → leb 3 (fileVersion bs) ≡ true → argumentsAt bs p ≡ listAt bs (p + 3) (argumentNumber bs p)
+  unfolding argumentsAt pick
+  list-is p e = rw (e, pick) refl
+
+  list-at : (p : ℕ) → leb 3 (fileVersion bs) ≡ true → Arguing p
+  unfolding argumentsIn listIn argumentNumber
+  list-at p e =
+      let n = argumentNumber bs p in
+      let three : p + 2 + 1 ≡ p + 3 = omega arith in
+      let o : Outcome (listIn (drop (p + 2) bs)) (ListTests p) (got bs (listAt bs (p + 3) n) (p + 3 + 2 * n)) =
+      then _ (moved bs three (byte-at bs (p + 2))) (λ _. then _ (needs-le n 4) (λ few.
+      then _ (types-at bs 1 (p + 3) n (p + 3 + 2 * n) refl) (λ _. made _ (passes tt (list-some bs (p + 3) n few))))) in
+      meant (list-rule p e) (list-tests p e) (rw (e, argumentsIn, list-is p e, list-end p e) o)
+
+  one-at : (p : ℕ) → leb 3 (fileVersion bs) ≡ false → Arguing p
+  unfolding argumentsIn oneIn resultPlace argumentsSize argumentsAt listedMethod all pick
+  one-at p e =
+      meant
+      (λ (h : NameRule bs (p + 2)). rw (e, pick, all, le-leb 1 (shortAt bs (p + 2)) (h .1)) (h .0, refl, refl))
+      (λ h.
+      let w : p + 2 + 2 ≤ length bs = rw (e, pick) at (h .0) in
+      let set : all (leb 1) (shortAt bs (p + 2) ∷ []) ≡ true = rw (e, pick) at (h .2) in
+      (w, leb-true 1 (shortAt bs (p + 2)) (sole _ set)))
+      (rw (e, argumentsIn, pick) (made _ (name-at bs 1 (p + 2))))
+    where
+      sole : (t : Bool) → (elim t as (λ _. Bool) [ true ↦ true | false ↦ false ]) ≡ true → t ≡ true
+      sole true h = refl
+      sole false h = absurd (false≢true h)
+
+  arguments-at : (p : ℕ) → Arguing p
+  arguments-at p = go (leb 3 (fileVersion bs)) refl
+    where
+      go : (t : Bool) → leb 3 (fileVersion bs) ≡ t → Arguing p
+      go true e = list-at p e
+      go false e = one-at p e
+
+  -- what is asked of a signature: it is there, with at most four arguments, and neither the name nor a type is 0
+  abbrev SignatureRule : ℕ → Type 0
+  SignatureRule p = (resultPlace bs p + 2 ≤ length bs) × (listedMethod bs p ≡ true) × (namedMethod bs p ≡ true)
+
   -- as one method after another is tested
   abbrev MethodsFrom : ℕ → ℕ → ℕ → Type 0
   MethodsFrom k j p =
-      ((p + 6 ≤ length bs) × (namedMethod bs p ≡ true))
-      × ((p + 6 + 2 ≤ length bs)
-      × (CodeRule (p + 8) (codeLength bs p) × (MapsRule p × Each MethodRule k (suc j))))
+      SignatureRule p
+      × ((resultPlace bs p + 2 + 2 ≤ length bs)
+      × (CodeRule (codePlace bs p) (codeLength bs p) × (MapsRule p × Each MethodRule k (suc j))))
 
   method-rule : (k j : ℕ) → MethodsFrom k j (methodPlace bs j) → Each MethodRule (suc k) j
   unfolding codeEnd
@@ -320,7 +395,8 @@ module _ (bs : List ℕ) where
       let code = h .1 .1 .0 in
       each-more MethodRule k j
       (record {
-        named = h .0 .1;
+        listed = h .0 .1;
+        named = h .0 .2;
         some = code .0;
         few = code .1;
         within = code .2;
@@ -329,45 +405,48 @@ module _ (bs : List ℕ) where
       (h .1 .1 .1 .1)
 
   method-tests : (k j : ℕ) → Each MethodRule (suc k) j → MethodsFrom k j (methodPlace bs j)
-  unfolding codeEnd
+  unfolding codeEnd codePlace
   method-tests k j h =
       let p = each-rest MethodRule k j h in
       let m = p .0 in
-      let all : methodPlace bs j + 8 + codeLength bs (methodPlace bs j) ≤ length bs = m .within in
-      ((omega arith) and m .named)
-      and (omega arith)
+      let place = methodPlace bs j in
+      let all : resultPlace bs place + 4 + codeLength bs place ≤ length bs = m .within in
+      (omega (arith, all), m .listed, m .named)
+      and (omega (arith, all))
       and (m .some, m .few, all)
       and m .maps
       and p .1
 
-  -- a signature, at a place: its names are there and none is 0
-  signature-at : (p : ℕ) → Outcome (signatureIn (drop p bs)) ((p + 6 ≤ length bs) × (namedMethod bs p ≡ true)) (got bs (signatureAt bs p) (p + 6))
-  unfolding signatureIn namedMethod isNamed
+  after-name : (p : ℕ) → p + 2 ≤ resultPlace bs p
+  unfolding resultPlace
+  after-name p = omega arith
+
+  signature-at : (p : ℕ) → Outcome (signatureIn (fileVersion bs) (drop p bs)) (SignatureRule p) (got bs (quickSignature bs p) (resultPlace bs p + 2))
+  unfolding signatureIn quickSignature namedMethod isNamed
   signature-at p =
-      let four : p + 2 + 2 ≡ p + 4 = omega arith in
-      let six : p + 4 + 2 ≡ p + 6 = omega arith in
+      let starts = after-name p in
       meant
-      (λ h. (omega (arith, h .1 .1 .0), rw (le-leb _ _ (h .0 .1), le-leb _ _ (h .1 .0 .1), le-leb _ _ (h .1 .1 .1))))
+      (λ h. (h .1 .1 .0, h .1 .0 .1, rw (le-leb _ _ (h .0 .1), h .1 .0 .2, le-leb _ _ (h .1 .1 .1))))
       (λ h.
-      let t = and-rule _ _ _ (h .1) in
-      (omega (arith, h .0), leb-true _ _ (t .0)) and (omega (arith, h .0), leb-true _ _ (t .1)) and (omega (arith, h .0), leb-true _ _ (t .2)))
-      (then _ (name-at bs 1 p) (λ _. then _ (moved bs four (name-at bs 1 (p + 2))) (λ _. made _ (moved bs six (name-at bs 1 (p + 4))))))
+      let t = and-rule _ _ _ (h .2) in
+      (omega (arith, h .0, starts), leb-true _ _ (t .0)) and (omega (arith, h .0), h .1, t .1) and (h .0, leb-true _ _ (t .2)))
+      (then _ (name-at bs 1 p) (λ _. then _ (arguments-at p) (λ _. made _ (name-at bs 1 (resultPlace bs p)))))
 
   -- after the code of the method at place p
   rest-at : (p : ℕ) {T : Type 0} {x : Got (List Map)}
-      → Outcome (mapsIn (fileVersion bs) (drop (codeEnd bs p) bs)) T x → Outcome (mapsIn (fileVersion bs) (drop (codeLength bs p) (drop (p + 8) bs))) T x
+      → Outcome (mapsIn (fileVersion bs) (drop (codeEnd bs p) bs)) T x → Outcome (mapsIn (fileVersion bs) (drop (codeLength bs p) (drop (codePlace bs p) bs))) T x
   unfolding codeEnd
-  rest-at p o = rw (drop-drop (codeLength bs p) (p + 8) bs) o
+  rest-at p o = rw (drop-drop (codeLength bs p) (codePlace bs p) bs) o
 
   pub methods-at : (k j : ℕ)
       → Outcome (methodsIn (fileVersion bs) k (drop (methodPlace bs j) bs)) (Each MethodRule k j) (got bs (rows (methodIn bs) k j) (methodPlace bs (j + k)))
-  unfolding methodsIn rows methodIn methodAt methodPlace codeAt codeLength
+  unfolding methodsIn rows methodIn methodAt methodPlace codeAt codeLength codePlace
   methods-at zero j = let none : j + 0 ≡ j = omega arith in passes (λ i l m. absurd (omega arith)) (rw none)
   methods-at (suc k) j =
       let p = methodPlace bs j in
-      let eight : p + 6 + 2 ≡ p + 8 = omega arith in
+      let code : resultPlace bs p + 2 + 2 ≡ codePlace bs p = omega arith in
       let end : suc j + k ≡ j + suc k = omega arith in
       let rest = moved bs (ap (methodPlace bs) end) (methods-at k (suc j)) in
       meant (method-rule k j) (method-tests k j)
-      (then _ (signature-at p) (λ _. then _ (moved bs eight (short-at bs (p + 6))) (λ h.
-      then _ (code-rule (p + 8) (shortAt bs (p + 6)) (omega (arith, h))) (λ _. then _ (rest-at p (maps-at p)) (λ _. made _ rest)))))
+      (then _ (signature-at p) (λ _. then _ (moved bs code (short-at bs (resultPlace bs p + 2))) (λ h.
+      then _ (code-rule (codePlace bs p) (codeLength bs p) (omega (arith, h))) (λ _. then _ (rest-at p (maps-at p)) (λ _. made _ rest)))))

@@ -1,6 +1,7 @@
 // A method's maps: the part of the bytes that begins with the byte that counts them, and each map by the place at which it begins.
 use crate::fields::version;
 use crate::methods::code_length;
+use crate::methods::code_place;
 use crate::methods::least;
 use definition::numbers::VERSION_TWO;
 ghost use mathlib.Core.Path.{_≡_};
@@ -16,7 +17,7 @@ pub fn method_maps<'a>(bytes: &'a [u8], place: u32) -> &'a [u8]
     if version(bytes) < VERSION_TWO {
         return &bytes[size..size];
     }
-    let end = cells::wide32(place) + 8 + cells::wide16(code_length(bytes, place));
+    let end = code_place(bytes, place) + cells::wide16(code_length(bytes, place));
     &bytes[least(end, size)..size]
 }
 

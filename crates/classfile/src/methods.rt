@@ -3,13 +3,16 @@ use crate::MethodFound;
 use crate::fields::field_count;
 use crate::fields::field_place;
 use crate::maps::maps_size;
+use crate::signatures::arguments_size;
+use crate::signatures::is_alike;
+use crate::signatures::result_place;
 use definition::Signature;
 ghost use mathlib.Core.Path.{_≡_};
 ghost use Prim.Native.Nat.{_+_, _≤_, min};
 ghost use Rattle.definition.specs.Lists.{indexOf};
-ghost use Rattle.definition.specs.Classes.{alike, isNamed};
+ghost use Rattle.definition.specs.Classes.{alike};
 ghost use Rattle.classfile.specs.Lists.{shift};
-ghost use Rattle.classfile.specs.Reading.{methodCount, codeLength, codeAt, methodAt, nextPlace, methodPlace, Placed, quickMethods, methodsFrom};
+ghost use Rattle.classfile.specs.Reading.{methodCount, codePlace, codeLength, codeAt, nextPlace, methodPlace, Placed, quickMethods, methodsFrom};
 ghost use Rattle.classfile.specs.Reading.{methodFound, numbered, partOf};
 
 pub fn method_count(bytes: &[u8]) -> u8
@@ -18,51 +21,17 @@ pub fn method_count(bytes: &[u8]) -> u8
     cells::at8(bytes, field_place(field_count(bytes)))
 }
 
-fn method_name(bytes: &[u8], place: u32) -> u16
-    ensures { λ r. ⌜ r ≡ methodAt (now (bytes .entry)) place .signature .name ⌝ }
-{
-    cells::short_at(bytes, cells::wide32(place))
-}
-
-fn method_argument(bytes: &[u8], place: u32) -> u16
-    ensures { λ r. ⌜ r ≡ methodAt (now (bytes .entry)) place .signature .argument ⌝ }
-{
-    cells::short_at(bytes, cells::wide32(place) + 2)
-}
-
-fn method_result(bytes: &[u8], place: u32) -> u16
-    ensures { λ r. ⌜ r ≡ methodAt (now (bytes .entry)) place .signature .result ⌝ }
-{
-    cells::short_at(bytes, cells::wide32(place) + 4)
-}
-
-pub fn method_signature(bytes: &[u8], place: u32) -> Signature
-    ensures { λ r. ⌜ r ≡ methodAt (now (bytes .entry)) place .signature ⌝ }
-{
-    Signature {
-        name: method_name(bytes, place),
-        argument: method_argument(bytes, place),
-        result: method_result(bytes, place),
-    }
-}
-
-// Neither the name nor a type is 0.
-pub fn is_named(s: Signature) -> bool
-    ensures { λ r. ⌜ r ≡ isNamed s ⌝ }
-{
-    if s.name < 1 {
-        return false;
-    }
-    if s.argument < 1 {
-        return false;
-    }
-    1 <= s.result
-}
-
 pub(crate) fn code_length(bytes: &[u8], place: u32) -> u16
     ensures { λ r. ⌜ r ≡ codeLength (now (bytes .entry)) place ⌝ }
 {
-    cells::short_at(bytes, cells::wide32(place) + 6)
+    cells::short_at(bytes, result_place(bytes, place) + 2)
+}
+
+// The place at which the code begins, behind the result type and the code length.
+pub(crate) fn code_place(bytes: &[u8], place: u32) -> usize
+    ensures { λ r. ⌜ (r ≡ codePlace (now (bytes .entry)) place) × (r ≤ place + 517) ⌝ }
+{
+    result_place(bytes, place) + 4
 }
 
 pub(crate) fn least(a: usize, b: usize) -> usize
@@ -76,7 +45,7 @@ pub fn code<'a>(bytes: &'a [u8], place: u32) -> &'a [u8]
     ensures { λ r. ⌜ now r ≡ codeAt (now (bytes .entry)) place ⌝ }
 {
     let size = bytes.len();
-    let start = least(cells::wide32(place) + 8, size);
+    let start = least(code_place(bytes, place), size);
     let end = least(start + cells::wide16(code_length(bytes, place)), size);
     &bytes[start..end]
 }
@@ -104,9 +73,10 @@ pub(crate) fn first_place(bytes: &[u8]) -> u32
 // The place after the record that begins at `place`.
 pub(crate) fn next_place(bytes: &[u8], place: u32) -> u32
     requires { ⌜ place ≤ 4000000000 ⌝ }
-    ensures { λ r. ⌜ (r ≡ nextPlace (now (bytes .entry)) place) × (r ≤ place + 200439) ⌝ }
+    ensures { λ r. ⌜ (r ≡ nextPlace (now (bytes .entry)) place) × (r ≤ place + 200948) ⌝ }
 {
-    place + 8 + cells::from16(code_length(bytes, place)) + maps_size(bytes, place)
+    let start = place + 6 + cells::from16(arguments_size(bytes, place));
+    start + cells::from16(code_length(bytes, place)) + maps_size(bytes, place)
 }
 
 // The place of the record of method j: the records before it are passed one by one.
@@ -133,20 +103,7 @@ pub fn method_place(bytes: &[u8], j: u8) -> MethodFound
     }
 }
 
-// The one comparison of signatures: the name first, the types only where the names are equal.
-fn is_alike(bytes: &[u8], place: u32, s: Signature) -> bool
-    ensures { λ r. ⌜ r ≡ alike s (methodAt (now (bytes .entry)) place) ⌝ }
-{
-    if method_name(bytes, place) != s.name {
-        return false;
-    }
-    if method_argument(bytes, place) != s.argument {
-        return false;
-    }
-    method_result(bytes, place) == s.result
-}
-
-// The first method alike in name and both types, from method `first` on, whose record begins at `start`.
+// The first method alike in name, list and result, from method `first` on, whose record begins at `start`.
 pub(crate) fn alike_from(bytes: &[u8], first: u8, start: u32, s: Signature) -> MethodFound
     requires { ⌜ Placed (now bytes) first start ⌝ }
     ensures { λ r. ⌜ r ≡ methodFound (now (bytes .entry)) (shift first (indexOf (alike s) (methodsFrom (now (bytes .entry)) first))) ⌝ }
@@ -164,7 +121,7 @@ pub(crate) fn alike_from(bytes: &[u8], first: u8, start: u32, s: Signature) -> M
     MethodFound::Absent
 }
 
-// The first method alike in name and both types.
+// The first method alike in name, list and result.
 pub fn find_method(bytes: &[u8], s: Signature) -> MethodFound
     ensures { λ r. ⌜ r ≡ methodFound (now (bytes .entry)) (indexOf (alike s) (quickMethods (now (bytes .entry)))) ⌝ }
 {

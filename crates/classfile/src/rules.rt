@@ -15,17 +15,21 @@ use crate::maps::map_size;
 use crate::maps::method_maps;
 use crate::methods::alike_from;
 use crate::methods::code_length;
+use crate::methods::code_place;
 use crate::methods::first_place;
-use crate::methods::is_named;
 use crate::methods::method_count;
-use crate::methods::method_signature;
 use crate::methods::next_place;
+use crate::signatures::argument_number;
+use crate::signatures::is_named;
+use crate::signatures::method_signature;
+use definition::numbers::ARGUMENT_LIMIT;
 use definition::numbers::CODE_LIMIT;
 use definition::numbers::FILE_LIMIT;
 use definition::numbers::MEMBER_LIMIT;
 use definition::numbers::NAME_OBJECT;
 use definition::numbers::OPERAND_LIMIT;
 use definition::numbers::VERSION_ONE;
+use definition::numbers::VERSION_THREE;
 use definition::numbers::VERSION_TWO;
 ghost use mathlib.Core.Path.{_≡_};
 ghost use Prim.Native.Nat.{_+_, _<_};
@@ -33,7 +37,7 @@ ghost use Rattle.definition.specs.Lists.{any, doubled, isSome};
 ghost use Rattle.definition.specs.File.{readFile, sameField, sameMethod};
 ghost use Rattle.classfile.specs.Reading.{quickFields};
 ghost use Rattle.classfile.specs.Reading.{Placed, methodIn, quickMethods, methodsFrom};
-ghost use Rattle.classfile.specs.Rules.{sized, titled, namedField, namedFields, namedMethod, codedMethod};
+ghost use Rattle.classfile.specs.Rules.{sized, titled, namedField, namedFields, listedMethod, namedMethod, codedMethod};
 ghost use Rattle.classfile.specs.Rules.{operandsSet, wholeMap, wholeMaps, mappedMethod, wholeMethod, wholeMethods};
 
 fn is_sized(bytes: &[u8]) -> bool
@@ -49,7 +53,7 @@ fn is_sized(bytes: &[u8]) -> bool
     if version(bytes) < VERSION_ONE {
         return false;
     }
-    if VERSION_TWO < version(bytes) {
+    if VERSION_THREE < version(bytes) {
         return false;
     }
     cells::wide16(cells::short_at(bytes, 1)) + 3 == size
@@ -93,6 +97,16 @@ fn are_fields_named(bytes: &[u8]) -> bool
     true
 }
 
+// A list has at most four arguments.
+fn is_listed_method(bytes: &[u8], place: u32) -> bool
+    ensures { λ r. ⌜ r ≡ listedMethod (now (bytes .entry)) place ⌝ }
+{
+    if version(bytes) < VERSION_THREE {
+        return true;
+    }
+    argument_number(bytes, place) <= ARGUMENT_LIMIT
+}
+
 fn is_named_method(bytes: &[u8], place: u32) -> bool
     ensures { λ r. ⌜ r ≡ namedMethod (now (bytes .entry)) place ⌝ }
 {
@@ -109,7 +123,7 @@ fn is_coded_method(bytes: &[u8], place: u32) -> bool
     if CODE_LIMIT < length {
         return false;
     }
-    cells::wide32(place) + 8 + cells::wide16(length) <= bytes.len()
+    code_place(bytes, place) + cells::wide16(length) <= bytes.len()
 }
 
 // No operand type of the map at that place is 0.
@@ -177,6 +191,9 @@ fn is_mapped_method(bytes: &[u8], place: u32) -> bool
 fn is_whole_method(bytes: &[u8], place: u32) -> bool
     ensures { λ r. ⌜ r ≡ wholeMethod (now (bytes .entry)) place ⌝ }
 {
+    if !is_listed_method(bytes, place) {
+        return false;
+    }
     if !is_named_method(bytes, place) {
         return false;
     }
@@ -231,7 +248,7 @@ fn is_repeated(bytes: &[u8], j: u8, place: u32) -> bool
     }
 }
 
-// Two methods alike in name and both types.
+// Two methods alike in name, list and result.
 fn is_method_doubled(bytes: &[u8]) -> bool
     ensures { λ r. ⌜ r ≡ doubled sameMethod (quickMethods (now (bytes .entry))) ⌝ }
 {

@@ -4,7 +4,7 @@ use denote.Ref.{now}
 use Rattle.definition.specs.Instructions.{pick}
 use borrow.Author.Tests.{le-leb, lt-leb}
 use Rattle.classfile.proofs.Laws.{clipped-rest, nothing-left}
-use Rattle.classfile.specs.Reading.{codeLength, codeEnd, mapBytes}
+use Rattle.classfile.specs.Reading.{codePlace, codeLength, codeEnd, mapBytes}
 use borrow.Author.Needs.{needs}
 use Rattle.classfile.proofs.maps.method_maps.Statement.{statement}
 use Rattle.classfile.proofs.maps.method_maps.Tie as tie
@@ -22,14 +22,8 @@ returns-2 c =
     let bytes = now (at8 .args .bytes) in
     let place = at8 .args .place in
     let high = le-leb _ _ (rw (c .before .before .before .before .before .before .version .ensures) at (c .before .before .before .before .before .if1 .left)) in
-    rw (
-      high,
-      c .before .least .ensures,
-      c .before .before .wide16 .ensures .0,
-      c .before .before .before .code-length .ensures,
-      c .before .before .before .before .wide32 .ensures .0,
-    )
-    (clipped-rest bytes (place + 8 + codeLength bytes place))
+    rw (high, c .before .least .ensures, c .before .before .wide16 .ensures .0, c .before .before .before .code-length .ensures, c .before .before .before .before .code-place .ensures .0)
+    (clipped-rest bytes (codePlace bytes place + codeLength bytes place))
 
 pub method-maps-spec : {M : Type 1} → statement M
-method-maps-spec = tie.close (tie.spec (λ c κs. search needs) (λ c. search needs) (λ c. search needs) (λ c. search needs) returns (λ c κs. search needs) (λ c. search needs) (λ c κs. search needs) (λ c κs. search needs) (λ c. search needs) (λ c κs. search needs) (λ c. search needs) (λ c. search needs) (λ c. search needs) returns-2)
+method-maps-spec = tie.close (tie.spec (λ c κs. search needs) (λ c. search needs) (λ c. search needs) (λ c. search needs) returns (λ c κs. search needs) (λ c κs. search needs) (λ c κs. search needs) (λ c. search needs) (λ c κs. search needs) (λ c. search needs) (λ c. search needs) (λ c. search needs) returns-2)

@@ -25,11 +25,8 @@ returns-3 c =
     let at4 = c .before .before .before .before in
     let some = le-leb _ _ (rw (at4 .code-length .ensures) at (c .before .before .before .if1 .left)) in
     let few = le-leb _ _ (rw (at4 .code-length .ensures) at (c .before .before .if2 .left)) in
-    rw (c .before .wide32 .ensures .0, c .wide16 .ensures .0, at4 .code-length .ensures)
+    rw (c .before .code-place .ensures .0, c .wide16 .ensures .0, at4 .code-length .ensures)
     (sym (every-first _ _ some ∙ every-first _ _ few ∙ every-last _))
 
 pub is-coded-method-spec : {M : Type 1} → statement M
-is-coded-method-spec =
-    tie.close
-    (tie.spec (λ c κs. search needs) returns returns-2 (λ c κs. search needs) (λ c. search needs) (λ c κs. search needs)
-    (λ c. search needs) returns-3)
+is-coded-method-spec = tie.close (tie.spec (λ c κs. search needs) returns returns-2 (λ c κs. search needs) (λ c κs. search needs) (λ c. search needs) returns-3)

@@ -22,7 +22,7 @@ enough c = le-leb _ _ (rw (c .before .wide32 .ensures .0, c .before .before .fir
 first : (c : tie.Else3) → leb 1 (fileVersion (now (c .before .before .before .before .before .before .before .args .bytes))) ≡ true
 first c = le-leb _ _ (rw (c .before .version .ensures) at (c .if3 .left))
 
-second : (c : tie.Else4) → leb (fileVersion (now (c .before .before .before .before .before .before .before .before .before .args .bytes))) 2 ≡ true
+second : (c : tie.Else4) → leb (fileVersion (now (c .before .before .before .before .before .before .before .before .before .args .bytes))) 3 ≡ true
 second c = le-leb _ _ (rw (c .before .version2 .ensures) at (c .if4 .left))
 
 returns : tie.Need-returns
