@@ -188,26 +188,24 @@ module _ (N L K E O F : List ℕ) (b d e : ℕ) where
           }
 
   -- invokevirtual of signature g, of n arguments
-  module _ (g : Signature) where
-    abbrev n : ℕ
-    n = length (argumentTypes g)
-
+  module _ (g : Signature) (n : ℕ) (counted : n ≡ length (argumentTypes g)) where
     abbrev Called : Plan → Type 0
     Called = Rest N L K E O F b d framesLeft (λ B os f fs i. callMethod B os f fs i e g)
 
     -- no more operands than arguments
     pub call-few : d ≤ n → Called (Refuse (Word 14))
     unfolding callMethod meaning frameOf
-    call-few h = record { says = λ I S task fs w p i. sym (pop-few (operandAt F b) n d h _); fits = λ few I S k m l. tt }
+    call-few h = record { says = λ I S task fs w p i. sym (pop-few (operandAt F b) (length (argumentTypes g)) d (rw counted at h) _); fits = λ few I S k m l. tt }
 
     module _ (more : n < d) where
-      arguments : popAll! n (stack (operandAt F b) d) ≡ ok (record { all = rows (operandAt F b) n (d - n); more = stack (operandAt F b) (d - n) })
-      arguments = pop-all (operandAt F b) n d (omega arith)
+      arguments : popAll! (length (argumentTypes g)) (stack (operandAt F b) d)
+          ≡ ok (record { all = rows (operandAt F b) (length (argumentTypes g)) (d - n); more = stack (operandAt F b) (d - n) })
+      arguments = rw (← counted) (pop-all (operandAt F b) n d (omega arith))
 
       receiver : pop! (stack (operandAt F b) (d - n)) ≡ ok (record { top = operandAt F b (d - n - 1); more = stack (operandAt F b) (d - n - 1) })
       receiver = pop-some (operandAt F b) (d - n) (λ z. omega arith)
 
-      module _ (u : Bool) (kinds : need u (Word 14) ≡ kinds! (argumentTypes g) (rows (operandAt F b) n (d - n))) where
+      module _ (u : Bool) (kinds : need u (Word 14) ≡ kinds! (argumentTypes g) (rows (operandAt F b) (length (argumentTypes g)) (d - n))) where
         pub call-unkind : u ≡ false → Called (Refuse (Word 14))
         unfolding callMethod meaning frameOf _>>=_ need
         call-unkind h = record {
@@ -240,7 +238,7 @@ module _ (N L K E O F : List ℕ) (b d e : ℕ) where
             unfolding callMethod meaning frameOf _>>=_ need take?
             call-at a h z v = record {
               says = λ I S task fs w p i.
-                  rw (arguments, receiver, ← kinds, fit, right x y (d - n - 1) reads r receives o is I S, h, v);
+                  rw (arguments, receiver, ← kinds, fit, right x y (d - n - 1) reads r receives o is I S, h, v, counted);
               fits = λ few I S k m l. l;
             }
 
