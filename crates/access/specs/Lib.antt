@@ -2,5 +2,6 @@
 pub mod Declarers
 pub mod Accesses
 pub mod Members
+pub mod Passing
 pub mod Remainders
 pub mod Makings

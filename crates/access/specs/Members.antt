@@ -1,19 +1,19 @@
 -- Laws of fields and methods that were looked up: where a field stands in an object, what a receiver is, and the instructions case by case.
 use mathlib.Core.Path.{_≡_, refl, sym, ap, _∙_}
-use mathlib.Core.Bool.{Bool, true, false, _||_}
+use mathlib.Core.Bool.{Bool, true, false}
 use mathlib.Core.Option.{none, some}
-use mathlib.Core.List.{List, [], _∷_, _++_, append-nil}
+use mathlib.Core.List.{List, [], _∷_, append-nil}
 use mathlib.Core.Logic.{_≢_}
 use Prim.Native.Nat.{ℕ, suc, _+_, _<_, _≤_}
 use lib.ListN.{length, getD}
 use lib.Dec.{eqb, leb}
 use borrow.Author.Tests.{eqb-true, ne-eqb, ltb-true}
 use Rattle.definition.specs.declared.Signature.{Signature}
-use Rattle.definition.specs.Lists.{any, indexOf, rows}
+use Rattle.definition.specs.Lists.{indexOf, rows}
 use Rattle.definition.specs.Requests.{at}
 use Rattle.definition.specs.Superclasses.{Below, nearest, below}
-use Rattle.definition.specs.Classes.{Base, Class, find, superOf, loaderOf, slots, slotIs, hasField, Selected, selected}
-use Rattle.definition.specs.Constraints.{Tie, World, tieIs, newTie, post, signatureTies}
+use Rattle.definition.specs.Classes.{Base, Class, find, superOf, loaderOf, slots, slotIs, hasField, signatureTypes, Selected, selected}
+use Rattle.definition.specs.Constraints.{Tie, World, newTie, newTies, post, signatureTies}
 use Rattle.definition.specs.declared.Instruction.the-variants.{Getfield, Putfield, Invokevirtual}
 use Rattle.definition.specs.declared.Instruction.{Instruction}
 use Rattle.definition.specs.Instructions.{Decoded, pick}
@@ -26,7 +26,6 @@ use Rattle.laws.specs.Agreement.{super-falls}
 use Rattle.laws.specs.Upward.{nearest-below, below-true, below-trans}
 use Rattle.laws.specs.Slots.{slots-below}
 use Rattle.laws.specs.Tests.{index-found}
-use Rattle.laws.specs.Members.{signature-ties}
 use Rattle.laws.specs.Growth.{nth-lt}
 use Rattle.frames.specs.Unused.{isUsed, used-there, used-none}
 use Rattle.instructions.specs.declared.Plan.{Plan}
@@ -48,25 +47,18 @@ module _ (N L K E : List ℕ) (x l c : ℕ) (r : Found) (asked : r ≡ found (fi
   unfolding quickBase
   uncached q = rw (← wide) (found-absent _ (sym asked ∙ q))
 
--- Ties: none on int, so ties on one name are ties on it and int
+-- Ties on one type
 
-int-untied : (ts : List Tie) (l m : ℕ) → newTie ts l m 1 ≡ []
-unfolding newTie
-int-untied ts l m = go (eqb l m)
-  where
-    go : (u : Bool) → _≡_ {A = List Tie} (elim (u || eqb 1 1 || any (λ t. tieIs l m 1 t) ts) as (λ _. List Tie) [ true ↦ [] | false ↦ record { one = l; two = m; name = 1 } ∷ [] ]) []
-    go true = refl
-    go false = refl
-
-pub ties-int : (ts : List Tie) (l m n : ℕ) → tiesOn ts l m n 1 ≡ newTie ts l m n
-ties-int ts l m n = rw (int-untied (ts ++ newTie ts l m n) l m) (append-nil (newTie ts l m n))
+pub ties-one : (ts : List Tie) (l m n : ℕ) → tiesOn ts l m (n ∷ []) ≡ newTie ts l m n
+unfolding newTies
+ties-one ts l m n = append-nil (newTie ts l m n)
 
 -- what was found means its ties posted and the rest of the instruction
-resolved : (task : ℕ) (w : World) (os : Objects) (fs : List Frame) (F : List ℕ) (b q : ℕ) (room : Bool) (one two first second : ℕ) (p : Plan) (us : List Tie) (rest : World → Result Progress)
-    → tiesOn (w .ties) one two first second ≡ us → ((z : World) → meaning task z os fs F b q p ≡ rest z)
-    → accessed task w os fs F b q room two first second (Resolved one p) ≡ (post w room us >>= rest)
+resolved : (task : ℕ) (w : World) (os : Objects) (fs : List Frame) (F : List ℕ) (b q : ℕ) (room : Bool) (one two : ℕ) (types : List ℕ) (p : Plan) (us : List Tie) (rest : World → Result Progress)
+    → tiesOn (w .ties) one two types ≡ us → ((z : World) → meaning task z os fs F b q p ≡ rest z)
+    → accessed task w os fs F b q room two types (Resolved one p) ≡ (post w room us >>= rest)
 unfolding accessed
-resolved task w os fs F b q room one two first second p us rest e h = (λ i. post w room (e i) >>= λ z. h z i)
+resolved task w os fs F b q room one two types p us rest e h = (λ i. post w room (e i) >>= λ z. h z i)
 
 -- Where a field stands in an object
 
@@ -200,55 +192,55 @@ module _ (N L K E O F : List ℕ) (b d loader c : ℕ) where
   B = quickBase N L K E
 
   -- nothing was found: every constraint and frame gives the same refusal
-  pub unresolved : (room : List Frame → Bool) (x y : ℕ) (i : Instruction) (r : Refusal)
+  pub unresolved : (room : List Frame → Bool) (types : List ℕ) (i : Instruction) (r : Refusal)
       → ((I S : List ℕ) (task : ℕ) (fs : List Frame) (k : Class) (p n : ℕ) → k .loader ≡ loader
       → (let t = tables N L K E I S O F in execute task (worldIn B t) (objectsOf B t) (frameOf F b p d) fs k (decoded i n) i ≡ refused r))
       → declaringLoader B loader i ≡ none
-      → Accessing N L K E O F b d loader room x y i (Unresolved r)
+      → Accessing N L K E O F b d loader room types i (Unresolved r)
   unfolding accessed
-  unresolved room x y i r h o = record { says = λ I S task fs k p n e. sym (h I S task fs k p n e); fits = λ few I S k gs l. tt; declared = sym o }
+  unresolved room types i r h o = record { says = λ I S task fs k p n e. sym (h I S task fs k p n e); fits = λ few I S k gs l. tt; declared = sym o }
 
   module _ (missing : find (B .cache) (at loader c) ≡ none) where
-    pub getfield-uncached : (n t : ℕ) → Accessing N L K E O F b d loader always t 1 (Getfield c n t) (Unresolved (Wanted loader c))
-    getfield-uncached n t = unresolved always t 1 (Getfield c n t) (Wanted loader c) (λ I S task fs k p m z.
+    pub getfield-uncached : (n t : ℕ) → Accessing N L K E O F b d loader always (t ∷ []) (Getfield c n t) (Unresolved (Wanted loader c))
+    getfield-uncached n t = unresolved always (t ∷ []) (Getfield c n t) (Wanted loader c) (λ I S task fs k p m z.
         rw (← z) (getfield-wanted task (worldIn B (tables N L K E I S O F)) (objectsOf B (tables N L K E I S O F)) (frameOf F b p d) fs k (decoded (Getfield c n t) m) c n t (rw z missing)))
         (loader-missing B loader c (nearest (superOf B) (hasField B n t)) missing)
 
-    pub putfield-uncached : (n t : ℕ) → Accessing N L K E O F b d loader always t 1 (Putfield c n t) (Unresolved (Wanted loader c))
-    putfield-uncached n t = unresolved always t 1 (Putfield c n t) (Wanted loader c) (λ I S task fs k p m z.
+    pub putfield-uncached : (n t : ℕ) → Accessing N L K E O F b d loader always (t ∷ []) (Putfield c n t) (Unresolved (Wanted loader c))
+    putfield-uncached n t = unresolved always (t ∷ []) (Putfield c n t) (Wanted loader c) (λ I S task fs k p m z.
         rw (← z) (putfield-wanted task (worldIn B (tables N L K E I S O F)) (objectsOf B (tables N L K E I S O F)) (frameOf F b p d) fs k (decoded (Putfield c n t) m) c n t (rw z missing)))
         (loader-missing B loader c (nearest (superOf B) (hasField B n t)) missing)
 
-    pub invoke-uncached : (s : Signature) → Accessing N L K E O F b d loader frameRoom (s .argument) (s .result) (Invokevirtual c s) (Unresolved (Wanted loader c))
-    invoke-uncached s = unresolved frameRoom (s .argument) (s .result) (Invokevirtual c s) (Wanted loader c) (λ I S task fs k p m z.
+    pub invoke-uncached : (s : Signature) → Accessing N L K E O F b d loader frameRoom (signatureTypes s) (Invokevirtual c s) (Unresolved (Wanted loader c))
+    invoke-uncached s = unresolved frameRoom (signatureTypes s) (Invokevirtual c s) (Wanted loader c) (λ I S task fs k p m z.
         rw (← z) (invoke-wanted task (worldIn B (tables N L K E I S O F)) (objectsOf B (tables N L K E I S O F)) (frameOf F b p d) fs k (decoded (Invokevirtual c s) m) c s (rw z missing)))
         (loader-missing B loader c (selectedClass B s) missing)
 
   module _ (e : ℕ) (there : find (B .cache) (at loader c) ≡ some e) where
-    pub getfield-undeclared : (n t : ℕ) → nearest (superOf B) (hasField B n t) e ≡ none → Accessing N L K E O F b d loader always t 1 (Getfield c n t) (Unresolved (Word 7))
-    getfield-undeclared n t h = unresolved always t 1 (Getfield c n t) (Word 7) (λ I S task fs k p m z.
+    pub getfield-undeclared : (n t : ℕ) → nearest (superOf B) (hasField B n t) e ≡ none → Accessing N L K E O F b d loader always (t ∷ []) (Getfield c n t) (Unresolved (Word 7))
+    getfield-undeclared n t h = unresolved always (t ∷ []) (Getfield c n t) (Word 7) (λ I S task fs k p m z.
         getfield-absent task (worldIn B (tables N L K E I S O F)) (objectsOf B (tables N L K E I S O F)) (frameOf F b p d) fs k (decoded (Getfield c n t) m) c n t e (rw z there) h)
         (loader-absent B loader c (nearest (superOf B) (hasField B n t)) e there h)
 
-    pub putfield-undeclared : (n t : ℕ) → nearest (superOf B) (hasField B n t) e ≡ none → Accessing N L K E O F b d loader always t 1 (Putfield c n t) (Unresolved (Word 7))
-    putfield-undeclared n t h = unresolved always t 1 (Putfield c n t) (Word 7) (λ I S task fs k p m z.
+    pub putfield-undeclared : (n t : ℕ) → nearest (superOf B) (hasField B n t) e ≡ none → Accessing N L K E O F b d loader always (t ∷ []) (Putfield c n t) (Unresolved (Word 7))
+    putfield-undeclared n t h = unresolved always (t ∷ []) (Putfield c n t) (Word 7) (λ I S task fs k p m z.
         putfield-absent task (worldIn B (tables N L K E I S O F)) (objectsOf B (tables N L K E I S O F)) (frameOf F b p d) fs k (decoded (Putfield c n t) m) c n t e (rw z there) h)
         (loader-absent B loader c (nearest (superOf B) (hasField B n t)) e there h)
 
     pub invoke-undeclared : (s : Signature) → selected B s e ≡ none
-        → Accessing N L K E O F b d loader frameRoom (s .argument) (s .result) (Invokevirtual c s) (Unresolved (Word 7))
-    invoke-undeclared s h = unresolved frameRoom (s .argument) (s .result) (Invokevirtual c s) (Word 7) (λ I S task fs k p m z.
+        → Accessing N L K E O F b d loader frameRoom (signatureTypes s) (Invokevirtual c s) (Unresolved (Word 7))
+    invoke-undeclared s h = unresolved frameRoom (signatureTypes s) (Invokevirtual c s) (Word 7) (λ I S task fs k p m z.
         invoke-absent task (worldIn B (tables N L K E I S O F)) (objectsOf B (tables N L K E I S O F)) (frameOf F b p d) fs k (decoded (Invokevirtual c s) m) c s e (rw z there) h)
         (loader-absent B loader c (selectedClass B s) e there (class-absent B s e h))
 
   module _ (e : ℕ) (there : find (B .cache) (at loader c) ≡ some e) (s one : ℕ) (declares : one ≡ loaderOf B s) (p : Plan) where
     pub getfield-right : (n t : ℕ) → nearest (superOf B) (hasField B n t) e ≡ some s → Rest N L K E O F b d unlimited (λ B os f fs i. readField B os f fs i e s n t) p
-        → Accessing N L K E O F b d loader always t 1 (Getfield c n t) (Resolved one p)
+        → Accessing N L K E O F b d loader always (t ∷ []) (Getfield c n t) (Resolved one p)
     getfield-right n t found q = record {
       says = λ I S task fs k x y z.
           let T : Tables = tables N L K E I S O F in
-          resolved task (worldIn B T) (objectsOf B T) fs F b (x + y) true one loader t 1 p (newTie (tiesOf T) one loader t)
-          (readField B (objectsOf B T) (frameOf F b x d) fs (decoded (Getfield c n t) y) e s n t) (ties-int (tiesOf T) one loader t)
+          resolved task (worldIn B T) (objectsOf B T) fs F b (x + y) true one loader (t ∷ []) p (newTie (tiesOf T) one loader t)
+          (readField B (objectsOf B T) (frameOf F b x d) fs (decoded (Getfield c n t) y) e s n t) (ties-one (tiesOf T) one loader t)
           (λ w. q .says I S task fs w x (decoded (Getfield c n t) y))
           ∙ rw (declares, ← z) (sym (getfield-found task (worldIn B T) (objectsOf B T) (frameOf F b x d) fs k (decoded (Getfield c n t) y) c n t e (rw z there) s found));
       fits = λ few I S k gs l. q .fits few I S k (length gs) tt;
@@ -256,12 +248,12 @@ module _ (N L K E O F : List ℕ) (b d loader c : ℕ) where
     }
 
     pub putfield-right : (n t : ℕ) → nearest (superOf B) (hasField B n t) e ≡ some s → Rest N L K E O F b d unlimited (λ B os f fs i. writeField B os f fs i e s n t) p
-        → Accessing N L K E O F b d loader always t 1 (Putfield c n t) (Resolved one p)
+        → Accessing N L K E O F b d loader always (t ∷ []) (Putfield c n t) (Resolved one p)
     putfield-right n t found q = record {
       says = λ I S task fs k x y z.
           let T : Tables = tables N L K E I S O F in
-          resolved task (worldIn B T) (objectsOf B T) fs F b (x + y) true one loader t 1 p (newTie (tiesOf T) one loader t)
-          (writeField B (objectsOf B T) (frameOf F b x d) fs (decoded (Putfield c n t) y) e s n t) (ties-int (tiesOf T) one loader t)
+          resolved task (worldIn B T) (objectsOf B T) fs F b (x + y) true one loader (t ∷ []) p (newTie (tiesOf T) one loader t)
+          (writeField B (objectsOf B T) (frameOf F b x d) fs (decoded (Putfield c n t) y) e s n t) (ties-one (tiesOf T) one loader t)
           (λ w. q .says I S task fs w x (decoded (Putfield c n t) y))
           ∙ rw (declares, ← z) (sym (putfield-found task (worldIn B T) (objectsOf B T) (frameOf F b x d) fs k (decoded (Putfield c n t) y) c n t e (rw z there) s found));
       fits = λ few I S k gs l. q .fits few I S k (length gs) tt;
@@ -269,12 +261,13 @@ module _ (N L K E O F : List ℕ) (b d loader c : ℕ) where
     }
 
     pub invoke-right : (g : Signature) (j : ℕ) → selected B g e ≡ some (record { class = s; place = j }) → Rest N L K E O F b d framesLeft (λ B os f fs i. callMethod B os f fs i e g) p
-        → Accessing N L K E O F b d loader frameRoom (g .argument) (g .result) (Invokevirtual c g) (Resolved one p)
+        → Accessing N L K E O F b d loader frameRoom (signatureTypes g) (Invokevirtual c g) (Resolved one p)
+    unfolding signatureTies
     invoke-right g j found q = record {
       says = λ I S task fs k x y z.
           let T : Tables = tables N L K E I S O F in
-          resolved task (worldIn B T) (objectsOf B T) fs F b (x + y) (frameRoom fs) one loader (g .argument) (g .result) p (signatureTies (tiesOf T) one loader g)
-          (callMethod B (objectsOf B T) (frameOf F b x d) fs (decoded (Invokevirtual c g) y) e g) (sym (signature-ties (tiesOf T) one loader g))
+          resolved task (worldIn B T) (objectsOf B T) fs F b (x + y) (frameRoom fs) one loader (signatureTypes g) p (signatureTies (tiesOf T) one loader g)
+          (callMethod B (objectsOf B T) (frameOf F b x d) fs (decoded (Invokevirtual c g) y) e g) refl
           (λ w. q .says I S task fs w x (decoded (Invokevirtual c g) y))
           ∙ rw (declares, ← z)
           (sym (invoke-found task (worldIn B T) (objectsOf B T) (frameOf F b x d) fs k (decoded (Invokevirtual c g) y) c g e (rw z there) _ found));

@@ -1,21 +1,24 @@
 -- What is left of getfield, putfield and invokevirtual once their ties are posted, case by case: the plan that means it.
-use mathlib.Core.Path.{_≡_}
-use mathlib.Core.Bool.{true, false}
+use mathlib.Core.Path.{_≡_, sym}
+use mathlib.Core.Bool.{Bool, true, false}
 use mathlib.Core.Option.{none, some}
 use mathlib.Core.List.{List, []}
 use mathlib.Core.Logic.{_≢_}
 use Prim.Native.Nat.{ℕ, _-_, _<_, _≤_}
 use native.Mathlib.Omega.{arith}
+use lib.ListN.{length}
 use Rattle.definition.specs.declared.Signature.{Signature}
-use Rattle.definition.specs.Lists.{indexOf}
+use Rattle.definition.specs.Lists.{indexOf, rows, stack}
 use Rattle.definition.specs.Superclasses.{nearest, below}
-use Rattle.definition.specs.Classes.{Base, superOf, slots, slotIs, hasField, Selected, selected}
+use Rattle.definition.specs.Classes.{Base, argumentTypes, superOf, slots, slotIs, hasField, Selected, selected}
 use Rattle.definition.specs.declared.Refusal.the-variants.{Word}
-use Rattle.definition.specs.Answers.{refused, ok, _>>=_, take?}
-use Rattle.definition.specs.Machine.{object! }
+use Rattle.definition.specs.Answers.{refused, ok, _>>=_, need, take?}
+use Rattle.definition.specs.Machine.{pop!, popAll!, kinds!, object!, entryFrame}
 use Rattle.definition.specs.Tables.{Tables, tables, valueOf, objectAt, fieldAt, operandAt, usedFields, frameOf, objectsOf}
 use Rattle.layout.specs.Cells.{used-few, object-field-past}
 use Rattle.laws.specs.Objects.{changed-same}
+use Rattle.frames.specs.declared.Entry.{Entry}
+use Rattle.frames.specs.Initial.{entryValues}
 use Rattle.frames.specs.Unused.{isUsed, used-there}
 use Rattle.instructions.specs.declared.Plan.{Plan}
 use Rattle.instructions.specs.declared.Plan.the-variants.{Refuse, Keep, Above, Field, Enter}
@@ -23,6 +26,7 @@ use Rattle.instructions.specs.Plans.{meaning}
 use Rattle.instructions.specs.Operands.{isKind, pop-none, pop-some, kind-is, kind-not, take-past, take-at}
 use Rattle.resolution.specs.Quick.{quickBase}
 use Rattle.access.specs.Accesses.{Receiver, Wrong, Right, Received, readField, writeField, callMethod}
+use Rattle.access.specs.Passing.{pop-all, pop-few}
 use Rattle.access.specs.Members.{field-used, unlimited, framesLeft, Rest}
 
 module _ (N L K E O F : List ℕ) (b d e : ℕ) where
@@ -183,64 +187,60 @@ module _ (N L K E O F : List ℕ) (b d e : ℕ) where
                 (there x y (d - 1 - 1) reads r receives o is, field-used B (objectAt B O o .class) e s n t j (under x y (d - 1 - 1) reads r receives o is) g h l);
           }
 
-  -- invokevirtual of signature g
-  module _ (g : Signature) (kind bits : ℕ) (deep : d ≢ 0) (value : valueOf kind bits ≡ operandAt F b (d - 1)) where
+  -- invokevirtual of signature g, of n arguments
+  module _ (g : Signature) (n : ℕ) (counted : n ≡ length (argumentTypes g)) where
     abbrev Called : Plan → Type 0
     Called = Rest N L K E O F b d framesLeft (λ B os f fs i. callMethod B os f fs i e g)
 
-    pub call-unkind : d - 1 ≢ 0 → isKind (g .argument) kind bits ≡ false → Called (Refuse (Word 14))
-    unfolding callMethod meaning frameOf _>>=_
-    call-unkind two h = record {
-      says = λ I S task fs w p i. rw (pop-some (operandAt F b) d deep, pop-some (operandAt F b) (d - 1) two, ← value, kind-not kind bits (g .argument) h);
-      fits = λ few I S k m l. tt;
-    }
+    -- no more operands than arguments
+    pub call-few : d ≤ n → Called (Refuse (Word 14))
+    unfolding callMethod meaning frameOf
+    call-few h = record { says = λ I S task fs w p i. sym (pop-few (operandAt F b) (length (argumentTypes g)) d (rw counted at h) _); fits = λ few I S k m l. tt }
 
-    module _ (two : d - 1 ≢ 0) (fit : isKind (g .argument) kind bits ≡ true) (x y : ℕ) (reads : valueOf x y ≡ operandAt F b (d - 1 - 1)) (r : Receiver)
-        (receives : (I S G : List ℕ) → Received B (tables N L K E I S O G) e x y r) where
-      pub call-wrong : (w : ℕ) → r ≡ Wrong w → Called (Refuse (Word w))
-      unfolding callMethod meaning frameOf _>>=_
-      call-wrong w q = record {
-        says = λ I S task fs z p i.
-            rw (
-              pop-some (operandAt F b) d deep,
-              pop-some (operandAt F b) (d - 1) two,
-              ← value,
-              kind-is kind bits (g .argument) fit,
-              wrong x y (d - 1 - 1) reads r receives w q I S,
-            );
-        fits = λ few I S k m l. tt;
-      }
+    module _ (more : n < d) where
+      arguments : popAll! (length (argumentTypes g)) (stack (operandAt F b) d)
+          ≡ ok (record { all = rows (operandAt F b) (length (argumentTypes g)) (d - n); more = stack (operandAt F b) (d - n) })
+      arguments = rw (← counted) (pop-all (operandAt F b) n d (omega arith))
 
-      module _ (o : ℕ) (is : r ≡ Right o) where
-        pub call-unselected : selected B g (objectAt B O o .class) ≡ none → Called (Refuse (Word 14))
-        unfolding callMethod meaning frameOf _>>=_ take?
-        call-unselected h = record {
-          says = λ I S task fs z p i.
-              rw (
-                pop-some (operandAt F b) d deep,
-                pop-some (operandAt F b) (d - 1) two,
-                ← value,
-                kind-is kind bits (g .argument) fit,
-                right x y (d - 1 - 1) reads r receives o is I S,
-                h,
-              );
+      receiver : pop! (stack (operandAt F b) (d - n)) ≡ ok (record { top = operandAt F b (d - n - 1); more = stack (operandAt F b) (d - n - 1) })
+      receiver = pop-some (operandAt F b) (d - n) (λ z. omega arith)
+
+      module _ (u : Bool) (kinds : need u (Word 14) ≡ kinds! (argumentTypes g) (rows (operandAt F b) (length (argumentTypes g)) (d - n))) where
+        pub call-unkind : u ≡ false → Called (Refuse (Word 14))
+        unfolding callMethod meaning frameOf _>>=_ need
+        call-unkind h = record {
+          says = λ I S task fs w p i. rw (arguments, receiver, ← kinds, h);
           fits = λ few I S k m l. tt;
         }
 
-        pub call-at : (a : Selected) → selected B g (objectAt B O o .class) ≡ some a → Called (Enter (d - 1 - 1) (record { class = a .class; method = a .place; object = o; argument = record { kind = kind; bits = bits } }))
-        unfolding callMethod meaning frameOf _>>=_ take?
-        call-at a h = record {
-          says = λ I S task fs z p i.
-              rw (
-                pop-some (operandAt F b) d deep,
-                pop-some (operandAt F b) (d - 1) two,
-                ← value,
-                kind-is kind bits (g .argument) fit,
-                right x y (d - 1 - 1) reads r receives o is I S,
-                h,
-              );
-          fits = λ few I S k m l. l;
-        }
+        module _ (fit : u ≡ true) (x y : ℕ) (reads : valueOf x y ≡ operandAt F b (d - n - 1)) (r : Receiver)
+            (receives : (I S G : List ℕ) → Received B (tables N L K E I S O G) e x y r) where
+          pub call-wrong : (w : ℕ) → r ≡ Wrong w → Called (Refuse (Word w))
+          unfolding callMethod meaning frameOf _>>=_ need
+          call-wrong w q = record {
+            says = λ I S task fs z p i.
+                rw (arguments, receiver, ← kinds, fit, wrong x y (d - n - 1) reads r receives w q I S);
+            fits = λ few I S k m l. tt;
+          }
+
+          module _ (o : ℕ) (is : r ≡ Right o) where
+            pub call-unselected : selected B g (objectAt B O o .class) ≡ none → Called (Refuse (Word 14))
+            unfolding callMethod meaning frameOf _>>=_ need take?
+            call-unselected h = record {
+              says = λ I S task fs z p i.
+                  rw (arguments, receiver, ← kinds, fit, right x y (d - n - 1) reads r receives o is I S, h);
+              fits = λ few I S k m l. tt;
+            }
+
+            pub call-at : (a : Selected) → selected B g (objectAt B O o .class) ≡ some a
+                → (z : Entry) → entryFrame (z .class) (z .method) (z .object) (entryValues z) ≡ entryFrame (a .class) (a .place) o (rows (operandAt F b) n (d - n))
+                → Called (Enter (d - n - 1) z)
+            unfolding callMethod meaning frameOf _>>=_ need take?
+            call-at a h z v = record {
+              says = λ I S task fs w p i.
+                  rw (arguments, receiver, ← kinds, fit, right x y (d - n - 1) reads r receives o is I S, h, v, counted);
+              fits = λ few I S k m l. l;
+            }
 
   -- fewer than two operands
   module _ (s n t : ℕ) where
@@ -251,12 +251,3 @@ module _ (N L K E O F : List ℕ) (b d e : ℕ) where
     pub write-one : d ≢ 0 → d - 1 ≡ 0 → Rest N L K E O F b d unlimited (λ B os f fs i. writeField B os f fs i e s n t) (Refuse (Word 14))
     unfolding writeField meaning frameOf _>>=_
     write-one deep h = record { says = λ I S task fs w p i. rw (pop-some (operandAt F b) d deep, pop-none (operandAt F b) (d - 1) h); fits = λ few I S k m l. tt }
-
-  module _ (g : Signature) where
-    pub call-none : d ≡ 0 → Rest N L K E O F b d framesLeft (λ B os f fs i. callMethod B os f fs i e g) (Refuse (Word 14))
-    unfolding callMethod meaning frameOf _>>=_
-    call-none h = record { says = λ I S task fs w p i. rw (pop-none (operandAt F b) d h); fits = λ few I S k m l. tt }
-
-    pub call-one : d ≢ 0 → d - 1 ≡ 0 → Rest N L K E O F b d framesLeft (λ B os f fs i. callMethod B os f fs i e g) (Refuse (Word 14))
-    unfolding callMethod meaning frameOf _>>=_
-    call-one deep h = record { says = λ I S task fs w p i. rw (pop-some (operandAt F b) d deep, pop-none (operandAt F b) (d - 1) h); fits = λ few I S k m l. tt }

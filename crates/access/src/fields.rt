@@ -7,6 +7,7 @@ use definition::numbers::WORD_ABSENT;
 use definition::numbers::WORD_STUCK;
 ghost use mathlib.Core.Path.{_≡_};
 ghost use mathlib.Core.Option.{some};
+ghost use mathlib.Core.List.{[], _∷_};
 ghost use Rattle.definition.specs.Superclasses.{nearest};
 ghost use Rattle.definition.specs.Classes.{superOf, hasField};
 ghost use Rattle.resolution.specs.Quick.{quickBase};
@@ -113,7 +114,7 @@ pub fn getfield(
     name: u16,
     of: u16,
 ) -> Access
-    ensures { λ r. ⌜ Accessing (now (counts .entry)) (now (classes .entry)) (now (kept .entry)) (now (cache .entry)) (now (objects .entry)) (now (frames .entry)) (top .base) (top .depth) (top .loader) always of 1 (Instruction.Getfield class name of) r ⌝ }
+    ensures { λ r. ⌜ Accessing (now (counts .entry)) (now (classes .entry)) (now (kept .entry)) (now (cache .entry)) (now (objects .entry)) (now (frames .entry)) (top .base) (top .depth) (top .loader) always (of ∷ []) (Instruction.Getfield class name of) r ⌝ }
 {
     let Found::At(e) = resolution::find(counts, cache, cells::from8(top.loader), class) else {
         return Access::Unresolved(Refusal::Wanted(top.loader, class));
@@ -152,7 +153,7 @@ pub fn putfield(
     name: u16,
     of: u16,
 ) -> Access
-    ensures { λ r. ⌜ Accessing (now (counts .entry)) (now (classes .entry)) (now (kept .entry)) (now (cache .entry)) (now (objects .entry)) (now (frames .entry)) (top .base) (top .depth) (top .loader) always of 1 (Instruction.Putfield class name of) r ⌝ }
+    ensures { λ r. ⌜ Accessing (now (counts .entry)) (now (classes .entry)) (now (kept .entry)) (now (cache .entry)) (now (objects .entry)) (now (frames .entry)) (top .base) (top .depth) (top .loader) always (of ∷ []) (Instruction.Putfield class name of) r ⌝ }
 {
     let Found::At(e) = resolution::find(counts, cache, cells::from8(top.loader), class) else {
         return Access::Unresolved(Refusal::Wanted(top.loader, class));

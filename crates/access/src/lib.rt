@@ -3,6 +3,7 @@
 mod fields; // fields.rt: getfield and putfield
 mod making; // making.rt: new
 mod methods; // methods.rt: invokevirtual
+mod passing; // passing.rt: the arguments of a call
 mod receivers; // receivers.rt: whether a receiver is right
 
 use definition::Refusal;

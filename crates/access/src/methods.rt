@@ -1,12 +1,14 @@
 // invokevirtual: the class is looked up under the frame class's loader; the names stand inline.
 use crate::Access;
 use crate::Receiver;
+use crate::passing::are_kinds;
+use crate::passing::entry;
 use crate::receivers::received;
 use definition::numbers::WORD_ABSENT;
 use definition::numbers::WORD_STUCK;
 ghost use mathlib.Core.Path.{_≡_};
 ghost use mathlib.Core.Option.{some};
-ghost use Rattle.definition.specs.Classes.{selected};
+ghost use Rattle.definition.specs.Classes.{signatureTypes, selected};
 ghost use Rattle.resolution.specs.Quick.{quickBase};
 ghost use Rattle.resolution.specs.Lookups.{selection};
 ghost use Rattle.access.specs.Accesses.{Accessing, frameRoom, callMethod};
@@ -14,7 +16,6 @@ ghost use Rattle.access.specs.Members.{framesLeft, Rest};
 use definition::Instruction;
 use definition::Refusal;
 use definition::Signature;
-use frames::Entry;
 use frames::Top;
 use instructions::Plan;
 use resolution::Found;
@@ -41,7 +42,8 @@ fn select_from(
     resolution::select_method(counts, classes, kept, cache, c, s)
 }
 
-// invokevirtual, once the method of class m at place j is found: a frame is entered in the method selected from the object's own class.
+// invokevirtual, once the method of class m at place j is found: a frame is entered in the method selected from the object's own class. The receiver stands
+// below the arguments, the first of which is operand k.
 fn call_method(
     counts: &[u16],
     classes: &[u16],
@@ -58,37 +60,26 @@ fn call_method(
     requires { ⌜ selected (quickBase (now counts) (now classes) (now kept) (now cache)) s e ≡ some (record { class = m; place = j }) ⌝ }
     ensures { λ r. ⌜ Rest (now (counts .entry)) (now (classes .entry)) (now (kept .entry)) (now (cache .entry)) (now (objects .entry)) (now (frames .entry)) (top .base) (top .depth) framesLeft (λ B os f fs i. callMethod B os f fs i e s) r ⌝ }
 {
-    let d = top.depth;
-    if d == 0 {
+    let list = s.arguments;
+    let n = cells::from16(cells::from8(cells::arguments::argument_count(list)));
+    if top.depth <= n {
         return instructions::refuse(WORD_STUCK);
     }
-    let last = d - 1;
-    if last == 0 {
+    let k = top.depth - n;
+    if !are_kinds(frames, top.base, k, list) {
         return instructions::refuse(WORD_STUCK);
     }
-    let v = frames::operand(frames, top.base, last);
-    if !instructions::is_kind(s.argument, v) {
-        return instructions::refuse(WORD_STUCK);
-    }
-    let x = frames::operand(frames, top.base, last - 1);
+    let x = frames::operand(frames, top.base, k - 1);
     let r = received(counts, classes, kept, cache, objects, e, x);
     match r {
         Receiver::Wrong(word) => instructions::refuse(word),
         Receiver::Right(o) => {
             let c = frames::object_class(objects, o);
-            let Selection::Selected(a, k) = select_from(counts, classes, kept, cache, c, e, m, j, s)
+            let Selection::Selected(a, i) = select_from(counts, classes, kept, cache, c, e, m, j, s)
             else {
                 return instructions::refuse(WORD_STUCK);
             };
-            Plan::Enter(
-                last - 1,
-                Entry {
-                    class: a,
-                    method: k,
-                    object: o,
-                    argument: v,
-                },
-            )
+            Plan::Enter(k - 1, entry(frames, top.base, k, n, a, i, o))
         }
     }
 }
@@ -104,7 +95,7 @@ pub fn invokevirtual(
     class: u16,
     s: Signature,
 ) -> Access
-    ensures { λ r. ⌜ Accessing (now (counts .entry)) (now (classes .entry)) (now (kept .entry)) (now (cache .entry)) (now (objects .entry)) (now (frames .entry)) (top .base) (top .depth) (top .loader) frameRoom (s .argument) (s .result) (Instruction.Invokevirtual class s) r ⌝ }
+    ensures { λ r. ⌜ Accessing (now (counts .entry)) (now (classes .entry)) (now (kept .entry)) (now (cache .entry)) (now (objects .entry)) (now (frames .entry)) (top .base) (top .depth) (top .loader) frameRoom (signatureTypes s) (Instruction.Invokevirtual class s) r ⌝ }
 {
     let Found::At(e) = resolution::find(counts, cache, cells::from8(top.loader), class) else {
         return Access::Unresolved(Refusal::Wanted(top.loader, class));

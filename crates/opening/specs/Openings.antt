@@ -30,7 +30,7 @@ pub use Rattle.opening.specs.declared.Opening.the-variants.{Deny, First}
 unfoldable pub openedAs : ℕ → World → Objects → ℕ → Opening → Result Progress
 openedAs k w os v (Deny r) = refused r
 openedAs k w os v (First c s j o) =
-    ok (record { world = w; objects = made k (newObject (w .base) c) os; frames = entryFrame s j o (intValue v) ∷ []; result = none })
+    ok (record { world = w; objects = made k (newObject (w .base) c) os; frames = entryFrame s j o (intValue v ∷ []) ∷ []; result = none })
 
 -- what carrying it out asks: the number is the lowest unused
 abbrev pub OpeningFits : List ℕ → Base → ℕ → ℕ → ℕ → Opening → Type 0

@@ -1,10 +1,11 @@
-// The decision on a start: an object of the cached class, and a first frame in the method selected for a name, int and int.
+// The decision on a start: an object of the cached class, and a first frame in the method selected for a name, one argument of type int, and int.
 ghost use mathlib.Core.Path.{_≡_};
 ghost use mathlib.Core.Bool.{_&&_};
 ghost use lib.Dec.{leb, ltb};
 ghost use Rattle.opening.specs.Openings.{Opened};
 ghost use Rattle.definition.specs.Numbers.{nameObject, loaderLimit};
 ghost use Rattle.definition.specs.Classes.{startSignature};
+use definition::Arguments;
 use definition::Refusal;
 use definition::Signature;
 use definition::numbers::LOADER_LIMIT;
@@ -38,13 +39,13 @@ fn are_known(loader: u32, name: u16, method: u16) -> bool
     1 <= method
 }
 
-// The signature of start's method: the name, int and int.
+// The signature of start's method: the name, one argument of type int, and int.
 fn start_signature(method: u16) -> Signature
     ensures { λ r. ⌜ r ≡ startSignature method ⌝ }
 {
     Signature {
         name: method,
-        argument: NAME_INT,
+        arguments: Arguments::OneArgument(NAME_INT),
         result: NAME_INT,
     }
 }

@@ -1,69 +1,85 @@
--- invokevirtual, once the method is found: a frame is entered in the method selected from the receiver's own class.
+-- invokevirtual, once the method is found: a frame is entered in the method selected from the receiver's own class, which stands below the arguments.
 use mathlib.Core.Path.{sym, _∙_}
+use native.Mathlib.Omega.{arith}
 use borrow.Author.Needs.{needs}
 use borrow.Author.Tests.{not-true, not-false}
-use Rattle.access.specs.Remainders.{call-unkind, call-wrong, call-unselected, call-at, call-none, call-one}
+use Rattle.access.specs.Remainders.{call-few, call-unkind, call-wrong, call-unselected, call-at}
 use Rattle.definition.specs.Tables.{objectAt}
+use Rattle.laws.specs.Inline.{four-arguments}
 use Rattle.resolution.specs.Lookups.{selection-at, selection-absent}
 use Rattle.access.proofs.methods.call_method.Statement.{statement}
 use Rattle.access.proofs.methods.call_method.Tie as tie
 
 returns : tie.Need-returns
-returns c = rw (c .refuse .ensures) (call-none _ _ _ _ _ _ _ _ _ _ (c .before .if1 .taken))
+returns c =
+    let at3 = c .before .before .before in
+    let counted = at3 .from16 .ensures .0 ∙ at3 .before .from8 .ensures .0 ∙ at3 .before .before .argument-count .ensures in
+    rw (c .refuse .ensures) (call-few _ _ _ _ _ _ _ _ _ _ _ counted (c .before .if1 .taken))
 
 returns-2 : tie.Need-returns-2
-returns-2 c = rw (c .refuse2 .ensures) (call-one _ _ _ _ _ _ _ _ _ _ (c .before .before .if1 .left) (c .before .if2 .taken))
-
-returns-3 : tie.Need-returns-3
-returns-3 c = rw (c .refuse3 .ensures) (call-unkind _ _ _ _ _ _ _ _ _ _ _ _ (c .before .before .before .before .before .if1 .left) (c .before .before .before .operand .ensures) (c .before .before .before .before .if2 .left) (sym (c .before .before .is-kind .ensures) ∙ not-true _ (c .before .if3 .taken)))
+returns-2 c =
+    let at2 = c .before .before in
+    let at4 = at2 .before .before in
+    let at6 = at4 .before .before in
+    let counted = at6 .from16 .ensures .0 ∙ at6 .before .from8 .ensures .0 ∙ at6 .before .before .argument-count .ensures in
+    rw (c .refuse2 .ensures) (call-unkind _ _ _ _ _ _ _ _ _ _ _ counted (at4 .if1 .left) _ (at2 .are-kinds .ensures) (not-true _ (c .before .if2 .taken)))
 
 select-from-requires : tie.Need-select-from-requires
-select-from-requires c κs = c .before .before .before .before .before .before .before .before .before .before .before .before .before .before .before .before .before .pre
+select-from-requires c κs = c .before .before .before .before .before .before .before .before .before .before .before .before .before .before .before .before .before .before .before .before .pre
+
+returns-3 : tie.Need-returns-3
+unfolding objectAt
+returns-3 c =
+    let at6 = c .before .before .before .before .before .before in
+    let at8 = at6 .before .before in
+    let at11 = at8 .before .before .before in
+    let at13 = at11 .before .before in
+    let at15 = at13 .before .before in
+    let counted = at15 .from16 .ensures .0 ∙ at15 .before .from8 .ensures .0 ∙ at15 .before .before .argument-count .ensures in
+    rw (c .refuse4 .ensures) (call-unselected _ _ _ _ _ _ _ _ _ _ _ counted (at13 .if1 .left) _ (at11 .are-kinds .ensures) (not-false _ (at8 .before .before .if2 .left)) _ _ (at8 .before .operand .ensures) _ (at8 .received .ensures) _ (at6 .r2 .given .1) (rw (c .before .before .before .before .object-class .ensures) at (selection-absent _ (sym (c .before .before .before .select-from .ensures) ∙ c .before .enum-told .given .1))))
+
+entry-requires : tie.Need-entry-requires
+entry-requires c κs =
+    let at13 = c .before .before .before .before .before .before .before .before .before .before .before .before .before in
+    let at15 = at13 .before .before in
+    let at24 = at15 .before .before .before .before .before .before .before .before .before in
+    let counted = at15 .from16 .ensures .0 ∙ at15 .before .from8 .ensures .0 ∙ at15 .before .before .argument-count .ensures in
+    (rw counted (four-arguments (at24 .args .s .arguments)), search needs)
 
 returns-4 : tie.Need-returns-4
-unfolding objectAt
 returns-4 c =
-    let at8 = c .before .before .before .before .before .before .before .before in
-    let at9 = at8 .before in
-    let at10 = at9 .before in
-    let at11 = at10 .before in
-    let at12 = at11 .before in
-    let at13 = at12 .before in
-    let at14 = at13 .before in
-    rw (c .refuse5 .ensures) (call-unselected _ _ _ _ _ _ _ _ _ _ _ _ (at14 .if1 .left) (at12 .operand .ensures) (at13 .if2 .left) (sym (at11 .is-kind .ensures) ∙ not-false _ (at10 .if3 .left)) _ _ (at9 .operand2 .ensures) _ (at8 .received .ensures) _ (c .before .before .before .before .before .before .r2 .given .1) (rw (c .before .before .before .before .object-class .ensures) at (selection-absent _ (sym (c .before .before .before .select-from .ensures) ∙ c .before .enum-told .given .1))))
+    let at4 = c .before .before .before .before in
+    let at7 = at4 .before .before .before in
+    let at9 = at7 .before .before in
+    let at11 = at9 .before .before in
+    let counted = at11 .from16 .ensures .0 ∙ at11 .before .from8 .ensures .0 ∙ at11 .before .before .argument-count .ensures in
+    rw (c .refuse3 .ensures) (call-wrong _ _ _ _ _ _ _ _ _ _ _ counted (at9 .if1 .left) _ (at7 .are-kinds .ensures) (not-false _ (at4 .before .before .if2 .left)) _ _ (at4 .before .operand .ensures) _ (at4 .received .ensures) _ (c .before .before .r .given .1))
 
 returns-5 : tie.Need-returns-5
-returns-5 c =
-    let at8 = c .before .before .before .before .before .before .before .before in
-    let at9 = at8 .before in
-    let at10 = at9 .before in
-    rw (c .refuse4 .ensures) (call-wrong _ _ _ _ _ _ _ _ _ _ _ _ (at10 .if1 .left) (at8 .operand .ensures) (at9 .if2 .left) (sym (c .before .before .before .before .before .before .before .is-kind .ensures) ∙ not-false _ (c .before .before .before .before .before .before .if3 .left)) _ _ (c .before .before .before .before .before .operand2 .ensures) _ (c .before .before .before .before .received .ensures) _ (c .before .before .r .given .1))
-
-returns-6 : tie.Need-returns-6
 unfolding objectAt
-returns-6 c =
-    let at8 = c .before .before .before .before .before .before .before .before in
-    let at9 = at8 .before in
-    let at10 = at9 .before in
-    let at11 = at10 .before in
-    let at12 = at11 .before in
-    let at13 = at12 .before in
-    let at14 = at13 .before in
-    call-at _ _ _ _ _ _ _ _ _ _ _ _ (at14 .if1 .left) (at12 .operand .ensures) (at13 .if2 .left) (sym (at11 .is-kind .ensures) ∙ not-false _ (at10 .if3 .left)) _ _ (at9 .operand2 .ensures) _ (at8 .received .ensures) _ (c .before .before .before .before .before .before .r2 .given .1) _ (rw (c .before .before .before .before .object-class .ensures) at (selection-at _ _ _ (sym (c .before .before .before .select-from .ensures) ∙ c .before .a .given .1)))
+returns-5 c =
+    let at4 = c .before .before .before .before in
+    let at7 = at4 .before .before .before in
+    let at9 = at7 .before .before in
+    let at12 = at9 .before .before .before in
+    let at14 = at12 .before .before in
+    let at16 = at14 .before .before in
+    let counted = at16 .from16 .ensures .0 ∙ at16 .before .from8 .ensures .0 ∙ at16 .before .before .argument-count .ensures in
+    call-at _ _ _ _ _ _ _ _ _ _ _ counted (at14 .if1 .left) _ (at12 .are-kinds .ensures) (not-false _ (at9 .before .before .if2 .left)) _ _ (at9 .before .operand .ensures) _ (at9 .received .ensures) _ (at7 .r2 .given .1) _ (rw (at4 .before .object-class .ensures) at (selection-at _ _ _ (sym (at4 .select-from .ensures) ∙ c .before .before .a .given .1))) _ (c .entry .ensures)
 
 pub call-method-spec : {M : Type 1} → statement M
 call-method-spec =
     tie.close
     (tie.spec
     (λ c κs. search needs)
+    (λ c κs. search needs)
+    (λ c κs. search needs)
+    (λ c κs. search needs)
     returns
     (λ c. search needs)
     (λ c κs. search needs)
+    (λ c κs. search needs)
     returns-2
-    (λ c κs. search needs)
-    (λ c κs. search needs)
-    (λ c κs. search needs)
-    returns-3
     (λ c. search needs)
     (λ c κs. search needs)
     (λ c κs. search needs)
@@ -75,7 +91,8 @@ call-method-spec =
     (λ c. search needs)
     (λ c. search needs)
     (λ c κs. search needs)
-    returns-4
+    returns-3
     (λ c. search needs)
-    returns-5
-    returns-6)
+    entry-requires
+    returns-4
+    returns-5)

@@ -1,0 +1,72 @@
+// A call's arguments, which stand among the operands in their order, the last of them on top: their kinds, and the frame that is entered with them.
+use definition::Arguments;
+use definition::numbers::KIND_EMPTY;
+use frames::Cell;
+use frames::Entry;
+ghost use mathlib.Core.Path.{_≡_};
+ghost use Prim.Native.Nat.{_+_, _<_, _≤_};
+ghost use lib.ListN.{length};
+ghost use Rattle.definition.specs.Numbers.{wordStuck, argumentLimit};
+ghost use Rattle.definition.specs.Lists.{rows};
+ghost use Rattle.definition.specs.Classes.{typesOf};
+ghost use Rattle.definition.specs.declared.Refusal.the-variants.{Word};
+ghost use Rattle.definition.specs.Answers.{need};
+ghost use Rattle.definition.specs.Machine.{kinds!, entryFrame};
+ghost use Rattle.definition.specs.Tables.{valueOf, operandAt};
+ghost use Rattle.frames.specs.Initial.{entryValues};
+ghost use Rattle.access.specs.Passing.{argumentOr};
+
+// Whether each argument is of its own type's kind; the first is operand k.
+pub(crate) fn are_kinds(frames: &[u32], b: u32, k: u32, list: Arguments) -> bool
+    requires { ⌜ k + length (typesOf list) < 4294967296 ⌝ }
+    ensures { λ r. ⌜ need r (Word wordStuck) ≡ kinds! (typesOf list) (rows (operandAt (now (frames .entry)) b) (length (typesOf list)) k) ⌝ }
+{
+    let n = cells::arguments::argument_count(list);
+    let mut i: u8 = 0;
+    while i < n {
+        let v = frames::operand(frames, b, k + cells::from16(cells::from8(i)));
+        if !instructions::is_kind(cells::arguments::argument_at(list, i), v) {
+            return false;
+        }
+        i += 1;
+    }
+    true
+}
+
+// Argument i of n, of which the first is operand k; empty where there is none.
+fn argument(frames: &[u32], b: u32, k: u32, n: u32, i: u32) -> Cell
+    requires { ⌜ k + n < 4294967296 ⌝ }
+    ensures { λ r. ⌜ valueOf (r .kind) (r .bits) ≡ argumentOr (operandAt (now (frames .entry)) b) k n i ⌝ }
+{
+    if n <= i {
+        return Cell {
+            kind: KIND_EMPTY,
+            bits: 0,
+        };
+    }
+    frames::operand(frames, b, k + i)
+}
+
+// A frame to be entered with n arguments, of which the first is operand k.
+pub(crate) fn entry(
+    frames: &[u32],
+    b: u32,
+    k: u32,
+    n: u32,
+    class: u32,
+    method: u32,
+    object: u32,
+) -> Entry
+    requires { ⌜ (n ≤ argumentLimit) × (k + n < 4294967296) ⌝ }
+    ensures { λ r. ⌜ entryFrame (r .class) (r .method) (r .object) (entryValues r) ≡ entryFrame class method object (rows (operandAt (now (frames .entry)) b) n k) ⌝ }
+{
+    Entry {
+        class,
+        method,
+        object,
+        first: argument(frames, b, k, n, 0),
+        second: argument(frames, b, k, n, 1),
+        third: argument(frames, b, k, n, 2),
+        fourth: argument(frames, b, k, n, 3),
+    }
+}
