@@ -215,8 +215,8 @@ module _ (N L K E I S O F : List ℕ) (k m b d loader : ℕ) (i : Instruction) (
 
 -- An access: what is missing is refused; what was found is settled with its ties
 
-module _ (N L K E I S O F : List ℕ) (k m b d loader : ℕ) (i : Instruction) (room : List Frame → Bool) (first second : ℕ) (low : getD N 3 0 ≤ 256) where
-  pub acted-unresolved : (r : Refusal) → Accessing N L K E O F b d loader room first second i (Unresolved r) → Acted N L K E I S O F k m b d loader i Nothing (Refuse r)
+module _ (N L K E I S O F : List ℕ) (k m b d loader : ℕ) (i : Instruction) (room : List Frame → Bool) (types : List ℕ) (low : getD N 3 0 ≤ 256) where
+  pub acted-unresolved : (r : Refusal) → Accessing N L K E O F b d loader room types i (Unresolved r) → Acted N L K E I S O F k m b d loader i Nothing (Refuse r)
   unfolding toPost accessed meaning
   acted-unresolved r h = record {
     says = λ c y n e. h .says I S k (stack (frameIn F k) m) c y n e;
@@ -225,8 +225,8 @@ module _ (N L K E I S O F : List ℕ) (k m b d loader : ℕ) (i : Instruction) (
     fits = λ few. tt;
   }
 
-  pub acted-resolved : (one : ℕ) (plan p : Plan) (x : Posting) (z : Bool) → Accessing N L K E O F b d loader room first second i (Resolved one plan)
-      → z ≡ room (stack (frameIn F k) m) → Settled N L K E I S z (tiesOn (rows (tieAt I) (getD N 3 0) 0) one loader first second) plan x p
+  pub acted-resolved : (one : ℕ) (plan p : Plan) (x : Posting) (z : Bool) → Accessing N L K E O F b d loader room types i (Resolved one plan)
+      → z ≡ room (stack (frameIn F k) m) → Settled N L K E I S z (tiesOn (rows (tieAt I) (getD N 3 0) 0) one loader types) plan x p
       → Acted N L K E I S O F k m b d loader i x p
   unfolding accessed
   acted-resolved one plan p x z h q s = record {
@@ -244,23 +244,23 @@ module _ (N L K E I S O F : List ℕ) (k m b d loader : ℕ) (i : Instruction) (
 
 -- An access that is settled
 
-abbrev pub AccessSettled : List ℕ → List ℕ → List ℕ → List ℕ → List ℕ → List ℕ → Bool → ℕ → ℕ → ℕ → Access → Posting → Plan → Type 0
-AccessSettled N L K E I S room loader first second (Unresolved r) x p = (x ≡ Nothing) × (p ≡ Refuse r)
-AccessSettled N L K E I S room loader first second (Resolved one plan) x p =
-    Settled N L K E I S room (tiesOn (rows (tieAt I) (getD N 3 0) 0) one loader first second) plan x p
+abbrev pub AccessSettled : List ℕ → List ℕ → List ℕ → List ℕ → List ℕ → List ℕ → Bool → ℕ → List ℕ → Access → Posting → Plan → Type 0
+AccessSettled N L K E I S room loader types (Unresolved r) x p = (x ≡ Nothing) × (p ≡ Refuse r)
+AccessSettled N L K E I S room loader types (Resolved one plan) x p =
+    Settled N L K E I S room (tiesOn (rows (tieAt I) (getD N 3 0) 0) one loader types) plan x p
 
 -- its loader is a byte
 abbrev pub Narrow : Access → Type 0
 Narrow (Unresolved r) = Unit {0}
 Narrow (Resolved one plan) = one < 256
 
-pub acted-access : (N L K E I S O F : List ℕ) (k m b d loader : ℕ) (i : Instruction) (room : List Frame → Bool) (first second : ℕ) (z : Bool) (a : Access) (x : Posting) (p : Plan)
-    → getD N 3 0 ≤ 256 → Accessing N L K E O F b d loader room first second i a → z ≡ room (stack (frameIn F k) m) → AccessSettled N L K E I S z loader first second a x p
+pub acted-access : (N L K E I S O F : List ℕ) (k m b d loader : ℕ) (i : Instruction) (room : List Frame → Bool) (types : List ℕ) (z : Bool) (a : Access) (x : Posting) (p : Plan)
+    → getD N 3 0 ≤ 256 → Accessing N L K E O F b d loader room types i a → z ≡ room (stack (frameIn F k) m) → AccessSettled N L K E I S z loader types a x p
     → Acted N L K E I S O F k m b d loader i x p
-acted-access N L K E I S O F k m b d loader i room first second z (Unresolved r) x p low h q s =
-    rw (s .0, s .1) (acted-unresolved N L K E I S O F k m b d loader i room first second low r h)
-acted-access N L K E I S O F k m b d loader i room first second z (Resolved one plan) x p low h q s =
-    acted-resolved N L K E I S O F k m b d loader i room first second low one plan p x z h q s
+acted-access N L K E I S O F k m b d loader i room types z (Unresolved r) x p low h q s =
+    rw (s .0, s .1) (acted-unresolved N L K E I S O F k m b d loader i room types low r h)
+acted-access N L K E I S O F k m b d loader i room types z (Resolved one plan) x p low h q s =
+    acted-resolved N L K E I S O F k m b d loader i room types low one plan p x z h q s
 
 -- What deciding asks of the tables: counts within their limits, the ties' length, no class of more than 16 fields in the cache, loaders that are there
 
@@ -270,10 +270,10 @@ pub record Usable (N L K E I : List ℕ) : Type 0 where
   pub sizes : (r : Request) (e : ℕ) → find (quickBase N L K E .cache) r ≡ some e → sizeOf (quickBase N L K E) e ≤ 16
   pub loaders : (c : ℕ) → loaderOf (quickBase N L K E) c < 16
 
-pub narrow : (N L K E I : List ℕ) → Usable N L K E I → (O F : List ℕ) (b d loader : ℕ) (room : List Frame → Bool) (first second : ℕ) (i : Instruction) (a : Access)
-    → Accessing N L K E O F b d loader room first second i a → Narrow a
-narrow N L K E I u O F b d loader room first second i (Unresolved r) h = tt
-narrow N L K E I u O F b d loader room first second i (Resolved one p) h = let s = declaring-some (quickBase N L K E) loader i one (h .declared) in omega (arith, u .loaders (s .0), s .1)
+pub narrow : (N L K E I : List ℕ) → Usable N L K E I → (O F : List ℕ) (b d loader : ℕ) (room : List Frame → Bool) (types : List ℕ) (i : Instruction) (a : Access)
+    → Accessing N L K E O F b d loader room types i a → Narrow a
+narrow N L K E I u O F b d loader room types i (Unresolved r) h = tt
+narrow N L K E I u O F b d loader room types i (Resolved one p) h = let s = declaring-some (quickBase N L K E) loader i one (h .declared) in omega (arith, u .loaders (s .0), s .1)
 
 -- room for one frame more, where m are below
 pub frames-room : (F : List ℕ) (k m : ℕ) → ltb (m + 1) 32 ≡ frameRoom (stack (frameIn F k) m)

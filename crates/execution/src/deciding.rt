@@ -2,9 +2,9 @@
 use crate::settling::Decision;
 use crate::settling::plain;
 use crate::settling::settle_access;
+use definition::Arguments;
 use definition::Instruction;
 use definition::numbers::FRAME_LIMIT;
-use definition::numbers::NAME_INT;
 use definition::numbers::WORD_STUCK;
 use frames::Top;
 use instructions::Plan;
@@ -56,8 +56,8 @@ fn act(
             subtypes,
             true,
             top.loader,
+            Arguments::NoArguments,
             of,
-            NAME_INT,
             access::getfield(
                 counts,
                 classes,
@@ -80,8 +80,8 @@ fn act(
             subtypes,
             true,
             top.loader,
+            Arguments::NoArguments,
             of,
-            NAME_INT,
             access::putfield(
                 counts,
                 classes,
@@ -104,7 +104,7 @@ fn act(
             subtypes,
             top.row + 1 < FRAME_LIMIT,
             top.loader,
-            s.argument,
+            arguments,
             s.result,
             access::invokevirtual(counts, classes, kept, cache, objects, frames, top, class, s),
         ),

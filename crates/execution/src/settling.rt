@@ -1,5 +1,6 @@
 // A plan settled with the ties that it posts: first no room and clashes are refused, and a refusal posts nothing.
 use access::Access;
+use definition::Arguments;
 use definition::Check;
 use definition::Refusal;
 use definition::numbers::CLASS_LIMIT;
@@ -13,12 +14,13 @@ use definition::numbers::WORD_FULL;
 use instructions::Plan;
 use posting::Posting;
 ghost use mathlib.Core.Path.{_≡_};
-ghost use mathlib.Core.List.{[]};
+ghost use mathlib.Core.List.{[], _∷_, _++_};
 ghost use Prim.Native.Nat.{_+_, _≤_};
 ghost use lib.ListN.{length, getD};
 ghost use Rattle.definition.specs.Numbers.{tieLimit, countTies, tiesLength};
 ghost use Rattle.definition.specs.Lists.{rows};
 ghost use Rattle.definition.specs.Tables.{tables, tieAt};
+ghost use Rattle.definition.specs.Classes.{typesOf};
 ghost use Rattle.definition.specs.Constraints.{posted};
 ghost use Rattle.definition.specs.Checks.{Names};
 ghost use mathlib.Core.Option.{none};
@@ -95,7 +97,7 @@ fn decided(posting: Posting, plan: Plan) -> Decision
     }
 }
 
-// A plan with its ties on two names between two loaders, or the refusal that comes before it: no room, or a clash.
+// A plan with its ties between two loaders on each of those names in turn and then on the last, or the refusal that comes before it: no room, or a clash.
 fn settle(
     counts: &[u16],
     classes: &[u16],
@@ -106,18 +108,18 @@ fn settle(
     room: bool,
     one: u8,
     two: u8,
-    first: u16,
-    second: u16,
+    names: Arguments,
+    last: u16,
     plan: Plan,
 ) -> Decision
     requires { ⌜ Counts (now counts) × (length (now ties) ≡ tiesLength) ⌝ }
-    ensures { λ r. ⌜ Settled (now (counts .entry)) (now (classes .entry)) (now (kept .entry)) (now (cache .entry)) (now (ties .entry)) (now (subtypes .entry)) room (tiesOn (rows (tieAt (now (ties .entry))) (getD (now (counts .entry)) countTies 0) 0) one two first second) plan (r .posting) (r .plan) ⌝ }
+    ensures { λ r. ⌜ Settled (now (counts .entry)) (now (classes .entry)) (now (kept .entry)) (now (cache .entry)) (now (ties .entry)) (now (subtypes .entry)) room (tiesOn (rows (tieAt (now (ties .entry))) (getD (now (counts .entry)) countTies 0) 0) one two (typesOf names ++ (last ∷ []))) plan (r .posting) (r .plan) ⌝ }
 {
     if !room {
         return refused(WORD_FULL);
     }
     let n = cells::at16(counts, COUNT_TIES);
-    let posting = posting::new_ties(ties, n, one, two, first, second);
+    let posting = posting::new_ties(ties, n, one, two, names, last);
     let k = posting::tie_number(posting);
     if k == 0 {
         return decided(posting, plan);
@@ -151,12 +153,12 @@ pub(crate) fn settle_access(
     subtypes: &[u16],
     room: bool,
     loader: u8,
-    first: u16,
-    second: u16,
+    names: Arguments,
+    last: u16,
     found: Access,
 ) -> Decision
     requires { ⌜ Counts (now counts) × (length (now ties) ≡ tiesLength) × Narrow found ⌝ }
-    ensures { λ r. ⌜ AccessSettled (now (counts .entry)) (now (classes .entry)) (now (kept .entry)) (now (cache .entry)) (now (ties .entry)) (now (subtypes .entry)) room loader first second found (r .posting) (r .plan) ⌝ }
+    ensures { λ r. ⌜ AccessSettled (now (counts .entry)) (now (classes .entry)) (now (kept .entry)) (now (cache .entry)) (now (ties .entry)) (now (subtypes .entry)) room loader (typesOf names ++ (last ∷ [])) found (r .posting) (r .plan) ⌝ }
 {
     match found {
         Access::Unresolved(r) => Decision {
@@ -173,8 +175,8 @@ pub(crate) fn settle_access(
             room,
             one as u8,
             loader,
-            first,
-            second,
+            names,
+            last,
             plan,
         ),
     }

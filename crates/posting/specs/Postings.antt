@@ -36,10 +36,6 @@ toPost (Ties l m ns n) = map (tie l m) (typesOf ns ++ (n ∷ []))
 abbrev pub Between : ℕ → ℕ → Posting → Type 0
 Between l m p = toPost p ≡ map (tie l m) (namesOf p)
 
--- the ties on each of those names in turn, and then on the last
-abbrev pub tiesOn : List Tie → ℕ → ℕ → Arguments → ℕ → List Tie
-tiesOn ts l m ns n = newTies ts l m (typesOf ns ++ (n ∷ []))
-
 -- a tie on that name between two different loaders is new
 unfoldable pub isNew : List Tie → ℕ → ℕ → ℕ → Bool
 isNew ts l m n = not (eqb n 1 || any (tieIs l m n) ts)

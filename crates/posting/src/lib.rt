@@ -10,7 +10,7 @@ ghost use Rattle.definition.specs.Lists.{any, rows, writeRows};
 ghost use Rattle.definition.specs.Classes.{typesOf};
 ghost use Rattle.definition.specs.Constraints.{newTie, newTies};
 ghost use Rattle.definition.specs.Tables.{tie, tieAt, putTie};
-ghost use Rattle.posting.specs.Postings.{toPost, Between, isNew, isNamed, tiesOn, quietly};
+ghost use Rattle.posting.specs.Postings.{toPost, Between, isNew, isNamed, quietly};
 use definition::Arguments;
 use definition::numbers::NAME_INT;
 use instructions::Plan;
@@ -81,7 +81,7 @@ fn add_name(ties: &[u16], count: u16, one: u8, two: u8, posting: Posting, name: 
 
 // The ties between two loaders on each of those names in turn, and then on the last, that are not known yet.
 pub fn new_ties(ties: &[u16], count: u16, one: u8, two: u8, names: Arguments, last: u16) -> Posting
-    ensures { λ r. ⌜ toPost r ≡ tiesOn (rows (tieAt (now (ties .entry))) count 0) one two names last ⌝ }
+    ensures { λ r. ⌜ toPost r ≡ newTies (rows (tieAt (now (ties .entry))) count 0) one two (typesOf names ++ (last ∷ [])) ⌝ }
 {
     if one == two {
         return Posting::Nothing;
