@@ -18,6 +18,15 @@ class Tree {
     int b10(int n) { total = total + n; return b11(n) + b11(n); }
     int b11(int n) { return total + n; }
 
+    int c0(int n) { total = total + n; return c1(n, n, n) + c1(n, n, n); }
+    int c1(int age, int sum, int region) { total = total + age; return c2(age, sum, region) + c2(age, sum, region); }
+    int c2(int age, int sum, int region) { total = total + age; return c3(age, sum, region) + c3(age, sum, region); }
+    int c3(int age, int sum, int region) { total = total + age; return c4(age, sum, region) + c4(age, sum, region); }
+    int c4(int age, int sum, int region) { total = total + age; return c5(age, sum, region) + c5(age, sum, region); }
+    int c5(int age, int sum, int region) { total = total + age; return c6(age, sum, region) + c6(age, sum, region); }
+    int c6(int age, int sum, int region) { total = total + age; return c7(age, sum, region) + c7(age, sum, region); }
+    int c7(int age, int sum, int region) { Tree made = new Tree(); return total + age + sum + region; }
+
     static class Upper extends Tree {
         int b0(int n) { total = total + n; return b1(n) + b1(n); }
         int b1(int n) { total = total + n; return b2(n) + b2(n); }
@@ -48,6 +57,7 @@ class Tree {
         System.out.println("|---|---|");
         measure("tree", 2674, () -> new Tree().a0(3));
         measure("tall tree", 39026, () -> new Upper().b0(3));
+        measure("tree of three arguments", 3694, () -> new Tree().c0(3));
         Loop.main(arguments);
     }
 }

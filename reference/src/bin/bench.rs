@@ -7,7 +7,7 @@
 use std::time::{Duration, Instant};
 
 use reference::gen::large::{
-    chain, chain_clashes, chain_define, chain_record, full, grid, grid_reason, grid_record, long_files, longest_reason, looping, making, objects, posting, tall_tree, tree, usual,
+    chain, chain_clashes, chain_define, chain_record, full, grid, grid_reason, grid_record, long_files, longest_reason, looping, making, objects, posting, tall_tree, tree, tree_of_three, usual,
     usual_define, usual_record, Held, Repeated, Round,
 };
 use reference::gen::{Call, Trial};
@@ -139,6 +139,7 @@ fn runs() -> Vec<Case> {
     vec![
         Case::run("tree", tree()),
         Case::run("tall tree", tall_tree()),
+        Case::run("tree of three arguments", tree_of_three()),
         Case::run("254 objects in new rows", making(false)),
         Case::run("254 objects in freed rows", making(true)),
         Case::run("loop of ints", looping(Round::Ints)),

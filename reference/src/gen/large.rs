@@ -50,7 +50,26 @@ pub fn tree() -> Store {
     started(&[inner.main(ROOT + 7, &leaf(Code::new().object(TREE).astore(2)))], TREE)
 }
 
-/// The same with twelve levels, the upper six in a class below that of the others; objects are made on level six.
+/// The types of the three arguments of `tree_of_three`.
+const THREE: [u16; 3] = [INT; 3];
+
+/// Adds to the total, calls the next method twice with the three ints in these locals, and adds what they give.
+fn inner_of_three(next: u16, locals: [u8; 3]) -> Code {
+    let twice = |code: Code| locals.into_iter().fold(code.aload(0), Code::iload).call(TREE, next, &THREE, INT);
+    let total = Code::listed().aload(0).aload(0).getfield(TREE, TOTAL, INT).iload(1).iadd().putfield(TREE, TOTAL, INT);
+    twice(twice(total)).iadd().ireturn()
+}
+
+/// The tree of eight levels in version 3: below the root, which starts with one int, each method has three arguments and each leaf adds them all.
+pub fn tree_of_three() -> Store {
+    let root = Draft::listed(TREE).field(TOTAL, INT).main(ROOT, &inner_of_three(ROOT + 1, [1, 1, 1]));
+    let inner = (1..7).fold(root, |draft, level| draft.method_of(ROOT + level, &THREE, INT, &inner_of_three(ROOT + level + 1, [1, 2, 3])));
+    let leaf = Code::listed().object(TREE).astore(4).aload(0).getfield(TREE, TOTAL, INT);
+    let leaf = (1..=3).fold(leaf, |code, local| code.iload(local).iadd()).ireturn();
+    started(&[inner.method_of(ROOT + 7, &THREE, INT, &leaf)], TREE)
+}
+
+/// The tree of one argument with twelve levels, the upper six in a class below that of the others; objects are made on level six.
 pub fn tall_tree() -> Store {
     let mut lower = Draft::new(TREE).field(TOTAL, INT);
     let mut upper = Draft::new(UPPER).under(TREE);
