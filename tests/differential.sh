@@ -13,16 +13,16 @@ compare() { # TESTS LIBRARIES LINKED SEEDS WORDS...
     TARIFF_LIB=$2 TARIFF_LINK=$3 TARIFF_SEEDS=$4 ../tests/cargo-test "$1" --features host --test host "${@:5}"
 }
 
-TARIFF_SECONDS=${1:-0} compare 3 "$PWD/../target/staticlib" static=host,static=desk 8000 -- --nocapture
+TARIFF_SECONDS=${1:-0} compare 4 "$PWD/../target/staticlib" static=host,static=desk 8000 -- --nocapture
 
 mirror=$PWD/target/mirror/release
 cargo build --offline --release --quiet -p mirror --target-dir target/mirror
 mirrored() { # TESTS WORDS...: the tests that the words choose
     compare "$1" "$mirror" dylib=tariff 40 --target-dir target/mirror "${@:2}" >"$log" 2>&1
 }
-mirrored 3 || { cat "$log"; exit 1; }
+mirrored 4 || { cat "$log"; exit 1; }
 # which chain a clash lists is left to the library
-MIRROR_FAULT=another-chain mirrored 3 || { cat "$log"; exit 1; }
+MIRROR_FAULT=another-chain mirrored 4 || { cat "$log"; exit 1; }
 tables="mirror/src/faults.rs mirror/src/mapped.rs mirror/src/rates.rs mirror/src/hidden.rs mirror/src/listed.rs mirror/src/tried.rs src/gen/plain.rs"
 # shellcheck disable=SC2086
 faults=$(sed -n 's/^    ("\([a-z-]*\)",.*/\1/p' $tables)

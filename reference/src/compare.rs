@@ -24,7 +24,7 @@ use crate::gen::loops::loops;
 use crate::gen::rates;
 use crate::gen::stuck::stuck;
 use crate::gen::swept::swept;
-use crate::gen::{cases, counts, javas, large, listed, mapped, Call, Trial, CALLS};
+use crate::gen::{cases, counts, javas, large, listed, mapped, passed, Call, Trial, CALLS};
 use crate::host::{self, expected, CELLS};
 use crate::placed::misplaced;
 use crate::store::{Store, LENGTHS, MOST_ROWS};
@@ -252,7 +252,7 @@ impl Comparison {
         let (chain, grid, usual) = (large::chain(256, 256), large::grid(), large::usual());
         let full = [large::full(large::Repeated::NullPop), large::full(large::Repeated::AloadGetfieldPop)];
         let calls = [
-            (large::tree(), run.clone()), (large::tall_tree(), run.clone()), (full[0].clone(), run.clone()),
+            (large::tree(), run.clone()), (large::tall_tree(), run.clone()), (large::tree_of_three(), run.clone()), (full[0].clone(), run.clone()),
             (full[1].clone(), Call::Run { n: 100 }), (chain.clone(), large::chain_define()),
             (chain, large::chain_record()), (grid, large::grid_record()), (usual.clone(), large::usual_define()),
             (usual, large::usual_record()), (large::posting(), Call::Step),
@@ -361,6 +361,14 @@ pub fn hidden_fields() -> String {
     javas::printed(|store| {
         let mut ours = store.clone();
         both(&mut ours, store, &Call::Step, CELLS, "Java's accesses")
+    })
+}
+
+/// What java/Arguments.java prints, by the library: each call by steps, beside ours.
+pub fn arguments() -> String {
+    passed::printed(|store| {
+        let mut ours = store.clone();
+        both(&mut ours, store, &Call::Step, CELLS, "Java's calls")
     })
 }
 

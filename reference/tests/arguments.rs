@@ -1,4 +1,4 @@
-//! Methods with 0 to 4 arguments: what lists of calls about them end with, the order of notes and ties.
+//! Methods with 0 to 4 arguments: beside Java, what lists of calls about them end with, the order of notes and ties.
 
 use reference::answer::{word, Answer, Refusal, Reply};
 use reference::file::File;
@@ -7,7 +7,8 @@ use reference::gen::cases::MAIN;
 use reference::gen::limits::LIMITS;
 use reference::gen::listed::{calling, locals, numbers, overriding, receivers, selection, starts, versions};
 use reference::gen::rng::Rng;
-use reference::gen::Trial;
+use reference::gen::{passed, Trial};
+use reference::step;
 use reference::store::INT;
 use reference::verifier::refused;
 
@@ -18,6 +19,12 @@ fn words(trial: &Trial) -> Vec<u8> {
 
 fn ties(trial: &Trial) -> Vec<[u16; 3]> {
     trial.store.tie_rows().collect()
+}
+
+/// java/Arguments.out is what java/Arguments.java printed.
+#[test]
+fn arguments_are_javas() {
+    assert_eq!(passed::printed(|store| Reply::Stepped(step(store))), include_str!("../java/Arguments.out"));
 }
 
 #[test]

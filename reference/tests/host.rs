@@ -6,7 +6,7 @@
 
 use std::time::Duration;
 
-use reference::compare::{all, hidden_fields, rates};
+use reference::compare::{all, arguments, hidden_fields, rates};
 
 fn setting(name: &str) -> Option<u64> {
     std::env::var(name).ok().map(|value| value.parse().unwrap_or_else(|_| panic!("{name} is no number")))
@@ -30,4 +30,10 @@ fn products_and_quotients_are_javas() {
 #[test]
 fn hidden_fields_are_javas() {
     assert_eq!(hidden_fields(), include_str!("../java/Hidden.out"));
+}
+
+/// java/Arguments.out is what java/Arguments.java printed.
+#[test]
+fn arguments_are_javas() {
+    assert_eq!(arguments(), include_str!("../java/Arguments.out"));
 }

@@ -24,6 +24,7 @@ pub mod loops;
 pub mod mapped;
 pub mod numbers;
 pub mod objects;
+pub mod passed;
 pub mod plain;
 pub mod rates;
 pub mod reach;
