@@ -1,6 +1,7 @@
 /* The ten calls from C: tables of wrong lengths, damaged stores, every word of refusal, numbers at their limits, answer tables of every
    length, a run beside its steps, objects freed and their numbers used again, files of version 2, products and quotients, fields of one name in
-   a class and above it, loads tried on short and long lists, and the chains of those that clash; and the desk beside define. */
+   a class and above it, files of version 3 with 0 to 4 arguments, loads tried on short and long lists, and the chains of those that clash; and the
+   desk beside define. */
 #define _GNU_SOURCE
 #include "host.h"
 
@@ -729,6 +730,245 @@ static void numbers(void)
     clashes("the tie behind the note", define(3, 17, 10, 0, 12, BELOW(18, 19)), ROWS(2), 1);
 }
 
+/* A call with a list: its count, the types and the result. */
+#define CALL(class, method, ...) 0xB6, 0, class, 0, method, __VA_ARGS__
+#define NONE_TO_INT 0, 0, 1
+#define INT_TO_INT 1, 0, 1, 0, 1
+#define FOUR_TO_INT 4, 0, 1, 0, 1, 0, 1, 0, 1, 0, 1
+#define FIVE_TO_INT 5, 0, 1, 0, 1, 0, 1, 0, 1, 0, 1, 0, 1
+
+#define MAIN(...) {20, 1, {1}, 1, CODE(__VA_ARGS__)}
+#define FIVE_OF_NONE {21, 0, {0}, 1, CODE(NUMBER(5), 0xAC)}
+
+/* Gives back its int. */
+#define BACK(method) {method, 1, {1}, 1, IDENTITY}
+
+/* The four ints as digits, the first of them the highest. */
+#define ONE_MORE(local) NUMBER(10), 0x68, 0x15, local, 0x60
+#define DIGITS {21, 4, {1, 1, 1, 1}, 1, CODE(0x15, 1, ONE_MORE(2), ONE_MORE(3), ONE_MORE(4), 0xAC)}
+
+/* Pushes this object and four ints, of which the last is the quote's own. */
+#define FOUR 0x19, 0, NUMBER(1), NUMBER(2), NUMBER(3), 0x15, 1
+
+/* Class 10 of version 3 with these methods, and a quote of it with the int 7. */
+static void listed_quote(size_t methods, const struct listed *method)
+{
+    ready();
+    defines("a class of version 3", define_listed(1, 10, 2, methods, method), 1);
+    accepts("a quote", start(TARIFF_QUOTE, 1, 10, 20, 7));
+}
+
+/* A quote of loader's class: it ends so. */
+static void ends(const char *what, uint32_t loader, uint16_t name, uint32_t value, uint32_t answer, uint32_t steps)
+{
+    accepts(what, start(TARIFF_QUOTE, loader, name, 20, value));
+    expect(what, run(99), 0, SIX(TARIFF_RAN_FOR, 0, TARIFF_FINISHED, TARIFF_QUOTE, answer, steps));
+}
+
+/* Four arguments and none: where they stand before the call and in it. */
+static void arguments(void)
+{
+    static const uint32_t entered[] = {1, 1, 0, 0, 3, 0, 1, 1, 1, 2, 1, 3, 1, 7, 0, 0, 0, 0, 0, 0};
+    static const uint32_t entered_without[] = {1, 2, 0, 0, 3, 0, 0, 0, 0, 0, 0, 0, 0, 0, 0, 0, 0, 0, 0, 0};
+    static const uint32_t given[] = {5, 3, 0, 1, 1, 1, 2, 1, 3, 1, 7};
+    const uint32_t *frame = table[7];
+    listed_quote(LISTED(MAIN(FOUR, CALL(10, 21, FOUR_TO_INT), 0x19, 0, CALL(10, 21, NONE_TO_INT), 0x64, 0xAC), DIGITS, FIVE_OF_NONE));
+    keep(&first);
+    expect("four arguments", run(5), 0, SIX(TARIFF_RAN_FOR, 0, TARIFF_RAN, TARIFF_QUOTE, 0, 5));
+    check("the receiver is lowest", frame[3] == given[0] && memcmp(frame + 20, given + 1, 40) == 0);
+    runs("a call with four", TARIFF_QUOTE);
+    check("they are locals 1 to 4", frame[3] == 0 && memcmp(frame + 52, entered, sizeof entered) == 0);
+    expect("back, and this object", run(15), 0, SIX(TARIFF_RAN_FOR, 0, TARIFF_RAN, TARIFF_QUOTE, 0, 15));
+    runs("a call with none", TARIFF_QUOTE);
+    check("local 0 alone is set", frame[3] == 1 && memcmp(frame + 52, entered_without, sizeof entered_without) == 0);
+    expect("to its end", run(9), 0, SIX(TARIFF_RAN_FOR, 0, TARIFF_FINISHED, TARIFF_QUOTE, 1237 - 5, 3));
+    keep(&after);
+    put_back(&first);
+    expect("all in one", run(99), 0, SIX(TARIFF_RAN_FOR, 0, TARIFF_FINISHED, TARIFF_QUOTE, 1237 - 5, 25));
+    check("leaves the same", same(&after));
+
+    listed_quote(LISTED(MAIN(0x01, NUMBER(1), NUMBER(2), NUMBER(3), NUMBER(4), CALL(10, 21, FOUR_TO_INT), 0xAC), DIGITS));
+    expect("null below four arguments", run(9), 0, SIX(TARIFF_RAN_FOR, TARIFF_NULL, 0, 0, 0, 5));
+}
+
+/* Every argument is there and of its kind, or the step is stuck. */
+static void stuck_arguments(void)
+{
+    listed_quote(LISTED(MAIN(FOUR, CALL(10, 21, FOUR_TO_INT), 0xAC), DIGITS));
+    expect("before a call", run(5), 0, SIX(TARIFF_RAN_FOR, 0, TARIFF_RAN, TARIFF_QUOTE, 0, 5));
+    keep(&after);
+    for (uint32_t place = 1; place <= 4; place++) {
+        put_back(&after);
+        set(7, 20 + 2 * place, 2);
+        set(7, 21 + 2 * place, 0);
+        refuses("null for an int", step(), TARIFF_STUCK);
+        put_back(&after);
+        set(7, 3, place);
+        refuses("an operand too few", step(), TARIFF_STUCK);
+    }
+    /* the inline count stands at 36 of the kept file, behind aload, three sipush, iload, opcode and two names */
+    for (uint32_t count = 0; count < 256; count += 5) {
+        put_back(&after);
+        set(2, 36, count);
+        refuses("another count", step(), count == 0 ? TARIFF_ABSENT : TARIFF_STUCK);
+    }
+    put_back(&after);
+    set(2, 11, 5);
+    for (int name = 1; name < CALLS; name++)
+        refuses("a method of five arguments", each(name), TARIFF_BROKEN);
+}
+
+/* Calls between versions; searches go by the whole list. */
+static void versions_and_lists(void)
+{
+    ready();
+    defines("one and none", define_listed(1, 10, 2, LISTED(BACK(21), FIVE_OF_NONE)), 1);
+    defines("version 1", define(1, 11, 2, 0, 1, CODE(0xBB, 0, 10, 0x15, 1, 0xB6, 0, 10, 0, 21, 0, 1, 0, 1, 0xAC)), 2);
+    ends("version 1 calls version 3", 1, 11, 9, 9, 5);
+    head(2, 12, 2, 0);
+    byte(1);
+    method(20, 1, CODE(0xBB, 0, 10, 0x15, 1, 0xB6, 0, 10, 0, 21, 0, 1, 0, 1, 0xAC));
+    byte(0);
+    defines("version 2", defined(1), 3);
+    ends("version 2 calls version 3", 1, 12, 8, 8, 5);
+    defines("an identity of version 1", define(1, 13, 2, 0, 1, IDENTITY), 4);
+    defines("version 3", define_listed(1, 14, 2, LISTED(MAIN(0xBB, 0, 13, 0x15, 1, CALL(13, 20, INT_TO_INT), 0xAC))), 5);
+    ends("version 3 calls version 1", 1, 14, 6, 6, 5);
+
+    defines("none and two", define_listed(1, 15, 2, LISTED(FIVE_OF_NONE, {21, 2, {1, 1}, 1, IDENTITY}, {20, 0, {0}, 1, ZERO}, {20, 2, {1, 1}, 1, ZERO})), 6);
+    refuses("start looks for one int", start(TARIFF_QUOTE, 1, 15, 20, 7), TARIFF_ABSENT);
+    defines("version 1 again", define(1, 16, 2, 0, 1, CODE(0xBB, 0, 15, 0x15, 1, 0xB6, 0, 15, 0, 21, 0, 1, 0, 1, 0xAC)), 7);
+    accepts("a quote", start(TARIFF_QUOTE, 1, 16, 20, 7));
+    expect("lists of other lengths aren't found", run(9), 0, SIX(TARIFF_RAN_FOR, TARIFF_ABSENT, 0, 0, 0, 2));
+    accepts("dropped", drop(TARIFF_QUOTE));
+
+    /* class 17 overrides the list of one alone; class 18 calls both by class 10 */
+    defines("an override of one list", define_listed(1, 17, 10, LISTED({21, 1, {1}, 1, CODE(NUMBER(30), 0xAC)})), 8);
+    defines("a caller of both",
+            define_listed(1, 18, 2, LISTED(MAIN(0xBB, 0, 17, 0x15, 1, CALL(10, 21, INT_TO_INT), 0xBB, 0, 17, CALL(10, 21, NONE_TO_INT), 0x64, 0xAC))), 9);
+    ends("the other list isn't overridden", 1, 18, 7, 30 - 5, 10);
+}
+
+/* What define says of counts and lists. */
+static void listed_files(void)
+{
+    ready();
+    refuses("five arguments", define_listed(1, 10, 2, LISTED({20, 5, {1, 1, 1, 1, 1}, 1, ZERO})), TARIFF_FILE);
+    refuses("an argument of type 0", define_listed(1, 10, 2, LISTED({20, 4, {1, 1, 1, 0}, 1, ZERO})), TARIFF_FILE);
+    refuses("two alike", define_listed(1, 10, 2, LISTED({20, 2, {1, 12}, 1, ZERO}, {20, 2, {1, 12}, 1, ZERO})), TARIFF_FILE);
+    struct call cut = define_listed(1, 10, 2, LISTED({20, 4, {1, 1, 1, 1}, 1, ZERO}));
+    for (cut.size = 9; cut.size < 29; cut.size++) {
+        ((uint8_t *)cut.file)[2] = (uint8_t)(cut.size - 3);
+        refuses("a file that ends within its list or behind it", cut, TARIFF_FILE);
+    }
+    refuses("five inline", define_listed(1, 10, 2, LISTED(MAIN(FOUR, 0x15, 1, CALL(10, 21, FIVE_TO_INT), 0xAC))), TARIFF_UNVERIFIED);
+    refuses("255 inline", define_listed(1, 10, 2, LISTED(MAIN(FOUR, CALL(10, 21, 255), 0xAC))), TARIFF_UNVERIFIED);
+    refuses("a count cut off", define_listed(1, 10, 2, LISTED(MAIN(0x19, 0, 0xB6, 0, 10, 0, 21))), TARIFF_UNVERIFIED);
+    refuses("types cut off", define_listed(1, 10, 2, LISTED(MAIN(FOUR, CALL(10, 21, 4, 0, 1, 0, 1, 0, 1)))), TARIFF_UNVERIFIED);
+    refuses("a result cut off", define_listed(1, 10, 2, LISTED(MAIN(FOUR, CALL(10, 21, 4, 0, 1, 0, 1, 0, 1, 0, 1, 0)))), TARIFF_UNVERIFIED);
+    refuses("an inline type 0", define_listed(1, 10, 2, LISTED(MAIN(0x19, 0, NUMBER(1), NUMBER(2), CALL(10, 21, 2, 0, 1, 0, 0, 0, 1), 0xAC))), TARIFF_UNVERIFIED);
+    refuses("three operands for four", define_listed(1, 10, 2, LISTED(MAIN(NUMBER(1), NUMBER(2), NUMBER(3), CALL(10, 21, FOUR_TO_INT), 0xAC))), TARIFF_UNVERIFIED);
+    refuses("an int as the receiver", define_listed(1, 10, 2, LISTED(MAIN(NUMBER(1), 0x19, 0, CALL(10, 21, INT_TO_INT), 0xAC))), TARIFF_UNVERIFIED);
+    refuses("local 1 of a method of none", define_listed(1, 10, 2, LISTED({20, 0, {0}, 1, IDENTITY})), TARIFF_UNVERIFIED);
+    refuses("local 5 of a method of four", define_listed(1, 10, 2, LISTED({20, 4, {1, 1, 1, 1}, 1, CODE(0x15, 5, 0xAC)})), TARIFF_UNVERIFIED);
+    /* the reading for 15 ends before a count above 4, as before an unknown opcode */
+    refuses("four behind a return", define_listed(1, 10, 2, LISTED(MAIN(0x15, 1, 0xAC, CALL(10, 21, FOUR_TO_INT), 0xAC))), TARIFF_UNMAPPED);
+    refuses("five behind a return", define_listed(1, 10, 2, LISTED(MAIN(0x15, 1, 0xAC, CALL(10, 21, FIVE_TO_INT), 0xAC))), TARIFF_UNVERIFIED);
+    refuses("a count cut off behind a return", define_listed(1, 10, 2, LISTED(MAIN(0x15, 1, 0xAC, 0xB6, 0, 10, 0, 21))), TARIFF_UNVERIFIED);
+    refuses("a list in version 1", define(1, 10, 2, 0, 1, CODE(0x19, 0, 0x15, 1, CALL(10, 20, INT_TO_INT), 0xAC)), TARIFF_UNVERIFIED);
+    defines("the last local of four, and lists that differ by order",
+            define_listed(1, 10, 2, LISTED({20, 4, {1, 1, 1, 1}, 1, CODE(0x15, 4, 0xAC)}, {20, 2, {1, 12}, 1, ZERO}, {20, 2, {12, 1}, 1, ZERO}, {20, 2, {1, 12}, 12, CODE(0x01, 0xB0)})), 1);
+}
+
+/* Method 21 with four arguments, or the same with two of them changed about, and a null for its result. */
+#define TIED {21, 4, {12, 13, 14, 15}, 16, CODE(0x01, 0xB0)}
+#define TURNED {21, 4, {13, 12, 14, 15}, 16, CODE(0x01, 0xB0)}
+
+/* Loader 1's class 10 with that method, known to loader 2. */
+static void shared_method(size_t methods, const struct listed *method)
+{
+    ready();
+    defines("loader 1's method", define_listed(1, 10, 2, methods, method), 1);
+    accepts("loader 2 asks for it", record(2, 10, 1));
+}
+
+/* Are the ties from this row on between these loaders and on the five names in their order, numbered as they were posted? */
+static int five_ties(size_t row, unsigned one, unsigned other)
+{
+    const uint16_t *counts = table[0], *ties = table[4];
+    for (unsigned i = 0; i < 5; i++) {
+        const uint16_t *tie = ties + 3 * (row + i);
+        if (tie[0] != one || tie[1] != other || tie[2] != 12 + i || counts[TIE_NUMBERS + row + i] != row + i)
+            return 0;
+    }
+    return counts[3] == row + 5;
+}
+
+/* An override across loaders is tied on every argument and on the result. */
+static void tied_arguments(void)
+{
+    shared_method(LISTED(TIED));
+    defines("another order overrides nothing", define_listed(2, 17, 10, LISTED(TURNED)), 2);
+    check("and ties nothing", ((uint16_t *)table[0])[3] == 0);
+    keep(&first);
+    defines("an override", define_listed(2, 11, 10, LISTED(TIED)), 3);
+    check("each argument, then the result", five_ties(0, 2, 1));
+    keep(&after);
+    for (uint16_t i = 0; i < 5; i++) {
+        put_back(&after);
+        defines("loader 1's", define(1, 12 + i, 2, 0, 0, 0, NULL), 4);
+        refuses("loader 2's own", define(2, 12 + i, 2, 0, 0, 0, NULL), TARIFF_CLASH);
+        clashes("by its tie alone", define(2, 12 + i, 2, 0, 0, 0, NULL), ROWS(i), 1);
+        accepts("loader 1's under loader 2", record(2, 12 + i, 4));
+        put_back(&first);
+        defines("loader 1's", define(1, 12 + i, 2, 0, 0, 0, NULL), 3);
+        defines("loader 2's own", define(2, 12 + i, 2, 0, 0, 0, NULL), 4);
+        refuses("an override then", define_listed(2, 11, 10, LISTED(TIED)), TARIFF_CLASH);
+    }
+}
+
+/* A call across loaders likewise; five ties where four have room are refused, and none is posted. */
+static void room_for_ties(void)
+{
+    shared_method(LISTED(TIED, {22, 4, {12, 13, 12, 13}, 12, CODE(0x01, 0xB0)}));
+    defines("a caller", define_listed(2, 11, 2, LISTED(MAIN(0xBB, 0, 10, 0x01, 0x01, 0x01, 0x01, CALL(10, 21, 4, 0, 12, 0, 13, 0, 14, 0, 15, 0, 16), 0x57, 0x15, 1, 0xAC))), 2);
+    defines("one of two types",
+            define_listed(2, 18, 2, LISTED(MAIN(0xBB, 0, 10, 0x01, 0x01, 0x01, 0x01, CALL(10, 22, 4, 0, 12, 0, 13, 0, 12, 0, 13, 0, 12), 0x57, 0x15, 1, 0xAC))), 3);
+    keep(&first);
+    for (uint32_t there = 251; there <= 256; there++) {
+        put_back(&first);
+        set(0, 3, there);
+        for (uint32_t i = 0; i < there; i++) {
+            set(4, 3 * i, 1);
+            set(4, 3 * i + 1, 2);
+            set(4, 3 * i + 2, 1000 + i);
+            set(0, TIE_NUMBERS + i, i);
+        }
+        accepts("a quote", start(TARIFF_QUOTE, 2, 11, 20, 7));
+        if (there == 251) {
+            expect("room for five", run(99), 0, SIX(TARIFF_RAN_FOR, 0, TARIFF_FINISHED, TARIFF_QUOTE, 7, 10));
+            check("each argument, then the result", five_ties(251, 1, 2));
+        } else {
+            expect("no room for five", run(99), 0, SIX(TARIFF_RAN_FOR, TARIFF_FULL, 0, 0, 0, 5));
+            check("none is posted", ((uint16_t *)table[0])[3] == there);
+            refuses("and again", step(), TARIFF_FULL);
+            accepts("dropped", drop(TARIFF_QUOTE));
+            accepts("a quote", start(TARIFF_QUOTE, 2, 18, 20, 7));
+            expect("types that repeat need two", run(6), 0, there <= 254 ? SIX(TARIFF_RAN_FOR, 0, TARIFF_RAN, TARIFF_QUOTE, 0, 6) : SIX(TARIFF_RAN_FOR, TARIFF_FULL, 0, 0, 0, 5));
+            check("two or none", ((uint16_t *)table[0])[3] == (there <= 254 ? there + 2 : there));
+        }
+    }
+}
+
+/* Receiver, then arguments in their order. */
+static void listed_notes(void)
+{
+    static const uint16_t notes[] = {1, 10, 30, 1, 12, 31, 1, 13, 32, 1, 12, 33};
+    ready();
+    defines("notes", define_listed(1, 10, 2, LISTED({20, 3, {12, 1, 13}, 1, CODE(0x19, 0, 0x19, 1, 0x19, 3, 0x15, 2, 0x19, 1, CALL(30, 21, 4, 0, 31, 0, 32, 0, 1, 0, 33, 0, 1), 0xAC)})), 1);
+    check("their order", ((uint16_t *)table[0])[4] == 4 && memcmp(table[5], notes, sizeof notes) == 0);
+}
+
 /* 256 ties and 256 subtype constraints in turn, from name 300 of loader 0 up to name 556 of loader 0, which is loaded. */
 static void longest_chain(void)
 {
@@ -797,6 +1037,13 @@ int main(void)
     limits();
     runs_and_steps();
     answer_tables();
+    arguments();
+    stuck_arguments();
+    versions_and_lists();
+    listed_files();
+    listed_notes();
+    tied_arguments();
+    room_for_ties();
     trying();
     printf("host: bytes of stack:");
     for (int i = 0; i < MEASURED; i++) {

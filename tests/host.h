@@ -232,6 +232,33 @@ static struct call define_mapped(uint32_t loader, size_t size, const uint8_t *co
     return defined(loader);
 }
 
+/* A method of version 3: its list of arguments, its result and its code, which has no maps. */
+struct listed {
+    unsigned name, count, argument[5], result;
+    size_t size;
+    const uint8_t *code;
+};
+
+/* A file of version 3 with these methods. */
+static struct call define_listed(uint32_t loader, unsigned name, unsigned super, size_t methods, const struct listed *method)
+{
+    head(3, name, super, 0);
+    byte((unsigned)methods);
+    for (size_t i = 0; i < methods; i++) {
+        pair(method[i].name);
+        byte(method[i].count);
+        for (unsigned k = 0; k < method[i].count; k++)
+            pair(method[i].argument[k]);
+        pair(method[i].result);
+        pair((unsigned)method[i].size);
+        put(method[i].size, method[i].code);
+        byte(0);
+    }
+    return defined(loader);
+}
+
+#define LISTED(...) sizeof((struct listed[]){__VA_ARGS__}) / sizeof(struct listed), (struct listed[]){__VA_ARGS__}
+
 /* A map at a low offset: its first locals, the others unset, and its operand count. */
 #define MAP(offset, one, two, three, operands) 0, offset, 0, one, 0, two, 0, three, 0, 0, 0, 0, 0, 0, 0, 0, 0, 0, operands
 
