@@ -842,11 +842,15 @@ static void versions_and_lists(void)
     expect("lists of other lengths aren't found", run(9), 0, SIX(TARIFF_RAN_FOR, TARIFF_ABSENT, 0, 0, 0, 2));
     accepts("dropped", drop(TARIFF_QUOTE));
 
-    /* class 17 overrides the list of one alone; class 18 calls both by class 10 */
+    /* class 17 overrides the list of one alone; class 18 calls both by class 10, and class 19 one that has the types in another order */
     defines("an override of one list", define_listed(1, 17, 10, LISTED({21, 1, {1}, 1, CODE(NUMBER(30), 0xAC)})), 8);
     defines("a caller of both",
             define_listed(1, 18, 2, LISTED(MAIN(0xBB, 0, 17, 0x15, 1, CALL(10, 21, INT_TO_INT), 0xBB, 0, 17, CALL(10, 21, NONE_TO_INT), 0x64, 0xAC))), 9);
     ends("the other list isn't overridden", 1, 18, 7, 30 - 5, 10);
+    defines("another order",
+            define_listed(1, 19, 2, LISTED(MAIN(0x19, 0, 0x01, 0x15, 1, CALL(19, 21, 2, 0, 12, 0, 1, 0, 1), 0xAC), {21, 2, {1, 12}, 1, ZERO})), 10);
+    accepts("a quote", start(TARIFF_QUOTE, 1, 19, 20, 7));
+    expect("isn't found", run(9), 0, SIX(TARIFF_RAN_FOR, TARIFF_ABSENT, 0, 0, 0, 3));
 }
 
 /* What define says of counts and lists. */
@@ -880,7 +884,8 @@ static void listed_files(void)
             define_listed(1, 10, 2, LISTED({20, 4, {1, 1, 1, 1}, 1, CODE(0x15, 4, 0xAC)}, {20, 2, {1, 12}, 1, ZERO}, {20, 2, {12, 1}, 1, ZERO}, {20, 2, {1, 12}, 12, CODE(0x01, 0xB0)})), 1);
 }
 
-/* Method 21 with four arguments, or the same with two of them changed about, and a null for its result. */
+/* Method 21 with four arguments, the same with two of them changed about, and method 22 with types that repeat; each gives null. */
+#define TWO_TYPES {22, 4, {12, 13, 12, 13}, 12, CODE(0x01, 0xB0)}
 #define TIED {21, 4, {12, 13, 14, 15}, 16, CODE(0x01, 0xB0)}
 #define TURNED {21, 4, {13, 12, 14, 15}, 16, CODE(0x01, 0xB0)}
 
@@ -927,10 +932,10 @@ static void tied_arguments(void)
     }
 }
 
-/* A call across loaders likewise; five ties where four have room are refused, and none is posted. */
+/* A call across loaders likewise; five ties where four have room are refused, of an override too, and none is posted. */
 static void room_for_ties(void)
 {
-    shared_method(LISTED(TIED, {22, 4, {12, 13, 12, 13}, 12, CODE(0x01, 0xB0)}));
+    shared_method(LISTED(TIED, TWO_TYPES));
     defines("a caller", define_listed(2, 11, 2, LISTED(MAIN(0xBB, 0, 10, 0x01, 0x01, 0x01, 0x01, CALL(10, 21, 4, 0, 12, 0, 13, 0, 14, 0, 15, 0, 16), 0x57, 0x15, 1, 0xAC))), 2);
     defines("one of two types",
             define_listed(2, 18, 2, LISTED(MAIN(0xBB, 0, 10, 0x01, 0x01, 0x01, 0x01, CALL(10, 22, 4, 0, 12, 0, 13, 0, 12, 0, 13, 0, 12), 0x57, 0x15, 1, 0xAC))), 3);
@@ -944,6 +949,17 @@ static void room_for_ties(void)
             set(4, 3 * i + 2, 1000 + i);
             set(0, TIE_NUMBERS + i, i);
         }
+        keep(&after);
+        if (there <= 251)
+            defines("an override, with room for five", define_listed(2, 17, 10, LISTED(TIED)), 4);
+        else
+            refuses("an override, with no room for five", define_listed(2, 17, 10, LISTED(TIED)), TARIFF_FULL);
+        put_back(&after);
+        if (there <= 254)
+            defines("types that repeat, with room for two", define_listed(2, 17, 10, LISTED(TWO_TYPES)), 4);
+        else
+            refuses("types that repeat, with no room for two", define_listed(2, 17, 10, LISTED(TWO_TYPES)), TARIFF_FULL);
+        put_back(&after);
         accepts("a quote", start(TARIFF_QUOTE, 2, 11, 20, 7));
         if (there == 251) {
             expect("room for five", run(99), 0, SIX(TARIFF_RAN_FOR, 0, TARIFF_FINISHED, TARIFF_QUOTE, 7, 10));
