@@ -4,13 +4,14 @@ use reference::answer::{word, Answer, Refusal, Reply};
 use reference::file::File;
 use reference::gen::build::{Code, Draft};
 use reference::gen::cases::MAIN;
+use reference::gen::large::tree_of_three;
 use reference::gen::limits::LIMITS;
 use reference::gen::listed::{calling, locals, numbers, overriding, receivers, selection, starts, versions};
 use reference::gen::rng::Rng;
 use reference::gen::{passed, Trial};
-use reference::step;
 use reference::store::INT;
 use reference::verifier::refused;
+use reference::{run, step};
 
 /// The words that calls of a list were refused with.
 fn words(trial: &Trial) -> Vec<u8> {
@@ -25,6 +26,12 @@ fn ties(trial: &Trial) -> Vec<[u16; 3]> {
 #[test]
 fn arguments_are_javas() {
     assert_eq!(passed::printed(|store| Reply::Stepped(step(store))), include_str!("../java/Arguments.out"));
+}
+
+/// The benchmark's tree has the steps by which java/Tree.java divides, and gives the int that its c0(3) gives.
+#[test]
+fn the_tree_of_three_is_javas() {
+    assert_eq!(run(&mut tree_of_three(), 65_535), Reply::RanFor(3_694 - 1, Answer::Finished(0, 26_880)));
 }
 
 #[test]
