@@ -29,6 +29,7 @@ use Rattle.resolution.specs.Quick.{quickBase}
 use Rattle.resolution.specs.Slots.{slotType}
 use Rattle.access.specs.Accesses.{worldIn}
 use Rattle.posting.specs.Postings.{Quiet}
+use Rattle.frames.specs.Initial.{entryValues}
 use Rattle.instructions.specs.Plans.{meaning, Fit}
 use Rattle.frames.specs.declared.Cell.{Cell}
 use Rattle.frames.specs.declared.Entry.{Entry}

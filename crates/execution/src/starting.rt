@@ -3,17 +3,19 @@ use crate::carrying::take_row;
 use crate::carrying::write_new;
 use definition::Refusal;
 use definition::Reply;
+use definition::numbers::KIND_EMPTY;
 use definition::numbers::KIND_INT;
 use definition::numbers::WORD_BROKEN;
 use frames::Cell;
 use frames::Entry;
 use opening::Opening;
 ghost use mathlib.Core.Path.{_≡_};
+ghost use mathlib.Core.List.{[], _∷_};
 ghost use Prim.Native.Nat.{suc, _+_, _<_, _≤_};
 ghost use lib.ListN.{getD, set};
 ghost use Rattle.definition.specs.Numbers.{objectLimit, fieldLimit, countObjects, countFrames, ownersCell};
-ghost use Rattle.definition.specs.Machine.{intValue, newObject, entryFrame};
-ghost use Rattle.definition.specs.Tables.{tables, sizeOf, putObject, putFrame, frameBase};
+ghost use Rattle.definition.specs.Machine.{intValue, emptyValue, newObject, entryFrame};
+ghost use Rattle.definition.specs.Tables.{tables, valueOf, sizeOf, putObject, putFrame, frameBase};
 ghost use Rattle.definition.specs.Calls.{done, callStart, perform};
 ghost use Rattle.layout.specs.OwnedRows.{rowsWith};
 ghost use Rattle.resolution.specs.Quick.{quickBase};
@@ -51,6 +53,16 @@ fn decide_start(
     opening::decide(counts, classes, kept, cache, task, loader, name, method)
 }
 
+// A cell of an argument that there isn't.
+fn empty() -> Cell
+    ensures { λ r. ⌜ valueOf (r .kind) (r .bits) ≡ emptyValue ⌝ }
+{
+    Cell {
+        kind: KIND_EMPTY,
+        bits: 0,
+    }
+}
+
 // A task begun: a new object of class c with the number o, and a first frame in method j of class s with that object and an int.
 fn begin(
     counts: &mut [u16],
@@ -69,7 +81,7 @@ fn begin(
     requires { ⌜ (o < objectLimit) × (sizeOf (quickBase (now counts) (now classes) (now kept) (now cache)) c ≤ fieldLimit) ⌝ }
     ensures counted { λ _. ⌜ now (counts .exit) ≡ set (set (set (now (counts .entry)) countObjects (rowsWith o (getD (now (counts .entry)) countObjects 0))) (ownersCell + o) (suc task)) (countFrames + task) 1 ⌝ }
     ensures made { λ _. ⌜ now (objects .exit) ≡ putObject (now (objects .entry)) o (newObject (quickBase (now (counts .entry)) (now (classes .entry)) (now (kept .entry)) (now (cache .entry))) c) ⌝ }
-    ensures entered { λ _. ⌜ now (frames .exit) ≡ putFrame (now (frames .entry)) (frameBase task 0) (entryFrame s j o (intValue value)) ⌝ }
+    ensures entered { λ _. ⌜ now (frames .exit) ≡ putFrame (now (frames .entry)) (frameBase task 0) (entryFrame s j o (intValue value ∷ [])) ⌝ }
 {
     write_new(counts, classes, kept, cache, objects, cells::from16(o), c);
     frames::write_entry(
@@ -79,10 +91,13 @@ fn begin(
             class: s,
             method: j,
             object: cells::from16(o),
-            argument: Cell {
+            first: Cell {
                 kind: KIND_INT,
                 bits: value,
             },
+            second: empty(),
+            third: empty(),
+            fourth: empty(),
         },
     );
     take_row(counts, o, task);
