@@ -3,7 +3,6 @@ use crate::carrying::take_row;
 use crate::carrying::write_new;
 use definition::Refusal;
 use definition::Reply;
-use definition::numbers::KIND_EMPTY;
 use definition::numbers::KIND_INT;
 use definition::numbers::WORD_BROKEN;
 use frames::Cell;
@@ -14,8 +13,8 @@ ghost use mathlib.Core.List.{[], _∷_};
 ghost use Prim.Native.Nat.{suc, _+_, _<_, _≤_};
 ghost use lib.ListN.{getD, set};
 ghost use Rattle.definition.specs.Numbers.{objectLimit, fieldLimit, countObjects, countFrames, ownersCell};
-ghost use Rattle.definition.specs.Machine.{intValue, emptyValue, newObject, entryFrame};
-ghost use Rattle.definition.specs.Tables.{tables, valueOf, sizeOf, putObject, putFrame, frameBase};
+ghost use Rattle.definition.specs.Machine.{intValue, newObject, entryFrame};
+ghost use Rattle.definition.specs.Tables.{tables, sizeOf, putObject, putFrame, frameBase};
 ghost use Rattle.definition.specs.Calls.{done, callStart, perform};
 ghost use Rattle.layout.specs.OwnedRows.{rowsWith};
 ghost use Rattle.resolution.specs.Quick.{quickBase};
@@ -53,16 +52,6 @@ fn decide_start(
     opening::decide(counts, classes, kept, cache, task, loader, name, method)
 }
 
-// A cell of an argument that there isn't.
-fn empty() -> Cell
-    ensures { λ r. ⌜ valueOf (r .kind) (r .bits) ≡ emptyValue ⌝ }
-{
-    Cell {
-        kind: KIND_EMPTY,
-        bits: 0,
-    }
-}
-
 // A task begun: a new object of class c with the number o, and a first frame in method j of class s with that object and an int.
 fn begin(
     counts: &mut [u16],
@@ -95,9 +84,9 @@ fn begin(
                 kind: KIND_INT,
                 bits: value,
             },
-            second: empty(),
-            third: empty(),
-            fourth: empty(),
+            second: frames::empty(),
+            third: frames::empty(),
+            fourth: frames::empty(),
         },
     );
     take_row(counts, o, task);

@@ -1,10 +1,9 @@
--- A value that isn't there.
+-- The kind says that nothing is there.
 use mathlib.Core.Path.{refl}
 use Rattle.definition.specs.Instructions.{pick}
 use Rattle.definition.specs.Tables.{valueOf}
-use borrow.Author.Needs.{needs}
-use Rattle.execution.proofs.starting.empty.Statement.{statement}
-use Rattle.execution.proofs.starting.empty.Tie as tie
+use Rattle.frames.proofs.empty.Statement.{statement}
+use Rattle.frames.proofs.empty.Tie as tie
 
 returns : tie.Need-returns
 unfolding valueOf pick
