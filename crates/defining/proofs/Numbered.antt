@@ -2,13 +2,13 @@
 use mathlib.Core.Path.{_≡_, sym, ap, _∙_}
 use mathlib.Core.Bool.{true, false}
 use mathlib.Core.List.{List, [], _++_}
-use Prim.Native.Nat.{ℕ, suc, _+_, _-_, _<_, _≤_}
+use Prim.Native.Nat.{ℕ, _+_, _-_, _<_}
 use native.Mathlib.Omega.{arith}
-use lib.ListN.{length, getD, set, length-append}
+use lib.ListN.{length, getD, length-append}
 use Rattle.definition.specs.Numbers.{tieNumbersCell, subtypeNumbersCell}
-use Rattle.definition.specs.Lists.{rows, writeRows}
+use Rattle.definition.specs.Lists.{rows}
 use Rattle.definition.specs.Constraints.{Tie, Subtype}
-use Rattle.definition.specs.Tables.{Tables, tables, rowNumbers, numberAt, putNumber, putNumbers, tieAt, subtypeAt, tiesOf, subtypesOf, numbersOf, view, viewOver}
+use Rattle.definition.specs.Tables.{Tables, tables, rowNumbers, numberAt, putNumbers, tieAt, subtypeAt, tiesOf, subtypesOf, numbersOf, view, viewOver}
 use Rattle.definition.specs.Broken.{numbered, broken}
 use Rattle.definition.specs.Calls.{numbersFrom, numberedOn}
 use Rattle.layout.specs.Places.{rows-length, rows-cong}
