@@ -1,12 +1,14 @@
 -- A call's arguments, where they stand: among the operands in their order, the last of them on top. What is popped for them, whether each is of its own
 -- type's kind, and the locals that they fill.
-use mathlib.Core.Path.{_≡_, refl, sym, ap, _∙_}
+use mathlib.Core.Path.{_≡_, refl, _∙_}
 use mathlib.Core.Bool.{Bool, true, false}
 use mathlib.Core.Option.{none, some}
 use mathlib.Core.List.{List, [], _∷_}
 use Prim.Native.Nat.{ℕ, zero, suc, _+_, _-_, _<_, _≤_}
+use native.Mathlib.Numerals.{add-one}
 use native.Mathlib.Omega.{arith}
-use lib.ListN.{length, getD, take}
+use lib.ListN.{length, getD}
+use lib.Seq.{take-all}
 use lib.Dec.{ltb}
 use borrow.Author.Tests.{ltb-true, ltb-false}
 use Rattle.definition.specs.Lists.{rows, stack, filled}
@@ -19,7 +21,7 @@ use Rattle.definition.specs.declared.Refusal.the-variants.{Word}
 use Rattle.definition.specs.Answers.{Result, refused, ok, _>>=_, take?}
 use Rattle.definition.specs.Machine.{Value, emptyValue, pop!, popAll!, kind!, kinds!, entryFrame}
 use Rattle.definition.specs.Tables.{valueOf, operandAt}
-use Rattle.layout.specs.Places.{rows-last, rows-step, rows-none, rows-take}
+use Rattle.layout.specs.Places.{rows-last, rows-take}
 use Rattle.instructions.specs.Operands.{isKind, pop-none, kind-is, kind-not}
 
 -- Popping n of d operands
@@ -56,36 +58,30 @@ module _ (g : ℕ → Value) (n d : ℕ) where
 
 -- Kinds, argument by argument; the first is operand k
 
-rows-onward : {A : Type 0} (g : ℕ → A) (k n i : ℕ) → rows g n (k + i) ≡ rows (λ j. g (k + j)) n i
-unfolding rows
-rows-onward g k zero i = refl
-rows-onward g k (suc n) i = let e : suc (k + i) ≡ k + suc i = omega arith in rw (e, rows-onward g k n (suc i))
-
-take-whole : {A : Type 0} (xs : List A) → take (length xs) xs ≡ xs
-take-whole [] = refl
-take-whole (x ∷ xs) = ap (λ ys. x ∷ ys) (take-whole xs)
-
 module _ (F : List ℕ) (b : ℕ) (list : Arguments) (k : ℕ) where
   -- of the arguments from i on
   unfoldable pub kindsFrom : ℕ → Result (Unit {0})
   kindsFrom i =
-      let n = length (typesOf list) - i in kinds! (rows (λ j. getD (typesOf list) j 0) n i) (rows (λ j. operandAt F b (k + j)) n i)
+      let n = length (typesOf list) - i in kinds! (rows (λ j. getD (typesOf list) j 0) n i) (rows (operandAt F b) n (k + i))
 
   pub kinds-all : kindsFrom 0 ≡ kinds! (typesOf list) (rows (operandAt F b) (length (typesOf list)) k)
   unfolding kindsFrom
   kinds-all =
       let e : length (typesOf list) - 0 ≡ length (typesOf list) = omega arith in
       let f : k + 0 ≡ k = omega arith in
-      rw (e, rows-take (typesOf list) (length (typesOf list)) (omega arith), take-whole (typesOf list), ← rows-onward (operandAt F b) k (length (typesOf list)) 0, f)
+      rw (e, f, rows-take (typesOf list) (length (typesOf list)) (omega arith), take-all (length (typesOf list)) (typesOf list) (omega arith))
 
   pub kinds-none : (i : ℕ) → length (typesOf list) ≤ i → kindsFrom i ≡ ok tt
-  unfolding kindsFrom kinds!
-  kinds-none i h = rw (rows-none (λ j. getD (typesOf list) j 0) (length (typesOf list)) i h, rows-none (λ j. operandAt F b (k + j)) (length (typesOf list)) i h)
+  unfolding kindsFrom kinds! rows
+  kinds-none i h = let e : length (typesOf list) - i ≡ 0 = omega arith in rw e
 
   module _ (i : ℕ) (there : i < length (typesOf list)) where
     kinds-next : kindsFrom i ≡ (kind! (getD (typesOf list) i 0) (operandAt F b (k + i)) >>= λ _. kindsFrom (i + 1))
-    unfolding kindsFrom kinds!
-    kinds-next = rw (rows-step (λ j. getD (typesOf list) j 0) (length (typesOf list)) i there, rows-step (λ j. operandAt F b (k + j)) (length (typesOf list)) i there)
+    unfolding kindsFrom kinds! rows
+    kinds-next =
+        let e : length (typesOf list) - i ≡ suc (length (typesOf list) - (i + 1)) = omega arith in
+        let f : k + suc i ≡ suc (k + i) = omega arith in
+        rw (e, add-one i, f)
 
     module _ (x y : ℕ) (reads : valueOf x y ≡ operandAt F b (k + i)) where
       pub kinds-on : isKind (getD (typesOf list) i 0) x y ≡ true → kindsFrom i ≡ kindsFrom (i + 1)

@@ -1,6 +1,5 @@
 // A call's arguments, which stand among the operands in their order, the last of them on top: their kinds, and the frame that is entered with them.
 use definition::Arguments;
-use definition::numbers::KIND_EMPTY;
 use frames::Cell;
 use frames::Entry;
 ghost use mathlib.Core.Path.{_≡_};
@@ -39,10 +38,7 @@ fn argument(frames: &[u32], b: u32, k: u32, n: u32, i: u32) -> Cell
     ensures { λ r. ⌜ valueOf (r .kind) (r .bits) ≡ argumentOr (operandAt (now (frames .entry)) b) k n i ⌝ }
 {
     if n <= i {
-        return Cell {
-            kind: KIND_EMPTY,
-            bits: 0,
-        };
+        return frames::empty();
     }
     frames::operand(frames, b, k + i)
 }

@@ -1,1 +1,2 @@
--- no definitions of its own
+-- What is read of bytes, by the definitions.
+pub mod Listed

@@ -1,14 +1,17 @@
 // A method's arguments, by their number and by their places; and as many types of bytes as arguments.
 use crate::short_at;
 use definition::Arguments;
+use definition::numbers::ARGUMENT_LIMIT;
 ghost use mathlib.Core.Path.{_≡_};
 ghost use mathlib.Core.Option.{some};
 ghost use mathlib.Core.List.{[], _∷_};
-ghost use Prim.Native.Nat.{_+_, _≤_};
+ghost use Prim.Native.Nat.{_≤_};
 ghost use lib.ListN.{length, getD};
+ghost use Rattle.definition.specs.Numbers.{argumentLimit};
 ghost use Rattle.definition.specs.Lists.{sameList};
 ghost use Rattle.definition.specs.Classes.{typesOf, argumentsOf};
 ghost use Rattle.definition.specs.Instructions.{shortsAt};
+ghost use Rattle.cells.specs.Listed.{listAt};
 
 pub fn argument_count(a: Arguments) -> u8
     ensures { λ r. ⌜ r ≡ length (typesOf a) ⌝ }
@@ -96,9 +99,23 @@ pub fn same_arguments(a: Arguments, b: Arguments) -> bool
     true
 }
 
-// The arguments whose types, n of them and four at most, stand in the bytes from that place on; any place will do that has eight more behind it.
+// The arguments whose types, n of them, stand in the bytes from that place on; none at all where there are more than four.
 pub fn arguments_at(bytes: &[u8], place: usize, n: u8) -> Arguments
-    requires { ⌜ (n ≤ 4) × (place + 8 ≤ 18446744073709551616) ⌝ }
+    ensures { λ r. ⌜ r ≡ listAt (now (bytes .entry)) place n ⌝ }
+{
+    if ARGUMENT_LIMIT < n {
+        return Arguments::NoArguments;
+    }
+    if place < bytes.len() {
+        few_at(bytes, place, n)
+    } else {
+        few_at(bytes, bytes.len(), n)
+    }
+}
+
+// Four or fewer of them, from a place that isn't past the end.
+fn few_at(bytes: &[u8], place: usize, n: u8) -> Arguments
+    requires { ⌜ (n ≤ argumentLimit) × (place ≤ length (now bytes)) ⌝ }
     ensures { λ r. ⌜ some r ≡ argumentsOf (shortsAt (now (bytes .entry)) place n) ⌝ }
 {
     match n {

@@ -1,29 +1,19 @@
 -- The types of a list of arguments, at their places: the list that they make, and when none of them is 0.
-use mathlib.Core.Path.{_≡_, refl, sym, ap, _∙_}
+use mathlib.Core.Path.{_≡_, refl, ap, _∙_}
 use mathlib.Core.Bool.{Bool, true, false, false≢true}
 use mathlib.Core.Option.{Option, some}
-use mathlib.Core.List.{List, [], _∷_}
+use mathlib.Core.List.{List, _∷_}
 use Prim.Native.Nat.{ℕ, zero, suc, _+_, _*_, _≤_}
 use native.Mathlib.Omega.{arith}
 use lib.ListN.{length}
 use lib.Dec.{leb}
 use borrow.Author.Tests.{leb-true, le-leb}
 use Rattle.definition.specs.Lists.{all, rows}
-use Rattle.definition.specs.Maybe.{_>>=_, need}
 use Rattle.definition.specs.Classes.{typesOf, argumentsOf}
 use Rattle.definition.specs.Instructions.{shortAt, shortsAt}
+use Rattle.cells.specs.Listed.{orNoArguments, listAt, fits, list-few}
 use Rattle.classfile.specs.Lists.{Each, each-more, each-rest}
-use Rattle.classfile.specs.Reading.{typeAt, orNoArguments, listAt}
-
--- four types or fewer are a list of arguments
-fits : (ts : List ℕ) → length ts ≤ 4 → (argumentsOf ts ≡ some (orNoArguments (argumentsOf ts))) × (typesOf (orNoArguments (argumentsOf ts)) ≡ ts)
-unfolding argumentsOf orNoArguments
-fits [] h = (refl, refl)
-fits (a ∷ []) h = (refl, refl)
-fits (a ∷ b ∷ []) h = (refl, refl)
-fits (a ∷ b ∷ c ∷ []) h = (refl, refl)
-fits (a ∷ b ∷ c ∷ d ∷ []) h = (refl, refl)
-fits (a ∷ b ∷ c ∷ d ∷ e ∷ ts) h = absurd (omega (arith, h))
+use Rattle.classfile.specs.Reading.{typeAt}
 
 module _ (bs : List ℕ) (p : ℕ) where
   shorts-from : (n i : ℕ) → shortsAt bs (p + 2 * i) n ≡ rows (typeAt bs p) n i
@@ -43,8 +33,7 @@ module _ (bs : List ℕ) (p : ℕ) where
 
   module _ (n : ℕ) (few : n ≤ 4) where
     reads-list : listAt bs p n ≡ orNoArguments (argumentsOf (rows (typeAt bs p) n 0))
-    unfolding listAt need _>>=_
-    reads-list = rw (le-leb n 4 few, shorts-rows n) refl
+    reads-list = list-few bs p n few ∙ ap (λ (ts : List ℕ). orNoArguments (argumentsOf ts)) (shorts-rows n)
 
     pub list-some : argumentsOf (rows (typeAt bs p) n 0) ≡ some (listAt bs p n)
     list-some = rw reads-list (fits (rows (typeAt bs p) n 0) (omega (arith, counted n 0, few)) .0)

@@ -8,13 +8,13 @@ use Prim.Native.Nat.{ℕ, zero, suc, _+_, _-_, _*_, _≤_}
 use lib.ListN.{length, getD, take, drop}
 use lib.Dec.{eqb, leb, ltb}
 use Rattle.definition.specs.Lists.{rows}
-use Rattle.definition.specs.Maybe.{_>>=_, need}
 use Rattle.definition.specs.declared.Arguments.{Arguments}
-use Rattle.definition.specs.declared.Arguments.the-variants.{NoArguments, OneArgument}
+use Rattle.definition.specs.declared.Arguments.the-variants.{OneArgument}
 use Rattle.definition.specs.declared.Signature.{Signature}
-use Rattle.definition.specs.Classes.{argumentsOf, signature, Field, Map, Method}
-use Rattle.definition.specs.Instructions.{pick, shortAt, shortsAt}
+use Rattle.definition.specs.Classes.{signature, Field, Map, Method}
+use Rattle.definition.specs.Instructions.{pick, shortAt}
 use Rattle.definition.specs.File.{File}
+use Rattle.cells.specs.Listed.{listAt}
 use Rattle.classfile.specs.declared.FieldFound.{FieldFound}
 use Rattle.classfile.specs.declared.MethodFound.{MethodFound}
 
@@ -90,15 +90,7 @@ argumentNumber bs p = getD bs (p + 2) 0
 unfoldable pub argumentsSize : List ℕ → ℕ → ℕ
 argumentsSize bs p = pick (leb 3 (fileVersion bs)) (1 + 2 * argumentNumber bs p) 2
 
--- arguments that can't be read are none at all
-unfoldable pub orNoArguments : Option Arguments → Arguments
-orNoArguments none = NoArguments
-orNoArguments (some a) = a
-
--- n types from place p on, four at most
-unfoldable pub listAt : List ℕ → ℕ → ℕ → Arguments
-listAt bs p n = orNoArguments (need (leb n 4) >>= λ _. argumentsOf (shortsAt bs p n))
-
+-- their types; a count above four reads as no arguments at all
 unfoldable pub argumentsAt : List ℕ → ℕ → Arguments
 argumentsAt bs p = pick (leb 3 (fileVersion bs)) (listAt bs (p + 3) (argumentNumber bs p)) (OneArgument (shortAt bs (p + 2)))
 

@@ -15,8 +15,9 @@ use Rattle.definition.specs.Maybe.{_>>=_, need}
 use Rattle.definition.specs.Classes.{typesOf, Map, isNamed}
 use Rattle.definition.specs.Instructions.{pick, shortAt}
 use Rattle.definition.specs.File.{Got, byte, short, name, count, fieldsIn, listIn, oneIn, argumentsIn, signatureIn, namesIn, mapIn, mapsFrom, mapsIn, methodsIn, ends}
+use Rattle.cells.specs.Listed.{listAt}
 use Rattle.classfile.specs.Lists.{le-or-lt, _and_, Each, each-more, each-rest}
-use Rattle.classfile.specs.Reading.{fileVersion, fieldPlace, fieldIn, mapCount, mapDepth, mapEnd, typeAt, mapOf, mapPlace, mapNumbered, mapsOf, argumentNumber, argumentsSize, listAt, argumentsAt, resultPlace, quickSignature, codeLength, codePlace, codeEnd, codeAt, mapBytes, mapsSize, methodAt, nextPlace, methodPlace, methodIn}
+use Rattle.classfile.specs.Reading.{fileVersion, fieldPlace, fieldIn, mapCount, mapDepth, mapEnd, typeAt, mapOf, mapPlace, mapNumbered, mapsOf, argumentNumber, argumentsSize, argumentsAt, resultPlace, quickSignature, codeLength, codePlace, codeEnd, codeAt, mapBytes, mapsSize, methodAt, nextPlace, methodPlace, methodIn}
 use Rattle.classfile.specs.Listed.{list-some, types-list, set-types, types-set}
 use Rattle.classfile.specs.Rules.{NamedField, listedMethod, namedMethod, WholeMap, WholeMaps, leastOffset, WholeMethod}
 

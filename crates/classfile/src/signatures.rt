@@ -6,7 +6,6 @@ use cells::arguments::arguments_at;
 use cells::arguments::same_arguments;
 use definition::Arguments;
 use definition::Signature;
-use definition::numbers::ARGUMENT_LIMIT;
 use definition::numbers::VERSION_THREE;
 ghost use mathlib.Core.Path.{_≡_};
 ghost use Prim.Native.Nat.{_+_, _≤_};
@@ -51,11 +50,7 @@ fn method_arguments(bytes: &[u8], place: u32) -> Arguments
     if version(bytes) < VERSION_THREE {
         return Arguments::OneArgument(cells::short_at(bytes, start));
     }
-    let n = argument_number(bytes, place);
-    if ARGUMENT_LIMIT < n {
-        return Arguments::NoArguments;
-    }
-    arguments_at(bytes, start + 1, n)
+    arguments_at(bytes, start + 1, argument_number(bytes, place))
 }
 
 fn method_result(bytes: &[u8], place: u32) -> u16

@@ -1,14 +1,14 @@
--- Rows numbered from the last to the first: none, one more before those that are, and all. And what is read of numbers that were written, and what the definition numbers.
+-- What is read of numbers that were written, and what the definition numbers.
 use mathlib.Core.Path.{_≡_, sym, ap, _∙_}
 use mathlib.Core.Bool.{true, false}
 use mathlib.Core.List.{List, [], _++_}
-use Prim.Native.Nat.{ℕ, suc, _+_, _-_, _<_, _≤_}
+use Prim.Native.Nat.{ℕ, _+_, _-_, _<_}
 use native.Mathlib.Omega.{arith}
-use lib.ListN.{length, getD, set, length-append}
+use lib.ListN.{length, getD, length-append}
 use Rattle.definition.specs.Numbers.{tieNumbersCell, subtypeNumbersCell}
-use Rattle.definition.specs.Lists.{rows, writeRows}
+use Rattle.definition.specs.Lists.{rows}
 use Rattle.definition.specs.Constraints.{Tie, Subtype}
-use Rattle.definition.specs.Tables.{Tables, tables, rowNumbers, numberAt, putNumber, putNumbers, tieAt, subtypeAt, tiesOf, subtypesOf, numbersOf, view, viewOver}
+use Rattle.definition.specs.Tables.{Tables, tables, rowNumbers, numberAt, putNumbers, tieAt, subtypeAt, tiesOf, subtypesOf, numbersOf, view, viewOver}
 use Rattle.definition.specs.Broken.{numbered, broken}
 use Rattle.definition.specs.Calls.{numbersFrom, numberedOn}
 use Rattle.layout.specs.Places.{rows-length, rows-cong}
@@ -18,32 +18,6 @@ use Rattle.layout.specs.InTurn.{numbering-on}
 use Rattle.layout.specs.Unbroken.{broken-false}
 use Rattle.entries.specs.World.{numbersIn}
 use Rattle.defining.specs.Writing.{numbersOn, numbersAfter, Grown}
-
--- the rows from i on, of the n from `row` on that are numbered from k on
-abbrev pub numberedFrom : ℕ → ℕ → ℕ → ℕ → List ℕ → ℕ → List ℕ
-numberedFrom s row k n t i = writeRows (putNumber s) (numbersFrom (k + i) (n - i)) (row + i) t
-
-module _ (s row k n : ℕ) (t : List ℕ) where
-  pub number-none : t ≡ numberedFrom s row k n t n
-  unfolding writeRows rows
-  number-none = let e : n - n ≡ 0 = omega arith in rw e
-
-  pub number-more : (i : ℕ) (c : List ℕ) → 0 < i → i ≤ n → c ≡ numberedFrom s row k n t i → set c (s + row + (i - 1)) (k + (i - 1)) ≡ numberedFrom s row k n t (i - 1)
-  unfolding writeRows rows putNumber
-  number-more i c h l e =
-      let p : n - (i - 1) ≡ suc (n - i) = omega arith in
-      let q : s + row + (i - 1) ≡ s + (row + (i - 1)) = omega arith in
-      let a : k + i ≡ suc (k + (i - 1)) = omega arith in
-      let b : row + i ≡ suc (row + (i - 1)) = omega arith in
-      let f : c ≡ writeRows (putNumber s) (numbersFrom (suc (k + (i - 1))) (n - i)) (suc (row + (i - 1))) t = rw (← a, ← b) e in
-      rw (p, q, f)
-
-  pub number-all : numberedFrom s row k n t 0 ≡ writeRows (putNumber s) (numbersFrom k n) row t
-  number-all =
-      let a : k + 0 ≡ k = omega arith in
-      let b : n - 0 ≡ n = omega arith in
-      let c : row + 0 ≡ row = omega arith in
-      rw (a, b, c)
 
 -- Numbers written behind those of n into c, which has the same numbers: what is read then
 

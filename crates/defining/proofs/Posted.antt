@@ -1,13 +1,14 @@
 -- Ties posted one method after another behind the rows that a table has: the rows that were written, and the ties that they stand for.
-use mathlib.Core.Path.{_≡_, refl, sym, ap, _∙_}
+use mathlib.Core.Path.{_≡_, refl, sym, ap, subst, _∙_}
 use mathlib.Core.Option.{Option, none, some}
 use mathlib.Core.List.{List, [], _∷_, _++_}
-use Prim.Native.Nat.{ℕ, _+_, _*_, _-_, _≤_, _<_}
+use Prim.Native.Nat.{ℕ, suc, _+_, _*_, _-_, _≤_, _<_}
 use native.Mathlib.Omega.{arith}
-use lib.ListN.{length, length-append}
+use lib.ListN.{length, length-append, getD, drop, drop-of-length-le}
+use lib.Seq.{drop-cons}
 use Rattle.definition.specs.declared.Signature.{Signature}
 use Rattle.definition.specs.Lists.{rows, writeRows}
-use Rattle.definition.specs.Classes.{Base, Method, loaderOf, Selected, selected}
+use Rattle.definition.specs.Classes.{Base, Method, argumentTypes, loaderOf, Selected, selected}
 use Rattle.definition.specs.Constraints.{Tie, newTie, newTies, signatureTies}
 use Rattle.definition.specs.Loading.{overrideTie, overrideTies}
 use Rattle.definition.specs.Tables.{tieAt, putTie}
@@ -20,7 +21,7 @@ use Rattle.laws.specs.Inline.{five-ties}
 
 -- At most one tie is new, and at most five for a method
 
-pub override-few : (b : Base) (l p : ℕ) (ts : List Tie) (s : Signature) → length (overrideTie b l p ts s) ≤ 5
+override-few : (b : Base) (l p : ℕ) (ts : List Tie) (s : Signature) → length (overrideTie b l p ts s) ≤ 5
 unfolding overrideTie
 override-few b l p ts s = go (selected b s p)
   where
@@ -34,7 +35,7 @@ module _ (l m : ℕ) where
   abbrev pub typesLeft : List ℕ → ℕ → List ℕ → List Tie
   typesLeft t k ns = newTies (rows (tieAt t) k 0) l m ns
 
-  pub posts-type : (n : ℕ) (ns : List ℕ) (t u X : List ℕ) (k i N : ℕ) → (k + 1) * 3 ≤ length t → TiesPosted (typesLeft t k (n ∷ ns)) t k X N
+  posts-type : (n : ℕ) (ns : List ℕ) (t u X : List ℕ) (k i N : ℕ) → (k + 1) * 3 ≤ length t → TiesPosted (typesLeft t k (n ∷ ns)) t k X N
       → i ≡ k + length (newTieIn t k l m n) → u ≡ tiesAfter t k (newTieIn t k l m n) → TiesPosted (typesLeft u i ns) u i X N
   unfolding newTies newTieIn tiesAfter
   posts-type n ns t u X k i N room inv ei eu = record { count = count; cells = cells }
@@ -63,9 +64,29 @@ module _ (l m : ℕ) where
       cells = inv .cells ∙ (rows-parts tie-rows us vs k t ∙ (λ x. writeRows putTie (sym rest x) (sym ei x) (sym eu x)))
 
   -- where no type is left, all is posted
-  pub posts-types : (t X : List ℕ) (k N : ℕ) → TiesPosted (typesLeft t k []) t k X N → (k ≡ N) × (t ≡ X)
+  posts-types : (t X : List ℕ) (k N : ℕ) → TiesPosted (typesLeft t k []) t k X N → (k ≡ N) × (t ≡ X)
   unfolding newTies writeRows
   posts-types t X k N inv = (omega (arith, inv .count), sym (inv .cells))
+
+  -- a signature's types: at first all are left, then those of the arguments from j on and the result, then the result alone
+  pub posts-signature : (s : Signature) (t : List ℕ) (k : ℕ) → TiesPosted (typesLeft t k (drop 0 (argumentTypes s) ++ (s .result ∷ []))) t k
+      (writeRows putTie (signatureTies (rows (tieAt t) k 0) l m s) k t) (k + length (signatureTies (rows (tieAt t) k 0) l m s))
+  unfolding signatureTies
+  posts-signature s t k = record { count = refl; cells = refl }
+
+  module _ (xs ys t u X : List ℕ) (n k i j N : ℕ) where
+    pub posts-argument : j < length xs → n ≡ getD xs j 0 → (k + 1) * 3 ≤ length t → TiesPosted (typesLeft t k (drop j xs ++ ys)) t k X N
+        → i ≡ k + length (newTieIn t k l m n) → u ≡ tiesAfter t k (newTieIn t k l m n) → TiesPosted (typesLeft u i (drop (j + 1) xs ++ ys)) u i X N
+    posts-argument h e room inv ei eu =
+        let one : suc j ≡ j + 1 = omega arith in
+        let f : drop j xs ++ ys ≡ n ∷ (drop (j + 1) xs ++ ys) = ap (λ (x : List ℕ). x ++ ys) (drop-cons xs j 0 h) ∙ (λ z. sym e z ∷ (drop (one z) xs ++ ys)) in
+        posts-type n (drop (j + 1) xs ++ ys) t u X k i N room (subst (λ (x : List ℕ). TiesPosted (typesLeft t k x) t k X N) f inv) ei eu
+
+    pub posts-result : length xs ≤ j → (k + 1) * 3 ≤ length t → TiesPosted (typesLeft t k (drop j xs ++ (n ∷ []))) t k X N
+        → i ≡ k + length (newTieIn t k l m n) → u ≡ tiesAfter t k (newTieIn t k l m n) → (i ≡ N) × (u ≡ X)
+    posts-result h room inv ei eu =
+        let f : drop j xs ++ (n ∷ []) ≡ n ∷ [] = ap (λ (x : List ℕ). x ++ (n ∷ [])) (drop-of-length-le xs h) in
+        posts-types u X i N (posts-type n [] t u X k i N room (subst (λ (x : List ℕ). TiesPosted (typesLeft t k x) t k X N) f inv) ei eu)
 
 -- One method
 
@@ -137,14 +158,19 @@ module _ (b : Base) (l p : ℕ) (g : ℕ → Method) (n : ℕ) where
       let e : left t k j ≡ [] = ap (overrideTies b l p (rows (tieAt t) k 0)) (rows-none g n j h) in
       (omega (arith, inv .count, ap length e), sym (inv .cells ∙ ap (λ (x : List Tie). writeRows putTie x k t) e))
 
--- a table has at most one tie more
-pub new-few : (t : List ℕ) (k l m n : ℕ) → length (newTieIn t k l m n) ≤ 1
-unfolding newTieIn
-new-few t k l m n = tie-few (rows (tieAt t) k 0) l m n
-
 -- what a method posts: at most five rows, and the table keeps its length
 pub posted-few : (b : Base) (l p : ℕ) (ts : List Tie) (s : Signature) (t : List ℕ) (k : ℕ) (u : List ℕ) (j : ℕ) → TiesPosted (overrideTie b l p ts s) t k u j → j ≤ k + 5
 posted-few b l p ts s t k u j h = omega (arith, h .count, override-few b l p ts s)
 
 pub posted-long : (us : List Tie) (t : List ℕ) (k : ℕ) (u : List ℕ) (j : ℕ) → TiesPosted us t k u j → length u ≡ length t
 posted-long us t k u j h = ap length (h .cells) ∙ writeRows-length putTie (tie-rows .long) us k t
+
+-- what a type posts: at most one row, and the table keeps its length
+module _ (t : List ℕ) (k l m n : ℕ) where
+  pub added-few : (i : ℕ) → i ≡ k + length (newTieIn t k l m n) → i ≤ k + 1
+  unfolding newTieIn
+  added-few i e = omega (arith, e, tie-few (rows (tieAt t) k 0) l m n)
+
+  pub added-long : (u : List ℕ) → u ≡ tiesAfter t k (newTieIn t k l m n) → length u ≡ length t
+  unfolding tiesAfter
+  added-long u e = posted-long (newTieIn t k l m n) t k u _ (record { count = refl; cells = e })

@@ -49,7 +49,7 @@ ghost use Rattle.defining.specs.Posting.{triedTiesLength, NotesPosted};
 ghost use Rattle.defining.specs.Stages.{placedFor, definedFrom, placedAfter, Decided};
 ghost use Rattle.defining.specs.Writing.{Planned};
 
-// Cells for all ties that may be there and two more for each method of a file.
+// Cells for all ties that may be there and five more for each method of a file.
 const TRIED_TIES_LENGTH: usize = (TIE_LIMIT as usize + 5 * MEMBER_LIMIT as usize) * ROW_CELLS;
 
 // The superclass, then the constraints, of a file that was read and verified, and whose notes stand in a copy of the subtype constraints.

@@ -16,9 +16,10 @@ use Rattle.definition.specs.Numbers.{tieNumbersCell}
 use Rattle.definition.specs.Lists.{rows, writeRows, stack}
 use Rattle.definition.specs.Classes.{Base, Slot, slots}
 use Rattle.definition.specs.Constraints.{Tie, posted}
-use Rattle.definition.specs.Machine.{Value, objectValue, Objects, Frame, unused, made, newObject, entryFrame, Progress, give, initialValue}
+use Rattle.definition.specs.Machine.{Value, objectValue, emptyValue, Objects, Frame, unused, made, newObject, entryFrame, Progress, give, initialValue}
 use Rattle.definition.specs.Tables.{Tables, tables, putTie, putNumber, valueOf, objectAt, putObject, putField, sizeOf, usedFields, putOperand, putLocal, frameOf, putFrame, frameBase, frameIn, objectsOf, viewOver, put}
 use Rattle.definition.specs.Calls.{numbersFrom, given, progressed, answerOf, Done, done, carried}
+use Rattle.laws.specs.Arguments.{filled-length}
 use Rattle.layout.specs.Places.{rows-map, stack-top}
 use Rattle.layout.specs.Cells.{rows-back, cell-rows, moved}
 use Rattle.layout.specs.OwnedRows.{rowsWith}
@@ -29,6 +30,7 @@ use Rattle.resolution.specs.Quick.{quickBase}
 use Rattle.resolution.specs.Slots.{slotType}
 use Rattle.access.specs.Accesses.{worldIn}
 use Rattle.posting.specs.Postings.{Quiet}
+use Rattle.frames.specs.Initial.{entryValues}
 use Rattle.instructions.specs.Plans.{meaning, Fit}
 use Rattle.frames.specs.declared.Cell.{Cell}
 use Rattle.frames.specs.declared.Entry.{Entry}
@@ -157,7 +159,7 @@ module _ (B : Base) (N L K E I S O F : List ℕ) (k m b q : ℕ) (us : List Tie)
       rw (e, f, g, c, j, r .row, y, z)
       (ap (done (Ran k)) (sym (same-objects B before k m q us (r .two) (objectsOf B before) _ none (suc (suc m)) O
       (putFrame (moved F (frameBase k m) q d) (frameBase k (suc m)) (entryFrame (x .class) (x .method) (x .object) (entryValues x))) (objects-fill before B)
-      (top-entered before k m (r .low) q d (entryFrame (x .class) (x .method) (x .object) (entryValues x)) h (omega arith) (omega arith)))))
+      (top-entered before k m (r .low) q d (entryFrame (x .class) (x .method) (x .object) (entryValues x)) h (omega arith) (omega (arith, filled-length 8 emptyValue (objectValue (x .object) ∷ entryValues x)))))))
 
   -- the count n of objects rises only if row o is the next
   pub out-make : (d s o n : ℕ) (D G P : List ℕ) → p ≡ Make d s o → n ≡ getD N 5 0 → D ≡ set (set C 5 (rowsWith o n)) (8 + o) (suc k)

@@ -2,7 +2,7 @@
 use mathlib.Core.Path.{_≡_, refl, sym, ap, _∙_}
 use mathlib.Core.Bool.{Bool, true, false}
 use mathlib.Core.Option.{none, some}
-use mathlib.Core.List.{List}
+use mathlib.Core.List.{List, [], _∷_}
 use Prim.Native.Nat.{ℕ, suc, _+_, _<_, _≤_}
 use native.Mathlib.Omega.{arith}
 use lib.ListN.{getD, set}
@@ -15,11 +15,12 @@ use Rattle.definition.specs.declared.Refusal.the-variants.{Word}
 use Rattle.definition.specs.declared.Reply.{Reply}
 use Rattle.definition.specs.declared.Reply.the-variants.{Accepted, Denied}
 use Rattle.definition.specs.Answers.{Result, _>>=_, need}
-use Rattle.definition.specs.Machine.{intValue, unused, made, newObject, entryFrame, Progress}
+use Rattle.definition.specs.Machine.{intValue, unused, made, newObject, entryFrame, Progress, objectValue, emptyValue}
 use Rattle.definition.specs.Loading.{started}
 use Rattle.definition.specs.Tables.{Tables, tables, Rows, putObject, sizeOf, putFrame, frameBase, worldOf, objectsOf, viewOver, view, framesIn}
 use Rattle.definition.specs.Broken.{broken}
 use Rattle.definition.specs.Calls.{Given, given, progressed, startRows, done, carried, wrap, callStart, perform}
+use Rattle.laws.specs.Arguments.{filled-length}
 use Rattle.layout.specs.OwnedRows.{rowsWith}
 use Rattle.layout.specs.View.{FillsObjects, object-made, quiet-writes, first-entered}
 use Rattle.frames.specs.Unused.{unusedFrom, unused-is}
@@ -69,7 +70,7 @@ module _ (N L K E I S O F : List ℕ) (whole : broken (tables N L K E I S O F) �
   start-denied w e = sym (starts ∙ (unfold openedAs _>>=_ carried in rw e))
 
   pub start-first : (c s j o : ℕ) (C P G : List ℕ) → r ≡ First c s j o → C ≡ set (set (set N 5 (rowsWith o (getD N 5 0))) (8 + o) (suc k)) (6 + k) 1
-      → P ≡ putObject O o (newObject base c) → G ≡ putFrame F (frameBase k 0) (entryFrame s j o (intValue v))
+      → P ≡ putObject O o (newObject base c) → G ≡ putFrame F (frameBase k 0) (entryFrame s j o (intValue v ∷ []))
       → done Accepted (tables C L K E I S P G) ≡ perform (callStart k l n m v) T
   unfolding openedAs _>>=_ carried
   start-first c s j o C P G e x y z =
@@ -78,8 +79,8 @@ module _ (N L K E I S O F : List ℕ) (whole : broken (tables N L K E I S O F) �
       let swap : set (set before (8 + o) (suc k)) (6 + k) 1 ≡ set (set before (6 + k) 1) (8 + o) (suc k) = set-comm before (8 + o) (6 + k) (suc k) 1 (λ q. omega (arith, f .0)) in
       sym (starts ∙ (rw (e, x, y, z, swap) (ap (done Accepted) (
       quiet-writes base T k (record { world = worldIn base T; objects = _; frames = _; result = none }) (rowsWith o (getD N 5 0)) 1 (λ d. set d (8 + o) (suc k))
-      (putObject O o (newObject base c)) (putFrame F (frameBase k 0) (entryFrame s j o (intValue v))) (f .0) refl
-      (fills (f .2) (f .1 ∙ unused-is base T)) (first-entered T k (entryFrame s j o (intValue v)) (omega arith) (omega arith))))))
+      (putObject O o (newObject base c)) (putFrame F (frameBase k 0) (entryFrame s j o (intValue v ∷ []))) (f .0) refl
+      (fills (f .2) (f .1 ∙ unused-is base T)) (first-entered T k (entryFrame s j o (intValue v ∷ [])) (omega arith) (omega (arith, filled-length 8 emptyValue (objectValue o ∷ intValue v ∷ []))))))))
     where
       fills : o < 256 → o ≡ unused (objectsOf base T)
           → FillsObjects (made k (newObject base c) (objectsOf base T)) N O (rowsWith o (getD N 5 0)) (λ d. set d (8 + o) (suc k)) (putObject O o (newObject base c))

@@ -24,7 +24,7 @@ use Rattle.layout.specs.Whole.{All, Listed, Frames}
 use Rattle.layout.specs.Unbroken.{Unbroken, unbroken}
 use Rattle.layout.specs.ReadBack.{size-small}
 use Rattle.layout.specs.View.{countAt, frames-top}
-use Rattle.classfile.specs.Reading.{fileVersion, methodCount, methodPlace, codeLength, codeAt, methodAt, methodIn, quickMethods, partOf}
+use Rattle.classfile.specs.Reading.{fileVersion, methodCount, methodPlace, codeLength, codePlace, codeAt, methodAt, methodIn, quickMethods, partOf}
 use Rattle.resolution.specs.Quick.{quickBase, quickOf, fileIn, loaderIn, versionOf, loader-quick, methods-quick, version-quick}
 use Rattle.resolution.specs.Unbroken.{quick-base, row-first, row-other}
 use Rattle.execution.specs.Decisions.{Usable, Acted}
@@ -49,7 +49,7 @@ codeOf b f = codeIn (methodsOf b (f .class)) (f .method)
 
 decode-nothing : (v p : ℕ) → decode v [] p ≡ none
 unfolding decode
-decode-nothing v p = rw (lt-leb (p + suc (inlineLength (opcodeOf v 0))) 0 (omega arith), decode)
+decode-nothing v p = rw (lt-leb (p + suc (inlineLength [] (p + 1) (opcodeOf v 0))) 0 (omega arith), decode)
 
 module _ (task : ℕ) (w : World) (os : Objects) (f : Frame) (fs : List Frame) where
   -- no instruction can be read
@@ -171,7 +171,7 @@ code-length bs j = go (getElem? (rows (methodIn bs) (methodCount bs) 0) j) refl
         within true q =
             let z : 0 + j ≡ j = omega arith in
             let r : methodIn bs j ≡ m = Option·some-injective (methodIn bs j) m ((rw z at (sym (rows-at (methodIn bs) (methodCount bs) 0 j (ltb-true j (methodCount bs) q)))) ∙ e) in
-            rw (← r) (unfold methodIn methodAt codeAt in part (codeLength bs (methodPlace bs j)) (methodPlace bs j + 8))
+            rw (← r) (unfold methodIn methodAt codeAt in part (codeLength bs (methodPlace bs j)) (codePlace bs (methodPlace bs j)))
         within false q = absurd (Option·none-ne-some m (sym (rows-past (methodIn bs) (methodCount bs) 0 j (ltb-false j (methodCount bs) q)) ∙ e))
 
 file-length : (N L K : List ℕ) (c : ℕ) → length (fileIn N L K c) ≤ length K
@@ -188,10 +188,10 @@ file-length N L K c = go (ltb c (getD N 0 0))
 
 pub decode-within : (v : ℕ) (code : List ℕ) (p : ℕ) (i : Decoded) → decode v code p ≡ some i → p + i .size ≤ length code
 unfolding decode
-decode-within v code p i h = go (leb (p + suc (inlineLength (opcodeOf v (getD code p 0)))) (length code)) refl h
+decode-within v code p i h = go (leb (p + suc (inlineLength code (p + 1) (opcodeOf v (getD code p 0)))) (length code)) refl h
   where
     n : ℕ
-    n = suc (inlineLength (opcodeOf v (getD code p 0)))
+    n = suc (inlineLength code (p + 1) (opcodeOf v (getD code p 0)))
 
     sized : (o : Option Instruction) → sizedAs n o ≡ some i → i .size ≡ n
     sized none e = unfold sizedAs in absurd (Option·none-ne-some i e)

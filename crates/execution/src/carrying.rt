@@ -23,9 +23,13 @@ ghost use Rattle.definition.specs.Calls.{numbersFrom};
 ghost use Rattle.layout.specs.Cells.{moved};
 ghost use Rattle.layout.specs.OwnedRows.{rowsWith};
 ghost use Rattle.resolution.specs.Quick.{quickBase};
+ghost use Rattle.frames.specs.Initial.{entryValues};
 ghost use Rattle.instructions.specs.Plans.{Fit};
 ghost use Rattle.posting.specs.Postings.{toPost};
 ghost use Rattle.execution.specs.Carried.{Left};
+
+// Where the numbers of ties begin, in 16 bits.
+const TIE_NUMBERS: u16 = TIE_NUMBERS_CELL as u16;
 
 // How many ties and subtype constraints there were before a step.
 pub(crate) struct Before {
@@ -47,30 +51,19 @@ pub(crate) fn post_ties(counts: &mut [u16], ties: &mut [u16], posting: Posting) 
     Before { ties: n, subtypes }
 }
 
-// The number of tie row i written.
-fn write_number(counts: &mut [u16], i: u16, k: u16)
-    ensures { λ _. ⌜ now (counts .exit) ≡ putNumber tieNumbersCell (now (counts .entry)) i k ⌝ }
-{
-    cells::put16(counts, TIE_NUMBERS_CELL + cells::wide16(i), k);
-}
-
 // Posted ties get the numbers behind all that were there.
 pub(crate) fn number_ties(counts: &mut [u16], before: Before, posting: Posting)
-    requires { ⌜ (before .ties ≤ tieLimit) × (before .subtypes ≤ subtypeLimit) ⌝ }
+    requires { ⌜ (before .ties + length (toPost posting) ≤ tieLimit) × (before .subtypes ≤ subtypeLimit) ⌝ }
     ensures { λ _. ⌜ now (counts .exit) ≡ writeRows (putNumber tieNumbersCell) (numbersFrom (before .ties + before .subtypes) (length (toPost posting))) (before .ties) (now (counts .entry)) ⌝ }
 {
     let row = before.ties;
-    let number = row + before.subtypes;
-    match posting {
-        Posting::Nothing => {}
-        Posting::One(_, _, _) => {
-            write_number(counts, row, number);
-        }
-        Posting::Two(_, _, _, _) => {
-            write_number(counts, row + 1, number + 1);
-            write_number(counts, row, number);
-        }
-    }
+    store::number_rows(
+        counts,
+        TIE_NUMBERS,
+        row,
+        row + before.subtypes,
+        posting::tie_number(posting),
+    );
 }
 
 // A value pushed: the frame goes on at point q with d operands and the value above them.

@@ -95,19 +95,22 @@ fn act(
                 of,
             ),
         ),
-        Instruction::Invokevirtual(class, s) => settle_access(
-            counts,
-            classes,
-            kept,
-            cache,
-            ties,
-            subtypes,
-            top.row + 1 < FRAME_LIMIT,
-            top.loader,
-            arguments,
-            s.result,
-            access::invokevirtual(counts, classes, kept, cache, objects, frames, top, class, s),
-        ),
+        Instruction::Invokevirtual(class, s) => {
+            let arguments = s.arguments;
+            settle_access(
+                counts,
+                classes,
+                kept,
+                cache,
+                ties,
+                subtypes,
+                top.row + 1 < FRAME_LIMIT,
+                top.loader,
+                arguments,
+                s.result,
+                access::invokevirtual(counts, classes, kept, cache, objects, frames, top, class, s),
+            )
+        }
         Instruction::New(class) => plain(access::new_object(
             counts,
             classes,

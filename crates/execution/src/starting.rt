@@ -9,6 +9,7 @@ use frames::Cell;
 use frames::Entry;
 use opening::Opening;
 ghost use mathlib.Core.Path.{_≡_};
+ghost use mathlib.Core.List.{[], _∷_};
 ghost use Prim.Native.Nat.{suc, _+_, _<_, _≤_};
 ghost use lib.ListN.{getD, set};
 ghost use Rattle.definition.specs.Numbers.{objectLimit, fieldLimit, countObjects, countFrames, ownersCell};
@@ -69,7 +70,7 @@ fn begin(
     requires { ⌜ (o < objectLimit) × (sizeOf (quickBase (now counts) (now classes) (now kept) (now cache)) c ≤ fieldLimit) ⌝ }
     ensures counted { λ _. ⌜ now (counts .exit) ≡ set (set (set (now (counts .entry)) countObjects (rowsWith o (getD (now (counts .entry)) countObjects 0))) (ownersCell + o) (suc task)) (countFrames + task) 1 ⌝ }
     ensures made { λ _. ⌜ now (objects .exit) ≡ putObject (now (objects .entry)) o (newObject (quickBase (now (counts .entry)) (now (classes .entry)) (now (kept .entry)) (now (cache .entry))) c) ⌝ }
-    ensures entered { λ _. ⌜ now (frames .exit) ≡ putFrame (now (frames .entry)) (frameBase task 0) (entryFrame s j o (intValue value)) ⌝ }
+    ensures entered { λ _. ⌜ now (frames .exit) ≡ putFrame (now (frames .entry)) (frameBase task 0) (entryFrame s j o (intValue value ∷ [])) ⌝ }
 {
     write_new(counts, classes, kept, cache, objects, cells::from16(o), c);
     frames::write_entry(
@@ -79,10 +80,13 @@ fn begin(
             class: s,
             method: j,
             object: cells::from16(o),
-            argument: Cell {
+            first: Cell {
                 kind: KIND_INT,
                 bits: value,
             },
+            second: frames::empty(),
+            third: frames::empty(),
+            fourth: frames::empty(),
         },
     );
     take_row(counts, o, task);

@@ -20,7 +20,7 @@ ghost use mathlib.Core.Path.{_≡_};
 ghost use Prim.Native.Nat.{_+_, _*_, _<_};
 ghost use lib.ListN.{getD, set};
 ghost use Rattle.definition.specs.Numbers.{objectCells, methodCell, pointCell, depthCell};
-ghost use Rattle.definition.specs.Machine.{entryFrame};
+ghost use Rattle.definition.specs.Machine.{emptyValue, entryFrame};
 ghost use Rattle.definition.specs.Tables.{valueOf, valueAt, putCells, operandAt, putOperand, localAt, putLocal, fieldAt, putField, putHead, putFrame, putObject, frameBase};
 ghost use Rattle.layout.specs.Cells.{moved};
 ghost use Rattle.frames.specs.Initial.{initialOf, initialObject, putEmpty, entryValues};
@@ -203,16 +203,23 @@ fn write_head(frames: &mut [u32], b: u32, c: u32, j: u32)
     write_moved(frames, b, 0, 0);
 }
 
+// What isn't there: a local that nothing was put into, an argument that a method hasn't.
+pub fn empty() -> Cell
+    ensures { λ r. ⌜ valueOf (r .kind) (r .bits) ≡ emptyValue ⌝ }
+{
+    Cell {
+        kind: KIND_EMPTY,
+        bits: 0,
+    }
+}
+
 fn write_empty(frames: &mut [u32], b: u32)
     ensures { λ _. ⌜ now (frames .exit) ≡ putEmpty b (now (frames .entry)) ⌝ }
 {
-    let empty = Cell {
-        kind: KIND_EMPTY,
-        bits: 0,
-    };
-    write_local(frames, b, 7, empty);
-    write_local(frames, b, 6, empty);
-    write_local(frames, b, 5, empty);
+    let none = empty();
+    write_local(frames, b, 7, none);
+    write_local(frames, b, 6, none);
+    write_local(frames, b, 5, none);
 }
 
 // A frame entered, in the row at cell b.

@@ -1,6 +1,6 @@
--- An effect carried out: at most 16 operands, a type pushed, a local set, a receiver and values that are met.
+-- An effect carried out: at most 16 operands, a type pushed, a local set, a receiver that is met.
 use mathlib.Core.Path.{_≡_, refl, sym, ap, _∙_, fun-ext}
-use mathlib.Core.Bool.{Bool, true, false}
+use mathlib.Core.Bool.{true, false}
 use mathlib.Core.Option.{Option, none, some}
 use mathlib.Core.List.{List, [], _∷_, _++_}
 use Prim.Native.Nat.{ℕ, suc, _+_, _<_, _≤_}
@@ -13,7 +13,7 @@ use Rattle.definition.specs.Lists.{stack, rows, isSome}
 use Rattle.definition.specs.Maybe.{_>>=_, need}
 use Rattle.definition.specs.declared.Arguments.{Arguments}
 use Rattle.definition.specs.declared.Arguments.the-variants.{NoArguments}
-use Rattle.definition.specs.Verifier.{VerifierType, Note, TypeState, Flow, flow, meetAll}
+use Rattle.definition.specs.Verifier.{VerifierType, Note, TypeState, Flow, flow}
 use Rattle.layout.specs.Places.{stack-length, stack-cong, rows-length, rows-set}
 use Rattle.verifier.specs.declared.types.Types.{Types}
 use Rattle.verifier.specs.declared.effects.Meeting.{Meeting}
@@ -21,10 +21,10 @@ use Rattle.verifier.specs.declared.effects.Meeting.the-variants.{Unmet, 
 use Rattle.verifier.specs.declared.effects.Effect.{Effect}
 use Rattle.verifier.specs.declared.effects.Effect.the-variants.{Kept, Pushed, Stored}
 use Rattle.verifier.specs.Types.{typeOf, localOf, operandAt, localAt, localsOf, typesOf}
-use Rattle.verifier.specs.Effects.{notesIn, meetValues, going, leftBy, outcomeOf}
-use Rattle.verifier.specs.Trace.{meetFrom, valuesTrace, granted}
-use Rattle.verifier.specs.Answers.{made, madeFlow}
-use Rattle.verifier.proofs.ValueLaws.{values-kept, values-by}
+use Rattle.verifier.specs.Effects.{notesIn, going, leftBy}
+use Rattle.verifier.specs.Trace.{meetFrom, valuesTrace}
+use Rattle.verifier.specs.Answers.{outcomeOf, made, madeFlow}
+use Rattle.verifier.proofs.ValueLaws.{nothing, values-kept}
 
 -- At most 16 operands
 
@@ -37,35 +37,24 @@ module _ (o : List VerifierType) (l : List (Option VerifierType)) (ns : List Not
   unfolding _>>=_ need
   flow-full h = rw (lt-leb (length o) 16 h)
 
--- The receiver and the values above it
-
-nothing : {A B : Type 0} (m : Option A) → _≡_ {A = Option B} (m >>= λ _. none) none
-unfolding _>>=_
-nothing none = refl
-nothing (some a) = refl
+-- The receiver, and the notes of the values above it
 
 module _ (s : Types) (d : ℕ) (a : Meeting) (vs : Arguments) where
-  both : (List Note → Option Flow) → Option Flow
-  both k = notesIn a >>= λ x. meetValues (s .operands) d vs >>= λ y. k (x ++ y)
+  noting : (List Note → Option Flow) → Option Flow
+  noting k = notesIn a >>= λ x. k (x ++ valuesTrace (s .operands) d vs .notes)
 
-  both-none : (k : List Note → Option Flow) → ((ns : List Note) → k ns ≡ none) → both k ≡ none
-  unfolding both
-  both-none k h =
-      ap both (fun-ext h)
-      ∙ (ap (λ (f : List Note → Option Flow). notesIn a >>= f) (fun-ext (λ x. nothing (meetValues (s .operands) d vs))) ∙ nothing (notesIn a))
+  noting-none : (k : List Note → Option Flow) → ((ns : List Note) → k ns ≡ none) → noting k ≡ none
+  unfolding noting
+  noting-none k h = ap noting (fun-ext h) ∙ nothing (notesIn a)
 
-  both-flow : (u : TypeState) (k : List Note → Option Flow) → ((ns : List Note) → k ns ≡ some (record { types = u; notes = ns }))
-      → both k ≡ (notesIn a >>= λ x. meetValues (s .operands) d vs >>= λ y. some (record { types = u; notes = x ++ y }))
-  unfolding both
-  both-flow u k h = ap both (fun-ext h)
+  noting-flow : (u : TypeState) (k : List Note → Option Flow) → ((ns : List Note) → k ns ≡ some (record { types = u; notes = ns }))
+      → noting k ≡ (notesIn a >>= λ x. some (record { types = u; notes = x ++ valuesTrace (s .operands) d vs .notes }))
+  unfolding noting
+  noting-flow u k h = ap noting (fun-ext h)
 
-  pub unmet-first : notesIn a ≡ none → madeFlow s d a vs ≡ none
+  pub unmet-left : notesIn a ≡ none → madeFlow s d a vs ≡ none
   unfolding madeFlow _>>=_
-  unmet-first h = rw h
-
-  pub unmet-values : (b : Bool) → b ≡ valuesTrace (s .operands) d vs .accepts → b ≡ false → madeFlow s d a vs ≡ none
-  unfolding madeFlow granted _>>=_
-  unmet-values b e h = rw (values-by (s .operands) d vs b e, h) (nothing (notesIn a))
+  unmet-left h = rw h
 
 -- a meeting that is met has the notes that it makes
 pub met-notes : (m : Meeting) → isSome (notesIn m) ≡ true → notesIn m ≡ some (made m)
@@ -80,11 +69,11 @@ unmet-notes Unmet h = refl
 unmet-notes Met h = let z : _≡_ {A = ℕ} 0 1 = cc in absurd (omega arith)
 unmet-notes (Noted a b) h = let z : _≡_ {A = ℕ} 0 1 = cc in absurd (omega arith)
 
-pub met-both :
-    (s : Types) (d : ℕ) (a : Meeting) (vs : Arguments) (b : Bool) → isSome (notesIn a) ≡ true → b ≡ valuesTrace (s .operands) d vs .accepts → b ≡ true →
+pub met-left :
+    (s : Types) (d : ℕ) (a : Meeting) (vs : Arguments) → isSome (notesIn a) ≡ true →
     madeFlow s d a vs ≡ some (record { types = typesOf s; notes = made a ++ valuesTrace (s .operands) d vs .notes })
-unfolding madeFlow granted _>>=_
-met-both s d a vs b h e k = rw (met-notes a h, values-by (s .operands) d vs b e, k)
+unfolding madeFlow _>>=_
+met-left s d a vs h = rw (met-notes a h)
 
 -- a meeting alone makes its own notes
 pub made-alone : (m : Meeting) (o : List ℕ) (d : ℕ) → made m ++ valuesTrace o d NoArguments .notes ≡ made m
@@ -111,12 +100,12 @@ after types d = record { operands = types .operands; depth = d; locals = types .
 
 module _ (types : Types) (d : ℕ) (a : Meeting) (vs : Arguments) where
   pub kept-full : 16 < d → comes types (Kept d a vs) ≡ none
-  unfolding outcomeOf both
-  kept-full h = going-left _ _ ∙ both-none types d a vs _ (λ ns. flow-full (lowest types d) (localsOf (types .locals)) ns (rw (stack-length (operandAt (types .operands)) d) h))
+  unfolding outcomeOf noting
+  kept-full h = going-left _ _ ∙ noting-none types d a vs _ (λ ns. flow-full (lowest types d) (localsOf (types .locals)) ns (rw (stack-length (operandAt (types .operands)) d) h))
 
   pub kept-fits : d ≤ 16 → comes types (Kept d a vs) ≡ madeFlow (after types d) d a vs
-  unfolding outcomeOf both typesOf madeFlow
-  kept-fits h = going-left _ _ ∙ both-flow types d a vs _ _ (λ ns. flow-fits _ _ ns (rw (stack-length (operandAt (types .operands)) d) h))
+  unfolding outcomeOf noting typesOf madeFlow
+  kept-fits h = going-left _ _ ∙ noting-flow types d a vs _ _ (λ ns. flow-fits _ _ ns (rw (stack-length (operandAt (types .operands)) d) h))
 
 module _ (o : List ℕ) (d t : ℕ) (full : length o ≡ 16) (h : d < 16) where
   stack-pushed : stack (operandAt (set o d t)) (suc d) ≡ typeOf t ∷ stack (operandAt o) d
@@ -129,18 +118,18 @@ module _ (o : List ℕ) (d t : ℕ) (full : length o ≡ 16) (h : d < 16) where
 
 module _ (types : Types) (d t : ℕ) (a : Meeting) (vs : Arguments) where
   pub pushed-full : 16 ≤ d → comes types (Pushed d t a vs) ≡ none
-  unfolding outcomeOf both
+  unfolding outcomeOf noting
   pushed-full h =
       going-left _ _
-      ∙ both-none types d a vs _ (λ ns. flow-full (typeOf t ∷ lowest types d) (localsOf (types .locals)) ns (rw (stack-length (operandAt (types .operands)) d) (omega arith)))
+      ∙ noting-none types d a vs _ (λ ns. flow-full (typeOf t ∷ lowest types d) (localsOf (types .locals)) ns (rw (stack-length (operandAt (types .operands)) d) (omega arith)))
 
   pub pushed-fits :
       length (types .operands) ≡ 16 → d < 16 →
       comes types (Pushed d t a vs) ≡ madeFlow (record { operands = set (types .operands) d t; depth = d + 1; locals = types .locals }) d a vs
-  unfolding outcomeOf both typesOf madeFlow
+  unfolding outcomeOf noting typesOf madeFlow
   pushed-fits full h =
       rw (add-one d, stack-pushed (types .operands) d t full h, values-kept (types .operands) d t vs)
-      (going-left _ _ ∙ both-flow types d a vs _ _ (λ ns. flow-fits _ _ ns (rw (stack-length (operandAt (types .operands)) d) (omega arith))))
+      (going-left _ _ ∙ noting-flow types d a vs _ _ (λ ns. flow-fits _ _ ns (rw (stack-length (operandAt (types .operands)) d) (omega arith))))
 
 module _ (l : List ℕ) (i t : ℕ) where
   locals-set : length l ≡ 8 → i < 8 → localsOf (set l i t) ≡ set (localsOf l) i (localOf t)
@@ -162,7 +151,7 @@ module _ (types : Types) (d i t : ℕ) where
   stored-fits :
       (l : List ℕ) → set (localsOf (types .locals)) i (localOf t) ≡ localsOf l → d ≤ 16 →
       comes types (Stored d i t) ≡ madeFlow (record { operands = types .operands; depth = d; locals = l }) d Met NoArguments
-  unfolding outcomeOf typesOf madeFlow notesIn meetValues meetAll rows _>>=_
+  unfolding outcomeOf typesOf madeFlow notesIn valuesTrace meetFrom _>>=_
   stored-fits l e h = rw e (going-left _ _ ∙ flow-fits _ _ [] (rw (stack-length (operandAt (types .operands)) d) h))
 
   pub stored-at :

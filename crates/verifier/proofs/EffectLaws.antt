@@ -10,19 +10,21 @@ use lib.ListN.{getElem?}
 use lib.Dec.{eqb, leb}
 use borrow.Author.Tests.{eq-eqb, ne-eqb, eqb-true, eqb-false, lt-leb, le-leb, not-true, not-false}
 use Rattle.definition.specs.Instructions.{pick}
-use Rattle.definition.specs.Lists.{rows, stack}
+use Rattle.definition.specs.Lists.{stack}
 use Rattle.definition.specs.Maybe.{_>>=_, need}
 use Rattle.definition.specs.declared.Arguments.the-variants.{NoArguments}
 use Rattle.definition.specs.declared.Kind.{Kind}
 use Rattle.definition.specs.declared.Kind.the-variants.{IntKind, ReferenceKind}
 use Rattle.definition.specs.declared.Instruction.the-variants.{AconstNull, Sipush, Load}
-use Rattle.definition.specs.Verifier.{VerifierType, typeNull, typeClass, Note, TypeState, Flow, flow, meetClass, meetInt, meets, meetAll, meetKind, effect}
+use Rattle.definition.specs.Verifier.{VerifierType, typeNull, typeClass, Note, TypeState, Flow, flow, meetClass, meetInt, meets, meetKind, effect}
 use Rattle.verifier.specs.declared.types.Types.{Types}
 use Rattle.verifier.specs.declared.effects.Meeting.{Meeting}
 use Rattle.verifier.specs.declared.effects.Meeting.the-variants.{Unmet, Met, Noted}
 use Rattle.verifier.specs.declared.effects.Effect.the-variants.{Pushed}
 use Rattle.verifier.specs.Types.{typeOf, localOf, operandAt, localsOf, typesOf, knownLocal}
-use Rattle.verifier.specs.Effects.{notesIn, meetValues, going, outcomeOf}
+use Rattle.verifier.specs.Effects.{notesIn, going}
+use Rattle.verifier.specs.Trace.{meetFrom, valuesTrace}
+use Rattle.verifier.specs.Answers.{outcomeOf}
 use Rattle.verifier.proofs.TypeLaws.{type-int, type-null, type-class, local-set}
 
 -- A class that is demanded, and a class that stands there
@@ -144,7 +146,7 @@ module _ (c n t : ℕ) where
 
 -- A receiver alone
 
-alone : (a : Meeting) (k : List Note → Option Flow) → (notesIn a >>= λ x. some [] >>= λ y. k (x ++ y)) ≡ (notesIn a >>= k)
+alone : (a : Meeting) (k : List Note → Option Flow) → (notesIn a >>= λ x. k (x ++ [])) ≡ (notesIn a >>= k)
 unfolding notesIn _>>=_
 alone Unmet k = refl
 alone Met k = refl
@@ -153,16 +155,16 @@ alone (Noted l h) k = refl
 pub pushed-alone :
     (types : Types) (d t : ℕ) (a : Meeting) →
     outcomeOf types (Pushed d t a NoArguments) ≡ going (notesIn a >>= λ x. flow (typeOf t ∷ stack (operandAt (types .operands)) d) (localsOf (types .locals)) x)
-unfolding outcomeOf meetValues meetAll rows
+unfolding outcomeOf valuesTrace meetFrom
 pushed-alone types d t a = ap going (alone a _)
 
 -- Constants
 
 module _ (types : Types) where
   pub pushed-null : outcomeOf types (Pushed (types .depth) 65537 Met NoArguments) ≡ going (effect AconstNull (typesOf types))
-  unfolding outcomeOf effect typesOf notesIn meetValues meetAll rows _>>=_
+  unfolding outcomeOf effect typesOf notesIn valuesTrace meetFrom _>>=_
   pushed-null = rw (type-null 65537 refl)
 
   pub pushed-int : (n : ℕ) → outcomeOf types (Pushed (types .depth) 65536 Met NoArguments) ≡ going (effect (Sipush n) (typesOf types))
-  unfolding outcomeOf effect typesOf notesIn meetValues meetAll rows _>>=_
+  unfolding outcomeOf effect typesOf notesIn valuesTrace meetFrom _>>=_
   pushed-int n = rw (type-int 65536 refl)

@@ -3,14 +3,18 @@ use mathlib.Core.Path.{_≡_}
 use mathlib.Core.Option.{Option, none, some}
 use mathlib.Core.List.{List, [], _∷_, _++_}
 use Prim.Native.Nat.{ℕ, _+_, _*_, _≤_}
+use lib.ListN.{set}
+use Rattle.definition.specs.Lists.{stack}
 use Rattle.definition.specs.Instructions.{pick}
 use Rattle.definition.specs.Maybe.{_>>=_}
 use Rattle.definition.specs.declared.Arguments.{Arguments}
 use Rattle.definition.specs.Classes.{Map}
-use Rattle.definition.specs.Verifier.{Note, TypeState, Flow, meetLocal, meets}
+use Rattle.definition.specs.Verifier.{Note, TypeState, Flow, flow, meetLocal, meets}
 use Rattle.classfile.specs.Reading.{mapPlace, typeAt}
 use Rattle.verifier.specs.declared.effects.Meeting.{Meeting}
 use Rattle.verifier.specs.declared.effects.Meeting.the-variants.{Unmet, Met, Noted}
+use Rattle.verifier.specs.declared.effects.Effect.{Effect}
+use Rattle.verifier.specs.declared.effects.Effect.the-variants.{Rejected, Kept, Pushed, Stored, Ended}
 use Rattle.verifier.specs.declared.types.Types.{Types}
 use Rattle.verifier.specs.declared.changes.Change.{Change}
 use Rattle.verifier.specs.declared.flows.Part.{Part}
@@ -19,18 +23,35 @@ use Rattle.verifier.specs.declared.turns.Step.{Step}
 use Rattle.verifier.specs.declared.turns.Step.the-variants.{Stop, End, Next}
 use Rattle.verifier.specs.declared.methods.Passed.{Passed}
 use Rattle.verifier.specs.declared.methods.Passed.the-variants.{Inside, To}
-use Rattle.verifier.specs.Types.{localAt, operandAt, typesOf}
-use Rattle.verifier.specs.Effects.{notesIn, meetValues}
+use Rattle.verifier.specs.Types.{typeOf, localOf, localAt, operandAt, localsOf, typesOf}
+use Rattle.verifier.specs.Effects.{notesIn, Outcome, rejected, going, ending}
 use Rattle.verifier.specs.Trace.{valuesTrace, Onward, refused, accepted, onto, leftFrom}
+
+-- What an effect stands for
+
+-- the state after the lowest d operands are kept
+abbrev kept : Types → ℕ → List Note → Option Flow
+kept s d ns = flow (stack (operandAt (s .operands)) d) (localsOf (s .locals)) ns
+
+-- and a type is pushed on them
+abbrev pushed : Types → ℕ → ℕ → List Note → Option Flow
+pushed s d t ns = flow (typeOf t ∷ stack (operandAt (s .operands)) d) (localsOf (s .locals)) ns
+
+unfoldable pub outcomeOf : Types → Effect → Outcome
+outcomeOf s Rejected = rejected
+outcomeOf s (Kept d a vs) = going (notesIn a >>= λ x. kept s d (x ++ valuesTrace (s .operands) d vs .notes))
+outcomeOf s (Pushed d t a vs) = going (notesIn a >>= λ x. pushed s d t (x ++ valuesTrace (s .operands) d vs .notes))
+outcomeOf s (Stored d i t) = going (flow (stack (operandAt (s .operands)) d) (set (localsOf (s .locals)) i (localOf t)) [])
+outcomeOf s (Ended a) = ending (notesIn a)
 
 unfoldable pub made : Meeting → List Note
 made Unmet = []
 made Met = []
 made (Noted a b) = record { low = a; high = b } ∷ []
 
--- the flow to the types s, if the receiver at place d and the values above it are met
+-- the flow to the types s, if the receiver at place d is met
 unfoldable pub madeFlow : Types → ℕ → Meeting → Arguments → Option Flow
-madeFlow s d a vs = notesIn a >>= λ x. meetValues (s .operands) d vs >>= λ y. some (record { types = typesOf s; notes = x ++ y })
+madeFlow s d a vs = notesIn a >>= λ x. some (record { types = typesOf s; notes = x ++ valuesTrace (s .operands) d vs .notes })
 
 -- what an instruction leaves, if it fits
 unfoldable pub changeOf : Change → Option Flow

@@ -1,19 +1,16 @@
 // An effect carried out: the types that an instruction leaves, and its own notes.
 use crate::effects::Effect;
 use crate::effects::Meeting;
-use crate::effects::meet_value;
+use crate::effects::met;
 use crate::types::LOCALS;
 use crate::types::OPERANDS;
 use crate::types::Types;
-use cells::arguments::argument_count;
 use definition::Arguments;
 ghost use mathlib.Core.Path.{_≡_};
 ghost use mathlib.Core.Option.{none};
-ghost use Rattle.definition.specs.Lists.{isSome};
 ghost use Rattle.verifier.specs.Types.{typesOf};
-ghost use Rattle.verifier.specs.Effects.{notesIn, leftBy, outcomeOf};
-ghost use Rattle.verifier.specs.Trace.{valuesTrace};
-ghost use Rattle.verifier.specs.Answers.{changeOf, madeFlow};
+ghost use Rattle.verifier.specs.Effects.{leftBy};
+ghost use Rattle.verifier.specs.Answers.{outcomeOf, changeOf, madeFlow};
 
 // What an instruction leaves, if it fits: the types, the receiver's meeting, its place, and the names that are demanded of the values above it. Those values are
 // still among the operands, past the last.
@@ -23,16 +20,6 @@ pub struct Change {
     pub receiver: Meeting,
     pub names: Arguments,
     pub fits: bool,
-}
-
-pub(crate) fn met(m: Meeting) -> bool
-    ensures { λ r. ⌜ r ≡ isSome (notesIn m) ⌝ }
-{
-    match m {
-        Meeting::Unmet => false,
-        Meeting::Met => true,
-        Meeting::Noted(_, _) => true,
-    }
 }
 
 fn unfit(types: Types) -> Change
@@ -47,29 +34,11 @@ fn unfit(types: Types) -> Change
     }
 }
 
-// Whether the values above place d are all met.
-fn are_met(types: Types, d: usize, names: Arguments) -> bool
-    ensures { λ r. ⌜ r ≡ valuesTrace (types .operands) d names .accepts ⌝ }
-{
-    let n = argument_count(names);
-    let mut i: u8 = 0;
-    while i < n {
-        if !met(meet_value(types, d, names, i)) {
-            return false;
-        }
-        i += 1;
-    }
-    true
-}
-
-// These types are left, if the receiver at place d and the values above it are met.
+// These types are left, if the receiver at place d is met.
 fn left(types: Types, d: usize, receiver: Meeting, names: Arguments) -> Change
     ensures { λ r. ⌜ changeOf r ≡ madeFlow types d receiver names ⌝ }
 {
     if !met(receiver) {
-        return unfit(types);
-    }
-    if !are_met(types, d, names) {
         return unfit(types);
     }
     Change {

@@ -27,10 +27,13 @@ ghost use Prim.Native.Nat.{ℕ, _+_};
 ghost use lib.Dec.{leb};
 ghost use lib.ListN.{getD};
 ghost use Rattle.definition.specs.Numbers.{nameObject};
+ghost use Rattle.definition.specs.Lists.{isSome};
 ghost use Rattle.definition.specs.Maybe.{need};
 ghost use Rattle.definition.specs.Verifier.{meetClass, meetInt, meets, meetKind, effect, returns};
 ghost use Rattle.verifier.specs.Types.{typeOf, localOf, typesOf};
-ghost use Rattle.verifier.specs.Effects.{notesIn, meetValue, going, ending, outcome, outcomeOf};
+ghost use Rattle.verifier.specs.Effects.{notesIn, meetValue, going, ending, outcome};
+ghost use Rattle.verifier.specs.Trace.{valuesTrace};
+ghost use Rattle.verifier.specs.Answers.{outcomeOf};
 
 // How a type meets what is demanded: not at all, as it stands, or under the note 'low below high'.
 pub enum Meeting {
@@ -40,13 +43,24 @@ pub enum Meeting {
 }
 
 // What an instruction does: it is rejected, or keeps the lowest operands, then pushes a type or sets a local, or it ends the method.
-// The meeting is the receiver's, which is the lowest operand that isn't kept. The names are demanded of the values above it, in their order.
+// The meeting is the receiver's, which is the lowest operand that isn't kept. The names are demanded of the values above it, in their order, and met.
 pub enum Effect {
     Rejected,
     Kept(usize, Meeting, Arguments),
     Pushed(usize, u32, Meeting, Arguments),
     Stored(usize, usize, u32),
     Ended(Meeting),
+}
+
+// Whether what is demanded is met.
+pub(crate) fn met(m: Meeting) -> bool
+    ensures { λ r. ⌜ r ≡ isSome (notesIn m) ⌝ }
+{
+    match m {
+        Meeting::Unmet => false,
+        Meeting::Met => true,
+        Meeting::Noted(_, _) => true,
+    }
 }
 
 // A type where class b is demanded.
@@ -104,6 +118,21 @@ pub(crate) fn meet_value(types: Types, d: usize, names: Arguments, i: u8) -> Mee
     ensures { λ r. ⌜ notesIn r ≡ meetValue (types .operands) d names i ⌝ }
 {
     meet_name(value(types, d, i), argument_at(names, i))
+}
+
+// Whether the values above place d are all met.
+fn are_met(types: Types, d: usize, names: Arguments) -> bool
+    ensures { λ r. ⌜ r ≡ valuesTrace (types .operands) d names .accepts ⌝ }
+{
+    let n = argument_count(names);
+    let mut i: u8 = 0;
+    while i < n {
+        if !met(meet_value(types, d, names, i)) {
+            return false;
+        }
+        i += 1;
+    }
+    true
 }
 
 // Whether a type is of the kind: int, or null or a class name.
@@ -235,7 +264,11 @@ fn putfield(types: Types, c: u16, f: u16, t: u16) -> Effect
     let Popped::Top(y, e) = pop(types, d) else {
         return Effect::Rejected;
     };
-    Effect::Kept(e, meet_class(c, y), Arguments::OneArgument(t))
+    let names = Arguments::OneArgument(t);
+    if !are_met(types, e, names) {
+        return Effect::Rejected;
+    }
+    Effect::Kept(e, meet_class(c, y), names)
 }
 
 // The arguments stand above the receiver, the last on top.
@@ -254,6 +287,9 @@ fn invokevirtual(types: Types, c: u16, s: Signature) -> Effect
         return Effect::Rejected;
     }
     let d = types.depth - n - 1;
+    if !are_met(types, d, arguments) {
+        return Effect::Rejected;
+    }
     let receiver = meet_class(c, operand(types, d));
     Effect::Pushed(d, type_of_name(s.result), receiver, arguments)
 }

@@ -1,8 +1,8 @@
 // Demands met in their order, each note posted as it comes: the values above a receiver; and what flows into a map, each local and operand against the map's type.
-use crate::changes::met;
 use crate::effects::Meeting;
 use crate::effects::meet_name;
 use crate::effects::meet_value;
+use crate::effects::met;
 use crate::notes::Verified;
 use crate::notes::post_meeting;
 use crate::notes::rejected;

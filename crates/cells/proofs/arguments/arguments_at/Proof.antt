@@ -1,141 +1,37 @@
--- Types that stand two bytes apart are the list's.
-use mathlib.Core.Path.{_≡_, refl}
-use mathlib.Core.Option.{some}
+-- A list of four or fewer is read, from the end of the bytes where the place lies past it; a longer one is none at all.
+use mathlib.Core.Path.{_≡_, ap, _∙_}
+use mathlib.Core.Option.{some, Option·some-injective}
 use mathlib.Core.List.{List}
-use Prim.Native.Nat.{ℕ, zero, suc, _+_, _≤_}
+use Prim.Native.Nat.{ℕ, _≤_}
 use native.Mathlib.Omega.{arith}
-use Rattle.definition.specs.declared.Arguments.the-variants.{NoArguments, OneArgument, TwoArguments, ThreeArguments, FourArguments}
+use lib.ListN.{length}
+use borrow.Author.Tests.{lt-leb}
+use Rattle.definition.specs.declared.Arguments.{Arguments}
+use Rattle.definition.specs.Numbers.{argumentLimit}
 use Rattle.definition.specs.Classes.{argumentsOf}
-use Rattle.definition.specs.Instructions.{shortAt, shortsAt}
+use Rattle.definition.specs.Instructions.{shortsAt}
+use Rattle.definition.specs.Maybe.{_>>=_, need}
+use Rattle.cells.specs.Listed.{orNoArguments, listAt, list-read, shorts-past}
 use borrow.Author.Needs.{needs}
 use Rattle.cells.proofs.arguments.arguments_at.Statement.{statement}
 use Rattle.cells.proofs.arguments.arguments_at.Tie as tie
-use Rattle.cells.proofs.arguments.arguments_at.Reads as reads
-use Rattle.cells.proofs.arguments.arguments_at.Lts as lts
-use Rattle.cells.proofs.short_at.Reads as short-at-reads
 
-short-at-requires : tie.Need-short-at-requires
-short-at-requires c κs = search needs
+module _ (bs : List ℕ) (p n : ℕ) (a : Arguments) (few : n ≤ argumentLimit) where
+  read : some a ≡ argumentsOf (shortsAt bs p n) → a ≡ listAt bs p n
+  read e = Option·some-injective a (listAt bs p n) (e ∙ list-read bs p n few)
 
-short-at-requires-2 : tie.Need-short-at-requires-2
-short-at-requires-2 c κs = search needs
-
-add-short-at : tie.Need-add-short-at
-add-short-at c = search needs
-
-short-at-requires-3 : tie.Need-short-at-requires-3
-short-at-requires-3 c κs = search needs
-
-short-at-requires-4 : tie.Need-short-at-requires-4
-short-at-requires-4 c κs = search needs
-
-add-short-at-2 : tie.Need-add-short-at-2
-add-short-at-2 c = search needs
-
-short-at-requires-5 : tie.Need-short-at-requires-5
-short-at-requires-5 c κs = search needs
-
-add-short-at-3 : tie.Need-add-short-at-3
-add-short-at-3 c = search needs
-
-short-at-requires-6 : tie.Need-short-at-requires-6
-short-at-requires-6 c κs = search needs
-
-short-at-requires-7 : tie.Need-short-at-requires-7
-short-at-requires-7 c κs = search needs
-
-add-short-at-4 : tie.Need-add-short-at-4
-add-short-at-4 c = search needs
-
-short-at-requires-8 : tie.Need-short-at-requires-8
-short-at-requires-8 c κs = search needs
-
-add-short-at-5 : tie.Need-add-short-at-5
-add-short-at-5 c = search needs
-
-short-at-requires-9 : tie.Need-short-at-requires-9
-short-at-requires-9 c κs = search needs
-
-add-short-at-6 : tie.Need-add-short-at-6
-add-short-at-6 c = search needs
-
-short-at-requires-10 : tie.Need-short-at-requires-10
-short-at-requires-10 c κs = search needs
-
-module _ (bs : List ℕ) (p n a b c d : ℕ) (x : a ≡ shortAt bs p) (y : b ≡ shortAt bs (p + 2)) (z : c ≡ shortAt bs (p + 4)) (t : d ≡ shortAt bs (p + 6)) where
-  third : p + 2 + 2 ≡ p + 4
-  third = omega arith
-
-  fourth : p + 2 + 2 + 2 ≡ p + 6
-  fourth = omega arith
-
-  four : n ≡ 4 → some (FourArguments a b c d) ≡ argumentsOf (shortsAt bs p n)
-  unfolding argumentsOf shortsAt
-  four e = rw (e, x, y, z, t, fourth, third) refl
-
-three : (bs : List ℕ) (p n a b c : ℕ) → a ≡ shortAt bs p → b ≡ shortAt bs (p + 2) → c ≡ shortAt bs (p + 4) → n ≡ 3 → some (ThreeArguments a b c) ≡ argumentsOf (shortsAt bs p n)
-unfolding argumentsOf shortsAt
-three bs p n a b c x y z e = let q : p + 2 + 2 ≡ p + 4 = omega arith in rw (e, x, y, z, q) refl
-
-two : (bs : List ℕ) (p n a b : ℕ) → a ≡ shortAt bs p → b ≡ shortAt bs (p + 2) → n ≡ 2 → some (TwoArguments a b) ≡ argumentsOf (shortsAt bs p n)
-unfolding argumentsOf shortsAt
-two bs p n a b x y e = rw (e, x, y) refl
-
-one : (bs : List ℕ) (p n a : ℕ) → a ≡ shortAt bs p → n ≡ 1 → some (OneArgument a) ≡ argumentsOf (shortsAt bs p n)
-unfolding argumentsOf shortsAt
-one bs p n a x e = rw (e, x) refl
-
-none : (bs : List ℕ) (p n : ℕ) → n ≡ 0 → some NoArguments ≡ argumentsOf (shortsAt bs p n)
-unfolding argumentsOf shortsAt
-none bs p n e = rw e refl
-
-is-four : (n : ℕ) → n ≤ 4 → (n ≡ 0 → ⊥) → (n ≡ 1 → ⊥) → (n ≡ 2 → ⊥) → (n ≡ 3 → ⊥) → n ≡ 4
-is-four zero l a b c d = absurd (a refl)
-is-four (suc zero) l a b c d = absurd (b refl)
-is-four (suc (suc zero)) l a b c d = absurd (c refl)
-is-four (suc (suc (suc zero))) l a b c d = absurd (d refl)
-is-four (suc (suc (suc (suc n)))) l a b c d = omega (arith, l)
+  past : length bs ≤ p → some a ≡ argumentsOf (shortsAt bs (length bs) n) → a ≡ listAt bs p n
+  past h e = read (e ∙ ap argumentsOf (shorts-past bs (length bs) p n (omega arith) h))
 
 returns : tie.Need-returns
-returns c = none _ _ _ (c .match .keys1)
+unfolding listAt need _>>=_ orNoArguments
+returns c = rw (lt-leb _ argumentLimit (c .if1 .taken))
 
 returns-2 : tie.Need-returns-2
-returns-2 c = one _ _ _ _ (c .short-at .ensures) (c .before .match .keys2)
+returns-2 c = read _ _ _ _ (c .before .before .if1 .left) (c .few-at .ensures)
 
 returns-3 : tie.Need-returns-3
-returns-3 c = two _ _ _ _ _ (c .before .short-at2 .ensures) (c .short-at3 .ensures) (c .before .before .match .keys3)
-
-returns-4 : tie.Need-returns-4
-returns-4 c = three _ _ _ _ _ _ (c .before .before .short-at4 .ensures) (c .before .short-at5 .ensures) (c .short-at6 .ensures) (c .before .before .before .match .keys4)
-
-returns-5 : tie.Need-returns-5
-returns-5 c =
-    let m = c .before .before .before .before .match .rest in
-    four _ _ _ _ _ _ _ (c .before .before .before .short-at7 .ensures) (c .before .before .short-at8 .ensures) (c .before .short-at9 .ensures) (c .short-at10 .ensures)
-    (is-four _ (c .before .before .before .before .before .before .pre .0) (m .0 .0 .0 .1) (m .0 .0 .1) (m .0 .1) (m .1))
+returns-3 c = past _ _ _ _ (c .before .before .if1 .left) (c .before .if2 .left) (c .few-at2 .ensures)
 
 pub arguments-at-spec : {M : Type 1} → statement M
-arguments-at-spec =
-    tie.close
-    (tie.spec
-    short-at-requires
-    short-at-requires-2
-    add-short-at
-    short-at-requires-3
-    short-at-requires-4
-    add-short-at-2
-    short-at-requires-5
-    add-short-at-3
-    short-at-requires-6
-    short-at-requires-7
-    add-short-at-4
-    short-at-requires-8
-    add-short-at-5
-    short-at-requires-9
-    add-short-at-6
-    short-at-requires-10
-    returns
-    returns-2
-    returns-3
-    returns-4
-    returns-5)
+arguments-at-spec = tie.close (tie.spec returns (λ c κs. search needs) (λ c κs. search needs) returns-2 returns-3)

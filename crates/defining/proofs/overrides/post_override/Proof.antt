@@ -1,12 +1,11 @@
--- Where a class with a method alike is found, the argument's tie is posted, then the result's.
+-- Where a class with a method alike is found, the ties of the signature with its loader are posted.
 use mathlib.Core.Path.{_≡_, sym, _∙_}
-use Prim.Native.Nat.{_+_, _≤_}
 use native.Mathlib.Omega.{arith}
 use denote.Ref.{now}
 use Rattle.definition.specs.Classes.{loaderOf}
 use Rattle.resolution.specs.Quick.{quickBase, loader-quick}
 use Rattle.resolution.specs.Lookups.{selection-at, selection-absent}
-use Rattle.defining.proofs.Posted.{posts-none, posts-two, new-few, two-few}
+use Rattle.defining.proofs.Posted.{posts-none, posts-all, posted-long}
 use borrow.Author.Needs.{needs}
 use Rattle.defining.proofs.overrides.post_override.Statement.{statement}
 use Rattle.defining.proofs.overrides.post_override.Tie as tie
@@ -23,28 +22,25 @@ cast-other c =
     let cache = now (at10 .args .cache) in
     let e : c .loader-of .result ≡ loaderOf (quickBase counts classes kept cache) (c .before .before .y .given .0 .0) = c .loader-of .ensures ∙ sym (loader-quick counts classes kept cache _) in omega (arith, at10 .pre .2 (c .before .before .y .given .0 .0))
 
-cast-first : tie.Need-cast-first
-cast-first c =
-    let at14 = c .before .before .before .before .before .before .before .before .before .before .before .before .before .before in
-    omega (arith, at14 .pre .0, c .before .before .add-tie .ensures .0, new-few (now (at14 .args .ties)) (at14 .args .count) (at14 .args .loader) (c .before .before .before .before .loader-of .result) (at14 .args .s .argument))
+post-signature-requires : tie.Need-post-signature-requires
+post-signature-requires c κs =
+    let at11 = c .before .before .before .before .before .before .before .before .before .before .before in
+    (at11 .pre .0, at11 .pre .1)
 
-cast-result : tie.Need-cast-result
-cast-result c =
-    let at18 = c .before .before .before .before .before .before .before .before .before .before .before .before .before .before .before .before .before .before in
-    let f : c .before .before .add-tie2 .result ≤ at18 .args .count + 2 = two-few _ _ _ _ _ _ _ _ _ (c .before .before .before .before .before .before .add-tie .ensures .0) (c .before .before .add-tie2 .ensures .0) in omega (arith, at18 .pre .0)
+same-length : tie.Need-same-length
+same-length c = posted-long _ _ _ _ _ (c .before .before .post-signature .ensures)
 
 returns-2 : tie.Need-returns-2
 returns-2 c =
-    let at6 = c .before .before .before .before .before .before in
+    let at4 = c .before .before .before .before in
+    let at6 = at4 .before .before in
     let at8 = at6 .before .before in
-    let at10 = at8 .before .before in
-    let at12 = at10 .before .before in
-    let at18 = at12 .before .before .before .before .before .before in
-    let counts = now (at18 .args .counts) in
-    let classes = now (at18 .args .classes) in
-    let kept = now (at18 .args .kept) in
-    let cache = now (at18 .args .cache) in
-    let e : at8 .loader-of .result ≡ loaderOf (quickBase counts classes kept cache) (at10 .y .given .0 .0) = at8 .loader-of .ensures ∙ sym (loader-quick counts classes kept cache _) in posts-two _ _ _ _ _ _ _ _ _ _ _ _ (selection-at _ _ _ (sym (at12 .select-method .ensures) ∙ at10 .y .given .1)) (sym e) (omega (arith, at18 .pre .1)) (at6 .add-tie .ensures .0) (at6 .add-tie .ensures .1) (c .before .before .add-tie2 .ensures .0) (c .before .before .add-tie2 .ensures .1)
+    let at14 = at8 .before .before .before .before .before .before in
+    let counts = now (at14 .args .counts) in
+    let classes = now (at14 .args .classes) in
+    let kept = now (at14 .args .kept) in
+    let cache = now (at14 .args .cache) in
+    let e : at4 .loader-of .result ≡ loaderOf (quickBase counts classes kept cache) (at6 .y .given .0 .0) = at4 .loader-of .ensures ∙ sym (loader-quick counts classes kept cache _) in posts-all _ _ _ _ _ _ _ _ _ _ (selection-at _ _ _ (sym (at8 .select-method .ensures) ∙ at6 .y .given .1)) (sym e) (c .before .before .post-signature .ensures)
 
 pub post-override-spec : {M : Type 1} → statement M
-post-override-spec = tie.close (tie.spec (λ c κs. search needs) (λ c. search needs) (λ c. search needs) returns (λ c κs. search needs) cast-other (λ c κs. search needs) cast-first (λ c κs. search needs) cast-result (λ c. search needs) returns-2)
+post-override-spec = tie.close (tie.spec (λ c κs. search needs) (λ c. search needs) (λ c. search needs) returns (λ c κs. search needs) cast-other post-signature-requires same-length returns-2)

@@ -1,26 +1,16 @@
--- None, one or two numbers; the last is written first, as writeRows does.
-use Prim.Native.Nat.{_+_}
-use native.Mathlib.Numerals.{add-one}
+-- As many rows as there are ties, all within both tables.
+use native.Mathlib.Omega.{arith}
+use mathlib.Core.Path.{_∙_}
+use Rattle.store.specs.Numbering.{numbered-few}
 use borrow.Author.Needs.{needs}
-use Rattle.definition.specs.Lists.{rows, writeRows}
-use Rattle.posting.specs.Postings.{toPost}
 use Rattle.execution.proofs.carrying.number_ties.Statement.{statement}
 use Rattle.execution.proofs.carrying.number_ties.Tie as tie
 
 returns : tie.Need-returns
-unfolding toPost writeRows rows
-returns c = rw (c .enum-told .given .1)
-
-returns-2 : tie.Need-returns-2
-unfolding toPost writeRows rows
-returns-2 c = rw (c .before .before .before .before .enum-told2 .given .1, c .before .before .write-number .ensures)
-
-returns-3 : tie.Need-returns-3
-unfolding toPost writeRows rows
-returns-3 c =
-    let at8 = c .before .before .before .before .before .before .before .before in
-    let asked = at8 .before .before .before .before .args .before in
-    rw (at8 .enum-told3 .given .1, c .before .before .write-number3 .ensures, c .before .before .before .before .before .before .write-number2 .ensures, add-one (asked .ties + asked .subtypes), add-one (asked .ties))
+returns c =
+    let q = c .before .before .before .before .before .before .before .pre in
+    let n = c .before .before .before .tie-number .ensures .0 in
+    rw (← n) (c .before .before .number-rows .ensures ∙ numbered-few _ _ _ _ _ (omega (arith, q .0, q .1, n)))
 
 pub number-ties-spec : {M : Type 1} → statement M
-number-ties-spec = tie.close (tie.spec (λ c. search needs) (λ c. search needs) (λ c. search needs) (λ c κs. search needs) (λ c. search needs) (λ c. search needs) (λ c. search needs) (λ c κs. search needs) (λ c κs. search needs) returns (λ c. search needs) returns-2 (λ c. search needs) returns-3)
+number-ties-spec = tie.close (tie.spec (λ c. search needs) (λ c κs. search needs) (λ c κs. search needs) (λ c. search needs) returns)

@@ -10,12 +10,12 @@ use Rattle.execution.proofs.deciding.act.Tie as tie
 settle-access-requires : tie.Need-settle-access-requires
 settle-access-requires c κs =
     let at12 = c .before .before .before .before .before .before .before .before .before .before .before .before in
-    (at12 .pre .0 .counts, at12 .pre .0 .ties, narrow _ _ _ _ _ (at12 .pre .0) _ _ _ _ _ _ _ _ _ _ (c .getfield .ensures))
+    (at12 .pre .0 .counts, at12 .pre .0 .ties, narrow _ _ _ _ _ (at12 .pre .0) _ _ _ _ _ _ _ _ _ (c .getfield .ensures))
 
 settle-access-requires-2 : tie.Need-settle-access-requires-2
 settle-access-requires-2 c κs =
     let at12 = c .before .before .before .before .before .before .before .before .before .before .before .before in
-    (at12 .pre .0 .counts, at12 .pre .0 .ties, narrow _ _ _ _ _ (at12 .pre .0) _ _ _ _ _ _ _ _ _ _ (c .putfield .ensures))
+    (at12 .pre .0 .counts, at12 .pre .0 .ties, narrow _ _ _ _ _ (at12 .pre .0) _ _ _ _ _ _ _ _ _ (c .putfield .ensures))
 
 add-settle-access : tie.Need-add-settle-access
 add-settle-access c =
@@ -25,7 +25,7 @@ add-settle-access c =
 settle-access-requires-3 : tie.Need-settle-access-requires-3
 settle-access-requires-3 c κs =
     let at13 = c .before .before .before .before .before .before .before .before .before .before .before .before .before in
-    (at13 .pre .0 .counts, at13 .pre .0 .ties, narrow _ _ _ _ _ (at13 .pre .0) _ _ _ _ _ _ _ _ _ _ (c .invokevirtual .ensures))
+    (at13 .pre .0 .counts, at13 .pre .0 .ties, narrow _ _ _ _ _ (at13 .pre .0) _ _ _ _ _ _ _ _ _ (c .invokevirtual .ensures))
 
 returns : tie.Need-returns
 returns c =
@@ -55,15 +55,15 @@ returns-7 : tie.Need-returns-7
 returns-7 c = rw (c .plain7 .ensures .0, c .plain7 .ensures .1, c .before .before .before .i4 .given .1) (acted-frame _ _ _ _ _ _ _ _ _ _ _ _ _ _ _ (c .before .before .before .before .before .before .before .before .before .before .before .before .before .pre .0 .counts .ties) (c .before .arithmetic .ensures))
 
 returns-8 : tie.Need-returns-8
-returns-8 c = rw (c .before .before .before .i5 .given .1) (acted-access _ _ _ _ _ _ _ _ _ _ _ _ _ _ _ _ _ _ _ _ _ (c .before .before .before .before .before .before .before .before .before .before .before .before .before .pre .0 .counts .ties) (c .before .getfield .ensures) refl (c .settle-access .ensures))
+returns-8 c = rw (c .before .before .before .i5 .given .1) (acted-access _ _ _ _ _ _ _ _ _ _ _ _ _ _ _ _ _ _ _ _ (c .before .before .before .before .before .before .before .before .before .before .before .before .before .pre .0 .counts .ties) (c .before .getfield .ensures) refl (c .settle-access .ensures))
 
 returns-9 : tie.Need-returns-9
-returns-9 c = rw (c .before .before .before .i6 .given .1) (acted-access _ _ _ _ _ _ _ _ _ _ _ _ _ _ _ _ _ _ _ _ _ (c .before .before .before .before .before .before .before .before .before .before .before .before .before .pre .0 .counts .ties) (c .before .putfield .ensures) refl (c .settle-access2 .ensures))
+returns-9 c = rw (c .before .before .before .i6 .given .1) (acted-access _ _ _ _ _ _ _ _ _ _ _ _ _ _ _ _ _ _ _ _ (c .before .before .before .before .before .before .before .before .before .before .before .before .before .pre .0 .counts .ties) (c .before .putfield .ensures) refl (c .settle-access2 .ensures))
 
 returns-10 : tie.Need-returns-10
 returns-10 c =
     let at14 = c .before .before .before .before .before .before .before .before .before .before .before .before .before .before in
-    rw (c .before .before .before .before .i7 .given .1) (acted-access _ _ _ _ _ _ _ _ _ _ _ _ _ _ _ _ _ _ _ _ _ (at14 .pre .0 .counts .ties) (c .before .invokevirtual .ensures) (frames-room (now (at14 .args .frames)) (at14 .args .top .task) (at14 .args .top .row)) (c .settle-access3 .ensures))
+    rw (c .before .before .before .before .i7 .given .1) (acted-access _ _ _ _ _ _ _ _ _ _ _ _ _ _ _ _ _ _ _ _ (at14 .pre .0 .counts .ties) (c .before .invokevirtual .ensures) (frames-room (now (at14 .args .frames)) (at14 .args .top .task) (at14 .args .top .row)) (c .settle-access3 .ensures))
 
 returns-11 : tie.Need-returns-11
 returns-11 c =

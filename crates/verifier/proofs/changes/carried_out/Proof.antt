@@ -1,5 +1,6 @@
 -- Each effect is carried out by its own function.
-use Rattle.verifier.specs.Effects.{leftBy, outcomeOf}
+use Rattle.verifier.specs.Effects.{leftBy}
+use Rattle.verifier.specs.Answers.{outcomeOf}
 use borrow.Author.Needs.{needs}
 use Rattle.verifier.proofs.changes.carried_out.Statement.{statement}
 use Rattle.verifier.proofs.changes.carried_out.Tie as tie

@@ -2,8 +2,8 @@
 use mathlib.Core.Path.{sym, _∙_}
 use borrow.Author.Tests.{not-true, not-false}
 use Rattle.definition.specs.Instructions.{pick}
-use Rattle.verifier.specs.Answers.{changeOf}
-use Rattle.verifier.specs.Effects.{ending, leftBy, outcomeOf}
+use Rattle.verifier.specs.Answers.{outcomeOf, changeOf}
+use Rattle.verifier.specs.Effects.{ending, leftBy}
 use Rattle.verifier.proofs.ChangeLaws.{met-notes, unmet-notes, made-alone}
 use borrow.Author.Needs.{needs}
 use Rattle.verifier.proofs.changes.ended.Statement.{statement}

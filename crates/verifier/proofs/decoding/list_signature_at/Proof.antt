@@ -6,16 +6,17 @@ use Prim.Native.Nat.{ℕ, _+_, _*_, _≤_}
 use borrow.Author.Tests.{le-leb}
 use Rattle.definition.specs.declared.Arguments.{Arguments}
 use Rattle.definition.specs.Numbers.{argumentLimit}
-use Rattle.definition.specs.Classes.{argumentsOf, signature}
-use Rattle.definition.specs.Instructions.{shortAt, shortsAt, listSignatureAt}
+use Rattle.definition.specs.Classes.{signature}
+use Rattle.definition.specs.Instructions.{shortAt, listSignatureAt}
 use Rattle.definition.specs.Maybe.{_>>=_, need}
+use Rattle.cells.specs.Listed.{listAt, list-read}
 use borrow.Author.Needs.{needs}
 use Rattle.verifier.proofs.decoding.list_signature_at.Statement.{statement}
 use Rattle.verifier.proofs.decoding.list_signature_at.Tie as tie
 
-read : (s : List ℕ) (i n w x y : ℕ) (a : Arguments) → n ≤ argumentLimit → x ≡ shortAt s i → some a ≡ argumentsOf (shortsAt s (i + 3) n) → w ≡ n → y ≡ shortAt s (i + 3 + 2 * w) → some (signature x a y) ≡ listSignatureAt s i n
+read : (s : List ℕ) (i n w x y : ℕ) (a : Arguments) → n ≤ argumentLimit → x ≡ shortAt s i → a ≡ listAt s (i + 3) n → w ≡ n → y ≡ shortAt s (i + 3 + 2 * w) → some (signature x a y) ≡ listSignatureAt s i n
 unfolding listSignatureAt need _>>=_
-read s i n w x y a h p q r t = rw (le-leb n argumentLimit h, ← q, t, r, p)
+read s i n w x y a h p q r t = rw (le-leb n argumentLimit h, list-read s (i + 3) n h, ← q, t, r, p)
 
 returns : tie.Need-returns
 returns c =

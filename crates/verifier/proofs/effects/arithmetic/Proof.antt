@@ -1,11 +1,12 @@
 -- Two ints go and one comes.
 use mathlib.Core.Path.{refl}
-use Rattle.definition.specs.Verifier.{effect, meetAll}
-use Rattle.definition.specs.Lists.{rows}
+use Rattle.definition.specs.Verifier.{effect}
 use Rattle.verifier.specs.Types.{typesOf}
 use Rattle.verifier.proofs.TypeLaws.{type-int, popped-empty, popped-top}
 use Rattle.definition.specs.Maybe.{_>>=_}
-use Rattle.verifier.specs.Effects.{notesIn, meetValues, going, outcomeOf}
+use Rattle.verifier.specs.Effects.{notesIn, going}
+use Rattle.verifier.specs.Trace.{meetFrom, valuesTrace}
+use Rattle.verifier.specs.Answers.{outcomeOf}
 use Rattle.verifier.proofs.EffectLaws.{int-is, int-not}
 use borrow.Author.Needs.{needs}
 use Rattle.verifier.proofs.effects.arithmetic.Statement.{statement}
@@ -46,7 +47,7 @@ returns-4 c o =
     )
 
 returns-5 : tie.Need-returns-5
-unfolding outcomeOf going effect typesOf _>>=_ notesIn meetValues meetAll rows
+unfolding outcomeOf going effect typesOf _>>=_ notesIn valuesTrace meetFrom
 returns-5 c o =
     let at9 = c .before .before .before .before .before .before .before .before .before in
     rw (

@@ -1,15 +1,16 @@
 -- A goto takes nothing.
-use Rattle.definition.specs.Verifier.{effect, meetAll}
+use Rattle.definition.specs.Verifier.{effect}
 use Rattle.definition.specs.Maybe.{_>>=_}
-use Rattle.definition.specs.Lists.{rows}
 use Rattle.verifier.specs.Types.{typesOf}
-use Rattle.verifier.specs.Effects.{notesIn, meetValues, going, outcomeOf}
+use Rattle.verifier.specs.Effects.{notesIn, going}
+use Rattle.verifier.specs.Trace.{meetFrom, valuesTrace}
+use Rattle.verifier.specs.Answers.{outcomeOf}
 use borrow.Author.Needs.{needs}
 use Rattle.verifier.proofs.effects.branch.Statement.{statement}
 use Rattle.verifier.proofs.effects.branch.Tie as tie
 
 returns : tie.Need-returns
-unfolding outcomeOf going effect typesOf _>>=_ notesIn meetValues meetAll rows
+unfolding outcomeOf going effect typesOf _>>=_ notesIn valuesTrace meetFrom
 returns c p = rw (c .enum-told .given .1)
 
 returns-2 : tie.Need-returns-2

@@ -1,10 +1,11 @@
 -- An int goes.
-use Rattle.definition.specs.Verifier.{effect, meetAll}
-use Rattle.definition.specs.Lists.{rows}
+use Rattle.definition.specs.Verifier.{effect}
 use Rattle.verifier.specs.Types.{typesOf}
 use Rattle.verifier.proofs.TypeLaws.{popped-empty, popped-top}
 use Rattle.definition.specs.Maybe.{_>>=_}
-use Rattle.verifier.specs.Effects.{notesIn, meetValues, going, outcomeOf}
+use Rattle.verifier.specs.Effects.{notesIn, going}
+use Rattle.verifier.specs.Trace.{meetFrom, valuesTrace}
+use Rattle.verifier.specs.Answers.{outcomeOf}
 use Rattle.verifier.proofs.EffectLaws.{int-is, int-not}
 use borrow.Author.Needs.{needs}
 use Rattle.verifier.proofs.effects.compared_with_zero.Statement.{statement}
@@ -23,7 +24,7 @@ returns-2 c o =
     )
 
 returns-3 : tie.Need-returns-3
-unfolding outcomeOf going effect typesOf _>>=_ notesIn meetValues meetAll rows
+unfolding outcomeOf going effect typesOf _>>=_ notesIn valuesTrace meetFrom
 returns-3 c o =
     rw (
       popped-top _ _ _ (c .before .before .before .before .pop .ensures) (c .before .before .x .given .1),

@@ -1,12 +1,14 @@
 -- The last operand is there twice.
 use mathlib.Core.Path.{_≡_}
 use mathlib.Core.List.{_∷_}
-use Rattle.definition.specs.Lists.{rows, stack}
-use Rattle.definition.specs.Verifier.{effect, pop, meetAll}
+use Rattle.definition.specs.Lists.{stack}
+use Rattle.definition.specs.Verifier.{effect, pop}
 use Rattle.verifier.specs.Types.{typeOf, operandAt, typesOf}
 use Rattle.verifier.proofs.TypeLaws.{pop-whole, popped-empty, popped-top}
 use Rattle.definition.specs.Maybe.{_>>=_}
-use Rattle.verifier.specs.Effects.{notesIn, meetValues, going, outcomeOf}
+use Rattle.verifier.specs.Effects.{notesIn, going}
+use Rattle.verifier.specs.Trace.{meetFrom, valuesTrace}
+use Rattle.verifier.specs.Answers.{outcomeOf}
 use borrow.Author.Needs.{needs}
 use Rattle.verifier.proofs.effects.dup.Statement.{statement}
 use Rattle.verifier.proofs.effects.dup.Tie as tie
@@ -16,7 +18,7 @@ unfolding outcomeOf going effect typesOf _>>=_
 returns c = rw (popped-empty _ _ _ (c .before .before .pop .ensures) (c .enum-told .given .1))
 
 returns-2 : tie.Need-returns-2
-unfolding outcomeOf going effect typesOf _>>=_ notesIn meetValues meetAll rows pop
+unfolding outcomeOf going effect typesOf _>>=_ notesIn valuesTrace meetFrom pop
 returns-2 c =
     let at5 = c .before .before .before .before .before in
     let whole : stack (operandAt (at5 .args .types .operands))

@@ -5,7 +5,8 @@ use Rattle.definition.specs.Verifier.{effect}
 use Rattle.verifier.specs.Types.{typesOf}
 use Rattle.verifier.proofs.TypeLaws.{popped-empty, popped-top}
 use Rattle.definition.specs.Maybe.{_>>=_, need}
-use Rattle.verifier.specs.Effects.{going, outcomeOf}
+use Rattle.verifier.specs.Effects.{going}
+use Rattle.verifier.specs.Answers.{outcomeOf}
 use Rattle.verifier.proofs.EffectLaws.{pushed-alone}
 use borrow.Author.Needs.{needs}
 use Rattle.verifier.proofs.effects.getfield.Statement.{statement}

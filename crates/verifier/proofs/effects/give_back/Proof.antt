@@ -3,7 +3,8 @@ use Rattle.definition.specs.Verifier.{returns as returning}
 use Rattle.verifier.specs.Types.{typesOf}
 use Rattle.verifier.proofs.TypeLaws.{popped-empty, popped-top}
 use Rattle.definition.specs.Maybe.{_>>=_}
-use Rattle.verifier.specs.Effects.{ending, outcomeOf}
+use Rattle.verifier.specs.Effects.{ending}
+use Rattle.verifier.specs.Answers.{outcomeOf}
 use mathlib.Core.Path.{sym}
 use Rattle.verifier.proofs.EffectLaws.{of-kind, off-kind}
 use borrow.Author.Needs.{needs}

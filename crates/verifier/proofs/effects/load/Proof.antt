@@ -1,9 +1,9 @@
 -- A local that is set and of the kind is pushed.
-use Rattle.definition.specs.Lists.{rows}
-use Rattle.definition.specs.Verifier.{meetAll}
 use Rattle.verifier.specs.Types.{typesOf}
 use Rattle.definition.specs.Maybe.{_>>=_}
-use Rattle.verifier.specs.Effects.{notesIn, meetValues, going, outcomeOf}
+use Rattle.verifier.specs.Effects.{notesIn, going}
+use Rattle.verifier.specs.Trace.{meetFrom, valuesTrace}
+use Rattle.verifier.specs.Answers.{outcomeOf}
 use Rattle.verifier.proofs.EffectLaws.{of-kind, off-kind, load-unset, load-set}
 use borrow.Author.Needs.{needs}
 use Rattle.verifier.proofs.effects.load.Statement.{statement}
@@ -22,7 +22,7 @@ returns-2 c =
     )
 
 returns-3 : tie.Need-returns-3
-unfolding outcomeOf going typesOf notesIn meetValues meetAll rows _>>=_
+unfolding outcomeOf going typesOf notesIn valuesTrace meetFrom _>>=_
 returns-3 c =
     rw (
       c .push .ensures,

@@ -1,11 +1,12 @@
 -- The class is pushed if it may be named.
 use borrow.Author.Tests.{lt-leb, le-leb}
-use Rattle.definition.specs.Verifier.{effect, meetAll}
-use Rattle.definition.specs.Lists.{rows}
+use Rattle.definition.specs.Verifier.{effect}
 use Rattle.verifier.specs.Types.{typesOf}
 use Rattle.verifier.proofs.TypeLaws.{type-name}
 use Rattle.definition.specs.Maybe.{_>>=_, need}
-use Rattle.verifier.specs.Effects.{notesIn, meetValues, going, outcomeOf}
+use Rattle.verifier.specs.Effects.{notesIn, going}
+use Rattle.verifier.specs.Trace.{meetFrom, valuesTrace}
+use Rattle.verifier.specs.Answers.{outcomeOf}
 use borrow.Author.Needs.{needs}
 use Rattle.verifier.proofs.effects.new.Statement.{statement}
 use Rattle.verifier.proofs.effects.new.Tie as tie
@@ -15,7 +16,7 @@ unfolding outcomeOf going effect typesOf _>>=_ need
 returns c = rw (lt-leb 2 (c .before .args .c) (c .if1 .taken))
 
 returns-2 : tie.Need-returns-2
-unfolding outcomeOf going effect typesOf _>>=_ notesIn meetValues meetAll rows need
+unfolding outcomeOf going effect typesOf _>>=_ notesIn valuesTrace meetFrom need
 returns-2 c =
     rw (
       c .push .ensures,

@@ -3,7 +3,8 @@ use Rattle.definition.specs.Verifier.{effect}
 use Rattle.verifier.specs.Types.{typesOf}
 use Rattle.verifier.proofs.TypeLaws.{popped-empty, popped-top, local-at, local-past}
 use Rattle.definition.specs.Maybe.{_>>=_}
-use Rattle.verifier.specs.Effects.{going, outcomeOf}
+use Rattle.verifier.specs.Effects.{going}
+use Rattle.verifier.specs.Answers.{outcomeOf}
 use Rattle.verifier.proofs.EffectLaws.{of-kind, off-kind}
 use borrow.Author.Needs.{needs}
 use Rattle.verifier.proofs.effects.store.Statement.{statement}

@@ -2,8 +2,8 @@
 use Rattle.definition.specs.Lists.{isSome}
 use Rattle.verifier.specs.Effects.{notesIn}
 use borrow.Author.Needs.{needs}
-use Rattle.verifier.proofs.changes.met.Statement.{statement}
-use Rattle.verifier.proofs.changes.met.Tie as tie
+use Rattle.verifier.proofs.effects.met.Statement.{statement}
+use Rattle.verifier.proofs.effects.met.Tie as tie
 
 returns : tie.Need-returns
 unfolding isSome notesIn

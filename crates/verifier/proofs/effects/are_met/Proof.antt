@@ -10,8 +10,8 @@ use Rattle.verifier.proofs.ChangeLaws.{met-notes, unmet-notes}
 use Rattle.verifier.proofs.FlowLaws.{places-end, places-unmet, places-met}
 use Rattle.verifier.proofs.ValueLaws.{values-start}
 use borrow.Author.Needs.{needs}
-use Rattle.verifier.proofs.changes.are_met.Statement.{statement}
-use Rattle.verifier.proofs.changes.are_met.Tie as tie
+use Rattle.verifier.proofs.effects.are_met.Statement.{statement}
+use Rattle.verifier.proofs.effects.are_met.Tie as tie
 
 abbrev accepts : Trace → Bool
 accepts w = w .accepts
