@@ -124,8 +124,8 @@ uint8_t tariff_record(uint16_t *counts, size_t counts_length, const uint16_t *cl
                       uint32_t loader, uint32_t name, uint32_t class_number,
                       uint32_t *answer, size_t answer_length);
 
-/* start: the task gets a new object of the class of that name under that loader, and a first frame in its method (int to int) of that
-   name, called with that object and `value`, the 32 bits of an int. Nothing runs yet. The object takes the lowest unused number, as one
+/* start: the task gets a new object of the class of that name under that loader, and a first frame in its method of that
+   name with one int as its argument and an int as its result, called with that object and `value`, the 32 bits of an int. Nothing runs yet. The object takes the lowest unused number, as one
    that a step makes does. Refusals: 1 3 12 5 7 10. */
 uint8_t tariff_start(uint16_t *counts, size_t counts_length, const uint16_t *classes, size_t classes_length,
                      const uint8_t *kept, size_t kept_length, const uint16_t *cache, size_t cache_length,
