@@ -1,7 +1,7 @@
 -- Ties posted one method after another behind the rows that a table has: the rows that were written, and the ties that they stand for.
 use mathlib.Core.Path.{_≡_, refl, sym, ap, subst, _∙_}
 use mathlib.Core.Option.{Option, none, some}
-use mathlib.Core.List.{List, [], _∷_, _++_}
+use mathlib.Core.List.{List, [], _∷_, _++_, append-nil, append-assoc}
 use Prim.Native.Nat.{ℕ, suc, _+_, _*_, _-_, _≤_, _<_}
 use native.Mathlib.Omega.{arith}
 use lib.ListN.{length, length-append, getD, drop, drop-of-length-le}
@@ -17,7 +17,7 @@ use Rattle.layout.specs.Cells.{rows-parts, rows-after-more, tie-rows}
 use Rattle.constraints.specs.Posting.{newTieIn, tiesAfter}
 use Rattle.constraints.specs.Laws.{tie-few}
 use Rattle.defining.specs.Posting.{TiesPosted}
-use Rattle.laws.specs.Inline.{five-ties}
+use Rattle.laws.specs.Inline.{four-arguments, ties-few, five-ties}
 
 -- At most one tie is new, and at most five for a method
 
@@ -63,30 +63,74 @@ module _ (l m : ℕ) where
       cells : X ≡ writeRows putTie (typesLeft u i ns) i u
       cells = inv .cells ∙ (rows-parts tie-rows us vs k t ∙ (λ x. writeRows putTie (sym rest x) (sym ei x) (sym eu x)))
 
-  -- where no type is left, all is posted
-  posts-types : (t X : List ℕ) (k N : ℕ) → TiesPosted (typesLeft t k []) t k X N → (k ≡ N) × (t ≡ X)
-  unfolding newTies writeRows
-  posts-types t X k N inv = (omega (arith, inv .count), sym (inv .cells))
-
-  -- a signature's types: at first all are left, then those of the arguments from j on and the result, then the result alone
-  pub posts-signature : (s : Signature) (t : List ℕ) (k : ℕ) → TiesPosted (typesLeft t k (drop 0 (argumentTypes s) ++ (s .result ∷ []))) t k
-      (writeRows putTie (signatureTies (rows (tieAt t) k 0) l m s) k t) (k + length (signatureTies (rows (tieAt t) k 0) l m s))
-  unfolding signatureTies
-  posts-signature s t k = record { count = refl; cells = refl }
-
-  module _ (xs ys t u X : List ℕ) (n k i j N : ℕ) where
-    pub posts-argument : j < length xs → n ≡ getD xs j 0 → (k + 1) * 3 ≤ length t → TiesPosted (typesLeft t k (drop j xs ++ ys)) t k X N
-        → i ≡ k + length (newTieIn t k l m n) → u ≡ tiesAfter t k (newTieIn t k l m n) → TiesPosted (typesLeft u i (drop (j + 1) xs ++ ys)) u i X N
-    posts-argument h e room inv ei eu =
+  module _ (xs t X : List ℕ) (k j N : ℕ) where
+    pub posts-types-on : (n : ℕ) (u : List ℕ) (i : ℕ) → j < length xs → n ≡ getD xs j 0 → (k + 1) * 3 ≤ length t → TiesPosted (typesLeft t k (drop j xs)) t k X N
+        → i ≡ k + length (newTieIn t k l m n) → u ≡ tiesAfter t k (newTieIn t k l m n) → TiesPosted (typesLeft u i (drop (j + 1) xs)) u i X N
+    posts-types-on n u i h e room inv ei eu =
         let one : suc j ≡ j + 1 = omega arith in
-        let f : drop j xs ++ ys ≡ n ∷ (drop (j + 1) xs ++ ys) = ap (λ (x : List ℕ). x ++ ys) (drop-cons xs j 0 h) ∙ (λ z. sym e z ∷ (drop (one z) xs ++ ys)) in
-        posts-type n (drop (j + 1) xs ++ ys) t u X k i N room (subst (λ (x : List ℕ). TiesPosted (typesLeft t k x) t k X N) f inv) ei eu
+        let f : drop j xs ≡ n ∷ drop (j + 1) xs = drop-cons xs j 0 h ∙ (λ z. sym e z ∷ drop (one z) xs) in
+        posts-type n (drop (j + 1) xs) t u X k i N room (subst (λ (x : List ℕ). TiesPosted (typesLeft t k x) t k X N) f inv) ei eu
 
-    pub posts-result : length xs ≤ j → (k + 1) * 3 ≤ length t → TiesPosted (typesLeft t k (drop j xs ++ (n ∷ []))) t k X N
-        → i ≡ k + length (newTieIn t k l m n) → u ≡ tiesAfter t k (newTieIn t k l m n) → (i ≡ N) × (u ≡ X)
-    posts-result h room inv ei eu =
-        let f : drop j xs ++ (n ∷ []) ≡ n ∷ [] = ap (λ (x : List ℕ). x ++ (n ∷ [])) (drop-of-length-le xs h) in
-        posts-types u X i N (posts-type n [] t u X k i N room (subst (λ (x : List ℕ). TiesPosted (typesLeft t k x) t k X N) f inv) ei eu)
+    -- where no type is left, all is posted
+    pub posts-types-end : length xs ≤ j → TiesPosted (typesLeft t k (drop j xs)) t k X N → (k ≡ N) × (t ≡ X)
+    unfolding newTies writeRows
+    posts-types-end h inv =
+        let e : typesLeft t k (drop j xs) ≡ [] = ap (typesLeft t k) (drop-of-length-le xs h) in
+        (omega (arith, inv .count, ap length e), sym (inv .cells ∙ ap (λ (x : List Tie). writeRows putTie x k t) e))
+
+  -- Some types, and then others
+
+  ties-both : (ts : List Tie) (xs ys : List ℕ) → newTies ts l m (xs ++ ys) ≡ newTies ts l m xs ++ newTies (ts ++ newTies ts l m xs) l m ys
+  unfolding newTies
+  ties-both ts [] ys = rw (append-nil ts) refl
+  ties-both ts (n ∷ ns) ys =
+      let u = newTie ts l m n in
+      let vs = newTies (ts ++ u) l m ns in
+      ap (λ (x : List Tie). u ++ x) (ties-both (ts ++ u) ns ys)
+      ∙ (ap (λ (x : List Tie). u ++ (vs ++ newTies x l m ys)) (append-assoc ts u vs) ∙ sym (append-assoc u vs (newTies (ts ++ (u ++ vs)) l m ys)))
+
+  posts-both : (xs ys t u v : List ℕ) (k i j : ℕ) → (k + length xs) * 3 ≤ length t → TiesPosted (typesLeft t k xs) t k u i → TiesPosted (typesLeft u i ys) u i v j
+      → TiesPosted (typesLeft t k (xs ++ ys)) t k v j
+  posts-both xs ys t u v k i j room one two = record { count = count; cells = cells }
+    where
+      ts : List Tie
+      ts = rows (tieAt t) k 0
+
+      us : List Tie
+      us = typesLeft t k xs
+
+      vs : List Tie
+      vs = newTies (ts ++ us) l m ys
+
+      same : rows (tieAt u) i 0 ≡ ts ++ us
+      same =
+          ap (λ (x : List ℕ). rows (tieAt x) i 0) (one .cells)
+          ∙ (ap (λ (x : ℕ). rows (tieAt (writeRows putTie us k t)) x 0) (one .count) ∙ rows-after-more tie-rows us t k (omega (arith, room, ties-few ts l m xs)))
+
+      rest : typesLeft u i ys ≡ vs
+      rest = ap (λ (x : List Tie). newTies x l m ys) same
+
+      all : typesLeft t k (xs ++ ys) ≡ us ++ vs
+      all = ties-both ts xs ys
+
+      count : j ≡ k + length (typesLeft t k (xs ++ ys))
+      count = omega (arith, one .count, two .count, ap length rest, ap length all, length-append us vs)
+
+      cells : v ≡ writeRows putTie (typesLeft t k (xs ++ ys)) k t
+      cells =
+          two .cells
+          ∙ ((λ x. writeRows putTie (rest x) (one .count x) (one .cells x))
+          ∙ (sym (rows-parts tie-rows us vs k t) ∙ ap (λ (x : List Tie). writeRows putTie x k t) (sym all)))
+
+  -- the types of a signature: its arguments, and then its result
+  pub posts-signature : (s : Signature) (t u v : List ℕ) (k i j : ℕ) → (k + 5) * 3 ≤ length t → TiesPosted (typesLeft t k (argumentTypes s)) t k u i
+      → TiesPosted (typesLeft u i (s .result ∷ [])) u i v j → TiesPosted (signatureTies (rows (tieAt t) k 0) l m s) t k v j
+  unfolding signatureTies
+  posts-signature s t u v k i j room = posts-both (argumentTypes s) (s .result ∷ []) t u v k i j (omega (arith, room, four-arguments (s .arguments)))
+
+-- what types post: at most a row each
+pub types-few : (l m : ℕ) (xs t : List ℕ) (k : ℕ) (u : List ℕ) (j : ℕ) → TiesPosted (typesLeft l m t k xs) t k u j → j ≤ k + length xs
+types-few l m xs t k u j h = omega (arith, h .count, ties-few (rows (tieAt t) k 0) l m xs)
 
 -- One method
 
