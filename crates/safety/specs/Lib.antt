@@ -15,4 +15,5 @@ pub mod Misplaced
 pub mod Words
 pub mod Safety
 pub mod Fields
+pub mod Passed
 pub mod Bits
