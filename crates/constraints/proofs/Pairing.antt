@@ -12,7 +12,7 @@ use lib.ListN.{getD}
 use lib.Dec.{eqb, ltb}
 use borrow.Author.Tests.{eqb-true, eqb-false, eq-eqb, ne-eqb, ltb-true, ltb-false}
 use Rattle.definition.specs.Lists.{rows, all}
-use Rattle.definition.specs.Chains.{Edge, Chain, stay, hop, leads}
+use Rattle.definition.specs.Chains.{Edge, leads}
 use Rattle.definition.specs.Requests.{Request, at, sameRequest}
 use Rattle.definition.specs.Superclasses.{Below, Falls, below, same}
 use Rattle.laws.specs.Agreement.{all-at, all-of}
@@ -24,7 +24,7 @@ use Rattle.constraints.specs.Upward.{isAbove}
 use Rattle.constraints.specs.Pairs.{Found, NoPair, Pair, isPair, Meets, Followed, ToMeet, pairIs, pairOn, agreeOn, outMarked, inMarked, PairFine, NextMet, Judged, fine, tied, out, into, Fresh, Finding, agree, apart}
 use Rattle.constraints.specs.Looking.{Span, requestAt, leadOf, NextTurn, FirstTurn, Links, Tables, LookedFirst, LookedTies, LookedAhead, Looked}
 use Rattle.constraints.proofs.Rows.{Order, less, equal, more, order, in-rows, rows-in}
-use Rattle.constraints.proofs.Searching.{link-in}
+use Rattle.constraints.proofs.Searching.{led-holds}
 use Rattle.constraints.proofs.Looks.{tables-more}
 use Rattle.constraints.proofs.Supers.{above-below}
 
@@ -222,15 +222,9 @@ module _ (sup : ℕ → Option ℕ) (falls : Falls sup) (groups classes : List �
     unfolding startOf
     end-own l = rw (l .end) at (rooted .top (n + noted + l .number) (omega (arith, l .fits)))
 
-    -- what a leads to, its end named by a group
-    led-own : {a : ℕ} {z : Request} → group a ≡ a → Chain theLinks (at 0 a) z → (y : ℕ) × (z ≡ at 0 y) × (group y ≡ y)
-    led-own {a} h (stay e) = (a, sym e, h)
-    led-own {a} {z} h (hop c m) =
-        let r = led-own h c in
-        let l = link-in groups n (n + noted) noted (r .0) z (rw (r .1) at m) in (l .0, l .1, end-own (l .2))
-
+    -- what a group leads to is a group
     end-group : {a b : ℕ} → group a ≡ a → Onto a b → group b ≡ b
-    end-group {a} {b} h c = let r = led-own h c in let e : b ≡ r .0 = ap (λ (k : Request). k .name) (r .1) in rw (sym e) at (r .2)
+    end-group {a} {b} h c = led-holds groups n (n + noted) noted (λ y. group y ≡ y) h (λ x y l _. end-own l) b c
 
     -- The turn of a request
 
@@ -463,16 +457,10 @@ module _ (sup : ℕ → Option ℕ) (falls : Falls sup) (groups classes : List �
             reached = inr (all-passed (h .m) (h .fits) .closed x y (ltb-false x n q) k l);
           }
 
-      held : {a : ℕ} {z : Request} → a < n → group a ≡ a → Chain theLinks (at 0 a) z → (y : ℕ) × (z ≡ at 0 y) × Held a y
-      held {a} f o (stay e) = (a, sym e, record { m = a; fits = f; own = o; lower = same refl; reached = inl refl })
-      held {a} {z} f o (hop c m) =
-          let r = held f o c in
-          let l = link-in groups n (n + noted) noted (r .0) z (rw (r .1) at m) in (l .0, l .1, held-on (l .2) (r .2))
-
       -- what a leads to has its class or one above it
       led-fits : (a b : ℕ) → a < n → b < n → group a ≡ a → Onto a b → Below sup (class a) (class b)
-      led-fits a b f g o c = let r = held f o c in
-          let e : b ≡ r .0 = ap (λ (k : Request). k .name) (r .1) in end (rw (sym e) at (r .2))
+      led-fits a b f g o c =
+          end (led-holds groups n (n + noted) noted (λ y. Held a y) (record { m = a; fits = f; own = o; lower = same refl; reached = inl refl }) (λ x y l h. held-on l h) b c)
         where
           end : Held a b → Below sup (class a) (class b)
           end h = go (h .reached)

@@ -247,7 +247,7 @@ module _ (groups : List ℕ) (stop from to noted stamp a : ℕ) where
 
 module _ (groups : List ℕ) (from to noted : ℕ) where
   -- a link and its ends
-  pub link-in : (x : ℕ) (z : Request) → List·Memᴰ (edge (at 0 x) z) (linksOf groups from to noted) → (y : ℕ) × (z ≡ at 0 y) × Link groups from to noted x y
+  link-in : (x : ℕ) (z : Request) → List·Memᴰ (edge (at 0 x) z) (linksOf groups from to noted) → (y : ℕ) × (z ≡ at 0 y) × Link groups from to noted x y
   unfolding linksOf linkOf
   link-in x z m =
       let p = rows-in (linkOf groups from to) noted 0 (edge (at 0 x) z) m in (
@@ -262,7 +262,7 @@ module _ (groups : List ℕ) (from to noted : ℕ) where
       )
 
   -- what holds of a, and of a link's end if of its start, holds of all that a leads to
-  led-holds : {a : ℕ} (P : ℕ → Type 0) → P a → ((x y : ℕ) → Link groups from to noted x y → P x → P y) → (b : ℕ) → Led groups from to noted a b → P b
+  pub led-holds : {a : ℕ} (P : ℕ → Type 0) → P a → ((x y : ℕ) → Link groups from to noted x y → P x → P y) → (b : ℕ) → Led groups from to noted a b → P b
   led-holds {a} P start on b c = let r = go c in let e : b ≡ r .0 = ap (λ (k : Request). k .name) (r .1) in rw e (r .2)
     where
       go : {z : Request} → Chain (linksOf groups from to noted) (at 0 a) z → (y : ℕ) × (z ≡ at 0 y) × P y
