@@ -10,7 +10,7 @@ use Rattle.constraints.proofs.agreement.check.Statement.{statement}
 use Rattle.constraints.proofs.agreement.check.Tie as tie
 
 list-classes-requires : tie.Need-list-classes-requires
-list-classes-requires c κs = (c .before .before .before .before .before .before .before .before .before .before .before .at-most .ensures .1, λ p h. omega (arith, c .before .before .before .number-nodes .ensures p (omega arith) .low))
+list-classes-requires c κs = (omega arith, c .before .before .before .before .before .before .before .before .before .before .before .at-most .ensures .1, λ p h. omega (arith, c .before .before .before .number-nodes .ensures p (omega arith) .low))
 
 group-places-requires : tie.Need-group-places-requires
 group-places-requires c κs = (omega arith, search needs, search needs, λ p h. omega (arith, c .before .before .before .before .before .before .before .number-nodes .ensures p (omega arith) .low))

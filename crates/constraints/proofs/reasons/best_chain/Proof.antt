@@ -16,7 +16,7 @@ use Rattle.constraints.proofs.reasons.best_chain.Tie as tie
 
 list-classes-requires : tie.Need-list-classes-requires
 list-classes-requires c κs =
-    (c .before .before .before .before .before .before .before .before .before .before .before .before .before .at-most .ensures .1, λ p h. omega (arith, c .before .before .before .number-nodes .ensures p (omega arith) .low))
+    (omega arith, c .before .before .before .before .before .before .before .before .before .before .before .before .before .at-most .ensures .1, λ p h. omega (arith, c .before .before .before .number-nodes .ensures p (omega arith) .low))
 
 -- Once the links and their rows' numbers are listed
 
