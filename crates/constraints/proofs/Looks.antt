@@ -45,19 +45,19 @@ everyone-followed q = let e : _≡_ {A = ℕ} 0 2 = ap whoOf q in omega arith
 members-followed : Members ≡ Followed → ⊥
 members-followed q = let e : _≡_ {A = ℕ} 1 2 = ap whoOf q in omega arith
 
--- tables of zeros, before the first turn
+-- tables of zeros, before the first turn, with any queue
 
-pub tables-none : {noted : ℕ} → noted ≡ 0 → Tables noted 0 (replicate 1 0) (replicate 1 0) (replicate 1 0) (replicate 1 0)
-tables-none z = record { outsMost = stamped-none 1 0 .most; insMost = stamped-none 1 0 .most; full = inl z }
+pub tables-none : {noted : ℕ} (queue : List ℕ) → noted ≡ 0 → Tables noted 0 (replicate 1 0) (replicate 1 0) queue (replicate 1 0)
+tables-none queue z = record { outsMost = stamped-none 1 0 .most; insMost = stamped-none 1 0 .most; full = inl z }
 
-pub tables-zeros : (noted : ℕ) → Tables noted 0 (replicate 1280 0) (replicate 1280 0) (replicate 1280 0) (replicate 256 0)
-tables-zeros noted = record {
+pub tables-zeros : (noted : ℕ) (queue : List ℕ) → length queue ≡ 1280 → Tables noted 0 (replicate 1280 0) (replicate 1280 0) queue (replicate 256 0)
+tables-zeros noted queue long = record {
   outsMost = stamped-none 1280 0 .most;
   insMost = stamped-none 1280 0 .most;
   full = inr (record {
     outsAre = stamped-none 1280 0;
     insAre = stamped-none 1280 0;
-    queueLong = length-replicate {A = ℕ} 1280 0;
+    queueLong = long;
     abovesAre = stamped-none 256 0;
   });
 }

@@ -126,19 +126,18 @@ fn node_of(numbers: &[u32], nodes: &[u16], nexts: &[u16], last: usize, p: usize)
     p as u16
 }
 
-// The node of each of n places.
-pub(crate) fn number_nodes(numbers: &[u32], n: usize, nodes: &mut [u16])
-    requires { ⌜ (n ≤ placeLimit) × (length (now numbers) ≡ placeLimit) × (length (now nodes) ≡ placeLimit) ⌝ }
+// The node of each of n places. What the table `nexts` holds before and after is of no matter.
+pub(crate) fn number_nodes(numbers: &[u32], n: usize, nodes: &mut [u16], nexts: &mut [u16])
+    requires { ⌜ (n ≤ placeLimit) × (length (now numbers) ≡ placeLimit) × (length (now nodes) ≡ placeLimit) × (length (now nexts) ≡ placeLimit) ⌝ }
     ensures { λ _. ⌜ NodesOf (now (numbers .entry)) n (now (nodes .exit)) ⌝ }
 {
     let mut heads = [0u16; PLACE_LIMIT];
-    let mut nexts = [0u16; PLACE_LIMIT];
     let mut p = 0;
     while p < n {
         let key = bucket(numbers[p]);
-        let node = node_of(numbers, nodes, &nexts, wide16(heads[key]), p);
+        let node = node_of(numbers, nodes, nexts, wide16(heads[key]), p);
         nodes[p] = node;
-        enter(key, p, &mut heads, &mut nexts);
+        enter(key, p, &mut heads, nexts);
         p += 1;
     }
 }
