@@ -223,7 +223,8 @@ fn look_first(
         };
     }
     if at16(heads, group) == 0 {
-        if !is_end(groups, cached + noted, noted, group) {
+        let highs = cached + noted;
+        if !is_end(groups, highs, noted, group) {
             return Span {
                 from: group,
                 end: cached,
