@@ -101,7 +101,8 @@ pub(crate) fn number_places(
     number_rows(ties, 1, 2, tied, numbers, ones + tied);
 }
 
-// The list that a number is in.
+// The list that a number is in. Each loader's names begin 633 lists after those of the loader before it, which keeps requests of a few loaders and of
+// neighbouring names apart.
 fn bucket(number: u32) -> usize
     ensures { λ r. ⌜ (r ≡ bucketOf number) × (r < bucketLimit) ⌝ }
 {
