@@ -1,5 +1,4 @@
 -- A place that leads to a lower one has the root of that.
-use mathlib.Core.Path.{_≡_}
 use Rattle.constraints.proofs.Rooting.{root-here, root-next}
 use borrow.Author.Needs.{needs}
 use Rattle.constraints.proofs.grouping.group_of.Statement.{statement}

@@ -2,7 +2,6 @@
 use mathlib.Core.Path.{refl}
 use mathlib.Core.Logic.{inl, inr}
 use native.Mathlib.Omega.{arith}
-use borrow.Author.Needs.{needs}
 use Rattle.constraints.proofs.looking.first_turn.Statement.{statement}
 use Rattle.constraints.proofs.looking.first_turn.Tie as tie
 

@@ -3,7 +3,6 @@ use Prim.Native.Nat.{ℕ, suc, _-_}
 use mathlib.Core.Path.{_≡_, ap, sym}
 use native.Mathlib.Omega.{arith}
 use Rattle.constraints.specs.Looking.{requestAt}
-use borrow.Author.Needs.{needs}
 use Rattle.constraints.proofs.looking.request_at.Statement.{statement}
 use Rattle.constraints.proofs.looking.request_at.Tie as tie
 

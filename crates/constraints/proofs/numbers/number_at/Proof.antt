@@ -1,9 +1,8 @@
 -- A row that the table holds has its cell's number; one that it doesn't has 0; past the last row none stands.
-use mathlib.Core.Path.{_≡_, sym, _∙_}
-use Prim.Native.Nat.{_+_, _<_, _≤_}
+use mathlib.Core.Path.{sym, _∙_}
 use native.Mathlib.Omega.{arith}
 use denote.Ref.{now}
-use lib.ListN.{length, getD, List·getD-eq-default}
+use lib.ListN.{List·getD-eq-default}
 use borrow.Author.Needs.{needs}
 use Rattle.definition.specs.Tables.{numberAt}
 use Rattle.constraints.proofs.Turns.{standing-there, standing-past}

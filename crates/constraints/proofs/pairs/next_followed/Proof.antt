@@ -4,7 +4,6 @@ use native.Mathlib.Omega.{arith}
 use Rattle.constraints.specs.Search.{Marked}
 use Rattle.constraints.proofs.Pairing.{met-after, unmarked-on}
 use denote.Ref.{now}
-use borrow.Author.Needs.{needs}
 use Rattle.constraints.proofs.pairs.next_followed.Statement.{statement}
 use Rattle.constraints.proofs.pairs.next_followed.Tie as tie
 
