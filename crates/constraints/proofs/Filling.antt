@@ -62,14 +62,18 @@ all-put {cache} {ties} {subtypes} {n} {tied} {noted} {a} {b} {c} {d} {e} {f} p q
 
 -- Lists
 
-pub joined-none : (key : ℕ → ℕ) → Joined key 0 (replicate 1280 0) (replicate 1280 0)
-joined-none key = record {
+-- before the first place: what `nexts` holds is of no matter
+pub joined-first : (key : ℕ → ℕ) (nexts : List ℕ) → length nexts ≡ 1280 → Joined key 0 (replicate 1280 0) nexts
+joined-first key nexts long = record {
   headsLong = length-replicate {A = ℕ} 1280 0;
-  nextsLong = length-replicate {A = ℕ} 1280 0;
+  nextsLong = long;
   head = λ x h. rw (getD-replicate {A = ℕ} 1280 x 0 0 h)
       (record { high = omega arith; here = λ e q. absurd (omega arith); none = λ e l m. absurd (omega arith) });
   next = λ e h. absurd (omega arith);
 }
+
+pub joined-none : (key : ℕ → ℕ) → Joined key 0 (replicate 1280 0) (replicate 1280 0)
+joined-none key = joined-first key (replicate 1280 0) (length-replicate {A = ℕ} 1280 0)
 
 pub joined-more : (key : ℕ → ℕ) (e : ℕ) (heads nexts : List ℕ) (s : ℕ) → s ≡ key e → s < 1280 → e < 1280 → Joined key e heads nexts
     → Joined key (e + 1) (set heads s (e + 1)) (set nexts e (getD heads s 0))

@@ -1,17 +1,17 @@
--- What is looked at in a request's turn: the newcomer beside all, once the chains out of it and into it were followed; one that isn't the first of its group
--- beside that one; the first of a group beside what it leads to.
-use mathlib.Core.Path.{_≡_, refl, sym}
-use mathlib.Core.Bool.{true, false}
+-- What is looked at in a turn: the newcomer beside all, once the chains out of it and into it were followed; those that aren't the first of their group beside that
+-- one; the first of a group beside what it leads to.
+use mathlib.Core.Path.{_≡_, refl, ap}
 use mathlib.Core.Option.{Option}
 use mathlib.Core.List.{List}
 use mathlib.Core.Logic.{_⊎_, inl, inr}
-use Prim.Native.Nat.{ℕ, suc, _+_, _<_, _≤_}
+use Prim.Native.Nat.{ℕ, zero, suc, _+_, _<_, _≤_}
 use native.Mathlib.Omega.{arith}
-use lib.ListN.{length, getD, replicate, length-replicate}
+use lib.ListN.{length, getD, replicate}
 use Rattle.constraints.specs.Groups.{Rooted}
-use Rattle.constraints.specs.Search.{Link, Marked, Searched}
+use Rattle.constraints.specs.Search.{startOf, Marked, Searched}
 use Rattle.constraints.specs.Upward.{Raised}
-use Rattle.constraints.specs.Looking.{Marks, Tables, Reached, Looked}
+use Rattle.constraints.specs.Pairs.{Meets, Everyone, Members, Followed}
+use Rattle.constraints.specs.Looking.{leadOf, Links, Marks, Tables, Reached, Looked}
 use Rattle.constraints.proofs.Marking.{stamped-none, stamped-more}
 use Rattle.constraints.proofs.Searching.{led-back, led-still}
 
@@ -32,127 +32,153 @@ tables-more {noted} {s} {t} {outs} {ins} {queue} {aboves} h m = record {
       abovesAre = stamped-more h (k .abovesAre);
     })
 
--- tables of zeros, before the first turn
+-- who is looked at, as numbers
 
-pub tables-none : {noted : ℕ} → noted ≡ 0 → Tables noted 0 (replicate 1 0) (replicate 1 0) (replicate 1 0) (replicate 1 0)
-tables-none z = record { outsMost = stamped-none 1 0 .most; insMost = stamped-none 1 0 .most; full = inl z }
+abbrev whoOf : Meets → ℕ
+whoOf Everyone = 0
+whoOf Members = 1
+whoOf Followed = 2
 
-pub tables-zeros : (noted : ℕ) → Tables noted 0 (replicate 1280 0) (replicate 1280 0) (replicate 1280 0) (replicate 256 0)
-tables-zeros noted = record {
+everyone-followed : Everyone ≡ Followed → ⊥
+everyone-followed q = let e : _≡_ {A = ℕ} 0 2 = ap whoOf q in omega arith
+
+members-followed : Members ≡ Followed → ⊥
+members-followed q = let e : _≡_ {A = ℕ} 1 2 = ap whoOf q in omega arith
+
+-- tables of zeros, before the first turn, with any queue
+
+pub tables-none : {noted : ℕ} (queue : List ℕ) → noted ≡ 0 → Tables noted 0 (replicate 1 0) (replicate 1 0) queue (replicate 1 0)
+tables-none queue z = record { outsMost = stamped-none 1 0 .most; insMost = stamped-none 1 0 .most; full = inl z }
+
+pub tables-zeros : (noted : ℕ) (queue : List ℕ) → length queue ≡ 1280 → Tables noted 0 (replicate 1280 0) (replicate 1280 0) queue (replicate 256 0)
+tables-zeros noted queue long = record {
   outsMost = stamped-none 1280 0 .most;
   insMost = stamped-none 1280 0 .most;
   full = inr (record {
     outsAre = stamped-none 1280 0;
     insAre = stamped-none 1280 0;
-    queueLong = length-replicate {A = ℕ} 1280 0;
+    queueLong = long;
     abovesAre = stamped-none 256 0;
   });
 }
 
-module _ (sup : ℕ → Option ℕ) (groups classes : List ℕ) (n noted a : ℕ) (fits : a < n) where
-  -- without links
-  module _ (z : noted ≡ 0) where
-    none : {x y : ℕ} → Link groups n (n + noted) noted x y → ⊥
-    none l = omega (arith, l .fits)
+-- no link starts where none is joined
+pub no-start : (groups : List ℕ) {heads nexts : List ℕ} (n noted g : ℕ) → Links groups n noted heads nexts → g < 1280 → getD heads g 0 ≡ 0 → (e : ℕ) → e < noted → startOf groups n e ≡ g → ⊥
+no-start groups n noted g (inl z) h q e f s = omega arith
+no-start groups n noted g (inr j) h q e f s = j .head g h .none e (omega arith) f s
 
-    pub first-unlinked : {outs ins queue aboves : List ℕ} {from : ℕ} → Rooted groups (n + noted + noted) → Tables noted 0 outs ins queue aboves
-        → from ≡ getD groups a 0 → Looked sup groups classes n noted 0 a outs ins queue aboves (record { from = from; end = n; all = true })
-    first-unlinked {outs} {ins} {queue} {aboves} {from} rooted t e = record {
-      tables = tables-more (omega arith) t;
-      low = omega arith;
-      seen = inl refl;
-      outSound = λ y m. absurd (no-out y m);
-      inSound = λ y m. absurd (no-in y m);
-      raised = λ y m. absurd (no-out y m);
-      first = λ _. record {
-        end = refl;
-        everyOne = refl;
-        skipped = λ b h. record {
-          tied = λ q. absurd (omega (arith, rooted .low b (omega (arith, rooted .low a (omega arith)))));
-          out = λ _ m. absurd (no-out (getD groups b 0) m);
-          into = λ _ m. absurd (no-in (getD groups b 0) m);
-        };
-        outAll = λ y c. inl (led-still groups n (n + noted) noted (λ y k. none k) c);
-        inAll = λ y c. inl (sym (led-still groups n (n + noted) noted (λ y k. none k) c));
+-- at every turn but that of ties b is looked at beside a
+pub lead-other : (turn a b : ℕ) (groups : List ℕ) → (turn ≡ 1 → ⊥) → a ≡ leadOf turn groups a b
+unfolding leadOf
+lead-other zero a b groups d = refl
+lead-other (suc zero) a b groups d = absurd (d refl)
+lead-other (suc (suc t)) a b groups d = refl
+
+module _ (sup : ℕ → Option ℕ) (groups classes : List ℕ) (n noted a : ℕ) where
+  -- where no link starts or ends at the newcomer's group
+  pub first-unlinked : {outs ins queue aboves : List ℕ} {from : ℕ} → a < n → Rooted groups (n + noted + noted)
+      → ((e : ℕ) → e < noted → startOf groups n e ≡ getD groups a 0 → ⊥) → ((e : ℕ) → e < noted → startOf groups (n + noted) e ≡ getD groups a 0 → ⊥)
+      → Tables noted 0 outs ins queue aboves → from ≡ getD groups a 0
+      → Looked sup groups classes n noted 0 a outs ins queue aboves (record { from = from; end = n; who = Everyone })
+  first-unlinked {outs} {ins} {queue} {aboves} {from} fits rooted out into t e = record {
+    tables = tables-more (omega arith) t;
+    begin = omega (arith, rooted .low a (omega arith));
+    low = omega arith;
+    seen = λ q. absurd (everyone-followed q);
+    outSound = λ y m. absurd (no-out y m);
+    inSound = λ y m. absurd (no-in y m);
+    raised = λ y m. absurd (no-out y m);
+    first = λ _. record {
+      end = refl;
+      everyone = refl;
+      skipped = λ b h. record {
+        tied = λ q. absurd (omega (arith, rooted .low b (omega (arith, rooted .low a (omega arith)))));
+        out = λ _ m. absurd (no-out (getD groups b 0) m);
+        into = λ _ m. absurd (no-in (getD groups b 0) m);
       };
-      back = λ h. absurd (omega arith);
-      ahead = λ h. absurd (omega arith);
-    }
-      where
-        no-out : (y : ℕ) → Marked 1 outs y → ⊥
-        no-out y m = omega (arith, t .outsMost y)
+      outAll = λ y c. inl (led-still groups n (n + noted) noted (λ z l. out (l .number) (l .fits) (l .start)) c);
+      inAll = λ y c. inl (led-still groups (n + noted) n noted (λ z l. into (l .number) (l .fits) (l .start)) (led-back groups (n + noted) n noted c));
+    };
+    ties = λ q. absurd (omega arith);
+    ahead = λ h. absurd (omega arith);
+  }
+    where
+      no-out : (y : ℕ) → Marked 1 outs y → ⊥
+      no-out y m = omega (arith, t .outsMost y)
 
-        no-in : (y : ℕ) → Marked 1 ins y → ⊥
-        no-in y m = omega (arith, t .insMost y)
+      no-in : (y : ℕ) → Marked 1 ins y → ⊥
+      no-in y m = omega (arith, t .insMost y)
 
-  -- with them
+  -- where the chains were followed
   pub first-linked : {outs ins queue aboves : List ℕ} → Reached groups n (n + noted) noted 1 (getD groups a 0) outs
       → Reached groups (n + noted) n noted 1 (getD groups a 0) ins → Raised sup (getD classes a 0) 1 aboves → length queue ≡ 1280
-      → Looked sup groups classes n noted 0 a outs ins queue aboves (record { from = 0; end = n; all = true })
+      → Looked sup groups classes n noted 0 a outs ins queue aboves (record { from = 0; end = n; who = Everyone })
   first-linked o i r q = record {
     tables = record {
       outsMost = o .stamped .most;
       insMost = i .stamped .most;
       full = inr (record { outsAre = o .stamped; insAre = i .stamped; queueLong = q; abovesAre = r .stamped });
     };
+    begin = omega arith;
     low = omega arith;
-    seen = inl refl;
+    seen = λ q. absurd (everyone-followed q);
     outSound = o .sound;
     inSound = λ y m. led-back groups n (n + noted) noted (i .sound y m);
     raised = λ y m. r;
     first = λ _. record {
       end = refl;
-      everyOne = refl;
+      everyone = refl;
       skipped = λ b h. absurd (omega arith);
       outAll = o .all;
       inAll = λ y c. i .all y (led-back groups (n + noted) n noted c);
     };
-    back = λ h. absurd (omega arith);
+    ties = λ q. absurd (omega arith);
     ahead = λ h. absurd (omega arith);
   }
 
   -- at a later turn
-  module _ {turn : ℕ} {outs ins queue aboves : List ℕ} (later : 0 < turn) (t : Tables noted turn outs ins queue aboves) where
+  module _ {turn : ℕ} {outs ins queue aboves : List ℕ} (t : Tables noted turn outs ins queue aboves) where
     no-out : (y : ℕ) → Marked (suc turn) outs y → ⊥
     no-out y m = omega (arith, t .outsMost y)
 
     no-in : (y : ℕ) → Marked (suc turn) ins y → ⊥
     no-in y m = omega (arith, t .insMost y)
 
-    -- of one that is not the first of its group
-    pub later-member : {first : ℕ} → Rooted groups (n + noted + noted) → first ≡ getD groups a 0 → (first ≡ a → ⊥)
-        → Looked sup groups classes n noted turn a outs ins queue aboves (record { from = first; end = first + 1; all = true })
-    later-member rooted e d = record {
+    -- that of ties
+    pub later-ties : turn ≡ 1 → Looked sup groups classes n noted turn a outs ins queue aboves (record { from = 0; end = n; who = Members })
+    later-ties z = record {
       tables = tables-more (omega arith) t;
-      low = omega (arith, rooted .low a (omega arith));
-      seen = inl refl;
-      outSound = λ y m. absurd (no-out y m);
-      inSound = λ y m. absurd (no-in y m);
-      raised = λ y m. absurd (no-out y m);
-      first = λ z. absurd (omega arith);
-      back = λ _ _. record { from = e; end = omega arith; everyOne = refl };
-      ahead = λ _ o. absurd (omega (arith, d (omega arith)));
-    }
-
-    -- of the first of a group, without links
-    pub later-alone : noted ≡ 0 → getD groups a 0 ≡ a → Looked sup groups classes n noted turn a outs ins queue aboves (record { from = 0; end = 0; all = true })
-    later-alone z o = record {
-      tables = tables-more (omega arith) t;
+      begin = omega arith;
       low = omega arith;
-      seen = inl refl;
+      seen = λ q. absurd (members-followed q);
       outSound = λ y m. absurd (no-out y m);
       inSound = λ y m. absurd (no-in y m);
       raised = λ y m. absurd (no-out y m);
-      first = λ z. absurd (omega arith);
-      back = λ _ d. absurd (d o);
-      ahead = λ _ _. inl z;
+      first = λ q. absurd (omega arith);
+      ties = λ _. record { from = refl; end = refl; who = refl };
+      ahead = λ h. absurd (omega arith);
     }
 
-    -- with links
-    pub later-linked : {outs′ queue′ aboves′ : List ℕ} → n ≤ 1280 → length ins ≡ 1280 → getD groups a 0 ≡ a → Searched groups n n (n + noted) noted (suc turn) a outs′
-        → Raised sup (getD classes a 0) (suc turn) aboves′ → length queue′ ≡ 1280
-        → Looked sup groups classes n noted turn a outs′ ins queue′ aboves′ (record { from = 0; end = n; all = false })
-    later-linked room long o s r q = record {
+    -- of a request from which nothing is to be followed
+    pub later-none : 1 < turn → (getD groups a 0 ≡ a → noted ≡ 0) → Looked sup groups classes n noted turn a outs ins queue aboves (record { from = 0; end = 0; who = Everyone })
+    later-none later z = record {
+      tables = tables-more (omega arith) t;
+      begin = omega arith;
+      low = omega arith;
+      seen = λ q. absurd (everyone-followed q);
+      outSound = λ y m. absurd (no-out y m);
+      inSound = λ y m. absurd (no-in y m);
+      raised = λ y m. absurd (no-out y m);
+      first = λ q. absurd (omega arith);
+      ties = λ q. absurd (omega arith);
+      ahead = λ _ o. inl (z o);
+    }
+
+    -- of the first of a group, from which chains were followed
+    pub later-linked : {outs′ queue′ aboves′ : List ℕ} → 1 < turn → n ≤ 1280 → length ins ≡ 1280 → getD groups a 0 ≡ a
+        → Searched groups n n (n + noted) noted (suc turn) a outs′ → Raised sup (getD classes a 0) (suc turn) aboves′ → length queue′ ≡ 1280
+        → Looked sup groups classes n noted turn a outs′ ins queue′ aboves′ (record { from = 0; end = n; who = Followed })
+    later-linked later room long o s r q = record {
       tables = record {
         outsMost = s .stamped .most;
         insMost = λ x. omega (arith, t .insMost x);
@@ -163,12 +189,13 @@ module _ (sup : ℕ → Option ℕ) (groups classes : List ℕ) (n noted a : ℕ
           abovesAre = r .stamped;
         });
       };
+      begin = omega arith;
       low = omega arith;
-      seen = inr (omega (arith, s .stamped .long));
+      seen = λ _. omega (arith, s .stamped .long);
       outSound = λ y m. rw o (s .sound y m);
       inSound = λ y m. absurd (no-in y m);
       raised = λ y m. r;
       first = λ z. absurd (omega arith);
-      back = λ _ d. absurd (d o);
-      ahead = λ _ _. inr (record { from = refl; end = refl; searched = s });
+      ties = λ z. absurd (omega arith);
+      ahead = λ _ _. inr (record { from = refl; end = refl; who = refl; searched = s });
     }

@@ -1,5 +1,5 @@
--- Pairs of cached requests. What is found of two by marks, and when it says that they agree; a request's turn, after which it agrees with its group's first
--- and with what it leads to as far as the next cached requests; and that all pairs agree once every turn is over: what a request leads to beyond a cached one, that
+-- Pairs of cached requests. What is found of two by marks, and when it says that they agree; the turns, after which the newcomer agrees with all, each request with
+-- its group's first, and each first of a group with what it leads to as far as the next cached requests; and that all pairs agree once every turn is over: what a request leads to beyond a cached one, that
 -- one leads to, and below is transitive.
 use mathlib.Core.Path.{_≡_, refl, sym, ap, _∙_}
 use mathlib.Core.Bool.{Bool, true, false, false≢true}
@@ -21,8 +21,8 @@ use Rattle.laws.specs.Upward.{below-true, true-below, below-trans}
 use Rattle.constraints.specs.Groups.{Rooted}
 use Rattle.constraints.specs.Search.{startOf, linksOf, leadsOn, Led, Link, Marked}
 use Rattle.constraints.specs.Upward.{isAbove}
-use Rattle.constraints.specs.Pairs.{Found, NoPair, Pair, isPair, pairIs, pairOn, agreeOn, outMarked, inMarked, PairFine, NextMet, Judged, fine, tied, out, into, Fresh, Finding, agree, apart}
-use Rattle.constraints.specs.Looking.{Span, requestAt, NextTurn, FirstTurn, Links, Tables, LookedFirst, LookedBack, LookedAhead, Looked}
+use Rattle.constraints.specs.Pairs.{Found, NoPair, Pair, isPair, Meets, Followed, ToMeet, pairIs, pairOn, agreeOn, outMarked, inMarked, PairFine, NextMet, Judged, fine, tied, out, into, Fresh, Finding, agree, apart}
+use Rattle.constraints.specs.Looking.{Span, requestAt, leadOf, NextTurn, FirstTurn, Links, Tables, LookedFirst, LookedTies, LookedAhead, Looked}
 use Rattle.constraints.proofs.Rows.{Order, less, equal, more, order, in-rows, rows-in}
 use Rattle.constraints.proofs.Searching.{led-holds}
 use Rattle.constraints.proofs.Looks.{tables-more}
@@ -127,36 +127,46 @@ pub record Passed (sup : ℕ → Option ℕ) (groups classes : List ℕ) (n note
   pub closed : (x y : ℕ) → n ≤ x → Marked stamp marks x → Link groups n (n + noted) noted x y → Marked stamp marks y
   pub fit : (b : ℕ) → b < n → Marked stamp marks b → Below sup (getD classes a 0) (getD classes b 0)
 
--- the turn of request a is over: it has the class of its group's first and, if it is that one, its search passed
-pub record Fine (sup : ℕ → Option ℕ) (groups classes : List ℕ) (n noted a : ℕ) : Type 0 where
-  pub classed : getD classes (getD groups a 0) 0 ≡ getD classes a 0
-  pub passed : getD groups a 0 ≡ a → Passed sup groups classes n noted a
-
 -- the turns before this one are over
 pub record Tested (sup : ℕ → Option ℕ) (groups classes : List ℕ) (n noted new turn : ℕ) (outs ins queue aboves : List ℕ) : Type 0 where
   pub isNew : turn ≡ 0 → new < n
   pub tables : Tables noted turn outs ins queue aboves
   pub fresh : 0 < turn → new < n → Fresh sup groups classes n noted new
-  pub done : (m : ℕ) → suc m < turn → m < n → Fine sup groups classes n noted m
+  pub tied : 1 < turn → (m : ℕ) → m < n → getD classes (getD groups m 0) 0 ≡ getD classes m 0
+  pub done : (m : ℕ) → suc (suc m) < turn → m < n → Passed sup groups classes n noted m
 
 -- a request of the turn
-turn-request : {turn a m : ℕ} (new : ℕ) → a ≡ requestAt turn new → turn ≡ suc m → a ≡ m
+pub turn-fits : {turn a n : ℕ} (new : ℕ) → (turn ≡ 0 → new < n) → turn ≤ n + 1 → a ≡ requestAt turn new → (turn ≡ 1 → ⊥) → a < n
 unfolding requestAt
-turn-request {turn} new e z = e ∙ ap (λ (t : ℕ). requestAt t new) z
+turn-fits {turn = zero} new f h e d = rw e (f refl)
+turn-fits {turn = suc zero} new f h e d = absurd (d refl)
+turn-fits {turn = suc (suc m)} new f h e d = rw e (omega arith)
 
-pub turn-fits : {turn a n : ℕ} (new : ℕ) → (turn ≡ 0 → new < n) → turn ≤ n → a ≡ requestAt turn new → a < n
-unfolding requestAt
-turn-fits {turn = zero} new f h e = rw e (f refl)
-turn-fits {turn = suc t} new f h e = rw e (omega arith)
+-- one place more that isn't marked
+pub unmarked-on : (marks : List ℕ) {stamp from : ℕ} (k m : ℕ) → m ≡ suc k → ((p : ℕ) → p < k → from ≤ p → Marked stamp marks p → ⊥) → (Marked stamp marks k → ⊥)
+    → (p : ℕ) → p < m → from ≤ p → Marked stamp marks p → ⊥
+unmarked-on marks {stamp} {from} k m e before here p h l q = go (order p k)
+  where
+    go : Order p k → ⊥
+    go (less o) = before p o l q
+    go (equal o) = here (rw o at q)
+    go (more o) = omega arith
+
+-- no place that was passed is marked, and none from there on to the next
+pub met-after : {groups marks : List ℕ} {stamp from b r : ℕ} → from ≤ b → ((p : ℕ) → p < b → from ≤ p → Marked stamp marks p → ⊥)
+    → NextMet groups marks stamp Followed b r → NextMet groups marks stamp Followed from r
+met-after {groups} {marks} {stamp} {from} {b} {r} h before next = record { low = omega (arith, next .low); none = λ p l k m. go p l k m (ltb p b) refl }
+  where
+    go : (p : ℕ) → p < r → from ≤ p → Marked stamp marks p → (t : Bool) → ltb p b ≡ t → ⊥
+    go p l k m true e = before p (ltb-true p b e) k m
+    go p l k m false e = next .none p l (ltb-false p b e) m
 
 -- what was looked at is fine up to the next place that is to be looked at
-pub right-on : {sup : ℕ → Option ℕ} {groups classes outs ins aboves : List ℕ} {stamp a from b r : ℕ} {everyOne : Bool}
-    → ((p : ℕ) → p < b → from ≤ p → (everyOne ≡ true) ⊎ Marked stamp outs p → PairFine sup groups classes outs ins aboves stamp a p)
-    → PairFine sup groups classes outs ins aboves stamp a b → NextMet outs stamp everyOne (b + 1) r
-    → (p : ℕ) → p < r → from ≤ p → (everyOne ≡ true) ⊎ Marked stamp outs p → PairFine sup groups classes outs ins aboves stamp a p
-right-on {sup} {groups} {classes} {outs} {ins} {aboves} {stamp} {a} {from} {b} {r} {everyOne} before here next p h l k = go (order p b)
+pub right-on : (P : ℕ → Type 0) {groups marks : List ℕ} {stamp from b r : ℕ} {who : Meets} → ((p : ℕ) → p < b → from ≤ p → ToMeet who groups marks stamp p → P p) → P b
+    → NextMet groups marks stamp who (b + 1) r → (p : ℕ) → p < r → from ≤ p → ToMeet who groups marks stamp p → P p
+right-on P {groups} {marks} {stamp} {from} {b} {r} {who} before here next p h l k = go (order p b)
   where
-    go : Order p b → PairFine sup groups classes outs ins aboves stamp a p
+    go : Order p b → P p
     go (less q) = before p q l k
     go (equal q) = rw q here
     go (more q) = absurd (next .none p h (omega arith) k)
@@ -228,67 +238,33 @@ module _ (sup : ℕ → Option ℕ) (falls : Falls sup) (groups classes : List �
       fit = λ b h m. absurd (omega arith);
     }
 
-    fine-unlinked : {heads nexts : List ℕ} → n ≤ 1280 → Links groups n noted heads nexts → (a : ℕ) → a < n → group a ≡ a → getD heads a 0 ≡ 0
-        → Fine sup groups classes n noted a
-    fine-unlinked {heads} {nexts} room l a h o z = record { classed = ap (λ (x : ℕ). class x) o; passed = λ _. passed-unlinked a (none l) }
+    passed-none : {heads nexts : List ℕ} → n ≤ 1280 → Links groups n noted heads nexts → (a : ℕ) → a < n → (noted ≡ 0) ⊎ (getD heads a 0 ≡ 0)
+        → Passed sup groups classes n noted a
+    passed-none {heads} {nexts} room l a h z = passed-unlinked a (none l z)
       where
-        none : Links groups n noted heads nexts → (y : ℕ) → Linked a y → ⊥
-        none (inl e) y k = omega (arith, k .fits)
-        none (inr j) y k = j .head a (omega arith) .none (k .number) (omega arith) (k .fits) (k .start)
+        none : Links groups n noted heads nexts → (noted ≡ 0) ⊎ (getD heads a 0 ≡ 0) → (y : ℕ) → Linked a y → ⊥
+        none (inl e) z y k = omega (arith, k .fits)
+        none (inr j) (inl e) y k = omega (arith, k .fits)
+        none (inr j) (inr e) y k = j .head a (omega arith) .none (k .number) (omega arith) (k .fits) (k .start)
 
-    module _ {turn a : ℕ} {outs ins queue aboves : List ℕ} {span : Span} (looked : Looked sup groups classes n noted turn a outs ins queue aboves span) (fits : a < n) where
-      abbrev Right : ℕ → Type 0
-      Right b = PairFine sup groups classes outs ins aboves (suc turn) a b
-
+    module _ {turn a : ℕ} {outs ins queue aboves : List ℕ} {span : Span} (looked : Looked sup groups classes n noted turn a outs ins queue aboves span) where
       -- a class above a's, by the marks
       above-out : (b : ℕ) → Marked (suc turn) outs (group b) → isAbove aboves (suc turn) (class a) (class b) ≡ below sup (class a) (class b)
       above-out b m = above-below aboves (suc turn) (class a) (class b) sup falls (looked .raised (group b) m)
 
       -- what was looked at and found fine
       abbrev AllRight : Type 0
-      AllRight = (p : ℕ) → p < span .end → span .from ≤ p → (span .all ≡ true) ⊎ Marked (suc turn) outs p → Right p
+      AllRight = (p : ℕ) → p < span .end → span .from ≤ p → ToMeet (span .who) groups outs (suc turn) p
+          → PairFine sup groups classes outs ins aboves (suc turn) (leadOf turn groups a p) p
 
-      fine-turn : 0 < turn → AllRight → Fine sup groups classes n noted a
-      fine-turn later right = go (eqb (group a) a) refl
-        where
-          fit : group a ≡ a → LookedAhead groups n noted turn a outs span → (b : ℕ) → b < n → Marked (suc turn) outs b → Below sup (class a) (class b)
-          fit o s b h m = by (eqb (group a) (group b)) refl
-            where
-              own : group b ≡ b
-              own = end-group o (s .searched .sound b m)
-
-              r : Right b
-              r = right b (rw (s .end) h) (rw (s .from) (omega arith)) (inr m)
-
-              by : (t : Bool) → eqb (group a) (group b) ≡ t → Below sup (class a) (class b)
-              by true e = same (r .tied (eqb-true (group a) (group b) e))
-              by false e =
-                  let k : Marked (suc turn) outs (group b) = rw own m in
-                  below-true sup falls (class a) (class b) (sym (above-out b k) ∙ r .out (eqb-false (group a) (group b) e) k)
-
-          ahead : group a ≡ a → (noted ≡ 0) ⊎ LookedAhead groups n noted turn a outs span → Passed sup groups classes n noted a
-          ahead o (inl z) = passed-unlinked a (λ y k. omega (arith, k .fits))
-          ahead o (inr s) = record { stamp = suc turn; marks = outs; first = s .searched .first; closed = s .searched .closed; fit = fit o s }
-
-          back : LookedBack groups a span → class (group a) ≡ class a
-          back l = sym (right (group a) (rw (l .end) (omega arith)) (rw (l .from) (omega arith)) (inl (l .everyOne)) .tied (sym (rooted .top a (omega arith))))
-
-          go : (t : Bool) → eqb (group a) a ≡ t → Fine sup groups classes n noted a
-          go true e = let o = eqb-true (group a) a e in record { classed = ap (λ (x : ℕ). class x) o; passed = λ _. ahead o (looked .ahead later o) }
-          go false e = let o = eqb-false (group a) a e in record { classed = back (looked .back later o); passed = λ q. absurd (o q) }
-
-      -- a pair that breaks agreement is found
-      pub apart-turn : {new b : ℕ} {r : Found} → a ≡ requestAt turn new → (0 < turn → new < n → Fresh sup groups classes n noted new) → b < span .end
+      -- a pair of a and b that breaks agreement is found
+      apart-turn : {new b : ℕ} {r : Found} → a < n → ((a ≡ new) ⊎ (new < n → Fresh sup groups classes n noted new)) → b < span .end
           → Judged sup groups classes outs ins aboves (suc turn) a b r → isPair r ≡ true → Finding sup groups classes n noted new r
-      unfolding isPair requestAt
-      apart-turn {new} {b} is fresh h j p = by j p
+      unfolding isPair
+      apart-turn {new} {b} fits side h j p = by j p
         where
           low : b < n
           low = omega (arith, looked .low)
-
-          with-new : (t : ℕ) → turn ≡ t → (a ≡ new) ⊎ (new < n → Fresh sup groups classes n noted new)
-          with-new zero e = inl (is ∙ ap (λ (t : ℕ). requestAt t new) e)
-          with-new (suc t) e = inr (fresh (omega arith))
 
           left : (a ≡ new) ⊎ (new < n → Fresh sup groups classes n noted new) → ((a ≡ new) ⊎ (b ≡ new)) ⊎ (new < n → Fresh sup groups classes n noted new)
           left (inl e) = inl (inl e)
@@ -300,32 +276,83 @@ module _ (sup : ℕ → Option ℕ) (falls : Falls sup) (groups classes : List �
 
           by : {r : Found} → Judged sup groups classes outs ins aboves (suc turn) a b r → isPair r ≡ true → Finding sup groups classes n noted new r
           by (fine f) q = absurd (false≢true q)
-          by (tied e d) q = apart a b fits low (tied-false a b e d) (left (with-new turn refl))
-          by (out d m k) q = apart a b fits low (led-false a b d (looked .outSound (group b) m) (sym (above-out b m) ∙ k)) (left (with-new turn refl))
-          by (into d m k) q = apart b a low fits (led-false b a (λ e. d (sym e)) (looked .inSound (group b) m) k) (right (with-new turn refl))
+          by (tied e d) q = apart a b fits low (tied-false a b e d) (left side)
+          by (out d m k) q = apart a b fits low (led-false a b d (looked .outSound (group b) m) (sym (above-out b m) ∙ k)) (left side)
+          by (into d m k) q = apart b a low fits (led-false b a (λ e. d (sym e)) (looked .inSound (group b) m) k) (right side)
+
+    -- the turn of a request
+    passed-turn : {t a : ℕ} {outs ins queue aboves : List ℕ} {span : Span} (looked : Looked sup groups classes n noted (suc (suc t)) a outs ins queue aboves span)
+        → AllRight looked → Passed sup groups classes n noted a
+    unfolding leadOf
+    passed-turn {t} {a} {outs} {ins} {queue} {aboves} {span} looked right = go (eqb (group a) a) refl
+      where
+        fit : group a ≡ a → LookedAhead groups n noted (suc (suc t)) a outs span → (b : ℕ) → b < n → Marked (suc (suc (suc t))) outs b → Below sup (class a) (class b)
+        fit o s b h m = by (eqb (group a) (group b)) refl
+          where
+            own : group b ≡ b
+            own = end-group o (s .searched .sound b m)
+
+            r : PairFine sup groups classes outs ins aboves (suc (suc (suc t))) a b
+            r = right b (rw (s .end) h) (rw (s .from) (omega arith)) (rw (s .who) m)
+
+            by : (u : Bool) → eqb (group a) (group b) ≡ u → Below sup (class a) (class b)
+            by true e = same (r .tied (eqb-true (group a) (group b) e))
+            by false e =
+                let k : Marked (suc (suc (suc t))) outs (group b) = rw own m in
+                below-true sup falls (class a) (class b) (sym (above-out looked b k) ∙ r .out (eqb-false (group a) (group b) e) k)
+
+        ahead : group a ≡ a → (noted ≡ 0) ⊎ LookedAhead groups n noted (suc (suc t)) a outs span → Passed sup groups classes n noted a
+        ahead o (inl z) = passed-unlinked a (λ y k. omega (arith, k .fits))
+        ahead o (inr s) = record { stamp = suc (suc (suc t)); marks = outs; first = s .searched .first; closed = s .searched .closed; fit = fit o s }
+
+        go : (u : Bool) → eqb (group a) a ≡ u → Passed sup groups classes n noted a
+        go true e = let o = eqb-true (group a) a e in ahead o (looked .ahead (omega arith) o)
+        go false e = passed-unlinked a (λ y k. eqb-false (group a) a e (start-own k))
+
+    -- the turn of ties
+    tied-turn : {a : ℕ} {outs ins queue aboves : List ℕ} {span : Span} (looked : Looked sup groups classes n noted 1 a outs ins queue aboves span)
+        → AllRight looked → (m : ℕ) → m < n → class (group m) ≡ class m
+    unfolding leadOf
+    tied-turn {a} {outs} {ins} {queue} {aboves} {span} looked right m h = go (eqb (group m) m) refl
+      where
+        s : LookedTies n span
+        s = looked .ties refl
+
+        go : (u : Bool) → eqb (group m) m ≡ u → class (group m) ≡ class m
+        go true e = ap (λ (x : ℕ). class x) (eqb-true (group m) m e)
+        go false e = right m (rw (s .end) h) (rw (s .from) (omega arith)) (rw (s .who) (eqb-false (group m) m e)) .tied (rooted .top m (omega arith))
+
+    tied-apart : {new b : ℕ} {outs ins aboves : List ℕ} {stamp : ℕ} {r : Found} → (new < n → Fresh sup groups classes n noted new) → b < n
+        → Judged sup groups classes outs ins aboves stamp (group b) b r → isPair r ≡ true → Finding sup groups classes n noted new r
+    unfolding isPair
+    tied-apart f h (fine k) q = absurd (false≢true q)
+    tied-apart {b = b} f h (tied e d) q = apart (group b) b (omega (arith, rooted .low b (omega arith))) h (tied-false (group b) b e d) (inr f)
+    tied-apart {b = b} f h (out d m k) q = absurd (d (rooted .top b (omega arith)))
+    tied-apart {b = b} f h (into d m k) q = absurd (d (rooted .top b (omega arith)))
 
     -- the newcomer agrees with all
-    fresh-turn : {a : ℕ} {outs ins queue aboves : List ℕ} {span : Span} (looked : Looked sup groups classes n noted 0 a outs ins queue aboves span) (fits : a < n)
-        → AllRight looked fits → Fresh sup groups classes n noted a
-    fresh-turn {a} {outs} {ins} {queue} {aboves} {span} looked fits right b h =
+    fresh-turn : {a : ℕ} {outs ins queue aboves : List ℕ} {span : Span} (looked : Looked sup groups classes n noted 0 a outs ins queue aboves span)
+        → AllRight looked → Fresh sup groups classes n noted a
+    unfolding leadOf
+    fresh-turn {a} {outs} {ins} {queue} {aboves} {span} looked right b h =
         (pair-true a b (r .tied) to, pair-true b a (λ e. sym (r .tied (sym e))) from)
       where
         first : LookedFirst sup groups classes n noted a outs ins aboves span
         first = looked .first refl
 
-        r : Right looked fits b
+        r : PairFine sup groups classes outs ins aboves 1 a b
         r = go (ltb b (span .from)) refl
           where
-            go : (t : Bool) → ltb b (span .from) ≡ t → Right looked fits b
+            go : (t : Bool) → ltb b (span .from) ≡ t → PairFine sup groups classes outs ins aboves 1 a b
             go true e = first .skipped b (ltb-true b (span .from) e)
-            go false e = right b (rw (first .end) h) (ltb-false b (span .from) e) (inl (first .everyOne))
+            go false e = right b (rw (first .end) h) (ltb-false b (span .from) e) (rw (first .everyone) tt)
 
         to : (group a ≡ group b → ⊥) → Onto (group a) (group b) → Below sup (class a) (class b)
         to d c = go (first .outAll (group b) c)
           where
             go : (group b ≡ group a) ⊎ Marked 1 outs (group b) → Below sup (class a) (class b)
             go (inl e) = absurd (d (sym e))
-            go (inr m) = below-true sup falls (class a) (class b) (sym (above-out looked fits b m) ∙ r .out d m)
+            go (inr m) = below-true sup falls (class a) (class b) (sym (above-out looked b m) ∙ r .out d m)
 
         from : (group b ≡ group a → ⊥) → Onto (group b) (group a) → Below sup (class b) (class a)
         from d c = go (first .inAll (group b) c)
@@ -337,68 +364,97 @@ module _ (sup : ℕ → Option ℕ) (falls : Falls sup) (groups classes : List �
     -- One turn after the other
 
     module _ {heads nexts : List ℕ} (room : n ≤ 1280) (links : Links groups n noted heads nexts) (new : ℕ) where
-      pub tested-start : {r : ℕ} {outs ins queue aboves : List ℕ} → FirstTurn groups heads n new r → Tables noted 0 outs ins queue aboves
+      pub tested-start : {r : ℕ} {outs ins queue aboves : List ℕ} → FirstTurn n new r → Tables noted 0 outs ins queue aboves
           → Tested sup groups classes n noted new r outs ins queue aboves
-      tested-start f t = record {
-        isNew = f .isNew;
+      tested-start (inl (e, h)) t = record {
+        isNew = λ _. h;
         tables = tables-more (omega arith) t;
-        fresh = λ h k. absurd (omega (arith, f .isOld h));
-        done = λ m h k. let o = f .none m h in fine-unlinked room links m k (o .0) (o .1);
+        fresh = λ k. absurd (omega arith);
+        tied = λ k. absurd (omega arith);
+        done = λ m k. absurd (omega arith);
+      }
+      tested-start (inr (e, h)) t = record {
+        isNew = λ z. absurd (omega arith);
+        tables = tables-more (omega arith) t;
+        fresh = λ _ k. absurd (omega arith);
+        tied = λ k. absurd (omega arith);
+        done = λ m k. absurd (omega arith);
       }
 
-      pub tested-next : {turn a r : ℕ} {outs₀ ins₀ queue₀ aboves₀ outs ins queue aboves : List ℕ} {span : Span} → a ≡ requestAt turn new → (fits : a < n)
-          → Tested sup groups classes n noted new turn outs₀ ins₀ queue₀ aboves₀ → (looked : Looked sup groups classes n noted turn a outs ins queue aboves span)
-          → AllRight looked fits → NextTurn groups heads n turn r → Tested sup groups classes n noted new r outs ins queue aboves
+      -- what the newcomer's turn, that of ties and a request's show
+      turn-fresh : {turn a : ℕ} {outs ins queue aboves : List ℕ} {span : Span} → a ≡ requestAt turn new → (0 < turn → new < n → Fresh sup groups classes n noted new)
+          → (looked : Looked sup groups classes n noted turn a outs ins queue aboves span) → AllRight looked → new < n → Fresh sup groups classes n noted new
       unfolding requestAt
-      tested-next {turn} {a} {r} {outs₀} {ins₀} {queue₀} {aboves₀} {outs} {ins} {queue} {aboves} {span} is fits t looked right next = record {
+      turn-fresh {turn = zero} e f looked right k = rw (sym e) (fresh-turn looked right)
+      turn-fresh {turn = suc u} e f looked right k = f (omega arith) k
+
+      turn-tied : {turn a r : ℕ} {outs ins queue aboves : List ℕ} {span : Span} → (1 < turn → (m : ℕ) → m < n → class (group m) ≡ class m)
+          → (looked : Looked sup groups classes n noted turn a outs ins queue aboves span) → AllRight looked → (turn ≡ 0 → r ≡ 1) → 1 < r → (m : ℕ) → m < n
+          → class (group m) ≡ class m
+      turn-tied {turn = zero} f looked right first h m k = absurd (omega (arith, first refl))
+      turn-tied {turn = suc zero} f looked right first h m k = tied-turn looked right m k
+      turn-tied {turn = suc (suc u)} f looked right first h m k = f (omega arith) m k
+
+      turn-passed : {turn a m : ℕ} {outs ins queue aboves : List ℕ} {span : Span} → a ≡ requestAt turn new → turn ≡ suc (suc m)
+          → (looked : Looked sup groups classes n noted turn a outs ins queue aboves span) → AllRight looked → Passed sup groups classes n noted m
+      unfolding requestAt
+      turn-passed {turn = zero} e z looked right = absurd (omega arith)
+      turn-passed {turn = suc zero} e z looked right = absurd (omega arith)
+      turn-passed {turn = suc (suc u)} {a} {m} e z looked right = let q : a ≡ m = omega arith in rw (sym q) (passed-turn looked right)
+
+      pub tested-next : {turn a r : ℕ} {outs₀ ins₀ queue₀ aboves₀ outs ins queue aboves : List ℕ} {span : Span} → a ≡ requestAt turn new
+          → Tested sup groups classes n noted new turn outs₀ ins₀ queue₀ aboves₀ → (looked : Looked sup groups classes n noted turn a outs ins queue aboves span)
+          → AllRight looked → NextTurn heads n noted turn r → Tested sup groups classes n noted new r outs ins queue aboves
+      tested-next {turn} {a} {r} is t looked right next = record {
         isNew = λ z. absurd (omega (arith, next .low));
         tables = tables-more (omega (arith, next .low)) (looked .tables);
-        fresh = λ _ k. known turn is (t .fresh) looked right k;
-        done = λ m h k. go m h k (order (suc m) turn);
+        fresh = λ _ k. turn-fresh is (t .fresh) looked right k;
+        tied = turn-tied (t .tied) looked right (next .ties);
+        done = λ m h k. go m h k (order (suc (suc m)) turn);
       }
         where
-          known : (u : ℕ) → a ≡ requestAt u new → (0 < u → new < n → Fresh sup groups classes n noted new)
-              → (l : Looked sup groups classes n noted u a outs ins queue aboves span) → AllRight l fits → new < n → Fresh sup groups classes n noted new
-          known zero e f l x k = rw (sym e) (fresh-turn l fits x)
-          known (suc u) e f l x k = f (omega arith) k
-
-          go : (m : ℕ) → suc m < r → m < n → Order (suc m) turn → Fine sup groups classes n noted m
+          go : (m : ℕ) → suc (suc m) < r → m < n → Order (suc (suc m)) turn → Passed sup groups classes n noted m
           go m h k (less q) = t .done m q k
-          go m h k (equal q) = rw (sym (turn-request new is (sym q))) (fine-turn looked fits (omega arith) right)
-          go m h k (more q) = let o = next .none m h (omega arith) in fine-unlinked room links m k (o .0) (o .1)
+          go m h k (equal q) = turn-passed is (sym q) looked right
+          go m h k (more q) = passed-none room links m k (next .none m h (omega arith))
+
+      pub apart-any : {turn a b : ℕ} {outs ins queue aboves : List ℕ} {span : Span} {r : Found} → a ≡ requestAt turn new → ((turn ≡ 1 → ⊥) → a < n)
+          → (0 < turn → new < n → Fresh sup groups classes n noted new) → Looked sup groups classes n noted turn a outs ins queue aboves span → b < span .end
+          → Judged sup groups classes outs ins aboves (suc turn) (leadOf turn groups a b) b r → isPair r ≡ true → Finding sup groups classes n noted new r
+      unfolding leadOf requestAt
+      apart-any {turn = zero} e fits f looked h j q = apart-turn looked (fits (λ z. omega arith)) (inl e) h j q
+      apart-any {turn = suc zero} e fits f looked h j q = tied-apart (f (omega arith)) (omega (arith, looked .low)) j q
+      apart-any {turn = suc (suc u)} e fits f looked h j q = apart-turn looked (fits (λ z. omega arith)) (inr (f (omega arith))) h j q
 
     -- All turns are over
-    module _ (all-fine : (a : ℕ) → a < n → Fine sup groups classes n noted a) where
-      all-passed : (a : ℕ) → a < n → group a ≡ a → Passed sup groups classes n noted a
-      all-passed a h = all-fine a h .passed
-
+    module _ (classed : (a : ℕ) → a < n → class (group a) ≡ class a) (all-passed : (a : ℕ) → a < n → Passed sup groups classes n noted a) where
       -- y is m, or marked from it, and a's class is m's or below
       record Held (a y : ℕ) : Type 0 where
         m : ℕ
         fits : m < n
         own : group m ≡ m
         lower : Below sup (class a) (class m)
-        reached : (y ≡ m) ⊎ Marked (all-passed m fits own .stamp) (all-passed m fits own .marks) y
+        reached : (y ≡ m) ⊎ Marked (all-passed m fits .stamp) (all-passed m fits .marks) y
 
       held-on : {a x y : ℕ} → Linked x y → Held a x → Held a y
       held-on {a} {x} {y} l h = go (h .reached) (ltb x n) refl
         where
           from : (m : ℕ) (f : m < n) (o : group m ≡ m) → Below sup (class a) (class m) → x ≡ m → Held a y
           from m f o b e =
-              record { m = m; fits = f; own = o; lower = b; reached = inr (all-passed m f o .first y (rw e at l)) }
+              record { m = m; fits = f; own = o; lower = b; reached = inr (all-passed m f .first y (rw e at l)) }
 
-          go : (x ≡ h .m) ⊎ Marked (all-passed (h .m) (h .fits) (h .own) .stamp) (all-passed (h .m) (h .fits) (h .own) .marks) x → (t : Bool)
+          go : (x ≡ h .m) ⊎ Marked (all-passed (h .m) (h .fits) .stamp) (all-passed (h .m) (h .fits) .marks) x → (t : Bool)
               → ltb x n ≡ t → Held a y
           go (inl e) t q = from (h .m) (h .fits) (h .own) (h .lower) e
           go (inr k) true q =
               let f = ltb-true x n q in
-              from x f (start-own l) (below-trans (h .lower) (all-passed (h .m) (h .fits) (h .own) .fit x f k)) refl
+              from x f (start-own l) (below-trans (h .lower) (all-passed (h .m) (h .fits) .fit x f k)) refl
           go (inr k) false q = record {
             m = h .m;
             fits = h .fits;
             own = h .own;
             lower = h .lower;
-            reached = inr (all-passed (h .m) (h .fits) (h .own) .closed x y (ltb-false x n q) k l);
+            reached = inr (all-passed (h .m) (h .fits) .closed x y (ltb-false x n q) k l);
           }
 
       -- what a leads to has its class or one above it
@@ -409,10 +465,10 @@ module _ (sup : ℕ → Option ℕ) (falls : Falls sup) (groups classes : List �
           end : Held a b → Below sup (class a) (class b)
           end h = go (h .reached)
             where
-              go : (b ≡ h .m) ⊎ Marked (all-passed (h .m) (h .fits) (h .own) .stamp) (all-passed (h .m) (h .fits) (h .own) .marks) b
+              go : (b ≡ h .m) ⊎ Marked (all-passed (h .m) (h .fits) .stamp) (all-passed (h .m) (h .fits) .marks) b
                   → Below sup (class a) (class b)
               go (inl e) = rw e (h .lower)
-              go (inr k) = below-trans (h .lower) (all-passed (h .m) (h .fits) (h .own) .fit b g k)
+              go (inr k) = below-trans (h .lower) (all-passed (h .m) (h .fits) .fit b g k)
 
       pair-agrees : (a b : ℕ) → a < n → b < n → pairOn sup groups classes n noted a b ≡ true
       pair-agrees a b f g = pair-true a b tied led
@@ -421,19 +477,19 @@ module _ (sup : ℕ → Option ℕ) (falls : Falls sup) (groups classes : List �
           low p h = omega (arith, rooted .low p (omega arith))
 
           tied : group a ≡ group b → class a ≡ class b
-          tied e = sym (all-fine a f .classed) ∙ ap (λ (x : ℕ). class x) e ∙ all-fine b g .classed
+          tied e = sym (classed a f) ∙ ap (λ (x : ℕ). class x) e ∙ classed b g
 
           led : (group a ≡ group b → ⊥) → Onto (group a) (group b) → Below sup (class a) (class b)
-          led d c = rw (all-fine a f .classed, all-fine b g .classed) at (led-fits (group a) (group b) (low a f) (low b g) (rooted .top a (omega arith)) c)
+          led d c = rw (classed a f, classed b g) at (led-fits (group a) (group b) (low a f) (low b g) (rooted .top a (omega arith)) c)
 
       all-agree : agreeOn sup groups classes n noted ≡ true
       unfolding agreeOn
       all-agree = places-all (λ a. all (pairOn sup groups classes n noted a) (rows (λ i. i) n 0)) n
           (λ a f. places-all (pairOn sup groups classes n noted a) n (λ b g. pair-agrees a b f g))
 
-    pub tested-all : {new turn : ℕ} {outs ins queue aboves : List ℕ} → n < turn → Tested sup groups classes n noted new turn outs ins queue aboves
+    pub tested-all : {new turn : ℕ} {outs ins queue aboves : List ℕ} → n + 1 < turn → Tested sup groups classes n noted new turn outs ins queue aboves
         → Finding sup groups classes n noted new NoPair
-    tested-all h t = agree (all-agree (λ a f. t .done a (omega arith) f))
+    tested-all h t = agree (all-agree (t .tied (omega arith)) (λ a f. t .done a (omega arith) f))
 
 -- a pair that doesn't agree
 pub pair-unfit : (sup : ℕ → Option ℕ) (groups classes : List ℕ) (n noted a b : ℕ) → a < n → b < n → pairOn sup groups classes n noted a b ≡ false

@@ -2,11 +2,11 @@
 use mathlib.Core.Path.{_≡_}
 use mathlib.Core.Bool.{Bool, true, false}
 use mathlib.Core.Option.{Option, none}
-use mathlib.Core.List.{List, _++_}
-use Prim.Native.Nat.{ℕ, _+_, _<_}
-use lib.ListN.{getD}
+use mathlib.Core.List.{List, [], _∷_, _++_}
+use Prim.Native.Nat.{ℕ, _+_, _*_, _<_, _≤_}
+use lib.ListN.{length, getD}
 use lib.Dec.{ltb}
-use Rattle.definition.specs.Numbers.{tieLimit, subtypeLimit, countCache, countTies, countSubtypes, tieNumbersCell, subtypeNumbersCell}
+use Rattle.definition.specs.Numbers.{shortRange, tieLimit, subtypeLimit, countCache, countTies, countSubtypes, tieNumbersCell, subtypeNumbersCell}
 use Rattle.definition.specs.Lists.{rows}
 use Rattle.definition.specs.Tables.{numberAt, tieAt, subtypeAt, rowNumbers}
 use Rattle.definition.specs.Broken.{numbered}
@@ -16,6 +16,10 @@ use Rattle.constraints.specs.Agreement.{atMost, superIn, entriesIn}
 -- the most links there are
 abbrev pub linkLimit : ℕ
 linkLimit = tieLimit + tieLimit + subtypeLimit
+
+-- a number above those that rows can have
+abbrev pub noNumber : ℕ
+noNumber = 2 * shortRange
 
 -- n cells from `from` on of a table stand from `at` on in another, which has the rest as it was
 pub record Copied (source : List ℕ) (from n : ℕ) (old new : List ℕ) (at : ℕ) : Type 0 where
@@ -41,6 +45,17 @@ pub record Labelled (counts : List ℕ) (noted tied : ℕ) (labels : List ℕ) :
 unfoldable pub numbersFit : List ℕ → Bool
 numbersFit counts =
     numbered (rowNumbers (rows (numberAt tieNumbersCell counts) (getD counts countTies 0) 0) (rows (numberAt subtypeNumbersCell counts) (getD counts countSubtypes 0) 0))
+
+-- the number of the first of rows, or one that none has
+unfoldable pub standing : List ℕ → ℕ
+standing [] = noNumber
+standing (x ∷ xs) = x
+
+-- of n rows whose numbers begin at cell `first` the table holds the first `held`
+pub record Held (counts : List ℕ) (first n held : ℕ) : Type 0 where
+  pub few : held ≤ n
+  pub here : (i : ℕ) → i < held → first + i < length counts
+  pub past : (i : ℕ) → held ≤ i → i < n → length counts ≤ first + i
 
 -- The links of the first rows of the tables, with their numbers
 

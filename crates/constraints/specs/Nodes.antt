@@ -63,7 +63,7 @@ ClassesOf cache nodes n classes = (p : ℕ) → p < n → getD classes p 0 ≡ g
 -- Numbers are spread over 1,024 lists
 
 unfoldable pub bucketOf : ℕ → ℕ
-bucketOf x = (x / shortRange * 31 + x % shortRange) % bucketLimit
+bucketOf x = (x / shortRange * 633 + x % shortRange) % bucketLimit
 
 unfoldable pub bucketIn : List ℕ → ℕ → ℕ
 bucketIn numbers p = bucketOf (getD numbers p 0)

@@ -13,6 +13,8 @@ use Rattle.constraints.specs.Search.{leadsOn, Marked}
 use Rattle.constraints.specs.Upward.{isAbove}
 pub use Rattle.constraints.specs.declared.pairs.Found.{Found}
 pub use Rattle.constraints.specs.declared.pairs.Found.the-variants.{NoPair, Pair}
+pub use Rattle.constraints.specs.declared.pairs.Meets.{Meets}
+pub use Rattle.constraints.specs.declared.pairs.Meets.the-variants.{Everyone, Members, Followed}
 
 -- a pair of classes c and d, whose requests are tied, or of which the one leads to the other, or neither
 unfoldable pub pairIs : (ℕ → Option ℕ) → Bool → Bool → ℕ → ℕ → Bool
@@ -59,10 +61,16 @@ pub data Judged (sup : ℕ → Option ℕ) (groups classes outs ins aboves : Lis
   into : (getD groups a 0 ≡ getD groups b 0 → ⊥) → Marked stamp ins (getD groups b 0) → below sup (getD classes b 0) (getD classes a 0) ≡ false
       → Judged sup groups classes outs ins aboves stamp a b (Pair b a)
 
--- r is not before `from`; between them no place is to be looked at: not all are, and they aren't marked
-pub record NextMet (marks : List ℕ) (stamp : ℕ) (everyOne : Bool) (from r : ℕ) : Type 0 where
+-- place p is to be looked at
+abbrev pub ToMeet : Meets → List ℕ → List ℕ → ℕ → ℕ → Type 0
+ToMeet Everyone groups marks stamp p = Unit {0}
+ToMeet Members groups marks stamp p = getD groups p 0 ≡ p → ⊥
+ToMeet Followed groups marks stamp p = Marked stamp marks p
+
+-- r is not before `from`; between them no place is to be looked at
+pub record NextMet (groups marks : List ℕ) (stamp : ℕ) (who : Meets) (from r : ℕ) : Type 0 where
   pub low : from ≤ r
-  pub none : (p : ℕ) → p < r → from ≤ p → (everyOne ≡ true) ⊎ Marked stamp marks p → ⊥
+  pub none : (p : ℕ) → p < r → from ≤ p → ToMeet who groups marks stamp p → ⊥
 
 -- What is found of all pairs
 

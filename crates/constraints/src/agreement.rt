@@ -1,6 +1,7 @@
 // The test of agreement: a pair of requests that breaks it.
 use crate::grouping::group_places;
 use crate::joining::join;
+use crate::looking::beside;
 use crate::looking::first_turn;
 use crate::looking::look;
 use crate::looking::next_turn;
@@ -22,15 +23,18 @@ use definition::numbers::CACHE_LIMIT;
 use definition::numbers::ROW_CELLS;
 ghost use mathlib.Core.Path.{_≡_};
 ghost use Prim.Native.Nat.{ℕ, _+_, _<_, _≤_};
+ghost use lib.ListN.{length};
 ghost use Rattle.definition.specs.Numbers.{cacheLimit, subtypeLimit};
 ghost use Rattle.definition.specs.Checks.{NamesOver, agreed};
 ghost use Rattle.constraints.specs.Agreement.{superIn, entriesIn, tiesIn, edgesIn, newIn, toldOf};
+ghost use Rattle.constraints.specs.Nodes.{placeLimit};
 ghost use Rattle.constraints.specs.Groups.{Rooted};
 ghost use Rattle.constraints.specs.Looking.{Links, Tables};
 ghost use Rattle.constraints.specs.Pairs.{Pair, Finding};
 
 // A pair of cached requests that breaks agreement, if there is one, and one with the newcomer if there is one of those. The newcomer is looked at first,
-// beside all that chains out of it and into it reach, then each other request in turn; the first pair that breaks agreement ends the search.
+// beside all that chains out of it and into it reach; then tied requests; then each other request in turn beside what it leads to. The first pair that breaks agreement ends
+// the search.
 fn find_pair(
     supers: &[u8],
     groups: &[u16],
@@ -49,8 +53,8 @@ fn find_pair(
     ensures { λ r. ⌜ Finding (superIn (now (supers .entry))) (now (groups .entry)) (now (classes .entry)) cached noted newcomer r ⌝ }
 {
     let mut found = Found::NoPair;
-    let mut turn = first_turn(groups, heads, cached, newcomer);
-    'pairs: while turn <= cached {
+    let mut turn = first_turn(cached, newcomer);
+    'pairs: while turn <= cached + 1 {
         let a = request_at(turn, newcomer);
         let stamp = (turn + 1) as u16;
         let span = look(
@@ -68,21 +72,24 @@ fn find_pair(
             queue,
             aboves,
         );
-        let mut b = next_met(outs, stamp, span.all, span.from, span.end);
+        let who = span.who;
+        let mut b = next_met(groups, outs, stamp, who, span.from, span.end);
         while b < span.end {
-            let pair = pair_at(supers, groups, classes, outs, ins, aboves, stamp, a, b);
+            let lead = beside(turn, groups, a, b);
+            let pair = pair_at(supers, groups, classes, outs, ins, aboves, stamp, lead, b);
             if is_pair(pair) {
                 found = pair;
                 break 'pairs;
             }
-            b = next_met(outs, stamp, span.all, b + 1, span.end);
+            b = next_met(groups, outs, stamp, who, b + 1, span.end);
         }
-        turn = next_turn(groups, heads, cached, turn);
+        turn = next_turn(heads, cached, noted, turn);
     }
     found
 }
 
-// The same, where the links aren't joined yet. Without subtype constraints there are none, and no tables for them.
+// The same, where the links aren't joined yet. Without subtype constraints there are none, and no tables for them. What the tables `nexts` and `queue` hold before
+// and after is of no matter.
 fn find_break(
     supers: &[u8],
     groups: &[u16],
@@ -90,15 +97,16 @@ fn find_break(
     cached: usize,
     noted: usize,
     newcomer: usize,
+    nexts: &mut [u16],
+    queue: &mut [u16],
 ) -> Found
-    requires { ⌜ (cached ≤ cacheLimit) × (noted ≤ subtypeLimit) × Rooted (now groups) (cached + noted + noted) ⌝ }
+    requires { ⌜ (cached ≤ cacheLimit) × (noted ≤ subtypeLimit) × Rooted (now groups) (cached + noted + noted) × (length (now nexts) ≡ placeLimit) × (length (now queue) ≡ placeLimit) ⌝ }
     ensures { λ r. ⌜ Finding (superIn (now (supers .entry))) (now (groups .entry)) (now (classes .entry)) cached noted newcomer r ⌝ }
 {
     if noted == 0 {
         let none = [0u16; 1];
         let mut outs = [0u16; 1];
         let mut ins = [0u16; 1];
-        let mut queue = [0u16; 1];
         let mut aboves = [0u16; 1];
         return find_pair(
             supers,
@@ -111,16 +119,14 @@ fn find_break(
             newcomer,
             &mut outs,
             &mut ins,
-            &mut queue,
+            queue,
             &mut aboves,
         );
     }
     let mut heads = [0u16; PLACE_LIMIT];
-    let mut nexts = [0u16; PLACE_LIMIT];
-    join(groups, cached, noted, &mut heads, &mut nexts);
+    join(groups, cached, noted, &mut heads, nexts);
     let mut outs = [0u16; PLACE_LIMIT];
     let mut ins = [0u16; PLACE_LIMIT];
-    let mut queue = [0u16; PLACE_LIMIT];
     let mut aboves = [0u16; BYTE_RANGE as usize];
     find_pair(
         supers,
@@ -129,11 +135,11 @@ fn find_break(
         cached,
         noted,
         &heads,
-        &nexts,
+        nexts,
         newcomer,
         &mut outs,
         &mut ins,
-        &mut queue,
+        queue,
         &mut aboves,
     )
 }
@@ -185,13 +191,23 @@ pub fn check(
     let mut numbers = [0u32; PLACE_LIMIT];
     number_places(cache, cached, ties, tied, subtypes, noted, &mut numbers);
     let mut nodes = [0u16; PLACE_LIMIT];
-    number_nodes(&numbers, ones + tied + tied, &mut nodes);
+    let mut nexts = [0u16; PLACE_LIMIT];
+    number_nodes(&numbers, ones + tied + tied, &mut nodes, &mut nexts);
     let mut classes = [0u16; CACHE_LIMIT as usize];
     list_classes(cache, &nodes, cached, &mut classes);
     let mut groups = [0u16; PLACE_LIMIT];
     group_places(&mut nodes, ones, tied, &mut groups);
     tell(
         cache,
-        find_break(supers, &groups, &classes, cached, noted, wide16(newcomer)),
+        find_break(
+            supers,
+            &groups,
+            &classes,
+            cached,
+            noted,
+            wide16(newcomer),
+            &mut nexts,
+            &mut nodes,
+        ),
     )
 }

@@ -1,6 +1,5 @@
 // Groups of tied requests.
-use crate::joining::place;
-use cells::put16;
+use cells::wide16;
 ghost use mathlib.Core.Path.{_≡_};
 ghost use Prim.Native.Nat.{ℕ, _+_, _<_, _≤_};
 ghost use lib.ListN.{length, getD};
@@ -10,28 +9,29 @@ ghost use Rattle.definition.specs.Numbers.{shortRange};
 
 // Where the way down from a place ends.
 fn root(ups: &[u16], p: usize) -> usize
+    requires { ⌜ p < length (now ups) ⌝ }
     ensures { λ r. ⌜ Root (now (ups .entry)) p r ⌝ }
 {
     let mut at = p;
-    let mut up = place(ups, at);
+    let mut up = wide16(ups[at]);
     while up < at {
         at = up;
-        up = place(ups, at);
+        up = wide16(ups[at]);
     }
     at
 }
 
 // Makes the groups of two places one.
 fn unite(ups: &mut [u16], p: usize, q: usize)
-    requires { ⌜ (p < shortRange) × (q < shortRange) ⌝ }
+    requires { ⌜ (p < shortRange) × (q < shortRange) × (p < length (now ups)) × (q < length (now ups)) ⌝ }
     ensures { λ _. ⌜ United (now (ups .entry)) p q (now (ups .exit)) ⌝ }
 {
     let one = root(ups, p);
     let two = root(ups, q);
     if one < two {
-        put16(ups, two, one as u16);
+        ups[two] = one as u16;
     } else {
-        put16(ups, one, two as u16);
+        ups[one] = two as u16;
     }
 }
 
@@ -47,14 +47,23 @@ fn unite_ties(ups: &mut [u16], ones: usize, tied: usize)
     }
 }
 
+// The group of place p: its own, or that of the place to which it leads, which is one of those before it.
+fn group_of(ups: &[u16], groups: &[u16], p: usize) -> u16
+    requires { ⌜ (p < shortRange) × (p < length (now ups)) × (p ≤ length (now groups)) × ((q : ℕ) → q < p → Root (now ups) q (getD (now groups) q 0)) ⌝ }
+    ensures { λ r. ⌜ Root (now (ups .entry)) p r ⌝ }
+{
+    let up = wide16(ups[p]);
+    if up < p { groups[up] } else { p as u16 }
+}
+
 // The group of each of n places: the lowest of the places that are tied to it.
 fn list_groups(ups: &[u16], n: usize, groups: &mut [u16])
-    requires { ⌜ (n ≤ placeLimit) × (length (now groups) ≡ placeLimit) ⌝ }
+    requires { ⌜ (n ≤ placeLimit) × (length (now ups) ≡ placeLimit) × (length (now groups) ≡ placeLimit) ⌝ }
     ensures { λ _. ⌜ ((p : ℕ) → p < n → Root (now (ups .entry)) p (getD (now (groups .exit)) p 0)) ⌝ }
 {
     let mut p = 0;
     while p < n {
-        put16(groups, p, root(ups, p) as u16);
+        groups[p] = group_of(ups, groups, p);
         p += 1;
     }
 }

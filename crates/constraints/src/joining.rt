@@ -1,10 +1,9 @@
 // Places joined into lists by a key.
 use cells::at16;
-use cells::put16;
 use cells::wide16;
 ghost use mathlib.Core.Path.{_≡_};
 ghost use Prim.Native.Nat.{ℕ, _+_, _<_, _≤_};
-ghost use lib.ListN.{getD, set};
+ghost use lib.ListN.{length, getD, set};
 ghost use Rattle.constraints.specs.Nodes.{placeLimit};
 ghost use Rattle.constraints.specs.Joining.{Joined};
 ghost use Rattle.constraints.specs.Search.{startOf};
@@ -19,12 +18,12 @@ pub(crate) fn place(t: &[u16], i: usize) -> usize
 
 // Joins place e to the last before it with the same key.
 pub(crate) fn enter(key: usize, e: usize, heads: &mut [u16], nexts: &mut [u16])
-    requires { ⌜ e < 65535 ⌝ }
+    requires { ⌜ (e < 65535) × (e < length (now nexts)) × (key < length (now heads)) ⌝ }
     ensures { λ _. ⌜ now (nexts .exit) ≡ set (now (nexts .entry)) e (getD (now (heads .entry)) key 0) ⌝ }
     ensures { λ _. ⌜ now (heads .exit) ≡ set (now (heads .entry)) key (e + 1) ⌝ }
 {
-    put16(nexts, e, at16(heads, key));
-    put16(heads, key, (e + 1) as u16);
+    nexts[e] = heads[key];
+    heads[key] = (e + 1) as u16;
 }
 
 // Joins n places by the keys that a table has from place `from` on.

@@ -2,6 +2,7 @@
 use crate::joining::join;
 use crate::joining::place;
 use crate::numbering::PLACE_LIMIT;
+use crate::pairs::Meets;
 use crate::search::search;
 use crate::upward::mark_above;
 use cells::at16;
@@ -16,53 +17,64 @@ ghost use Rattle.constraints.specs.Groups.{Rooted};
 ghost use Rattle.constraints.specs.Joining.{Joined};
 ghost use Rattle.constraints.specs.Search.{startOf, Stamped, Searched};
 ghost use Rattle.constraints.specs.Upward.{Raised};
-ghost use Rattle.constraints.specs.Looking.{requestAt, NextTurn, FirstTurn, Reached, Marks, Tables, Links, Looked};
+ghost use Rattle.constraints.specs.Looking.{requestAt, leadOf, NextTurn, FirstTurn, Reached, Marks, Tables, Links, Looked};
 
-// The places from one to another, of which all are looked at, or those that are marked.
+// The places from one to another, and who of them is looked at.
 pub(crate) struct Span {
     pub from: usize,
     pub end: usize,
-    pub all: bool,
+    pub who: Meets,
 }
 
-// Whose turn it is: at turn 0 the newcomer's, then each request's, one turn after its place.
+// Whose turn it is: at turn 0 the newcomer's, at turn 1 that of ties, which is nobody's own, then each request's, two turns after its place.
 pub(crate) fn request_at(turn: usize, newcomer: usize) -> usize
     ensures { λ r. ⌜ r ≡ requestAt turn newcomer ⌝ }
 {
     if turn == 0 {
         return newcomer;
     }
-    turn - 1
+    if turn == 1 {
+        return 0;
+    }
+    turn - 2
 }
 
-// The next turn after one. A request is passed by that is the first of its group and starts no link: what is tied to it is looked at in its own
-// turn, and it leads nowhere.
-pub(crate) fn next_turn(groups: &[u16], heads: &[u16], cached: usize, turn: usize) -> usize
-    requires { ⌜ (turn ≤ cached) × (cached ≤ cacheLimit) ⌝ }
-    ensures { λ r. ⌜ NextTurn (now (groups .entry)) (now (heads .entry)) cached turn r ⌝ }
+// Beside whom b is looked at: a, but at the turn of ties the first of its own group.
+pub(crate) fn beside(turn: usize, groups: &[u16], a: usize, b: usize) -> usize
+    ensures { λ r. ⌜ r ≡ leadOf turn (now (groups .entry)) a b ⌝ }
 {
-    let mut a = turn;
+    if turn == 1 {
+        return place(groups, b);
+    }
+    a
+}
+
+// The next turn after one. A request at which no link starts is passed by: it leads nowhere, or where the first of its group leads.
+pub(crate) fn next_turn(heads: &[u16], cached: usize, noted: usize, turn: usize) -> usize
+    requires { ⌜ (turn ≤ cached + 1) × (cached ≤ cacheLimit) ⌝ }
+    ensures { λ r. ⌜ NextTurn (now (heads .entry)) cached noted turn r ⌝ }
+{
+    if turn == 0 {
+        return 1;
+    }
+    if noted == 0 {
+        return cached + 2;
+    }
+    let mut a = turn - 1;
     while a < cached {
-        if place(groups, a) != a {
-            return a + 1;
-        }
         if at16(heads, a) != 0 {
-            return a + 1;
+            return a + 2;
         }
         a += 1;
     }
-    a + 1
+    cached + 2
 }
 
 // The first turn: the newcomer's, if there is one.
-pub(crate) fn first_turn(groups: &[u16], heads: &[u16], cached: usize, newcomer: usize) -> usize
-    requires { ⌜ cached ≤ cacheLimit ⌝ }
-    ensures { λ r. ⌜ FirstTurn (now (groups .entry)) (now (heads .entry)) cached newcomer r ⌝ }
+pub(crate) fn first_turn(cached: usize, newcomer: usize) -> usize
+    ensures { λ r. ⌜ FirstTurn cached newcomer r ⌝ }
 {
-    if newcomer < cached {
-        return 0;
-    }
-    next_turn(groups, heads, cached, 0)
+    if newcomer < cached { 0 } else { 1 }
 }
 
 // A link ends at the group.
@@ -183,8 +195,8 @@ fn look_ahead(
     mark_above(supers, classes, a, stamp, aboves);
 }
 
-// Where what can break agreement with the newcomer is looked for: everywhere, once the chains out of it and into it were followed; without subtype
-// constraints from the first of its group on, which is the lowest.
+// Where what can break agreement with the newcomer is looked for: everywhere, once the chains out of it and into it were followed; where no link
+// starts or ends at its group, from the first of the group on, which is the lowest.
 fn look_first(
     supers: &[u8],
     groups: &[u16],
@@ -202,12 +214,23 @@ fn look_first(
     requires { ⌜ (cached ≤ cacheLimit) × (noted ≤ subtypeLimit) × (a < cached) × Rooted (now groups) (cached + noted + noted) × Links (now groups) cached noted (now heads) (now nexts) × Tables noted 0 (now outs) (now ins) (now queue) (now aboves) ⌝ }
     ensures { λ r. ⌜ Looked (superIn (now (supers .entry))) (now (groups .entry)) (now (classes .entry)) cached noted 0 a (now (outs .exit)) (now (ins .exit)) (now (queue .exit)) (now (aboves .exit)) r ⌝ }
 {
+    let group = place(groups, a);
     if noted == 0 {
         return Span {
-            from: place(groups, a),
+            from: group,
             end: cached,
-            all: true,
+            who: Meets::Everyone,
         };
+    }
+    if at16(heads, group) == 0 {
+        let highs = cached + noted;
+        if !is_end(groups, highs, noted, group) {
+            return Span {
+                from: group,
+                end: cached,
+                who: Meets::Everyone,
+            };
+        }
     }
     look_around(
         supers,
@@ -226,12 +249,12 @@ fn look_first(
     Span {
         from: 0,
         end: cached,
-        all: true,
+        who: Meets::Everyone,
     }
 }
 
-// Where what can break agreement with a is looked for, at its turn. A request that isn't the first of its group is looked at beside that one, which leads
-// where it leads; the first of a group beside what it leads to.
+// Where what can break agreement is looked for in a turn: at the newcomer's beside it; at that of ties among those that aren't the first of their group, each beside that one,
+// which leads where they lead; at a request's, if it is the first of its group, among those that it leads to.
 pub(crate) fn look(
     supers: &[u8],
     groups: &[u16],
@@ -247,7 +270,7 @@ pub(crate) fn look(
     queue: &mut [u16],
     aboves: &mut [u16],
 ) -> Span
-    requires { ⌜ (cached ≤ cacheLimit) × (noted ≤ subtypeLimit) × (turn ≤ cached) × (a < cached) × Rooted (now groups) (cached + noted + noted) × Links (now groups) cached noted (now heads) (now nexts) × Tables noted turn (now outs) (now ins) (now queue) (now aboves) ⌝ }
+    requires { ⌜ (cached ≤ cacheLimit) × (noted ≤ subtypeLimit) × (turn ≤ cached + 1) × ((turn ≡ 1 → ⊥) → a < cached) × Rooted (now groups) (cached + noted + noted) × Links (now groups) cached noted (now heads) (now nexts) × Tables noted turn (now outs) (now ins) (now queue) (now aboves) ⌝ }
     ensures { λ r. ⌜ Looked (superIn (now (supers .entry))) (now (groups .entry)) (now (classes .entry)) cached noted turn a (now (outs .exit)) (now (ins .exit)) (now (queue .exit)) (now (aboves .exit)) r ⌝ }
 {
     if turn == 0 {
@@ -266,19 +289,25 @@ pub(crate) fn look(
             aboves,
         );
     }
-    let first = place(groups, a);
-    if first != a {
+    if turn == 1 {
         return Span {
-            from: first,
-            end: first + 1,
-            all: true,
+            from: 0,
+            end: cached,
+            who: Meets::Members,
         };
     }
     if noted == 0 {
         return Span {
             from: 0,
             end: 0,
-            all: true,
+            who: Meets::Everyone,
+        };
+    }
+    if place(groups, a) != a {
+        return Span {
+            from: 0,
+            end: 0,
+            who: Meets::Everyone,
         };
     }
     look_ahead(
@@ -298,6 +327,6 @@ pub(crate) fn look(
     Span {
         from: 0,
         end: cached,
-        all: false,
+        who: Meets::Followed,
     }
 }

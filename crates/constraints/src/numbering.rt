@@ -1,11 +1,7 @@
 // The requests of a store as numbers, and as nodes.
 use crate::joining::enter;
-use crate::joining::place;
 use cells::at16;
-use cells::at32;
 use cells::from16;
-use cells::put16;
-use cells::put32;
 use cells::wide16;
 use cells::wide32;
 use definition::numbers::CACHE_LIMIT;
@@ -56,10 +52,11 @@ fn row_number(t: &[u16], loader: usize, name: usize, i: usize) -> u32
     requires { ⌜ (loader < 3) × (name < 3) × (i < cacheLimit) ⌝ }
     ensures { λ r. ⌜ requestOf r ≡ requestIn (now (t .entry)) loader name i ⌝ }
 {
-    request_number(
-        at16(t, i * ROW_CELLS + loader),
-        at16(t, i * ROW_CELLS + name),
-    )
+    let row = i * ROW_CELLS;
+    if row + 2 < t.len() {
+        return request_number(t[row + loader], t[row + name]);
+    }
+    request_number(at16(t, row + loader), at16(t, row + name))
 }
 
 // The numbers of the first `count` rows of a table, written from a place on.
@@ -76,7 +73,7 @@ fn number_rows(
 {
     let mut i = 0;
     while i < count {
-        put32(numbers, from + i, row_number(t, loader, name, i));
+        numbers[from + i] = row_number(t, loader, name, i);
         i += 1;
     }
 }
@@ -104,44 +101,44 @@ pub(crate) fn number_places(
     number_rows(ties, 1, 2, tied, numbers, ones + tied);
 }
 
-// The list that a number is in.
+// The list that a number is in. Each loader's names begin 633 lists after those of the loader before it, which keeps requests of a few loaders and of
+// neighbouring names apart.
 fn bucket(number: u32) -> usize
     ensures { λ r. ⌜ (r ≡ bucketOf number) × (r < bucketLimit) ⌝ }
 {
-    wide32((number / SHORT_RANGE * 31 + number % SHORT_RANGE) % BUCKET_LIMIT)
+    wide32((number / SHORT_RANGE * 633 + number % SHORT_RANGE) % BUCKET_LIMIT)
 }
 
 // The node of place p: that of the last place before it with the same number, or p itself. `last` is one more than the last place before
 // it in its list.
 fn node_of(numbers: &[u32], nodes: &[u16], nexts: &[u16], last: usize, p: usize) -> u16
-    requires { ⌜ (p < shortRange) × NodesOf (now numbers) p (now nodes) × Last (bucketIn (now numbers)) (bucketIn (now numbers) p) p last × ((q : ℕ) → q < p → Last (bucketIn (now numbers)) (bucketIn (now numbers) q) q (getD (now nexts) q 0)) ⌝ }
+    requires { ⌜ (p < shortRange) × (p < length (now numbers)) × (p ≤ length (now nodes)) × (p ≤ length (now nexts)) × NodesOf (now numbers) p (now nodes) × Last (bucketIn (now numbers)) (bucketIn (now numbers) p) p last × ((q : ℕ) → q < p → Last (bucketIn (now numbers)) (bucketIn (now numbers) q) q (getD (now nexts) q 0)) ⌝ }
     ensures { λ r. ⌜ First (now (numbers .entry)) p r ⌝ }
 {
-    let number = at32(numbers, p);
+    let number = numbers[p];
     let mut follow = last;
     while 0 < follow {
         let q = follow - 1;
-        if at32(numbers, q) == number {
-            return at16(nodes, q);
+        if numbers[q] == number {
+            return nodes[q];
         }
-        follow = place(nexts, q);
+        follow = wide16(nexts[q]);
     }
     p as u16
 }
 
-// The node of each of n places.
-pub(crate) fn number_nodes(numbers: &[u32], n: usize, nodes: &mut [u16])
-    requires { ⌜ (n ≤ placeLimit) × (length (now nodes) ≡ placeLimit) ⌝ }
+// The node of each of n places. What the table `nexts` holds before and after is of no matter.
+pub(crate) fn number_nodes(numbers: &[u32], n: usize, nodes: &mut [u16], nexts: &mut [u16])
+    requires { ⌜ (n ≤ placeLimit) × (length (now numbers) ≡ placeLimit) × (length (now nodes) ≡ placeLimit) × (length (now nexts) ≡ placeLimit) ⌝ }
     ensures { λ _. ⌜ NodesOf (now (numbers .entry)) n (now (nodes .exit)) ⌝ }
 {
     let mut heads = [0u16; PLACE_LIMIT];
-    let mut nexts = [0u16; PLACE_LIMIT];
     let mut p = 0;
     while p < n {
-        let key = bucket(at32(numbers, p));
-        let node = node_of(numbers, nodes, &nexts, place(&heads, key), p);
-        put16(nodes, p, node);
-        enter(key, p, &mut heads, &mut nexts);
+        let key = bucket(numbers[p]);
+        let node = node_of(numbers, nodes, nexts, wide16(heads[key]), p);
+        nodes[p] = node;
+        enter(key, p, &mut heads, nexts);
         p += 1;
     }
 }
@@ -156,12 +153,12 @@ fn class_at(cache: &[u16], row: usize) -> u16
 
 // What each cached request means: the class of the first row with its node.
 pub(crate) fn list_classes(cache: &[u16], nodes: &[u16], cached: usize, classes: &mut [u16])
-    requires { ⌜ (cached ≤ length (now classes)) × ((p : ℕ) → p < cached → getD (now nodes) p 0 < placeLimit) ⌝ }
+    requires { ⌜ (cached ≤ length (now nodes)) × (cached ≤ length (now classes)) × ((p : ℕ) → p < cached → getD (now nodes) p 0 < placeLimit) ⌝ }
     ensures { λ _. ⌜ ClassesOf (now (cache .entry)) (now (nodes .entry)) cached (now (classes .exit)) ⌝ }
 {
     let mut p = 0;
     while p < cached {
-        put16(classes, p, class_at(cache, place(nodes, p)));
+        classes[p] = class_at(cache, wide16(nodes[p]));
         p += 1;
     }
 }

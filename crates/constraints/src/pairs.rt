@@ -3,18 +3,24 @@ use crate::joining::place;
 use crate::upward::is_below;
 use cells::at16;
 ghost use mathlib.Core.Path.{_≡_};
-ghost use mathlib.Core.Bool.{true};
-ghost use mathlib.Core.Logic.{_⊎_};
+ghost use mathlib.Core.List.{[]};
 ghost use Prim.Native.Nat.{_≤_};
 ghost use lib.ListN.{length};
 ghost use Rattle.constraints.specs.Agreement.{superIn};
 ghost use Rattle.constraints.specs.Nodes.{placeLimit};
-ghost use Rattle.constraints.specs.Pairs.{outMarked, inMarked, Judged, isPair, NextMet};
+ghost use Rattle.constraints.specs.Pairs.{outMarked, inMarked, Judged, isPair, Members, Followed, NextMet};
 
 // What is found: no pair that breaks agreement, or one, from a place to another.
 pub(crate) enum Found {
     NoPair,
     Pair(usize, usize),
+}
+
+// Who is looked at: every request, those that aren't the first of their group, or those that a search has marked.
+pub(crate) enum Meets {
+    Everyone,
+    Members,
+    Followed,
 }
 
 // It is a pair.
@@ -97,14 +103,25 @@ pub(crate) fn pair_at(
     Found::NoPair
 }
 
-// The next request from a place on, before the end, that is to be looked at: any, or only one that is marked.
-pub(crate) fn next_met(marks: &[u16], stamp: u16, all: bool, from: usize, end: usize) -> usize
-    requires { ⌜ (end ≤ placeLimit) × ((all ≡ true) ⊎ (end ≤ length (now marks))) ⌝ }
-    ensures { λ r. ⌜ NextMet (now (marks .entry)) stamp all from r ⌝ }
+// The next request from a place on, before the end, that isn't the first of its group.
+fn next_member(groups: &[u16], from: usize, end: usize) -> usize
+    ensures { λ r. ⌜ NextMet (now (groups .entry)) [] 0 Members from r ⌝ }
 {
-    if all {
-        return from;
+    let mut b = from;
+    while b < end {
+        if place(groups, b) != b {
+            return b;
+        }
+        b += 1;
     }
+    b
+}
+
+// The next request from a place on, before the end, that is marked, looked for one by one.
+fn next_single(marks: &[u16], stamp: u16, from: usize, end: usize) -> usize
+    requires { ⌜ (end ≤ placeLimit) × (end ≤ length (now marks)) ⌝ }
+    ensures { λ r. ⌜ NextMet [] (now (marks .entry)) stamp Followed from r ⌝ }
+{
     let mut b = from;
     while b < end {
         if marks[b] == stamp {
@@ -113,4 +130,47 @@ pub(crate) fn next_met(marks: &[u16], stamp: u16, all: bool, from: usize, end: u
         b += 1;
     }
     b
+}
+
+// The next request from a place on, before the end, that is marked. Four are looked at in a round, since long chains spend most of their time here.
+fn next_followed(marks: &[u16], stamp: u16, from: usize, end: usize) -> usize
+    requires { ⌜ (from ≤ placeLimit) × (end ≤ placeLimit) × (end ≤ length (now marks)) ⌝ }
+    ensures { λ r. ⌜ NextMet [] (now (marks .entry)) stamp Followed from r ⌝ }
+{
+    let mut b = from;
+    while b + 3 < end {
+        if marks[b] == stamp {
+            return b;
+        }
+        if marks[b + 1] == stamp {
+            return b + 1;
+        }
+        if marks[b + 2] == stamp {
+            return b + 2;
+        }
+        if marks[b + 3] == stamp {
+            return b + 3;
+        }
+        b += 4;
+    }
+    next_single(marks, stamp, b, end)
+}
+
+// The next request from a place on, before the end, that is to be looked at.
+pub(crate) fn next_met(
+    groups: &[u16],
+    marks: &[u16],
+    stamp: u16,
+    who: Meets,
+    from: usize,
+    end: usize,
+) -> usize
+    requires { ⌜ (from ≤ placeLimit) × (end ≤ placeLimit) × (who ≡ Followed → end ≤ length (now marks)) ⌝ }
+    ensures { λ r. ⌜ NextMet (now (groups .entry)) (now (marks .entry)) stamp who from r ⌝ }
+{
+    match who {
+        Meets::Everyone => from,
+        Meets::Members => next_member(groups, from, end),
+        Meets::Followed => next_followed(marks, stamp, from, end),
+    }
 }

@@ -119,7 +119,13 @@ fn best_chain(
     let mut numbers = [0u32; PLACE_LIMIT];
     number_places(cache, cached, ties, tied, subtypes, noted, &mut numbers);
     let mut nodes = [0u16; PLACE_LIMIT];
-    number_nodes(&numbers, cached + noted + noted + tied + tied, &mut nodes);
+    let mut nexts = [0u16; PLACE_LIMIT];
+    number_nodes(
+        &numbers,
+        cached + noted + noted + tied + tied,
+        &mut nodes,
+        &mut nexts,
+    );
     let mut classes = [0u16; CACHE_LIMIT as usize];
     list_classes(cache, &nodes, cached, &mut classes);
     let mut froms = [0u16; LINK_LIMIT];

@@ -6,7 +6,6 @@ use lib.ListN.{length, getD, length-set}
 use denote.Ref.{now}
 use Rattle.constraints.specs.Groups.{Root}
 use Rattle.constraints.proofs.Filling.{fill-more}
-use Rattle.constraints.proofs.Rooting.{root-low}
 use borrow.Author.Needs.{needs}
 use Rattle.constraints.proofs.grouping.list_groups.Statement.{statement}
 use Rattle.constraints.proofs.grouping.list_groups.Tie as tie
@@ -20,19 +19,18 @@ abbrev μ-loop : tie.MeasureT-loop
 loop-holds : tie.Need-loop-holds Inv-loop μ-loop
 loop-holds c = (omega arith, λ q h. absurd (omega arith), refl)
 
-cast-put16 : tie.Need-cast-put16 Inv-loop μ-loop
-cast-put16 c = omega (arith, root-low (c .root .ensures))
+group-of-requires : tie.Need-group-of-requires Inv-loop μ-loop
+group-of-requires c κs = (omega (arith, c .before .loop-test .taken), omega (arith, c .before .loop-test .taken), omega (arith, c .before .before .loop .inv .2, c .before .loop-test .taken), c .before .before .loop .inv .1)
+
+slice-write-groups : tie.Need-slice-write-groups Inv-loop μ-loop
+slice-write-groups c = omega (arith, c .before .before .before .loop .inv .2, c .before .before .loop-test .taken)
 
 loop-again : tie.Need-loop-again Inv-loop μ-loop
 loop-again c =
-    let at3 = c .before .before .before in
-    let at9 = at3 .before .before .before .before .before .before in
-    let loop = c .before .before .before .before .before .before .loop in
-    let args = at9 .args in
-    rw (c .before .before .put16 .ensures) (
+    let loop = c .before .before .before .loop in (
       omega arith,
-      fill-more (λ q. q) (λ q v. Root (now (args .ups)) q v) (loop .groups) (loop .p) (at3 .root .result) (omega (arith, loop .inv .2)) (λ q h r. omega arith)
-          (loop .inv .1) (at3 .root .ensures),
+      fill-more (λ q. q) (λ q v. Root (now (c .before .before .before .before .before .before .args .ups)) q v) (loop .groups) (loop .p) (c .group-of .result) (omega (arith, loop .inv .2, c .before .before .loop-test .taken)) (λ q h r. omega arith)
+          (loop .inv .1) (c .group-of .ensures),
       length-set (loop .groups) _ _ ∙ loop .inv .2,
     )
 
@@ -44,17 +42,4 @@ returns c =
     let e : c .before .loop .p ≡ c .before .before .before .before .args .n = omega arith in λ q h. c .before .loop .inv .1 q (omega arith)
 
 pub list-groups-spec : {M : Type 1} → statement M
-list-groups-spec =
-    tie.close
-    (tie.spec
-    Inv-loop
-    μ-loop
-    loop-holds
-    (λ c κs. search needs)
-    cast-put16
-    (λ c κs. search needs)
-    (λ c. search needs)
-    (λ c. search needs)
-    loop-again
-    same-length
-    returns)
+list-groups-spec = tie.close (tie.spec Inv-loop μ-loop loop-holds group-of-requires (λ c. search needs) slice-write-groups (λ c. search needs) (λ c. search needs) loop-again same-length returns)

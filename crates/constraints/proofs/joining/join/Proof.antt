@@ -18,44 +18,29 @@ abbrev μ-loop : tie.MeasureT-loop
 loop-holds : tie.Need-loop-holds Inv-loop μ-loop
 loop-holds c = (omega arith, c .before .before .before .pre .3)
 
+enter-requires : tie.Need-enter-requires Inv-loop μ-loop
+unfolding startOf
+enter-requires c κs =
+    let loop = c .before .before .before .before .loop in
+    let low : c .before .before .place .result < 1280 = rw (c .before .before .place .ensures .0) (c .before .before .before .before .before .before .before .before .pre .2 (loop .e) (c .before .before .before .loop-test .taken)) in
+    (omega (arith, c .before .before .before .loop-test .taken), omega (arith, loop .inv .1 .nextsLong, c .before .before .before .loop-test .taken), omega (arith, loop .inv .1 .headsLong, low))
+
 loop-again : tie.Need-loop-again Inv-loop μ-loop
 unfolding startOf
 loop-again c =
-    let at8 = c .before .before .before .before .before .before .before .before in
-    let at9 = at8 .before in
-    let at13 = at9 .before .before .before .before in
-    let enter = c .before .before .before .before .enter in
-    let place = c .before .before .before .before .before .before .before .place in
-    let loop = at9 .loop in
-    let pre = at13 .pre in
-    let low : place .result < 1280 = rw (place .ensures .0) (pre .2 (loop .e) (at8 .loop-test .taken)) in
-    (omega arith, rw (enter .ensures .0, enter .ensures .1) (joined-more _ _ _ _ _ (place .ensures .0) low (omega (arith, at8 .loop-test .taken)) (loop .inv .1)))
+    let loop = c .before .before .before .before .before .before .before .before .before .loop in
+    let low : c .before .before .before .before .before .before .before .place .result < 1280 = rw (c .before .before .before .before .before .before .before .place .ensures .0) (c .before .before .before .before .before .before .before .before .before .before .before .before .before .pre .2 (loop .e) (c .before .before .before .before .before .before .before .before .loop-test .taken)) in
+    (omega arith, rw (c .before .before .before .before .enter .ensures .0, c .before .before .before .before .enter .ensures .1) (joined-more _ _ _ _ _ (c .before .before .before .before .before .before .before .place .ensures .0) low (omega (arith, c .before .before .before .before .before .before .before .before .loop-test .taken)) (loop .inv .1)))
 
 same-length : tie.Need-same-length Inv-loop μ-loop
-same-length c =
-    c .before .loop .inv .1 .headsLong ∙ sym (c .before .before .before .before .before .pre .3 .headsLong)
+same-length c = c .before .loop .inv .1 .headsLong ∙ sym (c .before .before .before .before .before .pre .3 .headsLong)
 
 same-length-2 : tie.Need-same-length-2 Inv-loop μ-loop
-same-length-2 c =
-    c .before .loop .inv .1 .nextsLong ∙ sym (c .before .before .before .before .before .pre .3 .nextsLong)
+same-length-2 c = c .before .loop .inv .1 .nextsLong ∙ sym (c .before .before .before .before .before .pre .3 .nextsLong)
 
 returns : tie.Need-returns Inv-loop μ-loop
 returns c =
     let e : c .before .loop .e ≡ c .before .before .before .before .before .args .n = omega arith in rw e at (c .before .loop .inv .1)
 
 pub join-spec : {M : Type 1} → statement M
-join-spec =
-    tie.close
-    (tie.spec
-    Inv-loop
-    μ-loop
-    loop-holds
-    (λ c. search needs)
-    (λ c κs. search needs)
-    (λ c κs. search needs)
-    (λ c. search needs)
-    (λ c. search needs)
-    loop-again
-    same-length
-    same-length-2
-    returns)
+join-spec = tie.close (tie.spec Inv-loop μ-loop loop-holds (λ c. search needs) (λ c κs. search needs) enter-requires (λ c. search needs) (λ c. search needs) loop-again same-length same-length-2 returns)

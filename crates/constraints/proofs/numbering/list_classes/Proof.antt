@@ -20,20 +20,18 @@ loop-holds : tie.Need-loop-holds Inv-loop μ-loop
 loop-holds c = (omega arith, λ p h. absurd (omega arith), refl)
 
 class-at-requires : tie.Need-class-at-requires Inv-loop μ-loop
-class-at-requires c κs =
-    rw (c .place .ensures .0) (c .before .before .before .before .before .before .before .pre .1 (c .before .before .before .loop .p) (c .before .before .loop-test .taken))
+class-at-requires c κs = rw (c .wide16 .ensures .0) (c .before .before .before .before .before .before .before .pre .2 (c .before .before .before .loop .p) (c .before .before .loop-test .taken))
+
+slice-write-classes : tie.Need-slice-write-classes Inv-loop μ-loop
+slice-write-classes c = omega (arith, c .before .before .before .before .loop .inv .2, c .before .before .before .before .before .before .before .before .pre .1)
 
 loop-again : tie.Need-loop-again Inv-loop μ-loop
 loop-again c =
-    let at3 = c .before .before .before in
-    let at11 = at3 .before .before .before .before .before .before .before .before in
-    let loop = c .before .before .before .before .before .before .before .loop in
-    let args = at11 .args in
-    rw (c .before .before .put16 .ensures) (
+    let loop = c .before .before .before .before .loop in
+    let args = c .before .before .before .before .before .before .before .before .args in (
       omega arith,
-      fill-more (λ p. p) (λ p v. v ≡ getD (now (args .cache)) (getD (now (args .nodes)) p 0 * 3 + 2) 0) (loop .classes) (loop .p)
-          (at3 .class-at .result) (omega (arith, loop .inv .2)) (λ p h q. omega arith) (loop .inv .1)
-          (rw (c .before .before .before .before .place .ensures .0) at (at3 .class-at .ensures)),
+      fill-more (λ p. p) (λ p v. v ≡ getD (now (args .cache)) (getD (now (args .nodes)) p 0 * 3 + 2) 0) (loop .classes) (loop .p) (c .class-at .result)
+          (omega (arith, loop .inv .2, c .before .before .before .before .before .before .before .before .pre .1)) (λ p h q. omega arith) (loop .inv .1) (rw (c .before .wide16 .ensures .0) at (c .class-at .ensures)),
       length-set (loop .classes) _ _ ∙ loop .inv .2,
     )
 
@@ -45,17 +43,4 @@ returns c =
     let e : c .before .loop .p ≡ c .before .before .before .before .before .args .cached = omega arith in rw e at (c .before .loop .inv .1)
 
 pub list-classes-spec : {M : Type 1} → statement M
-list-classes-spec =
-    tie.close
-    (tie.spec
-    Inv-loop
-    μ-loop
-    loop-holds
-    (λ c κs. search needs)
-    class-at-requires
-    (λ c κs. search needs)
-    (λ c. search needs)
-    (λ c. search needs)
-    loop-again
-    same-length
-    returns)
+list-classes-spec = tie.close (tie.spec Inv-loop μ-loop loop-holds (λ c. search needs) (λ c. search needs) (λ c κs. search needs) class-at-requires (λ c. search needs) slice-write-classes (λ c. search needs) (λ c. search needs) loop-again same-length returns)
