@@ -70,13 +70,14 @@ pub(crate) fn first_place(bytes: &[u8]) -> u32
     cells::from16(9 + 4 * cells::from8(field_count(bytes)))
 }
 
-// The place after the record that begins at `place`.
+// The place after the record that begins at `place`: its code's length stands right before the code, which begins at `start`.
 pub(crate) fn next_place(bytes: &[u8], place: u32) -> u32
     requires { ⌜ place ≤ 4000000000 ⌝ }
     ensures { λ r. ⌜ (r ≡ nextPlace (now (bytes .entry)) place) × (r ≤ place + 200948) ⌝ }
 {
     let start = place + 6 + cells::from16(arguments_size(bytes, place));
-    start + cells::from16(code_length(bytes, place)) + maps_size(bytes, place)
+    let length = cells::short_at(bytes, cells::wide32(start) - 2);
+    start + cells::from16(length) + maps_size(bytes, place)
 }
 
 // The place of the record of method j: the records before it are passed one by one.

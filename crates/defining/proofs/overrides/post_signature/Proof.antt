@@ -1,9 +1,7 @@
 -- The arguments post at most four rows, and the result one behind them.
-use mathlib.Core.Path.{_≡_}
 use Prim.Native.Nat.{_+_, _≤_}
 use native.Mathlib.Omega.{arith}
 use lib.ListN.{length}
-use denote.Ref.{now}
 use Rattle.definition.specs.Classes.{typesOf}
 use Rattle.laws.specs.Inline.{four-arguments}
 use Rattle.defining.proofs.Posted.{posts-signature, posted-long, types-few}

@@ -3,10 +3,9 @@ use mathlib.Core.Path.{_≡_, refl, _∙_}
 use Prim.Native.Nat.{_+_, _-_, _≤_}
 use native.Mathlib.Omega.{arith}
 use lib.ListN.{length, drop}
-use Rattle.definition.specs.Lists.{rows, writeRows}
+use Rattle.definition.specs.Lists.{writeRows}
 use Rattle.definition.specs.Classes.{typesOf}
-use Rattle.definition.specs.Constraints.{newTies}
-use Rattle.definition.specs.Tables.{tieAt, putTie}
+use Rattle.definition.specs.Tables.{putTie}
 use Rattle.defining.specs.Posting.{TiesPosted}
 use Rattle.defining.proofs.Posted.{typesLeft, posts-types-on, posts-types-end, added-few, added-long}
 use borrow.Author.Needs.{needs}
