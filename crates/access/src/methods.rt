@@ -2,7 +2,6 @@
 use crate::Access;
 use crate::Receiver;
 use crate::passing::are_kinds;
-use crate::passing::entry;
 use crate::receivers::received;
 use definition::numbers::WORD_ABSENT;
 use definition::numbers::WORD_STUCK;
@@ -16,6 +15,7 @@ ghost use Rattle.access.specs.Members.{framesLeft, Rest};
 use definition::Instruction;
 use definition::Refusal;
 use definition::Signature;
+use frames::Call;
 use frames::Top;
 use instructions::Plan;
 use resolution::Found;
@@ -79,7 +79,15 @@ fn call_method(
             else {
                 return instructions::refuse(WORD_STUCK);
             };
-            Plan::Enter(k - 1, entry(frames, top.base, k, n, a, i, o))
+            Plan::Enter(
+                k - 1,
+                Call {
+                    class: a,
+                    method: i,
+                    object: o,
+                    count: n,
+                },
+            )
         }
     }
 }

@@ -31,38 +31,3 @@ pub(crate) fn are_kinds(frames: &[u32], b: u32, k: u32, list: Arguments) -> bool
     }
     true
 }
-
-// Argument i of n, of which the first is operand k; empty where there is none.
-fn argument(frames: &[u32], b: u32, k: u32, n: u32, i: u32) -> Cell
-    requires { ⌜ k + n < 4294967296 ⌝ }
-    ensures { λ r. ⌜ valueOf (r .kind) (r .bits) ≡ argumentOr (operandAt (now (frames .entry)) b) k n i ⌝ }
-{
-    if n <= i {
-        return frames::empty();
-    }
-    frames::operand(frames, b, k + i)
-}
-
-// A frame to be entered with n arguments, of which the first is operand k.
-pub(crate) fn entry(
-    frames: &[u32],
-    b: u32,
-    k: u32,
-    n: u32,
-    class: u32,
-    method: u32,
-    object: u32,
-) -> Entry
-    requires { ⌜ (n ≤ argumentLimit) × (k + n < 4294967296) ⌝ }
-    ensures { λ r. ⌜ entryFrame (r .class) (r .method) (r .object) (entryValues r) ≡ entryFrame class method object (rows (operandAt (now (frames .entry)) b) n k) ⌝ }
-{
-    Entry {
-        class,
-        method,
-        object,
-        first: argument(frames, b, k, n, 0),
-        second: argument(frames, b, k, n, 1),
-        third: argument(frames, b, k, n, 2),
-        fourth: argument(frames, b, k, n, 3),
-    }
-}

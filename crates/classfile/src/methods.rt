@@ -6,6 +6,8 @@ use crate::maps::maps_size;
 use crate::signatures::arguments_size;
 use crate::signatures::is_alike;
 use crate::signatures::result_place;
+use crate::fields::version;
+use definition::numbers::VERSION_TWO;
 use definition::Signature;
 ghost use mathlib.Core.Path.{_≡_};
 ghost use Prim.Native.Nat.{_+_, _≤_, min};
@@ -70,8 +72,25 @@ pub(crate) fn first_place(bytes: &[u8]) -> u32
     cells::from16(9 + 4 * cells::from8(field_count(bytes)))
 }
 
-// The place after the record that begins at `place`: its code's length stands right before the code, which begins at `start`.
+// The place after the record that begins at `place`, in version 1: eight bytes, of which the last two are the code's length, and the code.
+fn next_first(bytes: &[u8], place: u32) -> u32
+{
+    place + 8 + cells::from16(cells::short_at(bytes, cells::wide32(place) + 6))
+}
+
+// The place after the record that begins at `place`.
 pub(crate) fn next_place(bytes: &[u8], place: u32) -> u32
+    requires { ⌜ place ≤ 4000000000 ⌝ }
+    ensures { λ r. ⌜ (r ≡ nextPlace (now (bytes .entry)) place) × (r ≤ place + 200948) ⌝ }
+{
+    if version(bytes) < VERSION_TWO {
+        return next_first(bytes, place);
+    }
+    next_later(bytes, place)
+}
+
+// The place after the record that begins at `place`: its code's length stands right before the code, which begins at `start`.
+fn next_later(bytes: &[u8], place: u32) -> u32
     requires { ⌜ place ≤ 4000000000 ⌝ }
     ensures { λ r. ⌜ (r ≡ nextPlace (now (bytes .entry)) place) × (r ≤ place + 200948) ⌝ }
 {
@@ -80,14 +99,29 @@ pub(crate) fn next_place(bytes: &[u8], place: u32) -> u32
     start + cells::from16(length) + maps_size(bytes, place)
 }
 
-// The place of the record of method j: the records before it are passed one by one.
-fn place_of(bytes: &[u8], j: u8) -> u32
-    ensures { λ r. ⌜ r ≡ methodPlace (now (bytes .entry)) j ⌝ }
+// The place of the record of method j in version 1: the records before it are passed one by one.
+fn place_of_first(bytes: &[u8], j: u8) -> u32
 {
     let mut place = first_place(bytes);
     let mut i: u8 = 0;
     while i < j {
-        place = next_place(bytes, place);
+        place = next_first(bytes, place);
+        i += 1;
+    }
+    place
+}
+
+// The place of the record of method j: the records before it are passed one by one.
+fn place_of(bytes: &[u8], j: u8) -> u32
+    ensures { λ r. ⌜ r ≡ methodPlace (now (bytes .entry)) j ⌝ }
+{
+    if version(bytes) < VERSION_TWO {
+        return place_of_first(bytes, j);
+    }
+    let mut place = first_place(bytes);
+    let mut i: u8 = 0;
+    while i < j {
+        place = next_later(bytes, place);
         i += 1;
     }
     place

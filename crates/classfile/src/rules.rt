@@ -22,6 +22,7 @@ use crate::methods::next_place;
 use crate::signatures::argument_number;
 use crate::signatures::is_named;
 use crate::signatures::method_signature;
+use crate::signatures::list_signature;
 use definition::numbers::ARGUMENT_LIMIT;
 use definition::numbers::CODE_LIMIT;
 use definition::numbers::FILE_LIMIT;
@@ -107,10 +108,25 @@ fn is_listed_method(bytes: &[u8], place: u32) -> bool
     argument_number(bytes, place) <= ARGUMENT_LIMIT
 }
 
+fn is_one_named(bytes: &[u8], place: u32) -> bool
+{
+    let start = cells::wide32(place);
+    if cells::short_at(bytes, start) < 1 {
+        return false;
+    }
+    if cells::short_at(bytes, start + 2) < 1 {
+        return false;
+    }
+    1 <= cells::short_at(bytes, start + 4)
+}
+
 fn is_named_method(bytes: &[u8], place: u32) -> bool
     ensures { λ r. ⌜ r ≡ namedMethod (now (bytes .entry)) place ⌝ }
 {
-    is_named(method_signature(bytes, place))
+    if version(bytes) < VERSION_THREE {
+        return is_one_named(bytes, place);
+    }
+    is_named(list_signature(bytes, place))
 }
 
 fn is_coded_method(bytes: &[u8], place: u32) -> bool

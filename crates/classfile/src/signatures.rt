@@ -59,8 +59,27 @@ fn method_result(bytes: &[u8], place: u32) -> u16
     cells::short_at(bytes, result_place(bytes, place))
 }
 
+// The signature of a method before version 3: name, one argument, result, two bytes each.
+fn one_signature(bytes: &[u8], place: u32) -> Signature
+{
+    let start = cells::wide32(place);
+    Signature {
+        name: cells::short_at(bytes, start),
+        arguments: Arguments::OneArgument(cells::short_at(bytes, start + 2)),
+        result: cells::short_at(bytes, start + 4),
+    }
+}
+
 pub fn method_signature(bytes: &[u8], place: u32) -> Signature
     ensures { λ r. ⌜ r ≡ methodAt (now (bytes .entry)) place .signature ⌝ }
+{
+    if version(bytes) < VERSION_THREE {
+        return one_signature(bytes, place);
+    }
+    list_signature(bytes, place)
+}
+
+pub(crate) fn list_signature(bytes: &[u8], place: u32) -> Signature
 {
     Signature {
         name: method_name(bytes, place),

@@ -118,6 +118,9 @@ fn settle(
     if !room {
         return refused(WORD_FULL);
     }
+    if one == two {
+        return plain(plan);
+    }
     let n = cells::at16(counts, COUNT_TIES);
     let posting = posting::new_ties(ties, n, one, two, names, last);
     let k = posting::tie_number(posting);

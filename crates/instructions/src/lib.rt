@@ -23,7 +23,7 @@ use definition::numbers::WORD_DIVISOR;
 use definition::numbers::WORD_FULL;
 use definition::numbers::WORD_STUCK;
 use frames::Cell;
-use frames::Entry;
+use frames::Call;
 use frames::Top;
 
 // What a step is going to do. d operands stay; a value is its two cells.
@@ -44,8 +44,8 @@ pub enum Plan {
     Finish(u32),
     // d operands stay; a field of an object is set to a value.
     Field(u32, u32, u8, Cell),
-    // d operands stay; a frame is entered.
-    Enter(u32, Entry),
+    // d operands stay; a frame is entered. Its arguments are the operands behind the receiver, which is the one that follows the d.
+    Enter(u32, Call),
     // d operands stay; an object of a class is made, with a number, and stands above them.
     Make(u32, u32, u16),
 }

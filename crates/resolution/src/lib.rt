@@ -19,6 +19,7 @@ pub use fields::nearest_field;
 pub use fields::size_of;
 pub use fields::slot_of;
 pub use fields::slot_types;
+pub use methods::code_of;
 pub use methods::method_code;
 pub use methods::select_method;
 

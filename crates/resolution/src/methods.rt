@@ -49,12 +49,18 @@ pub fn select_method(
 pub fn method_code<'a>(counts: &[u16], classes: &[u16], kept: &'a [u8], c: u32, j: u32) -> &'a [u8]
     ensures { λ r. ⌜ now r ≡ codeIn (quickMethods (fileIn (now (counts .entry)) (now (classes .entry)) (now (kept .entry)) c)) j ⌝ }
 {
-    let file = file_of(counts, classes, kept, c);
-    if cells::from16(cells::from8(classfile::method_count(file))) <= j {
-        return &kept[0..0];
+    code_of(file_of(counts, classes, kept, c), j)
+}
+
+// The code of a file's method, as the part of the file's bytes that it is; no bytes if there is no such method.
+pub fn code_of<'a>(file: &'a [u8], j: u32) -> &'a [u8]
+    ensures { λ r. ⌜ now r ≡ codeIn (quickMethods (now (file .entry))) j ⌝ }
+{
+    if 256 <= j {
+        return &file[0..0];
     }
     let MethodFound::At(_, place) = classfile::method_place(file, j as u8) else {
-        return &kept[0..0];
+        return &file[0..0];
     };
     classfile::code(file, place)
 }

@@ -147,47 +147,17 @@ fn putfield_at(code: &[u8], i: usize) -> Instruction
     )
 }
 
-// A signature inline: name, argument, result.
-fn signature_at(code: &[u8], i: usize) -> Signature
-    requires { ⌜ i ≤ length (now code) + 2 ⌝ }
-    ensures { λ r. ⌜ r ≡ signatureAt (now (code .entry)) i ⌝ }
+// A call whose argument types, count many, begin at that place; the class and the method's name begin at place i.
+fn call_at(code: &[u8], i: usize, place: usize, count: u8, n: usize) -> Reading
 {
-    Signature {
-        name: short_at(code, i),
-        arguments: Arguments::OneArgument(short_at(code, i + 2)),
-        result: short_at(code, i + 4),
-    }
-}
-
-fn invokevirtual_at(code: &[u8], i: usize) -> Instruction
-    requires { ⌜ i ≤ length (now code) ⌝ }
-    ensures { λ r. ⌜ some r ≡ instructionOf (now (code .entry)) i Opcode.OpInvokevirtual ⌝ }
-{
-    Instruction::Invokevirtual(short_at(code, i), signature_at(code, i + 2))
-}
-
-// A signature inline with its list of n: name, count, argument types, result.
-fn list_signature_at(code: &[u8], i: usize, n: u8) -> Signature
-    requires { ⌜ (i ≤ length (now code) + 2) × (n ≤ argumentLimit) ⌝ }
-    ensures { λ r. ⌜ some r ≡ listSignatureAt (now (code .entry)) i n ⌝ }
-{
-    Signature {
-        name: short_at(code, i),
-        arguments: arguments_at(code, i + 3, n),
-        result: short_at(code, i + 3 + 2 * cells::wide8(n)),
-    }
-}
-
-// A list of more than four can't be read, as an unknown opcode can't.
-fn invokevirtual_list_at(code: &[u8], i: usize, n: usize) -> Reading
-    requires { ⌜ i ≤ length (now code) ⌝ }
-    ensures { λ r. ⌜ r ≡ readingOf (sizedAs n (instructionOf (now (code .entry)) i Opcode.OpInvokevirtualList)) ⌝ }
-{
-    let count = list_count(code, i);
     if ARGUMENT_LIMIT < count {
         return Reading::Unreadable;
     }
-    let s = list_signature_at(code, i + 2, count);
+    let s = Signature {
+        name: short_at(code, i + 2),
+        arguments: arguments_at(code, place, count),
+        result: short_at(code, place + 2 * cells::wide8(count)),
+    };
     Reading::At(Instruction::Invokevirtual(short_at(code, i), s), n)
 }
 
@@ -214,8 +184,8 @@ fn instruction_of(code: &[u8], i: usize, o: Opcode, n: usize) -> Reading
         Opcode::OpArithmetic(a) => Reading::At(Instruction::Arithmetic(a), n),
         Opcode::OpGetfield => Reading::At(getfield_at(code, i), n),
         Opcode::OpPutfield => Reading::At(putfield_at(code, i), n),
-        Opcode::OpInvokevirtual => Reading::At(invokevirtual_at(code, i), n),
-        Opcode::OpInvokevirtualList => invokevirtual_list_at(code, i, n),
+        Opcode::OpInvokevirtual => call_at(code, i, i + 4, 1, n),
+        Opcode::OpInvokevirtualList => call_at(code, i, i + 5, list_count(code, i), n),
         Opcode::OpNew => Reading::At(Instruction::New(short_at(code, i)), n),
         Opcode::OpReturn(k) => Reading::At(Instruction::Return(k), n),
         Opcode::OpBranch(k) => Reading::At(Instruction::Branch(k, target_at(code, i)), n),
