@@ -1,5 +1,5 @@
--- A call's arguments, where they stand: among the operands in their order, the last of them on top. What is popped for them, whether each is of its own
--- type's kind, and the locals that they fill.
+-- A call's arguments, where they stand: among the operands in their order, the last of them on top. What is popped for them, and whether each is of its own
+-- type's kind.
 use mathlib.Core.Path.{_≡_, refl, _∙_}
 use mathlib.Core.Bool.{Bool, true, false}
 use mathlib.Core.Option.{none, some}
@@ -11,15 +11,14 @@ use lib.ListN.{length, getD}
 use lib.Seq.{take-all}
 use lib.Dec.{ltb}
 use borrow.Author.Tests.{ltb-true, ltb-false}
-use Rattle.definition.specs.Lists.{rows, stack, filled}
+use Rattle.definition.specs.Lists.{rows, stack}
 use Rattle.definition.specs.Maybe as maybe
 use Rattle.definition.specs.declared.Arguments.{Arguments}
 use Rattle.definition.specs.Classes.{typesOf}
-use Rattle.definition.specs.Instructions.{pick}
 use Rattle.definition.specs.Verifier.{pop, popAll}
 use Rattle.definition.specs.declared.Refusal.the-variants.{Word}
 use Rattle.definition.specs.Answers.{Result, refused, ok, _>>=_, take?}
-use Rattle.definition.specs.Machine.{Value, emptyValue, pop!, popAll!, kind!, kinds!, entryFrame}
+use Rattle.definition.specs.Machine.{Value, pop!, popAll!, kind!, kinds!}
 use Rattle.definition.specs.Tables.{valueOf, operandAt}
 use Rattle.layout.specs.Places.{rows-last, rows-take}
 use Rattle.instructions.specs.Operands.{isKind, pop-none, kind-is, kind-not}
@@ -91,24 +90,3 @@ module _ (F : List ℕ) (b : ℕ) (list : Arguments) (k : ℕ) where
       pub kinds-off : isKind (getD (typesOf list) i 0) x y ≡ false → kindsFrom i ≡ refused (Word 14)
       unfolding _>>=_
       kinds-off h = kinds-next ∙ rw (← reads, kind-not x y (getD (typesOf list) i 0) h)
-
--- argument i of n, of which the first is operand k; empty where there is none
-unfoldable pub argumentOr : (ℕ → Value) → ℕ → ℕ → ℕ → Value
-argumentOr g k n i = pick (ltb i n) (g (k + i)) emptyValue
-
--- A frame is entered alike with n arguments and with four, of which those past the n are empty: the locals past the arguments are empty too
-module _ (g : ℕ → Value) (k c j o : ℕ) where
-  zeroth : k + 0 ≡ k
-  zeroth = omega arith
-
-  next : (i : ℕ) → k + suc i ≡ suc (k + i)
-  next i = omega arith
-
-  pub entered : (n : ℕ) → n ≤ 4 → entryFrame c j o (argumentOr g k n 0 ∷ argumentOr g k n 1 ∷ argumentOr g k n 2 ∷ argumentOr g k n 3 ∷ []) ≡ entryFrame c j o (rows g n k)
-  unfolding argumentOr pick filled rows
-  entered zero h = refl
-  entered (suc zero) h = rw zeroth
-  entered (suc (suc zero)) h = rw (next 0, zeroth)
-  entered (suc (suc (suc zero))) h = rw (next 1, next 0, zeroth)
-  entered (suc (suc (suc (suc zero)))) h = rw (next 2, next 1, next 0, zeroth)
-  entered (suc (suc (suc (suc (suc n))))) h = absurd (omega arith)

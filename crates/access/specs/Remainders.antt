@@ -4,7 +4,7 @@ use mathlib.Core.Bool.{Bool, true, false}
 use mathlib.Core.Option.{none, some}
 use mathlib.Core.List.{List, []}
 use mathlib.Core.Logic.{_≢_}
-use Prim.Native.Nat.{ℕ, _-_, _<_, _≤_}
+use Prim.Native.Nat.{ℕ, _+_, _-_, _<_, _≤_}
 use native.Mathlib.Omega.{arith}
 use lib.ListN.{length}
 use Rattle.definition.specs.declared.Signature.{Signature}
@@ -17,8 +17,6 @@ use Rattle.definition.specs.Machine.{pop!, popAll!, kinds!, object!, entryFrame
 use Rattle.definition.specs.Tables.{Tables, tables, valueOf, objectAt, fieldAt, operandAt, usedFields, frameOf, objectsOf}
 use Rattle.layout.specs.Cells.{used-few, object-field-past}
 use Rattle.laws.specs.Objects.{changed-same}
-use Rattle.frames.specs.declared.Entry.{Entry}
-use Rattle.frames.specs.Initial.{entryValues}
 use Rattle.frames.specs.Unused.{isUsed, used-there}
 use Rattle.instructions.specs.declared.Plan.{Plan}
 use Rattle.instructions.specs.declared.Plan.the-variants.{Refuse, Keep, Above, Field, Enter}
@@ -232,14 +230,14 @@ module _ (N L K E O F : List ℕ) (b d e : ℕ) where
               fits = λ few I S k m l. tt;
             }
 
-            pub call-at : (a : Selected) → selected B g (objectAt B O o .class) ≡ some a
-                → (z : Entry) → entryFrame (z .class) (z .method) (z .object) (entryValues z) ≡ entryFrame (a .class) (a .place) o (rows (operandAt F b) n (d - n))
-                → Called (Enter (d - n - 1) z)
+            pub call-at : n ≤ 4 → (a : Selected) → selected B g (objectAt B O o .class) ≡ some a
+                → Called (Enter (d - n - 1) (record { class = a .class; method = a .place; object = o; count = n }))
             unfolding callMethod meaning frameOf _>>=_ need take?
-            call-at a h z v = record {
+            call-at four a h = record {
               says = λ I S task fs w p i.
-                  rw (arguments, receiver, ← kinds, fit, right x y (d - n - 1) reads r receives o is I S, h, v, counted);
-              fits = λ few I S k m l. l;
+                  let z : d - n - 1 + 1 ≡ d - n = omega arith in
+                  rw (arguments, receiver, ← kinds, fit, right x y (d - n - 1) reads r receives o is I S, h, z, counted);
+              fits = λ few I S k m l. (l, four, omega arith);
             }
 
   -- fewer than two operands

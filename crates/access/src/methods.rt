@@ -15,8 +15,8 @@ ghost use Rattle.access.specs.Members.{framesLeft, Rest};
 use definition::Instruction;
 use definition::Refusal;
 use definition::Signature;
-use frames::Call;
 use frames::Top;
+use instructions::Invocation;
 use instructions::Plan;
 use resolution::Found;
 use resolution::Selection;
@@ -81,7 +81,7 @@ fn call_method(
             };
             Plan::Enter(
                 k - 1,
-                Call {
+                Invocation {
                     class: a,
                     method: i,
                     object: o,

@@ -1,19 +1,15 @@
-// A call's arguments, which stand among the operands in their order, the last of them on top: their kinds, and the frame that is entered with them.
+// A call's arguments, which stand among the operands in their order, the last of them on top: their kinds.
 use definition::Arguments;
-use frames::Cell;
-use frames::Entry;
 ghost use mathlib.Core.Path.{_≡_};
-ghost use Prim.Native.Nat.{_+_, _<_, _≤_};
+ghost use Prim.Native.Nat.{_+_, _<_};
 ghost use lib.ListN.{length};
-ghost use Rattle.definition.specs.Numbers.{wordStuck, argumentLimit};
+ghost use Rattle.definition.specs.Numbers.{wordStuck};
 ghost use Rattle.definition.specs.Lists.{rows};
 ghost use Rattle.definition.specs.Classes.{typesOf};
 ghost use Rattle.definition.specs.declared.Refusal.the-variants.{Word};
 ghost use Rattle.definition.specs.Answers.{need};
-ghost use Rattle.definition.specs.Machine.{kinds!, entryFrame};
-ghost use Rattle.definition.specs.Tables.{valueOf, operandAt};
-ghost use Rattle.frames.specs.Initial.{entryValues};
-ghost use Rattle.access.specs.Passing.{argumentOr};
+ghost use Rattle.definition.specs.Machine.{kinds!};
+ghost use Rattle.definition.specs.Tables.{operandAt};
 
 // Whether each argument is of its own type's kind; the first is operand k.
 pub(crate) fn are_kinds(frames: &[u32], b: u32, k: u32, list: Arguments) -> bool

@@ -17,7 +17,7 @@ use Rattle.definition.specs.Lists.{rows, writeRows, stack}
 use Rattle.definition.specs.Classes.{Base, Slot, slots}
 use Rattle.definition.specs.Constraints.{Tie, posted}
 use Rattle.definition.specs.Machine.{Value, objectValue, emptyValue, Objects, Frame, unused, made, newObject, entryFrame, Progress, give, initialValue}
-use Rattle.definition.specs.Tables.{Tables, tables, putTie, putNumber, valueOf, objectAt, putObject, putField, sizeOf, usedFields, putOperand, putLocal, frameOf, putFrame, frameBase, frameIn, objectsOf, viewOver, put}
+use Rattle.definition.specs.Tables.{Tables, tables, putTie, putNumber, valueOf, objectAt, putObject, putField, sizeOf, usedFields, operandAt, putOperand, putLocal, frameOf, putFrame, frameBase, frameIn, objectsOf, viewOver, put}
 use Rattle.definition.specs.Calls.{numbersFrom, given, progressed, answerOf, Done, done, carried}
 use Rattle.laws.specs.Arguments.{filled-length}
 use Rattle.layout.specs.Places.{rows-map, stack-top}
@@ -30,10 +30,9 @@ use Rattle.resolution.specs.Quick.{quickBase}
 use Rattle.resolution.specs.Slots.{slotType}
 use Rattle.access.specs.Accesses.{worldIn}
 use Rattle.posting.specs.Postings.{Quiet}
-use Rattle.frames.specs.Initial.{entryValues}
 use Rattle.instructions.specs.Plans.{meaning, Fit}
 use Rattle.frames.specs.declared.Cell.{Cell}
-use Rattle.frames.specs.declared.Entry.{Entry}
+use Rattle.instructions.specs.declared.Invocation.{Invocation}
 use Rattle.instructions.specs.declared.Plan.{Plan}
 use Rattle.instructions.specs.declared.Plan.the-variants.{Refuse, Keep, Jump, Above, Local, Give, Finish, Field, Enter, Make}
 
@@ -149,17 +148,18 @@ module _ (B : Base) (N L K E I S O F : List ℕ) (k m b q : ℕ) (us : List Tie)
       (ap (done (Ran k)) (sym (top-frame B before k m q us (r .two) _ _ (putField o O i (valueOf (v .kind) (v .bits))) (moved F (frameBase k m) q d) (r .count)
       (object-set before B o i (valueOf (v .kind) (v .bits)) (l .0) (l .1) (f .1)) (top-kept before k m (r .low) q d))))
 
-  pub out-enter : (d : ℕ) (x : Entry) (D G : List ℕ) → p ≡ Enter d x → D ≡ set C (6 + k) (m + 2)
-      → G ≡ putFrame (moved F b q d) (frameBase k (m + 1)) (entryFrame (x .class) (x .method) (x .object) (entryValues x)) → done (Ran k) (tables (numberedTies N us D) L K E J S O G) ≡ plans
+  pub out-enter : (d : ℕ) (x : Invocation) (D G : List ℕ) → p ≡ Enter d x → D ≡ set C (6 + k) (m + 2)
+      → G ≡ putFrame (moved F b q d) (frameBase k (m + 1)) (entryFrame (x .class) (x .method) (x .object) (rows (operandAt F b) (x .count) (d + 1))) → done (Ran k) (tables (numberedTies N us D) L K E J S O G) ≡ plans
   unfolding planned meaning _>>=_ carried answerOf
   out-enter d x D G e f g =
-      let h : suc m < 32 = rw e at (r .fits) in
+      let h : (suc m < 32) × (x .count ≤ 4) × (d + x .count < 16) = rw e at (r .fits) in
       let y : m + 2 ≡ suc (suc m) = omega arith in
       let z : m + 1 ≡ suc m = omega arith in
       rw (e, f, g, c, j, r .row, y, z)
       (ap (done (Ran k)) (sym (same-objects B before k m q us (r .two) (objectsOf B before) _ none (suc (suc m)) O
-      (putFrame (moved F (frameBase k m) q d) (frameBase k (suc m)) (entryFrame (x .class) (x .method) (x .object) (entryValues x))) (objects-fill before B)
-      (top-entered before k m (r .low) q d (entryFrame (x .class) (x .method) (x .object) (entryValues x)) h (omega arith) (omega (arith, filled-length 8 emptyValue (objectValue (x .object) ∷ entryValues x)))))))
+      (putFrame (moved F (frameBase k m) q d) (frameBase k (suc m)) (entryFrame (x .class) (x .method) (x .object) (rows (operandAt F (frameBase k m)) (x .count) (d + 1)))) (objects-fill before B)
+      (top-entered before k m (r .low) q d (entryFrame (x .class) (x .method) (x .object) (rows (operandAt F (frameBase k m)) (x .count) (d + 1))) (h .0) (omega arith)
+      (omega (arith, filled-length 8 emptyValue (objectValue (x .object) ∷ rows (operandAt F (frameBase k m)) (x .count) (d + 1))))))))
 
   -- the count n of objects rises only if row o is the next
   pub out-make : (d s o n : ℕ) (D G P : List ℕ) → p ≡ Make d s o → n ≡ getD N 5 0 → D ≡ set (set C 5 (rowsWith o n)) (8 + o) (suc k)
@@ -244,7 +244,7 @@ Left B N O F k m b q (Give v) a C P G =
 Left B N O F k m b q (Finish v) a C P G = (a ≡ Finished k v) × (C ≡ set N (6 + k) 0) × (P ≡ O) × (G ≡ F)
 Left B N O F k m b q (Field d o i v) a C P G = (a ≡ Ran k) × (C ≡ N) × (P ≡ putField o O i (valueOf (v .kind) (v .bits))) × (G ≡ moved F b q d)
 Left B N O F k m b q (Enter d e) a C P G =
-    (a ≡ Ran k) × (C ≡ set N (6 + k) (m + 2)) × (P ≡ O) × (G ≡ putFrame (moved F b q d) (frameBase k (m + 1)) (entryFrame (e .class) (e .method) (e .object) (entryValues e)))
+    (a ≡ Ran k) × (C ≡ set N (6 + k) (m + 2)) × (P ≡ O) × (G ≡ putFrame (moved F b q d) (frameBase k (m + 1)) (entryFrame (e .class) (e .method) (e .object) (rows (operandAt F b) (e .count) (d + 1))))
 Left B N O F k m b q (Make d s o) a C P G =
     (a ≡ Ran k) × (C ≡ set (set N 5 (rowsWith o (getD N 5 0))) (8 + o) (suc k)) × (P ≡ putObject O o (newObject B s))
     × (G ≡ putOperand b (moved F b q (d + 1)) d (objectValue o))

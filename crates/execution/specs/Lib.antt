@@ -1,4 +1,5 @@
 -- What a step posts and writes, and what it makes of the tables.
+pub mod Entering
 pub mod Carried
 pub mod Agreeing
 pub mod Decisions

@@ -1,4 +1,5 @@
 // The one place that writes: ties are posted, and plans carried out.
+use crate::entering::enter;
 use definition::Answer;
 use definition::numbers::COUNT_OBJECTS;
 use definition::numbers::COUNT_SUBTYPES;
@@ -7,8 +8,6 @@ use definition::numbers::FIELD_LIMIT;
 use definition::numbers::KIND_OBJECT;
 use definition::numbers::TIE_NUMBERS_CELL;
 use frames::Cell;
-use frames::Call;
-use frames::Entry;
 use frames::Top;
 use instructions::Plan;
 use posting::Posting;
@@ -24,7 +23,6 @@ ghost use Rattle.definition.specs.Calls.{numbersFrom};
 ghost use Rattle.layout.specs.Cells.{moved};
 ghost use Rattle.layout.specs.OwnedRows.{rowsWith};
 ghost use Rattle.resolution.specs.Quick.{quickBase};
-ghost use Rattle.frames.specs.Initial.{entryValues};
 ghost use Rattle.instructions.specs.Plans.{Fit};
 ghost use Rattle.posting.specs.Postings.{toPost};
 ghost use Rattle.execution.specs.Carried.{Left};
@@ -96,59 +94,6 @@ fn give(counts: &mut [u16], frames: &mut [u32], top: Top, v: Cell)
     frames::write_depth(frames, a, d + 1);
     frames::write_operand(frames, a, d, v);
     tasks::write_frame_count(counts, top.task, m);
-}
-
-// Argument i of n, of which the first is operand k; empty where there is none.
-fn argument(frames: &[u32], b: u32, k: u32, n: u32, i: u32) -> Cell
-    requires { ⌜ k + n < 4294967296 ⌝ }
-    ensures { λ r. ⌜ valueOf (r .kind) (r .bits) ≡ argumentOr (operandAt (now (frames .entry)) b) k n i ⌝ }
-{
-    if n <= i {
-        return frames::empty();
-    }
-    frames::operand(frames, b, k + i)
-}
-
-// A frame to be entered with n arguments, of which the first is operand k.
-fn entry(
-    frames: &[u32],
-    b: u32,
-    k: u32,
-    n: u32,
-    class: u32,
-    method: u32,
-    object: u32,
-) -> Entry
-    requires { ⌜ (n ≤ argumentLimit) × (k + n < 4294967296) ⌝ }
-    ensures { λ r. ⌜ entryFrame (r .class) (r .method) (r .object) (entryValues r) ≡ entryFrame class method object (rows (operandAt (now (frames .entry)) b) n k) ⌝ }
-{
-    Entry {
-        class,
-        method,
-        object,
-        first: argument(frames, b, k, n, 0),
-        second: argument(frames, b, k, n, 1),
-        third: argument(frames, b, k, n, 2),
-        fourth: argument(frames, b, k, n, 3),
-    }
-}
-
-// A frame entered above the top frame of a task, which goes on at point q with d operands.
-fn enter(counts: &mut [u16], frames: &mut [u32], top: Top, q: u32, d: u32, call: Call)
-{
-    let m = top.row;
-    let e = entry(
-        frames,
-        top.base,
-        d + 1,
-        call.count,
-        call.class,
-        call.method,
-        call.object,
-    );
-    frames::write_moved(frames, top.base, q, d);
-    frames::write_entry(frames, frames::row(top.task, m + 1), e);
-    tasks::write_frame_count(counts, top.task, m + 2);
 }
 
 // The row of a new object of class c.
@@ -267,8 +212,8 @@ pub(crate) fn carry_out(
             frames::write_field(objects, o, j, v);
             Answer::Ran(top.task)
         }
-        Plan::Enter(d, call) => {
-            enter(counts, frames, top, q, d, call);
+        Plan::Enter(d, e) => {
+            enter(counts, frames, top, q, d, e);
             Answer::Ran(top.task)
         }
         Plan::Make(d, c, o) => {

@@ -1,6 +1,7 @@
 // One step, a run of steps, and the start of a task, on the lent tables.
 mod settling; // settling.rt: a plan with the ties that it posts
 mod deciding; // deciding.rt: the decision on the instruction of a top frame
+mod entering; // entering.rt: a frame entered with its arguments
 mod carrying; // carrying.rt: the one place that writes
 mod turns; // turns.rt: one step, of the task whose turn it is
 mod runs; // runs.rt: a run of steps

@@ -119,7 +119,7 @@ fn settle(
         return refused(WORD_FULL);
     }
     if one == two {
-        return plain(plan);
+        return decided(Posting::Nothing, plan);
     }
     let n = cells::at16(counts, COUNT_TIES);
     let posting = posting::new_ties(ties, n, one, two, names, last);

@@ -51,14 +51,6 @@ pub struct Entry {
     pub fourth: Cell,
 }
 
-// A call to be made: the class and the method selected, the object that is this, and how many arguments are passed.
-pub struct Call {
-    pub class: u32,
-    pub method: u32,
-    pub object: u32,
-    pub count: u32,
-}
-
 // The top frame of a task: its row, the cell at which that row begins, its number of operands, and the loader of its class.
 pub struct Top {
     pub task: u8,

@@ -16,7 +16,6 @@ use Rattle.definition.specs.Answers.{Result, refused, ok, _>>=_, take?}
 use Rattle.definition.specs.Machine.{Value, intValue, objectValue, Objects, Frame, existing, made, changed, newObject, entryFrame, Progress, give, execute}
 use Rattle.definition.specs.Tables.{Tables, valueOf, operandAt, localAt, frameOf, frameBase, frameIn, sizeOf, usedFields, objectAt}
 use Rattle.layout.specs.Cells.{frameWith, withField}
-use Rattle.frames.specs.Initial.{entryValues}
 use Rattle.frames.specs.Unused.{isUsed, unusedFrom}
 pub use Rattle.instructions.specs.declared.Plan.{Plan}
 pub use Rattle.instructions.specs.declared.Plan.the-variants.{Refuse, Keep, Jump, Above, Local, Give, Finish, Field, Enter, Make}
@@ -45,7 +44,7 @@ module _ (task : ℕ) (w : World) (os : Objects) (fs : List Frame) (F : List ℕ
   meaning (Give v) = give fs w os (valueOf (v .kind) (v .bits))
   meaning (Finish v) = ok (record { world = w; objects = os; frames = []; result = some v })
   meaning (Field d o j v) = take? (existing os o) (Word 14) >>= λ x. leaves (changed os o (withField x j (valueOf (v .kind) (v .bits)))) (frameOf F b q d ∷ fs)
-  meaning (Enter d e) = leaves os (entryFrame (e .class) (e .method) (e .object) (entryValues e) ∷ frameOf F b q d ∷ fs)
+  meaning (Enter d e) = leaves os (entryFrame (e .class) (e .method) (e .object) (rows (operandAt F b) (e .count) (d + 1)) ∷ frameOf F b q d ∷ fs)
   meaning (Make d c o) = leaves (made task (newObject (w .base) c) os) (withAbove F b q d (objectValue o) ∷ fs)
 
 -- What becomes of a computed int: it stands above d operands, unless the operator refuses
@@ -71,7 +70,8 @@ jumped-means task w os fs F b q d p true = refl
 jumped-means task w os fs F b q d p false = refl
 
 -- What carrying a plan out asks, where task k of the tables has m frames below its top frame and B gives the classes' fields: operands, locals,
--- fields, frames and objects that it writes have room, an object that it changes exists, and one that it makes gets the lowest number unused
+-- fields, frames and objects that it writes have room, arguments that it passes stand among the operands, an object that it changes exists, and one that it
+-- makes gets the lowest number unused
 abbrev pub Fit : Base → Tables → ℕ → ℕ → Plan → Type 0
 Fit B t k m (Refuse r) = Unit {0}
 Fit B t k m (Keep d) = Unit {0}
@@ -81,7 +81,7 @@ Fit B t k m (Local d j v) = j < 8
 Fit B t k m (Give v) = (0 < m) × (getD (t .frames) (frameBase k (m - 1) + 3) 0 < 16)
 Fit B t k m (Finish v) = m ≡ 0
 Fit B t k m (Field d o j v) = (isUsed (t .counts) o ≡ true) × (j < usedFields B (objectAt B (t .objects) o .class))
-Fit B t k m (Enter d e) = suc m < 32
+Fit B t k m (Enter d e) = (suc m < 32) × (e .count ≤ 4) × (d + e .count < 16)
 Fit B t k m (Make d c o) = (d < 16) × (o ≡ unusedFrom (t .counts) 0) × (o < 256) × (sizeOf B c ≤ 16)
 
 pub computed-fits : (B : Base) (t : Tables) (k m d : ℕ) (r : Result ℕ) → d < 16 → Fit B t k m (computed d r)

@@ -23,8 +23,16 @@ use definition::numbers::WORD_DIVISOR;
 use definition::numbers::WORD_FULL;
 use definition::numbers::WORD_STUCK;
 use frames::Cell;
-use frames::Call;
 use frames::Top;
+
+// A method to be invoked: a class and its method, the object that is this, and how many arguments it has. Their values stay where they are until the frame
+// is entered: among the operands, behind the receiver, which is the first that doesn't stay.
+pub struct Invocation {
+    pub class: u32,
+    pub method: u32,
+    pub object: u32,
+    pub count: u32,
+}
 
 // What a step is going to do. d operands stay; a value is its two cells.
 pub enum Plan {
@@ -44,8 +52,8 @@ pub enum Plan {
     Finish(u32),
     // d operands stay; a field of an object is set to a value.
     Field(u32, u32, u8, Cell),
-    // d operands stay; a frame is entered. Its arguments are the operands behind the receiver, which is the one that follows the d.
-    Enter(u32, Call),
+    // d operands stay; a frame is entered.
+    Enter(u32, Invocation),
     // d operands stay; an object of a class is made, with a number, and stands above them.
     Make(u32, u32, u16),
 }

@@ -38,14 +38,6 @@ returns-3 c =
     let counted = at15 .from16 .ensures .0 ∙ at15 .before .from8 .ensures .0 ∙ at15 .before .before .argument-count .ensures in
     rw (c .refuse4 .ensures) (call-unselected _ _ _ _ _ _ _ _ _ _ _ counted (at13 .if1 .left) _ (at11 .are-kinds .ensures) (not-false _ (at8 .before .before .if2 .left)) _ _ (at8 .before .operand .ensures) _ (at8 .received .ensures) _ (at6 .r2 .given .1) (rw (c .before .before .before .before .object-class .ensures) at (selection-absent _ (sym (c .before .before .before .select-from .ensures) ∙ c .before .enum-told .given .1))))
 
-entry-requires : tie.Need-entry-requires
-entry-requires c κs =
-    let at13 = c .before .before .before .before .before .before .before .before .before .before .before .before .before in
-    let at15 = at13 .before .before in
-    let at24 = at15 .before .before .before .before .before .before .before .before .before in
-    let counted = at15 .from16 .ensures .0 ∙ at15 .before .from8 .ensures .0 ∙ at15 .before .before .argument-count .ensures in
-    (rw counted (four-arguments (at24 .args .s .arguments)), search needs)
-
 returns-4 : tie.Need-returns-4
 returns-4 c =
     let at4 = c .before .before .before .before in
@@ -58,14 +50,15 @@ returns-4 c =
 returns-5 : tie.Need-returns-5
 unfolding objectAt
 returns-5 c =
-    let at4 = c .before .before .before .before in
-    let at7 = at4 .before .before .before in
-    let at9 = at7 .before .before in
-    let at12 = at9 .before .before .before in
-    let at14 = at12 .before .before in
-    let at16 = at14 .before .before in
-    let counted = at16 .from16 .ensures .0 ∙ at16 .before .from8 .ensures .0 ∙ at16 .before .before .argument-count .ensures in
-    call-at _ _ _ _ _ _ _ _ _ _ _ counted (at14 .if1 .left) _ (at12 .are-kinds .ensures) (not-false _ (at9 .before .before .if2 .left)) _ _ (at9 .before .operand .ensures) _ (at9 .received .ensures) _ (at7 .r2 .given .1) _ (rw (at4 .before .object-class .ensures) at (selection-at _ _ _ (sym (at4 .select-from .ensures) ∙ c .before .before .a .given .1))) _ (c .entry .ensures)
+    let at3 = c .before .before .before in
+    let at6 = at3 .before .before .before in
+    let at8 = at6 .before .before in
+    let at11 = at8 .before .before .before in
+    let at13 = at11 .before .before in
+    let at15 = at13 .before .before in
+    let at24 = at15 .before .before .before .before .before .before .before .before .before in
+    let counted = at15 .from16 .ensures .0 ∙ at15 .before .from8 .ensures .0 ∙ at15 .before .before .argument-count .ensures in
+    call-at _ _ _ _ _ _ _ _ _ _ _ counted (at13 .if1 .left) _ (at11 .are-kinds .ensures) (not-false _ (at8 .before .before .if2 .left)) _ _ (at8 .before .operand .ensures) _ (at8 .received .ensures) _ (at6 .r2 .given .1) (rw counted (four-arguments (at24 .args .s .arguments))) _ (rw (at3 .before .object-class .ensures) at (selection-at _ _ _ (sym (at3 .select-from .ensures) ∙ c .before .a .given .1)))
 
 pub call-method-spec : {M : Type 1} → statement M
 call-method-spec =
@@ -93,6 +86,5 @@ call-method-spec =
     (λ c κs. search needs)
     returns-3
     (λ c. search needs)
-    entry-requires
     returns-4
     returns-5)

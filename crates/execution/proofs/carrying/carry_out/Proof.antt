@@ -11,7 +11,7 @@ give-requires : tie.Need-give-requires
 give-requires c κs = rw (c .before .before .before .plan6 .given .1) at (c .before .before .before .before .before .before .before .before .before .before .before .pre .1)
 
 enter-requires : tie.Need-enter-requires
-enter-requires c κs = c .before .before .before .before .before .before .before .before .before .before .before .pre .0
+enter-requires c κs = let f = rw (c .before .before .before .plan9 .given .1) at (c .before .before .before .before .before .before .before .before .before .before .before .pre .1) in (c .before .before .before .before .before .before .before .before .before .before .before .pre .0, f .1, f .2)
 
 make-requires : tie.Need-make-requires
 make-requires c κs = let f = rw (c .before .before .before .before .plan10 .given .1) at (c .before .before .before .before .before .before .before .before .before .before .before .before .pre .1) in (f .0, f .2, f .3)

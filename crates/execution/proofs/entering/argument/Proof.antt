@@ -1,10 +1,10 @@
 -- Past the last argument there is none.
 use borrow.Author.Tests.{lt-ltb, le-ltb}
-use Rattle.access.specs.Passing.{argumentOr}
+use Rattle.execution.specs.Entering.{argumentOr}
 use Rattle.definition.specs.Instructions.{pick}
 use borrow.Author.Needs.{needs}
-use Rattle.access.proofs.passing.argument.Statement.{statement}
-use Rattle.access.proofs.passing.argument.Tie as tie
+use Rattle.execution.proofs.entering.argument.Statement.{statement}
+use Rattle.execution.proofs.entering.argument.Tie as tie
 
 returns : tie.Need-returns
 unfolding argumentOr pick

@@ -1,8 +1,8 @@
 -- Each of the four is an argument, or empty.
 use borrow.Author.Needs.{needs}
-use Rattle.access.specs.Passing.{entered}
-use Rattle.access.proofs.passing.entry.Statement.{statement}
-use Rattle.access.proofs.passing.entry.Tie as tie
+use Rattle.execution.specs.Entering.{entered}
+use Rattle.execution.proofs.entering.entry.Statement.{statement}
+use Rattle.execution.proofs.entering.entry.Tie as tie
 
 returns : tie.Need-returns
 returns c =
