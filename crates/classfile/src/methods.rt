@@ -2,19 +2,20 @@
 use crate::MethodFound;
 use crate::fields::field_count;
 use crate::fields::field_place;
+use crate::fields::version;
 use crate::maps::maps_size;
 use crate::signatures::arguments_size;
 use crate::signatures::is_alike;
 use crate::signatures::result_place;
-use crate::fields::version;
-use definition::numbers::VERSION_TWO;
 use definition::Signature;
+use definition::numbers::VERSION_TWO;
 ghost use mathlib.Core.Path.{_≡_};
-ghost use Prim.Native.Nat.{_+_, _≤_, min};
+ghost use Prim.Native.Nat.{_+_, _<_, _≤_, min};
+ghost use Rattle.definition.specs.Numbers.{versionTwo};
 ghost use Rattle.definition.specs.Lists.{indexOf};
 ghost use Rattle.definition.specs.Classes.{alike};
 ghost use Rattle.classfile.specs.Lists.{shift};
-ghost use Rattle.classfile.specs.Reading.{methodCount, codePlace, codeLength, codeAt, nextPlace, methodPlace, Placed, quickMethods, methodsFrom};
+ghost use Rattle.classfile.specs.Reading.{fileVersion, methodCount, codePlace, codeLength, codeAt, nextPlace, methodPlace, Placed, quickMethods, methodsFrom};
 ghost use Rattle.classfile.specs.Reading.{methodFound, numbered, partOf};
 
 pub fn method_count(bytes: &[u8]) -> u8
@@ -74,6 +75,8 @@ pub(crate) fn first_place(bytes: &[u8]) -> u32
 
 // The place after the record that begins at `place`, in version 1: eight bytes, of which the last two are the code's length, and the code.
 fn next_first(bytes: &[u8], place: u32) -> u32
+    requires { ⌜ (fileVersion (now bytes) < versionTwo) × (place ≤ 4000000000) ⌝ }
+    ensures { λ r. ⌜ (r ≡ nextPlace (now (bytes .entry)) place) × (r ≤ place + 200948) ⌝ }
 {
     place + 8 + cells::from16(cells::short_at(bytes, cells::wide32(place) + 6))
 }
@@ -89,7 +92,7 @@ pub(crate) fn next_place(bytes: &[u8], place: u32) -> u32
     next_later(bytes, place)
 }
 
-// The place after the record that begins at `place`: its code's length stands right before the code, which begins at `start`.
+// The same in any version: the code's length stands right before the code, which begins at `start`.
 fn next_later(bytes: &[u8], place: u32) -> u32
     requires { ⌜ place ≤ 4000000000 ⌝ }
     ensures { λ r. ⌜ (r ≡ nextPlace (now (bytes .entry)) place) × (r ≤ place + 200948) ⌝ }
@@ -99,8 +102,10 @@ fn next_later(bytes: &[u8], place: u32) -> u32
     start + cells::from16(length) + maps_size(bytes, place)
 }
 
-// The place of the record of method j in version 1: the records before it are passed one by one.
+// The place of the record of method j, in version 1: the records before it are passed one by one.
 fn place_of_first(bytes: &[u8], j: u8) -> u32
+    requires { ⌜ fileVersion (now bytes) < versionTwo ⌝ }
+    ensures { λ r. ⌜ r ≡ methodPlace (now (bytes .entry)) j ⌝ }
 {
     let mut place = first_place(bytes);
     let mut i: u8 = 0;

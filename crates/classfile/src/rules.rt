@@ -21,8 +21,8 @@ use crate::methods::method_count;
 use crate::methods::next_place;
 use crate::signatures::argument_number;
 use crate::signatures::is_named;
-use crate::signatures::method_signature;
 use crate::signatures::list_signature;
+use crate::signatures::method_signature;
 use definition::numbers::ARGUMENT_LIMIT;
 use definition::numbers::CODE_LIMIT;
 use definition::numbers::FILE_LIMIT;
@@ -36,7 +36,8 @@ ghost use mathlib.Core.Path.{_≡_};
 ghost use Prim.Native.Nat.{_+_, _<_};
 ghost use Rattle.definition.specs.Lists.{any, doubled, isSome};
 ghost use Rattle.definition.specs.File.{readFile, sameField, sameMethod};
-ghost use Rattle.classfile.specs.Reading.{quickFields};
+ghost use Rattle.definition.specs.Numbers.{versionThree};
+ghost use Rattle.classfile.specs.Reading.{fileVersion, quickFields};
 ghost use Rattle.classfile.specs.Reading.{Placed, methodIn, quickMethods, methodsFrom};
 ghost use Rattle.classfile.specs.Rules.{sized, titled, namedField, namedFields, listedMethod, namedMethod, codedMethod};
 ghost use Rattle.classfile.specs.Rules.{operandsSet, wholeMap, wholeMaps, mappedMethod, wholeMethod, wholeMethods};
@@ -108,7 +109,10 @@ fn is_listed_method(bytes: &[u8], place: u32) -> bool
     argument_number(bytes, place) <= ARGUMENT_LIMIT
 }
 
+// Before version 3: neither the name, nor the one argument's type, nor the result's is 0.
 fn is_one_named(bytes: &[u8], place: u32) -> bool
+    requires { ⌜ fileVersion (now bytes) < versionThree ⌝ }
+    ensures { λ r. ⌜ r ≡ namedMethod (now (bytes .entry)) place ⌝ }
 {
     let start = cells::wide32(place);
     if cells::short_at(bytes, start) < 1 {

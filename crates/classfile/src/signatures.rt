@@ -8,9 +8,10 @@ use definition::Arguments;
 use definition::Signature;
 use definition::numbers::VERSION_THREE;
 ghost use mathlib.Core.Path.{_≡_};
-ghost use Prim.Native.Nat.{_+_, _≤_};
+ghost use Prim.Native.Nat.{_+_, _<_, _≤_};
+ghost use Rattle.definition.specs.Numbers.{versionThree};
 ghost use Rattle.definition.specs.Classes.{alike, isNamed};
-ghost use Rattle.classfile.specs.Reading.{argumentNumber, argumentsSize, argumentsAt, resultPlace, methodAt};
+ghost use Rattle.classfile.specs.Reading.{fileVersion, argumentNumber, argumentsSize, argumentsAt, resultPlace, methodAt};
 
 fn method_name(bytes: &[u8], place: u32) -> u16
     ensures { λ r. ⌜ r ≡ methodAt (now (bytes .entry)) place .signature .name ⌝ }
@@ -61,6 +62,8 @@ fn method_result(bytes: &[u8], place: u32) -> u16
 
 // The signature of a method before version 3: name, one argument, result, two bytes each.
 fn one_signature(bytes: &[u8], place: u32) -> Signature
+    requires { ⌜ fileVersion (now bytes) < versionThree ⌝ }
+    ensures { λ r. ⌜ r ≡ methodAt (now (bytes .entry)) place .signature ⌝ }
 {
     let start = cells::wide32(place);
     Signature {
@@ -79,7 +82,9 @@ pub fn method_signature(bytes: &[u8], place: u32) -> Signature
     list_signature(bytes, place)
 }
 
+// The same in any version: the arguments may be a list, and the result stands behind them.
 pub(crate) fn list_signature(bytes: &[u8], place: u32) -> Signature
+    ensures { λ r. ⌜ r ≡ methodAt (now (bytes .entry)) place .signature ⌝ }
 {
     Signature {
         name: method_name(bytes, place),

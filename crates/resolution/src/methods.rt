@@ -11,6 +11,10 @@ ghost use Rattle.resolution.specs.Quick.{found, quickBase, fileIn};
 ghost use Rattle.resolution.specs.Lookups.{codeIn, selection};
 use classfile::MethodFound;
 use definition::Signature;
+use definition::numbers::BYTE_RANGE;
+
+// A file counts its methods by a byte, so that none has this number or a higher one.
+const METHOD_RANGE: u32 = BYTE_RANGE as u32;
 
 // The place of the first method alike among those that a class declares.
 fn method_index(counts: &[u16], classes: &[u16], kept: &[u8], c: u32, s: Signature) -> Found
@@ -56,7 +60,7 @@ pub fn method_code<'a>(counts: &[u16], classes: &[u16], kept: &'a [u8], c: u32, 
 pub fn code_of<'a>(file: &'a [u8], j: u32) -> &'a [u8]
     ensures { λ r. ⌜ now r ≡ codeIn (quickMethods (now (file .entry))) j ⌝ }
 {
-    if 256 <= j {
+    if METHOD_RANGE <= j {
         return &file[0..0];
     }
     let MethodFound::At(_, place) = classfile::method_place(file, j as u8) else {

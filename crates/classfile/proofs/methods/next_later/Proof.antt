@@ -6,8 +6,8 @@ use denote.Ref.{now}
 use Rattle.definition.specs.Instructions.{shortAt}
 use Rattle.classfile.specs.Reading.{argumentsSize, resultPlace, codeLength, codePlace, codeEnd, nextPlace}
 use borrow.Author.Needs.{needs}
-use Rattle.classfile.proofs.methods.next_place.Statement.{statement}
-use Rattle.classfile.proofs.methods.next_place.Tie as tie
+use Rattle.classfile.proofs.methods.next_later.Statement.{statement}
+use Rattle.classfile.proofs.methods.next_later.Tie as tie
 
 returns : tie.Need-returns
 unfolding nextPlace codeEnd codePlace resultPlace codeLength
@@ -18,5 +18,5 @@ returns c =
     let l : c .before .before .short-at .result ≡ codeLength bytes (a .place) = c .before .before .short-at .ensures ∙ ap (shortAt bytes) start in
     (omega (arith, l), omega (arith, l))
 
-pub next-place-spec : {M : Type 1} → statement M
-next-place-spec = tie.close (tie.spec (λ c. search needs) (λ c κs. search needs) (λ c κs. search needs) (λ c. search needs) (λ c κs. search needs) (λ c. search needs) (λ c κs. search needs) (λ c κs. search needs) (λ c. search needs) (λ c κs. search needs) (λ c. search needs) returns)
+pub next-later-spec : {M : Type 1} → statement M
+next-later-spec = tie.close (tie.spec (λ c. search needs) (λ c κs. search needs) (λ c κs. search needs) (λ c. search needs) (λ c κs. search needs) (λ c. search needs) (λ c κs. search needs) (λ c κs. search needs) (λ c. search needs) (λ c κs. search needs) (λ c. search needs) returns)
