@@ -18,7 +18,7 @@ use Rattle.definition.specs.Classes.{typesOf}
 use Rattle.definition.specs.Verifier.{pop, popAll}
 use Rattle.definition.specs.declared.Refusal.the-variants.{Word}
 use Rattle.definition.specs.Answers.{Result, refused, ok, _>>=_, take?}
-use Rattle.definition.specs.Machine.{Value, pop!, popAll!, kind!, kinds!}
+use Rattle.definition.specs.Machine.{Value, pop!, popAll!, kind!, kinds! }
 use Rattle.definition.specs.Tables.{valueOf, operandAt}
 use Rattle.layout.specs.Places.{rows-last, rows-take}
 use Rattle.instructions.specs.Operands.{isKind, pop-none, kind-is, kind-not}

@@ -8,7 +8,7 @@ ghost use Rattle.definition.specs.Lists.{rows};
 ghost use Rattle.definition.specs.Classes.{typesOf};
 ghost use Rattle.definition.specs.declared.Refusal.the-variants.{Word};
 ghost use Rattle.definition.specs.Answers.{need};
-ghost use Rattle.definition.specs.Machine.{kinds!};
+ghost use Rattle.definition.specs.Machine.{kinds! };
 ghost use Rattle.definition.specs.Tables.{operandAt};
 
 // Whether each argument is of its own type's kind; the first is operand k.

@@ -169,8 +169,9 @@ pub(crate) fn choose(
     let c = frames::frame_class(frames, top.base);
     let p = frames::point(frames, top.base);
     let j = frames::frame_method(frames, top.base);
-    let code = resolution::method_code(counts, classes, kept, c, j);
-    let version = resolution::version_of(counts, classes, kept, c);
+    let file = resolution::file_of(counts, classes, kept, c);
+    let code = resolution::code_of(file, j);
+    let version = classfile::version(file);
     let Reading::At(i, n) = verifier::decode(version, code, cells::wide32(p)) else {
         return Choice {
             posting: Posting::Nothing,

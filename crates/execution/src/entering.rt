@@ -43,14 +43,7 @@ fn entry(frames: &[u32], b: u32, k: u32, e: Invocation) -> Entry
 }
 
 // A frame entered above the top frame of a task, which goes on at point q with d operands. The receiver followed those, and the arguments follow it.
-pub(crate) fn enter(
-    counts: &mut [u16],
-    frames: &mut [u32],
-    top: Top,
-    q: u32,
-    d: u32,
-    e: Invocation,
-)
+pub(crate) fn enter(counts: &mut [u16], frames: &mut [u32], top: Top, q: u32, d: u32, e: Invocation)
     requires { ⌜ (top .row < frameLimit) × (e .count ≤ argumentLimit) × (d + e .count < operandLimit) ⌝ }
     ensures counted { λ _. ⌜ now (counts .exit) ≡ set (now (counts .entry)) (countFrames + top .task) (top .row + 2) ⌝ }
     ensures written { λ _. ⌜ now (frames .exit) ≡ putFrame (moved (now (frames .entry)) (top .base) q d) (frameBase (top .task) (top .row + 1)) (entryFrame (e .class) (e .method) (e .object) (rows (operandAt (now (frames .entry)) (top .base)) (e .count) (d + 1))) ⌝ }

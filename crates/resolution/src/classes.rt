@@ -13,7 +13,6 @@ ghost use Rattle.definition.specs.Numbers.{classLimit, countClasses, rowCells};
 ghost use Rattle.definition.specs.Lists.{rows, writeRows};
 ghost use Rattle.definition.specs.Superclasses.{below};
 ghost use Rattle.definition.specs.Classes.{superOf};
-ghost use Rattle.classfile.specs.Reading.{fileVersion};
 ghost use Rattle.resolution.specs.Quick.{found, quickBase, fileIn, loaderIn};
 ghost use Rattle.resolution.specs.Lookups.{nameIn, superCell};
 
@@ -54,13 +53,6 @@ pub fn file_of<'a>(counts: &[u16], classes: &[u16], kept: &'a [u8], c: u32) -> &
     } else {
         &kept[0..0]
     }
-}
-
-// The version of a class's file, 0 if there is none of that number. Object has no file, and its version is 0.
-pub fn version_of(counts: &[u16], classes: &[u16], kept: &[u8], c: u32) -> u8
-    ensures { λ r. ⌜ r ≡ fileVersion (fileIn (now (counts .entry)) (now (classes .entry)) (now (kept .entry)) c) ⌝ }
-{
-    classfile::version(file_of(counts, classes, kept, c))
 }
 
 // The name of a class, 0 if there is none of that number. Object has no file, and its name is 2.

@@ -13,14 +13,12 @@ pub use classes::is_class;
 pub use classes::loader_of;
 pub use classes::name_of;
 pub use classes::super_of;
-pub use classes::version_of;
 pub use fields::inherited;
 pub use fields::nearest_field;
 pub use fields::size_of;
 pub use fields::slot_of;
 pub use fields::slot_types;
 pub use methods::code_of;
-pub use methods::method_code;
 pub use methods::select_method;
 
 // A number that was looked for: a class's, or the place of a field or a method.

@@ -49,13 +49,6 @@ pub fn select_method(
     }
 }
 
-// The code of a class's method, as the part of the kept bytes that it is; no bytes if there is no such method.
-pub fn method_code<'a>(counts: &[u16], classes: &[u16], kept: &'a [u8], c: u32, j: u32) -> &'a [u8]
-    ensures { λ r. ⌜ now r ≡ codeIn (quickMethods (fileIn (now (counts .entry)) (now (classes .entry)) (now (kept .entry)) c)) j ⌝ }
-{
-    code_of(file_of(counts, classes, kept, c), j)
-}
-
 // The code of a file's method, as the part of the file's bytes that it is; no bytes if there is no such method.
 pub fn code_of<'a>(file: &'a [u8], j: u32) -> &'a [u8]
     ensures { λ r. ⌜ now r ≡ codeIn (quickMethods (now (file .entry))) j ⌝ }

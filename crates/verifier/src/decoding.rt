@@ -148,8 +148,7 @@ fn putfield_at(code: &[u8], i: usize) -> Instruction
 }
 
 // A call whose argument types, count many, begin at that place; the class and the method's name begin at place i.
-fn call_at(code: &[u8], i: usize, place: usize, count: u8, n: usize) -> Reading
-{
+fn call_at(code: &[u8], i: usize, place: usize, count: u8, n: usize) -> Reading {
     if ARGUMENT_LIMIT < count {
         return Reading::Unreadable;
     }

@@ -18,9 +18,10 @@ add-write-frame-count : tie.Need-add-write-frame-count
 add-write-frame-count c = omega (arith, c .before .before .before .before .before .before .before .before .before .before .before .before .before .before .pre .0)
 
 returns : tie.Need-returns
-returns c =
-    (c .before .before .write-frame-count .ensures,
-    rw (c .before .before .before .before .before .before .write-entry .ensures, c .before .before .before .before .before .before .before .row .ensures, c .before .before .before .before .before .before .before .before .before .before .before .write-moved .ensures, c .before .before .before .before .before .before .before .before .before .before .before .before .before .entry .ensures))
+returns c = (
+  c .before .before .write-frame-count .ensures,
+  rw (c .before .before .before .before .before .before .write-entry .ensures, c .before .before .before .before .before .before .before .row .ensures, c .before .before .before .before .before .before .before .before .before .before .before .write-moved .ensures, c .before .before .before .before .before .before .before .before .before .before .before .before .before .entry .ensures),
+)
 
 pub enter-spec : {M : Type 1} → statement M
 enter-spec =
