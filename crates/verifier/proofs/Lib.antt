@@ -1,5 +1,6 @@
 -- Laws that the proofs of several functions cite.
 pub mod DecodingLaws
+pub mod CallLaws
 pub mod TypeLaws
 pub mod EffectLaws
 pub mod ValueLaws

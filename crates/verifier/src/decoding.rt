@@ -3,12 +3,10 @@ ghost use mathlib.Core.Path.{_≡_};
 ghost use mathlib.Core.Option.{some};
 ghost use Prim.Native.Nat.{_+_, _≤_};
 ghost use lib.ListN.{length, getD};
-ghost use Rattle.definition.specs.Numbers.{argumentLimit};
-ghost use Rattle.definition.specs.Instructions.{opcodeOf, inlineLength, shortAt, signatureAt, listSignatureAt, extend, instructionOf, sizedAs, decode};
-ghost use Rattle.verifier.specs.Decoding.{laterOf, readingOf};
+ghost use Rattle.definition.specs.Instructions.{opcodeOf, inlineLength, shortAt, extend, instructionOf, sizedAs, decode};
+ghost use Rattle.verifier.specs.Decoding.{laterOf, callAt, readingOf};
 use cells::arguments::arguments_at;
 use cells::short_at;
-use definition::Arguments;
 use definition::Condition;
 use definition::Instruction;
 use definition::Kind;
@@ -147,8 +145,12 @@ fn putfield_at(code: &[u8], i: usize) -> Instruction
     )
 }
 
-// A call whose argument types, count many, begin at that place; the class and the method's name begin at place i.
-fn call_at(code: &[u8], i: usize, place: usize, count: u8, n: usize) -> Reading {
+// A call of n bytes whose argument types, count many, begin at that place, behind two names that begin at place i; more than four types can't be read, as an
+// unknown opcode can't.
+fn call_at(code: &[u8], i: usize, place: usize, count: u8, n: usize) -> Reading
+    requires { ⌜ (i ≤ length (now code)) × (place ≤ i + 5) ⌝ }
+    ensures { λ r. ⌜ r ≡ readingOf (sizedAs n (callAt (now (code .entry)) i place count)) ⌝ }
+{
     if ARGUMENT_LIMIT < count {
         return Reading::Unreadable;
     }
