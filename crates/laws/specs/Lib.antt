@@ -18,6 +18,7 @@ pub mod FieldPlaces
 pub mod Members
 pub mod Sized
 pub mod Inline
+pub mod OneArgument
 pub mod WalkTurns
 pub mod Walk
 pub mod Points
