@@ -19,6 +19,7 @@ pub mod Members
 pub mod Sized
 pub mod Inline
 pub mod OneArgument
+pub mod Tied
 pub mod WalkTurns
 pub mod Walk
 pub mod Points
