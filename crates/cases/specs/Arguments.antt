@@ -2,10 +2,9 @@
 use mathlib.Core.Path.{_≡_, refl}
 use mathlib.Core.Bool.{true, false}
 use mathlib.Core.List.{List, [], _∷_, _++_}
-use mathlib.Core.Logic.{inl}
-use Prim.Native.Nat.{ℕ}
+use Prim.Native.Nat.{ℕ, zero, suc, _+_}
 use lib.IntN.{pos}
-use lib.ListN.{length}
+use lib.ListN.{length, take}
 use Rattle.definition.specs.Lists.{every, all, any, doubled, indexOf, isSome, isNone, toList, sameList, filled}
 use Rattle.definition.specs.Maybe as Maybe
 use Rattle.definition.specs.Chains.{has, fires, rest, grow, reachFrom, reach, leads}
@@ -22,12 +21,16 @@ use Rattle.definition.specs.Machine.{objectHeld, existing, inUse, unused, made,
 use Rattle.definition.specs.Loading.{subtypeIs, newSubtypes, overrideTie, overrideTies, define, recorded, started}
 use Rattle.definition.specs.Sweeping.{named, roots, linksFrom, reached, sweptFrom, freedFrom}
 use Rattle.definition.specs.Tables.{Tables, tie, fileAt, classAt}
+use Rattle.definition.specs.Constraints.{Tie}
 use Rattle.definition.specs.declared.Reply.the-variants.{Accepted}
 use Rattle.definition.specs.Calls.{Call, boot, callDefine, callRecord, callStart, callStep, callRun, turn, turnOf, defineRows, recordRows, startRows, dropRows, sweepRows, answerOf, stepTask, stepOn, stepRows}
 use Rattle.definition.specs.Computing.OnRows.{settle, onRows, runRows, performRows, performAllRows}
 use Rattle.definition.specs.Computing.Samples.{fileF, two, method, fileOf, plain, taker, coded, lifts, pushes, ready, tied12, tied123}
-use Rattle.cases.specs.Cases.{Case, case, line, no, numbersFrom, accepted, Right}
-use Rattle.cases.specs.Computed.{rowsBefore, rowsAfter, answeredRows, size, same, other, Computed}
+use Rattle.cases.specs.Cases.{Case, case, line, no, class, numbersFrom, accepted, Right}
+use Rattle.layout.specs.Tests.{All}
+use Rattle.unbroken.specs.OnRows.{OneStep}
+use Rattle.cases.specs.Computed.{size}
+use Rattle.cases.specs.Seen.{seen, meant, computed-seen}
 use Rattle.cases.specs.Proved.{right}
 
 -- Sample files of version 3
@@ -62,7 +65,7 @@ unfoldable pub none4 : List Call
 none4 = ready ++ callDefine 1 (caller [] [] (0x11 ∷ 0 ∷ 7 ∷ 0xAC ∷ []))
     ∷ callDefine 2 (caller (0x15 ∷ 1 ∷ 0x15 ∷ 1 ∷ 0x15 ∷ 1 ∷ 0x11 ∷ 0 ∷ 9 ∷ []) (1 ∷ 1 ∷ 1 ∷ 1 ∷ []) (0x15 ∷ 4 ∷ 0xAC ∷ [])) ∷ []
 
--- a call from version 1 of a one-argument method of version 3: class 11 below 10 calls the inherited method 25
+-- a call from version 1 of a one-argument method of version 3: class 11 makes a 10 and calls its method 25
 unfoldable pub early : List Call
 early = ready ++ callDefine 1 (file3 10 2 1 (method3 25 (1 ∷ []) 1 (0x15 ∷ 1 ∷ 0xAC ∷ [])))
     ∷ callDefine 1 (fileOf 11 2 1 (method 20 1 1 ((0xBB ∷ two 10) ++ (0x15 ∷ 1 ∷ 0xB6 ∷ two 10) ++ two 25 ++ two 1 ++ two 1 ++ (0xAC ∷ []))))
@@ -76,6 +79,47 @@ overriding ts r = ready ++ callDefine 1 (file3 40 2 1 (method3 25 ts r (0x01 ∷
 unfoldable pub rates3 : List ℕ → List ℕ
 rates3 code = file3 10 2 1 (method3 20 (1 ∷ []) 1 code)
 
+-- a call of class 10's method 25 with four ints, of which the code has n bytes
+unfoldable pub cut : ℕ → List ℕ
+cut n = take n (invoke 10 (1 ∷ 1 ∷ 1 ∷ 1 ∷ []) 1)
+
+-- 252 ties: class 40 of loader 1 has seven methods of four types each, and the nine loaders from 2 on have classes that override them. Loader 11 knows class 43 of
+-- loader 1, whose method 25 has five types, and method 24 four of them, one twice
+
+-- k methods of names from n on and types from t on, four each
+unfoldable pub fours : ℕ → ℕ → ℕ → List ℕ
+fours zero n t = []
+fours (suc k) n t = method3 n (t ∷ (t + 1) ∷ (t + 2) ∷ []) (t + 3) (0x01 ∷ 0xB0 ∷ []) ++ fours k (n + 1) (t + 4)
+
+unfoldable pub five : List ℕ
+five = method3 25 (12 ∷ 13 ∷ 14 ∷ 15 ∷ []) 16 (0x01 ∷ 0xB0 ∷ [])
+
+unfoldable pub twice : List ℕ
+twice = method3 24 (12 ∷ 13 ∷ 14 ∷ 12 ∷ []) 15 (0x01 ∷ 0xB0 ∷ [])
+
+-- a call of each of k loaders from l on
+unfoldable pub loaders : (ℕ → Call) → ℕ → ℕ → List Call
+loaders f zero l = []
+loaders f (suc k) l = f l ∷ loaders f k (l + 1)
+
+unfoldable pub crowded : List Call
+crowded = callRecord 1 2 0 ∷ callRecord 11 2 0 ∷ callDefine 1 (file3 40 2 7 (fours 7 26 100)) ∷ callDefine 1 (file3 43 2 2 (five ++ twice)) ∷ callRecord 11 43 2
+    ∷ loaders (λ l. callRecord l 40 1) 9 2 ++ loaders (λ l. callDefine l (file3 41 40 7 (fours 7 26 100))) 9 2
+
+-- class 42 makes a 43 and calls its method 25 with nulls
+unfoldable pub calling : List ℕ
+calling = file3 42 2 1 (method3 20 (1 ∷ []) 1 ((0xBB ∷ two 43) ++ (0x01 ∷ 0x01 ∷ 0x01 ∷ 0x01 ∷ []) ++ invoke 43 (12 ∷ 13 ∷ 14 ∷ 15 ∷ []) 16 ++ (0x57 ∷ 0x15 ∷ 1 ∷ 0xAC ∷ [])))
+
+-- k ties of loader l with 1, their names from n on; and those of k loaders from l on
+
+unfoldable pub tiesWith : ℕ → ℕ → ℕ → List Tie
+tiesWith zero l n = []
+tiesWith (suc k) l n = tie l 1 n ∷ tiesWith k l (n + 1)
+
+unfoldable pub crowd : ℕ → ℕ → List Tie
+crowd zero l = []
+crowd (suc k) l = tiesWith 28 l 100 ++ crowd k (l + 1)
+
 unfoldable pub listings : List Case
 listings =
     -- three arguments in their order: 20 − 3 · 4
@@ -85,28 +129,33 @@ listings =
     ∷ case 2 (none4 ++ callStart 0 2 10 20 5 ∷ callRun 8 ∷ []) [] [] (0 ∷ []) callStep (line 0 2 0 (pos 9)) (0 ∷ []) false
     -- a call from version 1 meets a one-argument method of version 3
     ∷ case 3 early [] [] (0 ∷ 1 ∷ []) callStep (line 0 2 0 (pos 5)) (0 ∷ 1 ∷ []) false
-    -- ties on each argument in turn, then the result, one on a name; later loads are held to them
+    -- ties on each argument in turn, then the result, one on a name; later loads are held to them: on the result's name, one that repeats, the third argument's
     ∷ case 4 (overriding (12 ∷ 13 ∷ 14 ∷ 15 ∷ []) 16 ++ callDefine 1 (plain 16 2) ∷ []) (tie 2 1 12 ∷ tie 2 1 13 ∷ tie 2 1 14 ∷ tie 2 1 15 ∷ tie 2 1 16 ∷ []) [] [] (callDefine 2 (plain 16 2)) (no 9) [] true
     ∷ case 4 (overriding (12 ∷ 1 ∷ 13 ∷ 12 ∷ []) 13 ++ callDefine 1 (plain 12 2) ∷ []) (tie 2 1 12 ∷ tie 2 1 13 ∷ []) [] [] (callDefine 2 (plain 12 2)) (no 9) [] true
+    ∷ case 4 (overriding (12 ∷ 13 ∷ 14 ∷ 15 ∷ []) 16 ++ callDefine 1 (plain 14 2) ∷ []) (tie 2 1 12 ∷ tie 2 1 13 ∷ tie 2 1 14 ∷ tie 2 1 15 ∷ tie 2 1 16 ∷ []) [] [] (callDefine 2 (plain 14 2)) (no 9) [] true
     -- a count of five is a bad file in a method, and inline as an unknown opcode: behind a return it needs no map, a call that can be read does
     ∷ case 5 ready [] [] [] (callDefine 1 (file3 10 2 1 (method3 20 (1 ∷ 1 ∷ 1 ∷ 1 ∷ 1 ∷ []) 1 (0x15 ∷ 1 ∷ 0xAC ∷ [])))) (no 2) [] true
     ∷ case 5 ready [] [] [] (callDefine 1 (rates3 ((0x15 ∷ 1 ∷ 0xAC ∷ []) ++ invoke 10 (1 ∷ 1 ∷ 1 ∷ 1 ∷ 1 ∷ []) 1 ++ (0xAC ∷ [])))) (no 6) [] true
     ∷ case 5 ready [] [] [] (callDefine 1 (rates3 ((0x15 ∷ 1 ∷ 0xAC ∷ []) ++ invoke 10 (1 ∷ 1 ∷ 1 ∷ 1 ∷ []) 1 ++ (0xAC ∷ [])))) (no 15) [] true
+    -- a call whose count, or whose types, the end of the code cuts off: where the code goes on to it, and behind a return
+    ∷ case 5 ready [] [] [] (callDefine 1 (rates3 ((0x19 ∷ 0 ∷ []) ++ cut 5))) (no 6) [] true
+    ∷ case 5 ready [] [] [] (callDefine 1 (rates3 ((0x15 ∷ 1 ∷ 0xAC ∷ []) ++ cut 5))) (no 6) [] true
+    ∷ case 5 ready [] [] [] (callDefine 1 (rates3 ((0x19 ∷ 0 ∷ 0x15 ∷ 1 ∷ 0x15 ∷ 1 ∷ 0x15 ∷ 1 ∷ 0x15 ∷ 1 ∷ []) ++ cut 13))) (no 6) [] true
+    ∷ case 5 ready [] [] [] (callDefine 1 (rates3 ((0x15 ∷ 1 ∷ 0xAC ∷ []) ++ cut 13))) (no 6) [] true
+    -- 252 ties, so there is room for four: where an override or a call wants five it is full, and none is posted; four of five types have room, where one repeats
+    ∷ case 6 crowded (crowd 9 2) [] [] (callDefine 11 (file3 44 43 1 five)) (no 10) [] true
+    ∷ case 6 (crowded ++ callDefine 11 calling ∷ callStart 0 11 42 20 7 ∷ callRun 5 ∷ []) (crowd 9 2) [] (0 ∷ 1 ∷ []) callStep (no 10) (0 ∷ 1 ∷ []) true
+    ∷ case 6 crowded (crowd 9 2) [] [] (callDefine 11 (file3 44 43 1 twice)) (class 12) [] false
     ∷ []
 
-listed : Computed listings
-unfolding listings types method3 file3 invoke caller several none4 early overriding rates3 rowsBefore rowsAfter answeredRows size accepted endsIn isSome signed intBits less shown number numberOfStep numberOf refusalDetails stepDetails details _>>=_ need take? defineRows recordRows startRows dropRows answerOf stepTask stepOn stepRows turnOf turn find lower superOf loaderOf ownSlots slotsIn slots slotIs hasField sameSignature alike methodsOf hasMethod selected tieEdges subtypeEdges edges pairAgrees rowAgrees agreesOver agrees tieIs newTie newTies signatureTies agreesAfter post byte short name count fieldsIn oneIn listIn argumentsOf argumentsIn signatureIn namesIn mapIn mapsFrom mapsIn methodsIn ends sameField sameMethod readFile pick opcodeOf inlineLength shortAt shortsAt listSignatureAt extend instructionOf sizedAs decode every all any doubled indexOf isNone toList sameList filled subtypeIs newSubtypes overrideTie overrideTies define recorded started existing initialValue newObject pop! popAll! int! reference! kind! kinds! room! object! now under! give execute step Maybe._>>=_ Maybe.need sameRequest has fires rest grow reachFrom reach leads seek nearest below fileAt classAt typeOfName meetClass meetInt meets pop popAll isNamed effect returns target goesOn mapAt localType meetLocal meetAll meetMap flowInto flowToTarget startAt after Verifier.turn mapsPast verify typesAt unmappedFrom unmapped notesOf settle onRows runRows performRows performAllRows two method fileOf plain fileF taker coded lifts pushes ready tied12 tied123 ofKind! compute jumps meetKind returnKind notesOfMethod unused made roomless rewritten changed objectHeld inUse numbersFrom named roots linksFrom reached sweptFrom freedFrom sweepRows
-listed = record {
-  answers = refl;
-  prepared = refl;
-  ties = refl;
-  subtypes = refl;
-  objects = refl;
-  left = refl;
-  stays = (other refl, (other refl, (other refl, (other refl, (same (inl refl), (same (inl refl), (same (inl refl), (same (inl refl), (same (inl refl), tt)))))))));
-  steps = (tt, (tt, (tt, (tt, (tt, (tt, (tt, (tt, (tt, tt)))))))));
-}
+listed : All (λ c. seen c ≡ meant c) listings
+unfolding listings types method3 file3 invoke caller several none4 early overriding rates3 cut fours five twice loaders crowded calling tiesWith crowd seen meant size accepted endsIn isSome signed intBits less shown number numberOfStep numberOf refusalDetails stepDetails details _>>=_ need take? defineRows recordRows startRows dropRows answerOf stepTask stepOn stepRows turnOf turn find lower superOf loaderOf ownSlots slotsIn slots slotIs hasField sameSignature alike methodsOf hasMethod selected tieEdges subtypeEdges edges pairAgrees rowAgrees agreesOver agrees tieIs newTie newTies signatureTies agreesAfter post byte short name count fieldsIn oneIn listIn argumentsOf argumentsIn signatureIn namesIn mapIn mapsFrom mapsIn methodsIn ends sameField sameMethod readFile pick opcodeOf inlineLength shortAt shortsAt listSignatureAt extend instructionOf sizedAs decode every all any doubled indexOf isNone toList sameList filled subtypeIs newSubtypes overrideTie overrideTies define recorded started existing initialValue newObject pop! popAll! int! reference! kind! kinds! room! object! now under! give execute step Maybe._>>=_ Maybe.need sameRequest has fires rest grow reachFrom reach leads seek nearest below fileAt classAt typeOfName meetClass meetInt meets pop popAll isNamed effect returns target goesOn mapAt localType meetLocal meetAll meetMap flowInto flowToTarget startAt after Verifier.turn mapsPast verify typesAt unmappedFrom unmapped notesOf settle onRows runRows performRows performAllRows two method fileOf plain fileF taker coded lifts pushes ready tied12 tied123 ofKind! compute jumps meetKind returnKind notesOfMethod unused made roomless rewritten changed objectHeld inUse numbersFrom named roots linksFrom reached sweptFrom freedFrom sweepRows
+listed = (refl, (refl, (refl, (refl, (refl, (refl, (refl, (refl, (refl, (refl, (refl, (refl, (refl, (refl, (refl, (refl, (refl, tt)))))))))))))))))
+
+steps : All (λ c. OneStep (c .last)) listings
+unfolding listings
+steps = (tt, (tt, (tt, (tt, (tt, (tt, (tt, (tt, (tt, (tt, (tt, (tt, (tt, (tt, (tt, (tt, (tt, tt)))))))))))))))))
 
 -- from a boot of any tables that boot accepts
 pub listed-cases : (t : Tables) → boot t .answer ≡ Accepted → Right listings t
-listed-cases t a = right listings listed t a
+listed-cases t a = right listings (computed-seen listings listed steps) t a

@@ -1,6 +1,7 @@
 -- The proved cases.
 pub mod Cases
 pub mod Computed
+pub mod Seen
 pub mod Proved
 pub mod Sweeps
 pub mod Branches

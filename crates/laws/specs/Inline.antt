@@ -1,5 +1,5 @@
--- Lists of arguments inline, and the ties of a signature: a count above 4 is as an unknown opcode, before version 3 there is no list, and a call or an override
--- posts five ties at most, on a name one.
+-- Lists of arguments inline, and how many ties a signature has: a count above 4 is as an unknown opcode, before version 3 there is no list, and the ties of a call,
+-- or of a method that overrides one, are five at most, for each of its types one at most. Which they are: laws/Tied. What a call of one type finds: laws/OneArgument.
 use mathlib.Core.Path.{_≡_, refl, sym, ap, _∙_}
 use mathlib.Core.Bool.{Bool, true, false, _||_}
 use mathlib.Core.Option.{Option, none, some, Option·none-ne-some}

@@ -18,6 +18,8 @@ pub mod FieldPlaces
 pub mod Members
 pub mod Sized
 pub mod Inline
+pub mod OneArgument
+pub mod Tied
 pub mod WalkTurns
 pub mod Walk
 pub mod Points

@@ -1,6 +1,6 @@
 -- Notes are posted in turn: those of a later method or point after those before them, each unless it is there. Each is there afterwards.
 use mathlib.Core.Path.{_≡_, refl, sym, _∙_, ap}
-use mathlib.Core.Bool.{Bool, true, false, false≢true}
+use mathlib.Core.Bool.{Bool, true, false}
 use mathlib.Core.List.{List, [], _∷_, _++_, append-assoc, append-nil, List·Memᴰ, List·Memᴰ·head, List·Memᴰ·tail}
 use Prim.Native.Nat.{ℕ}
 use borrow.Author.Tests.{eq-eqb}
@@ -8,7 +8,7 @@ use Rattle.definition.specs.Lists.{any}
 use Rattle.definition.specs.Constraints.{Subtype}
 use Rattle.definition.specs.Verifier.{Note}
 use Rattle.definition.specs.Loading.{subtypeIs, subtypeOf, newSubtypes}
-use Rattle.laws.specs.Tests.{any-right}
+use Rattle.laws.specs.Tests.{any-append, any-right}
 
 pub posted-in-turn : (ss : List Subtype) (l : ℕ) (ns rs : List Note) → newSubtypes ss l (ns ++ rs) ≡ newSubtypes ss l ns ++ newSubtypes (ss ++ newSubtypes ss l ns) l rs
 unfolding newSubtypes
@@ -36,14 +36,7 @@ posted-one ss l n = go (any (subtypeIs l n) ss)
     go false = refl
 
 there-more : (l : ℕ) (n : Note) (ss rs : List Subtype) → any (subtypeIs l n) ss ≡ true → any (subtypeIs l n) (ss ++ rs) ≡ true
-unfolding any
-there-more l n (s ∷ ss) rs h = go (subtypeIs l n s) h (there-more l n ss rs)
-  where
-    go : (t : Bool) → (elim t as (λ _. Bool) [ true ↦ true | false ↦ any (subtypeIs l n) ss ]) ≡ true → (any (subtypeIs l n) ss ≡ true → any (subtypeIs l n) (ss ++ rs) ≡ true)
-        → (elim t as (λ _. Bool) [ true ↦ true | false ↦ any (subtypeIs l n) (ss ++ rs) ]) ≡ true
-    go true h ih = refl
-    go false h ih = ih h
-there-more l n [] rs h = absurd (false≢true h)
+there-more l n ss rs h = any-append (subtypeIs l n) ss rs ∙ (rw h refl)
 
 itself : (l : ℕ) (n : Note) (ss rs : List Subtype) → any (subtypeIs l n) (ss ++ (subtypeOf l n ∷ rs)) ≡ true
 itself l n ss rs = any-right (subtypeIs l n) ss (subtypeOf l n ∷ rs) (unfold any in rw (same, any) refl)

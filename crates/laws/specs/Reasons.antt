@@ -179,7 +179,7 @@ rejected-for k m all rises h = elim (bind-none _ _ h) [
         → (q : ℕ) → typesIn k m q ≡ Types (k .version) (m .code) (m .maps) (m .signature .result) (length (m .code)) 0 (m .maps) (f .types) q
     types f a q = bind-at _ _ f a
 
--- of a file of version 2 that word 15 lets pass: the verifier rejects a method only for such a reason
+-- of a file of version 2 or later that word 15 lets pass: the verifier rejects a method only for such a reason
 pub why-rejected : (l : ℕ) (bs : List ℕ) (f : File) → readFile bs ≡ some f → leb versionTwo (f .version) ≡ true → (m : Method) → List·Memᴰ m (f .methods)
     → unmapped (classOf l f) m ≡ false → notesOfMethod (classOf l f) m ≡ none → Rejected (classOf l f) m
 why-rejected l bs f e two m x u h = rejected-for (classOf l f) m (mapped-all (classOf l f) m two u) (read-rises bs f e m x) h
@@ -192,7 +192,7 @@ some-unverified k (m ∷ ms) h = elim (bind-none _ _ h) [
   | inr (ns, e, z) ↦ let r = some-unverified k ms (mapped-none _ (λ rs. ns ++ rs) z) in (r .0, List·Memᴰ·tail (r .1), r .2)
 ]
 
--- so a file of version 2 that gets word 6, and not 15, has a method with such a reason
+-- so a file of version 2 or later that gets word 6, and not 15, has a method with such a reason
 pub why-unverified : (l : ℕ) (bs : List ℕ) (f : File) → readFile bs ≡ some f → leb versionTwo (f .version) ≡ true → any (unmapped (classOf l f)) (f .methods) ≡ false
     → notesOf (classOf l f) (f .methods) ≡ none → (m : Method) × List·Memᴰ m (f .methods) × Rejected (classOf l f) m
 why-unverified l bs f e two u h =

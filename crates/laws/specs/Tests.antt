@@ -48,6 +48,21 @@ any-right f (x ∷ xs) ys h = go (f x) (any-right f xs ys h)
     go true r = refl
     go false r = r
 
+pub any-append : {A : Type 0} (f : A → Bool) (xs ys : List A) → any f (xs ++ ys) ≡ (any f xs || any f ys)
+unfolding any
+any-append f [] ys = refl
+any-append f (x ∷ xs) ys = go (f x) (any-append f xs ys)
+  where
+    go : (t : Bool) → any f (xs ++ ys) ≡ (any f xs || any f ys)
+        → (elim t as (λ _. Bool) [ true ↦ true | false ↦ any f (xs ++ ys) ]) ≡ ((elim t as (λ _. Bool) [ true ↦ true | false ↦ any f xs ]) || any f ys)
+    go true e = refl
+    go false e = e
+
+pub any-there : {A : Type 0} (f : A → Bool) (xs : List A) (x : A) → List·Memᴰ x xs → f x ≡ true → any f xs ≡ true
+unfolding any
+any-there f (y ∷ xs) x (List·Memᴰ·head z) h = let e : f y ≡ true = rw z at h in rw (e, any) refl
+any-there f (y ∷ xs) x (List·Memᴰ·tail m) h = any-right f (y ∷ []) xs (any-there f xs x m h)
+
 pub record Found {A : Type 0} (f : A → Bool) (xs : List A) : Type 0 where
   pub place : ℕ
   pub item : A
