@@ -18,6 +18,8 @@ pub mod FieldPlaces
 pub mod Members
 pub mod Sized
 pub mod Inline
+pub mod Single
+pub mod SingleCalls
 pub mod WalkTurns
 pub mod Walk
 pub mod Points
