@@ -20,6 +20,7 @@ pub mod Sized
 pub mod Inline
 pub mod Single
 pub mod SingleCalls
+pub mod SingleFiles
 pub mod WalkTurns
 pub mod Walk
 pub mod Points

@@ -1,8 +1,7 @@
--- What paper 7 changed is, for lists of one, what it was. Before version 3 each method that is read, and each call that is decoded, has a list of one argument (`read-single`,
--- `decode-single`), and each definition that the paper changed equals its text from before the paper: how files are read (`single-signature`, `single-read`) and code is decoded
--- (`single-decode`), which methods are alike (`single-alike`, `single-apart`), what is popped, met and checked for an argument (`single-pop`, `single-meets`, `single-kinds`), the effect of a
--- call on types (`single-effect`) and what running it does (`single-call`), ties (`single-ties`), the types at point 0 (`single-entry`), the frame that is entered (`single-frame`), a start
--- (`single-start`). So files of versions 1 and 2 behave as they did; a method of another list than one isn't found by their calls, and overrides none of their methods.
+-- What paper 7 changed is, for lists of one, what it was. Before version 3 each method that is read and each call that is decoded has a list of one argument (`read-single`, `decode-single`); and
+-- each definition that the paper changed equals its text from before the paper: how files are read (`single-signature`, `single-read`) and code is decoded (`single-decode`), which methods are alike
+-- (`single-alike`; none with another list, `single-apart`), what is popped for an argument and met (`single-pop`, `single-meets`), the types at point 0 (`single-entry`), the effect of a call on
+-- types (`single-effect`), and ties (`single-ties`). What a call does is in laws/SingleCalls; what that says of files of versions 1 and 2 in laws/SingleFiles.
 use mathlib.Core.Path.{_≡_, refl, sym, ap, _∙_, subst}
 use mathlib.Core.Bool.{Bool, true, false, not, _&&_}
 use mathlib.Core.Option.{Option, none, some, Option·none-ne-some, Option·some-injective}
@@ -30,7 +29,7 @@ use Rattle.definition.specs.Constraints.{Tie, newTie, newTies, signatureTies}
 use Rattle.definition.specs.File.{File, Got, byte, short, name, count, fieldsIn, oneIn, argumentsIn, signatureIn, mapsIn, methodsIn, ends, sameField, sameMethod, readFile}
 use Rattle.definition.specs.Instructions.{pick, opcodeOf, inlineLength, shortAt, instructionOf, Decoded, sizedAs, decode}
 use Rattle.definition.specs.Verifier.{Note, VerifierType, typeClass, TypeState, Flow, typeOfName, entryTypes, meetClass, meets, pop, popAll, meetAll, flow, effect}
-use Rattle.laws.specs.Options.{Holds, holds-past, holds-on, holds-at}
+use Rattle.laws.specs.Options.{Holds, holds-past, holds-on, holds-need, holds-at}
 use Rattle.laws.specs.Inline.{one-in}
 
 -- A signature with a list of one
@@ -249,6 +248,21 @@ single-read bs h = bind-in _ _ _ (λ _ _. bind-in _ _ _ (λ v q.
     rw (← single-methods (v .value) (j .value) (j .more) b) (bind-in _ _ _ (λ ms d. bind-in _ _ _ (λ _ _. bind-in _ _ _ (λ _ _.
     ap (λ (t : Bool). need (not t) >>= λ _. some (record { version = v .value; name = c .value; super = s .value; fields = fs .value; methods = ms .value }))
     (single-doubled (ms .value) (holds-at (λ g. Singles (g .value)) _ ms (methods-single (v .value) (j .value) (j .more) b) d)))))))))))))))))
+
+-- and the file's version is before 3
+
+file-before : (bs : List ℕ) → Holds (singleReadFile bs) (λ f. leb versionThree (f .version) ≡ false)
+unfolding singleReadFile
+file-before bs =
+    holds-past Q _ _ (λ _. holds-past Q _ _ (λ v. holds-need Q _ _ (λ e. holds-past Q _ _ (λ n. holds-past Q _ _ (λ _. holds-past Q _ _ (λ c. holds-past Q _ _ (λ s.
+    holds-past Q _ _ (λ k. holds-past Q _ _ (λ fs. holds-past Q _ _ (λ j. holds-past Q _ _ (λ ms. holds-past Q _ _ (λ _. holds-past Q _ _ (λ _. holds-past Q _ _ (λ _.
+    below-three (v .value) (and-right (leb versionOne (v .value)) (leb (v .value) versionTwo) e)))))))))))))))
+  where
+    Q : File → Type 0
+    Q f = leb versionThree (f .version) ≡ false
+
+pub version-before : (bs : List ℕ) (f : File) → thirdFile bs ≡ false → readFile bs ≡ some f → leb versionThree (f .version) ≡ false
+version-before bs f h e = holds-at (λ g. leb versionThree (g .version) ≡ false) (singleReadFile bs) f (file-before bs) (sym (single-read bs h) ∙ e)
 
 -- each method of a file that is read, of a version before 3, has a list of one
 
