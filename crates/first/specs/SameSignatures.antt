@@ -1,4 +1,4 @@
--- On lists of one, today's signatures do what the first document's did: they are named alike, select the same methods, of files of any version, and post the same ties.
+-- A signature with a list of one does today what the first document's signatures did: the same methods are alike to it and the same one is selected, whatever lists other methods have, and it posts the same ties.
 use mathlib.Core.Path.{_≡_, refl, sym, ap, _∙_}
 use mathlib.Core.Bool.{Bool, true, false, _&&_}
 use mathlib.Core.Option.{none, some}
