@@ -1,6 +1,7 @@
 -- The first document's machine on rows: objects, and one instruction. Where a later paper changed nothing its definitions are today's; where one changed a
 -- definition, the old text stands in this crate with what stands on it. Since paper 1 a row of objects may be free, and each object has an owner: here an object
--- is the next row of a list, for good. Since paper 2 there are branches, since paper 4 imul and idiv: here none is read.
+-- is the next row of a list, for good. Since paper 2 there are branches, since paper 4 imul and idiv: here none is read. Since paper 7 a call has a list of arguments: here it has one, which is popped, then the
+-- receiver, and the frame that is entered has it in local 1; a call with another list, which no code of version 1 has (`decode-one`), is refused.
 use mathlib.Core.Bool.{true, _&&_}
 use mathlib.Core.Option.{Option, none, some}
 use mathlib.Core.List.{List, [], _∷_, _++_}
@@ -16,16 +17,25 @@ use Rattle.definition.specs.Numbers.{wordUnknown, wordAbsent, wordFull, wordNul
 use Rattle.definition.specs.Lists.{indexOf}
 use Rattle.definition.specs.Requests.{at}
 use Rattle.definition.specs.Superclasses.{nearest, below}
-use Rattle.definition.specs.Classes.{argumentTypes, Base, Class, find, superOf, loaderOf, slots, slotIs, hasField, selected, startSignature}
-use Rattle.definition.specs.Constraints.{World, newTie, signatureTies, post}
+use Rattle.definition.specs.Classes.{Base, Class, find, superOf, loaderOf, slots, slotIs, hasField}
+use Rattle.definition.specs.Constraints.{World, newTie, post}
 use Rattle.definition.specs.Instructions.{Decoded}
-use Rattle.definition.specs.Machine.{Value, emptyValue, intValue, nullValue, objectValue, unlistedValue, Object, Frame, newObject, entryFrame, pop!, popAll!, int!, ofKind!, kind!, kinds!, room!, under!, Now, past}
+use Rattle.definition.specs.Machine.{Value, emptyValue, intValue, nullValue, objectValue, unlistedValue, Object, Frame, newObject, pop!, int!, ofKind!, kind!, room!, under!, Now, past}
+use Rattle.first.specs.Signatures.{firstArgument, firstSelected, firstStartSignature, firstSignatureTies}
 use Rattle.first.specs.Files.{firstDecode}
 use Rattle.definition.specs.Answers.{wanted, Result, refused, ok, _>>=_, need, take?}
 
 -- an object exists from its making until its row is emptied
 unfoldable pub firstExisting : List Object → ℕ → Option Object
 firstExisting os o = getElem? os o
+
+-- local 0 holds this and local 1 the argument, the rest begin empty
+
+abbrev pub firstEmptyLocals : List Value
+firstEmptyLocals = emptyValue ∷ emptyValue ∷ emptyValue ∷ emptyValue ∷ emptyValue ∷ emptyValue ∷ []
+
+abbrev pub firstEntryFrame : ℕ → ℕ → ℕ → Value → Frame
+firstEntryFrame c j o v = record { class = c; method = j; point = 0; operands = []; locals = objectValue o ∷ v ∷ firstEmptyLocals }
 
 -- the receiver: an object whose class is e or below it; 14, then 11 for null
 unfoldable pub firstObject! : Base → List Object → ℕ → Value → Result (record { number : ℕ; object : Object })
@@ -67,7 +77,7 @@ firstGive (g ∷ gs) w os v = ok (record {
   result = none;
 })
 
--- An instruction of frame f, above fs, of class k; its files' signatures have one argument. Refusals in order: 5 7 10 9, then 14, then 11.
+-- An instruction of frame f, above fs, of class k. Refusals in order: 5 7 10 9, then 14, then 11.
 module _ (w : World) (os : List Object) (f : Frame) (fs : List Frame) (k : Class) (i : Decoded) where
   -- nothing but the frame changes
   abbrev pub firstOn : List Value → List Value → Result FirstProgress
@@ -105,13 +115,13 @@ module _ (w : World) (os : List Object) (f : Frame) (fs : List Frame) (k : Class
         frames = past f i (q .more) (f .locals) ∷ fs;
         result = none;
       })
-  firstExecute (Invokevirtual c s) =
+  firstExecute (Invokevirtual c s) = firstArgument s (refused (Word wordStuck)) (λ a.
       take? (find (w .base .cache) (at (k .loader) c)) (wanted (at (k .loader) c)) >>= λ e.
-      take? (selected (w .base) s e) (Word wordAbsent) >>= λ d.
-      post w (ltb (suc (length fs)) frameLimit) (signatureTies (w .ties) (loaderOf (w .base) (d .class)) (k .loader) s) >>= λ w′.
-      popAll! (length (argumentTypes s)) (f .operands) >>= λ p. pop! (p .more) >>= λ q. kinds! (argumentTypes s) (p .all) >>= λ _. firstObject! (w .base) os e (q .top) >>= λ o.
-      take? (selected (w .base) s (o .object .class)) (Word wordStuck) >>= λ m.
-      ok (record { world = w′; objects = os; frames = entryFrame (m .class) (m .place) (o .number) (p .all) ∷ past f i (q .more) (f .locals) ∷ fs; result = none })
+      take? (firstSelected (w .base) s e) (Word wordAbsent) >>= λ d.
+      post w (ltb (suc (length fs)) frameLimit) (firstSignatureTies (w .ties) (loaderOf (w .base) (d .class)) (k .loader) s) >>= λ w′.
+      pop! (f .operands) >>= λ p. pop! (p .more) >>= λ q. kind! a (p .top) >>= λ _. firstObject! (w .base) os e (q .top) >>= λ o.
+      take? (firstSelected (w .base) s (o .object .class)) (Word wordStuck) >>= λ m.
+      ok (record { world = w′; objects = os; frames = firstEntryFrame (m .class) (m .place) (o .number) (p .top) ∷ past f i (q .more) (f .locals) ∷ fs; result = none }))
   firstExecute (New c) =
       take? (find (w .base .cache) (at (k .loader) c)) (wanted (at (k .loader) c)) >>= λ e.
       need (ltb (length os) objectLimit && ltb (length (f .operands)) operandLimit) (Word wordFull) >>= λ _.
@@ -123,12 +133,12 @@ module _ (w : World) (os : List Object) (f : Frame) (fs : List Frame) (k : Class
 unfoldable pub firstStep : World → List Object → Frame → List Frame → Result FirstProgress
 firstStep w os f fs = firstNow w f >>= λ n. firstExecute w os f fs (n .theClass) (n .at) (n .at .instruction)
 
--- start: a new object and a first frame in the method selected for (m, [int], int). Refusals: 3 12 5 7 10
+-- start: a new object and a first frame in the method selected for (m, int, int). Refusals: 3 12 5 7 10
 unfoldable pub firstStarted : ℕ → ℕ → ℕ → ℕ → World → List Object → List Frame → Result FirstProgress
 firstStarted l n m v w os fs =
     need (ltb l loaderLimit && leb nameObject n && leb 1 m) (Word wordUnknown) >>= λ _.
     need (leb (length fs) 0) (Word wordBusy) >>= λ _.
     take? (find (w .base .cache) (at l n)) (wanted (at l n)) >>= λ c.
-    take? (selected (w .base) (startSignature m) c) (Word wordAbsent) >>= λ s.
+    take? (firstSelected (w .base) (firstStartSignature m) c) (Word wordAbsent) >>= λ s.
     need (ltb (length os) objectLimit) (Word wordFull) >>= λ _.
-    ok (record { world = w; objects = os ++ (newObject (w .base) c ∷ []); frames = entryFrame (s .class) (s .place) (length os) (intValue v ∷ []) ∷ []; result = none })
+    ok (record { world = w; objects = os ++ (newObject (w .base) c ∷ []); frames = firstEntryFrame (s .class) (s .place) (length os) (intValue v) ∷ []; result = none })

@@ -10,7 +10,8 @@
 -- load is no call of the first document, as a sweep is none.
 -- 6, hidden fields: tables carry as before. A define that the first document's machine refuses for a hidden field, with 8, is involved, and no other call: a kept file that hides a field
 -- was never broken, and both machines find a field's place by the class that declares it.
--- 7, more than one argument: tables carry as before. Files of version 3 are involved as those of version 2 are. A signature of a version 1 file has a list of one argument, and a list of one does what the argument did.
+-- 7, more than one argument: tables carry as before. Files of version 3 are involved as those of version 2 are. The first document's machine reads, verifies, selects, ties and calls with one argument, in its own text
+-- (first/Signatures, Files, Verifier, Machine); a signature of a version 1 file has a list of one, and with that today's machine does the same.
 use mathlib.Core.Path.{_≡_, refl, ap}
 use mathlib.Core.Bool.{Bool, true, false}
 use mathlib.Core.List.{List, [], _∷_, map}

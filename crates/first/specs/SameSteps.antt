@@ -1,24 +1,31 @@
 -- One instruction, and a start, of both machines on the same objects: the same refusal, or the same constraints, frames and result, with the same objects again.
-use mathlib.Core.Path.{_≡_, refl, sym}
-use mathlib.Core.Option.{some, Option·none-ne-some}
+use mathlib.Core.Path.{_≡_, refl, sym, ap}
+use mathlib.Core.Option.{Option, some, Option·none-ne-some}
 use mathlib.Core.List.{List, [], _∷_}
-use Prim.Native.Nat.{ℕ, _<_}
-use lib.ListN.{getElem?}
+use Prim.Native.Nat.{ℕ, suc, _<_}
+use lib.ListN.{length, getElem?}
+use lib.Dec.{ltb}
+use Rattle.definition.specs.declared.Refusal.the-variants.{Word}
+use Rattle.definition.specs.declared.Signature.{Signature}
 use Rattle.definition.specs.declared.Operator.{Operator}
 use Rattle.definition.specs.declared.Operator.the-variants.{Add, Subtract, Multiply, Divide}
 use Rattle.definition.specs.declared.Instruction.{Instruction}
 use Rattle.definition.specs.declared.Instruction.the-variants.{AconstNull, Sipush, Load, Store, Pop, Dup, Arithmetic, Getfield, Putfield, Invokevirtual, New, Return, Branch}
-use Rattle.definition.specs.Numbers.{taskLimit}
-use Rattle.definition.specs.Classes.{Base, Class}
-use Rattle.definition.specs.Constraints.{World}
+use Rattle.definition.specs.Numbers.{wordAbsent, wordStuck, nameInt, taskLimit, frameLimit}
+use Rattle.definition.specs.Classes.{Base, Class, Selected, loaderOf, selected}
+use Rattle.definition.specs.Constraints.{World, post}
 use Rattle.definition.specs.Instructions.{Decoded}
 use Rattle.definition.specs.Machine.{Value, emptyValue, intValue, nullValue, objectValue, unlistedValue, Object, Objects, Frame, compute, object!, Progress, give, execute, step}
 use Rattle.definition.specs.Verifier.{target}
 use Rattle.definition.specs.Loading.{started}
-use Rattle.definition.specs.Answers.{Result, _>>=_}
+use Rattle.definition.specs.Answers.{Result, _>>=_, take?}
+use Rattle.laws.specs.Single.{Single, by-single}
+use Rattle.laws.specs.SingleCalls.{single-call, single-start}
+use Rattle.first.specs.Signatures.{firstArgument, firstSignature, firstSelected, firstStartSignature}
 use Rattle.first.specs.Machine.{firstObject!, firstCompute, FirstProgress, firstGive, firstExecute, firstStep, firstStarted}
 use Rattle.first.specs.SameObjects.{SameObjects, same-existing, same-next, same-room, same-made, same-changed}
 use Rattle.first.specs.Likewise.{Likewise, after, after-in}
+use Rattle.first.specs.SameSignatures.{same-selected, same-ties}
 use Rattle.first.specs.SameFiles.{Old, Early, Straight}
 use Rattle.first.specs.SameBases.{same-now, now-straight}
 
@@ -65,6 +72,23 @@ module _ (os : List Object) (qs : Objects) (h : SameObjects os qs) where
   same-give (g ∷ gs) w v = record { rest = refl; objects = h }
 
   module _ (task : ℕ) (two : task < taskLimit) (w : World) (f : Frame) (fs : List Frame) (k : Class) (d : Decoded) where
+    -- a call with a list of one does what it did
+    one-invoked : (c n a r : ℕ) → Likewise SameProgress (firstExecute w os f fs k d (Invokevirtual c (firstSignature n a r))) (execute task w qs f fs k d (Invokevirtual c (firstSignature n a r)))
+    unfolding firstExecute firstArgument
+    one-invoked c n a r = rw (single-call task w qs f fs k d c n a r)
+        (then _ _ _ (λ e. then-by _ _ (taken e wordAbsent) _ _ (λ m. then-by _ _ (ap (post w (ltb (suc (length fs)) frameLimit)) (same-ties (w .ties) (loaderOf (w .base) (m .class)) (k .loader) s one)) _ _ (λ _.
+        then _ _ _ (λ (p : Popped). then _ _ _ (λ (q : Popped). then _ _ _ (λ _.
+        then-by _ _ (same-receiver (w .base) e (q .top)) _ _ (λ o. then-by _ _ (taken (o .object .class) wordStuck) _ _ (λ m. record { rest = refl; objects = h })))))))))
+      where
+        s : Signature
+        s = firstSignature n a r
+
+        one : Single s
+        one = (a, refl)
+
+        taken : (e x : ℕ) → take? (firstSelected (w .base) s e) (Word x) ≡ take? (selected (w .base) s e) (Word x)
+        taken e x = ap (λ (y : Option Selected). take? y (Word x)) (same-selected (w .base) s one e)
+
     pub same-execute : (i : Instruction) → Straight i → Likewise SameProgress (firstExecute w os f fs k d i) (execute task w qs f fs k d i)
     unfolding firstExecute execute
     same-execute AconstNull z = then _ _ _ (λ _. record { rest = refl; objects = h })
@@ -80,9 +104,7 @@ module _ (os : List Object) (qs : Objects) (h : SameObjects os qs) where
     same-execute (Putfield c n t) z =
         then _ _ _ (λ e. then _ _ _ (λ _. then _ _ _ (λ _. then _ _ _ (λ p. then _ _ _ (λ (q : Popped). then _ _ _ (λ _.
         then-by _ _ (same-receiver (w .base) e (q .top)) _ _ (λ o. then _ _ _ (λ j. record { rest = refl; objects = same-changed os qs h _ _ }))))))))
-    same-execute (Invokevirtual c s) z =
-        then _ _ _ (λ e. then _ _ _ (λ _. then _ _ _ (λ _. then _ _ _ (λ p. then _ _ _ (λ (q : Popped). then _ _ _ (λ _.
-        then-by _ _ (same-receiver (w .base) e (q .top)) _ _ (λ o. then _ _ _ (λ m. record { rest = refl; objects = h }))))))))
+    same-execute (Invokevirtual c s) z = by-single (λ s. Likewise SameProgress (firstExecute w os f fs k d (Invokevirtual c s)) (execute task w qs f fs k d (Invokevirtual c s))) (λ n a r. one-invoked c n a r) s (z .one)
     same-execute (New c) z =
         then _ _ _ (λ e. then-by _ _ (rw (same-room task os qs h)) _ _ (λ _. record { rest = rw (same-next os qs h); objects = same-made task two _ os qs h }))
     same-execute (Branch c p) z = absurd (Option·none-ne-some p (sym (unfold target in z .nowhere)))
@@ -95,7 +117,8 @@ module _ (os : List Object) (qs : Objects) (h : SameObjects os qs) where
         after-in SameProgress _ _ (same-now w f old) _ _ (λ n e. same-execute task two w f fs (n .theClass) (n .at) (n .at .instruction) (now-straight w f n e))
 
     pub same-started : (l n m v : ℕ) (fs : List Frame) → Likewise SameProgress (firstStarted l n m v w os fs) (started task l n m v w qs fs)
-    unfolding firstStarted started
-    same-started l n m v fs =
-        then _ _ _ (λ _. then _ _ _ (λ _. then _ _ _ (λ c. then _ _ _ (λ s.
-        then-by _ _ (rw (same-room task os qs h)) _ _ (λ _. record { rest = rw (same-next os qs h); objects = same-made task two _ os qs h })))))
+    unfolding firstStarted
+    same-started l n m v fs = rw (single-start task l n m v w qs fs)
+        (then _ _ _ (λ _. then _ _ _ (λ _. then _ _ _ (λ c. then-by _ _
+        (ap (λ (y : Option Selected). take? y (Word wordAbsent)) (same-selected (w .base) (firstStartSignature m) (nameInt, refl) c)) _ _ (λ s.
+        then-by _ _ (rw (same-room task os qs h)) _ _ (λ _. record { rest = rw (same-next os qs h); objects = same-made task two _ os qs h }))))))

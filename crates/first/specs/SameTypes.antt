@@ -19,8 +19,8 @@ use Rattle.laws.specs.Options.{Holds}
 use Rattle.laws.specs.Walk.{return-is}
 use Rattle.layout.specs.Tests.{All}
 use Rattle.first.specs.Files.{firstReadFile, firstDecode}
-use Rattle.first.specs.Verifier.{firstTypesAt, firstTypesIn, firstNotesOfMethod, firstNotesOf, firstDeskNumber}
-use Rattle.first.specs.SameFiles.{NoMaps, Old, Straight, after-straight, decode-straight, laterFile, none-unmapped, read-old, same-all-notes, same-decode, same-notes, same-read}
+use Rattle.first.specs.Verifier.{firstEffect, firstTypesAt, firstTypesIn, firstNotesOfMethod, firstNotesOf, firstDeskNumber}
+use Rattle.first.specs.SameFiles.{Old, OldMethod, Straight, after-straight, decode-straight, laterFile, none-unmapped, read-old, same-all-notes, same-decode, same-effect, same-entry, same-notes, same-read}
 
 module _ (version : ℕ) (code : List ℕ) (result : ℕ) (old : Old version) (q : ℕ) where
   -- where the walk goes on after a turn
@@ -53,15 +53,15 @@ module _ (version : ℕ) (code : List ℕ) (result : ℕ) (old : Old version) (q
       effects i h e ih (some f) = unfold _>>=_ in rw (after-straight version code result old (i .instruction) (p + i .size) f h e) (ih (p + i .size) (f .types))
 
       kinds : (i : Decoded) → Straight (i .instruction) → Later → (x : Option Kind) → returnKind (i .instruction) ≡ x
-          → (effect (i .instruction) s >>= λ f. firstTypesAt code result n (p + i .size) (f .types) q) ≡ ((elim x as (λ _. Option Turn) [
+          → (firstEffect (i .instruction) s >>= λ f. firstTypesAt code result n (p + i .size) (f .types) q) ≡ ((elim x as (λ _. Option Turn) [
             | some kind ↦ returns kind result s >>= λ ns. startAt version code [] result (p + i .size) >>= λ o. some (record { notes = ns; next = o })
             | none ↦ effect (i .instruction) s >>= λ f. after version code [] result (i .instruction) (p + i .size) f
           ]) >>= onwards n)
-      kinds i h ih (some kind) e = rw (no-effect (i .instruction) kind s e) (after-return n (p + i .size) (eqb (p + i .size) (length code)) (returns kind result s))
-      kinds i h ih none e = effects i h e ih (effect (i .instruction) s)
+      kinds i h ih (some kind) e = rw (same-effect (i .instruction) (h .one) s, no-effect (i .instruction) kind s e) (after-return n (p + i .size) (eqb (p + i .size) (length code)) (returns kind result s))
+      kinds i h ih none e = rw (same-effect (i .instruction) (h .one) s) (effects i h e ih (effect (i .instruction) s))
 
       go : (x : Option Decoded) → Holds x (λ i. Straight (i .instruction)) → Later
-          → (x >>= λ i. effect (i .instruction) s >>= λ f. firstTypesAt code result n (p + i .size) (f .types) q) ≡ ((x >>= λ i. elim (returnKind (i .instruction)) as (λ _. Option Turn) [
+          → (x >>= λ i. firstEffect (i .instruction) s >>= λ f. firstTypesAt code result n (p + i .size) (f .types) q) ≡ ((x >>= λ i. elim (returnKind (i .instruction)) as (λ _. Option Turn) [
             | some kind ↦ returns kind result s >>= λ ns. startAt version code [] result (p + i .size) >>= λ o. some (record { notes = ns; next = o })
             | none ↦ effect (i .instruction) s >>= λ f. after version code [] result (i .instruction) (p + i .size) f
           ]) >>= onwards n)
@@ -69,18 +69,18 @@ module _ (version : ℕ) (code : List ℕ) (result : ℕ) (old : Old version) (q
       go (some i) h ih = unfold _>>=_ in kinds i h ih (returnKind (i .instruction)) refl
 
       here : (b : Bool) → Later → _≡_ {A = Option TypeState}
-          (elim b as (λ _. Option TypeState) [ true ↦ some s | false ↦ firstDecode code p >>= λ i. effect (i .instruction) s >>= λ f. firstTypesAt code result n (p + i .size) (f .types) q ])
+          (elim b as (λ _. Option TypeState) [ true ↦ some s | false ↦ firstDecode code p >>= λ i. firstEffect (i .instruction) s >>= λ f. firstTypesAt code result n (p + i .size) (f .types) q ])
           (elim b as (λ _. Option TypeState) [ true ↦ some s | false ↦ turn version code [] result p s >>= onwards n ])
       here true ih = refl
       here false ih = rw (sym (same-decode version code p old)) (go (firstDecode code p) (decode-straight code p) ih)
 
-same-types : (k : Class) (m : Method) → Old (k .version) → NoMaps m → (q : ℕ) → firstTypesIn k m q ≡ typesIn k m q
+same-types : (k : Class) (m : Method) → Old (k .version) → OldMethod m → (q : ℕ) → firstTypesIn k m q ≡ typesIn k m q
 unfolding firstTypesIn typesIn
-same-types k m old e q = rw (e, same-types-at (k .version) (m .code) (m .signature .result) old q (length (m .code)) 0 (entryTypes k m)) (unfold flowInto mapAt _>>=_ in refl)
+same-types k m old e q = rw (same-entry k m (e .1), e .0, same-types-at (k .version) (m .code) (m .signature .result) old q (length (m .code)) 0 (entryTypes k m)) (unfold flowInto mapAt _>>=_ in refl)
 
-no-maps-at : (ms : List Method) → All NoMaps ms → (m : Method) → List·Memᴰ m ms → NoMaps m
-no-maps-at (x ∷ ms) h m (List·Memᴰ·head z) = rw z (h .0)
-no-maps-at (x ∷ ms) h m (List·Memᴰ·tail t) = no-maps-at ms (h .1) m t
+old-at : (ms : List Method) → All OldMethod ms → (m : Method) → List·Memᴰ m ms → OldMethod m
+old-at (x ∷ ms) h m (List·Memᴰ·head z) = rw z (h .0)
+old-at (x ∷ ms) h m (List·Memᴰ·tail t) = old-at ms (h .1) m t
 
 -- A file that today reads, of version 1: the first document read it as the same file, with these notes and these types
 
@@ -92,7 +92,7 @@ pub types-kept : (l : ℕ) (bs : List ℕ) → laterFile bs ≡ false → (f : F
     → (firstNotesOfMethod (classOf l f) m ≡ notesOfMethod (classOf l f) m) × ((q : ℕ) → firstTypesIn (classOf l f) m q ≡ typesIn (classOf l f) m q)
 types-kept l bs h f e m t =
     let o = read-old l bs h f e in
-    let n = no-maps-at (f .methods) (o .1) m t in
+    let n = old-at (f .methods) (o .1) m t in
     (same-notes (classOf l f) m (o .0) n, same-types (classOf l f) m (o .0) n)
 
 -- the desk gives the number that it gave

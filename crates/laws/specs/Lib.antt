@@ -18,6 +18,9 @@ pub mod FieldPlaces
 pub mod Members
 pub mod Sized
 pub mod Inline
+pub mod Single
+pub mod SingleCalls
+pub mod SingleFiles
 pub mod OneArgument
 pub mod Tied
 pub mod WalkTurns

@@ -1,170 +1,26 @@
--- Before version 3: a call has one argument, and so has every method of a file. What such a call finds are exactly the methods of its name, of that one type as
--- their whole list and of its result, whatever the versions of their files.
-use mathlib.Core.Path.{_≡_, refl, sym, ap, _∙_, subst}
-use mathlib.Core.Bool.{Bool, true, false}
-use mathlib.Core.Option.{Option, none, some}
-use mathlib.Core.List.{List, [], _∷_, List·Memᴰ, List·Memᴰ·head, List·Memᴰ·tail, List·Memᴰ·not-nil}
-use Prim.Native.Nat.{ℕ, zero, suc, _+_, _<_}
-use lib.ListN.{length, getElem?, getD}
-use lib.Dec.{leb}
+-- What a call of one argument finds, as every call before version 3 is: exactly the methods of its name, of that one type as their whole list and of its result, whatever
+-- the versions of their files.
+use mathlib.Core.Path.{_≡_, sym, ap, _∙_, subst}
+use mathlib.Core.Bool.{true}
+use mathlib.Core.Option.{some}
+use mathlib.Core.List.{List, [], _∷_, List·Memᴰ}
+use Prim.Native.Nat.{ℕ, _<_}
+use lib.ListN.{getElem?}
 use borrow.Author.Tests.{lt-leb}
-use Rattle.definition.specs.declared.Arguments.{Arguments}
 use Rattle.definition.specs.declared.Arguments.the-variants.{OneArgument}
 use Rattle.definition.specs.declared.Signature.{Signature}
-use Rattle.definition.specs.declared.Opcode.{Opcode}
-use Rattle.definition.specs.declared.Opcode.the-variants.{OpAconstNull, OpSipush, OpLoad, OpStore, OpPop, OpDup, OpArithmetic, OpGetfield, OpPutfield, OpInvokevirtual, OpInvokevirtualList, OpNew, OpReturn, OpBranch, OpUnknown}
-use Rattle.definition.specs.declared.Instruction.{Instruction}
-use Rattle.definition.specs.declared.Instruction.the-variants.{AconstNull, Sipush, Load, Store, Pop, Dup, Arithmetic, Getfield, Putfield, Invokevirtual, New, Return, Branch}
+use Rattle.definition.specs.declared.Instruction.the-variants.{Invokevirtual}
 use Rattle.definition.specs.Numbers.{versionThree}
 use Rattle.definition.specs.Lists.{indexOf}
 use Rattle.definition.specs.Superclasses.{Below}
 use Rattle.definition.specs.Classes.{Base, Class, Method, Selected, argumentTypes, alike, superOf, methodsOf, hasMethod, selected, typesOf}
-use Rattle.definition.specs.File.{File, Got, oneIn, argumentsIn, signatureIn, methodsIn, readFile}
-use Rattle.definition.specs.Instructions.{pick, opcodeOf, inlineLength, instructionOf, Decoded, sizedAs, decode}
+use Rattle.definition.specs.Instructions.{Decoded, decode}
 use Rattle.laws.specs.Agreement.{super-falls}
-use Rattle.laws.specs.Options.{Holds, holds-past, holds-on, holds-at}
+use Rattle.laws.specs.Options.{holds-at}
 use Rattle.laws.specs.Tests.{any-there, index-found}
 use Rattle.laws.specs.Upward.{nearest-finds}
-use Rattle.laws.specs.Inline.{one-in}
 use Rattle.laws.specs.Members.{alike-is, same-signature, same-arguments, selected-at, nearest-selected}
-
--- a list of one
-abbrev pub OfOne : Signature → Type 0
-OfOne s = (a : ℕ) × (s .arguments ≡ OneArgument a)
-
--- A call. No opcode below version 3 has a list inline.
-
-abbrev Unlisted : Opcode → Type 0
-Unlisted OpAconstNull = Unit {0}
-Unlisted OpSipush = Unit {0}
-Unlisted (OpLoad k) = Unit {0}
-Unlisted (OpStore k) = Unit {0}
-Unlisted OpPop = Unit {0}
-Unlisted OpDup = Unit {0}
-Unlisted (OpArithmetic o) = Unit {0}
-Unlisted OpGetfield = Unit {0}
-Unlisted OpPutfield = Unit {0}
-Unlisted OpInvokevirtual = Unit {0}
-Unlisted OpInvokevirtualList = ⊥
-Unlisted OpNew = Unit {0}
-Unlisted (OpReturn k) = Unit {0}
-Unlisted (OpBranch c) = Unit {0}
-Unlisted OpUnknown = Unit {0}
-
-either : (t : Bool) (a b : Opcode) → Unlisted a → Unlisted b → Unlisted (pick t a b)
-unfolding pick
-either true a b x y = x
-either false a b x y = y
-
-opcode-unlisted : (version b : ℕ) → leb versionThree version ≡ false → Unlisted (opcodeOf version b)
-unfolding opcodeOf
-opcode-unlisted version b h =
-    either _ _ _ tt (either _ _ _ tt (either _ _ _ tt (either _ _ _ tt (either _ _ _ tt (either _ _ _ tt (either _ _ _ tt (either _ _ _ tt (either _ _ _ tt (either _ _ _ tt
-    (either _ _ _ tt (either _ _ _ tt (either _ _ _ one (either _ _ _ tt (either _ _ _ tt (either _ _ _ tt
-    (either _ _ _ (either _ _ _ tt (either _ _ _ tt (either _ _ _ tt (either _ _ _ tt (either _ _ _ tt tt))))) tt))))))))))))))))
-  where
-    one : Unlisted (pick (leb versionThree version) OpInvokevirtualList OpInvokevirtual)
-    one = rw h (unfold pick in tt)
-
--- if it is a call, then of one argument
-abbrev CallsOne : Instruction → Type 0
-CallsOne AconstNull = Unit {0}
-CallsOne (Sipush n) = Unit {0}
-CallsOne (Load kind j) = Unit {0}
-CallsOne (Store kind j) = Unit {0}
-CallsOne Pop = Unit {0}
-CallsOne Dup = Unit {0}
-CallsOne (Arithmetic o) = Unit {0}
-CallsOne (Getfield c n t) = Unit {0}
-CallsOne (Putfield c n t) = Unit {0}
-CallsOne (Invokevirtual c s) = OfOne s
-CallsOne (New c) = Unit {0}
-CallsOne (Branch c p) = Unit {0}
-CallsOne (Return kind) = Unit {0}
-
-instruction-one : (s : List ℕ) (i : ℕ) (o : Opcode) → Unlisted o → Holds (instructionOf s i o) CallsOne
-unfolding instructionOf
-instruction-one s i OpAconstNull h = tt
-instruction-one s i OpSipush h = tt
-instruction-one s i (OpLoad k) h = tt
-instruction-one s i (OpStore k) h = tt
-instruction-one s i OpPop h = tt
-instruction-one s i OpDup h = tt
-instruction-one s i (OpArithmetic o) h = tt
-instruction-one s i OpGetfield h = tt
-instruction-one s i OpPutfield h = tt
-instruction-one s i OpInvokevirtual h = (_, refl)
-instruction-one s i OpInvokevirtualList h = absurd h
-instruction-one s i OpNew h = tt
-instruction-one s i (OpReturn k) h = tt
-instruction-one s i (OpBranch c) h = tt
-instruction-one s i OpUnknown h = tt
-
-decode-one : (version : ℕ) (code : List ℕ) (p : ℕ) → leb versionThree version ≡ false → Holds (decode version code p) (λ d. CallsOne (d .instruction))
-unfolding decode
-decode-one version code p h = go (leb (p + suc (inlineLength code (p + 1) o)) (length code)) (instructionOf code (p + 1) o) (instruction-one code (p + 1) o (opcode-unlisted version (getD code p 0) h))
-  where
-    o : Opcode
-    o = opcodeOf version (getD code p 0)
-
-    go : (t : Bool) (x : Option Instruction) → Holds x CallsOne → Holds {A = Decoded} (elim t as (λ _. Option Decoded) [ true ↦ sizedAs (suc (inlineLength code (p + 1) o)) x | false ↦ none ]) (λ d. CallsOne (d .instruction))
-    go true none h = unfold sizedAs in tt
-    go true (some j) h = unfold sizedAs in h
-    go false x h = tt
-
-pub call-of-one : (version : ℕ) (code : List ℕ) (p : ℕ) (d : Decoded) (c : ℕ) (s : Signature) → version < versionThree → decode version code p ≡ some d → d .instruction ≡ Invokevirtual c s → OfOne s
-call-of-one version code p d c s v e q =
-    subst CallsOne q (holds-at (λ d. CallsOne (d .instruction)) (decode version code p) d (decode-one version code p (lt-leb versionThree version v)) e)
-
--- A method
-
--- what holds of what was read, if the condition does
-holds-if : {A H : Type 0} (Q : A → Type 0) (o : Option A) → (H → Holds o Q) → Holds o (λ a. H → Q a)
-holds-if Q none k = tt
-holds-if Q (some a) k = k
-
-arguments-one : (version : ℕ) (bs : List ℕ) → version < versionThree → Holds (argumentsIn version bs) (λ g. (a : ℕ) × (g .value ≡ OneArgument a))
-unfolding oneIn
-arguments-one version bs v = rw (one-in version bs (lt-leb versionThree version v)) (holds-past (λ (g : Got Arguments). (a : ℕ) × (g .value ≡ OneArgument a)) _ _ (λ a. (a .value, refl)))
-
-signature-one : (version : ℕ) (bs : List ℕ) → version < versionThree → Holds (signatureIn version bs) (λ g. OfOne (g .value))
-unfolding signatureIn
-signature-one version bs v = holds-past Q _ _ (λ n. holds-on (λ g. (a : ℕ) × (g .value ≡ OneArgument a)) Q _ _ (arguments-one version (n .more) v) (λ a h. holds-past Q _ _ (λ r. h)))
-  where
-    Q : Got Signature → Type 0
-    Q g = OfOne (g .value)
-
-abbrev AllOfOne : List Method → Type 0
-AllOfOne ms = (m : Method) → List·Memᴰ m ms → OfOne (m .signature)
-
-methods-one : (version k : ℕ) (bs : List ℕ) → version < versionThree → Holds (methodsIn version k bs) (λ g. AllOfOne (g .value))
-unfolding methodsIn
-methods-one version zero bs v = λ m x. absurd (List·Memᴰ·not-nil x)
-methods-one version (suc k) bs v =
-    holds-on (λ g. OfOne (g .value)) Q _ _ (signature-one version bs v) (λ s h. holds-past Q _ _ (λ l. holds-past Q _ _ (λ _. holds-past Q _ _ (λ maps.
-    holds-on Q Q _ _ (methods-one version k (maps .more) v) (λ ms hs. both _ (ms .value) h hs)))))
-  where
-    Q : Got (List Method) → Type 0
-    Q g = AllOfOne (g .value)
-
-    both : (x : Method) (ms : List Method) → OfOne (x .signature) → AllOfOne ms → AllOfOne (x ∷ ms)
-    both x ms h hs m (List·Memᴰ·head z) = rw z h
-    both x ms h hs m (List·Memᴰ·tail t) = hs m t
-
-read-one : (version k : ℕ) (bs : List ℕ) → Holds (methodsIn version k bs) (λ g. version < versionThree → AllOfOne (g .value))
-read-one version k bs = holds-if (λ (g : Got (List Method)). AllOfOne (g .value)) (methodsIn version k bs) (methods-one version k bs)
-
-pub methods-of-one : (bs : List ℕ) (f : File) → readFile bs ≡ some f → f .version < versionThree → (m : Method) → List·Memᴰ m (f .methods) → OfOne (m .signature)
-unfolding readFile
-methods-of-one bs f e = holds-at Q (readFile bs) f
-    (holds-past Q _ _ (λ _. holds-past Q _ _ (λ v. holds-past Q _ _ (λ _. holds-past Q _ _ (λ n. holds-past Q _ _ (λ _. holds-past Q _ _ (λ c. holds-past Q _ _ (λ s.
-    holds-past Q _ _ (λ k. holds-past Q _ _ (λ fs. holds-past Q _ _ (λ j. holds-on (λ g. v .value < versionThree → AllOfOne (g .value)) Q _ _ (read-one (v .value) (j .value) (j .more)) (λ ms h.
-    holds-past Q _ _ (λ _. holds-past Q _ _ (λ _. holds-past Q _ _ (λ _. h))))))))))))))) e
-  where
-    Q : File → Type 0
-    Q g = g .version < versionThree → AllOfOne (g .methods)
-
--- What a call finds
+use Rattle.laws.specs.Single.{Single, SingleIn, decode-single}
 
 -- of name n and result r, the whole list is the one type a
 pub record Ones (n a r : ℕ) (m : Method) : Type 0 where
@@ -216,4 +72,6 @@ finds-ones b s a h = record {
 -- a call in code of a version below 3 finds exactly the methods of its one type
 pub early-finds : (version : ℕ) (code : List ℕ) (p : ℕ) (d : Decoded) (c : ℕ) (s : Signature) → version < versionThree → decode version code p ≡ some d → d .instruction ≡ Invokevirtual c s
     → (a : ℕ) × (s .arguments ≡ OneArgument a) × ((b : Base) → FindsOnes b s a)
-early-finds version code p d c s v e q = let o = call-of-one version code p d c s v e q in (o .0, o .1, λ b. finds-ones b s (o .0) (o .1))
+early-finds version code p d c s v e q =
+    let o : Single s = subst SingleIn q (holds-at (λ d. SingleIn (d .instruction)) (decode version code p) d (decode-single version code p (lt-leb versionThree version v)) e) in
+    (o .0, o .1, λ b. finds-ones b s (o .0) (o .1))

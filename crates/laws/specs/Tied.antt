@@ -215,11 +215,6 @@ pub signature-in-turn : (ts : List Tie) (l m : ℕ) (s : Signature) → signatur
 unfolding signatureTies
 signature-in-turn ts l m s = ties-in-turn ts l m (argumentTypes s) (s .result ∷ [])
 
--- of one argument two, one after the other: on the argument and on the result
-pub signature-ties : (ts : List Tie) (l m a : ℕ) (s : Signature) → s .arguments ≡ OneArgument a → signatureTies ts l m s ≡ newTie ts l m a ++ newTie (ts ++ newTie ts l m a) l m (s .result)
-unfolding signatureTies newTies
-signature-ties ts l m a s e = ap (λ (ns : List ℕ). newTies ts l m (ns ++ (s .result ∷ []))) (ap typesOf e) ∙ ap (λ (z : List Tie). newTie ts l m a ++ z) (append-nil (newTie (ts ++ newTie ts l m a) l m (s .result)))
-
 -- Overrides, of a class of loader l below class p: of each method in turn, between l and the loader of the class whose method it overrides
 
 pub override-tied : (b : Base) (l p : ℕ) (ts : List Tie) (s : Signature) (y : Selected) → selected b s p ≡ some y → Tied ts l (loaderOf b (y .class)) s (overrideTie b l p ts s)
