@@ -13,7 +13,7 @@ use Rattle.definition.specs.Superclasses.{nearest, below}
 use Rattle.definition.specs.Classes.{Base, argumentTypes, superOf, slots, slotIs, hasField, Selected, selected}
 use Rattle.definition.specs.declared.Refusal.the-variants.{Word}
 use Rattle.definition.specs.Answers.{refused, ok, _>>=_, need, take?}
-use Rattle.definition.specs.Machine.{pop!, popAll!, kinds!, object!, entryFrame}
+use Rattle.definition.specs.Machine.{pop!, popAll!, kinds!, object! }
 use Rattle.definition.specs.Tables.{Tables, tables, valueOf, objectAt, fieldAt, operandAt, usedFields, frameOf, objectsOf}
 use Rattle.layout.specs.Cells.{used-few, object-field-past}
 use Rattle.laws.specs.Objects.{changed-same}

@@ -10,13 +10,12 @@ use native.Mathlib.Omega.{arith}
 use lib.ListN.{length, length-append, length-map}
 use lib.Dec.{eqb, leb}
 use borrow.Author.Tests.{eqb-true, eqb-false, eq-eqb, ne-eqb, lt-leb, le-leb}
-use Rattle.definition.specs.declared.Arguments.the-variants.{OneArgument}
 use Rattle.definition.specs.declared.Signature.{Signature}
 use Rattle.definition.specs.Numbers.{nameInt, tieLimit, wordFull, wordClash}
 use Rattle.definition.specs.Lists.{any}
 use Rattle.definition.specs.declared.Refusal.the-variants.{Word}
 use Rattle.definition.specs.Answers.{refused, ok, _>>=_, need}
-use Rattle.definition.specs.Classes.{Base, Method, Selected, argumentTypes, signatureTypes, typesOf, loaderOf, selected}
+use Rattle.definition.specs.Classes.{Base, Method, Selected, argumentTypes, signatureTypes, loaderOf, selected}
 use Rattle.definition.specs.Constraints.{Tie, World, newTie, newTies, signatureTies, tieIs, agreesAfter, posted, post}
 use Rattle.definition.specs.Loading.{overrideTie, overrideTies}
 use Rattle.laws.specs.Tests.{any-append}

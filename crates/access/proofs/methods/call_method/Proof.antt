@@ -1,6 +1,5 @@
 -- invokevirtual, once the method is found: a frame is entered in the method selected from the receiver's own class, which stands below the arguments.
 use mathlib.Core.Path.{sym, _∙_}
-use native.Mathlib.Omega.{arith}
 use borrow.Author.Needs.{needs}
 use borrow.Author.Tests.{not-true, not-false}
 use Rattle.access.specs.Remainders.{call-few, call-unkind, call-wrong, call-unselected, call-at}
