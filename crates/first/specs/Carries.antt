@@ -18,11 +18,16 @@ use Rattle.definition.specs.Calls.{numbersFrom}
 use Rattle.layout.specs.Places.{rows-length, rows-getD, rows-cong}
 use Rattle.layout.specs.InTurn.{more-ties, more-subtypes}
 use Rattle.layout.specs.Tests.{every-true}
+use Rattle.layout.specs.Unbroken.{broken-false}
 use Rattle.first.specs.Tables.{FirstTables, firstCountsLength, firstShaped, FirstRows, firstRowsOf, firstObjectsOf, firstViewOver, firstViewBase, firstView}
 use Rattle.first.specs.Broken.{firstSound, firstWhole, firstBroken}
 use Rattle.first.specs.SameObjects.{SameObjects, noObjects, sameObject}
 use Rattle.first.specs.SameBases.{laterRow, Early, early, same-classes, fits-early}
 use Rattle.first.specs.SameRows.{SameRows, EarlyRows, same-sound}
+
+-- how many cells stand behind the eight counts
+abbrev pub besideLength : ℕ
+besideLength = objectLimit + (tieLimit + subtypeLimit)
 
 -- an owner cell that says a task, whichever
 abbrev pub IsOwner : ℕ → Type 0
@@ -32,18 +37,22 @@ IsOwner w = (k : ℕ) × (k < taskLimit) × (w ≡ suc k)
 abbrev pub withCounts : List ℕ → Tables → FirstTables
 withCounts n t = tables n (t .classes) (t .kept) (t .cache) (t .ties) (t .subtypes) (t .objects) (t .frames)
 
--- Today's tables t say what the first document's tables u say
-pub record Carries (u : FirstTables) (t : Tables) : Type 0 where
-  -- behind the counts of u stands an owner for each of the 256 rows of objects, then a number for each of the 256 rows of ties and of subtype constraints
+-- Today's tables t have what the first document's tables u say
+pub record Fronts (u : FirstTables) (t : Tables) : Type 0 where
+  -- behind the counts of u stands all that later papers keep: first an owner for each of the 256 rows of objects
   pub behind : List ℕ
   pub counts : t .counts ≡ u .counts ++ behind
-  pub all : length behind ≡ objectLimit + (tieLimit + subtypeLimit)
+  pub all : length behind ≡ besideLength
   -- the owner of an object of u is a task, whichever; what an unused row's cell says doesn't matter
   pub tasks : (o : ℕ) → o < getD (u .counts) countObjects 0 → o < objectLimit → IsOwner (getD behind o 0)
-  -- the numbers of the rows of u are some that aren't broken, whichever
-  pub turn : length (u .counts) ≡ firstCountsLength → getD (u .counts) countTies 0 ≤ tieLimit → getD (u .counts) countSubtypes 0 ≤ subtypeLimit → numbered (numbersOf t) ≡ true
   -- the other seven tables are the same
   pub rest : u ≡ withCounts (u .counts) t
+
+-- Today's tables t say what the first document's tables u say: what stands behind the counts is such that today's machine doesn't call them broken where the first
+-- document's doesn't, whichever it is
+pub record Carries (u : FirstTables) (t : Tables) : Type 0 where
+  pub fronts : Fronts u t
+  pub unbroken : firstBroken u ≡ false → broken t ≡ false
 
 -- ties numbered first, n of them, then subtype constraints
 abbrev pub tiesFirst : ℕ → List ℕ
@@ -90,8 +99,8 @@ first-in-turn n m =
     (more-subtypes n 0 m n (n + m) (numbersFrom 0 n) [] (omega (arith, rows-length (λ i. i) n 0)) (omega arith) (omega arith)
     (more-ties 0 0 n 0 n [] [] (omega arith) (omega arith) (omega arith) refl))
 
-pub carrying : (k : ℕ) → k < taskLimit → (u : FirstTables) → Carries u (carriedBy k u)
-carrying k two u =
+fronting : (k : ℕ) → k < taskLimit → (u : FirstTables) → Fronts u (carriedBy k u)
+fronting k two u =
     let n : ℕ = getD (u .counts) countTies 0 in
     let ow : List ℕ = replicate objectLimit (suc k) in
     let long : length ow ≡ objectLimit = length-replicate objectLimit (suc k) in
@@ -100,17 +109,24 @@ carrying k two u =
       counts = refl;
       all = omega (arith, length-append ow (tiesFirst n), long, length-append (numbersFrom 0 tieLimit) (numbersFrom n subtypeLimit), rows-length (λ i. i) tieLimit 0, rows-length (λ i. i) subtypeLimit n);
       tasks = λ o _ l. (k, two, List·getD-append ow (tiesFirst n) 0 o (omega (arith, long)) ∙ getD-replicate objectLimit o (suc k) 0 l);
-      turn = λ eight few less.
-          let cell : (j : ℕ) → j < ownersCell → getD (u .counts ++ (ow ++ tiesFirst n)) j 0 ≡ getD (u .counts) j 0 = λ j l. List·getD-append (u .counts) (ow ++ tiesFirst n) 0 j (omega arith) in
-          rw (
-            cell countTies (omega arith),
-            cell countSubtypes (omega arith),
-            tie-numbers (u .counts) ow n (getD (u .counts) countSubtypes 0) eight long few less,
-            subtype-numbers (u .counts) ow n (getD (u .counts) countSubtypes 0) eight long few less,
-          )
-          (first-in-turn n (getD (u .counts) countSubtypes 0));
       rest = refl;
     }
+
+-- their numbers are in turn
+carried-turn : (k : ℕ) (u : FirstTables) → length (u .counts) ≡ firstCountsLength → getD (u .counts) countTies 0 ≤ tieLimit → getD (u .counts) countSubtypes 0 ≤ subtypeLimit
+    → numbered (numbersOf (carriedBy k u)) ≡ true
+carried-turn k u eight few less =
+    let n : ℕ = getD (u .counts) countTies 0 in
+    let ow : List ℕ = replicate objectLimit (suc k) in
+    let long : length ow ≡ objectLimit = length-replicate objectLimit (suc k) in
+    let cell : (j : ℕ) → j < ownersCell → getD (u .counts ++ (ow ++ tiesFirst n)) j 0 ≡ getD (u .counts) j 0 = λ j l. List·getD-append (u .counts) (ow ++ tiesFirst n) 0 j (omega arith) in
+    rw (
+      cell countTies (omega arith),
+      cell countSubtypes (omega arith),
+      tie-numbers (u .counts) ow n (getD (u .counts) countSubtypes 0) eight long few less,
+      subtype-numbers (u .counts) ow n (getD (u .counts) countSubtypes 0) eight long few less,
+    )
+    (first-in-turn n (getD (u .counts) countSubtypes 0))
 
 -- the tables keep a file of a later version for a class, or none
 unfoldable pub keepsLater : FirstTables → Bool
@@ -137,7 +153,7 @@ same-length n = go (eqb n firstCountsLength) refl
     go true e = sym (eq-eqb (n + (objectLimit + (tieLimit + subtypeLimit))) countsLength (ap (λ (z : ℕ). z + (objectLimit + (tieLimit + subtypeLimit))) (eqb-true n firstCountsLength e)))
     go false e = sym (ne-eqb (n + (objectLimit + (tieLimit + subtypeLimit))) countsLength (λ q. eqb-false n firstCountsLength e (omega arith)))
 
-pub same-shaped : (u : FirstTables) (t : Tables) → Carries u t → firstShaped u ≡ shaped t
+pub same-shaped : (u : FirstTables) (t : Tables) → Fronts u t → firstShaped u ≡ shaped t
 unfolding firstShaped shaped
 same-shaped u t h =
     let n : length (t .counts) ≡ length (u .counts) + (objectLimit + (tieLimit + subtypeLimit)) = ap length (h .counts) ∙ (length-append (u .counts) (h .behind) ∙ ap (λ (z : ℕ). length (u .counts) + z) (h .all)) in
@@ -163,7 +179,7 @@ same-read b n t (suc k) i h =
     let w = h i (omega arith) (omega arith) in
     rw (w .2) (sameObject (w .1) (same-read b n t k (suc i) (λ m a l. h m (omega arith) (omega arith))))
 
-module _ (u : FirstTables) (t : Tables) (h : Carries u t) (early-u : EarlyTables u) (eight : length (u .counts) ≡ firstCountsLength) where
+module _ (u : FirstTables) (t : Tables) (h : Fronts u t) (early-u : EarlyTables u) (eight : length (u .counts) ≡ firstCountsLength) where
   same-cell : (j : ℕ) → j < firstCountsLength → getD (u .counts) j 0 ≡ getD (t .counts) j 0
   same-cell j l = sym (ap (λ (z : List ℕ). getD z j 0) (h .counts) ∙ List·getD-append (u .counts) (h .behind) 0 j (omega arith))
 
@@ -231,7 +247,7 @@ pub early-rows : (u : FirstTables) (t : Tables) → EarlyTables u → SameRows (
 unfolding firstView firstViewOver
 early-rows u t e r = subst (λ (z : FirstRows). Early (z .kept) (z .classes)) (r .rest) e
 
-module _ (u : FirstTables) (t : Tables) (h : Carries u t) where
+module _ (u : FirstTables) (t : Tables) (h : Fronts u t) where
   pub eight-counts : firstShaped u ≡ true → length (u .counts) ≡ firstCountsLength
   unfolding firstShaped
   eight-counts s = eqb-true _ _ (every-true _ s .0)
@@ -241,16 +257,13 @@ module _ (u : FirstTables) (t : Tables) (h : Carries u t) where
   unfolding within
   same-rows e s w = same-view u t h e (eight-counts s) (leb-true _ _ (every-true _ w .1 .1 .1 .1 .1 .0))
 
-  same-turn : firstShaped u ≡ true → within (u .counts) ≡ true → numbered (view t .numbers) ≡ true
-  unfolding within view viewOver
-  same-turn s w = let p = every-true _ w in h .turn (eight-counts s) (leb-true _ _ (p .1 .1 .1 .0)) (leb-true _ _ (p .1 .1 .1 .1 .0))
-
-  pub same-broken : EarlyTables u → firstBroken u ≡ broken t
+  -- where today's numbers are in turn, if the first document's test passes, both are broken or neither is
+  alike-broken : EarlyTables u → (firstShaped u ≡ true → within (u .counts) ≡ true → numbered (view t .numbers) ≡ true) → firstBroken u ≡ broken t
   unfolding firstBroken broken firstWhole whole
-  same-broken e = ap not
+  alike-broken e turn = ap not
       (in-turn _ _ _ _ (same-shaped u t h) (λ s. in-turn _ _ _ _ (same-within u t h e (eight-counts s)) (λ w.
       let r = same-rows e s w in
-      ap (λ (z : Bool). every (z ∷ [])) (ap firstSound (r .rest) ∙ same-sound (firstView u .objects) (view t) (r .objects) (same-turn s w) (early-rows u t e r)))))
+      ap (λ (z : Bool). every (z ∷ [])) (ap firstSound (r .rest) ∙ same-sound (firstView u .objects) (view t) (r .objects) (turn s w) (early-rows u t e r)))))
 
   -- a store that isn't broken
   pub record SameStore : Type 0 where
@@ -260,3 +273,26 @@ module _ (u : FirstTables) (t : Tables) (h : Carries u t) where
   pub same-store : EarlyTables u → firstBroken u ≡ false → SameStore
   unfolding firstBroken firstWhole
   same-store x e = let p = every-true _ (not-false _ e) in record { eight = eight-counts (p .0); rows = same-rows x (p .0) (p .1 .0) }
+
+-- what today's machine doesn't call broken has numbers in turn
+turn-unbroken : (t : Tables) → broken t ≡ false → numbered (view t .numbers) ≡ true
+turn-unbroken t b = broken-false t b .1 .numbers .turn
+
+pub same-broken : (u : FirstTables) (t : Tables) → Carries u t → EarlyTables u → firstBroken u ≡ broken t
+same-broken u t h e = go (firstBroken u) refl (broken t) refl
+  where
+    go : (a : Bool) → firstBroken u ≡ a → (b : Bool) → broken t ≡ b → firstBroken u ≡ broken t
+    go false p b q = p ∙ sym (h .unbroken p)
+    go true p true q = p ∙ sym q
+    go true p false q = alike-broken u t (h .fronts) e (λ _ _. turn-unbroken t q)
+
+-- every tables of the first document are carried
+pub carrying : (k : ℕ) → k < taskLimit → (u : FirstTables) → Carries u (carriedBy k u)
+unfolding within view viewOver
+carrying k two u = record { fronts = f; unbroken = λ e. sym (alike-broken u (carriedBy k u) f (unbroken-keeps-none u e) turn) ∙ e }
+  where
+    f : Fronts u (carriedBy k u)
+    f = fronting k two u
+
+    turn : firstShaped u ≡ true → within (u .counts) ≡ true → numbered (view (carriedBy k u) .numbers) ≡ true
+    turn s w = let p = every-true _ w in carried-turn k u (eight-counts u (carriedBy k u) f s) (leb-true _ _ (p .1 .1 .1 .0)) (leb-true _ _ (p .1 .1 .1 .1 .0))

@@ -53,8 +53,8 @@ same-left a u t h = record { answer = refl; tables = h }
 
 pub same-boot : (u : FirstTables) (t : Tables) → Carries u t → SameDone (firstBoot u) (boot t)
 unfolding firstBoot boot
-same-boot u t h = either _ _ _ _ _ _ (same-shaped u t h)
-    (λ s. record { answer = refl; tables = same-rows-put u t h (eight-counts u t h s) firstBootRows bootRows (record { rest = refl; objects = noObjects }) (shaped-true t (sym (same-shaped u t h) ∙ s)) boot-whole })
+same-boot u t h = either _ _ _ _ _ _ (same-shaped u t (h .fronts))
+    (λ s. record { answer = refl; tables = same-rows-put u t (h .fronts) (eight-counts u t (h .fronts) s) firstBootRows bootRows (record { rest = refl; objects = noObjects }) (shaped-true t (sym (same-shaped u t (h .fronts)) ∙ s)) boot-whole })
     (λ _. same-left _ u t h)
 
 -- a call on rows, where it is alike on the same rows, of the first document's such as `On` says
@@ -66,13 +66,13 @@ module _ {A : Type 0} (deny : Refusal → A) (f : FirstRows → Result (FirstGiv
   same-carried u t h n e (refused v) (refused w) l k = record { answer = ap deny l; tables = h }
   same-carried u t h n e (refused v) (ok b) l k = absurd l
   same-carried u t h n e (ok a) (refused w) l k = absurd l
-  same-carried u t h n e (ok a) (ok b) l k = record { answer = l .answer; tables = same-rows-put u t h e (a .rows) (b .rows) (l .rows) n k }
+  same-carried u t h n e (ok a) (ok b) l k = record { answer = l .answer; tables = same-rows-put u t (h .fronts) e (a .rows) (b .rows) (l .rows) n k }
 
   same-wrap : (u : FirstTables) (t : Tables) → Carries u t → EarlyTables u → (firstBroken u ≡ false → On (firstView u)) → SameDone (firstWrap deny f u) (wrap deny g t)
   unfolding firstWrap wrap
   same-wrap u t h x on = either _ _ _ _ _ _ (same-broken u t h x) (λ _. same-left _ u t h)
       (λ b.
-      let s = same-store u t h x b in
+      let s = same-store u t (h .fronts) x b in
       let w = broken-false t (sym (same-broken u t h x) ∙ b) in
       same-carried u t h (w .0) (s .eight) (f (firstView u)) (g (view t)) (alike (firstView u) (view t) (s .rows) (early-rows u t x (s .rows)) (on b)) (keeps (view t) (w .1)))
 
@@ -147,7 +147,7 @@ step-early u t h x = go (firstBroken u) refl
 
     go : (b : Bool) → firstBroken u ≡ b → EarlyTables ((elim b as (λ _. FirstDone Answer) [ true ↦ done (Refused (Word wordBroken)) u | false ↦ firstCarried Refused u (firstStepRows (firstView u)) ]) .tables)
     go true e = x
-    go false e = put (firstStepRows (firstView u)) (step-files (firstView u)) (same-store u t h x e .eight)
+    go false e = put (firstStepRows (firstView u)) (step-files (firstView u)) (same-store u t (h .fronts) x e .eight)
 
 -- A run: as many steps
 
