@@ -8,9 +8,10 @@ use native.Mathlib.Omega.{arith}
 use lib.ListN.{length, getD, replicate, length-replicate, getD-replicate, length-append, List·getD-append}
 use lib.Seq.{getD-append-add}
 use lib.Dec.{eqb, leb}
-use borrow.Author.Tests.{eqb-true, eqb-false, eq-eqb, ne-eqb, leb-true, not-false}
-use Rattle.definition.specs.Numbers.{taskLimit, classLimit, keptLimit, cacheLimit, tieLimit, subtypeLimit, objectLimit, frameLimit, countClasses, countKept, countCache, countTies, countSubtypes, countObjects, countFrames, ownersCell, tieNumbersCell, subtypeNumbersCell, countsLength, classesLength, keptLength, cacheLength, tiesLength, subtypesLength, objectsLength, framesLength}
+use borrow.Author.Tests.{eqb-true, eqb-false, eq-eqb, ne-eqb, leb-true, le-leb, not-false}
+use Rattle.definition.specs.Numbers.{taskLimit, classLimit, keptLimit, cacheLimit, tieLimit, subtypeLimit, objectLimit, frameLimit, countClasses, countKept, countCache, countTies, countSubtypes, countObjects, countFrames, ownersCell, tieNumbersCell, subtypeNumbersCell, countsLength, classesLength, keptLength, cacheLength, tiesLength, subtypesLength, objectsLength, framesLength, shareLimit}
 use Rattle.definition.specs.Lists.{every, any, rows, stack}
+use Rattle.definition.specs.Machine.{madeBy}
 use Rattle.definition.specs.Classes.{Base}
 use Rattle.definition.specs.Tables.{Tables, tables, rowNumbers, numberAt, numbersOf, shaped, baseOf, classRowAt, entryAt, tieAt, subtypeAt, objectAt, ownedBy, ownerAt, objectRowAt, frameIn, classRowsOf, keptOf, cacheOf, viewBase, objectsOf, framesOf, viewOver, view}
 use Rattle.definition.specs.Broken.{within, inTurn, numbered, whole, broken}
@@ -23,7 +24,7 @@ use Rattle.first.specs.Tables.{FirstTables, firstCountsLength, firstShap
 use Rattle.first.specs.Broken.{firstSound, firstWhole, firstBroken}
 use Rattle.first.specs.SameObjects.{SameObjects, noObjects, sameObject}
 use Rattle.first.specs.SameBases.{laterRow, Early, early, same-classes, fits-early}
-use Rattle.first.specs.SameRows.{SameRows, EarlyRows, same-sound}
+use Rattle.first.specs.SameRows.{SameRows, EarlyRows, BesideFits, same-sound}
 
 -- how many cells stand behind the eight counts
 abbrev pub besideLength : ℕ
@@ -58,7 +59,7 @@ pub record Carries (u : FirstTables) (t : Tables) : Type 0 where
 abbrev pub tiesFirst : ℕ → List ℕ
 tiesFirst n = numbersFrom 0 tieLimit ++ numbersFrom n subtypeLimit
 
--- every tables of the first document are carried: by those in which task k owns every row, with ties numbered first
+-- every tables of the first document are carried by those in which task k owns every row, the quote, with ties numbered first
 abbrev pub carriedBy : ℕ → FirstTables → Tables
 carriedBy k u = withCounts (u .counts ++ (replicate objectLimit (suc k) ++ tiesFirst (getD (u .counts) countTies 0))) u
 
@@ -257,8 +258,8 @@ module _ (u : FirstTables) (t : Tables) (h : Fronts u t) where
   unfolding within
   same-rows e s w = same-view u t h e (eight-counts s) (leb-true _ _ (every-true _ w .1 .1 .1 .1 .1 .0))
 
-  -- where today's numbers are in turn, if the first document's test passes, both are broken or neither is
-  alike-broken : EarlyTables u → (firstShaped u ≡ true → within (u .counts) ≡ true → numbered (view t .numbers) ≡ true) → firstBroken u ≡ broken t
+  -- where what stands beside the rows passes, if the first document's tests do, both are broken or neither is
+  alike-broken : EarlyTables u → (firstShaped u ≡ true → within (u .counts) ≡ true → BesideFits (view t)) → firstBroken u ≡ broken t
   unfolding firstBroken broken firstWhole whole
   alike-broken e turn = ap not
       (in-turn _ _ _ _ (same-shaped u t h) (λ s. in-turn _ _ _ _ (same-within u t h e (eight-counts s)) (λ w.
@@ -274,9 +275,9 @@ module _ (u : FirstTables) (t : Tables) (h : Fronts u t) where
   unfolding firstBroken firstWhole
   same-store x e = let p = every-true _ (not-false _ e) in record { eight = eight-counts (p .0); rows = same-rows x (p .0) (p .1 .0) }
 
--- what today's machine doesn't call broken has numbers in turn
-turn-unbroken : (t : Tables) → broken t ≡ false → numbered (view t .numbers) ≡ true
-turn-unbroken t b = broken-false t b .1 .numbers .turn
+-- what today's machine doesn't call broken passes
+beside-unbroken : (t : Tables) → broken t ≡ false → BesideFits (view t)
+beside-unbroken t b = let w = broken-false t b .1 in (w .numbers .turn, le-leb (madeBy 1 (view t .objects)) shareLimit (w .share))
 
 pub same-broken : (u : FirstTables) (t : Tables) → Carries u t → EarlyTables u → firstBroken u ≡ broken t
 same-broken u t h e = go (firstBroken u) refl (broken t) refl
@@ -284,15 +285,31 @@ same-broken u t h e = go (firstBroken u) refl (broken t) refl
     go : (a : Bool) → firstBroken u ≡ a → (b : Bool) → broken t ≡ b → firstBroken u ≡ broken t
     go false p b q = p ∙ sym (h .unbroken p)
     go true p true q = p ∙ sym q
-    go true p false q = alike-broken u t (h .fronts) e (λ _ _. turn-unbroken t q)
+    go true p false q = alike-broken u t (h .fronts) e (λ _ _. beside-unbroken t q)
 
--- every tables of the first document are carried
-pub carrying : (k : ℕ) → k < taskLimit → (u : FirstTables) → Carries u (carriedBy k u)
-unfolding within view viewOver
-carrying k two u = record { fronts = f; unbroken = λ e. sym (alike-broken u (carriedBy k u) f (unbroken-keeps-none u e) turn) ∙ e }
+-- where the quote owns every row, none is the report's
+none-made : (b : Base) (n t : List ℕ) (k i : ℕ) → ((m : ℕ) → i ≤ m → m < i + k → ownerAt n m ≡ 1) → madeBy 1 (rows (objectRowAt b n t) k i) ≡ 0
+unfolding rows objectRowAt ownedBy madeBy
+none-made b n t zero i h = refl
+none-made b n t (suc k) i h = rw (h i (omega arith) (omega arith)) (none-made b n t k (suc i) (λ m a l. h m (omega arith) (omega arith)))
+
+-- every tables of the first document are carried: the quote owns every object
+pub carrying : (u : FirstTables) → Carries u (carriedBy 0 u)
+unfolding within view viewOver objectsOf fronting
+carrying u = record { fronts = f; unbroken = λ e. sym (alike-broken u (carriedBy 0 u) f (unbroken-keeps-none u e) (beside (unbroken-keeps-none u e))) ∙ e }
   where
-    f : Fronts u (carriedBy k u)
-    f = fronting k two u
+    f : Fronts u (carriedBy 0 u)
+    f = fronting 0 (omega arith) u
 
-    turn : firstShaped u ≡ true → within (u .counts) ≡ true → numbered (view (carriedBy k u) .numbers) ≡ true
-    turn s w = let p = every-true _ w in carried-turn k u (eight-counts u (carriedBy k u) f s) (leb-true _ _ (p .1 .1 .1 .0)) (leb-true _ _ (p .1 .1 .1 .1 .0))
+    beside : EarlyTables u → firstShaped u ≡ true → within (u .counts) ≡ true → BesideFits (view (carriedBy 0 u))
+    beside x s w =
+        let p = every-true _ w in
+        let eight = eight-counts u (carriedBy 0 u) f s in
+        let few : getD (u .counts) countObjects 0 ≤ objectLimit = leb-true _ _ (p .1 .1 .1 .1 .1 .0) in
+        let ow : List ℕ = replicate objectLimit 1 in
+        let long : length ow ≡ objectLimit = length-replicate {A = ℕ} objectLimit 1 in
+        let cell = List·getD-append (u .counts) (f .behind) 0 countObjects (omega arith) in
+        let none = none-made (viewBase (carriedBy 0 u)) (carriedBy 0 u .counts) (u .objects) (getD (carriedBy 0 u .counts) countObjects 0) 0
+        (λ m _ l. same-owner u (carriedBy 0 u) f x eight m
+        ∙ (List·getD-append ow (tiesFirst (getD (u .counts) countTies 0)) 0 m (omega (arith, long)) ∙ getD-replicate objectLimit m 1 0 (omega arith))) in
+        (carried-turn 0 u eight (leb-true _ _ (p .1 .1 .1 .0)) (leb-true _ _ (p .1 .1 .1 .1 .0)), rw none refl)

@@ -4,6 +4,7 @@ pub mod Progress
 pub mod Accepted
 pub mod WholeRows
 pub mod Swept
+pub mod Share
 pub mod Calls
 pub mod Refusing
 pub mod RefusingSteps

@@ -127,7 +127,7 @@ goes-dropped k r = record { classes = refl; kept = refl; cache = refl; subtypes 
 
 started-numbered : (k l n m v : ℕ) (w : World) (os : Objects) (fs : List Frame) → Ok (started k l n m v w os fs) (λ o. Numbered os (o .objects))
 unfolding started
-started-numbered k l n m v w os fs = then N _ _ (λ _ _. then N _ _ (λ _ _. then N _ _ (λ c _. then N _ _ (λ _ _. then N _ _ (λ _ _. numbered-made k (newObject (w .base) c) os)))))
+started-numbered k l n m v w os fs = then N _ _ (λ _ _. then N _ _ (λ _ _. then N _ _ (λ c _. then N _ _ (λ _ _. then N _ _ (λ _ _. then N _ _ (λ _ _. numbered-made k (newObject (w .base) c) os))))))
   where
     N : Progress → Type 0
     N o = Numbered os (o .objects)

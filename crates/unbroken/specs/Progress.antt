@@ -93,7 +93,7 @@ module _ (S : Type 0) (os : Objects) (f : Frame) (fs : List Frame) (i : Decoded)
         goes v _ (numbered-changed os (o .number) (o .object) (record { class = o .object .class; values = _ }) (object-is (w .base) os e (q .top) o r) refl) _ _))))))))
     advances (Invokevirtual c s) h = then Q _ _ (λ _ _. then Q _ _ (λ _ _. then Q _ _ (λ _ _. then Q _ _ (λ _ _. then Q _ _ (λ _ _. then Q _ _ (λ _ _. then Q _ _ (λ _ _. then Q _ _ (λ _ _.
         record { objects = numbered-same os; left = λ _. longer _ _ (λ e. omega arith); moved = λ _ e. absurd (longer _ _ (λ e. omega arith) e) }))))))))
-    advances (New c) h = then Q _ _ (λ _ _. then Q _ _ (λ _ _. goes w _ (numbered-made task _ os) _ _))
+    advances (New c) h = then Q _ _ (λ _ _. then Q _ _ (λ _ _. then Q _ _ (λ _ _. goes w _ (numbered-made task _ os) _ _)))
     advances (Branch c p) h = then Q _ _ (λ j e. record {
       objects = numbered-same os;
       left = λ _. longer _ _ (λ e. omega arith);
