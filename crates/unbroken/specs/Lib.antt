@@ -4,7 +4,6 @@ pub mod Progress
 pub mod Accepted
 pub mod WholeRows
 pub mod Swept
-pub mod Share
 pub mod Calls
 pub mod Refusing
 pub mod RefusingSteps
@@ -25,3 +24,4 @@ pub mod Waiting
 pub mod Rates
 pub mod HiddenFields
 pub mod FieldsLast
+pub mod Share
