@@ -67,13 +67,13 @@ quote-room t h l = go (roomless 0 (view t .objects)) refl
 -- Causes one by one
 
 -- a word that is another's: the first cause doesn't apply
-passed : (n : ℕ) (b : Bool) (cs : List Cause) (w : ℕ) → first (cause n b ∷ cs) ≡ w → n ≢ w → (b ≡ false) × (first cs ≡ w)
+pub passed : (n : ℕ) (b : Bool) (cs : List Cause) (w : ℕ) → first (cause n b ∷ cs) ≡ w → n ≢ w → (b ≡ false) × (first cs ≡ w)
 unfolding first
 passed n true cs w h d = absurd (d h)
 passed n false cs w h d = (refl, h)
 
 -- a word that is the first's and none behind it has
-met : (n : ℕ) (b : Bool) (cs : List Cause) → first (cause n b ∷ cs) ≡ n → first cs ≢ n → b ≡ true
+pub met : (n : ℕ) (b : Bool) (cs : List Cause) → first (cause n b ∷ cs) ≡ n → first cs ≢ n → b ≡ true
 unfolding first
 met n true cs h d = refl
 met n false cs h d = absurd (d h)
@@ -163,11 +163,14 @@ untold w (c ∷ cs) h = go (eqb (c .word) w) refl (c .applies) refl h (untold w 
     go false e false f q ih = (f, ih q)
 
 -- the causes of a step whose instruction has been read
+pub read-causes : (t : Tables) (f : Frame) (fs : List Frame) (n : Now) → Turns t f fs n
+    → causes callStep t ≡ cause 1 (broken t) ∷ cause 14 false ∷ instructionCauses (turn (view t)) (worldOf (view t)) (view t .objects) f fs (n .theClass) (n .at .instruction)
+unfolding causes
+read-causes t f fs n r = rw (r .frames, reads-some (worldOf (view t)) f n (r .reads))
+
 new-causes : (t : Tables) (a : NewTurn t)
     → causes callStep t ≡ cause 1 (broken t) ∷ cause 14 false ∷ instructionCauses 1 (worldOf (view t)) (view t .objects) (a .frame) (a .others) (a .reads .theClass) (New (a .class))
-unfolding causes
-new-causes t a =
-    rw (a .report, a .turns .frames, reads-some (worldOf (view t)) (a .frame) (a .reads) (a .turns .reads), a .makes)
+new-causes t a = read-causes t (a .frame) (a .others) (a .reads) (a .turns) ∙ rw (a .report, a .makes)
 
 pub share-refused : (c : Call) (t : Tables) → Asks c t → 192 ≤ madeBy 1 (view t .objects) → Unapplied (earlier wordShare (causes c t)) → numberOf (perform c t .answer) ≡ wordShare
 share-refused callBoot t a m h = absurd a
