@@ -24,3 +24,4 @@ pub mod Waiting
 pub mod Rates
 pub mod HiddenFields
 pub mod FieldsLast
+pub mod Share

@@ -56,7 +56,7 @@ step-kept t h = shown Refused stepRows (Kept t) t step-whole (λ w. (refl, λ k 
         let y : progressed 0 r (a .0) ≡ g .rows = cc (a .2) in (
           ap (λ (z : Rows). z .report) (sym y),
           λ k q n.
-              ok-at (Advances (Loops (worldOf r) f) (r .objects) (f ∷ fs)) _ (step-advances 0 (worldOf r) (r .objects) f fs) (a .0) (a .1) .left (same-result 0 k (a .0 .result) (x ∙ q) .0)
+              ok-at (Advances (Loops (worldOf r) f) 0 (r .objects) (f ∷ fs)) _ (step-advances 0 (worldOf r) (r .objects) f fs) (a .0) (a .1) .left (same-result 0 k (a .0 .result) (x ∙ q) .0)
               (ap (λ (z : Rows). z .quote) y ∙ n),
         )
 
@@ -88,7 +88,7 @@ ran-moves t k = shown Refused stepRows (λ a z. a ≡ Ran k → framesIn k z ≡
           frame = f;
           others = fs;
           task = q;
-          loops = ok-at (Advances (Loops (worldOf r) f) (r .objects) (f ∷ fs)) _ (step-advances j (worldOf r) (r .objects) f fs) (o .0) (o .1) .moved (n .0)
+          loops = ok-at (Advances (Loops (worldOf r) f) j (r .objects) (f ∷ fs)) _ (step-advances j (worldOf r) (r .objects) f fs) (o .0) (o .1) .moved (n .0)
               (sym (is (o .0)) ∙ ap (framesIn j) y ∙ z ∙ q);
         })
 
