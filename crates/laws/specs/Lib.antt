@@ -47,3 +47,4 @@ pub mod Refused
 pub mod Ints
 pub mod Quotients
 pub mod Rates
+pub mod FileRules
