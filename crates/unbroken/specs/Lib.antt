@@ -25,3 +25,4 @@ pub mod Waiting
 pub mod Rates
 pub mod HiddenFields
 pub mod FieldsLast
+pub mod Branches
