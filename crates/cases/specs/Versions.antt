@@ -68,7 +68,7 @@ versions =
     ∷ case 2 (ready ++ callDefine 1 (later3 (1 ∷ []) hops 5 (point 3 1 ++ point 6 1 ++ point 9 1 ++ point 12 1 ++ point 15 1)) ∷ callStart 0 1 10 20 3 ∷ callRun 6 ∷ []) [] [] (0 ∷ []) callStep (line 0 2 0 (pos 0)) (0 ∷ []) false
     -- notes on arguments in their order
     ∷ case 3 (ready ++ callDefine 1 (later3 (16 ∷ 17 ∷ []) ((0x19 ∷ 0 ∷ 0x19 ∷ 1 ∷ 0x19 ∷ 2 ∷ []) ++ invoke 10 (12 ∷ 13 ∷ []) 1 ++ (0xAC ∷ [])) 0 []) ∷ []) [] (subtype 1 16 12 ∷ subtype 1 17 13 ∷ []) []
-        (callDefine 1 (plain 10 2)) (no 4) [] true
+    (callDefine 1 (plain 10 2)) (no 4) [] true
     -- a map lists its operands from the lowest, and what flows into them is noted from the lowest
     ∷ case 4 (ready ++ callDefine 1 stacked ∷ []) [] (subtype 1 16 12 ∷ subtype 1 17 13 ∷ []) [] (callDefine 1 (plain 10 2)) (no 4) [] true
     -- every local has its type at a map

@@ -93,7 +93,7 @@ method-bad bs v left rest a h =
     let x : methodsIn (a .version .value) (a .methodCount .value) (a .methodCount .more) ≡ none = rw (a .named) (methods-stop v (a .before) (a .methodCount .value) left (a .methodCount .more) (a .methods) (a .counted) (a .read) (rw (a .here) h)) in
     none-past _ _ (λ _ _. none-at _ _ (a .version) (a .isVersion) (none-past _ _ (λ _ _. none-at _ _ (a .size) (a .isSize) (none-past _ _ (λ _ _.
     none-at _ _ (a .own) (a .isOwn) (none-at _ _ (a .super) (a .isSuper) (none-at _ _ (a .fieldCount) (a .isFieldCount) (none-at _ _ (a .fields) (a .isFields)
-    (none-at _ _ (a .methodCount) (a .isMethodCount) (none-on _ _ x)))))))))) 
+    (none-at _ _ (a .methodCount) (a .isMethodCount) (none-on _ _ x))))))))))
 
 -- a name is two bytes
 name-more : (k high low : ℕ) (rest : List ℕ) (x : Got ℕ) → name k (high ∷ low ∷ rest) ≡ some x → x .more ≡ rest

@@ -48,3 +48,4 @@ pub mod Ints
 pub mod Quotients
 pub mod Rates
 pub mod FileRules
+pub mod Versions
