@@ -10,6 +10,7 @@ mod looking; // looking.rt: whose turn it is to be looked at, and where
 mod agreement; // agreement.rt: the test of agreement
 mod numbers; // numbers.rt: the numbers of rows
 mod linking; // linking.rt: the links of rows between nodes
+mod order; // order.rt: which of two rows goes first
 mod layers; // layers.rt: the search backward from where walks end
 mod choosing; // choosing.rt: the best of the chains found
 mod singles; // singles.rt: rows that break agreement by themselves
