@@ -5,12 +5,12 @@ use mathlib.Core.Option.{Option, none}
 use mathlib.Core.List.{List, [], _∷_, _++_}
 use Prim.Native.Nat.{ℕ, _+_, _*_, _<_}
 use lib.ListN.{getD}
-use lib.Dec.{ltb}
 use Rattle.definition.specs.Numbers.{shortRange, tieLimit, subtypeLimit, countCache, countTies, countSubtypes, tieNumbersCell, subtypeNumbersCell}
 use Rattle.definition.specs.Lists.{rows}
 use Rattle.definition.specs.Tables.{numberAt, tieAt, subtypeAt, rowNumbers}
 use Rattle.definition.specs.Broken.{numbered}
 use Rattle.definition.specs.Reasons.{Link, tieLinks, subtypeLinks, reasonOver}
+use Rattle.laws.specs.Earlier.{rowBefore}
 use Rattle.constraints.specs.Agreement.{atMost, superIn, entriesIn}
 
 -- the most links there are
@@ -62,6 +62,6 @@ subtypeLinksIn counts subtypes = let n = atMost subtypeLimit (getD counts countS
 -- why the store of these tables doesn't agree; none where it does, or where the rows' numbers aren't in turn
 unfoldable pub reasonIn : List ℕ → List ℕ → List ℕ → List ℕ → List ℕ → Option (List ℕ)
 reasonIn supers counts cache ties subtypes = elim (numbersFit counts) [
-  | true ↦ reasonOver ltb (superIn supers) (entriesIn cache (getD counts countCache 0)) (tieLinksIn counts ties) (tieLinksIn counts ties ++ subtypeLinksIn counts subtypes)
+  | true ↦ reasonOver rowBefore (superIn supers) (entriesIn cache (getD counts countCache 0)) (tieLinksIn counts ties) (tieLinksIn counts ties ++ subtypeLinksIn counts subtypes)
   | false ↦ none
 ]

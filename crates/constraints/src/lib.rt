@@ -1,5 +1,5 @@
 // Posting ties and subtype constraints, the test of agreement, and why it fails.
-mod posting; // posting.rt: rows added to the tables of ties and of subtype constraints
+mod adding; // adding.rt: rows added to the tables of ties and of subtype constraints
 mod joining; // joining.rt: places joined into lists by a key
 mod numbering; // numbering.rt: the requests of a store as numbers and as nodes
 mod grouping; // grouping.rt: groups of tied requests
@@ -10,16 +10,17 @@ mod looking; // looking.rt: whose turn it is to be looked at, and where
 mod agreement; // agreement.rt: the test of agreement
 mod numbers; // numbers.rt: the numbers of rows
 mod linking; // linking.rt: the links of rows between nodes
+mod order; // order.rt: which of two rows goes first
 mod layers; // layers.rt: the search backward from where walks end
 mod choosing; // choosing.rt: the best of the chains found
 mod singles; // singles.rt: rows that break agreement by themselves
 mod reasons; // reasons.rt: why a store doesn't agree
 
+pub use adding::add_tie;
+pub use adding::post_note;
+pub use adding::subtype_known;
+pub use adding::tie_known;
 pub use agreement::agreed;
 pub use agreement::check;
 pub use numbers::numbers_fit;
-pub use posting::add_tie;
-pub use posting::post_note;
-pub use posting::subtype_known;
-pub use posting::tie_known;
 pub use reasons::reason;

@@ -10,7 +10,7 @@ use crate::numbering::list_classes;
 use crate::numbering::number_nodes;
 use crate::numbering::number_places;
 use crate::numbers::numbers_fit;
-use crate::singles::lowest_alone;
+use crate::singles::first_alone;
 use cells::at16;
 use cells::put16;
 use definition::numbers::CACHE_LIMIT;
@@ -47,7 +47,7 @@ fn search_links(
     requires { ⌜ (cached ≤ cacheLimit) × (turned ≤ count) × InRange (now froms) (now tos) count × Sole (now froms) (now tos) (now labels) count × (length (now best) ≡ placeLimit) ⌝ }
     ensures { λ r. ⌜ Holds (now (best .exit)) r × BestOf (now (froms .entry)) (now (tos .entry)) (now (labels .entry)) turned count (now (classes .entry)) cached (superIn (now (supers .entry))) (held (now (best .exit)) r) ⌝ }
 {
-    let tie = lowest_alone(
+    let tie = first_alone(
         supers,
         classes,
         cached,
@@ -59,7 +59,7 @@ fn search_links(
         best,
         NO_SIZE,
     );
-    let row = lowest_alone(
+    let row = first_alone(
         supers,
         classes,
         cached,

@@ -8,8 +8,8 @@ use Rattle.constraints.specs.Nodes.{placeLimit}
 use Rattle.constraints.specs.Agreement.{superIn}
 use Rattle.constraints.specs.Choosing.{held, OneSize, Alone}
 use Rattle.constraints.proofs.Alones.{alone-none, alone-next, alone-end}
-use Rattle.constraints.proofs.singles.lowest_alone.Statement.{statement}
-use Rattle.constraints.proofs.singles.lowest_alone.Tie as tie
+use Rattle.constraints.proofs.singles.first_alone.Statement.{statement}
+use Rattle.constraints.proofs.singles.first_alone.Tie as tie
 
 abbrev Inv-loop : tie.InvT-loop
 Inv-loop supers classes cached froms tos labels count only best₀ size kept₀ e₀ best kept e =
@@ -36,5 +36,5 @@ same-length c = c .before .loop .inv .2 ∙ sym (c .before .before .before .befo
 returns : tie.Need-returns Inv-loop μ-loop
 returns c = (c .before .loop .inv .1, alone-end _ _ _ _ _ _ _ _ _ _ _ (c .before .loop .inv .0) (c .loop-test .left) (c .before .loop .inv .3))
 
-pub lowest-alone-spec : {M : Type 1} → statement M
-lowest-alone-spec = tie.close (tie.spec Inv-loop μ-loop loop-holds consider-alone-requires (λ c. search needs) (λ c. search needs) loop-again same-length returns)
+pub first-alone-spec : {M : Type 1} → statement M
+first-alone-spec = tie.close (tie.spec Inv-loop μ-loop loop-holds consider-alone-requires (λ c. search needs) (λ c. search needs) loop-again same-length returns)

@@ -9,8 +9,8 @@ use Rattle.definition.specs.Tables.{subtypeAt}
 use Rattle.layout.specs.Places.{any-hit, any-on, any-end}
 use Rattle.constraints.specs.Posting.{note}
 use Rattle.constraints.proofs.Rows.{any-start}
-use Rattle.constraints.proofs.posting.subtype_known.Statement.{statement}
-use Rattle.constraints.proofs.posting.subtype_known.Tie as tie
+use Rattle.constraints.proofs.adding.subtype_known.Statement.{statement}
+use Rattle.constraints.proofs.adding.subtype_known.Tie as tie
 
 abbrev Inv-loop : tie.InvT-loop
 Inv-loop subtypes count loader low high n i₀ i = (i ≤ n)

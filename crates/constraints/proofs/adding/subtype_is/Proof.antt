@@ -2,8 +2,8 @@
 use mathlib.Core.Path.{sym, _∙_}
 use borrow.Author.Needs.{needs}
 use Rattle.constraints.proofs.Posted.{subtype-named, subtype-not}
-use Rattle.constraints.proofs.posting.subtype_is.Statement.{statement}
-use Rattle.constraints.proofs.posting.subtype_is.Tie as tie
+use Rattle.constraints.proofs.adding.subtype_is.Statement.{statement}
+use Rattle.constraints.proofs.adding.subtype_is.Tie as tie
 
 returns : tie.Need-returns
 returns c =

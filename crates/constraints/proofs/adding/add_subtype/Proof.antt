@@ -2,8 +2,8 @@
 use mathlib.Core.Path.{sym, _∙_}
 use borrow.Author.Needs.{needs}
 use Rattle.constraints.proofs.Posted.{subtype-there, subtype-new}
-use Rattle.constraints.proofs.posting.add_subtype.Statement.{statement}
-use Rattle.constraints.proofs.posting.add_subtype.Tie as tie
+use Rattle.constraints.proofs.adding.add_subtype.Statement.{statement}
+use Rattle.constraints.proofs.adding.add_subtype.Tie as tie
 
 returns : tie.Need-returns
 returns c =

@@ -2,8 +2,8 @@
 use mathlib.Core.Path.{sym, _∙_}
 use borrow.Author.Needs.{needs}
 use Rattle.constraints.proofs.Posted.{tie-alone, tie-int, tie-there, tie-new}
-use Rattle.constraints.proofs.posting.add_tie.Statement.{statement}
-use Rattle.constraints.proofs.posting.add_tie.Tie as tie
+use Rattle.constraints.proofs.adding.add_tie.Statement.{statement}
+use Rattle.constraints.proofs.adding.add_tie.Tie as tie
 
 returns : tie.Need-returns
 returns c = tie-alone _ _ _ _ _ _ (c .if1 .taken) (c .before .from16 .ensures .0)
