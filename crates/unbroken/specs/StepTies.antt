@@ -121,7 +121,7 @@ module _ (task : ℕ) (w : World) (os : Objects) (f : Frame) (fs : List Frame) (
       then Q _ _ (λ e x. then Q _ _ (λ d y. then Q _ _ (λ v z. then Q _ _ (λ _ _. then Q _ _ (λ _ _. then Q _ _ (λ _ _. then Q _ _ (λ _ _. then Q _ _ (λ _ _. field-posts c n t e d x y v z))))))))
   instruction-posts (Invokevirtual c s) = let Q = Posts (tiesWith w k (signatureTypes s) (declaresMethod w k c s)) in
       then Q _ _ (λ e x. then Q _ _ (λ d y. then Q _ _ (λ v z. then Q _ _ (λ _ _. then Q _ _ (λ _ _. then Q _ _ (λ _ _. then Q _ _ (λ _ _. then Q _ _ (λ _ _. call-posts c s e d x y _ v z))))))))
-  instruction-posts (New c) = then (Posts []) _ _ (λ _ _. then (Posts []) _ _ (λ _ _. none-posted))
+  instruction-posts (New c) = then (Posts []) _ _ (λ _ _. then (Posts []) _ _ (λ _ _. then (Posts []) _ _ (λ _ _. none-posted)))
   instruction-posts (Branch c p) = then (Posts []) _ _ (λ _ _. none-posted)
   instruction-posts (Return kind) = then (Posts []) _ _ (λ _ _. then (Posts []) _ _ (λ p _. then (Posts []) _ _ (λ _ _. gives fs (p .top))))
 
