@@ -120,7 +120,7 @@ fn is_readable(
     if !are_within(counts) {
         return false;
     }
-    if !constraints::numbers_fit(counts) {
+    if !rows::numbers_fit(counts) {
         return false;
     }
     if !sources_fit(counts, classes, kept) {
