@@ -16,10 +16,11 @@ use Rattle.definition.specs.Tables.{entryAt, tieAt, subtypeAt, numberAt}
 use Rattle.definition.specs.Reasons.{tieLinks, subtypeLinks, reasonOver, tries, listed}
 use Rattle.laws.specs.Earlier.{rowBefore}
 use Rattle.layout.specs.Places.{rows-length}
+use Rattle.rows.specs.Numbers.{numbersFit}
 use Rattle.constraints.specs.Agreement.{atMost, superIn}
 use Rattle.constraints.specs.Nodes.{placeLimit, AllNumbered, NodesOf, ClassesOf}
 use Rattle.constraints.specs.Choosing.{noSize, held, Holds, BestOf}
-use Rattle.constraints.specs.Linking.{Linked, Labelled, numbersFit, reasonIn}
+use Rattle.constraints.specs.Linking.{Linked, Labelled, reasonIn}
 use Rattle.constraints.proofs.Bridges.{best-reason}
 
 -- a count that is held to a limit is no more than it was

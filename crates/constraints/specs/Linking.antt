@@ -1,25 +1,21 @@
 -- The links of a store's rows between nodes: each tie forth, then each tie back, then each subtype constraint from its lower name to its higher.
 use mathlib.Core.Path.{_≡_}
-use mathlib.Core.Bool.{Bool, true, false}
+use mathlib.Core.Bool.{true, false}
 use mathlib.Core.Option.{Option, none}
-use mathlib.Core.List.{List, [], _∷_, _++_}
-use Prim.Native.Nat.{ℕ, _+_, _*_, _<_}
+use mathlib.Core.List.{List, _++_}
+use Prim.Native.Nat.{ℕ, _+_, _<_}
 use lib.ListN.{getD}
-use Rattle.definition.specs.Numbers.{shortRange, tieLimit, subtypeLimit, countCache, countTies, countSubtypes, tieNumbersCell, subtypeNumbersCell}
+use Rattle.definition.specs.Numbers.{tieLimit, subtypeLimit, countCache, countTies, countSubtypes, tieNumbersCell, subtypeNumbersCell}
 use Rattle.definition.specs.Lists.{rows}
-use Rattle.definition.specs.Tables.{numberAt, tieAt, subtypeAt, rowNumbers}
-use Rattle.definition.specs.Broken.{numbered}
+use Rattle.definition.specs.Tables.{numberAt, tieAt, subtypeAt}
 use Rattle.definition.specs.Reasons.{Link, tieLinks, subtypeLinks, reasonOver}
 use Rattle.laws.specs.Earlier.{rowBefore}
+use Rattle.rows.specs.Numbers.{numbersFit}
 use Rattle.constraints.specs.Agreement.{atMost, superIn, entriesIn}
 
 -- the most links there are
 abbrev pub linkLimit : ℕ
 linkLimit = tieLimit + tieLimit + subtypeLimit
-
--- a number above those that rows can have
-abbrev pub noNumber : ℕ
-noNumber = 2 * shortRange
 
 -- n cells from `from` on of a table stand from `at` on in another, which has the rest as it was
 pub record Copied (source : List ℕ) (from n : ℕ) (old new : List ℕ) (at : ℕ) : Type 0 where
@@ -40,16 +36,6 @@ pub record Labelled (counts : List ℕ) (noted tied : ℕ) (labels : List ℕ) :
   pub forth : (i : ℕ) → i < tied → getD labels i 0 ≡ numberAt tieNumbersCell counts i
   pub back : (i : ℕ) → i < tied → getD labels (tied + i) 0 ≡ numberAt tieNumbersCell counts i
   pub up : (i : ℕ) → i < noted → getD labels (tied + tied + i) 0 ≡ numberAt subtypeNumbersCell counts i
-
--- The numbers of the used rows are in turn
-unfoldable pub numbersFit : List ℕ → Bool
-numbersFit counts =
-    numbered (rowNumbers (rows (numberAt tieNumbersCell counts) (getD counts countTies 0) 0) (rows (numberAt subtypeNumbersCell counts) (getD counts countSubtypes 0) 0))
-
--- the number of the first of rows, or one that none has
-unfoldable pub standing : List ℕ → ℕ
-standing [] = noNumber
-standing (x ∷ xs) = x
 
 -- The links of the first rows of the tables, with their numbers
 

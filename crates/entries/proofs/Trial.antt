@@ -30,7 +30,8 @@ use Rattle.resolution.specs.Quick.{quickClass, quickBase}
 use Rattle.resolution.specs.Lookups.{superCell, cell-none, cell-some}
 use Rattle.constraints.specs.Agreement.{superIn, entriesIn, tiesIn, edgesIn, newOf, newIn}
 use Rattle.laws.specs.Options.{nth-last}
-use Rattle.constraints.specs.Linking.{numbersFit, reasonIn}
+use Rattle.rows.specs.Numbers.{numbersFit}
+use Rattle.constraints.specs.Linking.{reasonIn}
 use Rattle.constraints.specs.Laws.{within, names-store}
 use Rattle.entries.specs.World.{worldIn, numbersIn, baseWith, Searchable, Loadable}
 use Rattle.entries.specs.Entering.{Entered}

@@ -7,10 +7,10 @@ use Rattle.definition.specs.Lists.{any, rows}
 use Rattle.definition.specs.Loading.{subtypeIs}
 use Rattle.definition.specs.Tables.{subtypeAt}
 use Rattle.layout.specs.Places.{any-hit, any-on, any-end}
-use Rattle.constraints.specs.Posting.{note}
-use Rattle.constraints.proofs.Rows.{any-start}
-use Rattle.constraints.proofs.adding.subtype_known.Statement.{statement}
-use Rattle.constraints.proofs.adding.subtype_known.Tie as tie
+use Rattle.rows.specs.Posting.{note}
+use Rattle.rows.proofs.Posted.{any-start}
+use Rattle.rows.proofs.adding.subtype_known.Statement.{statement}
+use Rattle.rows.proofs.adding.subtype_known.Tie as tie
 
 abbrev Inv-loop : tie.InvT-loop
 Inv-loop subtypes count loader low high n i₀ i = (i ≤ n)

@@ -2,7 +2,7 @@
 use mathlib.Core.Path.{_≡_, refl, sym, _∙_}
 use mathlib.Core.Bool.{Bool, true, false, true≢false, _&&_, _||_}
 use mathlib.Core.List.{List, [], _∷_, _++_}
-use Prim.Native.Nat.{ℕ, _+_, _*_}
+use Prim.Native.Nat.{ℕ, _+_, _-_, _*_}
 use native.Mathlib.Omega.{arith}
 use lib.ListN.{length, getD}
 use lib.Dec.{eqb}
@@ -12,7 +12,11 @@ use Rattle.definition.specs.Constraints.{Tie, Subtype, tieIs, newTie}
 use Rattle.definition.specs.Loading.{subtypeIs, subtypeOf, newSubtypes}
 use Rattle.definition.specs.Verifier.{Note}
 use Rattle.definition.specs.Tables.{tie, tieAt, putTie, subtypeAt, putSubtype, putThree}
-use Rattle.constraints.specs.Posting.{newTieIn, note, newSubtypesIn, tiesAfter, subtypesAfter}
+use Rattle.rows.specs.Posting.{newTieIn, note, newSubtypesIn, tiesAfter, subtypesAfter}
+
+-- a search of n rows begins
+pub any-start : {A : Type 0} (f : A → Bool) (g : ℕ → A) (n m : ℕ) → n ≡ m → any f (rows g (n - 0) 0) ≡ any f (rows g m 0)
+any-start f g n m e = let z : n - 0 ≡ m = omega arith in rw z
 
 -- A row is the constraint
 

@@ -17,7 +17,7 @@ ghost use Rattle.definition.specs.Lists.{rows, any};
 ghost use Rattle.definition.specs.Constraints.{tieIs};
 ghost use Rattle.definition.specs.Loading.{subtypeIs};
 ghost use Rattle.definition.specs.Tables.{tieAt, subtypeAt};
-ghost use Rattle.constraints.specs.Posting.{newTieIn, newSubtypesIn, note, tiesAfter, subtypesAfter, noted, postNote};
+ghost use Rattle.rows.specs.Posting.{newTieIn, newSubtypesIn, note, tiesAfter, subtypesAfter, noted, postNote};
 
 // Two cells are equal to these two.
 fn are_equal(a: u16, b: u16, x: u16, y: u16) -> bool

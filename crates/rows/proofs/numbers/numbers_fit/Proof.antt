@@ -8,10 +8,10 @@ use Rattle.definition.specs.Numbers.{tieNumbersCell, subtypeNumbersCell}
 use Rattle.definition.specs.Broken.{inTurn}
 use Rattle.definition.specs.Lists.{rows}
 use Rattle.definition.specs.Tables.{numberAt}
-use Rattle.constraints.proofs.Turns.{next-is, next-isnt, next-there, turn-start, turn-tie, turn-subtype, turn-stop}
-use Rattle.constraints.specs.Linking.{noNumber, standing, numbersFit}
-use Rattle.constraints.proofs.numbers.numbers_fit.Statement.{statement}
-use Rattle.constraints.proofs.numbers.numbers_fit.Tie as tie
+use Rattle.rows.proofs.Turns.{next-is, next-isnt, next-there, turn-start, turn-tie, turn-subtype, turn-stop}
+use Rattle.rows.specs.Numbers.{noNumber, standing, numbersFit}
+use Rattle.rows.proofs.numbers.numbers_fit.Statement.{statement}
+use Rattle.rows.proofs.numbers.numbers_fit.Tie as tie
 
 abbrev Inv-loop : tie.InvT-loop
 Inv-loop counts ties subtypes ties-held subtypes-held t₀ s₀ k₀ tie₀ subtype₀ t s k tie subtype =

@@ -3,10 +3,10 @@ use mathlib.Core.Path.{sym}
 use native.Mathlib.Omega.{arith}
 use denote.Ref.{now}
 use borrow.Author.Needs.{needs}
-use Rattle.constraints.specs.Posting.{note}
-use Rattle.constraints.specs.Laws.{new-few, post-over, post-room}
-use Rattle.constraints.proofs.adding.post_note.Statement.{statement}
-use Rattle.constraints.proofs.adding.post_note.Tie as tie
+use Rattle.rows.specs.Posting.{note}
+use Rattle.rows.specs.Laws.{new-few, post-over, post-room}
+use Rattle.rows.proofs.adding.post_note.Statement.{statement}
+use Rattle.rows.proofs.adding.post_note.Tie as tie
 
 returns : tie.Need-returns
 returns c = sym (post-over _ _ _ _ (c .if1 .taken))

@@ -1,9 +1,9 @@
 -- Nothing is new where the constraint is there; else one row is written.
 use mathlib.Core.Path.{sym, _∙_}
 use borrow.Author.Needs.{needs}
-use Rattle.constraints.proofs.Posted.{subtype-there, subtype-new}
-use Rattle.constraints.proofs.adding.add_subtype.Statement.{statement}
-use Rattle.constraints.proofs.adding.add_subtype.Tie as tie
+use Rattle.rows.proofs.Posted.{subtype-there, subtype-new}
+use Rattle.rows.proofs.adding.add_subtype.Statement.{statement}
+use Rattle.rows.proofs.adding.add_subtype.Tie as tie
 
 returns : tie.Need-returns
 returns c =

@@ -7,9 +7,9 @@ use Rattle.definition.specs.Constraints.{tieIs}
 use Rattle.definition.specs.Lists.{any, rows}
 use Rattle.definition.specs.Tables.{tieAt}
 use Rattle.layout.specs.Places.{any-hit, any-on, any-end}
-use Rattle.constraints.proofs.Rows.{any-start}
-use Rattle.constraints.proofs.adding.tie_known.Statement.{statement}
-use Rattle.constraints.proofs.adding.tie_known.Tie as tie
+use Rattle.rows.proofs.Posted.{any-start}
+use Rattle.rows.proofs.adding.tie_known.Statement.{statement}
+use Rattle.rows.proofs.adding.tie_known.Tie as tie
 
 abbrev Inv-loop : tie.InvT-loop
 Inv-loop ties count one two name n i₀ i = (i ≤ n) ×

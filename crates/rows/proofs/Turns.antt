@@ -13,7 +13,7 @@ use Rattle.definition.specs.Lists.{rows}
 use Rattle.definition.specs.Tables.{numberAt}
 use Rattle.definition.specs.Broken.{next, others, inTurn, numbered}
 use Rattle.layout.specs.Places.{rows-length, rows-none, rows-step, rows-start}
-use Rattle.constraints.specs.Linking.{noNumber, standing, numbersFit}
+use Rattle.rows.specs.Numbers.{noNumber, standing, numbersFit}
 
 -- a row that has it is one of them
 pub next-there : (k : ℕ) (g : ℕ → ℕ) (n i : ℕ) → next k (rows g (n - i) i) ≡ true → i < n

@@ -5,9 +5,9 @@ use denote.Ref.{now}
 use lib.ListN.{List·getD-eq-default}
 use borrow.Author.Needs.{needs}
 use Rattle.definition.specs.Tables.{numberAt}
-use Rattle.constraints.proofs.Turns.{standing-there, standing-past}
-use Rattle.constraints.proofs.numbers.number_at.Statement.{statement}
-use Rattle.constraints.proofs.numbers.number_at.Tie as tie
+use Rattle.rows.proofs.Turns.{standing-there, standing-past}
+use Rattle.rows.proofs.numbers.number_at.Statement.{statement}
+use Rattle.rows.proofs.numbers.number_at.Tie as tie
 
 add-wide16 : tie.Need-add-wide16
 add-wide16 c = omega (arith, c .before .before .pre .1 .here _ (c .if1 .taken))

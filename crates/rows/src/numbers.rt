@@ -13,7 +13,7 @@ ghost use Rattle.definition.specs.Numbers.{shortRange};
 ghost use Rattle.definition.specs.Lists.{rows};
 ghost use Rattle.definition.specs.Tables.{numberAt};
 ghost use Rattle.cells.specs.Held.{Held};
-ghost use Rattle.constraints.specs.Linking.{standing, numbersFit};
+ghost use Rattle.rows.specs.Numbers.{standing, numbersFit};
 
 // What stands where there is no row: a number that no row has.
 const NO_NUMBER: usize = 2 * SHORT_RANGE as usize;

@@ -1,9 +1,9 @@
 -- A row is a tie on another name, a tie of the loaders as given, or perhaps one of them turned round.
 use mathlib.Core.Path.{sym, _∙_}
 use borrow.Author.Needs.{needs}
-use Rattle.constraints.proofs.Posted.{tie-not, tie-straight, tie-turned}
-use Rattle.constraints.proofs.adding.tie_is.Statement.{statement}
-use Rattle.constraints.proofs.adding.tie_is.Tie as tie
+use Rattle.rows.proofs.Posted.{tie-not, tie-straight, tie-turned}
+use Rattle.rows.proofs.adding.tie_is.Statement.{statement}
+use Rattle.rows.proofs.adding.tie_is.Tie as tie
 
 returns : tie.Need-returns
 returns c = sym (tie-not _ _ _ _ _ (λ e. c .if1 .taken (c .before .at163 .ensures ∙ e)))

@@ -1,9 +1,9 @@
 -- No tie is new where the loaders are one, the name is int or the tie is there; else one row is written.
 use mathlib.Core.Path.{sym, _∙_}
 use borrow.Author.Needs.{needs}
-use Rattle.constraints.proofs.Posted.{tie-alone, tie-int, tie-there, tie-new}
-use Rattle.constraints.proofs.adding.add_tie.Statement.{statement}
-use Rattle.constraints.proofs.adding.add_tie.Tie as tie
+use Rattle.rows.proofs.Posted.{tie-alone, tie-int, tie-there, tie-new}
+use Rattle.rows.proofs.adding.add_tie.Statement.{statement}
+use Rattle.rows.proofs.adding.add_tie.Tie as tie
 
 returns : tie.Need-returns
 returns c = tie-alone _ _ _ _ _ _ (c .if1 .taken) (c .before .from16 .ensures .0)

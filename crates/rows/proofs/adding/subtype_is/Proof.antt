@@ -1,9 +1,9 @@
 -- A row is the constraint if both names and the loader are.
 use mathlib.Core.Path.{sym, _∙_}
 use borrow.Author.Needs.{needs}
-use Rattle.constraints.proofs.Posted.{subtype-named, subtype-not}
-use Rattle.constraints.proofs.adding.subtype_is.Statement.{statement}
-use Rattle.constraints.proofs.adding.subtype_is.Tie as tie
+use Rattle.rows.proofs.Posted.{subtype-named, subtype-not}
+use Rattle.rows.proofs.adding.subtype_is.Statement.{statement}
+use Rattle.rows.proofs.adding.subtype_is.Tie as tie
 
 returns : tie.Need-returns
 returns c =

@@ -1,7 +1,7 @@
 -- Two cells are equal to two others just if each is equal to its own.
 use borrow.Author.Tests.{eq-eqb, ne-eqb}
-use Rattle.constraints.proofs.adding.are_equal.Statement.{statement}
-use Rattle.constraints.proofs.adding.are_equal.Tie as tie
+use Rattle.rows.proofs.adding.are_equal.Statement.{statement}
+use Rattle.rows.proofs.adding.are_equal.Tie as tie
 
 returns : tie.Need-returns
 returns c = rw (eq-eqb _ _ (c .if1 .taken))
