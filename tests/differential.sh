@@ -23,7 +23,7 @@ mirrored() { # TESTS WORDS...: the tests that the words choose
 mirrored 4 || { cat "$log"; exit 1; }
 # which chain a clash lists is left to the library
 MIRROR_FAULT=another-chain mirrored 4 || { cat "$log"; exit 1; }
-tables="mirror/src/faults.rs mirror/src/mapped.rs mirror/src/rates.rs mirror/src/hidden.rs mirror/src/listed.rs mirror/src/tried.rs src/gen/plain.rs"
+tables="mirror/src/faults.rs mirror/src/mapped.rs mirror/src/rates.rs mirror/src/hidden.rs mirror/src/listed.rs mirror/src/shared.rs mirror/src/tried.rs src/gen/plain.rs"
 # shellcheck disable=SC2086
 faults=$(sed -n 's/^    ("\([a-z-]*\)",.*/\1/p' $tables)
 # the list has every fault that the mirror can have

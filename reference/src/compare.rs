@@ -22,12 +22,14 @@ use crate::gen::list::list;
 use crate::gen::rng::Rng;
 use crate::gen::loops::loops;
 use crate::gen::rates;
+use crate::gen::shares::{shared, shares};
 use crate::gen::stuck::stuck;
 use crate::gen::swept::swept;
 use crate::gen::{cases, counts, javas, large, listed, mapped, passed, Call, Trial, CALLS};
 use crate::host::{self, expected, CELLS};
 use crate::placed::misplaced;
-use crate::store::{Store, LENGTHS, MOST_ROWS};
+use crate::sharing::keeps_room;
+use crate::store::{Store, LENGTHS, MOST_ROWS, QUOTE};
 use crate::tally::{Tally, ENDS_FROM_A_BOOT, FROM_A_BOOT, ONLY_DAMAGE};
 
 /// Damaged stores and files that go with a seed.
@@ -115,8 +117,9 @@ fn tries(load: &Call, turn: usize) -> Vec<Call> {
     cells.into_iter().filter_map(|cells| load.tried(cells)).collect()
 }
 
-/// What demand 3 says of a store from a boot, and what the call answered there.
-fn sound(store: &Store, reply: Reply, label: &str) {
+/// What demand 3 says of a store from a boot, what the call answered there, and the room that is kept for quotes.
+fn sound(store: &Store, call: &Call, reply: Reply, label: &str) {
+    assert!(keeps_room(call, reply, store), "{label}: {reply:?} with {} objects of the quote's", store.made_by(QUOTE));
     let Some(classes) = unbroken(store) else {
         panic!("{label}: broken after {reply:?}")
     };
@@ -141,7 +144,7 @@ impl Comparison {
             }
             let before = ours.clone();
             let reply = both(&mut ours, &mut theirs, call, CELLS, &label);
-            sound(&theirs, reply, &label);
+            sound(&theirs, call, reply, &label);
             self.booted.count(&before, call, reply, &ours);
         }
     }
@@ -171,6 +174,7 @@ impl Comparison {
         if seed % STORES == 0 {
             self.reboot(&store, &list(seed, 40), &format!("damage {seed}, booted"));
             self.reboot(&store, &graphs(seed, 10), &format!("damage {seed}, booted for objects"));
+            self.reboot(&store, &shared(seed, 10), &format!("damage {seed}, booted for shares"));
         }
     }
 
@@ -182,7 +186,7 @@ impl Comparison {
             let reply = both(&mut ours, &mut theirs, call, CELLS, &label);
             if store.lengths() == LENGTHS {
                 assert!(reply == from_zeros, "{label}: {call:?} answers {reply:?}, and {from_zeros:?} from zeros");
-                sound(&theirs, reply, &label);
+                sound(&theirs, call, reply, &label);
                 self.rebooted += u64::from(at > 0);
             }
         }
@@ -207,6 +211,7 @@ impl Comparison {
         self.play(&list(seed, 120), &format!("list {seed}"));
         self.play(&chains(seed, 30), &format!("chains {seed}"));
         self.play(&graphs(seed, 50), &format!("graphs {seed}"));
+        self.play(&shared(seed, 30), &format!("shared {seed}"));
         (STORES * seed..STORES * (seed + 1)).for_each(|seed| self.damage(seed));
         for seed in CLASHES * seed..CLASHES * (seed + 1) {
             let (store, load) = clash(seed);
@@ -218,7 +223,7 @@ impl Comparison {
 
     /// What needs no seed.
     fn fixed(&mut self) {
-        for (at, trial) in cases::cases().iter().chain(&swept()).chain(&loops()).chain(&rates::rates()).chain(&hidden()).chain(&listed::listed()).enumerate() {
+        for (at, trial) in cases::cases().iter().chain(&swept()).chain(&loops()).chain(&rates::rates()).chain(&hidden()).chain(&listed::listed()).chain(&shares()).enumerate() {
             self.play(trial, &format!("case {at}"));
         }
         for seed in 0..4 {
@@ -313,6 +318,7 @@ impl Comparison {
             demand(tally.passing.unpassed().is_empty(), format!("calls {what} never had {:?}", tally.passing.unpassed()));
             demand(tally.hiding.unmet().is_empty(), format!("accesses {what} never met {:?}", tally.hiding.unmet()));
         }
+        demand(self.booted.sharing.unmet().is_empty(), format!("starts and news from a boot never met {:?}", self.booted.sharing.unmet()));
         demand(self.booted.passing.unmet().is_empty(), format!("calls from a boot never met {:?}", self.booted.passing.unmet()));
         demand(self.booted.hiding.undone().is_empty(), format!("no define from a boot {:?}", self.booted.hiding.undone()));
         demand(self.misshapen.iter().all(|&calls| calls > 0), format!("calls on misshapen tables: {:?}", self.misshapen));

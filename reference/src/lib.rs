@@ -21,6 +21,7 @@ pub mod passing;
 pub mod placed;
 pub mod reason;
 pub mod script;
+pub mod sharing;
 pub mod signature;
 pub mod step;
 pub mod store;

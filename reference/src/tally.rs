@@ -11,6 +11,7 @@ use crate::gen::{Call, CALLS};
 use crate::hidden::Hiding;
 use crate::passing::Passing;
 use crate::reason::chain;
+use crate::sharing::Sharing;
 use crate::step::{instruction_of, take_step};
 use crate::store::{cell, frame_base, Store, FREE};
 
@@ -19,8 +20,8 @@ pub const FROM_A_BOOT: [(&str, &[usize]); 10] = [
     ("boot", &[0]),
     ("define", &[0, 2, 3, 4, 5, 6, 9, 10, 15]),
     ("record", &[0, 3, 4, 9, 10, 13]),
-    ("start", &[0, 3, 5, 7, 10, 12]),
-    ("step", &[0, 5, 7, 9, 10, 11, 17]),
+    ("start", &[0, 3, 5, 7, 10, 12, 18]),
+    ("step", &[0, 5, 7, 9, 10, 11, 17, 18]),
     ("run", &[0, 3]),
     ("drop", &[0, 3]),
     ("sweep", &[0]),
@@ -43,7 +44,7 @@ pub const ONLY_DAMAGE: [(&str, &[usize]); 10] = [
 ];
 
 /// How runs end on lists from a boot; damage brings word 14 too.
-pub const ENDS_FROM_A_BOOT: [usize; 9] = [5, 7, 9, 10, 11, 17, IDLE, RAN, FINISHED];
+pub const ENDS_FROM_A_BOOT: [usize; 10] = [5, 7, 9, 10, 11, 17, 18, IDLE, RAN, FINISHED];
 
 #[derive(Clone)]
 pub struct Tally {
@@ -67,6 +68,8 @@ pub struct Tally {
     pub hiding: Hiding,
     /// What calls met.
     pub passing: Passing,
+    /// What starts and news met of the report's share.
+    pub sharing: Sharing,
 }
 
 /// What a chain that breaks agreement may have, and the test for it.
@@ -138,6 +141,7 @@ impl Default for Tally {
             reasons: [0; REASONS.len()],
             hiding: Hiding::default(),
             passing: Passing::default(),
+            sharing: Sharing::default(),
         }
     }
 }
@@ -173,6 +177,7 @@ impl Tally {
         let number = reply.refusal().map_or(0, |refusal| usize::from(refusal.number()));
         self.words[call.kind()][number] += 1;
         self.hiding.count_define(before, call, reply);
+        self.sharing.count(call, reply, after);
         match reply {
             Reply::Stepped(answer) => {
                 self.steps[ending(answer)] += 1;
@@ -242,6 +247,7 @@ impl Tally {
         (0..REASONS.len()).for_each(|what| self.reasons[what] += other.reasons[what]);
         self.hiding.add(&other.hiding);
         self.passing.add(&other.passing);
+        self.sharing.add(&other.sharing);
     }
 
     /// The words given to a call, by number; 0 is accepted.
@@ -301,7 +307,7 @@ impl fmt::Display for Tally {
         for ((what, _), chains) in REASONS.iter().zip(self.reasons) {
             writeln!(f, "   chains with {what:<28}{chains:>6}")?;
         }
-        write!(f, "{}{}", self.hiding, self.passing)?;
+        write!(f, "{}{}{}", self.hiding, self.passing, self.sharing)?;
         writeln!(f, "   objects freed{:>33}\n   objects in freed rows{:>25}", self.freed, self.reused)?;
         writeln!(f, "   runs of 1,000 steps and more{:>18}", self.long_runs)
     }

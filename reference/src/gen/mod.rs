@@ -30,6 +30,7 @@ pub mod rates;
 pub mod reach;
 pub mod rng;
 pub mod scripts;
+pub mod shares;
 pub mod spoils;
 pub mod stuck;
 pub mod swept;
