@@ -79,15 +79,13 @@ fn differences(one: &Store, other: &Store) -> Vec<&'static str> {
 /// What a list holds before a try: no row's number.
 const UNLISTED: u16 = 0xEEEE;
 
-/// How many rows the library listed. Which chain it lists is left to it, but on a clash the chain must break agreement, and otherwise nothing is
-/// listed; the list past the chain stays as it was.
-fn listed(call: &Call, store: &Store, reply: Reply, list: &[u16], label: &str) -> usize {
-    let rows = list.iter().take_while(|&&row| row != UNLISTED).count();
-    let (chain, rest) = list.split_at(rows);
-    assert!(rest.iter().all(|&row| row == UNLISTED), "{label}: {call:?} differs: it lists past its chain {chain:?}");
-    let is_right = if let Reply::Clashed(_) = reply { call.is_reason(store, chain) } else { rows == 0 };
-    assert!(is_right, "{label}: {call:?} differs: it lists {chain:?}, which is no reason");
-    rows
+/// The lists must be the same, cell for cell. On a clash the first cells are a chain that breaks agreement, by its definition alone; otherwise nothing is
+/// listed, and the list past the chain stays as it was.
+fn same_list(call: &Call, store: &Store, reply: Reply, lists: [&[u16]; 2], label: &str) {
+    let chains = lists.map(|list| list.split(|&row| row == UNLISTED).next().unwrap_or(&[]));
+    let is_right = if let Reply::Clashed(_) = reply { call.is_reason(store, chains[0]) } else { chains[0].is_empty() };
+    assert!(is_right, "{label}: {call:?} lists {:?}, which is no reason", chains[0]);
+    assert!(lists[0] == lists[1], "{label}: {call:?} differs: it lists {:?}, not {:?}", chains[1], chains[0]);
 }
 
 /// Makes the call on both stores, which are alike, and compares answers and tables. The answer table has so many cells of noise: the
@@ -95,14 +93,12 @@ fn listed(call: &Call, store: &Store, reply: Reply, list: &[u16], label: &str) -
 fn both(ours: &mut Store, theirs: &mut Store, call: &Call, cells: usize, label: &str) -> Reply {
     const NOISE: u32 = 0x5EED;
     let turn = turn(ours);
-    let reply = call.apply(ours);
-    let mut told = expected(reply, turn);
-    let (mut answer, mut list) = (vec![NOISE; cells], vec![UNLISTED; call.cells()]);
+    let [mut our_list, mut list] = [vec![UNLISTED; call.cells()], vec![UNLISTED; call.cells()]];
+    let reply = call.apply_listing(ours, &mut our_list);
+    let told = expected(reply, turn);
+    let mut answer = vec![NOISE; cells];
     let number = host::make(call, theirs, &mut answer, &mut list);
-    let rows = listed(call, ours, reply, &list, label);
-    if let Reply::Clashed(_) = reply {
-        told.cells[CELLS - 1] = rows as u32;
-    }
+    same_list(call, ours, reply, [&our_list, &list], label);
     let wanted: Vec<u32> = (0..cells).map(|cell| *told.cells.get(cell).unwrap_or(&NOISE)).collect();
     assert!(number == told.number, "{label}: {call:?} differs: returns {number}, not {}", told.number);
     assert!(answer == wanted, "{label}: {call:?} differs: answers {answer:?}, not {wanted:?}");
@@ -246,6 +242,9 @@ impl Comparison {
         counts::bad().into_iter().for_each(|bytes| self.file(&store, bytes, "a bad file of version 3"));
         mapped::bad().into_iter().for_each(|bytes| self.file(&store, bytes, "a bad file of version 2"));
         for (what, store, load, _) in clashes::cases() {
+            self.call(&store, &load, CELLS, what);
+        }
+        for (what, store, load, _) in clashes::choices() {
             self.call(&store, &load, CELLS, what);
         }
         self.large();

@@ -30,6 +30,7 @@ pub mod tally;
 pub mod task;
 pub mod tries;
 pub mod verifier;
+pub mod walks;
 
 pub use answer::{Answer, Refusal, Reply};
 pub use broken::broken;

@@ -12,8 +12,8 @@ use crate::faults::{stepping, Fault};
 
 /// The limit and whose it is first, then what counts, when it is asked and which words come before it, and last what breaks a store.
 pub const FAULTS: [Fault; 21] = [
-    ("a-share-of-193", |call, store| sharing(call, store, |store, task| task == REPORT && store.made_by(REPORT) > SHARE)),
-    ("a-share-of-191", |call, store| sharing(call, store, |store, task| task == REPORT && store.made_by(REPORT) + 1 >= SHARE)),
+    ("a-share-of-one-more", |call, store| sharing(call, store, |store, task| task == REPORT && store.made_by(REPORT) > SHARE)),
+    ("a-share-of-one-less", |call, store| sharing(call, store, |store, task| task == REPORT && store.made_by(REPORT) + 1 >= SHARE)),
     ("no-share-at-all", |call, store| sharing(call, store, |_, _| false)),
     ("the-share-is-asked-of-both-tasks", |call, store| sharing(call, store, |store, _| store.made_by(REPORT) >= SHARE)),
     ("each-task-has-a-share", |call, store| sharing(call, store, |store, task| store.made_by(task) >= SHARE)),
