@@ -1,6 +1,6 @@
 #!/usr/bin/env bash
 # The verified libraries beside the second implementation, on the same calls: answers and tables must be the same. Then a mirror of the
-# second implementation in place of the libraries: it must pass, also if it lists other chains, and each of its faults must be seen.
+# second implementation in place of the libraries: it must pass, and each of its faults must be seen.
 #
 #   tests/differential.sh            fixed seeds
 #   tests/differential.sh SECONDS    the same, and more seeds until the time is over
@@ -21,9 +21,7 @@ mirrored() { # TESTS WORDS...: the tests that the words choose
     compare "$1" "$mirror" dylib=tariff 40 --target-dir target/mirror "${@:2}" >"$log" 2>&1
 }
 mirrored 4 || { cat "$log"; exit 1; }
-# which chain a clash lists is left to the library
-MIRROR_FAULT=another-chain mirrored 4 || { cat "$log"; exit 1; }
-tables="mirror/src/faults.rs mirror/src/mapped.rs mirror/src/rates.rs mirror/src/hidden.rs mirror/src/listed.rs mirror/src/tried.rs src/gen/plain.rs"
+tables="mirror/src/faults.rs mirror/src/mapped.rs mirror/src/rates.rs mirror/src/hidden.rs mirror/src/listed.rs mirror/src/shared.rs mirror/src/tried.rs mirror/src/chosen.rs src/gen/plain.rs"
 # shellcheck disable=SC2086
 faults=$(sed -n 's/^    ("\([a-z-]*\)",.*/\1/p' $tables)
 # the list has every fault that the mirror can have
