@@ -10,3 +10,4 @@ pub mod HiddenFields
 pub mod Arguments
 pub mod Tried
 pub mod Versions
+pub mod Share

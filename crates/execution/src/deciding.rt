@@ -21,7 +21,7 @@ ghost use Rattle.resolution.specs.Quick.{loaderIn};
 ghost use Rattle.execution.specs.Steps.{IsTop, Chosen};
 ghost use Rattle.execution.specs.Decisions.{Usable, RoomFor, Acted};
 
-// What a new object asks for: the lowest number unused may be sought from `free` on, and the report made `made` objects, which only its own new asks.
+// What a new object asks for. The lowest number unused may be sought from `free` on; `made` is how many objects the report made, if it is the report's turn.
 pub(crate) struct Room {
     pub free: u16,
     pub made: u16,

@@ -15,9 +15,6 @@ ghost use Rattle.definition.specs.Broken.{broken};
 ghost use Rattle.definition.specs.Calls.{done, stepTables, runFrom, run};
 ghost use Rattle.execution.specs.Runs.{goesOn, Ruled, RoomIn, RoomAfter};
 
-// The report's number.
-const REPORT: u8 = 1;
-
 fn is_ran(a: Answer) -> bool
     ensures { λ r. ⌜ r ≡ goesOn a ⌝ }
 {
@@ -29,13 +26,13 @@ fn is_ran(a: Answer) -> bool
     }
 }
 
-// The lowest number unused and how many objects the report made, before the first step of a run.
+// The lowest number unused and how many objects the report, task 1, made, before the first step of a run.
 fn first_room(counts: &[u16]) -> Room
     ensures { λ r. ⌜ RoomIn (now (counts .entry)) (r .free) (r .made) ⌝ }
 {
     Room {
         free: frames::unused(counts, 0),
-        made: frames::made_by(counts, REPORT),
+        made: frames::made_by(counts, 1),
     }
 }
 

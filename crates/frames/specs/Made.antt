@@ -6,13 +6,13 @@ use mathlib.Core.List.{List, _∷_}
 use mathlib.Core.Logic.{_≢_}
 use Prim.Native.Nat.{ℕ, zero, suc, _+_, _-_, _<_, _≤_}
 use native.Mathlib.Omega.{arith}
-use lib.ListN.{length, getD, List·getD-eq-default}
+use lib.ListN.{getD, List·getD-eq-default}
 use lib.Dec.{eqb, eqb·suc-suc, leb}
 use borrow.Author.Tests.{eq-eqb, ne-eqb}
 use Rattle.definition.specs.Numbers.{countObjects, ownersCell, shareLimit}
 use Rattle.definition.specs.Lists.{rows}
 use Rattle.definition.specs.Classes.{Base}
-use Rattle.definition.specs.Machine.{ObjectRow, Objects, madeBy, shareUsed}
+use Rattle.definition.specs.Machine.{Objects, madeBy, shareUsed}
 use Rattle.definition.specs.Tables.{Tables, objectAt, ownedBy, ownerAt, objectRowAt, objectsOf}
 use Rattle.cells.specs.Held.{Held}
 

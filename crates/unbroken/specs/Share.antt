@@ -1,33 +1,32 @@
 -- Room kept for quotes. The report has at most 192 objects (`share-kept`), so the quote is told 'full' for objects only while 64 or more are its own (`quote-full`,
 -- `start-full`). 'Share used' is told exactly where 192 are the report's and no earlier cause applies (`share-refused`, `refused-share`), and never to the quote
--- (`quote-unshared`, `run-unshared`). An object stays the task's that made it (`owner-lasts`, `owner-swept`).
+-- (`quote-unshared`, `run-unshared`), nor to anyone where the report has no frame (`idle-unshared`, `idle-run-unshared`). An object stays the task's that made it (`owner-lasts`, `owner-swept`).
 use mathlib.Core.Path.{_≡_, refl, sym, ap, subst, _∙_}
 use mathlib.Core.Bool.{Bool, true, false, not, _&&_, _||_, false≢true, true≢false}
-use mathlib.Core.Option.{Option, none, some, Option·none-ne-some, Option·some-injective}
+use mathlib.Core.Option.{Option, none, some}
 use mathlib.Core.List.{List, [], _∷_}
 use mathlib.Core.Logic.{_≢_, _⊎_, inl, inr}
 use Prim.Native.Nat.{ℕ, zero, suc, _<_, _≤_}
 use native.Mathlib.Omega.{arith}
-use lib.Dec.{eqb, leb, ltb}
-use borrow.Author.Tests.{eqb-true, eqb-false, leb-true, le-leb, ltb-true, not-false}
-use Rattle.definition.specs.Numbers.{wordFull, wordShare, shareLimit}
+use lib.ListN.{length}
+use lib.Dec.{eqb, ltb}
+use borrow.Author.Tests.{eqb-true, eqb-false, leb-true, le-leb, ltb-true}
+use Rattle.definition.specs.Numbers.{wordFull, wordShare}
 use Rattle.definition.specs.Lists.{any}
 use Rattle.definition.specs.declared.Refusal.{Refusal}
 use Rattle.definition.specs.declared.Refusal.the-variants.{Word}
-use Rattle.definition.specs.declared.Answer.{Answer}
-use Rattle.definition.specs.declared.Answer.the-variants.{Refused}
+use Rattle.definition.specs.declared.Answer.the-variants.{Idle, Ran, Finished, Refused}
 use Rattle.definition.specs.declared.Reply.{Reply}
-use Rattle.definition.specs.declared.Reply.the-variants.{Stepped, RanFor, Denied}
+use Rattle.definition.specs.declared.Reply.the-variants.{Accepted, Defined, Stepped, RanFor, Swept, Denied}
 use Rattle.definition.specs.declared.Instruction.{Instruction}
 use Rattle.definition.specs.declared.Instruction.the-variants.{AconstNull, Sipush, Load, Store, Pop, Dup, Arithmetic, Getfield, Putfield, Invokevirtual, New, Return, Branch}
-use Rattle.definition.specs.Answers.{number, numberOfStep, numberOf, ok, take?}
-use Rattle.definition.specs.Instructions.{pick}
+use Rattle.definition.specs.Answers.{number, numberOfStep, numberOf, endsIn, ok, take?}
 use Rattle.definition.specs.Classes.{Base, Class}
 use Rattle.definition.specs.Constraints.{World}
 use Rattle.definition.specs.Machine.{free, owned, Objects, Exists, madeBy, roomless, shareUsed, Frame, Now, now}
 use Rattle.definition.specs.Tables.{Tables, Rows, worldOf, view}
 use Rattle.definition.specs.Broken.{broken}
-use Rattle.definition.specs.Calls.{turnOf, turn, stepTables, RowCall, rowDefine, rowRecord, rowStart, rowDrop, rowSweep, rowTry, Load as Offer, loadDefine, loadRecord, Call, callBoot, callRows, callStart, callSweep, callStep, callRun, perform, performAll}
+use Rattle.definition.specs.Calls.{turnOf, turn, stepTables, RowCall, rowDefine, rowRecord, rowStart, rowDrop, rowSweep, rowTry, loadDefine, loadRecord, Call, callBoot, callRows, callStart, callSweep, callStep, callRun, perform, performAll}
 use Rattle.laws.specs.Causes.{Cause, cause, first, reading, instructionCauses, accessing, readCauses, frameCauses, defineCauses, recordCauses, startCauses, rowCauses, causes}
 use Rattle.laws.specs.Objects.{Tasked, quote-roomless}
 use Rattle.laws.specs.Owners.{makerOf, leaves-maker}
@@ -41,6 +40,7 @@ use Rattle.unbroken.specs.RefusingSteps.{now-reading}
 use Rattle.unbroken.specs.First.{applied, first-applies}
 use Rattle.unbroken.specs.Sweeping.{Turns}
 use Rattle.unbroken.specs.Parts.{LeftBy, call-leaves, step-leaves}
+use Rattle.unbroken.specs.Tasks.{step-none}
 use Rattle.unbroken.specs.Lasting.{FreesRows, Frees}
 
 tasked : (b : Base) (n : ℕ) (X : ℕ → Type 0) (os : Objects) → All (RowSound b n X) os → Tasked os
@@ -319,6 +319,38 @@ quote-unshared (callRun n) t q h = q
 
 pub run-unshared : (n : ℕ) (t : Tables) (k : ℕ) (w : Refusal) → perform (callRun n) t .answer ≡ RanFor k (Refused w) → turn (view (after stepTables k t)) ≡ 0 → number w ≢ wordShare
 run-unshared n t k w e q h = omega (arith, q, run-shared n t k w e h .0 .report)
+
+-- nor is anyone where the report has no frame and is not started
+pub idle-unshared : (t : Tables) → view t .report ≡ [] → NewTurn t → ⊥
+unfolding turn turnOf
+idle-unshared t idle a = go (view t .quote) (view t .report) idle (a .report) (a .turns .frames)
+  where
+    go : (q p : List Frame) → p ≡ [] → turnOf q ≡ 1 → running q p ≡ a .frame ∷ a .others → ⊥
+    go (f ∷ fs) p n e r = omega (arith, e)
+    go [] p n e r = let l : length (a .frame ∷ a .others) ≡ length {A = Frame} [] = ap length (sym r ∙ n) in omega arith
+
+-- the word that a run ends in
+ends-in : (a : Reply) (n : ℕ) → endsIn a ≡ suc n → (k : ℕ) × (w : Refusal) × (a ≡ RanFor k (Refused w)) × (number w ≡ suc n)
+unfolding endsIn numberOfStep
+ends-in Accepted n h = absurd (omega (arith, h))
+ends-in (Defined c) n h = absurd (omega (arith, h))
+ends-in (Stepped a) n h = absurd (omega (arith, h))
+ends-in (RanFor k Idle) n h = absurd (omega (arith, h))
+ends-in (RanFor k (Ran j)) n h = absurd (omega (arith, h))
+ends-in (RanFor k (Finished j v)) n h = absurd (omega (arith, h))
+ends-in (RanFor k (Refused w)) n h = (k, w, refl, h)
+ends-in (Swept m) n h = absurd (omega (arith, h))
+ends-in (Denied w) n h = absurd (omega (arith, h))
+
+steps-none : (k : ℕ) (t : Tables) → view t .report ≡ [] → view (after stepTables k t) .report ≡ []
+unfolding after
+steps-none zero t e = e
+steps-none (suc k) t e = steps-none k (stepTables t .tables) (step-none t e)
+
+pub idle-run-unshared : (n : ℕ) (t : Tables) → view t .report ≡ [] → endsIn (perform (callRun n) t .answer) ≢ wordShare
+idle-run-unshared n t idle h =
+    let e = ends-in (perform (callRun n) t .answer) 17 h in
+    idle-unshared (after stepTables (e .0) t) (steps-none (e .0) t idle) (run-shared n t (e .0) (e .1) (e .2) (e .3) .0)
 
 -- Whose an object is: no call but a boot and a sweep changes it, and a sweep leaves it of all that stay
 
