@@ -9,7 +9,7 @@ use reference::store::count;
 use reference::Store;
 
 use crate::names::Names;
-use crate::svg::{cut, escaped, halo, heads, text, Age, Fill};
+use crate::svg::{cut, escaped, halo, heads, label, text, Age, Fill};
 use crate::tried::Tried;
 use crate::why::Why;
 
@@ -257,10 +257,10 @@ impl Picture {
         if fill.pattern > 0 {
             let _ = writeln!(out, "<rect {shape} fill=\"url(#p{})\"/>", fill.pattern);
         }
-        let (middle, halo) = (x + wide / 2, halo(fill.colour));
+        let (middle, halo) = (x + wide / 2, if fill.pattern > 0 { halo(fill.colour) } else { String::new() });
         let bold = cut(&written, NAME);
-        let _ = writeln!(out, "<text x=\"{middle}\" y=\"{}\" text-anchor=\"middle\" font-weight=\"bold\" {halo}>{bold}</text>", y + 17);
-        let _ = writeln!(out, "<text x=\"{middle}\" y=\"{}\" font-size=\"11\" text-anchor=\"middle\" {halo}>{below}</text>", y + 33);
+        let _ = writeln!(out, "<text x=\"{middle}\" y=\"{}\" text-anchor=\"middle\" font-weight=\"bold\"{halo}>{bold}</text>", y + 17);
+        let _ = writeln!(out, "<text x=\"{middle}\" y=\"{}\" font-size=\"11\" text-anchor=\"middle\"{halo}>{below}</text>", y + 33);
         out.push_str("</g>\n");
     }
 }
@@ -362,7 +362,7 @@ impl Grid {
             }
         };
         let _ = writeln!(out, "<path d=\"{path}\" fill=\"none\" {}/>", age.stroke());
-        text(out, at, age.colour(), "middle", &said(age, "tie"));
+        label(out, at, age.colour(), "middle", &said(age, "tie"));
     }
 
     /// Does a subtype constraint go beside the names between its own?
@@ -384,7 +384,7 @@ impl Grid {
             (format!("M{middle} {from}L{middle} {}", to + BOX.1), (middle + 6, to + BOX.1 + 20))
         };
         let _ = writeln!(out, "<path d=\"{path}\" fill=\"none\" {} marker-end=\"url(#{})\"/>", age.stroke(), age.arrow());
-        text(out, at, age.colour(), if is_beside { "end" } else { "start" }, &said(age, "below"));
+        label(out, at, age.colour(), if is_beside { "end" } else { "start" }, &said(age, "below"));
     }
 }
 
@@ -411,5 +411,54 @@ fn legend(out: &mut String, y: i64, has_reasons: bool) {
     ];
     for (place, line) in lines.iter().enumerate() {
         text(out, (LEFT, y + 18 * place as i64), "#555", "start", line);
+    }
+}
+
+#[cfg(test)]
+mod tests {
+    use super::*;
+
+    /// A star: loader 1 is tied to each of the others on one name, and two others to each other.
+    fn star() -> Picture {
+        let tie = |one: u16, other: u16| ([one, other, 12], Age::Old);
+        let ties = vec![tie(1, 2), tie(1, 3), tie(1, 4), tie(5, 1), tie(2, 4), tie(3, 5)];
+        Picture { title: "a star".into(), entries: Vec::new(), ties, subtypes: Vec::new() }
+    }
+
+    /// The numbers of a path.
+    fn numbers(path: &str) -> Vec<i64> {
+        path.split(|c: char| !c.is_ascii_digit() && c != '-').filter_map(|part| part.parse().ok()).collect()
+    }
+
+    #[test]
+    fn ties_have_ways_of_their_own_below_the_headings() {
+        let (picture, mut out) = (star(), String::new());
+        let grid = picture.grid();
+        picture.ties.iter().for_each(|&(row, age)| grid.tie(row, age, &mut out));
+        let paths: Vec<Vec<i64>> = out.lines().filter_map(|line| line.strip_prefix("<path d=\"")?.split('"').next().map(numbers)).collect();
+        assert_eq!(paths.len(), picture.ties.len());
+        // a way above its row: from, top, the lane's y four times, to
+        let arcs: Vec<&Vec<i64>> = paths.iter().filter(|path| path.len() > 4).collect();
+        assert_eq!(arcs.len(), 5);
+        for (place, arc) in arcs.iter().enumerate() {
+            let (lane, [left, right]) = (arc[4], [arc[0], arc[8]]);
+            assert!(lane - 15 > 66, "a tie crosses the headings: {arc:?}");
+            for other in &arcs[place + 1..] {
+                let is_apart = other[4] != lane || right < other[0] || other[8] < left;
+                assert!(is_apart, "two ties run into each other: {arc:?} {other:?}");
+                assert!(![other[0], other[8]].iter().any(|end| [left, right].contains(end)), "two ties end in one place: {arc:?} {other:?}");
+            }
+        }
+        assert!(grid.height() >= grid.y(12) + BOX.1);
+    }
+
+    #[test]
+    fn long_names_have_a_title() {
+        let long = "AVeryLongNameOfAClassThatNobodyWouldWrite";
+        let mut names = Names::default();
+        names.declare(long, 12).expect("a free name");
+        let mut out = String::new();
+        star().draw(1, 900, &names, &[], &mut out);
+        assert!(out.contains(&format!("<title>{long}</title>AVeryLong")), "{out}");
     }
 }

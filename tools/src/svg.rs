@@ -103,15 +103,24 @@ impl Fill {
 pub fn text(out: &mut String, (x, y): (i64, i64), colour: &str, anchor: &str, said: &str) {
     let _ = writeln!(
         out,
-        "<text x=\"{x}\" y=\"{y}\" font-size=\"11\" text-anchor=\"{anchor}\" fill=\"{colour}\" {}>{}</text>",
+        "<text x=\"{x}\" y=\"{y}\" font-size=\"11\" text-anchor=\"{anchor}\" fill=\"{colour}\">{}</text>",
+        escaped(said)
+    );
+}
+
+/// The words of a line, kept apart from other lines behind them.
+pub fn label(out: &mut String, (x, y): (i64, i64), colour: &str, anchor: &str, said: &str) {
+    let _ = writeln!(
+        out,
+        "<text x=\"{x}\" y=\"{y}\" font-size=\"11\" text-anchor=\"{anchor}\" fill=\"{colour}\"{}>{}</text>",
         halo("white"),
         escaped(said)
     );
 }
 
-/// Keeps a text apart from the lines behind it.
+/// Keeps a text apart from what is behind it.
 pub fn halo(colour: &str) -> String {
-    format!("stroke=\"{colour}\" stroke-width=\"4\" stroke-linejoin=\"round\" paint-order=\"stroke\"")
+    format!(" stroke=\"{colour}\" stroke-width=\"4\" stroke-linejoin=\"round\" paint-order=\"stroke\"")
 }
 
 /// A text of so many characters at most; where it is longer, a title has the whole.
