@@ -9,17 +9,10 @@ trap 'rm -rf "$work"' EXIT
 wrong=0
 fail() { echo "box: $*"; wrong=1; } # WORDS
 
-# What the tree needs to be used, and to be built.
-copied() { # FOLDER
-    mkdir -p "$1/tests" && cp -a box include crates.txt tools reference examples "$1" 2>/dev/null
-    rm -rf "$1/tools/target" "$1/reference/target"
-    cp -a crates "$1" && cp -a tests/build "$1/tests"
-}
-
 # ---- interrupts, with a stand-in for rt
 tree=$work/tree
 mkdir -p "$tree/bin"
-copied "$tree"
+tests/copied "$tree"
 # a chain of few crates, so that it takes seconds
 printf 'definition:\ncells: definition\nlaws: definition\ndesk: definition cells laws\n' >"$tree/crates.txt"
 cp tests/stand-in-rt "$tree/bin/rt"
@@ -110,11 +103,7 @@ for command in rt cargo cc; do grep -q "^  $command" "$work/said" || fail "$comm
 # ---- a built tree: moved, on a disk that can't be written, through a link, with neither cargo nor rt nor a compiler
 ./box examples/first.lesson >/dev/null || fail "examples/first.lesson"
 moved="$work/moved here"
-copied "$moved"
-mkdir -p "$moved/target/bin" "$moved/tools/target/host/release"
-cp -a target/staticlib target/built "$moved/target" && cp target/bin/boxscript "$moved/target/bin"
-cp "${CARGO_TARGET_DIR:-tools/target}/host/release/writer" "$moved/tools/target/host/release" &&
-    cp "${CARGO_TARGET_DIR:-tools/target}/host/made-from" "$moved/tools/target/host"
+tests/copied --built "$moved"
 mkdir "$work/links" && ln -s "$moved/box" "$work/links/second" && ln -s second "$work/links/box"
 chmod -R a-w "$moved"
 chmod 711 "$work" && mkdir "$work/out" && chmod 777 "$work/out"

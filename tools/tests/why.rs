@@ -46,7 +46,7 @@ fn the_chain_is_said_row_by_row() {
         assert!(said.contains(line), "{line}\n{said}");
     }
     let svg = outcome.strip.svg();
-    for text in ["tie, row 0", "tie, row 1", "below, row 2", "below, row 3", "class 5? refused", "Purple rows"] {
+    for text in ["tie, row 0", "tie, row 1", "below, row 2", "below, row 3", "class 5 of loader 3? refused", "Purple rows"] {
         assert!(svg.contains(text), "{text}");
     }
     assert!(!svg.contains("Orange"));
