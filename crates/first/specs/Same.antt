@@ -13,6 +13,7 @@
 -- 7, more than one argument: tables carry as before. Files of version 3 are involved as those of version 2 are. The first document's machine reads, verifies, selects, ties and calls with one argument, in its own text
 -- (first/Signatures, Files, Verifier, Machine); a signature of a version 1 file has a list of one, and with that today's machine does the same.
 -- 8, room kept for quotes: `Carries` forgets whose an object is. A call that today's machine answers with 18, and a run that ends in it, are involved: the first document's report had no share.
+-- In a list that starts no report, where the report has no frame, none is (`unshared-quotes`).
 use mathlib.Core.Path.{_≡_, refl, ap}
 use mathlib.Core.Bool.{Bool, true, false}
 use mathlib.Core.List.{List, [], _∷_, map}
@@ -49,7 +50,8 @@ abbrev pub SameAnswer : FirstReply → Reply → Type 0
 SameAnswer a b = a ≡ b
 
 -- what the papers name is involved in call c on tables u, which the first document's machine answers with a and today's with b: a file of a later version, which the
--- tables keep or the call brings, or a hidden field, for which the first document's machine refuses it
+-- tables keep or the call brings, a hidden field, for which the first document's machine refuses it, or the report's share, for which today's machine refuses it or
+-- ends the run
 abbrev pub Involved : FirstCall → FirstTables → FirstReply → Reply → Type 0
 Involved firstCallBoot u a b = ⊥
 Involved (firstCallRows c) u a b = (keepsLater u ≡ true) ⊎ (BringsLater c ⊎ ((numberOf a ≡ wordHidden) ⊎ ToldCall b))
