@@ -42,7 +42,10 @@ begun() { # SECONDS OF A PROVER: ./box check in a group of its own, as in a term
 
 gone() { # WORDS: what was started ends
     for _ in $(seq 200); do
-        if ! alive && ! kill -0 "$box" 2>/dev/null; then return 0; fi
+        if ! alive && ! kill -0 "$box" 2>/dev/null; then
+            { wait "$box"; } 2>/dev/null
+            return 0
+        fi
         sleep 0.1
     done
     fail "provers run on after $*"

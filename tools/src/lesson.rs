@@ -82,6 +82,9 @@ impl Lesson {
                 Ok(act) => reader.lesson.acts.extend(act),
                 Err(problem) => {
                     reader.at.note(problem);
+                    if text::is_begun(&reader.at, from, &["class"]) {
+                        continue;
+                    }
                     reader.at.skip(from, true, |_| false);
                     // a brace that closes nothing
                     if reader.at.has_sign('}') {

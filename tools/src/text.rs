@@ -102,16 +102,20 @@ fn head_and_brace(at: &mut Cursor) -> Parsed<(Head, Span)> {
 
 /// `class NAME extends NAME [version N] [as WORD] { members }`, behind the word class.
 pub fn class(at: &mut Cursor) -> Parsed<Text> {
+    let start = at.mark();
     let (Head { mut draft, called, span, own, above }, brace) = head_and_brace(at)?;
     let mut members = Members::default();
     while !at.has_sign('}') {
         let from = at.mark();
         if let Err(problem) = member(at, &mut draft, &mut members, brace) {
-            if at.is_end() {
+            // where another class begins, this one isn't closed
+            if at.is_end() || is_begun(at, start, &["class"]) {
                 return Err(problem);
             }
             at.note(problem);
-            at.skip(from, true, |word| ["field", "method"].contains(&word));
+            if !is_begun(at, from, &["field", "method"]) {
+                at.skip(from, true, |word| ["field", "method"].contains(&word));
+            }
         }
     }
     let end = at.take();
@@ -207,9 +211,9 @@ fn member(at: &mut Cursor, draft: &mut Draft, members: &mut Members, brace: Span
     }
 }
 
-/// Does a member stand at this mark? Then the method above it isn't closed.
-fn is_member(at: &Cursor, mark: usize) -> bool {
-    at.mark() == mark && at.word().is_some_and(|word| ["field", "method", "class"].contains(&word))
+/// Does one of these words stand here, behind the mark, and first on its line? Then what is read since the mark isn't closed.
+pub fn is_begun(at: &Cursor, mark: usize, words: &[&str]) -> bool {
+    at.mark() > mark && !at.goes_on() && at.word().is_some_and(|word| words.contains(&word))
 }
 
 fn not_closed(at: &Cursor, brace: Span) -> String {
@@ -230,6 +234,7 @@ fn method_head(at: &mut Cursor, version: u8) -> Parsed<(u16, Vec<u16>, u16)> {
 
 /// `method NAME(TYPES) TYPE { code }`
 fn method(at: &mut Cursor, version: u8) -> Parsed<(MethodDraft, MethodPlaces)> {
+    let start = at.mark();
     let begin = at.take();
     let (name, arguments, result) = method_head(at, version)?;
     let head = begin.to(at.last().span);
@@ -238,7 +243,7 @@ fn method(at: &mut Cursor, version: u8) -> Parsed<(MethodDraft, MethodPlaces)> {
     while !at.has_sign('}') {
         let from = at.mark();
         if let Err(problem) = body.part(at) {
-            if at.is_end() || is_member(at, from) {
+            if at.is_end() || at.mark() == from && is_begun(at, start, &["field", "method", "class"]) {
                 return Err(problem);
             }
             at.note(problem);
