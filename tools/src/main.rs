@@ -16,7 +16,8 @@ use writer::script;
 use writer::source::{Problem, Source};
 use writer::words::counted;
 
-const USAGE: &str = "usage: writer play [--store] [--draw OUT] FILE | why [--store] [--draw OUT] FILE | answers SCRIPT | list FILE | check FILE | asm FILE DIR
+const USAGE: &str = "usage: writer play [--store] [--draw OUT] FILE | why [--store] [--draw OUT] FILE | answers SCRIPT | list FILE | check FILE | asm FILE DIR |
+from-java CLASS.. [-o DIR] [--names FILE] | java FILE.java.. [-o DIR] [--names FILE]
 ./box is the way to run it.";
 
 /// Why the program ends without success.
@@ -62,9 +63,18 @@ fn command(words: &[String]) -> Result<(), Failure> {
         ["check", file] => verdict(&input(file)?),
         ["asm", file, directory] => assemble(&input(file)?, Path::new(directory)),
         ["answers", file] => answers(file),
+        [command @ ("from-java" | "java"), ref rest @ ..] => java(command, rest),
         ["play", ref options @ .., file] => play(options, file, false),
         ["why", ref options @ .., file] => play(options, file, true),
         _ => Err(Failure::Usage(USAGE.into())),
+    }
+}
+
+fn java(command: &str, words: &[&str]) -> Result<(), Failure> {
+    match writer::java::commands::run(command, words) {
+        Ok(said) => print(&said),
+        Err((1, said)) => Err(Failure::Bad(said)),
+        Err((_, said)) => Err(Failure::Usage(said)),
     }
 }
 

@@ -1,0 +1,66 @@
+//! A tariff library's names and numbers: those that a file of names says, and those that are given to new words.
+
+use crate::lesson::Lesson;
+use crate::names::{Names, Taken};
+use crate::source::{Problem, Source};
+
+/// The number from which on new words get theirs.
+const FIRST: u16 = 100;
+
+#[derive(Clone, Debug, Default)]
+pub struct Library {
+    pub names: Names,
+    /// How many of the names were there before.
+    known: usize,
+}
+
+impl Library {
+    pub fn of(names: Names) -> Library {
+        let known = names.declared().len();
+        Library { names, known }
+    }
+
+    /// The names of a file, which has the form of a lesson without calls. A clash of numbers is a problem.
+    pub fn read(source: &Source) -> Result<Library, Problem> {
+        let lesson = Lesson::read(source)?;
+        if let Some(text) = lesson.texts.first() {
+            return Err(Problem::new(text.span, "a file of names has lines as: name Discount 12"));
+        }
+        Ok(Library::of(lesson.names))
+    }
+
+    /// The word's number; a new word gets the lowest that is free from 100 on. Nothing if none is.
+    pub fn number(&mut self, word: &str) -> Option<u16> {
+        if let Some(number) = self.names.number(word) {
+            return Some(number);
+        }
+        let number = (FIRST..=u16::MAX).find(|&number| self.names.name(number).is_none())?;
+        self.names.declare(word, number).ok()?;
+        Some(number)
+    }
+
+    /// Takes over the names of another list; a clash is said.
+    pub fn add(&mut self, names: &[(String, u16)]) -> Result<(), String> {
+        for (word, number) in names {
+            if self.names.number(word) == Some(*number) {
+                continue;
+            }
+            self.names.declare(word, *number).map_err(|taken| match taken {
+                Taken::Name(there) => format!("{word} is {there} here and {number} there"),
+                Taken::Number(there) => format!("{number} is {there} here and {word} there"),
+            })?;
+        }
+        Ok(())
+    }
+
+    /// The lines for the new names.
+    pub fn new_lines(&self) -> String {
+        self.names.declared()[self.known..].iter().map(|(word, number)| format!("name {word} {number}\n")).collect()
+    }
+}
+
+/// Can a text of the box have this as a word?
+pub fn is_word(name: &str) -> bool {
+    let is_first = |c: char| c.is_alphabetic() || c == '_';
+    name.starts_with(is_first) && name.chars().all(|c| c.is_alphanumeric() || c == '_' || c == '$')
+}
