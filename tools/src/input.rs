@@ -3,6 +3,8 @@
 use reference::file::{File, Sketch};
 use reference::gen::Call;
 
+use crate::cursor::Parsed;
+use crate::java::lines::Lines;
 use crate::lesson::Lesson;
 use crate::names::Names;
 use crate::script;
@@ -14,6 +16,8 @@ pub struct Piece {
     pub called: String,
     pub bytes: Vec<u8>,
     pub text: Option<Text>,
+    /// The Java lines of its code, where they are known.
+    pub lines: Lines,
 }
 
 /// The class files of an input, the names they use, and the source of their text.
@@ -34,13 +38,23 @@ fn hexadecimal(bytes: &[u8]) -> Option<Vec<u8>> {
     reference::script::hexadecimal(&digits)
 }
 
-/// Takes the input apart; a text that can't be read gives its problem. The names are for a script, which has none of its own.
+/// Takes the input apart; a text that can't be read gives its problem. The names are for a script and a class file, which have none of their own.
 pub fn read(file: &str, bytes: Vec<u8>, names: Names) -> Result<Input, (Source, Problem)> {
+    read_by(file, bytes, names, &mut |source| Lesson::read(source))
+}
+
+/// The same with another way to read a lesson.
+pub fn read_by(
+    file: &str,
+    bytes: Vec<u8>,
+    names: Names,
+    lesson: &mut dyn FnMut(&Source) -> Parsed<Lesson>,
+) -> Result<Input, (Source, Problem)> {
     if bytes.is_empty() || !is_text(&bytes) {
-        return Ok(files(vec![bytes], Names::default()));
+        return Ok(files(vec![bytes], names));
     }
     if let Some(bytes) = hexadecimal(&bytes) {
-        return Ok(files(vec![bytes], Names::default()));
+        return Ok(files(vec![bytes], names));
     }
     let source = Source::new(file, bytes)?;
     if file.ends_with(".box") {
@@ -48,9 +62,9 @@ pub fn read(file: &str, bytes: Vec<u8>, names: Names) -> Result<Input, (Source, 
         let defined = calls.filter_map(|call| if let Call::Define { file, .. } = call { Some(file) } else { None });
         return Ok(files(defined.collect(), names));
     }
-    match Lesson::read(&source) {
+    match lesson(&source) {
         Ok(lesson) => {
-            let piece = |text: Text| Piece { called: text.called.clone(), bytes: text.bytes.clone(), text: Some(text) };
+            let piece = |text: Text| Piece { called: text.called.clone(), bytes: text.bytes.clone(), lines: text.lines.clone(), text: Some(text) };
             Ok(Input { pieces: lesson.texts.into_iter().map(piece).collect(), names: lesson.names, source: Some(source) })
         }
         Err(problem) => Err((source, problem)),
@@ -66,7 +80,7 @@ fn files(all: Vec<Vec<u8>>, names: Names) -> Input {
         if pieces.iter().any(|piece| piece.called == called) {
             called = format!("File{}", pieces.len() + 1);
         }
-        pieces.push(Piece { called, bytes, text: None });
+        pieces.push(Piece { called, bytes, text: None, lines: Lines::default() });
     }
     Input { pieces, names, source: None }
 }

@@ -8,7 +8,7 @@ use std::{env, fs};
 
 use writer::check::{check, Verdict};
 use writer::input::{self, Input};
-use writer::lesson::Lesson;
+use writer::java::workshop;
 use writer::listing;
 use writer::names::Names;
 use writer::play::{Outcome, Play, Show};
@@ -83,8 +83,12 @@ fn bytes(file: &str) -> Result<Vec<u8>, Failure> {
 }
 
 fn input(file: &str) -> Result<Input, Failure> {
-    let names = if file.ends_with(".box") { names_beside(file) } else { Names::default() };
-    Ok(input::read(file, bytes(file)?, names)?)
+    let names = if file.ends_with(".box") { names_beside(file) } else { workshop::names_beside(file) };
+    let mut input = input::read_by(file, bytes(file)?, names, &mut workshop::lesson)?;
+    if let [piece] = &mut input.pieces[..] {
+        piece.lines = workshop::lines_beside(file, &piece.bytes).unwrap_or(std::mem::take(&mut piece.lines));
+    }
+    Ok(input)
 }
 
 /// Writes to standard output; a reader that has gone away is no failure.
@@ -102,7 +106,7 @@ fn list(input: &Input) -> Result<(), Failure> {
     }
     for piece in &input.pieces {
         out.push('\n');
-        out.push_str(&listing::listing(&piece.bytes, &piece.called, &input.names));
+        out.push_str(&listing::with_lines(&piece.bytes, &piece.called, &input.names, &piece.lines));
     }
     print(&out)
 }
@@ -140,7 +144,7 @@ fn assemble(input: &Input, directory: &Path) -> Result<(), Failure> {
 fn names_beside(script: &str) -> Names {
     let lesson = Path::new(script).with_extension("lesson");
     let source = fs::read(&lesson).ok().and_then(|bytes| Source::new("", bytes).ok());
-    source.and_then(|source| Lesson::read(&source).ok()).map_or_else(Names::default, |lesson| lesson.names)
+    source.and_then(|source| workshop::lesson(&source).ok()).map_or_else(Names::default, |lesson| lesson.names)
 }
 
 /// The script's lines beside what boxscript printed, which is read from standard input.
@@ -176,7 +180,7 @@ fn play(options: &[&str], file: &str, why: bool) -> Result<(), Failure> {
     let lesson = if file.ends_with(".box") {
         script::lesson(&source, names_beside(file))
     } else {
-        Lesson::read(&source).map_err(|problem| (source.clone(), problem))?
+        workshop::lesson(&source).map_err(|problem| (source.clone(), problem))?
     };
     let outcome = match Play::run(&source, &lesson, show, &mut io::stdout().lock()) {
         Err(error) if error.kind() == io::ErrorKind::BrokenPipe => return Ok(()),

@@ -13,6 +13,7 @@ use reference::gen::build::{Code, Draft, MapDraft, MethodDraft};
 use reference::store::LOCALS;
 
 use crate::cursor::{Cursor, Parsed};
+use crate::java::lines::Lines;
 use crate::source::{Problem, Span};
 
 /// A class file's text, assembled.
@@ -22,11 +23,18 @@ pub struct Text {
     pub called: String,
     pub span: Span,
     pub bytes: Vec<u8>,
+    /// The Java lines of its code, if it was written in Java.
+    pub lines: Lines,
     /// Where parts of the text stand in the bytes, by rising place.
     marks: Vec<(usize, Span)>,
 }
 
 impl Text {
+    /// A file that was made otherwise: all of it comes from this part.
+    pub fn made(called: String, span: Span, bytes: Vec<u8>, lines: Lines) -> Text {
+        Text { called, span, bytes, lines, marks: Vec::new() }
+    }
+
     /// The part of the text that this byte comes from.
     pub fn part(&self, byte: usize) -> Span {
         self.marks.iter().rev().find(|mark| mark.0 <= byte).map_or(self.span, |mark| mark.1)
@@ -66,7 +74,7 @@ pub fn class(at: &mut Cursor) -> Parsed<Text> {
     let mut marks = vec![(0, span), (HEAD, own), (HEAD + 2, above), (HEAD + 4, span)];
     marks.extend(members.marks(draft.version));
     let bytes = fits(&draft).map_err(|said| Problem::new(end, said))?;
-    Ok(Text { called, span, bytes, marks })
+    Ok(Text { called, span, bytes, lines: Lines::default(), marks })
 }
 
 /// Where the members of a class stand in its text.
@@ -376,5 +384,5 @@ pub fn file(at: &mut Cursor) -> Parsed<Text> {
     at.sign('{')?;
     let bytes = at.bytes(true)?;
     at.sign('}')?;
-    Ok(Text { called: called.into(), span: begin.to(end), bytes, marks: Vec::new() })
+    Ok(Text { called: called.into(), span: begin.to(end), bytes, lines: Lines::default(), marks: Vec::new() })
 }

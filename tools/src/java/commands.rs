@@ -15,7 +15,7 @@ pub type Ended = (u8, String);
 
 /// Where the files go if nothing is said.
 const FOLDER: &str = "boxed";
-const NAMES: &str = "names.txt";
+pub const NAMES: &str = "names.txt";
 
 struct Asked {
     files: Vec<PathBuf>,

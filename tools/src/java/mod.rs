@@ -19,4 +19,5 @@ pub mod refusals;
 pub mod scan;
 pub mod translate;
 pub mod types;
+pub mod workshop;
 pub mod world;

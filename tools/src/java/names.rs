@@ -10,6 +10,8 @@ const FIRST: u16 = 100;
 #[derive(Clone, Debug, Default)]
 pub struct Library {
     pub names: Names,
+    /// Names that are taken over where they are used.
+    beside: Names,
     /// How many of the names were there before.
     known: usize,
 }
@@ -17,7 +19,19 @@ pub struct Library {
 impl Library {
     pub fn of(names: Names) -> Library {
         let known = names.declared().len();
-        Library { names, known }
+        Library { names, beside: Names::default(), known }
+    }
+
+    /// These names, and those of another list where they are used. A clash of the two is said.
+    pub fn with(names: Names, beside: &Names) -> Result<Library, String> {
+        let mut both = names.clone();
+        for (word, number) in beside.declared().iter().filter(|(word, number)| names.number(word) != Some(*number)) {
+            both.declare(word, *number).map_err(|taken| match taken {
+                Taken::Name(there) => format!("{word} is {there} here and {number} there"),
+                Taken::Number(there) => format!("{number} is {there} here and {word} there"),
+            })?;
+        }
+        Ok(Library { beside: beside.clone(), ..Library::of(names) })
     }
 
     /// The names of a file, which has the form of a lesson without calls. A clash of numbers is a problem.
@@ -34,23 +48,10 @@ impl Library {
         if let Some(number) = self.names.number(word) {
             return Some(number);
         }
-        let number = (FIRST..=u16::MAX).find(|&number| self.names.name(number).is_none())?;
+        let is_free = |&number: &u16| self.names.name(number).is_none() && self.beside.name(number).is_none();
+        let number = self.beside.number(word).or_else(|| (FIRST..=u16::MAX).find(is_free))?;
         self.names.declare(word, number).ok()?;
         Some(number)
-    }
-
-    /// Takes over the names of another list; a clash is said.
-    pub fn add(&mut self, names: &[(String, u16)]) -> Result<(), String> {
-        for (word, number) in names {
-            if self.names.number(word) == Some(*number) {
-                continue;
-            }
-            self.names.declare(word, *number).map_err(|taken| match taken {
-                Taken::Name(there) => format!("{word} is {there} here and {number} there"),
-                Taken::Number(there) => format!("{number} is {there} here and {word} there"),
-            })?;
-        }
-        Ok(())
     }
 
     /// The lines for the new names.

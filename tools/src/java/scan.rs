@@ -41,13 +41,27 @@ impl Report<'_> {
 
     /// The line of the text with all of these words, in their order.
     pub fn line_with(&self, words: &[&str]) -> Option<u32> {
-        let has = |line: &str| {
-            let is_part = |c: char| !(c.is_alphanumeric() || c == '_' || c == '$');
-            let mut there = line.split("//").next().unwrap_or("").split(is_part);
-            words.iter().all(|word| there.any(|other| other == *word))
+        self.line_that(|there| {
+            let mut there = there.iter();
+            words.iter().all(|word| there.any(|other| other == word))
+        })
+    }
+
+    /// The line on which a class is declared.
+    pub fn line_of_class(&self, name: &str) -> Option<u32> {
+        let own = simple(name).rsplit('$').next().unwrap_or(name);
+        let words = ["class", "interface", "enum", "record"];
+        self.line_that(|there| there.windows(2).any(|pair| words.contains(&pair[0]) && pair[1] == own))
+    }
+
+    fn line_that(&self, fits: impl Fn(&[&str]) -> bool) -> Option<u32> {
+        let is_between = |c: char| !(c.is_alphanumeric() || c == '_' || c == '$');
+        let words = |line: &'_ str| -> Vec<String> {
+            let code = line.split("//").next().unwrap_or("");
+            code.split(is_between).filter(|word| !word.is_empty()).map(str::to_string).collect()
         };
-        let place = self.text?.lines().position(has)?;
-        u32::try_from(place + 1).ok()
+        let has = |line: &str| fits(&words(line).iter().map(String::as_str).collect::<Vec<_>>());
+        u32::try_from(self.text?.lines().position(has)? + 1).ok()
     }
 }
 
@@ -66,42 +80,46 @@ pub struct Scan<'a, 'b> {
 
 impl Scan<'_, '_> {
     pub fn class(&mut self) {
-        let line = ["class", "interface", "enum", "record"].iter().find_map(|word| self.report.line_with(&[word, simple(&self.class.name)]));
-        for construct in self.kinds() {
-            self.report.refuse(line, "", construct);
+        let line = self.report.line_of_class(&self.class.name);
+        if let Some(construct) = self.kind() {
+            return self.report.refuse(line, "", construct);
         }
-        if !self.report.all.is_empty() {
-            return;
+        for construct in self.above() {
+            self.report.refuse(line, "", construct);
         }
         self.fields(line);
         self.methods(line);
     }
 
-    /// What is wrong with the class as a whole.
-    fn kinds(&self) -> Vec<Construct> {
-        let ClassFile { flags, name, superclass, interfaces, version, .. } = self.class;
-        let home = package(name);
+    /// Why it is no class that the box could have.
+    fn kind(&self) -> Option<Construct> {
+        let ClassFile { flags, name, superclass, version, .. } = self.class;
+        let (home, own) = (package(name), simple(name));
         let is = |flag: u16| flags & flag != 0;
-        let mut all = Vec::new();
-        let mut refuse = |said: String, instead: &str| all.push(Construct::new(said, instead));
-        if is(flag::MODULE) {
-            refuse("a module".into(), "give the class files of classes");
+        let is_below = |name: &str| superclass.as_deref() == Some(name);
+        let (said, instead) = if is(flag::MODULE) {
+            ("a module".into(), "give the class files of classes")
         } else if is(flag::INTERFACE) {
-            refuse(format!("interface {}", simple(name)), "make it a class whose methods return 0, and extend it");
-        } else if is(flag::ENUM) || superclass.as_deref() == Some("java/lang/Enum") {
-            refuse(format!("enum {}", simple(name)), "use an int for each of its values");
-        } else if superclass.as_deref() == Some("java/lang/Record") {
-            refuse(format!("record {}", simple(name)), "write a class with the fields, and set them after new");
+            (format!("interface {own}"), "make it a class whose methods return 0, and extend it")
+        } else if is(flag::ENUM) || is_below("java/lang/Enum") {
+            (format!("enum {own}"), "use an int for each of its values")
+        } else if is_below("java/lang/Record") {
+            (format!("record {own}"), "write a class with the fields, and set them after new")
         } else if home.starts_with("java/") {
-            refuse(format!("a class of the package {}", home.trim_end_matches('/').replace('/', ".")), "write a class of your own");
+            (format!("a class of the package {}", home.trim_end_matches('/').replace('/', ".")), "write a class of your own")
+        } else if *version < FIRST_MAPPED {
+            (format!("a class file of version {version}, without stack maps"), "compile the source anew, with a javac of today")
         } else {
-            interfaces.iter().for_each(|other| refuse(format!("interface {}", simple(other)), "leave out implements; what is shared goes into a class above"));
-            all.extend(self.superclass());
-        }
-        if *version < FIRST_MAPPED {
-            all.push(Construct::new(format!("a class file of version {version}, without stack maps"), "compile the source anew, with a javac of today"));
-        }
-        all
+            return None;
+        };
+        Some(Construct::new(said, instead))
+    }
+
+    /// What is wrong with what stands above it.
+    fn above(&self) -> Vec<Construct> {
+        let instead = "leave out implements; what is shared goes into a class above";
+        let interfaces = self.class.interfaces.iter().map(|name| Construct::new(format!("interface {}", simple(name)), instead));
+        interfaces.chain(self.superclass()).collect()
     }
 
     fn superclass(&self) -> Option<Construct> {

@@ -102,7 +102,7 @@ fn class(class: &ClassFile, world: &mut World, report: &mut Report) -> Option<Ma
     if !report.all.is_empty() {
         return None;
     }
-    let line = report.line_with(&["class", simple(&class.name)]);
+    let line = report.line_of_class(&class.name);
     let (mut draft, mut lines) = match head(class, world) {
         Ok(draft) => (draft, Vec::new()),
         Err(construct) => {
