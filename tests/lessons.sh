@@ -1,6 +1,6 @@
 #!/usr/bin/env bash
 # The writer's tool: its own tests, the course's lessons on the proved machine, each mistake's lesson on a machine that makes it, the lessons
-# on dead objects, choices, loops, rates, hidden fields and clashes on machines that do them wrongly, what ./box says of mistakes in a text, and any bytes for a
+# on dead objects, the report's share, choices, loops, rates, hidden fields and clashes on machines that do them wrongly, what ./box says of mistakes in a text, and any bytes for a
 # minute.
 #
 #   tests/lessons.sh                   all of it
@@ -100,6 +100,15 @@ usage() {
     done
 }
 
+# A machine that lists another chain than the reason for some load of the lesson isn't believed.
+unbelieved() { # LESSON FAULTS..
+    local fault
+    for fault in "${@:2}"; do
+        MIRROR_FAULT=$fault "$writer" why "$1" >"$work/out" 2>&1 && fail "./box why believes the machine $fault"
+        grep -q "which the second implementation doesn't take for the reason" "$work/out" || { cat "$work/out"; fail "./box why on the machine $fault"; }
+    done
+}
+
 # The mirror stands in for the libraries: right, it passes; with a learner's mistake, that mistake's lesson fails.
 mistakes() {
     local mirror=$PWD/reference/target/mirror/release writer=$tools/mirror/release/writer lesson name fault faults tried
@@ -111,6 +120,7 @@ mistakes() {
         [mistake-4]=overriding-ties-nothing
         [mistake-5]=compares-by-name
         [dead-objects]="sweep-(forgets-locals|forgets-the-report|frees-[a-z]+|tells-[a-z-]+)|freed-objects-count-for-full"
+        [a-week-of-reports]="a-share-of-[a-z-]+|the-share-[a-z-]+|the-quotes-objects-are-counted|everyones-objects-are-counted|a-freed-row-is-still-counted|full-comes-before-the-share|a-task-without-frames-holds-nothing|new-asks-for-no-share"
         [age-bands]="less-than-[a-z-]+|jumps-from-the-instruction|offsets-from-the-instruction|unmapped-is-unverified|unset-for-int"
         [instalments]="ifeq-[a-z-]+|a-jump-to-itself-is-stuck|sweep-forgets-unset-locals|a-set-local-stays-set"
         [rates]="quotients-are-[a-z]+|divide[sd]-[a-z-]+|the-least-by-[a-z-]+|zero-divisor-is-[a-z]+|a-refused-division-[a-z-]+|products-[a-z-]+|rates-in-version-one"
@@ -135,12 +145,8 @@ mistakes() {
         done
         [ "$tried" -gt 0 ] || fail "no machine fails $lesson"
     done
-    lesson=examples/why-a-load-clashed.lesson
-    MIRROR_FAULT=another-chain "$writer" why "$lesson" >/dev/null 2>&1 || fail "./box why takes one chain alone"
-    for fault in a-chain-without-its-last-row the-chain-is-listed-downward rows-are-listed-by-table a-clash-yields-no-chain; do
-        MIRROR_FAULT=$fault "$writer" why "$lesson" >"$work/out" 2>&1 && fail "./box why believes the machine $fault"
-        grep -q "which the second implementation takes for no reason" "$work/out" || { cat "$work/out"; fail "./box why on the machine $fault"; }
-    done
+    unbelieved examples/why-a-load-clashed.lesson a-chain-without-its-last-row the-chain-is-listed-downward rows-are-listed-by-table a-clash-yields-no-chain
+    unbelieved examples/the-shortest-reason.lesson a-longer-chain the-other-reading the-higher-row-at-the-first-difference the-lower-row-before-the-length
     MIRROR_FAULT=desk-skips-the-verifier "$writer" check tools/tests/errors/unverified.check >"$work/out" 2>&1 && fail "a wrong desk is believed"
     grep -q "the desk says 0 and the second implementation 6" "$work/out" || fail "a wrong desk isn't named"
     unset LD_LIBRARY_PATH

@@ -42,8 +42,8 @@ fn loaded(load: &Call, store: &Store) -> Option<Result<Why, String>> {
     let mut list = [0; MOST_ROWS];
     let told = machine::make(&load.tried(MOST_ROWS)?, &mut store.clone(), &mut list)?;
     let (rows, plan) = (&list[..(told.cells[5] as usize).min(MOST_ROWS)], load.plan(store)?);
-    if !load.is_reason(store, rows) {
-        return Some(Err(format!("the machine lists the rows {rows:?}, which the second implementation takes for no reason")));
+    if !load.is_the_reason(store, rows) {
+        return Some(Err(format!("the machine lists the rows {rows:?}, which the second implementation doesn't take for the reason")));
     }
     Why::new(store, &plan.added(), rows).map(Ok)
 }
