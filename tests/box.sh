@@ -7,7 +7,10 @@ tests/build host desk boxscript || exit 1
 work=$(mktemp -d)
 trap 'rm -rf "$work"' EXIT
 wrong=0
-fail() { echo "box: $*"; wrong=1; } # WORDS
+fail() { # WORDS
+    echo "box: $*" | head -n 20
+    wrong=1
+}
 
 # ---- interrupts, with a stand-in for rt
 tree=$work/tree
@@ -170,7 +173,7 @@ says "below/3000.class: "
 says "1 refused"
 ends 1 check --quiet "$work/many" "$file"
 [ "$(wc -l <"$work/said")" -eq 1 ] || fail "--quiet says more than what is refused"
-ends 0 check "$file" examples
+ends 0 check "$file" examples/first.lesson examples/first.box
 ends 2 check "$file" "$work/nothing-there"
 ends 1 check "$work/bad.box" "$file"
 mkdir "$work/empty"
