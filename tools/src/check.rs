@@ -5,6 +5,7 @@ use reference::file::File;
 use reference::verifier::refused;
 
 use crate::input::Input;
+use crate::java::classfile::MAGIC;
 use crate::listing;
 use crate::machine;
 use crate::names::Names;
@@ -41,7 +42,10 @@ pub fn check(input: &Input) -> (Verdict, String) {
             None => out.push_str(&format!("{}: accepted, {} bytes\n", piece.called, piece.bytes.len())),
             Some(said) => {
                 worst = Verdict::Refused;
-                let reason = reason(&piece.bytes, &input.names, piece.text.as_ref().zip(input.source.as_ref()));
+                let mut reason = reason(&piece.bytes, &input.names, piece.text.as_ref().zip(input.source.as_ref()));
+                if piece.bytes.starts_with(&MAGIC) {
+                    reason.push_str("    It is a class file of Java's: ./box from-java makes one of the box of it.\n");
+                }
                 out.push_str(&format!("{}: refused: {number}, {said}\n{reason}", piece.called));
             }
         }
