@@ -7,6 +7,7 @@ use reference::code::op::{self, Inline};
 use reference::file::{File, Flaw, Map, Method, Sketch, MAPPED};
 use reference::verifier::{seen, Rejected, Seen, Type, Types, Why};
 
+use crate::java::classfile::MAGIC;
 use crate::java::lines::Lines;
 use crate::names::Names;
 use crate::reasons;
@@ -33,6 +34,9 @@ pub fn with_lines(bytes: &[u8], called: &str, names: &Names, lines: &Lines) -> S
 
 fn damaged(bytes: &[u8], sketch: &Sketch, flaw: Flaw, called: &str, names: &Names) -> String {
     let mut out = format!("# No class file: at byte {}, {}.\n", flaw.at, reasons::rule(flaw.rule, names));
+    if bytes.starts_with(&MAGIC) {
+        out.push_str("# It is a class file of Java's: ./box from-java makes one of the box of it.\n");
+    }
     let read = class(sketch, None, names, |_, _| (Vec::new(), None), &Lines::default());
     out.push_str("# As far as it reads:\n");
     read.lines().for_each(|line| out.push_str(&format!("#   {line}\n")));

@@ -71,7 +71,7 @@ pub fn library(path: &Path) -> Result<Library, Ended> {
 }
 
 fn from_sources(files: &[PathBuf], library: &mut Library) -> Result<Vec<Made>, Ended> {
-    let folder = compile::compile(files, &[]).map_err(|said| (1, said))?;
+    let folder = compile::compile(files, &[], true).map_err(|said| (1, said))?;
     let given = compile::compiled(&folder, files).map_err(|error| (2, error.to_string()))?;
     translate(&given, &[], library).map_err(|refusals| (1, refusals::show(&refusals)))
 }

@@ -43,13 +43,15 @@ fn joined(paths: impl IntoIterator<Item = PathBuf>) -> std::ffi::OsString {
     env::join_paths(paths).unwrap_or_default()
 }
 
-/// Compiles these files into a folder. Classes of the earlier folders, the latest first, are known to them, and sources beside them are found.
-pub fn compile(files: &[PathBuf], earlier: &[&Path]) -> Result<Folder, String> {
+/// Compiles these files into a folder. Classes of the earlier folders, the latest first, are known to them, and sources beside them are found;
+/// what those hold is made too, or not.
+pub fn compile(files: &[PathBuf], earlier: &[&Path], makes_found: bool) -> Result<Folder, String> {
     let folder = Folder::new().map_err(|error| format!("no folder for class files: {error}"))?;
     let mut beside: Vec<PathBuf> = files.iter().map(|file| folder_of(file)).collect();
     beside.dedup();
     let mut command = javac();
-    command.args(["-g:lines,source", "-proc:none", "-encoding", "UTF-8", "-d"]).arg(folder.path());
+    let implicit = if makes_found { "-implicit:class" } else { "-implicit:none" };
+    command.args(["-g:lines,source", "-proc:none", implicit, "-encoding", "UTF-8", "-d"]).arg(folder.path());
     command.arg("-cp").arg(joined([folder.path().to_path_buf()].into_iter().chain(earlier.iter().rev().map(|path| path.to_path_buf()))));
     command.arg("-sourcepath").arg(joined(beside)).args(files);
     let output = command.output().map_err(|error| match error.kind() {

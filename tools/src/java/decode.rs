@@ -312,8 +312,11 @@ fn refuse(said: impl Into<String>, instead: &str) -> Op {
 /// getstatic, putstatic, invokestatic.
 fn static_member(opcode: u8, bytes: &mut Bytes, pool: &Pool) -> Read<Op> {
     let MemberRef { class, name, .. } = named(bytes, pool)?;
+    let is_javas = class.starts_with("java/");
     let class = simple(&class);
-    Ok(if opcode == 0xB8 {
+    Ok(if is_javas {
+        refuse(format!("static: {class}.{name} of Java's library"), "write a class of your own: of Java's library the box has Object alone")
+    } else if opcode == 0xB8 {
         refuse(format!("static: a call of {class}.{name}"), "make it a method of an object: leave out static, and call it on one")
     } else {
         refuse(format!("static: the field {class}.{name}"), "make it a field of an object, or a method that returns it; a static final int with its value is taken")

@@ -135,7 +135,7 @@ fn constant(int: i32) -> Vec<Part> {
     if let Some((a, b)) = factors(int) {
         return product(a, b);
     }
-    let is_near = (-(1 << 30)..1 << 30).contains(&int);
+    let is_near = i16::try_from(int / i32::from(i16::MAX)).is_ok();
     let (a, b) = nearest_product(if is_near { int } else { int / 2 });
     let mut parts = product(a, b);
     let mut made = i32::from(a).wrapping_mul(b.into());
@@ -163,8 +163,11 @@ fn factors(int: i32) -> Option<(i16, i16)> {
     (2..=32_767).find_map(|a| Some((a as i16, other(a)?)))
 }
 
-/// Two shorts whose product is near.
+/// Two shorts whose product is near; of the largest, which are doubled then and wrap, one product does.
 fn nearest_product(int: i32) -> (i16, i16) {
+    if int.unsigned_abs() > 32_767 * 32_768 {
+        return (i16::MIN, i16::MIN);
+    }
     let side = (f64::from(int).abs().sqrt().round() as i32).clamp(1, i16::MAX.into());
     let other = (int / side).clamp(i16::MIN.into(), i16::MAX.into());
     (side as i16, other as i16)
@@ -204,7 +207,7 @@ mod tests {
         for int in near.chain(spread) {
             let (made, bytes) = value(int);
             assert_eq!(made, int);
-            assert!(bytes <= 17, "{int} takes {bytes} bytes");
+            assert!(bytes <= 19, "{int} takes {bytes} bytes");
         }
     }
 }

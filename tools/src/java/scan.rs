@@ -180,7 +180,8 @@ impl Scan<'_, '_> {
     }
 
     fn methods(&mut self, line: Option<u32>) {
-        for method in &self.class.methods {
+        // the body of a lambda is refused where the lambda stands
+        for method in self.class.methods.iter().filter(|method| !(method.is(flag::SYNTHETIC) && method.name.starts_with("lambda$"))) {
             let member = said(self.class, method);
             let begin = method.code.as_ref().and_then(|code| code.line(0)).map(u32::from);
             let begin = begin.or_else(|| self.report.line_with(&[&method.name]));

@@ -29,7 +29,7 @@ fn made(home: &Path, files: &[String], names: &mut Names, folders: &mut Vec<Fold
     let beside = library(&home.join(NAMES)).map_err(|(_, said)| said)?;
     let mut library = Library::with(names.clone(), &beside.names).map_err(|clash| format!("the numbers of {NAMES} clash: {clash}"))?;
     let earlier: Vec<&Path> = folders.iter().map(Folder::path).collect();
-    let folder = compile(&paths, &earlier).map_err(|said| format!("javac doesn't take it\n{said}"))?;
+    let folder = compile(&paths, &earlier, false).map_err(|said| format!("javac doesn't take it\n{said}"))?;
     let given = compiled(&folder, &paths).map_err(|error| error.to_string())?;
     let others = earlier.iter().rev().flat_map(|path| class_files(path)).flatten().filter_map(|path| fs::read(path).ok()).collect::<Vec<_>>();
     let made = translate(&given, &others, &mut library).map_err(|refusals| format!("it isn't taken\n{}", refusals::show(&refusals).trim_end()))?;
