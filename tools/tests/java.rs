@@ -94,7 +94,7 @@ fn boxed(case: &Case) -> Result<Boxed, String> {
     Ok((files, library))
 }
 
-/// The calls that load a case's classes. A record goes before the first define that needs it.
+/// The calls that load a case's classes. A record goes before the first define of its loader where it can, else behind all.
 fn loads(case: &Case, (files, library): &Boxed) -> Vec<Call> {
     let number = |name: &str| library.names.number(name).expect("a name");
     let mut calls = Vec::new();
@@ -112,6 +112,9 @@ fn loads(case: &Case, (files, library): &Boxed) -> Vec<Call> {
         let class = case.defines.iter().position(|define| define.0 == *loader && define.1 == *name).expect("a class") as u32 + 1;
         calls.push(Call::Define { loader: u32::from(*loader), file: files[&(*loader, name.clone())].clone() });
         classes.insert((*loader, name), class);
+    }
+    for (to, recorded, of) in case.records.iter().filter(|record| !classes.contains_key(&(record.0, record.1.as_str()))) {
+        calls.push(Call::Record { loader: u32::from(*to), name: number(recorded).into(), class: classes[&(*of, recorded.as_str())] });
     }
     calls
 }
@@ -401,8 +404,8 @@ fn drawn() {
         }
         let (last, name) = (if crosses { 3 } else { 1 }, &program.classes[2].0);
         if crosses {
-            let upper = &program.classes[0].0;
-            case.records = vec![(2, upper.clone(), 1), (3, upper.clone(), 1), (3, program.classes[1].0.clone(), 2)];
+            let (upper, lower) = (&program.classes[0].0, &program.classes[1].0);
+            case.records = vec![(2, upper.clone(), 1), (3, upper.clone(), 1), (3, lower.clone(), 2), (1, lower.clone(), 2)];
         }
         case.runs = generate::INPUTS.map(|int| (last, name.clone(), "of".to_string(), int)).to_vec();
         cases.push(case);
