@@ -13,6 +13,7 @@ use reference::gen::build::{Code, Draft, MapDraft, MethodDraft};
 use reference::store::LOCALS;
 
 use crate::cursor::{Cursor, Parsed};
+use crate::java::lines::Lines;
 use crate::source::{Problem, Span};
 use crate::tokens::Kind;
 
@@ -23,6 +24,8 @@ pub struct Text {
     pub called: String,
     pub span: Span,
     pub bytes: Vec<u8>,
+    /// The Java lines of its code, if it was written in Java.
+    pub lines: Lines,
     /// Where parts of the text stand in the bytes, by rising place.
     marks: Vec<(usize, Span)>,
     /// The labels by the byte of the instruction behind them.
@@ -33,6 +36,11 @@ impl Text {
     /// The label before the instruction at this byte.
     pub fn label(&self, byte: usize) -> Option<&str> {
         self.labels.iter().find(|label| label.0 == byte).map(|label| label.1.as_str())
+    }
+
+    /// A file that was made otherwise: all of it comes from this part.
+    pub fn made(called: String, span: Span, bytes: Vec<u8>, lines: Lines) -> Text {
+        Text { called, span, bytes, lines, marks: Vec::new(), labels: Vec::new() }
     }
 
     /// The part of the text that this byte comes from.
@@ -123,7 +131,7 @@ pub fn class(at: &mut Cursor) -> Parsed<Text> {
     let mut labels = Vec::new();
     marks.extend(members.marks(draft.version, &mut labels));
     let bytes = fits(&draft).map_err(|said| Problem::new(end, said))?;
-    Ok(Text { called, span, bytes, marks, labels })
+    Ok(Text { called, span, bytes, lines: Lines::default(), marks, labels })
 }
 
 /// Where the members of a class stand in its text.
@@ -469,5 +477,5 @@ pub fn file(at: &mut Cursor) -> Parsed<Text> {
     at.sign('{')?;
     let bytes = at.bytes(true)?;
     at.sign('}')?;
-    Ok(Text { called: called.into(), span: begin.to(end), bytes, marks: Vec::new(), labels: Vec::new() })
+    Ok(Text { called: called.into(), span: begin.to(end), bytes, lines: Lines::default(), marks: Vec::new(), labels: Vec::new() })
 }
