@@ -10,6 +10,7 @@ wrong=0
 tools=${CARGO_TARGET_DIR:-$PWD/tools/target}
 work=$(mktemp -d)
 trap 'rm -rf "$work"' EXIT
+export TMPDIR=$work
 
 fail() { # WORDS
     echo "java: $*"
