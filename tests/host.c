@@ -1,7 +1,7 @@
 /* The ten calls from C: tables of wrong lengths, damaged stores, every word of refusal on pages that may only be read, numbers at their limits,
-   answer tables of every length, a run beside its steps, objects freed and their numbers used again, files of version 2, products and quotients,
-   fields of one name in a class and above it, files of version 3 with 0 to 4 arguments, loads tried on short and long lists, and the chains of
-   those that clash; and the desk beside define. */
+   answer tables of every length, a run beside its steps, objects freed and their numbers used again, the report's share, files of version 2,
+   products and quotients, fields of one name in a class and above it, files of version 3 with 0 to 4 arguments, loads tried on short and long
+   lists, and the chains of those that clash; and the desk beside define. */
 #define _GNU_SOURCE
 #include "host.h"
 
@@ -256,8 +256,8 @@ static void sweeping(void)
     quoting(IDENTITY);
     accepts("dropped", drop(TARIFF_QUOTE));
     for (int n = 1; n < 256; n++) {
-        accepts("an object", start(TARIFF_REPORT, 1, 10, 20, 7));
-        accepts("a drop", drop(TARIFF_REPORT));
+        accepts("an object", start(TARIFF_QUOTE, 1, 10, 20, 7));
+        accepts("a drop", drop(TARIFF_QUOTE));
     }
     refuses("256 in use", start(TARIFF_REPORT, 1, 10, 20, 7), TARIFF_FULL);
     set(0, OWNERS + 77, 0);
@@ -267,6 +267,55 @@ static void sweeping(void)
     frees("all but the report's", 255);
     accepts("room", start(TARIFF_QUOTE, 1, 10, 20, 7));
     check("from the lowest", owner(0) == 1 && owner(1) == 0 && owner(77) == 2);
+}
+
+/* Starts and drops that task n times over. */
+static void leaves(uint32_t task, int n)
+{
+    for (int i = 0; i < n; i++) {
+        accepts("an object", start(task, 1, 10, 20, 7));
+        accepts("a drop", drop(task));
+    }
+}
+
+/* The report makes 192 objects and no more until a sweep; the rest is the quote's. */
+static void share(void)
+{
+    quoting(TWO_OBJECTS);
+    leaves(TARIFF_REPORT, 191);
+    accepts("the last of the share", start(TARIFF_REPORT, 1, 10, 20, 7));
+    expect("a quote beside it", run(9), 0, SIX(TARIFF_RAN_FOR, 0, TARIFF_FINISHED, TARIFF_QUOTE, 7, 5));
+    for (int i = 0; i < 2; i++)
+        refuses("a new beyond the share", step(), TARIFF_SHARE_USED);
+    expect("a run into it", run(9), 0, SIX(TARIFF_RAN_FOR, TARIFF_SHARE_USED, 0, 0, 0, 0));
+    refuses("a second report", start(TARIFF_REPORT, 1, 10, 20, 7), TARIFF_BUSY);
+    accepts("the report dropped", drop(TARIFF_REPORT));
+    refuses("a start beyond the share", start(TARIFF_REPORT, 1, 10, 20, 7), TARIFF_SHARE_USED);
+    refuses("and no loader", start(TARIFF_REPORT, 16, 10, 20, 7), TARIFF_UNKNOWN);
+    wants("and a class not loaded", start(TARIFF_REPORT, 1, 11, 20, 7), 1, 11);
+    refuses("and no method", start(TARIFF_REPORT, 1, 10, 21, 7), TARIFF_ABSENT);
+    leaves(TARIFF_QUOTE, 61);
+    refuses("no object is left", start(TARIFF_QUOTE, 1, 10, 20, 7), TARIFF_FULL);
+    refuses("the share comes before", start(TARIFF_REPORT, 1, 10, 20, 7), TARIFF_SHARE_USED);
+    keep(&first);
+    set(0, OWNERS, 2);
+    for (int name = 1; name < CALLS; name++)
+        refuses("193 of the report", each(name), TARIFF_BROKEN);
+    put_back(&first);
+    set(0, OWNERS + 77, 1);
+    refuses("fewer of the report, and no object left", start(TARIFF_REPORT, 1, 10, 20, 7), TARIFF_FULL);
+    set(0, OWNERS + 77, 0);
+    accepts("one given up", start(TARIFF_REPORT, 1, 10, 20, 7));
+    frees("all but the report's", 255);
+    expect("room again", run(9), 0, SIX(TARIFF_RAN_FOR, 0, TARIFF_FINISHED, TARIFF_REPORT, 7, 5));
+
+    quoting(TWO_OBJECTS);
+    accepts("the quote dropped", drop(TARIFF_QUOTE));
+    leaves(TARIFF_REPORT, 190);
+    accepts("the last but one", start(TARIFF_REPORT, 1, 10, 20, 7));
+    expect("a run that uses up the share", run(9), 0, SIX(TARIFF_RAN_FOR, TARIFF_SHARE_USED, 0, 0, 0, 2));
+    frees("what is let go", 192);
+    expect("it goes on", run(9), 0, SIX(TARIFF_RAN_FOR, 0, TARIFF_FINISHED, TARIFF_REPORT, 7, 3));
 }
 
 /* Cells of free rows, and owners past the object count, are nobody's. */
@@ -615,17 +664,11 @@ static struct call tried(struct call load)
     return load;
 }
 
-/* A try that clashes by exactly these rows, which are upward; a chain of ties alone may be listed from its other end. The store stays. */
-static void clashes(const char *what, struct call load, size_t rows, const uint16_t *row, int ties_alone)
+/* A try that clashes by exactly these rows, in this order. The store stays. */
+static void clashes(const char *what, struct call load, size_t rows, const uint16_t *row)
 {
-    const uint16_t *list = table[LIST];
-    int upward = 1, downward = ties_alone;
     expect(what, tried(load), TARIFF_CLASH, SIX(TARIFF_DENIED, TARIFF_CLASH, 0, 0, 0, (uint32_t)rows));
-    for (size_t i = 0; i < rows; i++) {
-        upward = upward && list[i] == row[i];
-        downward = downward && list[i] == row[rows - 1 - i];
-    }
-    check(what, upward || downward);
+    check(what, memcmp(table[LIST], row, rows * sizeof *row) == 0);
 }
 
 #define ROWS(...) sizeof((uint16_t[]){__VA_ARGS__}) / 2, (uint16_t[]){__VA_ARGS__}
@@ -665,7 +708,7 @@ static void short_list(void)
 
 static void long_list(void)
 {
-    clashes("loader 2's own 12", define(2, 12, 2, 0, 0, 0, NULL), ROWS(0), 1);
+    clashes("loader 2's own 12", define(2, 12, 2, 0, 0, 0, NULL), ROWS(0));
     would("loader 1's 12 under loader 2", record(2, 12, 3), TARIFF_ACCEPTED, 0);
     would("an entry that is there", record(1, 12, 3), TARIFF_ACCEPTED, 0);
     would("another class", define(2, 14, 2, 0, 0, 0, NULL), TARIFF_DEFINED, 4);
@@ -689,10 +732,10 @@ static void mixed_chains(void)
     tied();
     defines("14 below 12", define(2, 15, 2, 0, 1, BELOW(14, 12)), 4);
     check("the second row is row 1", ((uint16_t *)table[0])[SUBTYPE_NUMBERS] == 1);
-    clashes("upward, then across", define(2, 14, 2, 0, 0, 0, NULL), ROWS(1, 0), 0);
-    clashes("its own row, and nobody's request", define(1, 16, 2, 0, 1, BELOW(12, 10)), ROWS(2), 0);
+    clashes("upward, then across", define(2, 14, 2, 0, 0, 0, NULL), ROWS(1, 0));
+    clashes("its own row, and nobody's request", define(1, 16, 2, 0, 1, BELOW(12, 10)), ROWS(2));
     lend(ANSWER, 3);
-    clashes("a short answer", define(2, 14, 2, 0, 0, 0, NULL), ROWS(1, 0), 0);
+    clashes("a short answer", define(2, 14, 2, 0, 0, 0, NULL), ROWS(1, 0));
     lend_all();
     keep(&first);
     static const struct { size_t cell; uint32_t value; } harm[] = {
@@ -707,12 +750,12 @@ static void mixed_chains(void)
     put_back(&first);
     set(0, TIE_NUMBERS, 1);
     set(0, SUBTYPE_NUMBERS, 0);
-    clashes("posted the other way round", define(2, 14, 2, 0, 0, 0, NULL), ROWS(0, 1), 0);
+    clashes("posted the other way round", define(2, 14, 2, 0, 0, 0, NULL), ROWS(0, 1));
     for (size_t row = 1; row < 256; row++) {
         set(0, TIE_NUMBERS + row, 65535);
         set(0, SUBTYPE_NUMBERS + row, 65535);
     }
-    clashes("numbers of rows that aren't used", define(2, 14, 2, 0, 0, 0, NULL), ROWS(0, 1), 0);
+    clashes("numbers of rows that aren't used", define(2, 14, 2, 0, 0, 0, NULL), ROWS(0, 1));
 }
 
 /* A define posts its notes, then its ties, and both are numbered so. */
@@ -723,11 +766,31 @@ static void numbers(void)
     accepts("loader 3 asks for class 10", record(3, 10, 1));
     defines("a note and a tie", define(3, 17, 10, 0, 12, BELOW(18, 19)), 4);
     check("the note, then the tie", counts[3] == 2 && counts[4] == 1 && counts[SUBTYPE_NUMBERS] == 1 && counts[TIE_NUMBERS + 1] == 2);
-    clashes("loader 3's own 12", define(3, 12, 2, 0, 0, 0, NULL), ROWS(2), 1);
+    clashes("loader 3's own 12", define(3, 12, 2, 0, 0, 0, NULL), ROWS(2));
     tied();
     accepts("loader 3 asks for class 10", record(3, 10, 1));
     defines("loader 3's own 12", define(3, 12, 2, 0, 0, 0, NULL), 4);
-    clashes("the tie behind the note", define(3, 17, 10, 0, 12, BELOW(18, 19)), ROWS(2), 1);
+    clashes("the tie behind the note", define(3, 17, 10, 0, 12, BELOW(18, 19)), ROWS(2));
+}
+
+/* The shortest chain, and of two of one length that with the lower row where they first differ; ties alone are read from either end. */
+static void shortest(void)
+{
+    tied();
+    accepts("loader 3 asks for loader 2's 13", record(3, 13, 2));
+    defines("row 1 ties 12 between loaders 3 and 2", define(3, 17, 13, 0, 12, ZERO), 4);
+    clashes("from loader 1's 12", define(3, 12, 2, 0, 0, 0, NULL), ROWS(0, 1));
+    accepts("loader 3 asks for class 10", record(3, 10, 1));
+    defines("row 2 ties 12 between loaders 3 and 1", define(3, 18, 10, 0, 12, ZERO), 5);
+    clashes("one row, though two lower ones would do", define(3, 12, 2, 0, 0, 0, NULL), ROWS(2));
+    ready();
+    defines("loader 2's class 10", define(2, 10, 2, 5, 12, ZERO), 1);
+    accepts("loader 3 asks for it", record(3, 10, 1));
+    accepts("loader 1 asks for it", record(1, 10, 1));
+    defines("row 0 ties 12 between loaders 3 and 2", define(3, 13, 10, 0, 12, ZERO), 2);
+    defines("row 1 ties 12 between loaders 1 and 2", define(1, 17, 10, 0, 12, ZERO), 3);
+    defines("loader 1's 12", define(1, 12, 2, 0, 0, 0, NULL), 4);
+    clashes("from loader 3's 12, as it would be", define(3, 12, 2, 0, 0, 0, NULL), ROWS(0, 1));
 }
 
 /* A call with a list: its count, the types and the result. */
@@ -923,7 +986,7 @@ static void tied_arguments(void)
         put_back(&after);
         defines("loader 1's", define(1, 12 + i, 2, 0, 0, 0, NULL), 4);
         refuses("loader 2's own", define(2, 12 + i, 2, 0, 0, 0, NULL), TARIFF_CLASH);
-        clashes("by its tie alone", define(2, 12 + i, 2, 0, 0, 0, NULL), ROWS(i), 1);
+        clashes("by its tie alone", define(2, 12 + i, 2, 0, 0, 0, NULL), ROWS(i));
         accepts("loader 1's under loader 2", record(2, 12 + i, 4));
         put_back(&first);
         defines("loader 1's", define(1, 12 + i, 2, 0, 0, 0, NULL), 3);
@@ -1004,7 +1067,7 @@ static void longest_chain(void)
     set(0, 4, 256);
     for (uint16_t i = 0; i < 512; i++)
         all[i] = i;
-    clashes("512 rows", define(0, 300, 2, 0, 0, 0, NULL), 512, all, 0);
+    clashes("512 rows", define(0, 300, 2, 0, 0, 0, NULL), 512, all);
     would("the upper class all along", define(0, 300, 556, 0, 0, 0, NULL), TARIFF_DEFINED, 2);
 }
 
@@ -1025,6 +1088,7 @@ static void trying(void)
     lend_all();
     mixed_chains();
     numbers();
+    shortest();
     longest_chain();
 }
 
@@ -1040,6 +1104,7 @@ int main(void)
     task_words();
     tie_by_a_step();
     sweeping();
+    share();
     free_rows();
     jumps();
     mapped_files();

@@ -17,9 +17,10 @@ add-result c = omega (arith, c .before .before .from16 .ensures .1, c .from162 .
 returns : tie.Need-returns
 returns c =
     let args = c .before .before .before .before .before .before .before .before .before .before .args in
-    let new = c .before .before .before .before .before .before .before .new-ties .ensures in
-    (omega (arith, c .before .before .from16 .ensures .0, c .from162 .ensures .0, c .before .tie-number .ensures .0, ap length new),
-    c .before .before .before .before .before .write-ties .ensures ∙ ap (λ (us : List Tie). writeRows putTie us (args .count) (now (args .ties))) new)
+    let new = c .before .before .before .before .before .before .before .new-ties .ensures in (
+      omega (arith, c .before .before .from16 .ensures .0, c .from162 .ensures .0, c .before .tie-number .ensures .0, ap length new),
+      c .before .before .before .before .before .write-ties .ensures ∙ ap (λ (us : List Tie). writeRows putTie us (args .count) (now (args .ties))) new,
+    )
 
 pub post-spec : {M : Type 1} → statement M
 post-spec =
