@@ -9,3 +9,4 @@ pub mod Rates
 pub mod HiddenFields
 pub mod Arguments
 pub mod Tried
+pub mod TakenBack

@@ -14,7 +14,7 @@ use Rattle.definition.specs.Machine.{Frame, Progress, step}
 use Rattle.definition.specs.Loading.{define, recorded, started}
 use Rattle.definition.specs.Sweeping.{reached, sweptFrom, freedFrom}
 use Rattle.definition.specs.File.{readFile, classOf}
-use Rattle.definition.specs.Tables.{Tables, shaped, RowNumbers, rowNumbers, Rows, noRows, withClasses, withKept, withCache, withTies, withSubtypes, withObjects, withFrames, withNumbers, withTrace, framesIn, levelOf, cutTo, classRow, entry, worldOf, view, put}
+use Rattle.definition.specs.Tables.{Tables, shaped, RowNumbers, rowNumbers, Level, Rows, noRows, withClasses, withKept, withCache, withTies, withSubtypes, withObjects, withFrames, withNumbers, withTrace, framesIn, levelOf, cutTo, classRow, entry, worldOf, view, put}
 use Rattle.definition.specs.Broken.{broken}
 
 -- On rows: an answer with the rows that the call leaves
@@ -58,9 +58,12 @@ addFile l bs r w =
     remembered r (withClasses (r .classes ++ (classRow l (length (r .kept)) (length bs) ∷ [])) (withKept (r .kept ++ bs)
     (withCache (w .base .cache) (withTies (w .ties) (withSubtypes (w .subtypes) (withNumbers (numberedOn (w .ties) (w .subtypes) r) r))))))
 
--- the entry of w, if it has one more: a record of an entry that is there changes nothing
-unfoldable pub addEntry : Rows → World → Rows
-addEntry r w = elim (ltb (length (r .cache)) (length (w .base .cache))) [ true ↦ remembered r (withCache (w .base .cache) r) | false ↦ r ]
+-- the cache as w has it; the load is remembered if that is longer: a record of an entry that is there changes nothing
+unfoldable pub entryTrace : Rows → World → List Level
+entryTrace r w = elim (ltb (length (r .cache)) (length (w .base .cache))) [ true ↦ take traceLimit (levelOf r ∷ r .trace) | false ↦ r .trace ]
+
+abbrev pub addEntry : Rows → World → Rows
+addEntry r w = withTrace (entryTrace r w) (withCache (w .base .cache) r)
 
 -- a task's progress: ties with their numbers, objects, and the task's frames
 abbrev pub progressed : ℕ → Rows → Progress → Rows
@@ -112,8 +115,12 @@ sweepRows r =
     given (Swept (freedFrom R 0 (r .objects))) (closed (withObjects (sweptFrom R 0 (r .objects)) r))
 
 -- take back: the latest load that changed the store is undone, where nothing closed it. 19
-unfoldable pub takeBackRows : Rows → Result (Given Reply)
-takeBackRows r = elim (r .trace) [ [] ↦ refused (Word wordLate) | l ∷ ls ↦ given Accepted (withTrace ls (cutTo l r)) ]
+unfoldable pub takenBack : List Level → Rows → Result (Given Reply)
+takenBack [] r = refused (Word wordLate)
+takenBack (l ∷ ls) r = given Accepted (withTrace ls (cutTo l r))
+
+abbrev pub takeBackRows : Rows → Result (Given Reply)
+takeBackRows r = takenBack (r .trace) r
 
 -- step: one instruction of the quote if it has a frame, else of the report; w is what the rows' classes, cache and constraints are
 

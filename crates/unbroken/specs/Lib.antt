@@ -5,6 +5,9 @@ pub mod Accepted
 pub mod WholeRows
 pub mod Swept
 pub mod Share
+pub mod Cut
+pub mod CutFits
+pub mod Traces
 pub mod Calls
 pub mod Refusing
 pub mod RefusingSteps
@@ -25,3 +28,4 @@ pub mod Waiting
 pub mod Rates
 pub mod HiddenFields
 pub mod FieldsLast
+pub mod TakenBack
