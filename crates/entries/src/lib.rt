@@ -1,4 +1,7 @@
-// Cells and rows written one after another, and a cache with one more entry on copies: what every call that loads goes by.
+// Cells and rows written one after another, a cache with one more entry on copies, and the trace of loads: what every call that loads goes by.
+mod trace; // trace.rt: a load remembered
+
+pub use trace::remember;
 use definition::Reply;
 use definition::Trial;
 use definition::numbers::COUNT_CACHE;

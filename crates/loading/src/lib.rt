@@ -4,6 +4,7 @@ pub use defining::try_define;
 use definition::Refusal;
 use definition::Reply;
 use definition::numbers::COUNT_FRAMES;
+use definition::numbers::LOADS_CELL;
 use definition::numbers::NAME_OBJECT;
 use definition::numbers::TASK_LIMIT;
 use definition::numbers::WORD_BROKEN;
@@ -14,7 +15,7 @@ ghost use mathlib.Core.Path.{_≡_};
 ghost use Rattle.definition.specs.Tables.{tables};
 ghost use Rattle.definition.specs.Calls.{done, callBoot, callDrop, perform};
 
-// Class 0 is Object of loader 0, the cache holds only (0, 2), all other rows are emptied.
+// Class 0 is Object of loader 0, the cache holds only (0, 2), all other rows are emptied, and no load can be taken back.
 pub fn boot(
     counts: &mut [u16],
     classes: &mut [u16],
@@ -40,12 +41,13 @@ pub fn boot(
         return Reply::Denied(Refusal::Word(WORD_BROKEN));
     }
     entries::write_cells(counts, 0, &[1, 0, 1, 0, 0, 0, 0, 0]);
+    cells::put16(counts, LOADS_CELL, 0);
     entries::put_three(classes, 0, 0, 0, 0);
     entries::put_three(cache, 0, 0, NAME_OBJECT, 0);
     Reply::Accepted
 }
 
-// The task's frames are cleared. Refusals: 1 3
+// The task's frames are cleared, and no load before it can be taken back. Refusals: 1 3
 pub fn drop_task(
     counts: &mut [u16],
     classes: &[u16],
@@ -75,5 +77,6 @@ pub fn drop_task(
         return Reply::Denied(Refusal::Word(WORD_UNKNOWN));
     }
     cells::put16(counts, COUNT_FRAMES + cells::wide32(task), 0);
+    cells::put16(counts, LOADS_CELL, 0);
     Reply::Accepted
 }

@@ -2,12 +2,12 @@
 -- are undone by so many takings back, whatever calls that close nothing came between.
 use mathlib.Core.Path.{_≡_, refl, sym, ap, _∙_, subst}
 use mathlib.Core.Bool.{Bool, true, false, false≢true, _&&_}
-use mathlib.Core.Option.{Option, none, some, Option·none-ne-some}
+use mathlib.Core.Option.{Option, none, some, Option·none-ne-some, Option·some-injective}
 use mathlib.Core.List.{List, [], _∷_, _++_}
 use mathlib.Core.Logic.{_⊎_, inl, inr, _≢_}
 use Prim.Native.Nat.{ℕ, zero, suc, _+_, _-_, _≤_, _<_}
 use native.Mathlib.Omega.{arith}
-use lib.ListN.{length, getD, set, take, replicate}
+use lib.ListN.{length, getElem?, getD, set, take, replicate}
 use lib.Dec.{leb}
 use lib.Seq.{take-take, take-all, getD-set-other}
 use Rattle.definition.specs.declared.Refusal.{Refusal}
@@ -19,7 +19,7 @@ use Rattle.definition.specs.declared.Reply.the-variants.{Accepted, Denied}
 use Rattle.definition.specs.Numbers.{wordLate, loadsCell}
 use Rattle.definition.specs.Lists.{stack}
 use Rattle.definition.specs.Tables.{Tables, tables, Level, Rows, levelOf, cutTo, withTrace, levelAt, worldOf, viewBase, viewOver, view, put}
-use Rattle.definition.specs.Broken.{broken}
+use Rattle.definition.specs.Broken.{traceFits, broken}
 use Rattle.definition.specs.Machine.{Frame}
 use Rattle.definition.specs.Calls.{Given, Done, done, carried, takenBack, Load, loadDefine, loadRecord, RowCall, rowDefine, rowRecord, rowStart, rowDrop, rowSweep, rowTry, rowTakeBack, onRowCall, Call, callBoot, callRows, callStep, callRun, callTakeBack, stepTask, stepOn, stepTables, stepRows, goOn, runFrom, run, perform, performAll}
 use Rattle.definition.specs.Computing.OnRows.{givenRows, settle, onRows, performRows, performAllRows}
@@ -29,7 +29,9 @@ use Rattle.laws.specs.Runs.{run-keeps, runs-end}
 use Rattle.unbroken.specs.Parts.{idle-same}
 use Rattle.unbroken.specs.Lasting.{UnloadsRows, Unloads}
 use Rattle.laws.specs.Wrapped.{wrap-carried, Ok, ok-at, then}
-use Rattle.layout.specs.Traced.{EachTurn, Leaves, Under, cut-load}
+use Rattle.layout.specs.Traced.{EachTurn, Leaves, Under, cut-load, fits-trace, trace-fits}
+use Rattle.layout.specs.Whole.{Whole, whole-sound}
+use Rattle.unbroken.specs.Cut.{cut-whole}
 use Rattle.layout.specs.Fills.{countAt, classes-fill, kept-fill, cache-fill, ties-fill, subtypes-fill}
 use Rattle.layout.specs.View.{back-writes}
 use Rattle.layout.specs.ReadBack.{true-shaped, view-put}
@@ -312,23 +314,31 @@ back-written t h n l v =
     back-writes (viewBase t) t n l (omega (arith, v .classes, classes-fill t .count)) (omega (arith, v .kept, kept-fill t .count)) (omega (arith, v .cache, cache-fill t .count))
     (omega (arith, v .ties, ties-fill t .count)) (omega (arith, v .subtypes, subtypes-fill t .count)) (unbroken t h .counts .ties)
 
+trace-read : (t : Tables) (n : ℕ) → countAt t loadsCell ≡ n → view t .trace ≡ stack (levelAt (t .counts)) n
+trace-read t n e = unfold view viewOver in ap (stack (levelAt (t .counts))) e
+
+-- where there is a load: the five counts of its level, and one load less
+pub taken-written : (t : Tables) → broken t ≡ false → (n : ℕ) → countAt t loadsCell ≡ suc n
+    → (let l = levelAt (t .counts) n in perform callTakeBack t
+    ≡ done Accepted (tables (set (set (set (set (set (set (t .counts) 0 (l .classes)) 1 (l .kept)) 2 (l .cache)) 3 (l .ties)) 4 (l .subtypes)) loadsCell n)
+    (t .classes) (t .kept) (t .cache) (t .ties) (t .subtypes) (t .objects) (t .frames)))
+taken-written t h n e =
+    let l : Level = levelAt (t .counts) n in
+    let here : view t .trace ≡ l ∷ stack (levelAt (t .counts)) n = trace-read t (suc n) e ∙ (unfold stack in refl) in
+    let b : EachTurn Leaves (l ∷ stack (levelAt (t .counts)) n) (view t) = subst (λ ls. EachTurn Leaves ls (view t)) here (broken-false t h .2) in
+    taken-done t h l (stack (levelAt (t .counts)) n) here ∙ ap (done Accepted) (back-written t h n l (b .0 .0))
+
 left-alone : (t : Tables) → BackLeaves t t
 left-alone t = record { counts = λ j l e. refl; classes = refl; kept = refl; cache = refl; ties = refl; subtypes = refl; objects = refl; frames = refl }
 
 pub taken-tables : (t : Tables) → broken t ≡ false → BackLeaves t (perform callTakeBack t .tables)
 taken-tables t h = go (countAt t loadsCell) refl
   where
-    read : (n : ℕ) → countAt t loadsCell ≡ n → view t .trace ≡ stack (levelAt (t .counts)) n
-    read n e = unfold view viewOver in ap (stack (levelAt (t .counts))) e
-
     go : (n : ℕ) → countAt t loadsCell ≡ n → BackLeaves t (perform callTakeBack t .tables)
-    go zero e = subst (BackLeaves t) (sym (ap (λ (d : Done Reply). d .tables) (taken-late t h (read 0 e ∙ (unfold stack in refl))))) (left-alone t)
+    go zero e = subst (BackLeaves t) (sym (ap (λ (d : Done Reply). d .tables) (taken-late t h (trace-read t 0 e ∙ (unfold stack in refl))))) (left-alone t)
     go (suc n) e =
         let l : Level = levelAt (t .counts) n in
-        let here : view t .trace ≡ l ∷ stack (levelAt (t .counts)) n = read (suc n) e ∙ (unfold stack in refl) in
-        let u = broken-false t h in
-        let b : EachTurn Leaves (l ∷ stack (levelAt (t .counts)) n) (view t) = subst (λ ls. EachTurn Leaves ls (view t)) here (u .2) in
-        subst (BackLeaves t) (sym (ap (λ (d : Done Reply). d .tables) (taken-done t h l (stack (levelAt (t .counts)) n) here) ∙ back-written t h n l (b .0 .0)))
+        subst (BackLeaves t) (sym (ap (λ (d : Done Reply). d .tables) (taken-written t h n e)))
         (record {
           counts = λ j g z. five-counts (t .counts) l n j g z;
           classes = refl;
@@ -365,6 +375,15 @@ step-closed t = shown Refused stepRows (λ a s. WentOn a → s .trace ≡ []) t 
 
 stays-closed : (t : Tables) → view t .trace ≡ [] → view (stepTables t .tables) .trace ≡ []
 stays-closed t e = elim (step-traces t) [ inl s ↦ ap (λ (r : Rows). r .trace) s ∙ e | inr s ↦ s ]
+
+-- a run leaves the rows as they were, or no load to take back
+pub run-traces : (n : ℕ) (t : Tables) → (view (perform (callRun n) t .tables) ≡ view t) ⊎ (view (perform (callRun n) t .tables) .trace ≡ [])
+unfolding perform
+run-traces n t = run-keeps (λ s. (view s ≡ view t) ⊎ (view s .trace ≡ [])) on n t (inl refl)
+  where
+    on : (s : Tables) → (view s ≡ view t) ⊎ (view s .trace ≡ []) → (view (stepTables s .tables) ≡ view t) ⊎ (view (stepTables s .tables) .trace ≡ [])
+    on s (inl e) = elim (step-traces s) [ inl q ↦ inl (q ∙ e) | inr q ↦ inr q ]
+    on s (inr e) = inr (stays-closed s e)
 
 accepted-by : (c : RowCall) (t : Tables) → refusal (perform (callRows c) t .answer) ≡ none → TraceBy c (view t) (view (perform (callRows c) t .tables))
 unfolding perform
@@ -410,3 +429,30 @@ closed-late c t h x = taken-late (perform c t .tables) (kept-unbroken c t h) (go
     go (callRows c) x = rows c x
     go callStep x = unfold perform in step-closed t x
     go (callRun n) x = run-closed n t h (x .0) (x .1)
+
+-- Word 1's test of the trace in words: each of the loads, the latest first, finds its rows where those before it were taken back, and leaves whole rows
+
+-- the rows where i loads were taken back
+abbrev pub backBy : ℕ → List Level → Rows → Rows
+backBy zero ls r = r
+backBy (suc i) [] r = r
+backBy (suc i) (l ∷ ls) r = backBy i ls (cutTo l r)
+
+abbrev pub InTurn : List Level → Rows → Type 0
+InTurn ls r = (i : ℕ) (l : Level) → getElem? ls i ≡ some l → Under l (backBy i ls r) × Whole (cutTo l (backBy i ls r))
+
+turns-words : (ls : List Level) (r : Rows) → Whole r → EachTurn Leaves ls r → InTurn ls r
+turns-words [] r w h i l e = absurd (Option·none-ne-some l e)
+turns-words (m ∷ ls) r w h zero l e =
+    subst (λ (l : Level). Under l r × Whole (cutTo l r)) (Option·some-injective m l e) (h .0 .0, cut-whole m r (h .0 .1) (h .0 .0) w)
+turns-words (m ∷ ls) r w h (suc i) l e = turns-words ls (cutTo m r) (cut-whole m r (h .0 .1) (h .0 .0) w) (h .1) i l e
+
+words-turns : (ls : List Level) (r : Rows) → InTurn ls r → EachTurn Leaves ls r
+words-turns [] r h = tt
+words-turns (m ∷ ls) r h = let a = h 0 m refl in ((a .0, whole-sound (cutTo m r) (a .1)), words-turns ls (cutTo m r) (λ i l e. h (suc i) l e))
+
+pub trace-words : (r : Rows) → Whole r → traceFits (r .trace) r ≡ true → InTurn (r .trace) r
+trace-words r w h = turns-words (r .trace) r w (fits-trace (r .trace) r h)
+
+pub words-trace : (r : Rows) → InTurn (r .trace) r → traceFits (r .trace) r ≡ true
+words-trace r h = trace-fits (r .trace) r (words-turns (r .trace) r h)
