@@ -14,7 +14,7 @@ returns-2 : tie.Need-returns-2
 returns-2 c = back-late _ (sym (c .before .before .before .before .is-broken .ensures) ∙ c .before .before .before .if1 .left) (sym (c .before .at16 .ensures) ∙ c .if2 .taken)
 
 sub-take-level : tie.Need-sub-take-level
-sub-take-level c = omega (arith, c .if2 .left)
+sub-take-level c = omega (arith, c .before .if2 .left)
 
 returns-3 : tie.Need-returns-3
 returns-3 c = rw (c .before .before .take-level .ensures) (back-done _ (sym (c .before .before .before .before .before .before .before .before .is-broken .ensures) ∙ c .before .before .before .before .before .before .before .if1 .left) _ (λ e. c .before .before .before .before .if2 .left (c .before .before .before .before .before .at16 .ensures ∙ e)) (ap (λ (n : ℕ). n - 1) (c .before .before .before .before .before .at16 .ensures)))

@@ -8,16 +8,16 @@ use Rattle.entries.proofs.trace.copy_level.Statement.{statement}
 use Rattle.entries.proofs.trace.copy_level.Tie as tie
 
 add-at16 : tie.Need-add-at16
-add-at16 c = omega (arith, c .before .before .before .pre)
+add-at16 c = omega (arith, c .before .before .before .before .pre)
 
 add-at16-2 : tie.Need-add-at16-2
-add-at16-2 c = omega (arith, c .before .before .before .before .before .pre)
+add-at16-2 c = omega (arith, c .before .before .before .before .before .before .pre)
 
 add-at16-3 : tie.Need-add-at16-3
-add-at16-3 c = omega (arith, c .before .before .before .before .before .before .before .pre)
+add-at16-3 c = omega (arith, c .before .before .before .before .before .before .before .before .pre)
 
 add-at16-4 : tie.Need-add-at16-4
-add-at16-4 c = omega (arith, c .before .before .before .before .before .before .before .before .before .pre)
+add-at16-4 c = omega (arith, c .before .before .before .before .before .before .before .before .before .before .pre)
 
 returns : tie.Need-returns
 unfolding putLevel levelIn
