@@ -97,7 +97,8 @@ enum tariff_word {
     TARIFF_STUCK = 14,      /* step: no instruction, or no operand, local, class or method, as the instruction needs it */
     TARIFF_UNMAPPED = 15,   /* define: a jump's target, or an instruction after a goto or return, without a map */
     TARIFF_SHORT_LIST = 16, /* a try: its list has fewer than TARIFF_LIST cells */
-    TARIFF_ZERO_DIVISOR = 17 /* step: idiv by 0 */
+    TARIFF_ZERO_DIVISOR = 17, /* step: idiv by 0 */
+    TARIFF_SHARE_USED = 18  /* the report's start, or its step's new: 192 objects in use are the report's */
 };
 
 /* boot: makes a store of the tables, whatever they held. Class 0 is Object, known to loader 0 alone. Refusal: 1, for the lengths. */
@@ -126,7 +127,7 @@ uint8_t tariff_record(uint16_t *counts, size_t counts_length, const uint16_t *cl
 
 /* start: the task gets a new object of the class of that name under that loader, and a first frame in its method of that
    name with one int as its argument and an int as its result, called with that object and `value`, the 32 bits of an int. Nothing runs yet. The object takes the lowest unused number, as one
-   that a step makes does. Refusals: 1 3 12 5 7 10. */
+   that a step makes does. Refusals: 1 3 12 5 7 18 10. */
 uint8_t tariff_start(uint16_t *counts, size_t counts_length, const uint16_t *classes, size_t classes_length,
                      const uint8_t *kept, size_t kept_length, const uint16_t *cache, size_t cache_length,
                      const uint16_t *ties, size_t ties_length, const uint16_t *subtypes, size_t subtypes_length,
@@ -134,8 +135,8 @@ uint8_t tariff_start(uint16_t *counts, size_t counts_length, const uint16_t *cla
                      uint32_t task, uint32_t loader, uint16_t name, uint16_t method, uint32_t value,
                      uint32_t *answer, size_t answer_length);
 
-/* step: one instruction of the quote if it has a frame, else of the report. Refusals: 1, unreadable 14, 5 7 10 9, other 14, 11 17. A
-   step that wants a class is tried again once the class is loaded. */
+/* step: one instruction of the quote if it has a frame, else of the report. Refusals: 1, unreadable 14, 5 7 18 10 9, other 14, 11 17.
+   A step that wants a class is tried again once the class is loaded. */
 uint8_t tariff_step(uint16_t *counts, size_t counts_length, const uint16_t *classes, size_t classes_length,
                     const uint8_t *kept, size_t kept_length, const uint16_t *cache, size_t cache_length,
                     uint16_t *ties, size_t ties_length, const uint16_t *subtypes, size_t subtypes_length,

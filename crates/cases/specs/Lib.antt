@@ -9,4 +9,5 @@ pub mod Rates
 pub mod HiddenFields
 pub mod Arguments
 pub mod Tried
+pub mod Share
 pub mod TakenBack

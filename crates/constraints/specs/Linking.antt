@@ -3,8 +3,8 @@ use mathlib.Core.Path.{_≡_}
 use mathlib.Core.Bool.{Bool, true, false}
 use mathlib.Core.Option.{Option, none}
 use mathlib.Core.List.{List, [], _∷_, _++_}
-use Prim.Native.Nat.{ℕ, _+_, _*_, _<_, _≤_}
-use lib.ListN.{length, getD}
+use Prim.Native.Nat.{ℕ, _+_, _*_, _<_}
+use lib.ListN.{getD}
 use lib.Dec.{ltb}
 use Rattle.definition.specs.Numbers.{shortRange, tieLimit, subtypeLimit, countCache, countTies, countSubtypes, tieNumbersCell, subtypeNumbersCell}
 use Rattle.definition.specs.Lists.{rows}
@@ -50,12 +50,6 @@ numbersFit counts =
 unfoldable pub standing : List ℕ → ℕ
 standing [] = noNumber
 standing (x ∷ xs) = x
-
--- of n rows whose numbers begin at cell `first` the table holds the first `held`
-pub record Held (counts : List ℕ) (first n held : ℕ) : Type 0 where
-  pub few : held ≤ n
-  pub here : (i : ℕ) → i < held → first + i < length counts
-  pub past : (i : ℕ) → held ≤ i → i < n → length counts ≤ first + i
 
 -- The links of the first rows of the tables, with their numbers
 

@@ -1,5 +1,6 @@
 // The numbers of ties and subtype constraints: each next number stands next in one of the two tables.
 use cells::at16;
+use cells::held16;
 use cells::wide16;
 use definition::numbers::COUNT_SUBTYPES;
 use definition::numbers::COUNT_TIES;
@@ -11,24 +12,11 @@ ghost use Prim.Native.Nat.{_-_, _<_};
 ghost use Rattle.definition.specs.Numbers.{shortRange};
 ghost use Rattle.definition.specs.Lists.{rows};
 ghost use Rattle.definition.specs.Tables.{numberAt};
-ghost use Rattle.constraints.specs.Linking.{Held, standing, numbersFit};
+ghost use Rattle.cells.specs.Held.{Held};
+ghost use Rattle.constraints.specs.Linking.{standing, numbersFit};
 
 // What stands where there is no row: a number that no row has.
 const NO_NUMBER: usize = 2 * SHORT_RANGE as usize;
-
-// How many of n rows the table holds whose numbers begin at cell `first`.
-fn rows_held(counts: &[u16], first: usize, n: usize) -> usize
-    requires { ⌜ (first < shortRange) × (n < shortRange) ⌝ }
-    ensures { λ r. ⌜ Held (now (counts .entry)) first n r ⌝ }
-{
-    if first + n <= counts.len() {
-        return n;
-    }
-    if counts.len() <= first {
-        return 0;
-    }
-    counts.len() - first
-}
 
 // The number of row i of n, or one that no row has. Rows that the table doesn't hold have 0.
 fn number_at(counts: &[u16], first: usize, held: usize, n: usize, i: usize) -> usize
@@ -47,8 +35,8 @@ pub fn numbers_fit(counts: &[u16]) -> bool
 {
     let ties = wide16(at16(counts, COUNT_TIES));
     let subtypes = wide16(at16(counts, COUNT_SUBTYPES));
-    let ties_held = rows_held(counts, TIE_NUMBERS_CELL, ties);
-    let subtypes_held = rows_held(counts, SUBTYPE_NUMBERS_CELL, subtypes);
+    let ties_held = held16(counts, TIE_NUMBERS_CELL, ties);
+    let subtypes_held = held16(counts, SUBTYPE_NUMBERS_CELL, subtypes);
     let mut t = 0;
     let mut s = 0;
     let mut k = 0;

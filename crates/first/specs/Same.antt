@@ -13,6 +13,7 @@
 -- 7, more than one argument: tables carry as before. Files of version 3 are involved as those of version 2 are. The first document's machine reads, verifies, selects, ties and calls with one argument, in its own text
 -- (first/Signatures, Files, Verifier, Machine); a signature of a version 1 file has a list of one, and with that today's machine does the same.
 -- 8, room kept for quotes: `Carries` forgets whose an object is. A call that today's machine answers with 18, and a run that ends in it, are involved: the first document's report had no share.
+-- In a list that starts no report, where the report has no frame, none is (`unshared-quotes`).
 use mathlib.Core.Path.{_≡_, refl, ap}
 use mathlib.Core.Bool.{Bool, true, false}
 use mathlib.Core.List.{List, [], _∷_, map}
@@ -25,7 +26,7 @@ use Rattle.definition.specs.Lists.{Each}
 use Rattle.definition.specs.Answers.{numberOf}
 use Rattle.definition.specs.declared.Reply.{Reply}
 use Rattle.definition.specs.declared.Reply.the-variants.{Accepted, Stepped}
-use Rattle.definition.specs.Tables.{Tables}
+use Rattle.definition.specs.Tables.{Tables, view}
 use Rattle.definition.specs.Calls.{boot, Done, Call, callBoot, callRows, callStep, callRun, perform, performAll}
 use Rattle.first.specs.Tables.{FirstTables}
 use Rattle.first.specs.Calls.{FirstReply, FirstRowCall, firstRowDefine, firstRowRecord, firstRowStart, firstRowDrop, FirstCall, firstCallBoot, firstCallRows, firstCallStep, firstCallRun, FirstDone, firstBoot, firstPerform, firstPerformAll}
@@ -33,6 +34,8 @@ use Rattle.first.specs.SameFiles.{laterFile}
 use Rattle.first.specs.SameRows.{BringsLater, BringsNone, todayRow}
 pub use Rattle.first.specs.Carries.{Carries, EarlyTables, keepsLater, keeps-none, same-broken}
 use Rattle.layout.specs.Tests.{All}
+use Rattle.unbroken.specs.Share.{refused-share, idle-unshared, idle-run-unshared}
+use Rattle.unbroken.specs.Tasks.{StartsReport, report-none}
 use Rattle.first.specs.KeepsNone.{keeps-early, booted-early}
 use Rattle.first.specs.SameCalls.{Unhidden, ToldCall, ToldRun, same-boot, same-rows-call, same-step-tables, same-run}
 
@@ -47,7 +50,8 @@ abbrev pub SameAnswer : FirstReply → Reply → Type 0
 SameAnswer a b = a ≡ b
 
 -- what the papers name is involved in call c on tables u, which the first document's machine answers with a and today's with b: a file of a later version, which the
--- tables keep or the call brings, or a hidden field, for which the first document's machine refuses it
+-- tables keep or the call brings, a hidden field, for which the first document's machine refuses it, or the report's share, for which today's machine refuses it or
+-- ends the run
 abbrev pub Involved : FirstCall → FirstTables → FirstReply → Reply → Type 0
 Involved firstCallBoot u a b = ⊥
 Involved (firstCallRows c) u a b = (keepsLater u ≡ true) ⊎ (BringsLater c ⊎ ((numberOf a ≡ wordHidden) ⊎ ToldCall b))
@@ -169,6 +173,23 @@ SameLeft cs u t = Each SameAnswer (firstPerformAll cs u .answer) (performAll (ma
 abbrev pub Unshared : List FirstCall → Tables → Type 0
 Unshared [] t = Unit {0}
 Unshared (c ∷ cs) t = (Told c (perform (today c) t .answer) → ⊥) × Unshared cs (perform (today c) t .tables)
+
+-- it holds by itself of a list that starts no report, where the report has no frame
+abbrev pub StartsNone : FirstCall → Type 0
+StartsNone c = StartsReport (today c) → ⊥
+
+untold-call : (c : FirstCall) → StartsNone c → (t : Tables) → view t .report ≡ [] → Told c (perform (today c) t .answer) → ⊥
+untold-call firstCallBoot h t e q = q
+untold-call (firstCallRows (firstRowDefine l bs)) h t e q = refused-share (callRows (todayRow (firstRowDefine l bs))) t q .0
+untold-call (firstCallRows (firstRowRecord l n c)) h t e q = refused-share (callRows (todayRow (firstRowRecord l n c))) t q .0
+untold-call (firstCallRows (firstRowStart k l n m v)) h t e q = h (refused-share (callRows (todayRow (firstRowStart k l n m v))) t q .0)
+untold-call (firstCallRows (firstRowDrop k)) h t e q = refused-share (callRows (todayRow (firstRowDrop k))) t q .0
+untold-call firstCallStep h t e q = idle-unshared t e (refused-share callStep t q .0)
+untold-call (firstCallRun n) h t e q = idle-run-unshared n t e q
+
+pub unshared-quotes : (cs : List FirstCall) → All StartsNone cs → (t : Tables) → view t .report ≡ [] → Unshared cs t
+unshared-quotes [] h t e = tt
+unshared-quotes (c ∷ cs) h t e = (untold-call c (h .0) t e, unshared-quotes cs (h .1) (perform (today c) t .tables) (report-none (today c) (h .0) t e))
 
 pub answers-kept : (cs : List FirstCall) → All CallBringsNone cs → (u : FirstTables) (t : Tables) → Carries u t → EarlyTables u → All Unhidden (firstPerformAll cs u .answer) → Unshared cs t
     → SameLeft cs u t × EarlyTables (firstPerformAll cs u .tables)

@@ -305,6 +305,13 @@ from-boot t (afterCall c u b) = perform-sane c u (from-boot u b) .1
 pub safe-from-boot : (t : Tables) → ComesFromBoot t → (cs : List Call) → Safe (performAll cs t)
 safe-from-boot t b cs = safe-on t (from-boot t b) cs
 
+-- it isn't broken, and what the invariant says holds of it
+pub unbroken-from-boot : (t : Tables) → ComesFromBoot t → broken t ≡ false
+unbroken-from-boot t b = from-boot t b .unbroken
+
+pub valid-from-boot : (t : Tables) → ComesFromBoot t → Valid (storeOf (view t))
+valid-from-boot t b = from-boot t b .valid
+
 -- and the store agrees
 pub agrees-from-boot : (t : Tables) → ComesFromBoot t → Agrees (worldOf (view t))
 agrees-from-boot t b = from-boot t b .valid .linked .agreed

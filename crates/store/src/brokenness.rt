@@ -3,6 +3,7 @@ use crate::Fields;
 use crate::Sizes;
 use crate::counts::are_within;
 use crate::counts::is_shaped;
+use crate::counts::share_fits;
 use crate::sources::rows_fit;
 use crate::sources::sources_fit;
 use crate::trace::trace_fits;
@@ -108,7 +109,7 @@ fn values_fit(
     trace_fits(counts, classes, cache, &ends, objects, frames)
 }
 
-// Lengths, counts, numbers of rows, files and rows: after these, classes are read at once.
+// Lengths, counts, the report's share, numbers of rows, files and rows: after these, classes are read at once.
 fn is_readable(
     counts: &[u16],
     classes: &[u16],
@@ -134,6 +135,9 @@ fn is_readable(
         return false;
     }
     if !are_within(counts) {
+        return false;
+    }
+    if !share_fits(counts) {
         return false;
     }
     if !constraints::numbers_fit(counts) {

@@ -4,7 +4,6 @@ pub mod Progress
 pub mod Accepted
 pub mod WholeRows
 pub mod Swept
-pub mod Share
 pub mod Cut
 pub mod CutFits
 pub mod Traces
@@ -29,3 +28,4 @@ pub mod Rates
 pub mod HiddenFields
 pub mod FieldsLast
 pub mod TakenBack
+pub mod Share
