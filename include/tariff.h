@@ -19,7 +19,7 @@ extern "C" {
 
 /* How many cells each table has. */
 enum {
-    TARIFF_COUNTS = 776,
+    TARIFF_COUNTS = 937,
     TARIFF_CLASSES = 192,
     TARIFF_KEPT = 16384,
     TARIFF_CACHE = 768,
@@ -98,7 +98,8 @@ enum tariff_word {
     TARIFF_UNMAPPED = 15,   /* define: a jump's target, or an instruction after a goto or return, without a map */
     TARIFF_SHORT_LIST = 16, /* a try: its list has fewer than TARIFF_LIST cells */
     TARIFF_ZERO_DIVISOR = 17, /* step: idiv by 0 */
-    TARIFF_SHARE_USED = 18  /* the report's start, or its step's new: 192 objects in use are the report's */
+    TARIFF_SHARE_USED = 18, /* the report's start, or its step's new: 192 objects in use are the report's */
+    TARIFF_TOO_LATE = 19    /* take back: no load is left that can be taken back */
 };
 
 /* boot: makes a store of the tables, whatever they held. Class 0 is Object, known to loader 0 alone. Refusal: 1, for the lengths. */
@@ -167,6 +168,14 @@ uint8_t tariff_sweep(uint16_t *counts, size_t counts_length, const uint16_t *cla
                      const uint16_t *ties, size_t ties_length, const uint16_t *subtypes, size_t subtypes_length,
                      const uint32_t *objects, size_t objects_length, const uint32_t *frames, size_t frames_length,
                      uint32_t *answer, size_t answer_length);
+
+/* take back: undoes the latest load that changed the store, so that classes, kept files, cache and constraints read as before it; again for
+   the last 32 of them. An accepted boot, start, drop or sweep, and a step that ran or finished, close what came before. Refusals: 1 19. */
+uint8_t tariff_take_back(uint16_t *counts, size_t counts_length, const uint16_t *classes, size_t classes_length,
+                         const uint8_t *kept, size_t kept_length, const uint16_t *cache, size_t cache_length,
+                         const uint16_t *ties, size_t ties_length, const uint16_t *subtypes, size_t subtypes_length,
+                         const uint32_t *objects, size_t objects_length, const uint32_t *frames, size_t frames_length,
+                         uint32_t *answer, size_t answer_length);
 
 /* try define, try record: the load isn't made, and is answered as it would be. No table of the store changes. If it clashes, the first cells
    of the list get the numbers of the rows, upward, of one chain of constraints that breaks agreement, and TARIFF_CELL_STEPS how many they

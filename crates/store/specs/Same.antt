@@ -227,7 +227,7 @@ checks-sound t h =
     let q = links-said b n (ap (λ (d : Base). linksFit d n) (sym e) ∙ v .0) c k l in
     let u = is-some _ (q .0) in
     record { loader = sources-other (getD (t .counts) 1 0) (t .kept) (classRowAt (t .classes)) n (p .1 .1 .1 .1 .0) c k l .loader; file = f .0; reads = f .1; super = u .0; isSuper = u .1; size = q .1 }) in
-    let s : sound (view t) ≡ true =
+    let sounds : sound (view t) ≡ true =
     true-every _ (
       classes-fit _ _ _ classes,
       (
@@ -244,9 +244,9 @@ checks-sound t h =
         ),
       ),
     ) in
-    let w = view-whole t (within-true (t .counts) (p .1 .0)) (sound-true (view t) s) in
+    let w = view-whole t (within-true (t .counts) (p .1 .0)) (sound-true (view t) sounds) in
     let trace : Base → Bool = λ d. traceQuick (superEnd d) (t .counts) (t .classes) (t .cache) (t .objects) (t .frames) in
-    true-every _ (p .0, (p .1 .0, (s, (same-trace t w ∙ (ap trace (sym e) ∙ v .1 .1 .1 .1 .0), tt))))
+    true-every _ (p .0, (p .1 .0, (sounds, (same-trace t w ∙ (ap trace (sym e) ∙ v .1 .1 .1 .1 .0), tt))))
 
 sound-checks : (t : Tables) → whole t ≡ true → checks t ≡ true
 unfolding checks readable whole sound view viewOver rowsFit valuesFit numbersFit
