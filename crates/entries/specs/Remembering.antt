@@ -1,7 +1,7 @@
 -- A load remembered in the counts: their first five cells stand as the latest level behind the others, and there is one load more; of 32 the oldest goes, and the
 -- others move down by a row. More than 32 are no store's, and nothing is written.
 use mathlib.Core.Path.{_≡_, refl, sym, ap, _∙_}
-use mathlib.Core.Bool.{true, false}
+use mathlib.Core.Bool.{Bool, true, false}
 use mathlib.Core.List.{List, [], _∷_}
 use Prim.Native.Nat.{ℕ, zero, suc, _+_, _*_, _<_, _≤_}
 use native.Mathlib.Omega.{arith}
@@ -13,7 +13,7 @@ use Rattle.definition.specs.Numbers.{loadsCell, traceCell, levelCells, traceLim
 use Rattle.definition.specs.Lists.{stack, writeStack}
 use Rattle.definition.specs.Tables.{Level, level, levelAt, putLevel, putTrace}
 use Rattle.layout.specs.Places.{writeStack-length}
-use Rattle.layout.specs.TracedRows.{putLevel-length, putLevel-other, remember-few, remember-full, moved-down, still-above}
+use Rattle.layout.specs.TracedRows.{putLevel-length, putLevel-other, putTrace-before, remember-few, remember-full, moved-down, still-above}
 
 -- the level whose five counts stand from a cell on
 unfoldable pub levelIn : List ℕ → ℕ → Level
@@ -91,3 +91,19 @@ moved-length c k = writeStack-length putLevel putLevel-length (stack (λ i. leve
 
 pub le-same : {k n : ℕ} → k ≤ n → n ≤ k → k ≡ n
 le-same {k} {n} l m = omega arith
+
+-- counts, owners and numbers stay
+pub remembered-before : (c : List ℕ) (j : ℕ) → j < loadsCell → getD (rememberedIn c) j 0 ≡ getD c j 0
+unfolding rememberedIn
+remembered-before c j l = go (leb (getD c loadsCell 0) traceLimit)
+  where
+    ls : List Level
+    ls = take traceLimit (levelIn c 0 ∷ stack (levelAt c) (getD c loadsCell 0))
+
+    go : (b : Bool) → getD (elim b as (λ _. List ℕ) [ true ↦ putTrace ls c | false ↦ c ]) j 0 ≡ getD c j 0
+    go true = putTrace-before ls c j l
+    go false = refl
+
+-- of a store's counts it is the trace put
+pub remembered-put : (c : List ℕ) → getD c loadsCell 0 ≤ traceLimit → rememberedIn c ≡ putTrace (take traceLimit (levelIn c 0 ∷ stack (levelAt c) (getD c loadsCell 0))) c
+remembered-put c l = remembered-within c (getD c loadsCell 0) refl l

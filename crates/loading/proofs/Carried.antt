@@ -27,7 +27,8 @@ use Rattle.laws.specs.Options.{bind-some}
 use Rattle.laws.specs.Refusals.{Refuses, on-bind}
 use Rattle.layout.specs.Places.{rows-length, writeRows-length}
 use Rattle.layout.specs.Cells.{tie-rows, subtype-rows, cells-sets}
-use Rattle.layout.specs.View.{countAt, kept-fill, classes-fill, class-writes}
+use Rattle.layout.specs.View.{countAt, kept-fill, classes-fill, remembering, class-writes}
+use Rattle.layout.specs.Unbroken.{unbroken}
 use Rattle.classfile.specs.Reading.{superName, quickFile}
 use Rattle.classfile.specs.Laws.{file-readable}
 use Rattle.resolution.specs.Quick.{quickBase}
@@ -41,7 +42,8 @@ use Rattle.loading.specs.declared.loads.Plan.{Plan}
 use Rattle.loading.specs.declared.loads.Plan.the-variants.{Refuse, Keep, Add}
 use Rattle.loading.specs.Stages.{judgedWorld, definedFrom, Placing, Decided}
 use Rattle.loading.specs.Writing.{numbersOn, numbersAfter, Grown}
-use Rattle.loading.specs.Plans.{fileOf, newWorld, Placed, newReply, countsWith, written, Newly, Admitted}
+use Rattle.loading.specs.Plans.{fileOf, newWorld, Placed, newReply, countsOver, countsWith, written, Newly, Admitted}
+use Rattle.loading.proofs.Remembered.{counts-remembered}
 use Rattle.loading.proofs.Numbered.{numbers-given, numbers-in-turn}
 use Rattle.loading.proofs.Defined.{loader-known}
 use Rattle.loading.proofs.Copied.{base-class}
@@ -142,7 +144,7 @@ module _ (t : Tables) (l : ℕ) (bs : List ℕ) (sound : broken t ≡ false) whe
 
       abbrev left : Tables
       left =
-          tables (numbered-with (countAt t 3 + countAt t 4 + length ss) (length us) (length ss) (sets (t .counts) 0 counts5))
+          tables (remembering (viewBase t) t (numbered-with (countAt t 3 + countAt t 4 + length ss) (length us) (length ss) (sets (t .counts) 0 counts5)))
           (putThree (t .classes) (countAt t 0) l (countAt t 1) (length bs)) (writeRows set bs (countAt t 1) (t .kept))
           (putThree (t .cache) (countAt t 2) (k .loader) (k .name) (countAt t 0)) (writeRows putTie us (countAt t 3) (t .ties))
           (writeRows putSubtype ss (countAt t 4) (t .subtypes)) (t .objects) (t .frames)
@@ -157,16 +159,20 @@ module _ (t : Tables) (l : ℕ) (bs : List ℕ) (sound : broken t ≡ false) whe
           ap (λ (z : List ℕ). writeRows set z 0 (t .subtypes)) (a .subtypeCells)
           ∙ copied (writeRows putSubtype ss (countAt t 4) (t .subtypes)) (t .subtypes) (writeRows-length putSubtype (subtype-rows .long) ss (countAt t 4) (t .subtypes))
 
-      counts-are : countsWith n (countAt t 0 + 1) (countAt t 1 + length bs) (t .counts)
+      over-are : countsOver n (countAt t 0 + 1) (countAt t 1 + length bs) (t .counts) (t .counts)
           ≡ numbered-with (countAt t 3 + countAt t 4 + length ss) (length us) (length ss) (sets (t .counts) 0 counts5)
-      unfolding countsWith numbersOn
-      counts-are =
+      unfolding countsOver numbersOn
+      over-are =
           let p : countAt t 3 + n .noted ≡ countAt t 3 + countAt t 4 + length ss = omega (arith, a .noted) in
           let q : n .tied - countAt t 3 ≡ length us = omega (arith, a .tied) in
           let r : n .noted - countAt t 4 ≡ length ss = omega (arith, a .noted) in
           let five : writeRows set ((countAt t 0 + 1) ∷ (countAt t 1 + length bs) ∷ (countAt t 2 + 1) ∷ n .tied ∷ n .noted ∷ []) 0 (t .counts) ≡ sets (t .counts) 0 counts5 =
           (λ z. writeRows set ((countAt t 0 + 1) ∷ (countAt t 1 + length bs) ∷ (countAt t 2 + 1) ∷ a .tied z ∷ a .noted z ∷ []) 0 (t .counts)) ∙ cells-sets counts5 0 (t .counts) in
           λ z. numbered-with (p z) (q z) (r z) (five z)
+
+      counts-are : countsWith n (countAt t 0 + 1) (countAt t 1 + length bs) (t .counts)
+          ≡ remembering (viewBase t) t (numbered-with (countAt t 3 + countAt t 4 + length ss) (length us) (length ss) (sets (t .counts) 0 counts5))
+      counts-are = counts-remembered n (countAt t 0 + 1) (countAt t 1 + length bs) (viewBase t) t grown (unbroken t sound .counts .trace) ∙ ap (remembering (viewBase t) t) over-are
 
       cells-are : written (loadDefine l bs) n t u v ≡ left
       unfolding written quickFile
@@ -183,7 +189,7 @@ module _ (t : Tables) (l : ℕ) (bs : List ℕ) (sound : broken t ≡ false) whe
           (λ z. done (reply-is z) (cells-are z))
           ∙ wrap-given Denied offer t sound (Defined (countAt t 0)) (addFile l bs (view t) (withClass (worldOf (view t)) k us ss)) left
           (whole-by (loadDefine l bs) t size u v sound long _ (from (ok (withClass (quickWorld t) k us ss)) (made q) ∙ added))
-          (class-writes (viewBase t) t l bs k us ss (loadable t sound .tiesFew))
+          (class-writes (viewBase t) t l bs k us ss (omega (arith, a .tied, a .few .0)) (omega (arith, a .noted, a .few .1)))
         where
           added : (ok (withClass (quickWorld t) k us ss) >>= λ w. given (Defined (countAt t 0)) (addFile l bs (view t) w))
               ≡ given (Defined (countAt t 0)) (addFile l bs (view t) (withClass (worldOf (view t)) k us ss))

@@ -27,7 +27,8 @@ use Rattle.definition.specs.Calls.{Given, numbersFrom, done, given, addEntry, r
 use Rattle.definition.specs.Reasons.{reason, afterLoad, reasonAfter}
 use Rattle.laws.specs.Refusals.{Refuses, on-bind, on-test}
 use Rattle.layout.specs.NumberedRows.{none-numbered-on}
-use Rattle.layout.specs.View.{countAt, put-view, entry-writes}
+use Rattle.layout.specs.View.{countAt, put-view, remembering, entry-writes}
+use Rattle.layout.specs.Unbroken.{unbroken}
 use Rattle.resolution.specs.Quick.{quickClass, quickBase}
 use Rattle.resolution.specs.Lookups.{nameIn}
 use Rattle.entries.specs.World.{world, quickWorld, numbersIn, quick-world, loadable, numbers-turn}
@@ -40,7 +41,8 @@ use Rattle.loading.specs.declared.loads.Plan.the-variants.{Refuse, Keep,
 use Rattle.loading.specs.Stages.{judgedWorld}
 use Rattle.loading.specs.Entering.{Entry, Recorded}
 use Rattle.loading.specs.Writing.{numbersOn, numbersAfter, Grown}
-use Rattle.loading.specs.Plans.{fileOf, newWorld, Placed, newReply, countsWith, written, Newly, Admitted}
+use Rattle.loading.specs.Plans.{fileOf, newWorld, Placed, newReply, countsOver, countsWith, written, Newly, Admitted}
+use Rattle.loading.proofs.Remembered.{counts-remembered}
 use Rattle.loading.proofs.Copied.{base-entry}
 use Rattle.loading.proofs.Admitted.{reply-entry, admits-refused, whole-by}
 
@@ -127,8 +129,8 @@ no-numbers counts i j e f =
 
 -- and the counts but that of entries are written as they were
 entry-counts : (n : Newcomer) (counts : List ℕ) → n .tied ≡ getD counts 3 0 → n .noted ≡ getD counts 4 0
-    → countsWith n (getD counts 0 0) (getD counts 1 0) counts ≡ set counts 2 (getD counts 2 0 + 1)
-unfolding countsWith numbersOn writeRows rows
+    → countsOver n (getD counts 0 0) (getD counts 1 0) counts counts ≡ set counts 2 (getD counts 2 0 + 1)
+unfolding countsOver numbersOn writeRows rows
 entry-counts n counts e f =
     let p : n .tied - getD counts 3 0 ≡ 0 = omega (arith, e) in
     let q : n .noted - getD counts 4 0 ≡ 0 = omega (arith, f) in
@@ -187,8 +189,8 @@ module _ (t : Tables) (l n c : ℕ) (sound : broken t ≡ false) where
           record { ties = omega (arith, a .tied); tiesFew = omega (arith, a .tied, few .tiesFew); subtypes = omega (arith, a .noted); subtypesFew = omega (arith, a .noted, few .subtypesFew) }
 
       -- the other counts are written as they were, and no row is numbered
-      counts-are : countsWith new (countAt t 0) (countAt t 1) (t .counts) ≡ set (t .counts) 2 (countAt t 2 + 1)
-      counts-are = entry-counts new (t .counts) (a .tied) (a .noted)
+      counts-are : countsWith new (countAt t 0) (countAt t 1) (t .counts) ≡ remembering (viewBase t) t (set (t .counts) 2 (countAt t 2 + 1))
+      counts-are = counts-remembered new (countAt t 0) (countAt t 1) (viewBase t) t grown (unbroken t sound .counts .trace) ∙ ap (remembering (viewBase t) t) (entry-counts new (t .counts) (a .tied) (a .noted))
 
       reply-is : newReply new ≡ Accepted
       reply-is = sym (reply-entry new (a .above))
@@ -199,7 +201,7 @@ module _ (t : Tables) (l n c : ℕ) (sound : broken t ≡ false) where
           (λ i. done (reply-is i)
           (tables (counts-are i) (t .classes) (t .kept) (putThree (t .cache) (countAt t 2) (a .loader i) (a .name i) (a .class i)) (t .ties) (t .subtypes) (t .objects) (t .frames)))
           ∙ wrap-given Denied offer t sound Accepted (addEntry (view t) (withEntry (worldOf (view t)) (at l n) c))
-          (tables (set (t .counts) 2 (countAt t 2 + 1)) (t .classes) (t .kept) (putThree (t .cache) (countAt t 2) l n c) (t .ties) (t .subtypes) (t .objects) (t .frames))
+          (tables (remembering (viewBase t) t (set (t .counts) 2 (countAt t 2 + 1))) (t .classes) (t .kept) (putThree (t .cache) (countAt t 2) l n c) (t .ties) (t .subtypes) (t .objects) (t .frames))
           (whole-by (loadRecord l n c) t size (t .ties) (t .subtypes) sound long _ (from (ok (withEntry (quickWorld t) (at l n) c)) (made q)
           ∙ ap (λ (w : World). given Accepted (addEntry (view t) (withEntry w (at l n) c))) (quick-world t sound)))
           (entry-writes (viewBase t) t l n c)

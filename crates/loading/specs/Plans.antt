@@ -29,6 +29,7 @@ use Rattle.loading.specs.declared.loads.Newcomer.{Newcomer}
 use Rattle.loading.specs.declared.loads.Plan.{Plan}
 use Rattle.loading.specs.declared.loads.Plan.the-variants.{Refuse, Keep, Add}
 use Rattle.loading.specs.Posting.{triedTiesLength}
+use Rattle.entries.specs.Remembering.{rememberedIn}
 use Rattle.loading.specs.Writing.{numbersOn, numbersAfter, Grown}
 
 -- The code's loads
@@ -109,8 +110,13 @@ Agrees counts classes kept cache u v n r = (bs : List ℕ) → Fitting counts cl
 unfoldable pub newReply : Newcomer → Reply
 newReply n = elim (n .above) as (λ _. Reply) [ zero ↦ Accepted | suc p ↦ Defined (n .class) ]
 
+-- written over a table m of counts
+unfoldable pub countsOver : Newcomer → ℕ → ℕ → List ℕ → List ℕ → List ℕ
+countsOver n c d counts m = numbersOn counts (n .tied) (n .noted) (writeRows set (c ∷ d ∷ (getD counts 2 0 + 1) ∷ n .tied ∷ n .noted ∷ []) 0 m)
+
+-- over those where the load is remembered
 unfoldable pub countsWith : Newcomer → ℕ → ℕ → List ℕ → List ℕ
-countsWith n c d counts = numbersOn counts (n .tied) (n .noted) (writeRows set (c ∷ d ∷ (getD counts 2 0 + 1) ∷ n .tied ∷ n .noted ∷ []) 0 counts)
+countsWith n c d counts = countsOver n c d counts (rememberedIn counts)
 
 -- the entry; of a define also the next class, its file behind the kept ones, and the tables of constraints u and v
 unfoldable pub written : Load → Newcomer → Tables → List ℕ → List ℕ → Tables

@@ -42,7 +42,7 @@ pub(crate) fn write_counts(counts: &mut [u16], new: &[u16])
     store::number_rows(counts, TIE_NUMBERS, ties, ties + noted, tied - ties);
 }
 
-// A newcomer's row of the cache, the five counts of what loads add, with so many classes and kept bytes, and the numbers of the rows that it posted.
+// A newcomer's row of the cache, the load remembered, the five counts of what loads add, with so many classes and kept bytes, and the numbers of the rows that it posted.
 pub(crate) fn enter(counts: &mut [u16], cache: &mut [u16], n: Newcomer, classes: u16, kept: u16)
     requires { ⌜ (getD (now counts) countCache 0 ≤ cacheLimit) × Grown (now counts) (n .tied) (n .noted) ⌝ }
     ensures counted { λ _. ⌜ now (counts .exit) ≡ countsWith n classes kept (now (counts .entry)) ⌝ }
@@ -50,6 +50,7 @@ pub(crate) fn enter(counts: &mut [u16], cache: &mut [u16], n: Newcomer, classes:
 {
     let row = cells::at16(counts, COUNT_CACHE);
     entries::put_three(cache, row, cells::from8(n.loader), n.name, n.class);
+    entries::remember(counts);
     write_counts(counts, &[classes, kept, row + 1, n.tied, n.noted]);
 }
 
