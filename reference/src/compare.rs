@@ -25,6 +25,7 @@ use crate::gen::rates;
 use crate::gen::shares::{shared, shares};
 use crate::gen::stuck::stuck;
 use crate::gen::swept::swept;
+use crate::gen::taken::{taken, taking};
 use crate::gen::{cases, counts, javas, large, listed, mapped, passed, Call, Trial, CALLS};
 use crate::host::{self, expected, CELLS};
 use crate::placed::misplaced;
@@ -208,6 +209,7 @@ impl Comparison {
         self.play(&chains(seed, 30), &format!("chains {seed}"));
         self.play(&graphs(seed, 50), &format!("graphs {seed}"));
         self.play(&shared(seed, 30), &format!("shared {seed}"));
+        self.play(&taking(seed, 30), &format!("taking {seed}"));
         (STORES * seed..STORES * (seed + 1)).for_each(|seed| self.damage(seed));
         for seed in CLASHES * seed..CLASHES * (seed + 1) {
             let (store, load) = clash(seed);
@@ -219,7 +221,7 @@ impl Comparison {
 
     /// What needs no seed.
     fn fixed(&mut self) {
-        for (at, trial) in cases::cases().iter().chain(&swept()).chain(&loops()).chain(&rates::rates()).chain(&hidden()).chain(&listed::listed()).chain(&shares()).enumerate() {
+        for (at, trial) in cases::cases().iter().chain(&swept()).chain(&loops()).chain(&rates::rates()).chain(&hidden()).chain(&listed::listed()).chain(&shares()).chain(&taken()).enumerate() {
             self.play(trial, &format!("case {at}"));
         }
         for seed in 0..4 {
@@ -281,6 +283,7 @@ impl Comparison {
             self.call(store, &Call::Step, CELLS, label);
             self.call(store, &record, CELLS, label);
             self.call(store, &Call::Sweep, CELLS, label);
+            self.call(store, &Call::TakeBack, CELLS, label);
         });
     }
 

@@ -325,6 +325,6 @@ fn wrong_numbers_are_broken() {
     assert_eq!(store.constraint_count(), 512);
     store.counts[count::TIES] = 0;
     store.counts[count::SUBTYPES] = 0;
-    store.counts[count::TIE_NUMBERS..].fill(u16::MAX);
+    store.counts[count::TIE_NUMBERS..count::LOADS].fill(u16::MAX);
     assert!(!broken(&store), "the numbers of rows past the counts say nothing");
 }

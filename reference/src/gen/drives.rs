@@ -54,6 +54,7 @@ impl Encoded {
                 [8, loader, start, size, n, 0]
             }
             Call::TryRecord { loader, name, class, .. } => [9, loader, name, class, n, 0],
+            Call::TakeBack => [10, 0, 0, 0, 0, 0],
         };
         self.rows.push(row);
     }
@@ -141,7 +142,7 @@ pub fn fixed() -> Vec<u8> {
         calls.extend(trial.calls);
     }
     let mut encoded = Encoded::new(&calls, 2);
-    encoded.rows.push([10, 0, 0, 0, 0, 0]);
+    encoded.rows.push([11, 0, 0, 0, 0, 0]);
     encoded.rows.push([0; ROW]);
     encoded.input(LENGTHS[0] as u32, ROW * encoded.rows.len(), ANSWERS as u32)
 }
