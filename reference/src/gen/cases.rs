@@ -57,6 +57,19 @@ pub fn subtype_then_tie() -> Trial {
     trial
 }
 
+/// Ties join loader 2's 12 to loader 1's by 3, the row of loader 2 first. Loader 2's own 12 would be below loader 1's, which isn't enough; it is the
+/// lower end of the chain that is listed.
+pub fn tied_to_a_class_above() -> Trial {
+    let mut trial = ready();
+    tie(&mut trial, 3, 2, 12);
+    tie(&mut trial, 1, 3, 12);
+    trial.define(1, &Draft::new(12));
+    trial.define(1, &Draft::new(13).under(12));
+    trial.record(2, 13, trial.store.counts[0] - 1);
+    trial.define(2, &Draft::new(12).under(13));
+    trial
+}
+
 /// Loader 2 uses loader 1's class 11 by `code`: field 30 of class 12, method 21 from 12 to 12.
 /// Both loaders may have a 12 of their own.
 pub fn across(code: &Code, first: bool, second: bool) -> Trial {
@@ -178,7 +191,7 @@ pub fn wide_numbers() -> Trial {
 /// Every list here, run to its end.
 pub fn cases() -> Vec<Trial> {
     let mut all = vec![
-        far_ends_of_ties(), subtype_then_tie(), overriding(), override_apart(), wide_numbers(), superclass_of_its_own_loader(),
+        far_ends_of_ties(), subtype_then_tie(), tied_to_a_class_above(), overriding(), override_apart(), wide_numbers(), superclass_of_its_own_loader(),
     ];
     for code in [reader(), caller(), null_reader()] {
         for (first, second) in [(false, false), (false, true), (true, false), (true, true)] {
