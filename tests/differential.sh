@@ -21,7 +21,7 @@ mirrored() { # TESTS WORDS...: the tests that the words choose
     compare "$1" "$mirror" dylib=tariff 40 --target-dir target/mirror "${@:2}" >"$log" 2>&1
 }
 mirrored 4 || { cat "$log"; exit 1; }
-tables="mirror/src/faults.rs mirror/src/mapped.rs mirror/src/rates.rs mirror/src/hidden.rs mirror/src/listed.rs mirror/src/shared.rs mirror/src/tried.rs mirror/src/chosen.rs src/gen/plain.rs"
+tables="mirror/src/faults.rs mirror/src/mapped.rs mirror/src/rates.rs mirror/src/hidden.rs mirror/src/listed.rs mirror/src/shared.rs mirror/src/tried.rs mirror/src/chosen.rs mirror/src/taken.rs src/gen/plain.rs"
 # shellcheck disable=SC2086
 faults=$(sed -n 's/^    ("\([a-z-]*\)",.*/\1/p' $tables)
 # the list has every fault that the mirror can have

@@ -7,6 +7,7 @@ use super::graphs::graphs;
 use super::list::list;
 use super::listed;
 use super::rng::Rng;
+use super::taken::taking;
 use super::{Call, Trial};
 use crate::answer::{denied, word};
 use crate::drive::{ANSWERS, HEAD, INPUT, LIST, ROW};
@@ -88,7 +89,7 @@ fn trying(trial: &Trial, rng: &mut Rng) -> Vec<Call> {
 /// A row that has no call: no kind, a file past the input's end, a name or a method that isn't 16 bits.
 fn no_call(rng: &mut Rng) -> [u32; ROW] {
     match rng.below(5) {
-        0 => [10 + rng.below(3) as u32, 1, 2, 0, 512, 0],
+        0 => [11 + rng.below(3) as u32, 1, 2, 0, 512, 0],
         1 => [u32::MAX, 0, 0, 0, 0, 0],
         2 => [rng.pick(&[1, 8]), 1, rng.pick(&[0, 12, u32::MAX]), rng.pick(&[65_537, u32::MAX]), rng.pick(&LISTS), 0],
         3 => [3, 0, 1, 0x1_000A, 20, 7],
@@ -151,10 +152,11 @@ pub fn fixed() -> Vec<u8> {
 pub fn drive(seed: u64) -> Vec<u8> {
     let mut rng = Rng::new(seed ^ 0x64_72_69_76);
     let length = rng.within(5, 90);
-    let trial = match rng.weighted(&[4, 2, 4]) {
+    let trial = match rng.weighted(&[4, 2, 4, 2]) {
         0 => list(seed, length),
         1 => graphs(seed, length),
-        _ => chains(seed, length / 2),
+        2 => chains(seed, length / 2),
+        _ => taking(seed, length / 3),
     };
     let mut calls = trying(&trial, &mut rng);
     let room = |calls: &[Call]| Encoded::new(calls, 1).files.len() + 4 * (HEAD + LIST) <= INPUT;

@@ -8,7 +8,9 @@ use crate::store::{count, INT, MOST_LOADS, OBJECT};
 
 /// So many takings back.
 fn take_back(trial: &mut Trial, times: usize) {
-    (0..times).for_each(|_| drop(trial.take_back()));
+    for _ in 0..times {
+        trial.take_back();
+    }
 }
 
 /// So many loads: each of the next names is defined by loader 0.
@@ -82,7 +84,9 @@ pub fn five_back() -> Trial {
     take_back(&mut trial, MOST_LOADS + 1);
     load(&mut on, 3);
     take_back(&mut on, MOST_LOADS + 1);
-    on.calls.into_iter().for_each(|call| drop(trial.call(call)));
+    for call in on.calls {
+        trial.call(call);
+    }
     trial
 }
 
@@ -262,7 +266,9 @@ impl Taking {
     /// A burst of loads: all loaders of Object, or as many defines.
     fn many(&mut self) {
         if self.rng.percent(50) {
-            (0..16).for_each(|loader| drop(self.trial.record(loader, OBJECT, 0)));
+            for loader in 0..16 {
+                self.trial.record(loader, OBJECT, 0);
+            }
         } else {
             let times = self.rng.within(8, 36);
             load(&mut self.trial, times);

@@ -33,7 +33,7 @@ fn most_entries(store: &Store, classes: u16) -> u16 {
 /// The lowest number of kept bytes that holds the files of the classes below this one.
 fn least_kept(store: &Store, classes: u16) -> u16 {
     let end = |class: u16| store.classes[usize::from(class) * ROW + 1] + store.classes[usize::from(class) * ROW + 2];
-    (1..classes).map(end).max().unwrap_or(0)
+    (1..classes.min(store.counts[count::CLASSES])).map(end).max().unwrap_or(0)
 }
 
 /// How many rows of both tables have a number below this one.
@@ -139,7 +139,7 @@ pub fn wrongs(left: &Store, level: Level) -> Vec<Wrong> {
         Wrong::Objects => least_classes(left) > n,
         Wrong::Numbers => {
             let stay = left.tie_numbers().iter().take(t.into()).chain(left.subtype_numbers().iter().take(s.into()));
-            stay.max().is_some_and(|&highest| highest >= t + s)
+            stay.max().is_some_and(|&highest| u32::from(highest) >= u32::from(t) + u32::from(s))
         }
     };
     WRONGS.into_iter().filter(|&wrong| is(wrong)).collect()
