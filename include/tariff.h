@@ -13,6 +13,17 @@
 #include <stddef.h>
 #include <stdint.h>
 
+/* The version: how many change papers the machine has taken up, the number of the store's layout (docs/STORE.md, 'Layouts'), and the
+   toolchain that proved it. A store that was saved under another layout is no store of this machine. */
+#define TARIFF_PAPERS 7
+#define TARIFF_LAYOUT 3
+#define TARIFF_TOOLCHAIN "rattle-kit-5b-plain logic 097e4c862dff5811"
+
+#define TARIFF_TEXT_(number) #number
+#define TARIFF_TEXT(number) TARIFF_TEXT_(number)
+/* As `box --version` prints it. */
+#define TARIFF_VERSION "tariff " TARIFF_TEXT(TARIFF_PAPERS) ", layout " TARIFF_TEXT(TARIFF_LAYOUT) ", proved by " TARIFF_TOOLCHAIN
+
 #ifdef __cplusplus
 extern "C" {
 #endif
@@ -97,10 +108,60 @@ enum tariff_word {
     TARIFF_STUCK = 14,      /* step: no instruction, or no operand, local, class or method, as the instruction needs it */
     TARIFF_UNMAPPED = 15,   /* define: a jump's target, or an instruction after a goto or return, without a map */
     TARIFF_SHORT_LIST = 16, /* a try: its list has fewer than TARIFF_LIST cells */
-    TARIFF_ZERO_DIVISOR = 17 /* step: idiv by 0 */
+    TARIFF_ZERO_DIVISOR = 17, /* step: idiv by 0 */
+    TARIFF_SHARE_USED = 18  /* the report's start, or its step's new: 192 objects in use are the report's */
 };
 
+/* A word of refusal in words, for any number: 0 is "accepted", and a number that is no word is "no such word". The names are those of
+   docs/HOST.md, 'Words of refusal'. */
+static inline const char *tariff_word_name(uint32_t word)
+{
+    switch (word) {
+    case 0: return "accepted";
+    case TARIFF_BROKEN: return "broken";
+    case TARIFF_FILE: return "file";
+    case TARIFF_UNKNOWN: return "unknown";
+    case TARIFF_TAKEN: return "taken";
+    case TARIFF_WANTED: return "wanted";
+    case TARIFF_UNVERIFIED: return "unverified";
+    case TARIFF_ABSENT: return "absent";
+    case TARIFF_HIDDEN: return "hidden";
+    case TARIFF_CLASH: return "clash";
+    case TARIFF_FULL: return "full";
+    case TARIFF_NULL: return "null";
+    case TARIFF_BUSY: return "busy";
+    case TARIFF_MISNAMED: return "misnamed";
+    case TARIFF_STUCK: return "stuck";
+    case TARIFF_UNMAPPED: return "unmapped";
+    case TARIFF_SHORT_LIST: return "short list";
+    case TARIFF_ZERO_DIVISOR: return "zero divisor";
+    default: return "no such word";
+    }
+}
+
+/* The kind of an answer in words, for any number. */
+static inline const char *tariff_kind_name(uint32_t kind)
+{
+    switch (kind) {
+    case TARIFF_ACCEPTED: return "accepted";
+    case TARIFF_DEFINED: return "defined";
+    case TARIFF_STEPPED: return "stepped";
+    case TARIFF_RAN_FOR: return "ran";
+    case TARIFF_DENIED: return "denied";
+    case TARIFF_SWEPT: return "swept";
+    default: return "no such kind";
+    }
+}
+
+/* Says of boot that it reads and writes none of a table's cells, so that a store may be fresh memory; the argument's place, from 1. */
+#if defined(__GNUC__) && !defined(__clang__) && __GNUC__ >= 11
+#define TARIFF_UNTOUCHED(place) __attribute__((access(none, place)))
+#else
+#define TARIFF_UNTOUCHED(place)
+#endif
+
 /* boot: makes a store of the tables, whatever they held. Class 0 is Object, known to loader 0 alone. Refusal: 1, for the lengths. */
+TARIFF_UNTOUCHED(5) TARIFF_UNTOUCHED(9) TARIFF_UNTOUCHED(11) TARIFF_UNTOUCHED(13) TARIFF_UNTOUCHED(15)
 uint8_t tariff_boot(uint16_t *counts, size_t counts_length, uint16_t *classes, size_t classes_length,
                     const uint8_t *kept, size_t kept_length, uint16_t *cache, size_t cache_length,
                     const uint16_t *ties, size_t ties_length, const uint16_t *subtypes, size_t subtypes_length,
@@ -126,7 +187,7 @@ uint8_t tariff_record(uint16_t *counts, size_t counts_length, const uint16_t *cl
 
 /* start: the task gets a new object of the class of that name under that loader, and a first frame in its method of that
    name with one int as its argument and an int as its result, called with that object and `value`, the 32 bits of an int. Nothing runs yet. The object takes the lowest unused number, as one
-   that a step makes does. Refusals: 1 3 12 5 7 10. */
+   that a step makes does. Refusals: 1 3 12 5 7 18 10. */
 uint8_t tariff_start(uint16_t *counts, size_t counts_length, const uint16_t *classes, size_t classes_length,
                      const uint8_t *kept, size_t kept_length, const uint16_t *cache, size_t cache_length,
                      const uint16_t *ties, size_t ties_length, const uint16_t *subtypes, size_t subtypes_length,
@@ -134,8 +195,8 @@ uint8_t tariff_start(uint16_t *counts, size_t counts_length, const uint16_t *cla
                      uint32_t task, uint32_t loader, uint16_t name, uint16_t method, uint32_t value,
                      uint32_t *answer, size_t answer_length);
 
-/* step: one instruction of the quote if it has a frame, else of the report. Refusals: 1, unreadable 14, 5 7 10 9, other 14, 11 17. A
-   step that wants a class is tried again once the class is loaded. */
+/* step: one instruction of the quote if it has a frame, else of the report. Refusals: 1, unreadable 14, 5 7 18 10 9, other 14, 11 17.
+   A step that wants a class is tried again once the class is loaded. */
 uint8_t tariff_step(uint16_t *counts, size_t counts_length, const uint16_t *classes, size_t classes_length,
                     const uint8_t *kept, size_t kept_length, const uint16_t *cache, size_t cache_length,
                     uint16_t *ties, size_t ties_length, const uint16_t *subtypes, size_t subtypes_length,
@@ -168,8 +229,9 @@ uint8_t tariff_sweep(uint16_t *counts, size_t counts_length, const uint16_t *cla
                      uint32_t *answer, size_t answer_length);
 
 /* try define, try record: the load isn't made, and is answered as it would be. No table of the store changes. If it clashes, the first cells
-   of the list get the numbers of the rows, upward, of one chain of constraints that breaks agreement, and TARIFF_CELL_STEPS how many they
-   are; the list past them stays, and on any other answer all of it. Refusals: 1 3 16 2 15 6 4 5 10 9, and 1 3 16 13 4 10 9. */
+   of the list get the numbers of the rows, upward, of the shortest chain of constraints that breaks agreement (of several of one length that
+   with the lower row at the earliest position where they differ, a chain of ties alone being read from either end), and TARIFF_CELL_STEPS how
+   many they are; the list past them stays, and on any other answer all of it. Refusals: 1 3 16 2 15 6 4 5 10 9, and 1 3 16 13 4 10 9. */
 uint8_t tariff_try_define(const uint16_t *counts, size_t counts_length, const uint16_t *classes, size_t classes_length,
                           const uint8_t *kept, size_t kept_length, const uint16_t *cache, size_t cache_length,
                           const uint16_t *ties, size_t ties_length, const uint16_t *subtypes, size_t subtypes_length,

@@ -1,7 +1,7 @@
 /* The ten calls from C: tables of wrong lengths, damaged stores, every word of refusal, numbers at their limits, answer tables of every
-   length, a run beside its steps, objects freed and their numbers used again, files of version 2, products and quotients, fields of one name in
-   a class and above it, files of version 3 with 0 to 4 arguments, loads tried on short and long lists, and the chains of those that clash; and the
-   desk beside define. */
+   length, a run beside its steps, objects freed and their numbers used again, the report's share, files of version 2, products and
+   quotients, fields of one name in a class and above it, files of version 3 with 0 to 4 arguments, loads tried on short and long lists,
+   and the chains of those that clash; and the desk beside define. */
 #define _GNU_SOURCE
 #include "host.h"
 
@@ -256,8 +256,8 @@ static void sweeping(void)
     quoting(IDENTITY);
     accepts("dropped", drop(TARIFF_QUOTE));
     for (int n = 1; n < 256; n++) {
-        accepts("an object", start(TARIFF_REPORT, 1, 10, 20, 7));
-        accepts("a drop", drop(TARIFF_REPORT));
+        accepts("an object", start(TARIFF_QUOTE, 1, 10, 20, 7));
+        accepts("a drop", drop(TARIFF_QUOTE));
     }
     refuses("256 in use", start(TARIFF_REPORT, 1, 10, 20, 7), TARIFF_FULL);
     set(0, OWNERS + 77, 0);
@@ -267,6 +267,55 @@ static void sweeping(void)
     frees("all but the report's", 255);
     accepts("room", start(TARIFF_QUOTE, 1, 10, 20, 7));
     check("from the lowest", owner(0) == 1 && owner(1) == 0 && owner(77) == 2);
+}
+
+/* Starts and drops that task n times over. */
+static void leaves(uint32_t task, int n)
+{
+    for (int i = 0; i < n; i++) {
+        accepts("an object", start(task, 1, 10, 20, 7));
+        accepts("a drop", drop(task));
+    }
+}
+
+/* The report makes 192 objects and no more until a sweep; the rest is the quote's. */
+static void share(void)
+{
+    quoting(TWO_OBJECTS);
+    leaves(TARIFF_REPORT, 191);
+    accepts("the last of the share", start(TARIFF_REPORT, 1, 10, 20, 7));
+    expect("a quote beside it", run(9), 0, SIX(TARIFF_RAN_FOR, 0, TARIFF_FINISHED, TARIFF_QUOTE, 7, 5));
+    for (int i = 0; i < 2; i++)
+        refuses("a new beyond the share", step(), TARIFF_SHARE_USED);
+    expect("a run into it", run(9), 0, SIX(TARIFF_RAN_FOR, TARIFF_SHARE_USED, 0, 0, 0, 0));
+    refuses("a second report", start(TARIFF_REPORT, 1, 10, 20, 7), TARIFF_BUSY);
+    accepts("the report dropped", drop(TARIFF_REPORT));
+    refuses("a start beyond the share", start(TARIFF_REPORT, 1, 10, 20, 7), TARIFF_SHARE_USED);
+    refuses("and no loader", start(TARIFF_REPORT, 16, 10, 20, 7), TARIFF_UNKNOWN);
+    wants("and a class not loaded", start(TARIFF_REPORT, 1, 11, 20, 7), 1, 11);
+    refuses("and no method", start(TARIFF_REPORT, 1, 10, 21, 7), TARIFF_ABSENT);
+    leaves(TARIFF_QUOTE, 61);
+    refuses("no object is left", start(TARIFF_QUOTE, 1, 10, 20, 7), TARIFF_FULL);
+    refuses("the share comes before", start(TARIFF_REPORT, 1, 10, 20, 7), TARIFF_SHARE_USED);
+    keep(&first);
+    set(0, OWNERS, 2);
+    for (int name = 1; name < CALLS; name++)
+        refuses("193 of the report", each(name), TARIFF_BROKEN);
+    put_back(&first);
+    set(0, OWNERS + 77, 1);
+    refuses("fewer of the report, and no object left", start(TARIFF_REPORT, 1, 10, 20, 7), TARIFF_FULL);
+    set(0, OWNERS + 77, 0);
+    accepts("one given up", start(TARIFF_REPORT, 1, 10, 20, 7));
+    frees("all but the report's", 255);
+    expect("room again", run(9), 0, SIX(TARIFF_RAN_FOR, 0, TARIFF_FINISHED, TARIFF_REPORT, 7, 5));
+
+    quoting(TWO_OBJECTS);
+    accepts("the quote dropped", drop(TARIFF_QUOTE));
+    leaves(TARIFF_REPORT, 190);
+    accepts("the last but one", start(TARIFF_REPORT, 1, 10, 20, 7));
+    expect("a run that uses up the share", run(9), 0, SIX(TARIFF_RAN_FOR, TARIFF_SHARE_USED, 0, 0, 0, 2));
+    frees("what is let go", 192);
+    expect("it goes on", run(9), 0, SIX(TARIFF_RAN_FOR, 0, TARIFF_FINISHED, TARIFF_REPORT, 7, 3));
 }
 
 /* Cells of free rows, and owners past the object count, are nobody's. */
@@ -1054,6 +1103,7 @@ int main(void)
     task_words();
     tie_by_a_step();
     sweeping();
+    share();
     free_rows();
     jumps();
     mapped_files();

@@ -80,7 +80,7 @@ printed() {
     ./box "$work/readme.lesson" >"$work/out" || fail "README.md's lesson fails"
     grep -q "^ok  step  *finished: the quote with 7$" "$work/out" || fail "README.md's lesson has no quote"
     ./box --draw "$work/mine.lesson" "$work/mine.svg" >"$work/out" || fail "the lesson of docs/LESSONS.md fails"
-    grep -q "class 4? refused" "$work/mine.svg" || fail "the picture of docs/LESSONS.md has no clash"
+    grep -q "class 4 of loader 2? refused" "$work/mine.svg" || fail "the picture of docs/LESSONS.md has no clash"
     awk '/^    ok  loader 2 defines Bonus/ { on = 1 } on && /^$/ { exit } on { print substr($0, 5) }' docs/LESSONS.md >"$work/chain"
     ./box why --draw examples/why-a-load-clashed.lesson "$work/why.svg" >"$work/out" || fail "./box why fails"
     { [ -s "$work/chain" ] && ! grep -vxFf "$work/out" "$work/chain"; } || fail "the chain of docs/LESSONS.md isn't said"
@@ -90,7 +90,7 @@ printed() {
 # Wrong usage ends with 2.
 usage() {
     local words status
-    for words in "" "--store" "nothing-there.lesson" "list" "check nothing-there" "asm examples/first.lesson" "--what examples/first.box" "-h" \
+    for words in "" "--store" "nothing-there.lesson" "list" "check nothing-there" "asm examples/first.lesson" "--what examples/first.box" \
         "--draw examples/first.lesson mine.lesson" "examples/first.lesson mine.svg" "examples" "why" "why nothing-there.lesson" \
         "why --what examples/first.lesson"; do
         status=0
@@ -132,7 +132,7 @@ mistakes() {
     TARIFF_LIB=$mirror TARIFF_LINK=dylib=tariff cargo build --manifest-path tools/Cargo.toml --offline --release --quiet --features host --target-dir "$tools/mirror"
     export LD_LIBRARY_PATH=$mirror
     for lesson in examples/*.lesson; do
-        "$writer" play "$lesson" >/dev/null 2>&1 || fail "$lesson fails on the second implementation"
+        "$writer" "$lesson" >/dev/null 2>&1 || fail "$lesson fails on the second implementation"
     done
     for name in "${!shown[@]}"; do
         tried=0
@@ -140,7 +140,7 @@ mistakes() {
         faults=$(grep -ohE "^    \\(\"(${shown[$name]})\"" reference/mirror/src/*.rs reference/src/gen/plain.rs | tr -d '( "')
         for fault in $faults; do
             tried=$((tried + 1))
-            MIRROR_FAULT=$fault "$writer" play "$lesson" >"$work/out" 2>&1 && fail "$lesson passes on the machine $fault"
+            MIRROR_FAULT=$fault "$writer" "$lesson" >"$work/out" 2>&1 && fail "$lesson passes on the machine $fault"
             grep -q "^NO" "$work/out" || { cat "$work/out"; fail "$lesson on the machine $fault"; }
         done
         [ "$tried" -gt 0 ] || fail "no machine fails $lesson"

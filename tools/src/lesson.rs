@@ -6,7 +6,7 @@ use reference::store::{LENGTHS, TABLES};
 use crate::cursor::{Cursor, Parsed};
 use crate::expect::Expected;
 use crate::names::{Names, Taken};
-use crate::source::{Problem, Source, Span};
+use crate::source::{Problem, Problems, Source, Span};
 use crate::text::{self, Text};
 use crate::tokens::Kind;
 
@@ -73,16 +73,31 @@ const STATEMENTS: [Statement; 11] = [
 const OTHERS: [&str; 5] = ["name", "class", "file", "repeat", "expect"];
 
 impl Lesson {
-    pub fn read(source: &Source) -> Parsed<Lesson> {
+    /// Reads a text to its end; the problems of all its statements, if it has any.
+    pub fn read(source: &Source) -> Result<Lesson, Problems> {
         let lesson = Lesson { names: Names::default(), texts: Vec::new(), acts: Vec::new() };
-        let mut reader = Reader { at: Cursor::new(source)?, lesson };
+        let mut reader = Reader { at: Cursor::new(source), lesson };
         while !reader.at.is_end() {
-            if let Some(act) = reader.statement(false)? {
-                reader.lesson.acts.push(act);
+            let from = reader.at.mark();
+            match reader.statement(false) {
+                Ok(act) => reader.lesson.acts.extend(act),
+                Err(problem) => {
+                    reader.at.note(problem);
+                    reader.at.skip(from, true, |_| false);
+                    // a brace that closes nothing
+                    if reader.at.has_sign('}') {
+                        reader.at.take();
+                    }
+                }
             }
         }
-        reader.lesson.names = reader.at.names;
-        Ok(reader.lesson)
+        match reader.at.problems() {
+            problems if !problems.is_empty() => Err(Problems(problems)),
+            _ => {
+                reader.lesson.names = reader.at.names;
+                Ok(reader.lesson)
+            }
+        }
     }
 }
 
@@ -143,7 +158,15 @@ impl Reader<'_> {
         self.at.sign('{')?;
         let mut acts = Vec::new();
         while !self.at.has_sign('}') {
-            acts.extend(self.statement(true)?);
+            let from = self.at.mark();
+            match self.statement(true) {
+                Ok(act) => acts.extend(act),
+                Err(problem) if self.at.is_end() => return Err(problem),
+                Err(problem) => {
+                    self.at.note(problem);
+                    self.at.skip(from, false, |_| false);
+                }
+            }
         }
         self.at.take();
         Ok(Act::Repeat { times, acts })
@@ -154,6 +177,7 @@ impl Reader<'_> {
             let known = STATEMENTS.iter().map(|statement| statement.0).chain(OTHERS);
             let problem = Problem::new(self.at.peek().span, format!("'{word}' begins no statement"));
             if ["R", "D", "S", "N", "X"].contains(&word) {
+                self.at.give_up();
                 return Err(problem.help("a script of such lines has a name that ends in .box"));
             }
             return Err(problem.near(word, known).or_help("docs/LESSONS.md has the words of a lesson"));

@@ -28,9 +28,9 @@ pub struct Token {
 /// The signs that end a word or number.
 const SIGNS: &str = "{}[]().,:";
 
-/// All tokens of a text; the last is `End`.
-pub fn tokens(source: &Source) -> Result<Vec<Token>, Problem> {
-    let mut all = Vec::new();
+/// All tokens of a text, the last of which is `End`, and the problems: what begins no token is passed over.
+pub fn tokens(source: &Source) -> (Vec<Token>, Vec<Problem>) {
+    let (mut all, mut problems) = (Vec::new(), Vec::new());
     let mut start = 0;
     for (number, line) in source.text.split('\n').enumerate() {
         if let Some(said) = line.trim_start().strip_prefix('>') {
@@ -38,17 +38,19 @@ pub fn tokens(source: &Source) -> Result<Vec<Token>, Problem> {
             let said = said.strip_prefix(' ').unwrap_or(said).trim_end().to_string();
             all.push(Token { kind: Kind::Said(said), span, line: number + 1 });
         } else {
-            line_tokens(line, start, number + 1, &mut all)?;
+            line_tokens(line, start, number + 1, &mut all, &mut problems);
         }
         start += line.len() + 1;
     }
     let end = source.text.len();
     let line = source.text.split('\n').count();
     all.push(Token { kind: Kind::End, span: Span { start: end, end }, line });
-    Ok(all)
+    (all, problems)
 }
 
-fn line_tokens(line: &str, start: usize, number: usize, all: &mut Vec<Token>) -> Result<(), Problem> {
+/// A line's tokens, and its first problem.
+fn line_tokens(line: &str, start: usize, number: usize, all: &mut Vec<Token>, problems: &mut Vec<Problem>) {
+    let found = problems.len();
     let mut at = 0;
     while let Some(first) = line[at..].chars().next() {
         if first == '#' {
@@ -57,13 +59,14 @@ fn line_tokens(line: &str, start: usize, number: usize, all: &mut Vec<Token>) ->
         let rest = &line[at..];
         let length = if first.is_whitespace() || SIGNS.contains(first) { first.len_utf8() } else { length_of(rest) };
         let span = Span { start: start + at, end: start + at + length.max(first.len_utf8()) };
-        if !first.is_whitespace() {
-            let kind = kind_of(&rest[..length]).ok_or_else(|| strange(first, span))?;
-            all.push(Token { kind, span, line: number });
+        match kind_of(&rest[..length]) {
+            _ if first.is_whitespace() => {}
+            Some(kind) => all.push(Token { kind, span, line: number }),
+            None if problems.len() == found => problems.push(strange(first, span)),
+            None => {}
         }
-        at += length;
+        at += length.max(first.len_utf8());
     }
-    Ok(())
 }
 
 fn strange(first: char, span: Span) -> Problem {

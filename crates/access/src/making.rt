@@ -4,11 +4,13 @@ use definition::Refusal;
 use definition::numbers::OBJECT_LIMIT;
 use definition::numbers::OPERAND_LIMIT;
 use definition::numbers::WORD_FULL;
+use definition::numbers::WORD_SHARE;
 use frames::Top;
 use instructions::Plan;
 use resolution::Found;
 
-// The object gets the number `free`. The plan means the instruction where that is the lowest unused, which isn't looked for here.
+// The object gets the number `free`, and the frame's task made `made` objects before it. The plan means the instruction where the first is the lowest number unused and
+// the second, unless the task is the quote, the number of its objects: neither is looked for here.
 pub fn new_object(
     counts: &[u16],
     classes: &[u16],
@@ -19,12 +21,16 @@ pub fn new_object(
     top: Top,
     class: u16,
     free: u16,
+    made: u16,
 ) -> Plan
-    ensures { λ r. ⌜ Making (now (counts .entry)) (now (classes .entry)) (now (kept .entry)) (now (cache .entry)) (now (objects .entry)) (now (frames .entry)) (top .base) (top .depth) (top .loader) class free r ⌝ }
+    ensures { λ r. ⌜ Making (now (counts .entry)) (now (classes .entry)) (now (kept .entry)) (now (cache .entry)) (now (objects .entry)) (now (frames .entry)) (top .task) (top .base) (top .depth) (top .loader) class free made r ⌝ }
 {
     let Found::At(e) = resolution::find(counts, cache, cells::from8(top.loader), class) else {
         return Plan::Refuse(Refusal::Wanted(top.loader, class));
     };
+    if frames::is_share_used(top.task, made) {
+        return instructions::refuse(WORD_SHARE);
+    }
     if OBJECT_LIMIT <= free {
         return instructions::refuse(WORD_FULL);
     }

@@ -9,3 +9,5 @@ pub mod Rates
 pub mod HiddenFields
 pub mod Arguments
 pub mod Tried
+pub mod Versions
+pub mod Share

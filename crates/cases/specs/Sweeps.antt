@@ -19,7 +19,7 @@ use Rattle.definition.specs.File.{byte, short, name, count, fieldsIn, oneIn, ar
 use Rattle.definition.specs.Instructions.{pick, opcodeOf, inlineLength, shortAt, extend, instructionOf, sizedAs, decode}
 use Rattle.definition.specs.Verifier.{typeOfName, meetClass, meetInt, meets, meetKind, pop, popAll, effect, returns, returnKind, target, goesOn, mapAt, localType, meetLocal, meetAll, meetMap, flowInto, flowToTarget, startAt, after, mapsPast, verify, typesAt, unmappedFrom, unmapped, notesOfMethod, notesOf}
 use Rattle.definition.specs.Verifier as Verifier
-use Rattle.definition.specs.Machine.{Objects, objectHeld, existing, inUse, unused, made, roomless, rewritten, changed, initialValue, newObject, pop!, popAll!, int!, reference!, ofKind!, kind!, kinds!, compute, jumps, room!, object!, now, under!, give, execute, step}
+use Rattle.definition.specs.Machine.{Objects, objectHeld, existing, inUse, unused, made, roomless, shareUsed, madeBy, rewritten, changed, initialValue, newObject, pop!, popAll!, int!, reference!, ofKind!, kind!, kinds!, compute, jumps, room!, object!, now, under!, give, execute, step}
 use Rattle.definition.specs.Loading.{subtypeIs, newSubtypes, overrideTie, overrideTies, define, recorded, started}
 use Rattle.definition.specs.Sweeping.{named, roots, linksFrom, reached, sweptFrom, freedFrom}
 use Rattle.definition.specs.Tables.{Tables, Rows, withObjects, fileAt, classAt}
@@ -137,7 +137,7 @@ unfolding rowsAfter
 unfreed c e z = ap (λ (d : Call). performRows d (rowsBefore c) .rows) e ∙ leaves (rowsBefore c) z
 
 swept : Computed sweeps
-unfolding freedIn sweeps node make link clear running cycle row called quoted upFrom rowsBefore rowsAfter answeredRows size accepted endsIn isSome signed less shown number numberOfStep numberOf refusalDetails stepDetails details _>>=_ need take? defineRows recordRows startRows dropRows answerOf stepTask stepOn stepRows turnOf turn find lower superOf loaderOf ownSlots slotsIn slots slotIs hasField sameSignature alike methodsOf hasMethod selected tieEdges subtypeEdges edges pairAgrees rowAgrees agreesOver agrees tieIs newTie newTies signatureTies agreesAfter post byte short name count fieldsIn oneIn argumentsIn signatureIn namesIn mapIn mapsFrom mapsIn methodsIn ends sameField sameMethod readFile pick opcodeOf inlineLength shortAt extend instructionOf sizedAs decode every all any doubled indexOf isNone toList sameList filled subtypeIs newSubtypes overrideTie overrideTies define recorded started existing initialValue newObject pop! popAll! int! reference! kind! kinds! room! object! now under! give execute step Maybe._>>=_ Maybe.need sameRequest has fires rest grow reachFrom reach leads seek nearest below fileAt classAt typeOfName meetClass meetInt meets pop popAll isNamed effect returns target goesOn mapAt localType meetLocal meetAll meetMap flowInto flowToTarget startAt after Verifier.turn mapsPast verify typesAt unmappedFrom unmapped notesOf settle onRows runRows performRows performAllRows two method fileOf plain fileF taker coded lifts pushes ready tied12 tied123 ofKind! compute jumps meetKind returnKind notesOfMethod unused made roomless rewritten changed objectHeld inUse numbersFrom named roots linksFrom reached sweptFrom freedFrom sweepRows
+unfolding freedIn sweeps node make link clear running cycle row called quoted upFrom rowsBefore rowsAfter answeredRows size accepted endsIn isSome signed less shown number numberOfStep numberOf refusalDetails stepDetails details _>>=_ need take? defineRows recordRows startRows dropRows answerOf stepTask stepOn stepRows turnOf turn find lower superOf loaderOf ownSlots slotsIn slots slotIs hasField sameSignature alike methodsOf hasMethod selected tieEdges subtypeEdges edges pairAgrees rowAgrees agreesOver agrees tieIs newTie newTies signatureTies agreesAfter post byte short name count fieldsIn oneIn argumentsIn signatureIn namesIn mapIn mapsFrom mapsIn methodsIn ends sameField sameMethod readFile pick opcodeOf inlineLength shortAt extend instructionOf sizedAs decode every all any doubled indexOf isNone toList sameList filled subtypeIs newSubtypes overrideTie overrideTies define recorded started existing initialValue newObject pop! popAll! int! reference! kind! kinds! room! object! now under! give execute step Maybe._>>=_ Maybe.need sameRequest has fires rest grow reachFrom reach leads seek nearest below fileAt classAt typeOfName meetClass meetInt meets pop popAll isNamed effect returns target goesOn mapAt localType meetLocal meetAll meetMap flowInto flowToTarget startAt after Verifier.turn mapsPast verify typesAt unmappedFrom unmapped notesOf settle onRows runRows performRows performAllRows two method fileOf plain fileF taker coded lifts pushes ready tied12 tied123 ofKind! compute jumps meetKind returnKind notesOfMethod unused made roomless shareUsed madeBy rewritten changed objectHeld inUse numbersFrom named roots linksFrom reached sweptFrom freedFrom sweepRows
 swept = record {
   answers = refl;
   prepared = refl;

@@ -11,6 +11,7 @@ ghost use Rattle.definition.specs.Numbers.{byteRange, shortRange, intRange};
 ghost use Rattle.definition.specs.Instructions.{shortAt};
 ghost use Rattle.definition.specs.Answers.{signed, less};
 ghost use Rattle.definition.specs.Tables.{putThree};
+ghost use Rattle.cells.specs.Held.{Held};
 
 // Numbers widened: sums and products of these do not wrap.
 pub fn wide8(x: u8) -> usize
@@ -76,6 +77,17 @@ pub fn at32(t: &[u32], i: usize) -> u32
     ensures { λ r. ⌜ r ≡ getD (now (t .entry)) i 0 ⌝ }
 {
     if i < t.len() { t[i] } else { 0 }
+}
+
+// How many of n cells from cell `first` on the table holds.
+pub fn held16(t: &[u16], first: usize, n: usize) -> usize
+    ensures { λ r. ⌜ Held (now (t .entry)) first n r ⌝ }
+{
+    if t.len() <= first {
+        return 0;
+    }
+    let rest = t.len() - first;
+    if n <= rest { n } else { rest }
 }
 
 // A cell written, nothing past the end.

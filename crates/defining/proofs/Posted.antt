@@ -14,8 +14,8 @@ use Rattle.definition.specs.Loading.{overrideTie, overrideTies}
 use Rattle.definition.specs.Tables.{tieAt, putTie}
 use Rattle.layout.specs.Places.{rows-step, rows-none, rows-start, writeRows-length}
 use Rattle.layout.specs.Cells.{rows-parts, rows-after-more, tie-rows}
-use Rattle.constraints.specs.Posting.{newTieIn, tiesAfter}
-use Rattle.constraints.specs.Laws.{tie-few}
+use Rattle.rows.specs.Posting.{newTieIn, tiesAfter}
+use Rattle.rows.specs.Laws.{tie-few}
 use Rattle.defining.specs.Posting.{TiesPosted}
 use Rattle.laws.specs.Inline.{four-arguments, ties-few, five-ties}
 

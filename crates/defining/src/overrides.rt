@@ -27,7 +27,7 @@ fn post_types(ties: &mut [u16], count: u16, one: u8, two: u8, types: Arguments) 
     let mut total = count;
     let mut i: u8 = 0;
     while i < n {
-        total = constraints::add_tie(ties, total, one, two, argument_at(types, i)) as u16;
+        total = rows::add_tie(ties, total, one, two, argument_at(types, i)) as u16;
         i += 1;
     }
     total

@@ -4,11 +4,11 @@ use mathlib.Core.List.{List, [], _∷_}
 use Prim.Native.Nat.{ℕ, zero, suc, _+_}
 use lib.ListN.{length, getD}
 use lib.Dec.{eqb, leb, ltb}
-use Rattle.definition.specs.Numbers.{loaderLimit, taskLimit, classLimit, keptLimit, cacheLimit, tieLimit, subtypeLimit, objectLimit, fieldLimit, frameLimit, operandLimit, countClasses, countKept, countCache, countTies, countSubtypes, countObjects, countFrames}
+use Rattle.definition.specs.Numbers.{loaderLimit, taskLimit, classLimit, keptLimit, cacheLimit, tieLimit, subtypeLimit, objectLimit, shareLimit, fieldLimit, frameLimit, operandLimit, countClasses, countKept, countCache, countTies, countSubtypes, countObjects, countFrames}
 use Rattle.definition.specs.Lists.{every, all, allFrom, isSome}
 use Rattle.definition.specs.Classes.{Base, Entry, superOf}
 use Rattle.definition.specs.Constraints.{Tie, Subtype}
-use Rattle.definition.specs.Machine.{Value, emptyValue, intValue, nullValue, objectValue, unlistedValue, ObjectRow, free, owned, Objects, Frame, existing}
+use Rattle.definition.specs.Machine.{Value, emptyValue, intValue, nullValue, objectValue, unlistedValue, ObjectRow, free, owned, Objects, Frame, existing, madeBy}
 use Rattle.definition.specs.Tables.{Tables, shaped, ClassRow, RowNumbers, Rows, fileAt, baseOf, sizeOf, view}
 
 -- each count within its limit
@@ -101,6 +101,7 @@ sound r = every
     ∷ all (frameFits (length (r .classes)) (r .objects)) (r .quote)
     ∷ all (frameFits (length (r .classes)) (r .objects)) (r .report)
     ∷ numbered (r .numbers)
+    ∷ leb (madeBy 1 (r .objects)) shareLimit
     ∷ [])
 
 unfoldable pub whole : Tables → Bool

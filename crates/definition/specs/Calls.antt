@@ -6,7 +6,7 @@ use mathlib.Core.List.{List, [], _∷_, _++_}
 use Prim.Native.Nat.{ℕ, zero, suc, _+_, _-_}
 use lib.ListN.{length}
 use lib.Dec.{eqb, leb, ltb}
-use Rattle.definition.specs.Numbers.{wordBroken, wordFile, wordUnknown, wordTaken, wordWanted, wordUnverified, wordAbsent, wordClash, wordFull, wordNull, wordBusy, wordMisnamed, wordStuck, wordUnmapped, wordShort, wordDivisor, nameObject, loaderLimit, taskLimit, keptLimit, runLimit, listLimit}
+use Rattle.definition.specs.Numbers.{wordBroken, wordFile, wordUnknown, wordTaken, wordWanted, wordUnverified, wordAbsent, wordClash, wordFull, wordNull, wordBusy, wordMisnamed, wordStuck, wordUnmapped, wordShort, wordDivisor, wordShare, nameObject, loaderLimit, taskLimit, keptLimit, runLimit, listLimit}
 use Rattle.definition.specs.Lists.{rows}
 use Rattle.definition.specs.Constraints.{Tie, Subtype, World}
 use Rattle.definition.specs.Answers.{Refusal, Word, Answer, Idle, Ran, Finished, Refused, Reply, Accepted, Defined, Stepped, RanFor, Swept, Denied, Result, refused, ok, number, _>>=_, need, take?}
@@ -86,7 +86,7 @@ triedWith n r (refused w) = elim (ltb n listLimit && not (eqb (number w) wordUnk
 unfoldable pub tryRows : Load → ℕ → Rows → Result (Given Reply)
 tryRows c n r = triedWith n r (loadRows c r)
 
--- start of task k. 3 12 5 7 10
+-- start of task k. 3 12 5 7 18 10
 unfoldable pub startRows : ℕ → ℕ → ℕ → ℕ → ℕ → Rows → Result (Given Reply)
 startRows k l n m v r =
     need (ltb k taskLimit) (Word wordUnknown) >>= λ _. started k l n m v (worldOf r) (r .objects) (framesIn k r) >>= λ o. given Accepted (progressed k r o)
@@ -214,7 +214,7 @@ callTry c n = callRows (rowTry c n)
 
 -- the words that each call may refuse with, in the order in which the definitions above test them; a run's last answer may be any of a step's
 unfoldable pub stepRefusals : List ℕ
-stepRefusals = wordBroken ∷ wordStuck ∷ wordWanted ∷ wordAbsent ∷ wordFull ∷ wordClash ∷ wordNull ∷ wordDivisor ∷ []
+stepRefusals = wordBroken ∷ wordStuck ∷ wordWanted ∷ wordAbsent ∷ wordShare ∷ wordFull ∷ wordClash ∷ wordNull ∷ wordDivisor ∷ []
 
 -- a load's after 'unknown'
 unfoldable pub loadRefusals : Load → List ℕ
@@ -225,7 +225,7 @@ loadRefusals (loadRecord l n c) = wordMisnamed ∷ wordTaken ∷ wordFull ∷ wo
 unfoldable pub rowRefusals : RowCall → List ℕ
 rowRefusals (rowDefine l bs) = wordUnknown ∷ loadRefusals (loadDefine l bs)
 rowRefusals (rowRecord l n c) = wordUnknown ∷ loadRefusals (loadRecord l n c)
-rowRefusals (rowStart k l n m v) = wordUnknown ∷ wordBusy ∷ wordWanted ∷ wordAbsent ∷ wordFull ∷ []
+rowRefusals (rowStart k l n m v) = wordUnknown ∷ wordBusy ∷ wordWanted ∷ wordAbsent ∷ wordShare ∷ wordFull ∷ []
 rowRefusals (rowDrop k) = wordUnknown ∷ []
 rowRefusals rowSweep = []
 rowRefusals (rowTry c n) = wordUnknown ∷ wordShort ∷ loadRefusals c

@@ -5,13 +5,13 @@ use mathlib.Core.List.{List, [], _∷_, _++_}
 use Prim.Native.Nat.{ℕ, _+_}
 use lib.ListN.{length, getElem?}
 use lib.Dec.{eqb, leb, ltb}
-use Rattle.definition.specs.Numbers.{wordUnknown, wordTaken, wordUnverified, wordAbsent, wordClash, wordFull, wordBusy, wordMisnamed, wordUnmapped, nameObject, loaderLimit, classLimit, cacheLimit, tieLimit, subtypeLimit, fieldLimit}
+use Rattle.definition.specs.Numbers.{wordUnknown, wordTaken, wordUnverified, wordAbsent, wordClash, wordFull, wordBusy, wordMisnamed, wordUnmapped, wordShare, nameObject, loaderLimit, classLimit, cacheLimit, tieLimit, subtypeLimit, fieldLimit}
 use Rattle.definition.specs.Lists.{every, any, isNone}
 use Rattle.definition.specs.Requests.{Request, at}
 use Rattle.definition.specs.Classes.{Base, Signature, Class, Method, find, loaderOf, slots, selected, startSignature}
 use Rattle.definition.specs.Constraints.{Tie, Subtype, World, agrees, signatureTies}
 use Rattle.definition.specs.Verifier.{Note, unmapped, notesOf}
-use Rattle.definition.specs.Machine.{intValue, Frame, Objects, unused, made, roomless, newObject, entryFrame, Progress}
+use Rattle.definition.specs.Machine.{intValue, Frame, Objects, unused, made, roomless, shareUsed, newObject, entryFrame, Progress}
 use Rattle.definition.specs.Answers.{Word, wanted, Result, ok, _>>=_, need, take?}
 
 -- The verifier's notes as subtype constraints under a loader, those that are not there yet
@@ -87,12 +87,13 @@ recorded l n c w =
           need (agrees (withEntry w (at l n) c)) (Word wordClash) >>= λ _. ok (withEntry w (at l n) c)
     ]
 
--- start of task k: a new object and a first frame in the method selected for (m, [int], int). Refusals: 3 12 5 7 10
+-- start of task k: a new object and a first frame in the method selected for (m, [int], int). Refusals: 3 12 5 7 18 10
 unfoldable pub started : ℕ → ℕ → ℕ → ℕ → ℕ → World → Objects → List Frame → Result Progress
 started k l n m v w os fs =
     need (ltb l loaderLimit && leb nameObject n && leb 1 m) (Word wordUnknown) >>= λ _.
     need (leb (length fs) 0) (Word wordBusy) >>= λ _.
     take? (find (w .base .cache) (at l n)) (wanted (at l n)) >>= λ c.
     take? (selected (w .base) (startSignature m) c) (Word wordAbsent) >>= λ s.
+    need (not (shareUsed k os)) (Word wordShare) >>= λ _.
     need (not (roomless k os)) (Word wordFull) >>= λ _.
     ok (record { world = w; objects = made k (newObject (w .base) c) os; frames = entryFrame (s .class) (s .place) (unused os) (intValue v ∷ []) ∷ []; result = none })

@@ -3,12 +3,12 @@ use mathlib.Core.Path.{_≡_}
 use mathlib.Core.Bool.{Bool, true, false, not, _&&_}
 use mathlib.Core.Option.{Option, none, some}
 use mathlib.Core.List.{List, [], _∷_, map}
-use Prim.Native.Nat.{ℕ, suc, _+_, _-_, _%_}
+use Prim.Native.Nat.{ℕ, zero, suc, _+_, _-_, _%_}
 use lib.ListN.{length, getElem?, set}
 use lib.Dec.{eqb, leb, ltb}
 use lib.IntN.{_*ℤ_}
 use lib.Signed.{quotZ}
-use Rattle.definition.specs.Numbers.{wordAbsent, wordFull, wordNull, wordStuck, wordDivisor, nameInt, objectLimit, frameLimit, operandLimit, localCount, intRange}
+use Rattle.definition.specs.Numbers.{wordAbsent, wordFull, wordNull, wordStuck, wordDivisor, wordShare, nameInt, objectLimit, shareLimit, frameLimit, operandLimit, localCount, intRange}
 use Rattle.definition.specs.Lists.{indexOf, filled}
 use Rattle.definition.specs.Requests.{at}
 use Rattle.definition.specs.Superclasses.{nearest, below}
@@ -66,6 +66,12 @@ inUse [] = 0
 inUse (free ∷ os) = inUse os
 inUse (owned k x ∷ os) = suc (inUse os)
 
+-- how many of them task k made: those that count as its own, whoever names them, until a sweep frees them
+unfoldable pub madeBy : ℕ → Objects → ℕ
+madeBy k [] = 0
+madeBy k (free ∷ os) = madeBy k os
+madeBy k (owned j x ∷ os) = elim (eqb j k) [ true ↦ suc (madeBy k os) | false ↦ madeBy k os ]
+
 -- the lowest number unused
 unfoldable pub unused : Objects → ℕ
 unused [] = 0
@@ -81,6 +87,11 @@ made k x (owned j y ∷ os) = owned j y ∷ made k x os
 -- task k may make no object: 256 are in use
 unfoldable pub roomless : ℕ → Objects → Bool
 roomless k os = leb objectLimit (unused os)
+
+-- task k has used its share: of the report 192 objects exist. The quote has no share.
+unfoldable pub shareUsed : ℕ → Objects → Bool
+shareUsed zero os = false
+shareUsed (suc k) os = leb shareLimit (madeBy (suc k) os)
 
 -- object o becomes x, of the same task
 unfoldable pub rewritten : Object → ObjectRow → ObjectRow
@@ -210,7 +221,7 @@ give (g ∷ gs) w os v = ok (record {
 })
 
 -- An instruction of frame f, of class k, above the frames fs of its task. A call's receiver is the lowest of its operands, its arguments follow in their order. A field is that of the class that resolution finds, d, at its place among d's fields, whatever the object's own class declares.
--- Refusals in order: 5 7 10 9, then 14, then 11 and 17, which no instruction can both meet.
+-- Refusals in order: 5 7 18 10 9, then 14, then 11 and 17, which no instruction can both meet.
 module _ (task : ℕ) (w : World) (os : Objects) (f : Frame) (fs : List Frame) (k : Class) (i : Decoded) where
   -- nothing but the frame changes
   abbrev pub on : List Value → List Value → Result Progress
@@ -257,6 +268,7 @@ module _ (task : ℕ) (w : World) (os : Objects) (f : Frame) (fs : List Frame) (
       ok (record { world = w′; objects = os; frames = entryFrame (m .class) (m .place) (o .number) (p .all) ∷ past f i (q .more) (f .locals) ∷ fs; result = none })
   execute (New c) =
       take? (find (w .base .cache) (at (k .loader) c)) (wanted (at (k .loader) c)) >>= λ e.
+      need (not (shareUsed task os)) (Word wordShare) >>= λ _.
       need (not (roomless task os) && ltb (length (f .operands)) operandLimit) (Word wordFull) >>= λ _.
       ok (record {
         world = w;

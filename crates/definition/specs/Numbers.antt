@@ -57,6 +57,10 @@ wordShort = 16
 abbrev pub wordDivisor : ℕ
 wordDivisor = 17
 
+-- 'share used': the report has as many objects as it may have
+abbrev pub wordShare : ℕ
+wordShare = 18
+
 -- Names: 0 is none; others than these are free
 
 abbrev pub nameInt : ℕ
@@ -90,6 +94,10 @@ subtypeLimit = 256
 
 abbrev pub objectLimit : ℕ
 objectLimit = 256
+
+-- objects of the report: the rest is kept for quotes
+abbrev pub shareLimit : ℕ
+shareLimit = 192
 
 -- fields of an object, inherited ones included
 abbrev pub fieldLimit : ℕ
@@ -269,8 +277,8 @@ abbrev pub allNumbers : List ℕ
 allNumbers =
     wordBroken ∷ wordFile ∷ wordUnknown ∷ wordTaken ∷ wordWanted ∷ wordUnverified
     ∷ wordAbsent ∷ wordHidden ∷ wordClash ∷ wordFull ∷ wordNull ∷ wordBusy
-    ∷ wordMisnamed ∷ wordStuck ∷ wordUnmapped ∷ wordShort ∷ wordDivisor ∷ nameInt ∷ nameObject ∷ loaderLimit ∷ taskLimit
-    ∷ classLimit ∷ keptLimit ∷ cacheLimit ∷ tieLimit ∷ subtypeLimit ∷ objectLimit
+    ∷ wordMisnamed ∷ wordStuck ∷ wordUnmapped ∷ wordShort ∷ wordDivisor ∷ wordShare ∷ nameInt ∷ nameObject ∷ loaderLimit ∷ taskLimit
+    ∷ classLimit ∷ keptLimit ∷ cacheLimit ∷ tieLimit ∷ subtypeLimit ∷ objectLimit ∷ shareLimit
     ∷ fieldLimit ∷ frameLimit ∷ operandLimit ∷ localCount ∷ runLimit ∷ listLimit ∷ versionOne ∷ versionTwo ∷ versionThree
     ∷ fileLimit ∷ memberLimit ∷ argumentLimit ∷ codeLimit ∷ countClasses ∷ countKept ∷ countCache
     ∷ countTies ∷ countSubtypes ∷ countObjects ∷ countFrames ∷ ownersCell ∷ tieNumbersCell ∷ subtypeNumbersCell ∷ rowCells ∷ valueCells

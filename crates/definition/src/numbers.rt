@@ -39,6 +39,8 @@ pub const WORD_SHORT: u8 = 16;
 
 pub const WORD_DIVISOR: u8 = 17;
 
+pub const WORD_SHARE: u8 = 18;
+
 // Names: 0 is none; others than these are free.
 pub const NAME_INT: u16 = 1;
 
@@ -60,6 +62,8 @@ pub const TIE_LIMIT: u16 = 256;
 pub const SUBTYPE_LIMIT: u16 = 256;
 
 pub const OBJECT_LIMIT: u16 = 256;
+// Objects of the report.
+pub const SHARE_LIMIT: u16 = 192;
 // Fields of an object, inherited ones included.
 pub const FIELD_LIMIT: u32 = 16;
 // Frames of a task.
@@ -169,7 +173,7 @@ pub const INT_RANGE: usize = 4294967296;
 pub const SIGN_BIT: u32 = 2147483648;
 
 // Every number above, in the order of their names in specs/Numbers.antt.
-pub fn all_numbers() -> [u64; 76]
+pub fn all_numbers() -> [u64; 78]
     ensures { λ r. ⌜ r ≡ allNumbers ⌝ }
 {
     [
@@ -190,6 +194,7 @@ pub fn all_numbers() -> [u64; 76]
         WORD_UNMAPPED as u64,
         WORD_SHORT as u64,
         WORD_DIVISOR as u64,
+        WORD_SHARE as u64,
         NAME_INT as u64,
         NAME_OBJECT as u64,
         LOADER_LIMIT as u64,
@@ -200,6 +205,7 @@ pub fn all_numbers() -> [u64; 76]
         TIE_LIMIT as u64,
         SUBTYPE_LIMIT as u64,
         OBJECT_LIMIT as u64,
+        SHARE_LIMIT as u64,
         FIELD_LIMIT as u64,
         FRAME_LIMIT as u64,
         OPERAND_LIMIT as u64,

@@ -3,7 +3,7 @@ use mathlib.Core.Path.{_≡_, refl, sym, ap, _∙_}
 use mathlib.Core.Bool.{Bool, true, false, _&&_}
 use mathlib.Core.Option.{some}
 use mathlib.Core.List.{List, [], _∷_, _++_, append-nil}
-use mathlib.Core.Logic.{_⊎_, inl, inr}
+use mathlib.Core.Logic.{_≢_, _⊎_, inl, inr}
 use Prim.Native.Nat.{ℕ, _+_, _<_, _≤_}
 use native.Mathlib.Omega.{arith}
 use native.Mathlib.Numerals.{add-one}
@@ -24,6 +24,7 @@ use Rattle.definition.specs.Tables.{Tables, tables, tieAt, tiesOf, sizeOf, fram
 use Rattle.layout.specs.Places.{rows-length, stack-length}
 use Rattle.layout.specs.Unbroken.{Counts}
 use Rattle.frames.specs.Unused.{unusedFrom}
+use Rattle.frames.specs.Made.{madeIn}
 use Rattle.instructions.specs.declared.Plan.{Plan}
 use Rattle.instructions.specs.declared.Plan.the-variants.{Refuse, Keep, Jump, Above, Local, Give, Finish, Field, Enter, Make}
 use Rattle.instructions.specs.Plans.{decoded, meaning, Fit, FrameOnly, Returning}
@@ -32,7 +33,7 @@ use Rattle.access.specs.declared.Access.{Access}
 use Rattle.access.specs.declared.Access.the-variants.{Unresolved, Resolved}
 use Rattle.access.specs.Declarers.{declaring-some}
 use Rattle.access.specs.Accesses.{worldIn, tiesOn, accessed, Accessing, frameRoom}
-use Rattle.access.specs.Makings.{Making}
+use Rattle.access.specs.Makings.{RoomIs, Making}
 use Rattle.posting.specs.declared.Posting.{Posting}
 use Rattle.posting.specs.declared.Posting.the-variants.{Nothing}
 use Rattle.posting.specs.Postings.{toPost, Quiet, quietly, quietly-quiet, quietly-means, quietly-few}
@@ -200,14 +201,14 @@ module _ (N L K E I S O F : List ℕ) (k m b d loader : ℕ) (i : Instruction) (
     fits = λ few. h .fits B T refl;
   }
 
-  -- new, where o is the lowest number unused: a class that is cached has no more fields than a row has room for
-  pub acted-make : (c o : ℕ) → i ≡ New c → o ≡ unusedFrom N 0 → Making N L K E O F b d loader c o p → ((e : ℕ) → find (B .cache) (at loader c) ≡ some e → sizeOf B e ≤ 16)
+  -- new, where o is the lowest number unused and z how many objects the task made: a class that is cached has no more fields than a row has room for
+  pub acted-make : (c o z : ℕ) → i ≡ New c → RoomIs N k o z → Making N L K E O F k b d loader c o z p → ((e : ℕ) → find (B .cache) (at loader c) ≡ some e → sizeOf B e ≤ 16)
       → Acted N L K E I S O F k m b d loader i Nothing p
   unfolding toPost
-  acted-make c o q u h sizes = record {
+  acted-make c o z q u h sizes = record {
     says = λ a y n e.
         ap (λ (w : World). meaning k w (objectsOf B T) (stack (frameIn F k) m) F b (y + n) p) (posted-none (worldIn B T))
-        ∙ rw q (h .says u I S k (stack (frameIn F k) m) a y n e);
+        ∙ rw q (h .says u I S (stack (frameIn F k) m) a y n e);
     ties = omega arith;
     quiet = nothing-quiet p;
     fits = λ few. h .fits u sizes I S k m;
@@ -269,6 +270,10 @@ pub record Usable (N L K E I : List ℕ) : Type 0 where
   pub ties : length I ≡ 768
   pub sizes : (r : Request) (e : ℕ) → find (quickBase N L K E .cache) r ≡ some e → sizeOf (quickBase N L K E) e ≤ 16
   pub loaders : (c : ℕ) → loaderOf (quickBase N L K E) c < 16
+
+-- what new of task k asks for is at hand: the lowest number unused may be sought from `from` on, and the task, unless it is the quote, made `number` objects
+abbrev pub RoomFor : List ℕ → ℕ → ℕ → ℕ → Type 0
+RoomFor N k from number = (unusedFrom N from ≡ unusedFrom N 0) × (k ≢ 0 → number ≡ madeIn N k)
 
 pub narrow : (N L K E I : List ℕ) → Usable N L K E I → (O F : List ℕ) (b d loader : ℕ) (room : List Frame → Bool) (types : List ℕ) (i : Instruction) (a : Access)
     → Accessing N L K E O F b d loader room types i a → Narrow a

@@ -17,12 +17,17 @@ ghost use lib.ListN.{getD};
 ghost use Rattle.definition.specs.Numbers.{taskLimit, frameLimit, loaderLimit, countFrames};
 ghost use Rattle.definition.specs.Tables.{tables};
 ghost use Rattle.definition.specs.Broken.{broken};
-ghost use Rattle.frames.specs.Unused.{unusedFrom};
 ghost use Rattle.resolution.specs.Quick.{loaderIn};
 ghost use Rattle.execution.specs.Steps.{IsTop, Chosen};
-ghost use Rattle.execution.specs.Decisions.{Usable, Acted};
+ghost use Rattle.execution.specs.Decisions.{Usable, RoomFor, Acted};
 
-// The decision on an instruction of the top frame of a task. The lowest number unused, which new asks for, may be sought from `from` on.
+// What a new object asks for. The lowest number unused may be sought from `free` on; `made` is how many objects the report made, if it is the report's turn.
+pub(crate) struct Room {
+    pub free: u16,
+    pub made: u16,
+}
+
+// The decision on an instruction of the top frame of a task.
 fn act(
     counts: &[u16],
     classes: &[u16],
@@ -34,9 +39,9 @@ fn act(
     frames: &[u32],
     top: Top,
     i: Instruction,
-    from: u16,
+    room: Room,
 ) -> Decision
-    requires { ⌜ Usable (now counts) (now classes) (now kept) (now cache) (now ties) × (top .row < frameLimit) × (unusedFrom (now counts) from ≡ unusedFrom (now counts) 0) ⌝ }
+    requires { ⌜ Usable (now counts) (now classes) (now kept) (now cache) (now ties) × (top .row < frameLimit) × RoomFor (now counts) (top .task) (room .free) (room .made) ⌝ }
     ensures { λ r. ⌜ Acted (now (counts .entry)) (now (classes .entry)) (now (kept .entry)) (now (cache .entry)) (now (ties .entry)) (now (subtypes .entry)) (now (objects .entry)) (now (frames .entry)) (top .task) (top .row) (top .base) (top .depth) (top .loader) i (r .posting) (r .plan) ⌝ }
 {
     match i {
@@ -120,7 +125,8 @@ fn act(
             frames,
             top,
             class,
-            frames::unused(counts, from),
+            frames::unused(counts, room.free),
+            room.made,
         )),
         Instruction::Return(k) => plain(instructions::give_back(frames, top, k)),
         Instruction::Branch(c, p) => plain(instructions::branch(frames, top, c, p)),
@@ -150,7 +156,7 @@ pub(crate) fn top_frame(counts: &[u16], classes: &[u16], frames: &[u32], task: u
     }
 }
 
-// The choice for the top frame of a task; the lowest number unused may be sought from `from` on.
+// The choice for the top frame of a task.
 pub(crate) fn choose(
     counts: &[u16],
     classes: &[u16],
@@ -161,9 +167,9 @@ pub(crate) fn choose(
     objects: &[u32],
     frames: &[u32],
     top: Top,
-    from: u16,
+    room: Room,
 ) -> Choice
-    requires { ⌜ (broken (tables (now counts) (now classes) (now kept) (now cache) (now ties) (now subtypes) (now objects) (now frames)) ≡ false) × (top .task < taskLimit) × (getD (now counts) (countFrames + top .task) 0 ≡ suc (top .row)) × IsTop (now counts) (now classes) (now frames) top × (unusedFrom (now counts) from ≡ unusedFrom (now counts) 0) ⌝ }
+    requires { ⌜ (broken (tables (now counts) (now classes) (now kept) (now cache) (now ties) (now subtypes) (now objects) (now frames)) ≡ false) × (top .task < taskLimit) × (getD (now counts) (countFrames + top .task) 0 ≡ suc (top .row)) × IsTop (now counts) (now classes) (now frames) top × RoomFor (now counts) (top .task) (room .free) (room .made) ⌝ }
     ensures { λ r. ⌜ Chosen (now (counts .entry)) (now (classes .entry)) (now (kept .entry)) (now (cache .entry)) (now (ties .entry)) (now (subtypes .entry)) (now (objects .entry)) (now (frames .entry)) (top .task) (top .row) (top .base) (r .posting) (r .plan) (r .next) ⌝ }
 {
     let c = frames::frame_class(frames, top.base);
@@ -190,7 +196,7 @@ pub(crate) fn choose(
         frames,
         top,
         i,
-        from,
+        room,
     );
     let posting = r.posting;
     let plan = r.plan;

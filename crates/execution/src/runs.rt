@@ -1,4 +1,5 @@
 // A run of steps.
+use crate::deciding::Room;
 use crate::turns::step_unbroken;
 use definition::Answer;
 use definition::Refusal;
@@ -7,10 +8,12 @@ use definition::numbers::RUN_LIMIT;
 use definition::numbers::WORD_UNKNOWN;
 ghost use mathlib.Core.Path.{_≡_};
 ghost use mathlib.Core.Bool.{false};
+ghost use Prim.Native.Nat.{_<_};
+ghost use Rattle.definition.specs.Numbers.{objectLimit};
 ghost use Rattle.definition.specs.Tables.{tables};
 ghost use Rattle.definition.specs.Broken.{broken};
 ghost use Rattle.definition.specs.Calls.{done, stepTables, runFrom, run};
-ghost use Rattle.execution.specs.Runs.{goesOn, Ruled};
+ghost use Rattle.execution.specs.Runs.{goesOn, Ruled, RoomIn, RoomAfter};
 
 fn is_ran(a: Answer) -> bool
     ensures { λ r. ⌜ r ≡ goesOn a ⌝ }
@@ -23,8 +26,41 @@ fn is_ran(a: Answer) -> bool
     }
 }
 
-// Up to n steps of a store that is not broken: a step leaves it so, and it isn't tested again. Nor does a step free a row: the lowest number unused is sought from
-// where it was.
+// The lowest number unused and how many objects the report, task 1, made, before the first step of a run.
+fn first_room(counts: &[u16]) -> Room
+    ensures { λ r. ⌜ RoomIn (now (counts .entry)) (r .free) (r .made) ⌝ }
+{
+    Room {
+        free: frames::unused(counts, 0),
+        made: frames::made_by(counts, 1),
+    }
+}
+
+// The same after a step of task `turn`. A step frees no row, so the lowest number unused is sought from where it was; if it moved the task made an object.
+fn next_room(counts: &[u16], room: Room, turn: u8) -> Room
+    requires { ⌜ room .made < objectLimit ⌝ }
+    ensures { λ r. ⌜ RoomAfter (now (counts .entry)) turn (room .free) (room .made) (r .free) (r .made) ⌝ }
+{
+    let free = frames::unused(counts, room.free);
+    if turn == 0 {
+        return Room {
+            free,
+            made: room.made,
+        };
+    }
+    if free == room.free {
+        return Room {
+            free,
+            made: room.made,
+        };
+    }
+    Room {
+        free,
+        made: room.made + 1,
+    }
+}
+
+// Up to n steps of a store that is not broken: a step leaves it so, and it isn't tested again. Nor are the report's objects counted again.
 fn steps(
     counts: &mut [u16],
     classes: &[u16],
@@ -41,8 +77,9 @@ fn steps(
 {
     let mut k: u16 = 0;
     let mut last = Answer::Idle;
-    let mut free = frames::unused(counts, 0);
+    let mut room = first_room(counts);
     while k < n {
+        let turn = tasks::turn(counts);
         let a = step_unbroken(
             counts,
             classes,
@@ -52,12 +89,12 @@ fn steps(
             subtypes,
             objects,
             frames,
-            free,
+            room,
         );
         if !is_ran(a) {
             return Reply::RanFor(k, a);
         }
-        free = frames::unused(counts, free);
+        room = next_room(counts, room, turn);
         last = a;
         k += 1;
     }

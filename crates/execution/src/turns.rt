@@ -2,6 +2,7 @@
 use crate::carrying::carry_out;
 use crate::carrying::number_ties;
 use crate::carrying::post_ties;
+use crate::deciding::Room;
 use crate::deciding::choose;
 use crate::deciding::top_frame;
 use definition::Answer;
@@ -12,10 +13,10 @@ ghost use mathlib.Core.Bool.{false};
 ghost use Rattle.definition.specs.Tables.{tables};
 ghost use Rattle.definition.specs.Broken.{broken};
 ghost use Rattle.definition.specs.Calls.{done, stepTables};
-ghost use Rattle.frames.specs.Unused.{unusedFrom};
+ghost use Rattle.tasks.specs.Turns.{turnOf};
+ghost use Rattle.execution.specs.Decisions.{RoomFor};
 
-// A step of a store that is not broken: decided on shared tables, then ties are posted and the plan carried out. The lowest number unused may be sought from
-// `from` on.
+// A step of a store that is not broken: decided on shared tables, then ties are posted and the plan carried out.
 pub(crate) fn step_unbroken(
     counts: &mut [u16],
     classes: &[u16],
@@ -25,9 +26,9 @@ pub(crate) fn step_unbroken(
     subtypes: &[u16],
     objects: &mut [u32],
     frames: &mut [u32],
-    from: u16,
+    room: Room,
 ) -> Answer
-    requires { ⌜ (broken (tables (now counts) (now classes) (now kept) (now cache) (now ties) (now subtypes) (now objects) (now frames)) ≡ false) × (unusedFrom (now counts) from ≡ unusedFrom (now counts) 0) ⌝ }
+    requires { ⌜ (broken (tables (now counts) (now classes) (now kept) (now cache) (now ties) (now subtypes) (now objects) (now frames)) ≡ false) × RoomFor (now counts) (turnOf (now counts)) (room .free) (room .made) ⌝ }
     ensures { λ r. ⌜ done r (tables (now (counts .exit)) (now (classes .entry)) (now (kept .entry)) (now (cache .entry)) (now (ties .exit)) (now (subtypes .entry)) (now (objects .exit)) (now (frames .exit))) ≡ stepTables (tables (now (counts .entry)) (now (classes .entry)) (now (kept .entry)) (now (cache .entry)) (now (ties .entry)) (now (subtypes .entry)) (now (objects .entry)) (now (frames .entry))) ⌝ }
 {
     let task = tasks::turn(counts);
@@ -46,7 +47,7 @@ pub(crate) fn step_unbroken(
         objects,
         frames,
         top,
-        from,
+        room,
     );
     let posting = r.posting;
     let plan = r.plan;
@@ -64,6 +65,20 @@ pub(crate) fn step_unbroken(
     );
     number_ties(counts, before, posting);
     answer
+}
+
+// What one step asks for: the report's objects are counted only if it is its turn.
+fn room_for_turn(counts: &[u16]) -> Room
+    ensures { λ r. ⌜ RoomFor (now (counts .entry)) (turnOf (now (counts .entry))) (r .free) (r .made) ⌝ }
+{
+    let turn = tasks::turn(counts);
+    if turn == 0 {
+        return Room { free: 0, made: 0 };
+    }
+    Room {
+        free: 0,
+        made: frames::made_by(counts, turn),
+    }
 }
 
 // One instruction of the quote if it has a frame, else of the report.
@@ -91,6 +106,7 @@ pub fn step(
     ) {
         return Answer::Refused(Refusal::Word(WORD_BROKEN));
     }
+    let room = room_for_turn(counts);
     step_unbroken(
         counts,
         classes,
@@ -100,6 +116,6 @@ pub fn step(
         subtypes,
         objects,
         frames,
-        0,
+        room,
     )
 }

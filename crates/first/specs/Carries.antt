@@ -8,9 +8,10 @@ use native.Mathlib.Omega.{arith}
 use lib.ListN.{length, getD, replicate, length-replicate, getD-replicate, length-append, List·getD-append}
 use lib.Seq.{getD-append-add}
 use lib.Dec.{eqb, leb}
-use borrow.Author.Tests.{eqb-true, eqb-false, eq-eqb, ne-eqb, leb-true, not-false}
-use Rattle.definition.specs.Numbers.{taskLimit, classLimit, keptLimit, cacheLimit, tieLimit, subtypeLimit, objectLimit, frameLimit, countClasses, countKept, countCache, countTies, countSubtypes, countObjects, countFrames, ownersCell, tieNumbersCell, subtypeNumbersCell, countsLength, classesLength, keptLength, cacheLength, tiesLength, subtypesLength, objectsLength, framesLength}
+use borrow.Author.Tests.{eqb-true, eqb-false, eq-eqb, ne-eqb, leb-true, le-leb, not-false}
+use Rattle.definition.specs.Numbers.{taskLimit, classLimit, keptLimit, cacheLimit, tieLimit, subtypeLimit, objectLimit, frameLimit, countClasses, countKept, countCache, countTies, countSubtypes, countObjects, countFrames, ownersCell, tieNumbersCell, subtypeNumbersCell, countsLength, classesLength, keptLength, cacheLength, tiesLength, subtypesLength, objectsLength, framesLength, shareLimit}
 use Rattle.definition.specs.Lists.{every, any, rows, stack}
+use Rattle.definition.specs.Machine.{madeBy}
 use Rattle.definition.specs.Classes.{Base}
 use Rattle.definition.specs.Tables.{Tables, tables, rowNumbers, numberAt, numbersOf, shaped, baseOf, classRowAt, entryAt, tieAt, subtypeAt, objectAt, ownedBy, ownerAt, objectRowAt, frameIn, classRowsOf, keptOf, cacheOf, viewBase, objectsOf, framesOf, viewOver, view}
 use Rattle.definition.specs.Broken.{within, inTurn, numbered, whole, broken}
@@ -18,11 +19,16 @@ use Rattle.definition.specs.Calls.{numbersFrom}
 use Rattle.layout.specs.Places.{rows-length, rows-getD, rows-cong}
 use Rattle.layout.specs.InTurn.{more-ties, more-subtypes}
 use Rattle.layout.specs.Tests.{every-true}
+use Rattle.layout.specs.Unbroken.{broken-false}
 use Rattle.first.specs.Tables.{FirstTables, firstCountsLength, firstShaped, FirstRows, firstRowsOf, firstObjectsOf, firstViewOver, firstViewBase, firstView}
 use Rattle.first.specs.Broken.{firstSound, firstWhole, firstBroken}
 use Rattle.first.specs.SameObjects.{SameObjects, noObjects, sameObject}
 use Rattle.first.specs.SameBases.{laterRow, Early, early, same-classes, fits-early}
-use Rattle.first.specs.SameRows.{SameRows, EarlyRows, same-sound}
+use Rattle.first.specs.SameRows.{SameRows, EarlyRows, BesideFits, same-sound}
+
+-- how many cells stand behind the eight counts
+abbrev pub besideLength : ℕ
+besideLength = objectLimit + (tieLimit + subtypeLimit)
 
 -- an owner cell that says a task, whichever
 abbrev pub IsOwner : ℕ → Type 0
@@ -32,24 +38,28 @@ IsOwner w = (k : ℕ) × (k < taskLimit) × (w ≡ suc k)
 abbrev pub withCounts : List ℕ → Tables → FirstTables
 withCounts n t = tables n (t .classes) (t .kept) (t .cache) (t .ties) (t .subtypes) (t .objects) (t .frames)
 
--- Today's tables t say what the first document's tables u say
-pub record Carries (u : FirstTables) (t : Tables) : Type 0 where
-  -- behind the counts of u stands an owner for each of the 256 rows of objects, then a number for each of the 256 rows of ties and of subtype constraints
+-- Today's tables t have what the first document's tables u say
+pub record Fronts (u : FirstTables) (t : Tables) : Type 0 where
+  -- behind the counts of u stands all that later papers keep: first an owner for each of the 256 rows of objects
   pub behind : List ℕ
   pub counts : t .counts ≡ u .counts ++ behind
-  pub all : length behind ≡ objectLimit + (tieLimit + subtypeLimit)
+  pub all : length behind ≡ besideLength
   -- the owner of an object of u is a task, whichever; what an unused row's cell says doesn't matter
   pub tasks : (o : ℕ) → o < getD (u .counts) countObjects 0 → o < objectLimit → IsOwner (getD behind o 0)
-  -- the numbers of the rows of u are some that aren't broken, whichever
-  pub turn : length (u .counts) ≡ firstCountsLength → getD (u .counts) countTies 0 ≤ tieLimit → getD (u .counts) countSubtypes 0 ≤ subtypeLimit → numbered (numbersOf t) ≡ true
   -- the other seven tables are the same
   pub rest : u ≡ withCounts (u .counts) t
+
+-- Today's tables t say what the first document's tables u say: what stands behind the counts is such that today's machine doesn't call them broken where the first
+-- document's doesn't, whichever it is
+pub record Carries (u : FirstTables) (t : Tables) : Type 0 where
+  pub fronts : Fronts u t
+  pub unbroken : firstBroken u ≡ false → broken t ≡ false
 
 -- ties numbered first, n of them, then subtype constraints
 abbrev pub tiesFirst : ℕ → List ℕ
 tiesFirst n = numbersFrom 0 tieLimit ++ numbersFrom n subtypeLimit
 
--- every tables of the first document are carried: by those in which task k owns every row, with ties numbered first
+-- every tables of the first document are carried by those in which task k owns every row, the quote, with ties numbered first
 abbrev pub carriedBy : ℕ → FirstTables → Tables
 carriedBy k u = withCounts (u .counts ++ (replicate objectLimit (suc k) ++ tiesFirst (getD (u .counts) countTies 0))) u
 
@@ -90,8 +100,8 @@ first-in-turn n m =
     (more-subtypes n 0 m n (n + m) (numbersFrom 0 n) [] (omega (arith, rows-length (λ i. i) n 0)) (omega arith) (omega arith)
     (more-ties 0 0 n 0 n [] [] (omega arith) (omega arith) (omega arith) refl))
 
-pub carrying : (k : ℕ) → k < taskLimit → (u : FirstTables) → Carries u (carriedBy k u)
-carrying k two u =
+fronting : (k : ℕ) → k < taskLimit → (u : FirstTables) → Fronts u (carriedBy k u)
+fronting k two u =
     let n : ℕ = getD (u .counts) countTies 0 in
     let ow : List ℕ = replicate objectLimit (suc k) in
     let long : length ow ≡ objectLimit = length-replicate objectLimit (suc k) in
@@ -100,17 +110,24 @@ carrying k two u =
       counts = refl;
       all = omega (arith, length-append ow (tiesFirst n), long, length-append (numbersFrom 0 tieLimit) (numbersFrom n subtypeLimit), rows-length (λ i. i) tieLimit 0, rows-length (λ i. i) subtypeLimit n);
       tasks = λ o _ l. (k, two, List·getD-append ow (tiesFirst n) 0 o (omega (arith, long)) ∙ getD-replicate objectLimit o (suc k) 0 l);
-      turn = λ eight few less.
-          let cell : (j : ℕ) → j < ownersCell → getD (u .counts ++ (ow ++ tiesFirst n)) j 0 ≡ getD (u .counts) j 0 = λ j l. List·getD-append (u .counts) (ow ++ tiesFirst n) 0 j (omega arith) in
-          rw (
-            cell countTies (omega arith),
-            cell countSubtypes (omega arith),
-            tie-numbers (u .counts) ow n (getD (u .counts) countSubtypes 0) eight long few less,
-            subtype-numbers (u .counts) ow n (getD (u .counts) countSubtypes 0) eight long few less,
-          )
-          (first-in-turn n (getD (u .counts) countSubtypes 0));
       rest = refl;
     }
+
+-- their numbers are in turn
+carried-turn : (k : ℕ) (u : FirstTables) → length (u .counts) ≡ firstCountsLength → getD (u .counts) countTies 0 ≤ tieLimit → getD (u .counts) countSubtypes 0 ≤ subtypeLimit
+    → numbered (numbersOf (carriedBy k u)) ≡ true
+carried-turn k u eight few less =
+    let n : ℕ = getD (u .counts) countTies 0 in
+    let ow : List ℕ = replicate objectLimit (suc k) in
+    let long : length ow ≡ objectLimit = length-replicate objectLimit (suc k) in
+    let cell : (j : ℕ) → j < ownersCell → getD (u .counts ++ (ow ++ tiesFirst n)) j 0 ≡ getD (u .counts) j 0 = λ j l. List·getD-append (u .counts) (ow ++ tiesFirst n) 0 j (omega arith) in
+    rw (
+      cell countTies (omega arith),
+      cell countSubtypes (omega arith),
+      tie-numbers (u .counts) ow n (getD (u .counts) countSubtypes 0) eight long few less,
+      subtype-numbers (u .counts) ow n (getD (u .counts) countSubtypes 0) eight long few less,
+    )
+    (first-in-turn n (getD (u .counts) countSubtypes 0))
 
 -- the tables keep a file of a later version for a class, or none
 unfoldable pub keepsLater : FirstTables → Bool
@@ -137,7 +154,7 @@ same-length n = go (eqb n firstCountsLength) refl
     go true e = sym (eq-eqb (n + (objectLimit + (tieLimit + subtypeLimit))) countsLength (ap (λ (z : ℕ). z + (objectLimit + (tieLimit + subtypeLimit))) (eqb-true n firstCountsLength e)))
     go false e = sym (ne-eqb (n + (objectLimit + (tieLimit + subtypeLimit))) countsLength (λ q. eqb-false n firstCountsLength e (omega arith)))
 
-pub same-shaped : (u : FirstTables) (t : Tables) → Carries u t → firstShaped u ≡ shaped t
+pub same-shaped : (u : FirstTables) (t : Tables) → Fronts u t → firstShaped u ≡ shaped t
 unfolding firstShaped shaped
 same-shaped u t h =
     let n : length (t .counts) ≡ length (u .counts) + (objectLimit + (tieLimit + subtypeLimit)) = ap length (h .counts) ∙ (length-append (u .counts) (h .behind) ∙ ap (λ (z : ℕ). length (u .counts) + z) (h .all)) in
@@ -163,7 +180,7 @@ same-read b n t (suc k) i h =
     let w = h i (omega arith) (omega arith) in
     rw (w .2) (sameObject (w .1) (same-read b n t k (suc i) (λ m a l. h m (omega arith) (omega arith))))
 
-module _ (u : FirstTables) (t : Tables) (h : Carries u t) (early-u : EarlyTables u) (eight : length (u .counts) ≡ firstCountsLength) where
+module _ (u : FirstTables) (t : Tables) (h : Fronts u t) (early-u : EarlyTables u) (eight : length (u .counts) ≡ firstCountsLength) where
   same-cell : (j : ℕ) → j < firstCountsLength → getD (u .counts) j 0 ≡ getD (t .counts) j 0
   same-cell j l = sym (ap (λ (z : List ℕ). getD z j 0) (h .counts) ∙ List·getD-append (u .counts) (h .behind) 0 j (omega arith))
 
@@ -231,7 +248,7 @@ pub early-rows : (u : FirstTables) (t : Tables) → EarlyTables u → SameRows (
 unfolding firstView firstViewOver
 early-rows u t e r = subst (λ (z : FirstRows). Early (z .kept) (z .classes)) (r .rest) e
 
-module _ (u : FirstTables) (t : Tables) (h : Carries u t) where
+module _ (u : FirstTables) (t : Tables) (h : Fronts u t) where
   pub eight-counts : firstShaped u ≡ true → length (u .counts) ≡ firstCountsLength
   unfolding firstShaped
   eight-counts s = eqb-true _ _ (every-true _ s .0)
@@ -241,16 +258,13 @@ module _ (u : FirstTables) (t : Tables) (h : Carries u t) where
   unfolding within
   same-rows e s w = same-view u t h e (eight-counts s) (leb-true _ _ (every-true _ w .1 .1 .1 .1 .1 .0))
 
-  same-turn : firstShaped u ≡ true → within (u .counts) ≡ true → numbered (view t .numbers) ≡ true
-  unfolding within view viewOver
-  same-turn s w = let p = every-true _ w in h .turn (eight-counts s) (leb-true _ _ (p .1 .1 .1 .0)) (leb-true _ _ (p .1 .1 .1 .1 .0))
-
-  pub same-broken : EarlyTables u → firstBroken u ≡ broken t
+  -- where what stands beside the rows passes, if the first document's tests do, both are broken or neither is
+  alike-broken : EarlyTables u → (firstShaped u ≡ true → within (u .counts) ≡ true → BesideFits (view t)) → firstBroken u ≡ broken t
   unfolding firstBroken broken firstWhole whole
-  same-broken e = ap not
+  alike-broken e turn = ap not
       (in-turn _ _ _ _ (same-shaped u t h) (λ s. in-turn _ _ _ _ (same-within u t h e (eight-counts s)) (λ w.
       let r = same-rows e s w in
-      ap (λ (z : Bool). every (z ∷ [])) (ap firstSound (r .rest) ∙ same-sound (firstView u .objects) (view t) (r .objects) (same-turn s w) (early-rows u t e r)))))
+      ap (λ (z : Bool). every (z ∷ [])) (ap firstSound (r .rest) ∙ same-sound (firstView u .objects) (view t) (r .objects) (turn s w) (early-rows u t e r)))))
 
   -- a store that isn't broken
   pub record SameStore : Type 0 where
@@ -260,3 +274,42 @@ module _ (u : FirstTables) (t : Tables) (h : Carries u t) where
   pub same-store : EarlyTables u → firstBroken u ≡ false → SameStore
   unfolding firstBroken firstWhole
   same-store x e = let p = every-true _ (not-false _ e) in record { eight = eight-counts (p .0); rows = same-rows x (p .0) (p .1 .0) }
+
+-- what today's machine doesn't call broken passes
+beside-unbroken : (t : Tables) → broken t ≡ false → BesideFits (view t)
+beside-unbroken t b = let w = broken-false t b .1 in (w .numbers .turn, le-leb (madeBy 1 (view t .objects)) shareLimit (w .share))
+
+pub same-broken : (u : FirstTables) (t : Tables) → Carries u t → EarlyTables u → firstBroken u ≡ broken t
+same-broken u t h e = go (firstBroken u) refl (broken t) refl
+  where
+    go : (a : Bool) → firstBroken u ≡ a → (b : Bool) → broken t ≡ b → firstBroken u ≡ broken t
+    go false p b q = p ∙ sym (h .unbroken p)
+    go true p true q = p ∙ sym q
+    go true p false q = alike-broken u t (h .fronts) e (λ _ _. beside-unbroken t q)
+
+-- where the quote owns every row, none is the report's
+none-made : (b : Base) (n t : List ℕ) (k i : ℕ) → ((m : ℕ) → i ≤ m → m < i + k → ownerAt n m ≡ 1) → madeBy 1 (rows (objectRowAt b n t) k i) ≡ 0
+unfolding rows objectRowAt ownedBy madeBy
+none-made b n t zero i h = refl
+none-made b n t (suc k) i h = rw (h i (omega arith) (omega arith)) (none-made b n t k (suc i) (λ m a l. h m (omega arith) (omega arith)))
+
+-- every tables of the first document are carried: the quote owns every object
+pub carrying : (u : FirstTables) → Carries u (carriedBy 0 u)
+unfolding within view viewOver objectsOf fronting
+carrying u = record { fronts = f; unbroken = λ e. sym (alike-broken u (carriedBy 0 u) f (unbroken-keeps-none u e) (beside (unbroken-keeps-none u e))) ∙ e }
+  where
+    f : Fronts u (carriedBy 0 u)
+    f = fronting 0 (omega arith) u
+
+    beside : EarlyTables u → firstShaped u ≡ true → within (u .counts) ≡ true → BesideFits (view (carriedBy 0 u))
+    beside x s w =
+        let p = every-true _ w in
+        let eight = eight-counts u (carriedBy 0 u) f s in
+        let few : getD (u .counts) countObjects 0 ≤ objectLimit = leb-true _ _ (p .1 .1 .1 .1 .1 .0) in
+        let ow : List ℕ = replicate objectLimit 1 in
+        let long : length ow ≡ objectLimit = length-replicate {A = ℕ} objectLimit 1 in
+        let cell = List·getD-append (u .counts) (f .behind) 0 countObjects (omega arith) in
+        let none = none-made (viewBase (carriedBy 0 u)) (carriedBy 0 u .counts) (u .objects) (getD (carriedBy 0 u .counts) countObjects 0) 0
+        (λ m _ l. same-owner u (carriedBy 0 u) f x eight m
+        ∙ (List·getD-append ow (tiesFirst (getD (u .counts) countTies 0)) 0 m (omega (arith, long)) ∙ getD-replicate objectLimit m 1 0 (omega arith))) in
+        (carried-turn 0 u eight (leb-true _ _ (p .1 .1 .1 .0)) (leb-true _ _ (p .1 .1 .1 .1 .0)), rw none refl)

@@ -192,7 +192,7 @@ booted-early u = go (firstShaped u) refl
     go false s e = let z : _≡_ {A = ℕ} 0 1 = cc in absurd (omega arith)
 
 one-early : (u : FirstTables) → EarlyTables u → EarlyTables (firstStepTables u .tables)
-one-early u x = step-early u _ (carrying 0 (omega arith) u) x
+one-early u x = step-early u _ (carrying u) x
 
 run-early : (n k : ℕ) (a : Answer) (u : FirstTables) → EarlyTables u → EarlyTables (runFrom firstStepTables n k a u .tables)
 unfolding runFrom

@@ -9,14 +9,14 @@ use native.Mathlib.Omega.{arith}
 use lib.ListN.{length}
 use lib.Dec.{leb, ltb}
 use borrow.Author.Tests.{ltb-true, lt-ltb}
-use Rattle.definition.specs.Numbers.{wordFile, wordUnknown, wordHidden, loaderLimit, taskLimit, keptLimit, operandLimit}
+use Rattle.definition.specs.Numbers.{wordFile, wordUnknown, wordHidden, loaderLimit, taskLimit, keptLimit, operandLimit, shareLimit}
 use Rattle.definition.specs.declared.Refusal.the-variants.{Word}
 use Rattle.definition.specs.Answers.{refused, ok, _>>=_, need, take?}
 use Rattle.definition.specs.Classes.{Base}
 use Rattle.definition.specs.File.{File, classOf}
 use Rattle.definition.specs.Loading.{recorded}
 use Rattle.definition.specs.Lists.{every, all, isSome}
-use Rattle.definition.specs.Machine.{Value, emptyValue, intValue, nullValue, objectValue, unlistedValue, Object, owned, Objects, Frame, Progress}
+use Rattle.definition.specs.Machine.{Value, emptyValue, intValue, nullValue, objectValue, unlistedValue, Object, owned, Objects, Frame, Progress, madeBy}
 use Rattle.definition.specs.Tables.{Rows, worldOf, framesIn}
 use Rattle.definition.specs.Broken.{entryFits, tieFits, subtypeFits, valueFits, localFits, objectFits, frameFits, numbered, sound}
 use Rattle.definition.specs.Calls.{Given, progressed, answerOf, defineRows, recordRows, startRows, dropRows, stepTask, stepOn, stepRows, RowCall, rowDefine, rowRecord, rowStart, rowDrop, onRowCall}
@@ -102,17 +102,20 @@ BringsNone (firstRowDrop k) = Unit {0}
 abbrev pub FirstHidden : FirstRowCall → FirstRows → Type 0
 FirstHidden c r = firstOnRowCall c r ≡ refused (Word wordHidden)
 
--- one more test that passes
-every-last : (xs : List Bool) → every xs ≡ every (xs ++ (true ∷ []))
+-- two more tests that pass
+every-last : (xs : List Bool) → every xs ≡ every (xs ++ (true ∷ true ∷ []))
 unfolding every
 every-last [] = refl
 every-last (true ∷ xs) = every-last xs
 every-last (false ∷ xs) = refl
 
--- where today's numbers are in turn
-pub same-sound : (os : List Object) (q : Rows) → SameObjects os (q .objects) → numbered (q .numbers) ≡ true → EarlyRows q → firstSound (plain os q) ≡ sound q
+-- what stands beside the rows passes today's tests: the numbers are in turn, and the report has no more than its share
+abbrev pub BesideFits : Rows → Type 0
+BesideFits q = (numbered (q .numbers) ≡ true) × (leb (madeBy 1 (q .objects)) shareLimit ≡ true)
+
+pub same-sound : (os : List Object) (q : Rows) → SameObjects os (q .objects) → BesideFits q → EarlyRows q → firstSound (plain os q) ≡ sound q
 unfolding firstSound sound
-same-sound os q h n e = rw n
+same-sound os q h n e = rw (n .0, n .1)
     ((λ i. every
     ((ap (λ (b : Base). firstClassesFit b (q .kept) (q .classes)) (same-base q e) ∙ same-classes-fit (worldOf q .base) (q .kept) (q .classes) e) i
     ∷ all (entryFits (length (q .classes))) (q .cache)

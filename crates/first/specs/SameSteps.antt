@@ -1,5 +1,6 @@
 -- One instruction, and a start, of both machines on the same objects: the same refusal, or the same constraints, frames and result, with the same objects again.
 use mathlib.Core.Path.{_≡_, refl, sym, ap}
+use mathlib.Core.Bool.{Bool, _&&_}
 use mathlib.Core.Option.{Option, some, Option·none-ne-some}
 use mathlib.Core.List.{List, [], _∷_}
 use Prim.Native.Nat.{ℕ, suc, _<_}
@@ -11,20 +12,20 @@ use Rattle.definition.specs.declared.Operator.{Operator}
 use Rattle.definition.specs.declared.Operator.the-variants.{Add, Subtract, Multiply, Divide}
 use Rattle.definition.specs.declared.Instruction.{Instruction}
 use Rattle.definition.specs.declared.Instruction.the-variants.{AconstNull, Sipush, Load, Store, Pop, Dup, Arithmetic, Getfield, Putfield, Invokevirtual, New, Return, Branch}
-use Rattle.definition.specs.Numbers.{wordAbsent, wordStuck, nameInt, taskLimit, frameLimit}
+use Rattle.definition.specs.Numbers.{wordAbsent, wordFull, wordStuck, nameInt, taskLimit, frameLimit, operandLimit}
 use Rattle.definition.specs.Classes.{Base, Class, Selected, loaderOf, selected}
 use Rattle.definition.specs.Constraints.{World, post}
 use Rattle.definition.specs.Instructions.{Decoded}
 use Rattle.definition.specs.Machine.{Value, emptyValue, intValue, nullValue, objectValue, unlistedValue, Object, Objects, Frame, compute, object!, Progress, give, execute, step}
 use Rattle.definition.specs.Verifier.{target}
 use Rattle.definition.specs.Loading.{started}
-use Rattle.definition.specs.Answers.{Result, _>>=_, take?}
+use Rattle.definition.specs.Answers.{Result, _>>=_, need, take?}
 use Rattle.laws.specs.Single.{Single, by-single}
 use Rattle.laws.specs.SingleCalls.{single-call, single-start}
 use Rattle.first.specs.Signatures.{firstArgument, firstSignature, firstSelected, firstStartSignature}
 use Rattle.first.specs.Machine.{firstObject!, firstCompute, FirstProgress, firstGive, firstExecute, firstStep, firstStarted}
 use Rattle.first.specs.SameObjects.{SameObjects, same-existing, same-next, same-room, same-made, same-changed}
-use Rattle.first.specs.Likewise.{Likewise, after, after-in}
+use Rattle.first.specs.Likewise.{Likewise, after, after-in, asked}
 use Rattle.first.specs.SameSignatures.{same-selected, same-ties}
 use Rattle.first.specs.SameFiles.{Old, Early, Straight}
 use Rattle.first.specs.SameBases.{same-now, now-straight}
@@ -106,7 +107,8 @@ module _ (os : List Object) (qs : Objects) (h : SameObjects os qs) where
         then-by _ _ (same-receiver (w .base) e (q .top)) _ _ (λ o. then _ _ _ (λ j. record { rest = refl; objects = same-changed os qs h _ _ }))))))))
     same-execute (Invokevirtual c s) z = by-single (λ s. Likewise SameProgress (firstExecute w os f fs k d (Invokevirtual c s)) (execute task w qs f fs k d (Invokevirtual c s))) (λ n a r. one-invoked c n a r) s (z .one)
     same-execute (New c) z =
-        then _ _ _ (λ e. then-by _ _ (rw (same-room task os qs h)) _ _ (λ _. record { rest = rw (same-next os qs h); objects = same-made task two _ os qs h }))
+        then _ _ _ (λ e. asked SameProgress _ _ _ _ (λ _. then-by _ _ (ap (λ (b : Bool). need (b && ltb (length (f .operands)) operandLimit) (Word wordFull)) (same-room task os qs h)) _ _
+        (λ _. record { rest = rw (same-next os qs h); objects = same-made task two _ os qs h })))
     same-execute (Branch c p) z = absurd (Option·none-ne-some p (sym (unfold target in z .nowhere)))
     same-execute (Return kind) z = then _ _ _ (λ _. then _ _ _ (λ (p : Popped). then _ _ _ (λ _. same-give fs w (p .top))))
 
@@ -121,4 +123,4 @@ module _ (os : List Object) (qs : Objects) (h : SameObjects os qs) where
     same-started l n m v fs = rw (single-start task l n m v w qs fs)
         (then _ _ _ (λ _. then _ _ _ (λ _. then _ _ _ (λ c. then-by _ _
         (ap (λ (y : Option Selected). take? y (Word wordAbsent)) (same-selected (w .base) (firstStartSignature m) (nameInt, refl) c)) _ _ (λ s.
-        then-by _ _ (rw (same-room task os qs h)) _ _ (λ _. record { rest = rw (same-next os qs h); objects = same-made task two _ os qs h }))))))
+        asked SameProgress _ _ _ _ (λ _. then-by _ _ (ap (λ (b : Bool). need b (Word wordFull)) (same-room task os qs h)) _ _ (λ _. record { rest = rw (same-next os qs h); objects = same-made task two _ os qs h })))))))

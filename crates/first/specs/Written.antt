@@ -1,96 +1,73 @@
 -- The same rows written into tables of which today's carry the first document's: they carry them again.
 use mathlib.Core.Path.{_≡_, refl, sym, ap, _∙_}
-use mathlib.Core.Bool.{true}
+use mathlib.Core.Option.{some}
 use mathlib.Core.List.{List, [], _∷_, _++_}
 use Prim.Native.Nat.{ℕ, zero, suc, _+_, _<_, _≤_}
 use native.Mathlib.Omega.{arith}
-use lib.ListN.{length, getD, set, length-set}
-use lib.Seq.{set-append-left, getD-set-same, getD-set-other}
-use Rattle.definition.specs.Numbers.{objectLimit, tieLimit, countObjects, ownersCell, tieNumbersCell}
+use lib.ListN.{length, getD, set, length-set, getElem?, take, drop, take-append-drop, length-drop}
+use Rattle.definition.specs.Numbers.{objectLimit, taskLimit, countObjects, ownersCell, countsLength}
 use Rattle.definition.specs.Lists.{writeRows, writeStack}
-use Rattle.definition.specs.Machine.{Object, ObjectRow, Objects}
-use Rattle.definition.specs.Tables.{Tables, tables, Rows, putClassRow, putEntry, putTie, putSubtype, putObject, ownerOf, putOwner, putObjectRow, putFrameIn, countsOf, putNumber, putNumbers, numbersOf, viewOver, view, put}
-use Rattle.definition.specs.Broken.{numbered}
+use Rattle.definition.specs.Machine.{Object, owned, Objects}
+use Rattle.definition.specs.Tables.{Tables, tables, Rows, putClassRow, putEntry, putTie, putSubtype, putObject, ownerOf, ownerAt, putObjectRow, putFrameIn, countsOf, viewBase, viewOver, view, put}
 use Rattle.layout.specs.Places.{rows-getD, writeRows-length}
 use Rattle.layout.specs.Rows.{rows-back, cell-rows}
-use Rattle.layout.specs.NumberedRows.{putNumber-length, numbers-before}
-use Rattle.layout.specs.ReadBack.{Lengths, view-put}
+use Rattle.layout.specs.View.{row-owner}
+use Rattle.layout.specs.ReadBack.{Lengths, put-lengths, counts-put, view-put}
+use Rattle.layout.specs.Unbroken.{true-whole}
 use Rattle.layout.specs.Whole.{Whole}
 use Rattle.first.specs.Tables.{FirstTables, firstCountsLength, FirstRows, firstCountsOf, firstPut}
 use Rattle.first.specs.SameObjects.{SameObjects, noObjects, sameObject, same-count}
 use Rattle.first.specs.SameRows.{plain, SameRows}
-use Rattle.first.specs.Carries.{IsOwner, Carries}
+use Rattle.first.specs.Carries.{IsOwner, Fronts, Carries}
 
--- the counts, with owners and numbers behind them
-counts-before : (xs : List ℕ) (i : ℕ) (c ow : List ℕ) → i + length xs ≤ length c → writeRows set xs i (c ++ ow) ≡ writeRows set xs i c ++ ow
-unfolding writeRows
-counts-before [] i c ow l = refl
-counts-before (x ∷ xs) i c ow l =
-    ap (λ (z : List ℕ). set z i x) (counts-before xs (suc i) c ow (omega arith))
-    ∙ set-append-left (writeRows set xs (suc i) c) ow i x (omega (arith, writeRows-length set length-set xs (suc i) c))
+-- the first n cells, and those behind them
 
--- owners alone
-unfoldable putAlone : List ℕ → ℕ → ObjectRow → List ℕ
-putAlone n o x = set n o (ownerOf x)
+taken-length : (n : ℕ) (xs : List ℕ) → n ≤ length xs → length (take n xs) ≡ n
+taken-length zero xs l = refl
+taken-length (suc n) [] l = absurd (omega arith)
+taken-length (suc n) (x ∷ xs) l = ap suc (taken-length n xs (omega arith))
 
-set-behind : (c ow : List ℕ) (i x : ℕ) → set (c ++ ow) (length c + i) x ≡ c ++ set ow i x
-set-behind [] ow i x = let e : 0 + i ≡ i = omega arith in rw e
-set-behind (y ∷ c) ow i x = let e : suc (length c) + i ≡ suc (length c + i) = omega arith in rw (e, set-behind c ow i x)
+taken-cell : (n j : ℕ) (xs : List ℕ) → j < n → getD (take n xs) j 0 ≡ getD xs j 0
+taken-cell zero j xs l = absurd (omega arith)
+taken-cell (suc n) j [] l = refl
+taken-cell (suc n) zero (x ∷ xs) l = refl
+taken-cell (suc n) (suc j) (x ∷ xs) l = taken-cell n j xs (omega arith)
 
-owners-alone : (qs : Objects) (i : ℕ) (c ow : List ℕ) → length c ≡ ownersCell → writeRows putOwner qs i (c ++ ow) ≡ c ++ writeRows putAlone qs i ow
-unfolding writeRows putOwner putAlone
-owners-alone [] i c ow e = refl
-owners-alone (x ∷ qs) i c ow e =
-    ap (λ (z : List ℕ). set z (ownersCell + i) (ownerOf x)) (owners-alone qs (suc i) c ow e)
-    ∙ (rw e at (set-behind c (writeRows putAlone qs (suc i) ow) i (ownerOf x)))
+dropped-cell : (n j : ℕ) (xs : List ℕ) → getD (drop n xs) j 0 ≡ getD xs (n + j) 0
+dropped-cell zero j xs = let z : 0 + j ≡ j = omega arith in rw z
+dropped-cell (suc n) j [] = refl
+dropped-cell (suc n) j (x ∷ xs) = let z : suc n + j ≡ suc (n + j) = omega arith in rw z (dropped-cell n j xs)
 
--- and numbers, in a section that begins at cell k behind the counts
-numbers-alone : (k : ℕ) (xs : List ℕ) (i : ℕ) (c ow : List ℕ) → length c ≡ ownersCell → writeRows (putNumber (ownersCell + k)) xs i (c ++ ow) ≡ c ++ writeRows (putNumber k) xs i ow
-unfolding writeRows putNumber
-numbers-alone k [] i c ow e = refl
-numbers-alone k (x ∷ xs) i c ow e =
-    let z : ownersCell + k + i ≡ length c + (k + i) = omega arith in
-    ap (λ (y : List ℕ). set y (ownersCell + k + i) x) (numbers-alone k xs (suc i) c ow e)
-    ∙ rw z (set-behind c (writeRows (putNumber k) xs (suc i) ow) (k + i) x)
+-- a table's first cells, and the rest
+front-cells : (xs ys : List ℕ) → length xs ≡ length ys → ((j : ℕ) → j < length xs → getD xs j 0 ≡ getD ys j 0) → xs ≡ ys
+front-cells [] [] e h = refl
+front-cells [] (y ∷ ys) e h = absurd (omega arith)
+front-cells (x ∷ xs) [] e h = absurd (omega arith)
+front-cells (x ∷ xs) (y ∷ ys) e h = λ i. h 0 (omega arith) i ∷ front-cells xs ys (omega arith) (λ j l. h (suc j) (omega arith)) i
 
-alone-length : (n : List ℕ) (o : ℕ) (x : ObjectRow) → length (putAlone n o x) ≡ length n
-unfolding putAlone
-alone-length n o x = length-set n o (ownerOf x)
-
--- the same objects write tasks as owners, and the same cells
-owners-written : (os : List Object) (qs : Objects) → SameObjects os qs → (i o : ℕ) (n : List ℕ) → o < length os → i + o < length n → IsOwner (getD (writeRows putAlone qs i n) (i + o) 0)
-unfolding writeRows putAlone ownerOf
-owners-written os qs noObjects i o n l m = absurd (omega arith)
-owners-written os qs (sameObject {k = k} {os = os′} {qs = qs′} t h) i zero n l m =
-    let z : i + 0 ≡ i = omega arith in
-    (k, t, rw z (getD-set-same (writeRows putAlone qs′ (suc i) n) i (suc k) 0 (omega (arith, writeRows-length putAlone alone-length qs′ (suc i) n))))
-owners-written os qs (sameObject {k = k} {os = os′} {qs = qs′} t h) i (suc o) n l m =
-    let z : i + suc o ≡ suc i + o = omega arith in
-    rw (z, getD-set-other (writeRows putAlone qs′ (suc i) n) i (suc i + o) (suc k) 0 (λ e. omega arith)) (owners-written os′ qs′ h (suc i) o n (omega arith) (omega arith))
+-- the same objects are owned by tasks
+owned-row : (os : List Object) (qs : Objects) → SameObjects os qs → (o : ℕ) → o < length os → (k : ℕ) × (x : Object) × (k < taskLimit) × (getElem? qs o ≡ some (owned k x))
+owned-row os qs noObjects o l = absurd (omega arith)
+owned-row os qs (sameObject {k = k} {x = x} t h) zero l = (k, x, t, refl)
+owned-row os qs (sameObject {os = os′} {qs = qs′} t h) (suc o) l = owned-row os′ qs′ h o (omega arith)
 
 cells-written : (os : List Object) (qs : Objects) → SameObjects os qs → (i : ℕ) (t : List ℕ) → writeRows putObject os i t ≡ writeRows putObjectRow qs i t
 unfolding writeRows putObjectRow
 cells-written os qs noObjects i t = refl
 cells-written os qs (sameObject {x = x} {os = os′} {qs = qs′} l h) i t = ap (λ (z : List ℕ). putObject z i x) (cells-written os′ qs′ h (suc i) t)
 
-module _ (u : FirstTables) (t : Tables) (h : Carries u t) (eight : length (u .counts) ≡ firstCountsLength) (os : List Object) (q : Rows) (g : SameObjects os (q .objects)) (long : Lengths t) (w : Whole q) where
+module _ (u : FirstTables) (t : Tables) (h : Fronts u t) (eight : length (u .counts) ≡ firstCountsLength) (os : List Object) (q : Rows) (g : SameObjects os (q .objects)) (long : Lengths t) (w : Whole q) where
   abbrev counted : List ℕ
   counted = firstCountsOf (plain os q)
 
-  abbrev ownersAfter : List ℕ
-  ownersAfter = writeRows putAlone (q .objects) 0 (h .behind)
-
-  abbrev behindAfter : List ℕ
-  behindAfter = writeRows (putNumber objectLimit) (q .numbers .ties) 0 (writeRows (putNumber (objectLimit + tieLimit)) (q .numbers .subtypes) 0 ownersAfter)
-
-  behind-length : length behindAfter ≡ length (h .behind)
-  behind-length =
-      writeRows-length (putNumber objectLimit) (putNumber-length objectLimit) (q .numbers .ties) 0 (writeRows (putNumber (objectLimit + tieLimit)) (q .numbers .subtypes) 0 ownersAfter)
-      ∙ (writeRows-length (putNumber (objectLimit + tieLimit)) (putNumber-length (objectLimit + tieLimit)) (q .numbers .subtypes) 0 ownersAfter
-      ∙ writeRows-length putAlone alone-length (q .objects) 0 (h .behind))
+  abbrev after : List ℕ
+  after = put q t .counts
 
   counted-length : length (writeRows set counted 0 (u .counts)) ≡ ownersCell
   counted-length = writeRows-length set length-set counted 0 (u .counts) ∙ eight
+
+  after-length : length after ≡ countsLength
+  after-length = put-lengths q t long .counts
 
   same-counts : countsOf q ≡ counted
   unfolding countsOf firstCountsOf
@@ -98,47 +75,37 @@ module _ (u : FirstTables) (t : Tables) (h : Carries u t) (eight : length (u .co
       λ i. length (q .classes) ∷ length (q .kept) ∷ length (q .cache) ∷ length (q .ties) ∷ length (q .subtypes) ∷ sym (same-count os (q .objects) g) i
       ∷ length (q .quote) ∷ length (q .report) ∷ []
 
-  counts-after : writeRows putOwner (q .objects) 0 (writeRows set (countsOf q) 0 (t .counts)) ≡ writeRows set counted 0 (u .counts) ++ ownersAfter
+  counted-cell : (j : ℕ) → j < ownersCell → getD (writeRows set counted 0 (u .counts)) j 0 ≡ getD counted j 0
   unfolding firstCountsOf
-  counts-after =
-      (λ i. writeRows putOwner (q .objects) 0 (writeRows set (same-counts i) 0 (h .counts i)))
-      ∙ (ap (writeRows putOwner (q .objects) 0) (counts-before counted 0 (u .counts) (h .behind) (omega arith))
-      ∙ owners-alone (q .objects) 0 (writeRows set counted 0 (u .counts)) (h .behind) counted-length)
+  counted-cell j l =
+      let z : 0 + j ≡ j = omega arith in
+      sym (rw z at (rows-getD (λ i. getD (writeRows set counted 0 (u .counts)) i 0) firstCountsLength 0 j 0 l))
+      ∙ ap (λ (y : List ℕ). getD y j 0) (rows-back cell-rows counted (u .counts) (omega arith))
 
-  numbers-after : putNumbers (q .numbers) (writeRows putOwner (q .objects) 0 (writeRows set (countsOf q) 0 (t .counts))) ≡ writeRows set counted 0 (u .counts) ++ behindAfter
-  unfolding putNumbers
-  numbers-after =
-      ap (putNumbers (q .numbers)) counts-after
-      ∙ (ap (writeRows (putNumber tieNumbersCell) (q .numbers .ties) 0)
-      (numbers-alone (objectLimit + tieLimit) (q .numbers .subtypes) 0 (writeRows set counted 0 (u .counts)) ownersAfter counted-length)
-      ∙ numbers-alone objectLimit (q .numbers .ties) 0 (writeRows set counted 0 (u .counts)) (writeRows (putNumber (objectLimit + tieLimit)) (q .numbers .subtypes) 0 ownersAfter) counted-length)
+  front : take ownersCell after ≡ writeRows set counted 0 (u .counts)
+  unfolding put
+  front = front-cells (take ownersCell after) (writeRows set counted 0 (u .counts)) (taken-length ownersCell after (omega (arith, after-length)) ∙ sym counted-length)
+      (λ j l. (let m : j < ownersCell = omega (arith, taken-length ownersCell after (omega (arith, after-length))) in
+      taken-cell ownersCell j after m ∙ (counts-put q (t .counts) (long .counts) j m ∙ (ap (λ (z : List ℕ). getD z j 0) same-counts ∙ sym (counted-cell j m)))))
 
-  objects-after : getD (writeRows set counted 0 (u .counts)) countObjects 0 ≡ length os
+  owner-after : (o k : ℕ) (x : Object) → getElem? (view (put q t) .objects) o ≡ some (owned k x) → getD after (ownersCell + o) 0 ≡ suc k
+  unfolding view viewOver ownerAt ownerOf
+  owner-after o k x e = sym (row-owner (put q t) (viewBase (put q t)) o (owned k x) e)
+
+  tasks-after : (o : ℕ) → o < getD (writeRows set counted 0 (u .counts)) countObjects 0 → o < objectLimit → IsOwner (getD (drop ownersCell after) o 0)
   unfolding firstCountsOf
-  objects-after =
-      let z : 0 + countObjects ≡ countObjects = omega arith in
-      sym (rw z at (rows-getD (λ i. getD (writeRows set counted 0 (u .counts)) i 0) firstCountsLength 0 countObjects 0 (omega arith)))
-      ∙ ap (λ (y : List ℕ). getD y countObjects 0) (rows-back cell-rows counted (u .counts) (omega arith))
-
-  tasks-after : (o : ℕ) → o < getD (writeRows set counted 0 (u .counts)) countObjects 0 → o < objectLimit → IsOwner (getD behindAfter o 0)
   tasks-after o l m =
-      let z : 0 + o ≡ o = omega arith in
-      let e : getD behindAfter o 0 ≡ getD ownersAfter o 0 =
-      numbers-before objectLimit (q .numbers .ties) 0 (writeRows (putNumber (objectLimit + tieLimit)) (q .numbers .subtypes) 0 ownersAfter) o m
-      ∙ numbers-before (objectLimit + tieLimit) (q .numbers .subtypes) 0 ownersAfter o (omega arith) in
-      rw e (rw z at (owners-written os (q .objects) g 0 o (h .behind) (omega (arith, objects-after)) (omega (arith, h .all))))
+      let r = owned-row os (q .objects) g o (omega (arith, counted-cell countObjects (omega arith))) in
+      let e : getElem? (view (put q t) .objects) o ≡ some (owned (r .0) (r .1)) = ap (λ (z : Rows). getElem? (z .objects) o) (view-put q t long w) ∙ r .3 in
+      (r .0, r .2, dropped-cell ownersCell o after ∙ owner-after o (r .0) (r .1) e)
 
-  turn-after : numbered (numbersOf (put q t)) ≡ true
-  turn-after = let e : numbersOf (put q t) ≡ q .numbers = (unfold view viewOver in ap (λ (r : Rows). r .numbers) (view-put q t long w)) in rw e (w .numbers .turn)
-
-  pub same-put : Carries (firstPut (plain os q) u) (put q t)
+  same-fronts : Fronts (firstPut (plain os q) u) (put q t)
   unfolding firstPut put
-  same-put = record {
-    behind = behindAfter;
-    counts = numbers-after;
-    all = behind-length ∙ h .all;
+  same-fronts = record {
+    behind = drop ownersCell after;
+    counts = sym (take-append-drop ownersCell after) ∙ ap (λ (z : List ℕ). z ++ drop ownersCell after) front;
+    all = length-drop ownersCell after ∙ (let a : length after ≡ countsLength = after-length in omega arith);
     tasks = tasks-after;
-    turn = λ _ _ _. turn-after;
     rest = λ i. tables
         (writeRows set counted 0 (u .counts))
         (writeRows putClassRow (q .classes) 0 (h .rest i .classes))
@@ -150,6 +117,9 @@ module _ (u : FirstTables) (t : Tables) (h : Carries u t) (eight : length (u .co
         (writeStack (putFrameIn 1) (q .report) (writeStack (putFrameIn 0) (q .quote) (h .rest i .frames)));
   }
 
-pub same-rows-put : (u : FirstTables) (t : Tables) → Carries u t → length (u .counts) ≡ firstCountsLength → (r : FirstRows) (q : Rows) → SameRows r q → Lengths t → Whole q
+  pub same-put : Carries (firstPut (plain os q) u) (put q t)
+  same-put = record { fronts = same-fronts; unbroken = λ _. true-whole q t long w }
+
+pub same-rows-put : (u : FirstTables) (t : Tables) → Fronts u t → length (u .counts) ≡ firstCountsLength → (r : FirstRows) (q : Rows) → SameRows r q → Lengths t → Whole q
     → Carries (firstPut r u) (put q t)
 same-rows-put u t h eight r q s long w = rw (s .rest) (same-put u t h eight (r .objects) q (s .objects) long w)

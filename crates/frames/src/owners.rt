@@ -1,12 +1,15 @@
-// Owners of object rows, behind the eight counts, read and written totally: 0 for a free row, else 1 and the task. The lowest number unused is sought over them.
+// Owners of object rows, behind the eight counts, read and written totally: 0 for a free row, else 1 and the task. The lowest number unused is sought over them,
+// and a task's objects are counted.
 use definition::numbers::COUNT_OBJECTS;
 use definition::numbers::OWNERS_CELL;
+use definition::numbers::SHARE_LIMIT;
 ghost use mathlib.Core.Path.{_≡_};
 ghost use Prim.Native.Nat.{_+_};
 ghost use lib.ListN.{set};
 ghost use Rattle.definition.specs.Numbers.{ownersCell};
 ghost use Rattle.definition.specs.Tables.{ownerAt};
 ghost use Rattle.frames.specs.Unused.{isUsed, unusedFrom};
+ghost use Rattle.frames.specs.Made.{madeIn, usedShare};
 
 // The owner of row o.
 pub fn owner(counts: &[u16], o: u32) -> u16
@@ -46,4 +49,32 @@ pub fn unused(counts: &[u16], from: u16) -> u16
         o += 1;
     }
     o
+}
+
+// How many objects a task made: every row below the object count that the table holds is looked at once.
+pub fn made_by(counts: &[u16], task: u8) -> u16
+    ensures { λ r. ⌜ r ≡ madeIn (now (counts .entry)) task ⌝ }
+{
+    let own = cells::from8(task) + 1;
+    let rows = cells::wide16(cells::at16(counts, COUNT_OBJECTS));
+    let held = cells::held16(counts, OWNERS_CELL, rows);
+    let mut made: u16 = 0;
+    let mut o: usize = 0;
+    while o < held {
+        if counts[OWNERS_CELL + o] == own {
+            made += 1;
+        }
+        o += 1;
+    }
+    made
+}
+
+// Whether a task that made that many objects has used its share. The quote has none.
+pub fn is_share_used(task: u8, made: u16) -> bool
+    ensures { λ r. ⌜ r ≡ usedShare task made ⌝ }
+{
+    if task == 0 {
+        return false;
+    }
+    SHARE_LIMIT <= made
 }

@@ -23,7 +23,7 @@ use Rattle.definition.specs.Classes.{argumentTypes, Class, find, superOf, loade
 use Rattle.definition.specs.Constraints.{Tie, World, agrees, newTie, signatureTies, agreesAfter}
 use Rattle.definition.specs.Instructions.{decode}
 use Rattle.definition.specs.Verifier.{Note, notesOf, unmapped}
-use Rattle.definition.specs.Machine.{Value, emptyValue, intValue, nullValue, objectValue, unlistedValue, Objects, Frame, Now, existing, roomless}
+use Rattle.definition.specs.Machine.{Value, emptyValue, intValue, nullValue, objectValue, unlistedValue, Objects, Frame, Now, existing, roomless, shareUsed}
 use Rattle.definition.specs.Loading.{newSubtypes, overrideTies, withClass, withEntry}
 use Rattle.definition.specs.File.{File, readFile, classOf}
 use Rattle.definition.specs.Tables.{Tables, shaped, Rows, framesIn, worldOf, view}
@@ -94,7 +94,7 @@ recordCauses l n c r =
     ∷ cause 9 (isNone cached && not (agrees (withEntry (worldOf r) (at l n) c)))
     ∷ []
 
--- start: 3 12 5 7 10
+-- start: 3 12 5 7 18 10
 unfoldable pub startCauses : ℕ → ℕ → ℕ → ℕ → Rows → List Cause
 startCauses k l n m r =
     let cached = find (r .cache) (at l n) in
@@ -102,10 +102,11 @@ startCauses k l n m r =
     ∷ cause 12 (not (leb (length (framesIn k r)) 0))
     ∷ cause 5 (isNone cached)
     ∷ cause 7 (isSomeAnd cached (λ c. isNone (selected (worldOf r .base) (startSignature m) c)))
+    ∷ cause 18 (shareUsed k (r .objects))
     ∷ cause 10 (roomless k (r .objects))
     ∷ []
 
--- step: unreadable 14, 5 7 10 9, other 14, 11, 17
+-- step: unreadable 14, 5 7 18 10 9, other 14, 11, 17
 
 abbrev pub anInt : Value → Bool
 anInt emptyValue = false
@@ -180,7 +181,7 @@ module _ (w : World) (os : Objects) where
 
 -- of an instruction that names no class
 abbrev pub plainly : Bool → Bool → List Cause
-plainly full stuck = cause 5 false ∷ cause 7 false ∷ cause 10 full ∷ cause 9 false ∷ cause 14 stuck ∷ cause 11 false ∷ cause 17 false ∷ []
+plainly full stuck = cause 5 false ∷ cause 7 false ∷ cause 18 false ∷ cause 10 full ∷ cause 9 false ∷ cause 14 stuck ∷ cause 11 false ∷ cause 17 false ∷ []
 
 module _ (w : World) (k : Class) where
   -- what class c means under the loader of k
@@ -204,6 +205,7 @@ module _ (w : World) (k : Class) where
       let declares = means >>= looks in
       cause 5 (isNone means)
       ∷ cause 7 (isSomeAnd means (λ e. isNone (looks e)))
+      ∷ cause 18 false
       ∷ cause 10 (isSomeAnd declares (λ d. not (leb (length (w .ties ++ ties d)) 256 && room)))
       ∷ cause 9 (isSomeAnd declares (λ d. not (agreesAfter w (ties d))))
       ∷ cause 14 (isSomeAnd means (λ e. not (fits e)))
@@ -247,6 +249,7 @@ module _ (task : ℕ) (w : World) (os : Objects) (f : Frame) (fs : List Frame) (
   instructionCauses (Arithmetic o) =
       cause 5 false
       ∷ cause 7 false
+      ∷ cause 18 false
       ∷ cause 10 false
       ∷ cause 9 false
       ∷ cause 14 (not (isSomeAnd (operand 0) anInt && isSomeAnd (operand 1) anInt))
@@ -264,14 +267,14 @@ module _ (task : ℕ) (w : World) (os : Objects) (f : Frame) (fs : List Frame) (
       (λ e. argumentsFit (argumentTypes s) && isSomeAnd (operand (length (argumentTypes s))) (λ v. receives w os e v && selects w os s v))
       (isSomeAnd (operand (length (argumentTypes s))) aNull)
   instructionCauses (New c) =
-      cause 5 (isNone (named w k c)) ∷ cause 7 false ∷ cause 10 (not (not (roomless task os) && ltb (length (f .operands)) 16)) ∷ cause 9 false ∷ cause 14 false ∷ cause 11 false ∷ cause 17 false ∷ []
+      cause 5 (isNone (named w k c)) ∷ cause 7 false ∷ cause 18 (shareUsed task os) ∷ cause 10 (not (not (roomless task os) && ltb (length (f .operands)) 16)) ∷ cause 9 false ∷ cause 14 false ∷ cause 11 false ∷ cause 17 false ∷ []
   instructionCauses (Branch c p) = plainly false (not (branches c))
   instructionCauses (Return kind) =
       plainly (noRoomBelow fs) (not (isSomeAnd (operand 0) (aValueOf kind) && (not (isEmpty fs) || isSomeAnd (operand 0) anInt)))
 
 -- of an idle step, and of what can't be read, nothing more applies
 abbrev pub nothing : List Cause
-nothing = cause 5 false ∷ cause 7 false ∷ cause 10 false ∷ cause 9 false ∷ cause 14 false ∷ cause 11 false ∷ cause 17 false ∷ []
+nothing = cause 5 false ∷ cause 7 false ∷ cause 18 false ∷ cause 10 false ∷ cause 9 false ∷ cause 14 false ∷ cause 11 false ∷ cause 17 false ∷ []
 
 abbrev pub readCauses : ℕ → World → Objects → Frame → List Frame → Option Now → List Cause
 readCauses task w os f fs none = cause 14 true ∷ nothing
@@ -312,14 +315,14 @@ causes (callRun n) t = cause 1 (broken t) ∷ cause 3 (not (leb 1 n && leb n 655
 unfoldable pub order : Call → List ℕ
 order callBoot = refusalsOf callBoot
 order (callRows c) = refusalsOf (callRows c)
-order callStep = 1 ∷ 14 ∷ 5 ∷ 7 ∷ 10 ∷ 9 ∷ 14 ∷ 11 ∷ 17 ∷ []
+order callStep = 1 ∷ 14 ∷ 5 ∷ 7 ∷ 18 ∷ 10 ∷ 9 ∷ 14 ∷ 11 ∷ 17 ∷ []
 order (callRun n) = refusalsOf (callRun n)
 
 -- their words
 abbrev pub words : List Cause → List ℕ
 words cs = map (λ c. c .word) cs
 
-instruction-order : (task : ℕ) (w : World) (os : Objects) (f : Frame) (fs : List Frame) (k : Class) (i : Instruction) → words (instructionCauses task w os f fs k i) ≡ 5 ∷ 7 ∷ 10 ∷ 9 ∷ 14 ∷ 11 ∷ 17 ∷ []
+instruction-order : (task : ℕ) (w : World) (os : Objects) (f : Frame) (fs : List Frame) (k : Class) (i : Instruction) → words (instructionCauses task w os f fs k i) ≡ 5 ∷ 7 ∷ 18 ∷ 10 ∷ 9 ∷ 14 ∷ 11 ∷ 17 ∷ []
 unfolding instructionCauses accessing
 instruction-order task w os f fs k AconstNull = refl
 instruction-order task w os f fs k (Sipush n) = refl
@@ -335,11 +338,11 @@ instruction-order task w os f fs k (New c) = refl
 instruction-order task w os f fs k (Branch c p) = refl
 instruction-order task w os f fs k (Return kind) = refl
 
-frame-order : (task : ℕ) (w : World) (os : Objects) (fs : List Frame) → words (frameCauses task w os fs) ≡ 14 ∷ 5 ∷ 7 ∷ 10 ∷ 9 ∷ 14 ∷ 11 ∷ 17 ∷ []
+frame-order : (task : ℕ) (w : World) (os : Objects) (fs : List Frame) → words (frameCauses task w os fs) ≡ 14 ∷ 5 ∷ 7 ∷ 18 ∷ 10 ∷ 9 ∷ 14 ∷ 11 ∷ 17 ∷ []
 frame-order task w os [] = refl
 frame-order task w os (f ∷ fs) = go (reading w f)
   where
-    go : (o : Option Now) → words (readCauses task w os f fs o) ≡ 14 ∷ 5 ∷ 7 ∷ 10 ∷ 9 ∷ 14 ∷ 11 ∷ 17 ∷ []
+    go : (o : Option Now) → words (readCauses task w os f fs o) ≡ 14 ∷ 5 ∷ 7 ∷ 18 ∷ 10 ∷ 9 ∷ 14 ∷ 11 ∷ 17 ∷ []
     go none = refl
     go (some n) = rw (instruction-order task w os f fs (n .theClass) (n .at .instruction)) refl
 

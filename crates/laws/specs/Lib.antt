@@ -35,6 +35,7 @@ pub mod Reasons
 pub mod Posted
 pub mod Objects
 pub mod Sweeps
+pub mod Owners
 pub mod Stable
 pub mod Refusals
 pub mod Tried
@@ -47,3 +48,5 @@ pub mod Refused
 pub mod Ints
 pub mod Quotients
 pub mod Rates
+pub mod FileRules
+pub mod Versions

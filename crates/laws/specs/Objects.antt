@@ -1,16 +1,17 @@
 -- Objects by number. The number that is taken is unused and the lowest, and none is left exactly if 256 are in use; an object made or changed leaves every other
 -- as it was.
 use mathlib.Core.Path.{_≡_, refl, sym, ap, _∙_}
-use mathlib.Core.Bool.{true}
+use mathlib.Core.Bool.{Bool, true, false}
 use mathlib.Core.Option.{Option, none, some, Option·some-injective, Option·none-ne-some}
 use mathlib.Core.List.{[], _∷_}
 use mathlib.Core.Logic.{_⊎_, inl, inr}
-use Prim.Native.Nat.{ℕ, zero, suc, _<_, _≤_}
+use Prim.Native.Nat.{ℕ, zero, suc, _+_, _<_, _≤_}
 use native.Mathlib.Nat.{suc-inj}
 use native.Mathlib.Omega.{arith}
 use lib.ListN.{length, getElem?, set}
-use borrow.Author.Tests.{leb-true, le-leb}
-use Rattle.definition.specs.Machine.{Object, ObjectRow, free, owned, Objects, objectHeld, existing, Exists, inUse, unused, made, roomless, rewritten, changed}
+use lib.Dec.{eqb}
+use borrow.Author.Tests.{leb-true, leb-false, le-leb}
+use Rattle.definition.specs.Machine.{Object, ObjectRow, free, owned, Objects, objectHeld, existing, Exists, inUse, unused, made, madeBy, roomless, shareUsed, rewritten, changed}
 
 -- The first row, and the rows behind it
 
@@ -82,6 +83,58 @@ unfolding roomless
 in-use-full k os l e =
     let n : inUse os ≡ length os = omega (arith, in-use-few os) in
     le-leb 256 (unused os) (omega (arith, in-use-all os n))
+
+-- Whose they are: each is the quote's or the report's, and where the quote has no room, 64 or more are its own
+
+abbrev pub Tasked : Objects → Type 0
+Tasked [] = Unit {0}
+Tasked (free ∷ os) = Tasked os
+Tasked (owned k x ∷ os) = (k < 2) × Tasked os
+
+pub made-by-both : (os : Objects) → Tasked os → madeBy 0 os + madeBy 1 os ≡ inUse os
+unfolding madeBy inUse
+made-by-both [] h = refl
+made-by-both (free ∷ os) h = made-by-both os h
+made-by-both (owned zero x ∷ os) h = let e = made-by-both os (h .1) in omega arith
+made-by-both (owned (suc zero) x ∷ os) h = let e = made-by-both os (h .1) in omega arith
+made-by-both (owned (suc (suc k)) x ∷ os) h = let l = h .0 in absurd (omega arith)
+
+pub quote-roomless : (os : Objects) → Tasked os → madeBy 1 os ≤ 192 → roomless 0 os ≡ true → 64 ≤ madeBy 0 os
+unfolding roomless
+quote-roomless os h l r = omega (arith, made-by-both os h, unused-in-use os, leb-true 256 (unused os) r, l)
+
+-- an object made is counted, one that is changed as before
+pub made-more : (j k : ℕ) (x : Object) (os : Objects) → madeBy j (made k x os) ≤ suc (madeBy j os)
+unfolding made madeBy
+made-more j k x [] = one (eqb k j)
+  where
+    one : (b : Bool) → (elim b as (λ _. ℕ) [ true ↦ 1 | false ↦ 0 ]) ≤ 1
+    one true = omega arith
+    one false = omega arith
+made-more j k x (free ∷ os) = one (eqb k j)
+  where
+    one : (b : Bool) → (elim b as (λ _. ℕ) [ true ↦ suc (madeBy j os) | false ↦ madeBy j os ]) ≤ suc (madeBy j os)
+    one true = omega arith
+    one false = omega arith
+made-more j k x (owned i y ∷ os) = one (eqb i j) (made-more j k x os)
+  where
+    one : (b : Bool) → madeBy j (made k x os) ≤ suc (madeBy j os)
+        → (elim b as (λ _. ℕ) [ true ↦ suc (madeBy j (made k x os)) | false ↦ madeBy j (made k x os) ]) ≤ suc (elim b as (λ _. ℕ) [ true ↦ suc (madeBy j os) | false ↦ madeBy j os ])
+    one true l = omega arith
+    one false l = l
+
+pub made-other : (x : Object) (os : Objects) → madeBy 1 (made 0 x os) ≡ madeBy 1 os
+unfolding made madeBy
+made-other x [] = refl
+made-other x (free ∷ os) = refl
+made-other x (owned i y ∷ os) = λ t. elim (eqb i 1) as (λ _. ℕ) [ true ↦ suc (made-other x os t) | false ↦ made-other x os t ]
+
+-- a task with room in its share, or the quote, makes no more than 192 the report's
+pub share-made : (k : ℕ) (x : Object) (os : Objects) → k < 2 → shareUsed k os ≡ false → madeBy 1 os ≤ 192 → madeBy 1 (made k x os) ≤ 192
+unfolding shareUsed
+share-made zero x os l s h = rw (made-other x os) h
+share-made (suc zero) x os l s h = omega (arith, made-more 1 1 x os, leb-false 192 (madeBy 1 os) s)
+share-made (suc (suc k)) x os l s h = absurd (omega arith)
 
 -- An object made: it is there under its number, and every other number means what it meant
 
@@ -198,3 +251,13 @@ numbered-changed os o b x h s p y e = elim (changed-keeps os o x p y e) [
 
 pub numbered-made : (k : ℕ) (x : Object) (os : Objects) → Numbered os (made k x os)
 numbered-made k x os o b e = (b, made-keeps k x os o b e, refl)
+
+-- the same of whose they are
+pub changed-made : (k : ℕ) (os : Objects) (o : ℕ) (x : Object) → madeBy k (changed os o x) ≡ madeBy k os
+unfolding changed rewritten madeBy
+changed-made k [] o x = refl
+changed-made k (free ∷ os) zero x = refl
+changed-made k (owned j y ∷ os) zero x = refl
+changed-made k (free ∷ os) (suc o) x = rw (changed-tail free os o x) (changed-made k os o x)
+changed-made k (owned j y ∷ os) (suc o) x =
+    rw (changed-tail (owned j y) os o x) (λ t. elim (eqb j k) as (λ _. ℕ) [ true ↦ suc (changed-made k os o x t) | false ↦ changed-made k os o x t ])

@@ -74,7 +74,7 @@ module _ (P : Refusal → Type 0) where
 
 -- One instruction: 14, 10, 9, 7, 11, 17, or 5 with the class that it names, which isn't cached
 
-module _ (P : Refusal → Type 0) (stuck : P (Word 14)) (full : P (Word 10)) (clash : P (Word 9)) (absent : P (Word 7)) (null : P (Word 11)) (divisor : P (Word 17)) where
+module _ (P : Refusal → Type 0) (stuck : P (Word 14)) (full : P (Word 10)) (clash : P (Word 9)) (absent : P (Word 7)) (null : P (Word 11)) (divisor : P (Word 17)) (share : P (Word 18)) where
   int-refuses : (v : Value) → Refuses P (int! v)
   unfolding int!
   int-refuses emptyValue = stuck
@@ -191,7 +191,7 @@ module _ (P : Refusal → Type 0) (stuck : P (Word 14)) (full : P (Word 10)) (cl
     execute-refuses (Invokevirtual c s) h =
         on-take P _ _ _ (h c refl) (λ e _. on-take P _ _ _ (λ _. absent) (λ d _. posting w (ltb (suc (length fs)) 32) _ _ (λ _. all-popped _ _ _ (λ p. popped _ _ (λ q.
         on-bind P (kinds! (argumentTypes s) (p .all)) _ (kinds-refuses (argumentTypes s) (p .all)) (λ _ _. receiver (w .base) os e (q .top) _ (λ _. local _ _ (λ _. tt))))))))
-    execute-refuses (New c) h = on-take P _ _ _ (h c refl) (λ e _. on-need P _ _ _ full (λ _. tt))
+    execute-refuses (New c) h = on-take P _ _ _ (h c refl) (λ e _. on-need P _ _ _ share (λ _. on-need P _ _ _ full (λ _. tt)))
     execute-refuses (Branch c p) h = on-bind P (jumps c (f .operands)) _ (jumps-refuses c (f .operands)) (λ _ _. tt)
     execute-refuses (Return kind) h = under fs _ (λ _. popped _ _ (λ p. of-kind kind (p .top) _ (λ _. give-refuses fs w os (p .top))))
 
@@ -259,7 +259,7 @@ step-due r = go (r .quote) (r .report) (λ f fs e. e)
 
     task : (k : ℕ) (f : Frame) (fs : List Frame) → running (r .quote) (r .report) ≡ f ∷ fs → Refuses P (stepTask k (worldOf r) f fs r)
     task k f fs q = unfold stepTask in on-bind P (step k (worldOf r) (r .objects) f fs) _
-        (step-refuses P refl refl refl refl refl refl k (worldOf r) (r .objects) f fs (λ n c e i m. (refl, record { frame = f; others = fs; turn = q; reads = n; isNow = e; names = i; loader = refl }, m))) (λ _ _. tt)
+        (step-refuses P refl refl refl refl refl refl refl k (worldOf r) (r .objects) f fs (λ n c e i m. (refl, record { frame = f; others = fs; turn = q; reads = n; isNow = e; names = i; loader = refl }, m))) (λ _ _. tt)
 
     go : (q p : List Frame) → ((f : Frame) (fs : List Frame) → running q p ≡ f ∷ fs → running (r .quote) (r .report) ≡ f ∷ fs) → Refuses P (stepOn q p (worldOf r) r)
     go (f ∷ fs) p s = unfold stepOn in task 0 f fs (s f fs refl)
@@ -295,7 +295,7 @@ start-due k l n m v r =
     let P : Refusal → Type 0 = Due (callStart k l n m v) r in
     on-need P _ _ _ refl (λ _. on-bind P _ _
     (on-need P _ _ _ refl (λ _. on-need P _ _ _ refl (λ _. on-take P _ _ _ (λ e. (refl, (refl, refl), e)) (λ _ _.
-    on-take P _ _ _ (λ _. refl) (λ _ _. on-need P _ _ _ refl (λ _. tt)))))) (λ _ _. tt))
+    on-take P _ _ _ (λ _. refl) (λ _ _. on-need P _ _ _ refl (λ _. on-need P _ _ _ refl (λ _. tt))))))) (λ _ _. tt))
 
 drop-due : (k : ℕ) (r : Rows) → Refuses (Due (callDrop k) r) (dropRows k r)
 unfolding dropRows refusalsOf rowRefusals any

@@ -9,7 +9,7 @@ use lib.ListN.{length}
 use lib.Dec.{leb, ltb}
 use Rattle.definition.specs.declared.Refusal.the-variants.{Word}
 use Rattle.definition.specs.declared.Instruction.the-variants.{Invokevirtual}
-use Rattle.definition.specs.Numbers.{wordUnknown, wordAbsent, wordFull, wordStuck, wordBusy, nameInt, nameObject, loaderLimit, frameLimit}
+use Rattle.definition.specs.Numbers.{wordUnknown, wordAbsent, wordFull, wordShare, wordStuck, wordBusy, nameInt, nameObject, loaderLimit, frameLimit}
 use Rattle.definition.specs.Lists.{filled}
 use Rattle.definition.specs.Requests.{at}
 use Rattle.definition.specs.Maybe as Maybe
@@ -18,7 +18,7 @@ use Rattle.definition.specs.Classes.{Class, find, loaderOf, selected}
 use Rattle.definition.specs.Constraints.{World, post, signatureTies}
 use Rattle.definition.specs.Instructions.{Decoded}
 use Rattle.definition.specs.Verifier.{pop, popAll}
-use Rattle.definition.specs.Machine.{Value, emptyValue, intValue, objectValue, Objects, Frame, unused, made, roomless, newObject, entryFrame, pop!, popAll!, kind!, kinds!, object!, past, execute}
+use Rattle.definition.specs.Machine.{Value, emptyValue, intValue, objectValue, Objects, Frame, unused, made, roomless, shareUsed, newObject, entryFrame, pop!, popAll!, kind!, kinds!, object!, past, execute}
 use Rattle.definition.specs.Loading.{started}
 use Rattle.laws.specs.Single.{singleSignature}
 
@@ -81,6 +81,7 @@ pub single-start : (k l n m v : ℕ) (w : World) (os : Objects) (fs : List Frame
     need (leb (length fs) 0) (Word wordBusy) >>= λ _.
     take? (find (w .base .cache) (at l n)) (wanted (at l n)) >>= λ c.
     take? (selected (w .base) (singleSignature m nameInt nameInt) c) (Word wordAbsent) >>= λ s.
+    need (not (shareUsed k os)) (Word wordShare) >>= λ _.
     need (not (roomless k os)) (Word wordFull) >>= λ _.
     ok (record { world = w; objects = made k (newObject (w .base) c) os; frames = singleFrame (s .class) (s .place) (unused os) (intValue v) ∷ []; result = none }))
 unfolding started filled

@@ -5,13 +5,13 @@ use mathlib.Core.Bool.{Bool, true, false, false≢true}
 use mathlib.Core.Option.{Option, none, some, Option·none-ne-some, Option·some-injective}
 use mathlib.Core.List.{List, [], _∷_, _++_, map, List·Memᴰ, List·Memᴰ·head, List·Memᴰ·tail, List·Memᴰ·not-nil}
 use mathlib.Core.Logic.{_⊎_, inl, inr}
-use Prim.Native.Nat.{ℕ, zero, suc, _+_}
+use Prim.Native.Nat.{ℕ, zero, suc, _+_, _≤_}
 use native.Mathlib.Omega.{arith}
 use lib.ListN.{getElem?}
 use lib.Dec.{eqb}
 use Rattle.definition.specs.Chains.{Edge, Chain, stay, hop, has}
 use Rattle.definition.specs.Instructions.{pick}
-use Rattle.definition.specs.Machine.{Object, ObjectRow, free, owned, Objects, objectHeld, existing, inUse, Frame}
+use Rattle.definition.specs.Machine.{Object, ObjectRow, free, owned, Objects, objectHeld, existing, inUse, madeBy, Frame}
 use Rattle.definition.specs.Sweeping.{named, roots, linksFrom, links, Reached, reached, sweptFrom, freedFrom}
 use Rattle.laws.specs.Chains.{numbers, has-member, member-has, reached-chain, chain-reached}
 use Rattle.laws.specs.Objects.{existing-tail, existing-none}
@@ -257,3 +257,24 @@ sweep-none os o = swept-is (reached os []) os o ∙ go (has eqb o (reached os []
         let m : List·Memᴰ (r .root) [] = unfold roots in r .isRoot in
         absurd (List·Memᴰ·not-nil m)
     go false h = unfold pick in refl
+
+-- a sweep leaves no task more than it had
+pub swept-made : (k : ℕ) (R : List ℕ) (o : ℕ) (os : Objects) → madeBy k (sweptFrom R o os) ≤ madeBy k os
+unfolding sweptFrom madeBy
+swept-made k R o [] = omega arith
+swept-made k R o (x ∷ os) = row x (has eqb o R) (swept-made k R (suc o) os)
+  where
+    row : (x : ObjectRow) (b : Bool) → madeBy k (sweptFrom R (suc o) os) ≤ madeBy k os → madeBy k (pick b x free ∷ sweptFrom R (suc o) os) ≤ madeBy k (x ∷ os)
+    row free true l = unfold pick in l
+    row free false l = unfold pick in l
+    row (owned j y) true l = unfold pick in counted (eqb j k) l
+      where
+        counted : (b : Bool) → madeBy k (sweptFrom R (suc o) os) ≤ madeBy k os
+            → (elim b as (λ _. ℕ) [ true ↦ suc (madeBy k (sweptFrom R (suc o) os)) | false ↦ madeBy k (sweptFrom R (suc o) os) ]) ≤ (elim b as (λ _. ℕ) [ true ↦ suc (madeBy k os) | false ↦ madeBy k os ])
+        counted true l = omega arith
+        counted false l = l
+    row (owned j y) false l = unfold pick in counted (eqb j k) l
+      where
+        counted : (b : Bool) → madeBy k (sweptFrom R (suc o) os) ≤ madeBy k os → madeBy k (sweptFrom R (suc o) os) ≤ (elim b as (λ _. ℕ) [ true ↦ suc (madeBy k os) | false ↦ madeBy k os ])
+        counted true l = omega arith
+        counted false l = l

@@ -147,7 +147,7 @@ frame-proper n X f h = record {
 -- Reading what was put
 
 -- the eight counts, with owners and numbers written behind them
-counts-put : (r : Rows) (c : List ℕ) → length c ≡ countsLength → (j : ℕ) → j < ownersCell
+pub counts-put : (r : Rows) (c : List ℕ) → length c ≡ countsLength → (j : ℕ) → j < ownersCell
     → getD (putNumbers (r .numbers) (writeRows putOwner (r .objects) 0 (writeRows set (countsOf r) 0 c))) j 0 ≡ getD (countsOf r) j 0
 unfolding countsOf
 counts-put r c e j l =

@@ -155,6 +155,7 @@ view-whole t c s = record {
     subtypes = rows-length (numberAt subtypeNumbersCell (t .counts)) (getD (t .counts) 4 0) 0 ∙ sym (rows-length (subtypeAt (t .subtypes)) (getD (t .counts) 4 0) 0);
     turn = s .numbers;
   };
+  share = s .share;
 }
 
 -- Tables that are not broken show whole rows, and tables of the published lengths that show whole rows are not broken

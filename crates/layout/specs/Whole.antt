@@ -8,7 +8,7 @@ use lib.ListN.{length}
 use borrow.Author.Tests.{eqb-true, eq-eqb, leb-true, le-leb, ltb-true, lt-ltb}
 use Rattle.definition.specs.Classes.{Base, Entry, superOf}
 use Rattle.definition.specs.Constraints.{Tie, Subtype}
-use Rattle.definition.specs.Machine.{Value, emptyValue, intValue, nullValue, objectValue, unlistedValue, Object, ObjectRow, free, owned, Objects, Exists, Frame}
+use Rattle.definition.specs.Machine.{Value, emptyValue, intValue, nullValue, objectValue, unlistedValue, Object, ObjectRow, free, owned, Objects, Exists, madeBy, Frame}
 use Rattle.definition.specs.File.{File}
 use Rattle.definition.specs.Tables.{ClassRow, RowNumbers, Rows, fileAt, sizeOf, worldOf}
 use Rattle.definition.specs.Broken.{isObject, classFits, classesFit, entryFits, tieFits, subtypeFits, valueFits, localFits, objectFits, frameFits, numbered, sound}
@@ -106,6 +106,7 @@ pub record Whole (r : Rows) : Type 0 where
   pub quote : All (Framed (length (r .classes)) (Exists (r .objects))) (r .quote)
   pub report : All (Framed (length (r .classes)) (Exists (r .objects))) (r .report)
   pub numbers : Numbering r
+  pub share : madeBy 1 (r .objects) ≤ 192
 
 -- The same but for limits, an object's number of fields, a frame's number of locals and how many row numbers there are, which rows read off tables have by themselves
 
@@ -132,6 +133,7 @@ pub record Sound (r : Rows) : Type 0 where
   pub quote : All (Frames (length (r .classes)) (Exists (r .objects))) (r .quote)
   pub report : All (Frames (length (r .classes)) (Exists (r .objects))) (r .report)
   pub numbers : numbered (r .numbers) ≡ true
+  pub share : madeBy 1 (r .objects) ≤ 192
 
 pub whole-sound : (r : Rows) → Whole r → Sound r
 whole-sound r w = record {
@@ -143,6 +145,7 @@ whole-sound r w = record {
   quote = all-more (framed-frames _ _) (r .quote) (w .quote);
   report = all-more (framed-frames _ _) (r .report) (w .report);
   numbers = w .numbers .turn;
+  share = w .share;
 }
   where
     sound-owned : (x : ObjectRow) → RowSound (worldOf r .base) (length (r .classes)) (Exists (r .objects)) x → RowOwned (length (r .classes)) (Exists (r .objects)) x
@@ -304,6 +307,7 @@ sound-true r h =
       quote = all-all _ (Frames n (Exists os)) (fits-frame os n) (r .quote) (p .1 .1 .1 .1 .1 .0);
       report = all-all _ (Frames n (Exists os)) (fits-frame os n) (r .report) (p .1 .1 .1 .1 .1 .1 .0);
       numbers = p .1 .1 .1 .1 .1 .1 .1 .0;
+      share = leb-true _ 192 (p .1 .1 .1 .1 .1 .1 .1 .1 .0);
     }
 
 pub sound-is : (r : Rows) → Sound r → sound r ≡ true
@@ -323,7 +327,7 @@ sound-is r s =
               all-test _ (RowOwned n (Exists os)) (object-fits os n) os (s .objects),
               (
                 all-test _ (Frames n (Exists os)) (frame-fits os n) (r .quote) (s .quote),
-                (all-test _ (Frames n (Exists os)) (frame-fits os n) (r .report) (s .report), (s .numbers, tt)),
+                (all-test _ (Frames n (Exists os)) (frame-fits os n) (r .report) (s .report), (s .numbers, (le-leb (madeBy 1 (r .objects)) 192 (s .share), tt))),
               ),
             ),
           ),

@@ -6,6 +6,7 @@ use native.Mathlib.Omega.{arith}
 use lib.ListN.{length-replicate}
 use Rattle.definition.specs.Numbers.{countsLength, classesLength, keptLength, cacheLength, tiesLength, subtypesLength, objectsLength, framesLength}
 use Rattle.definition.specs.Lists.{rows, stack}
+use Rattle.definition.specs.Machine.{madeBy}
 use Rattle.definition.specs.Tables.{noRows, objectsOf, framesOf, viewOver, view, zeros}
 use Rattle.definition.specs.Broken.{inTurn, numbered, broken}
 use Rattle.layout.specs.Whole.{Whole}
@@ -50,6 +51,7 @@ none-whole = record {
   quote = tt;
   report = tt;
   numbers = record { ties = refl; subtypes = refl; turn = refl };
+  share = unfold madeBy in omega arith;
 }
 
 pub zeros-whole : broken zeros ≡ false

@@ -1,5 +1,5 @@
 -- What is decided on a start: a refusal, or an object's class and number and the first frame's method.
-use mathlib.Core.Path.{_≡_, refl, _∙_}
+use mathlib.Core.Path.{_≡_, refl, sym, _∙_}
 use mathlib.Core.Bool.{Bool, true, false, false≢true, _&&_}
 use mathlib.Core.Option.{none, some}
 use mathlib.Core.List.{List, [], _∷_}
@@ -14,12 +14,13 @@ use Rattle.definition.specs.Classes.{Base, find, selected, startSignature}
 use Rattle.definition.specs.Constraints.{World}
 use Rattle.definition.specs.declared.Refusal.the-variants.{Wanted, Word}
 use Rattle.definition.specs.Answers.{Result, refused, ok, _>>=_, need, take?}
-use Rattle.definition.specs.Machine.{intValue, Objects, unused, made, newObject, entryFrame, Progress}
+use Rattle.definition.specs.Machine.{intValue, Objects, unused, made, shareUsed, newObject, entryFrame, Progress}
 use Rattle.definition.specs.Loading.{started}
 use Rattle.definition.specs.Tables.{Tables, tables, frameIn, objectsOf, framesOf, viewOver, framesIn}
 use Rattle.layout.specs.Places.{stack-length}
 use Rattle.layout.specs.View.{countAt}
 use Rattle.frames.specs.Unused.{unusedFrom, unused-is}
+use Rattle.frames.specs.Made.{madeIn, usedShare, made-by-is, share-used-is}
 use Rattle.resolution.specs.Quick.{quickBase}
 use Rattle.access.specs.Accesses.{worldIn}
 use Rattle.access.specs.Makings.{room-left}
@@ -87,44 +88,57 @@ module _ (N L K E : List ℕ) (k l n m : ℕ) where
           open-absent h = record { says = λ I S O F v. rw (lt-ltb k 2 two, known, frames-count B (tables N L K E I S O F) k two, free, there, h); fits = tt }
 
           module _ (s j : ℕ) (selects : selected B (startSignature m) c ≡ some (record { class = s; place = j })) where
-            module _ (o : ℕ) (lowest : o ≡ unusedFrom N 0) where
-              is-unused : (I S O F : List ℕ) → o ≡ unused (objectsOf B (tables N L K E I S O F))
-              is-unused I S O F = lowest ∙ unused-is B (tables N L K E I S O F)
+            module _ (number : ℕ) (counted : number ≡ madeIn N k) where
+              share : (I S O F : List ℕ) → shareUsed k (objectsOf B (tables N L K E I S O F)) ≡ usedShare k number
+              share I S O F = let t = tables N L K E I S O F in sym (share-used-is k number (objectsOf B t) (λ _. counted ∙ made-by-is B t k))
 
-              pub open-full : 256 ≤ o → Opened N L K E k l n m (Deny (Word 10))
+              pub open-share-used : usedShare k number ≡ true → Opened N L K E k l n m (Deny (Word 18))
               unfolding openedAs need _>>=_ take? started
-              open-full h = record {
-                says = λ I S O F v.
-                    rw (
-                      lt-ltb k 2 two,
-                      known,
-                      frames-count B (tables N L K E I S O F) k two,
-                      free,
-                      there,
-                      selects,
-                      room-left k (objectsOf B (tables N L K E I S O F)) o (is-unused I S O F),
-                      le-ltb o 256 h,
-                    );
+              open-share-used h = record {
+                says = λ I S O F v. rw (lt-ltb k 2 two, known, frames-count B (tables N L K E I S O F) k two, free, there, selects, share I S O F ∙ h);
                 fits = tt;
               }
 
-              pub open-first : o < 256 → Opened N L K E k l n m (First c s j o)
-              unfolding openedAs need _>>=_ take? started
-              open-first h = record {
-                says = λ I S O F v.
-                    rw (
-                      lt-ltb k 2 two,
-                      known,
-                      frames-count B (tables N L K E I S O F) k two,
-                      free,
-                      there,
-                      selects,
-                      room-left k (objectsOf B (tables N L K E I S O F)) o (is-unused I S O F),
-                      lt-ltb o 256 h,
-                      ← is-unused I S O F,
-                    );
-                fits = (two, lowest, h, there);
-              }
+              module _ (left : usedShare k number ≡ false) (o : ℕ) (lowest : o ≡ unusedFrom N 0) where
+                is-unused : (I S O F : List ℕ) → o ≡ unused (objectsOf B (tables N L K E I S O F))
+                is-unused I S O F = lowest ∙ unused-is B (tables N L K E I S O F)
+
+                pub open-full : 256 ≤ o → Opened N L K E k l n m (Deny (Word 10))
+                unfolding openedAs need _>>=_ take? started
+                open-full h = record {
+                  says = λ I S O F v.
+                      rw (
+                        lt-ltb k 2 two,
+                        known,
+                        frames-count B (tables N L K E I S O F) k two,
+                        free,
+                        there,
+                        selects,
+                        share I S O F ∙ left,
+                        room-left k (objectsOf B (tables N L K E I S O F)) o (is-unused I S O F),
+                        le-ltb o 256 h,
+                      );
+                  fits = tt;
+                }
+
+                pub open-first : o < 256 → Opened N L K E k l n m (First c s j o)
+                unfolding openedAs need _>>=_ take? started
+                open-first h = record {
+                  says = λ I S O F v.
+                      rw (
+                        lt-ltb k 2 two,
+                        known,
+                        frames-count B (tables N L K E I S O F) k two,
+                        free,
+                        there,
+                        selects,
+                        share I S O F ∙ left,
+                        room-left k (objectsOf B (tables N L K E I S O F)) o (is-unused I S O F),
+                        lt-ltb o 256 h,
+                        ← is-unused I S O F,
+                      );
+                  fits = (two, lowest, h, there);
+                }
 
 -- a loader that is there
 pub known-loader : (l n m : ℕ) → (ltb l 16 && leb 2 n && leb 1 m) ≡ true → l < 16

@@ -16,6 +16,7 @@ use definition::numbers::TASK_LIMIT;
 use definition::numbers::WORD_ABSENT;
 use definition::numbers::WORD_BUSY;
 use definition::numbers::WORD_FULL;
+use definition::numbers::WORD_SHARE;
 use definition::numbers::WORD_UNKNOWN;
 use resolution::Found;
 use resolution::Selection;
@@ -50,7 +51,7 @@ fn start_signature(method: u16) -> Signature
     }
 }
 
-// What is missing is refused where it was looked for, in the order 3 12 5 7 10.
+// What is missing is refused where it was looked for, in the order 3 12 5 7 18 10.
 pub fn decide(
     counts: &[u16],
     classes: &[u16],
@@ -85,6 +86,9 @@ pub fn decide(
     ) else {
         return Opening::Deny(Refusal::Word(WORD_ABSENT));
     };
+    if frames::is_share_used(task as u8, frames::made_by(counts, task as u8)) {
+        return Opening::Deny(Refusal::Word(WORD_SHARE));
+    }
     let free = frames::unused(counts, 0);
     if OBJECT_LIMIT <= free {
         return Opening::Deny(Refusal::Word(WORD_FULL));

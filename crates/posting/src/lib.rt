@@ -28,7 +28,7 @@ fn is_new(ties: &[u16], count: u16, one: u8, two: u8, name: u16) -> bool
     if name == NAME_INT {
         return false;
     }
-    !constraints::tie_known(ties, count, one, two, name)
+    !rows::tie_known(ties, count, one, two, name)
 }
 
 // Whether the name is among those, or the last.

@@ -17,3 +17,4 @@ pub mod Safety
 pub mod Fields
 pub mod Passed
 pub mod Bits
+pub mod Share

@@ -79,7 +79,7 @@ unfolding started newObject
 start-kept k l n m x v os fs lk hp =
     wp-need (Kept v os) _ _ _ (not-word 3 (omega arith)) (λ _. wp-need (Kept v os) _ _ _ (not-word 12 (omega arith)) (λ _. wp-take (Kept v os) _ _ _ (not-wanted _) (λ c fc.
     wp-take (Kept v os) _ _ _ (not-word 7 (omega arith)) (λ s fs.
-    wp-need (Kept v os) _ _ _ (not-word 10 (omega arith)) (λ _. begun c s fc (selected-at (v .base) (startSignature m) c s fs))))))
+    wp-need (Kept v os) _ _ _ (not-word 18 (omega arith)) (λ _. wp-need (Kept v os) _ _ _ (not-word 10 (omega arith)) (λ _. begun c s fc (selected-at (v .base) (startSignature m) c s fs)))))))
   where
     begun : (c : ℕ) (s : Selected) → find (v .base .cache) (at l n) ≡ some c → SelectedAt (v .base) (startSignature m) c s
         → Kept v os (record { world = v; objects = made k (record { class = c; values = map initialValue (slots (v .base) c) }) os; frames = entryFrame (s .class) (s .place) (unused os) (intValue x ∷ []) ∷ []; result = none })

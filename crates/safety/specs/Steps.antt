@@ -230,13 +230,13 @@ module _ (task : ℕ) (w : World) (os : Objects) (f : Frame) (fs : List Frame) (
 
     ex-new : (c : ℕ) → effect (New c) (tp .τ) ≡ some fl → Wp (execute task w os f fs k i (New c)) Q
     unfolding execute effect Q newObject
-    ex-new c e = wp-take (Kept w os) _ _ _ (not-wanted _) (λ x fx. wp-need (Kept w os) _ _ _ (not-word 10 (omega arith)) (λ _.
+    ex-new c e = wp-take (Kept w os) _ _ _ (not-wanted _) (λ x fx. wp-need (Kept w os) _ _ _ (not-word 18 (omega arith)) (λ _. wp-need (Kept w os) _ _ _ (not-word 10 (omega arith)) (λ _.
         let b : Object = record { class = x; values = map initialValue (slots (w .base) x) } in
         let r = lk .real (at (k .loader) c) x fx in
         let z = later-made w task b os in
         moved w (made task b os) z lk (heap-made w task b os hp (record { theClass = r .0; isClass = r .1; filled = zeros-conform w os (slots (w .base) x) })) (typeClass c ∷ tp .τ .operands) (tp .τ .locals) [] (bind-some _ _ e .2) (objectValue (unused os) ∷ f .operands) (f .locals)
         (record { object = b; there = made-there task b os; fits = fits-own fx (same refl) }, later-ops z (k .loader) (tp .τ .operands) (f .operands) (tp .operands))
-        (each-more (later-local z (k .loader)) (tp .τ .locals) (f .locals) (tp .locals))))
+        (each-more (later-local z (k .loader)) (tp .τ .locals) (f .locals) (tp .locals)))))
 
     -- a frame is entered, and this one waits
     enter : (u : World) → Later w os u os → Linked u → Heap u os → (s : Signature) (a : Selected) (ma : MethodAt (u .base) s a) (o : ℕ) (z : Object) → existing os o ≡ some z → Below (superOf (u .base)) (z .class) (a .class)

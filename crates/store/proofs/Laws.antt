@@ -305,7 +305,7 @@ module _ (t : Tables) where
 
     pub readable-object : sizeOf (quickOf t) 0 ≡ 0
     unfolding readable
-    readable-object = object-size (t .counts) (t .classes) (t .kept) (t .cache) (every-true _ h .1 .1 .1 .0)
+    readable-object = object-size (t .counts) (t .classes) (t .kept) (t .cache) (every-true _ h .1 .1 .1 .1 .0)
 
   module _ (h : broken t ≡ false) where
     tests-pass : checks t ≡ true

@@ -1,12 +1,12 @@
--- Word 1 as tests in an order in which they can be made: lengths, counts and the numbers of rows, then the classes' files, and after these, with classes read at once
--- off files that are known to read, superclasses and sizes, rows and values.
+-- Word 1 as tests in an order in which they can be made: lengths, counts, the report's share and the numbers of rows, then the classes' files, and after these, with
+-- classes read at once off files that are known to read, superclasses and sizes, rows and values.
 use mathlib.Core.Bool.{Bool, true, false}
 use mathlib.Core.List.{List, [], _∷_}
 use Prim.Native.Nat.{ℕ, _+_, _*_, _-_, _<_, _≤_}
 use lib.ListN.{length, getD, replicate}
 use lib.Dec.{leb, ltb}
 use mathlib.Core.Path.{_≡_}
-use Rattle.definition.specs.Numbers.{classLimit}
+use Rattle.definition.specs.Numbers.{classLimit, shareLimit}
 use Rattle.definition.specs.Instructions.{pick}
 use Rattle.definition.specs.Lists.{every, all, isSome, rows, stack}
 use Rattle.definition.specs.Classes.{Base, superOf}
@@ -14,7 +14,8 @@ use Rattle.definition.specs.Machine.{Value, emptyValue, intValue, nullValue, ob
 use Rattle.definition.specs.File.{readFile}
 use Rattle.definition.specs.Tables.{Tables, shaped, ClassRow, classRowAt, entryAt, tieAt, subtypeAt, fieldAt, ownedBy, ownerAt, objectRowAt, frameIn, sizeOf, viewBase}
 use Rattle.definition.specs.Broken.{within, isObject, entryFits, tieFits, subtypeFits, broken}
-use Rattle.constraints.specs.Linking.{numbersFit}
+use Rattle.rows.specs.Numbers.{numbersFit}
+use Rattle.frames.specs.Made.{madeIn}
 use Rattle.classfile.specs.Reading.{partOf}
 use Rattle.resolution.specs.Quick.{quickOf}
 use Rattle.store.specs.declared.Fields.{Fields}
@@ -111,11 +112,16 @@ valuesFit b counts objects frames = every
 
 -- All together
 
--- lengths, counts, numbers of rows, files and rows: after these, classes are read at once
+-- the report made no more objects than its share
+unfoldable pub shareFits : List ℕ → Bool
+shareFits counts = leb (madeIn counts 1) shareLimit
+
+-- lengths, counts, share, numbers of rows, files and rows: after these, classes are read at once
 unfoldable pub readable : Tables → Bool
 readable t = every
     (shaped t
     ∷ within (t .counts)
+    ∷ shareFits (t .counts)
     ∷ numbersFit (t .counts)
     ∷ sourcesFit (getD (t .counts) 1 0) (t .kept) (rows (classRowAt (t .classes)) (getD (t .counts) 0 0) 0)
     ∷ rowsFit (t .counts) (t .cache) (t .ties) (t .subtypes)

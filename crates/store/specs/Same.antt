@@ -6,10 +6,12 @@ use mathlib.Core.List.{List}
 use Prim.Native.Nat.{ℕ, zero, suc, _+_, _-_, _<_, _≤_}
 use native.Mathlib.Omega.{arith}
 use lib.ListN.{length, getD, replicate}
+use lib.Dec.{leb}
 use borrow.Author.Tests.{ltb-true, lt-ltb, le-ltb, leb-true, le-leb, eqb-true, eq-eqb}
+use Rattle.definition.specs.Numbers.{shareLimit}
 use Rattle.definition.specs.Lists.{all, isSome, rows}
 use Rattle.definition.specs.Classes.{Base, superOf}
-use Rattle.definition.specs.Machine.{Value, emptyValue, intValue, nullValue, objectValue, unlistedValue, ObjectRow, free, owned, Objects, Frame, existing}
+use Rattle.definition.specs.Machine.{Value, emptyValue, intValue, nullValue, objectValue, unlistedValue, ObjectRow, free, owned, Objects, Frame, existing, madeBy}
 use Rattle.definition.specs.File.{readFile}
 use Rattle.definition.specs.Tables.{Tables, shaped, ClassRow, sizeOf, classRowAt, ownerAt, classRowsOf, keptOf, cacheOf, viewBase, objectsOf, framesOf, viewOver, view}
 use Rattle.definition.specs.Broken.{within, isObject, entryFits, valueFits, localFits, objectFits, frameFits, sound, whole, broken}
@@ -19,14 +21,15 @@ use Rattle.layout.specs.Whole.{First, ClassSound, Classes, fits-classes, classe
 use Rattle.layout.specs.View.{object-there, object-past, object-free}
 use Rattle.layout.specs.Unbroken.{within-true}
 use Rattle.layout.specs.ReadBack.{shaped-true}
-use Rattle.constraints.specs.Linking.{numbersFit}
+use Rattle.rows.specs.Numbers.{numbersFit}
+use Rattle.frames.specs.Made.{made-by-is}
 use Rattle.classfile.specs.Reading.{quickFile, partOf}
 use Rattle.classfile.specs.Laws.{reads-some}
 use Rattle.classfile.specs.Searches.{file-part}
 use Rattle.classfile.specs.Lists.{every-first, every-fails}
 use Rattle.resolution.specs.Quick.{either}
 use Rattle.resolution.specs.Unbroken.{Sources, part-same, part-within, part-reads, quick-view, row-first, row-other}
-use Rattle.store.specs.Checks.{fileFits, sourcesFit, linked, linksFit, number, exists, valueIn, localIn, objectIn, frameFit, rowsFit, objectsFit, framesFit, valuesFit, readable, checks}
+use Rattle.store.specs.Checks.{fileFits, sourcesFit, linked, linksFit, number, exists, valueIn, localIn, objectIn, frameFit, rowsFit, objectsFit, framesFit, valuesFit, shareFits, readable, checks}
 
 -- Values: an object exists exactly if its row has been used and has an owner
 
@@ -92,6 +95,10 @@ module _ (t : Tables) where
   frames-same b k =
       all-same _ _ (frame-same (objectsOf b t) X (exists-same b) (length (classRowsOf t))) (framesOf t k)
       ∙ (λ i. all (frameFit (classes-number i) X) (framesOf t k))
+
+  share-same : (b : Base) → shareFits (t .counts) ≡ leb (madeBy 1 (objectsOf b t)) shareLimit
+  unfolding shareFits
+  share-same b = rw (made-by-is b t 1)
 
 -- A test of each of the rows but the first
 
@@ -207,9 +214,9 @@ checks-sound t h =
     let k = every-true _ h in
     let p = every-true _ (k .0) in
     let bytes = enough t (p .0) (p .1 .0) in
-    let s = fit-sources t bytes (p .1 .1 .1 .0) in
+    let s = fit-sources t bytes (p .1 .1 .1 .1 .0) in
     let e = quick-view t s in
-    let r = every-true _ (p .1 .1 .1 .1 .0) in
+    let r = every-true _ (p .1 .1 .1 .1 .1 .0) in
     let v = every-true _ (k .1 .0) in
     let n = getD (t .counts) 0 0 in
     let b = viewBase t in
@@ -218,7 +225,7 @@ checks-sound t h =
     let f = s .others c k l in
     let q = links-said b n (ap (λ (d : Base). linksFit d n) (sym e) ∙ v .0) c k l in
     let u = is-some _ (q .0) in
-    record { loader = sources-other (getD (t .counts) 1 0) (t .kept) (classRowAt (t .classes)) n (p .1 .1 .1 .0) c k l .loader; file = f .0; reads = f .1; super = u .0; isSuper = u .1; size = q .1 }) in
+    record { loader = sources-other (getD (t .counts) 1 0) (t .kept) (classRowAt (t .classes)) n (p .1 .1 .1 .1 .0) c k l .loader; file = f .0; reads = f .1; super = u .0; isSuper = u .1; size = q .1 }) in
     true-every _ (
       p .0,
       (
@@ -234,7 +241,7 @@ checks-sound t h =
                   r .1 .1 .0,
                   (
                     objects-same t b ∙ (ap (λ (d : Base). objectsFit d (t .counts) (t .objects)) (sym e) ∙ v .1 .0),
-                    (frames-same t b 0 ∙ v .1 .1 .0, (frames-same t b 1 ∙ v .1 .1 .1 .0, (p .1 .1 .0, tt))),
+                    (frames-same t b 0 ∙ v .1 .1 .0, (frames-same t b 1 ∙ v .1 .1 .1 .0, (p .1 .1 .1 .0, (sym (share-same t b) ∙ p .1 .1 .0, tt)))),
                   ),
                 ),
               ),
@@ -264,10 +271,13 @@ sound-checks t h =
         (
           p .1 .0,
           (
-            q .1 .1 .1 .1 .1 .1 .1 .0,
+            share-same t b ∙ q .1 .1 .1 .1 .1 .1 .1 .1 .0,
             (
-              files,
-              (true-every _ (ap (λ (m : ℕ). all (entryFits m) (cacheOf t)) (sym (classes-number t)) ∙ q .1 .0, (q .1 .1 .0, (q .1 .1 .1 .0, tt))), tt),
+              q .1 .1 .1 .1 .1 .1 .1 .0,
+              (
+                files,
+                (true-every _ (ap (λ (m : ℕ). all (entryFits m) (cacheOf t)) (sym (classes-number t)) ∙ q .1 .0, (q .1 .1 .0, (q .1 .1 .1 .0, tt))), tt),
+              ),
             ),
           ),
         ),

@@ -3,6 +3,7 @@ use crate::Fields;
 use crate::Sizes;
 use crate::counts::are_within;
 use crate::counts::is_shaped;
+use crate::counts::share_fits;
 use crate::sources::rows_fit;
 use crate::sources::sources_fit;
 use crate::values::frames_fit;
@@ -92,7 +93,7 @@ fn values_fit(
     frames_fit(counts, frames, 1)
 }
 
-// Lengths, counts, numbers of rows, files and rows: after these, classes are read at once.
+// Lengths, counts, the report's share, numbers of rows, files and rows: after these, classes are read at once.
 fn is_readable(
     counts: &[u16],
     classes: &[u16],
@@ -120,7 +121,10 @@ fn is_readable(
     if !are_within(counts) {
         return false;
     }
-    if !constraints::numbers_fit(counts) {
+    if !share_fits(counts) {
+        return false;
+    }
+    if !rows::numbers_fit(counts) {
         return false;
     }
     if !sources_fit(counts, classes, kept) {

@@ -1,4 +1,4 @@
-// Lengths of the tables, and counts within their limits.
+// Lengths of the tables, counts within their limits, and the report's share of objects.
 use definition::numbers::CACHE_LENGTH;
 use definition::numbers::CACHE_LIMIT;
 use definition::numbers::CLASS_LIMIT;
@@ -17,6 +17,7 @@ use definition::numbers::KEPT_LENGTH;
 use definition::numbers::KEPT_LIMIT;
 use definition::numbers::OBJECT_LIMIT;
 use definition::numbers::OBJECTS_LENGTH;
+use definition::numbers::SHARE_LIMIT;
 use definition::numbers::SUBTYPE_LIMIT;
 use definition::numbers::SUBTYPES_LENGTH;
 use definition::numbers::TIE_LIMIT;
@@ -26,8 +27,11 @@ ghost use lib.ListN.{getD};
 ghost use lib.Dec.{leb};
 ghost use Rattle.definition.specs.Tables.{tables, shaped};
 ghost use Rattle.definition.specs.Broken.{within};
+ghost use Rattle.store.specs.Checks.{shareFits};
 
-// The cell of the report's frames.
+// The report's number, and the cell of its frames.
+const REPORT: u8 = 1;
+
 const COUNT_REPORT: usize = COUNT_FRAMES + 1;
 
 // The tables have the published lengths.
@@ -99,4 +103,11 @@ pub(crate) fn are_within(counts: &[u16]) -> bool
         return false;
     }
     is_within(counts, COUNT_REPORT, FRAME_LIMIT)
+}
+
+// The report made no more objects than its share.
+pub(crate) fn share_fits(counts: &[u16]) -> bool
+    ensures { λ r. ⌜ r ≡ shareFits (now (counts .entry)) ⌝ }
+{
+    frames::made_by(counts, REPORT) <= SHARE_LIMIT
 }

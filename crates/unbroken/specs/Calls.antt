@@ -15,7 +15,7 @@ use Rattle.definition.specs.Classes.{Base, Class, Entry, find, ownSlots, slots,
 use Rattle.definition.specs.Constraints.{Subtype, Tie, World}
 use Rattle.definition.specs.File.{File, classOf, readFile}
 use Rattle.definition.specs.Loading.{define, recorded, withClass, withEntry}
-use Rattle.definition.specs.Machine.{Exists, Frame}
+use Rattle.definition.specs.Machine.{Exists, Frame, madeBy}
 use Rattle.definition.specs.Requests.{at}
 use Rattle.definition.specs.Tables.{ClassRow, Rows, baseOf, classAt, fileAt, sizeOf, worldOf, framesIn}
 use Rattle.laws.specs.Agreement.{find-more, is-super}
@@ -53,6 +53,7 @@ module _ (r : Rows) (w : Whole r) where
         quote = w .quote;
         report = w .report;
         numbers = w .numbers;
+        share = w .share;
       }
 
   pub whole-record : (l n c : ℕ) (v : World) → recorded l n c (W r w) ≡ ok v → Whole (addEntry r v)
@@ -136,6 +137,7 @@ module _ (r : Rows) (w : Whole r) where
         quote = grown-frames r w _ bigger (r .quote) (w .quote);
         report = grown-frames r w _ bigger (r .report) (w .report);
         numbers = numbering-on r (w .numbers) (r .ties ++ us) (r .subtypes ++ ss) (omega (arith, length-append (r .ties) us)) (omega (arith, length-append (r .subtypes) ss));
+        share = w .share;
       }
         where
           new : Entry
@@ -214,4 +216,5 @@ boot-whole = record {
   quote = tt;
   report = tt;
   numbers = record { ties = refl; subtypes = refl; turn = unfold numbered inTurn in refl };
+  share = unfold madeBy in omega arith;
 }

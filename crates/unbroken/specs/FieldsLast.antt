@@ -80,7 +80,7 @@ module _ (task : ℕ) (w : World) (os : Objects) (f : Frame) (fs : List Frame) (
   puts-or-stays (Getfield c n t) = inr (then Q _ _ (λ _ _. then Q _ _ (λ _ _. then Q _ _ (λ _ _. then Q _ _ (λ _ _. then Q _ _ (λ _ _. then Q _ _ (λ _ _. then Q _ _ (λ _ _. idle))))))))
   puts-or-stays (Putfield c n t) = inl (c, n, t, refl)
   puts-or-stays (Invokevirtual c s) = inr (then Q _ _ (λ _ _. then Q _ _ (λ _ _. then Q _ _ (λ _ _. then Q _ _ (λ _ _. then Q _ _ (λ _ _. then Q _ _ (λ _ _. then Q _ _ (λ _ _. then Q _ _ (λ _ _. idle)))))))))
-  puts-or-stays (New c) = inr (then Q _ _ (λ _ _. then Q _ _ (λ _ _. made-keeps task _ os)))
+  puts-or-stays (New c) = inr (then Q _ _ (λ _ _. then Q _ _ (λ _ _. then Q _ _ (λ _ _. made-keeps task _ os))))
   puts-or-stays (Branch c p) = inr (then Q _ _ (λ _ _. idle))
   puts-or-stays (Return kind) = inr (then Q _ _ (λ _ _. then Q _ _ (λ p _. then Q _ _ (λ _ _. gives fs (p .top)))))
 
@@ -183,7 +183,7 @@ rows-stay (rowStart k l n m v) h r = then G _ _ (λ _ _. then G _ _ (λ p q. ok-
     Q p = Stays (r .objects) (p .objects)
 
     all : Ok (started k l n m v (worldOf r) (r .objects) (framesIn k r)) Q
-    all = then Q _ _ (λ _ _. then Q _ _ (λ _ _. then Q _ _ (λ _ _. then Q _ _ (λ _ _. then Q _ _ (λ _ _. made-keeps k _ (r .objects))))))
+    all = then Q _ _ (λ _ _. then Q _ _ (λ _ _. then Q _ _ (λ _ _. then Q _ _ (λ _ _. then Q _ _ (λ _ _. then Q _ _ (λ _ _. made-keeps k _ (r .objects)))))))
 rows-stay (rowDrop k) h r = then (λ (g : Given Reply). Stays (r .objects) (g .rows .objects)) _ _ (λ _ _ o x e. e)
 rows-stay rowSweep h r = absurd (h tt)
 rows-stay (rowTry c n) h r = try-leaves (λ s. Stays (r .objects) (s .objects)) c n r (λ o x e. e)

@@ -99,7 +99,7 @@ define-posts l bs r = then P _ _ (λ _ _. then P _ _ (λ f _. then P _ _ (λ v e
 -- a start posts nothing
 started-world : (k l n m v : ℕ) (w : World) (os : Objects) (fs : List Frame) → Ok (started k l n m v w os fs) (λ o. o .world ≡ w)
 unfolding started
-started-world k l n m v w os fs = then S _ _ (λ _ _. then S _ _ (λ _ _. then S _ _ (λ _ _. then S _ _ (λ _ _. then S _ _ (λ _ _. refl)))))
+started-world k l n m v w os fs = then S _ _ (λ _ _. then S _ _ (λ _ _. then S _ _ (λ _ _. then S _ _ (λ _ _. then S _ _ (λ _ _. then S _ _ (λ _ _. refl))))))
   where
     S : Progress → Type 0
     S o = o .world ≡ w

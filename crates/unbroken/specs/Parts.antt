@@ -1,5 +1,5 @@
 -- What each call leaves, part by part. A load appends to classes, kept files, cache and constraints, and leaves objects and frames as they are. A start, a
--- drop and a step leave classes, kept files, cache, subtype constraints and the other task's frames as they are, and keep each object's number and class. A
+-- drop and a step leave classes, kept files, cache, subtype constraints and the other task's frames as they are, and keep each object's number, class and task. A
 -- sweep leaves all but objects, and those that are reached. An idle step leaves every table.
 use mathlib.Core.Path.{_≡_, refl, sym, ap, _∙_}
 use mathlib.Core.Option.{some}
@@ -13,11 +13,12 @@ use Rattle.definition.specs.declared.Reply.the-variants.{Denied}
 use Rattle.definition.specs.Answers.{ok}
 use Rattle.definition.specs.Constraints.{World}
 use Rattle.definition.specs.Loading.{started}
-use Rattle.definition.specs.Machine.{Object, Objects, existing, Frame, Progress, newObject}
-use Rattle.definition.specs.Sweeping.{Reached}
+use Rattle.definition.specs.Machine.{Object, Objects, existing, Exists, Frame, Progress, newObject}
+use Rattle.definition.specs.Sweeping.{Reached, reached}
 use Rattle.definition.specs.Tables.{Tables, Rows, ofTask, framesIn, withFrames, worldOf, view, put}
 use Rattle.definition.specs.Calls.{Given, progressed, defineRows, recordRows, startRows, dropRows, sweepRows, stepTask, stepOn, stepRows, turnOf, turn, RowCall, rowDefine, rowRecord, rowStart, rowDrop, rowSweep, rowTry, onRowCall, callRows, stepTables, perform}
 use Rattle.laws.specs.Objects.{Numbered, numbered-same, numbered-made}
+use Rattle.laws.specs.Owners.{Leaves, makerOf, maker-swept}
 use Rattle.laws.specs.Results.{ok-inj}
 use Rattle.laws.specs.Sweeps.{sweep-keeps, sweep-left}
 use Rattle.laws.specs.Turns.{idle-empty}
@@ -106,37 +107,39 @@ pub record Goes (k : ℕ) (r s : Rows) : Type 0 where
   pub cache : s .cache ≡ r .cache
   pub subtypes : s .subtypes ≡ r .subtypes
   pub objects : Numbered (r .objects) (s .objects)
+  pub owners : Leaves k (r .objects) (s .objects)
   pub others : ofTask k (s .report) (s .quote) ≡ ofTask k (r .report) (r .quote)
 
 goes-same : (k : ℕ) (r : Rows) → Goes k r r
-goes-same k r = record { classes = refl; kept = refl; cache = refl; subtypes = refl; objects = numbered-same (r .objects); others = refl }
+goes-same k r = record { classes = refl; kept = refl; cache = refl; subtypes = refl; objects = numbered-same (r .objects); owners = inl refl; others = refl }
 
-goes-progressed : (k : ℕ) (r : Rows) (o : Progress) → Numbered (r .objects) (o .objects) → Goes k r (progressed k r o)
-goes-progressed k r o n = record { classes = refl; kept = refl; cache = refl; subtypes = refl; objects = n; others = others k }
+goes-progressed : (k : ℕ) (r : Rows) (o : Progress) → Numbered (r .objects) (o .objects) → Leaves k (r .objects) (o .objects) → Goes k r (progressed k r o)
+goes-progressed k r o n l = record { classes = refl; kept = refl; cache = refl; subtypes = refl; objects = n; owners = l; others = others k }
   where
     others : (k : ℕ) → ofTask k (progressed k r o .report) (progressed k r o .quote) ≡ ofTask k (r .report) (r .quote)
     others zero = refl
     others (suc k) = refl
 
 goes-dropped : (k : ℕ) (r : Rows) → Goes k r (withFrames k [] r)
-goes-dropped k r = record { classes = refl; kept = refl; cache = refl; subtypes = refl; objects = numbered-same (r .objects); others = others k }
+goes-dropped k r = record { classes = refl; kept = refl; cache = refl; subtypes = refl; objects = numbered-same (r .objects); owners = inl refl; others = others k }
   where
     others : (k : ℕ) → ofTask k (withFrames k [] r .report) (withFrames k [] r .quote) ≡ ofTask k (r .report) (r .quote)
     others zero = refl
     others (suc k) = refl
 
-started-numbered : (k l n m v : ℕ) (w : World) (os : Objects) (fs : List Frame) → Ok (started k l n m v w os fs) (λ o. Numbered os (o .objects))
+started-leaves : (k l n m v : ℕ) (w : World) (os : Objects) (fs : List Frame) → Ok (started k l n m v w os fs) (λ o. Numbered os (o .objects) × Leaves k os (o .objects))
 unfolding started
-started-numbered k l n m v w os fs = then N _ _ (λ _ _. then N _ _ (λ _ _. then N _ _ (λ c _. then N _ _ (λ _ _. then N _ _ (λ _ _. numbered-made k (newObject (w .base) c) os)))))
+started-leaves k l n m v w os fs = then N _ _ (λ _ _. then N _ _ (λ _ _. then N _ _ (λ c _. then N _ _ (λ _ _. then N _ _ (λ _ _. then N _ _ (λ _ _. (numbered-made k (newObject (w .base) c) os, inr (_, refl))))))))
   where
     N : Progress → Type 0
-    N o = Numbered os (o .objects)
+    N o = Numbered os (o .objects) × Leaves k os (o .objects)
 
 start-goes : (k l n m v : ℕ) (r : Rows) → Ok (startRows k l n m v r) (λ g. Goes k r (g .rows))
 unfolding startRows
 start-goes k l n m v r =
     then G _ _ (λ _ _. then G _ _ (λ o e.
-    goes-progressed k r o (ok-at (λ o. Numbered (r .objects) (o .objects)) _ (started-numbered k l n m v (worldOf r) (r .objects) (framesIn k r)) o e)))
+    let h = ok-at (λ o. Numbered (r .objects) (o .objects) × Leaves k (r .objects) (o .objects)) _ (started-leaves k l n m v (worldOf r) (r .objects) (framesIn k r)) o e in
+    goes-progressed k r o (h .0) (h .1)))
   where
     G : Given Reply → Type 0
     G g = Goes k r (g .rows)
@@ -152,7 +155,8 @@ step-goes r = go (r .quote) (r .report)
   where
     task : (k : ℕ) (f : Frame) (fs : List Frame) → Ok (stepTask k (worldOf r) f fs r) (λ g. Goes k r (g .rows))
     task k f fs = unfold stepTask in then (λ (g : Given Answer). Goes k r (g .rows)) _ _ (λ o e.
-        goes-progressed k r o (ok-at (Advances (Loops (worldOf r) f) (r .objects) (f ∷ fs)) _ (step-advances k (worldOf r) (r .objects) f fs) o e .objects))
+        let h = ok-at (Advances (Loops (worldOf r) f) k (r .objects) (f ∷ fs)) _ (step-advances k (worldOf r) (r .objects) f fs) o e in
+        goes-progressed k r o (h .objects) (h .owners))
 
     go : (q p : List Frame) → Ok (stepOn q p (worldOf r) r) (λ g. Goes (turnOf q) r (g .rows))
     go (f ∷ fs) p = unfold stepOn turnOf in task 0 f fs
@@ -171,6 +175,7 @@ pub record Sweeps (r s : Rows) : Type 0 where
   pub report : s .report ≡ r .report
   pub reached : (o : ℕ) (x : Object) → existing (r .objects) o ≡ some x → Reached (r .objects) (r .quote ++ r .report) o → existing (s .objects) o ≡ some x
   pub left : (o : ℕ) (x : Object) → existing (s .objects) o ≡ some x → existing (r .objects) o ≡ some x
+  pub makers : (o : ℕ) → Exists (s .objects) o → makerOf (s .objects) o ≡ makerOf (r .objects) o
 
 sweeps-same : (r : Rows) → Sweeps r r
 sweeps-same r = record {
@@ -183,6 +188,7 @@ sweeps-same r = record {
   report = refl;
   reached = λ o x e _. e;
   left = λ o x e. e;
+  makers = λ o _. refl;
 }
 
 sweep-sweeps : (r : Rows) → Ok (sweepRows r) (λ g. Sweeps r (g .rows))
@@ -197,6 +203,7 @@ sweep-sweeps r = record {
   report = refl;
   reached = sweep-keeps (r .objects) (r .quote ++ r .report);
   left = λ o x e. sweep-left (r .objects) (r .quote ++ r .report) o x e .0;
+  makers = maker-swept (reached (r .objects) (r .quote ++ r .report)) 0 (r .objects);
 }
 
 -- Every call on rows

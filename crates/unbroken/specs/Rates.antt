@@ -53,16 +53,17 @@ pub record DividesByZero (t : Tables) : Type 0 where
 
 -- Of an instruction's causes
 
-last-first : (a b c d e f g : Bool) → first (cause 5 a ∷ cause 7 b ∷ cause 10 c ∷ cause 9 d ∷ cause 14 e ∷ cause 11 f ∷ cause 17 g ∷ []) ≡ 17 → (e ≡ false) × (g ≡ true)
+last-first : (a b s c d e f g : Bool) → first (cause 5 a ∷ cause 7 b ∷ cause 18 s ∷ cause 10 c ∷ cause 9 d ∷ cause 14 e ∷ cause 11 f ∷ cause 17 g ∷ []) ≡ 17 → (e ≡ false) × (g ≡ true)
 unfolding first
-last-first true b c d e f g h = absurd (omega arith)
-last-first false true c d e f g h = absurd (omega arith)
-last-first false false true d e f g h = absurd (omega arith)
-last-first false false false true e f g h = absurd (omega arith)
-last-first false false false false true f g h = absurd (omega arith)
-last-first false false false false false true g h = absurd (omega arith)
-last-first false false false false false false true h = (refl, refl)
-last-first false false false false false false false h = absurd (omega arith)
+last-first true b s c d e f g h = absurd (omega arith)
+last-first false true s c d e f g h = absurd (omega arith)
+last-first false false true c d e f g h = absurd (omega arith)
+last-first false false false true d e f g h = absurd (omega arith)
+last-first false false false false true e f g h = absurd (omega arith)
+last-first false false false false false true f g h = absurd (omega arith)
+last-first false false false false false false true g h = absurd (omega arith)
+last-first false false false false false false false true h = (refl, refl)
+last-first false false false false false false false false h = absurd (omega arith)
 
 two-ints : (vs : List Value) → not (isSomeAnd (getElem? vs 0) anInt && isSomeAnd (getElem? vs 1) anInt) ≡ false → isSomeAnd (getElem? vs 0) aZero ≡ true → ZeroDivisor vs
 two-ints [] h z = absurd (false≢true z)
@@ -87,22 +88,22 @@ module _ (task : ℕ) (w : World) (os : Objects) (f : Frame) (fs : List Frame) (
 
   instruction-divides : (i : Instruction) → first (instructionCauses task w os f fs k i) ≡ 17 → (i ≡ Arithmetic Divide) × ZeroDivisor (f .operands)
   unfolding instructionCauses accessing
-  instruction-divides AconstNull h = absurd (false≢true (last-first _ _ _ _ _ _ _ h .1))
-  instruction-divides (Sipush n) h = absurd (false≢true (last-first _ _ _ _ _ _ _ h .1))
-  instruction-divides (Load kind j) h = absurd (false≢true (last-first _ _ _ _ _ _ _ h .1))
-  instruction-divides (Store kind j) h = absurd (false≢true (last-first _ _ _ _ _ _ _ h .1))
-  instruction-divides Pop h = absurd (false≢true (last-first _ _ _ _ _ _ _ h .1))
-  instruction-divides Dup h = absurd (false≢true (last-first _ _ _ _ _ _ _ h .1))
+  instruction-divides AconstNull h = absurd (false≢true (last-first _ _ _ _ _ _ _ _ h .1))
+  instruction-divides (Sipush n) h = absurd (false≢true (last-first _ _ _ _ _ _ _ _ h .1))
+  instruction-divides (Load kind j) h = absurd (false≢true (last-first _ _ _ _ _ _ _ _ h .1))
+  instruction-divides (Store kind j) h = absurd (false≢true (last-first _ _ _ _ _ _ _ _ h .1))
+  instruction-divides Pop h = absurd (false≢true (last-first _ _ _ _ _ _ _ _ h .1))
+  instruction-divides Dup h = absurd (false≢true (last-first _ _ _ _ _ _ _ _ h .1))
   instruction-divides (Arithmetic o) h =
-      let l = last-first false false false false (not (isSomeAnd (getElem? (f .operands) 0) anInt && isSomeAnd (getElem? (f .operands) 1) anInt)) false (zeroDivisor task w os f fs k o) h in
+      let l = last-first false false false false false (not (isSomeAnd (getElem? (f .operands) 0) anInt && isSomeAnd (getElem? (f .operands) 1) anInt)) false (zeroDivisor task w os f fs k o) h in
       let d = divisor-zero o (l .1) in
       (ap Arithmetic (d .0), two-ints (f .operands) (l .0) (d .1))
-  instruction-divides (Getfield c n t) h = absurd (false≢true (last-first _ _ _ _ _ _ _ h .1))
-  instruction-divides (Putfield c n t) h = absurd (false≢true (last-first _ _ _ _ _ _ _ h .1))
-  instruction-divides (Invokevirtual c s) h = absurd (false≢true (last-first _ _ _ _ _ _ _ h .1))
-  instruction-divides (New c) h = absurd (false≢true (last-first _ _ _ _ _ _ _ h .1))
-  instruction-divides (Branch c p) h = absurd (false≢true (last-first _ _ _ _ _ _ _ h .1))
-  instruction-divides (Return kind) h = absurd (false≢true (last-first _ _ _ _ _ _ _ h .1))
+  instruction-divides (Getfield c n t) h = absurd (false≢true (last-first _ _ _ _ _ _ _ _ h .1))
+  instruction-divides (Putfield c n t) h = absurd (false≢true (last-first _ _ _ _ _ _ _ _ h .1))
+  instruction-divides (Invokevirtual c s) h = absurd (false≢true (last-first _ _ _ _ _ _ _ _ h .1))
+  instruction-divides (New c) h = absurd (false≢true (last-first _ _ _ _ _ _ _ _ h .1))
+  instruction-divides (Branch c p) h = absurd (false≢true (last-first _ _ _ _ _ _ _ _ h .1))
+  instruction-divides (Return kind) h = absurd (false≢true (last-first _ _ _ _ _ _ _ _ h .1))
 
   divides-first : ZeroDivisor (f .operands) → first (instructionCauses task w os f fs k (Arithmetic Divide)) ≡ 17
   unfolding instructionCauses zeroDivisor first

@@ -1,5 +1,5 @@
 -- A define, a record, a start, a drop, a sweep and a tried load refuse with the first cause that applies.
-use mathlib.Core.Path.{_≡_, refl, sym, _∙_, ap}
+use mathlib.Core.Path.{_≡_, refl, sym, _∙_}
 use mathlib.Core.Bool.{Bool, true, false, not, _&&_, _||_, Bool·not-not}
 use mathlib.Core.Option.{Option, none, some}
 use mathlib.Core.List.{List, [], _∷_}
@@ -16,7 +16,7 @@ use Rattle.definition.specs.Answers.{number, wanted, Result, refused, ok, _>>=_
 use Rattle.definition.specs.Classes.{find, selected, startSignature}
 use Rattle.definition.specs.Constraints.{World, agrees}
 use Rattle.definition.specs.Lists.{any, isNone}
-use Rattle.definition.specs.Machine.{roomless}
+use Rattle.definition.specs.Machine.{roomless, shareUsed}
 use Rattle.definition.specs.Loading.{withEntry, define, recorded, started}
 use Rattle.definition.specs.Verifier.{unmapped, notesOf}
 use Rattle.definition.specs.File.{File, readFile, classOf}
@@ -147,10 +147,12 @@ module _ (r : Rows) where
 
   started-first : (k l n m v : ℕ) → numberIn (started k l n m v W (r .objects) (framesIn k r)) ≡ first (cause 3 (not (ltb l 16 && leb 2 n && leb 1 m)) ∷ cause 12 (not (leb (length (framesIn k r)) 0))
       ∷ cause 5 (isNone (find (r .cache) (at l n))) ∷ cause 7 (isSomeAnd (find (r .cache) (at l n)) (λ c. isNone (selected (W .base) (startSignature m) c)))
-      ∷ cause 10 (roomless k (r .objects)) ∷ [])
+      ∷ cause 18 (shareUsed k (r .objects)) ∷ cause 10 (roomless k (r .objects)) ∷ [])
   unfolding started number
   started-first k l n m v = first-need _ (ltb l 16 && leb 2 n && leb 1 m) (Word 3) _ (λ _. first-need _ _ (Word 12) _ (λ _. first-take _ (find (r .cache) (at l n)) (wanted (at l n)) _ (λ c q. rw q
-      (first-take _ (selected (W .base) (startSignature m) c) (Word 7) _ (λ _ _. first-need [] (not (roomless k (r .objects))) (Word 10) _ (λ _. number-ok _) ∙ ap (λ (b : Bool). first (cause 10 b ∷ [])) (Bool·not-not (roomless k (r .objects))))))))
+      (first-take _ (selected (W .base) (startSignature m) c) (Word 7) _ (λ _ _.
+      first-need _ (not (shareUsed k (r .objects))) (Word 18) _ (λ _. first-need [] (not (roomless k (r .objects))) (Word 10) _ (λ _. number-ok _))
+      ∙ (λ i. first (cause 18 (Bool·not-not (shareUsed k (r .objects)) i) ∷ cause 10 (Bool·not-not (roomless k (r .objects)) i) ∷ [])))))))
 
   start-first : (k l n m v : ℕ) → numberIn (startRows k l n m v r) ≡ first (startCauses k l n m r)
   unfolding startRows startCauses number

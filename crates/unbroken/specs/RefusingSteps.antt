@@ -1,6 +1,6 @@
 -- A step refuses with the first cause that applies.
 use mathlib.Core.Path.{_≡_, refl, sym, ap, _∙_}
-use mathlib.Core.Bool.{Bool, true, false, not, _&&_, _||_}
+use mathlib.Core.Bool.{Bool, true, false, not, _&&_, _||_, Bool·not-not}
 use mathlib.Core.Option.{Option, none, some}
 use mathlib.Core.List.{List, [], _∷_, _++_, reverseAux}
 use Prim.Native.Nat.{ℕ, _+_}
@@ -24,7 +24,7 @@ use Rattle.definition.specs.Classes.{Class, argumentTypes, find, superOf, slots
 use Rattle.definition.specs.Constraints.{Tie, World, posted, agreesAfter, post}
 use Rattle.definition.specs.Instructions.{Decoded}
 use Rattle.definition.specs.Lists.{indexOf, isSome, isNone}
-use Rattle.definition.specs.Machine.{Value, emptyValue, intValue, nullValue, objectValue, unlistedValue, Object, Objects, Exists, changed, Frame, Progress, Now, existing, pop!, popAll!, int!, reference!, ofKind!, kind!, kinds!, compute, jumps, room!, object!, past, entryFrame, now, under!, give, execute, step}
+use Rattle.definition.specs.Machine.{Value, emptyValue, intValue, nullValue, objectValue, unlistedValue, Object, Objects, Exists, changed, Frame, Progress, Now, existing, pop!, popAll!, int!, reference!, ofKind!, kind!, kinds!, compute, jumps, room!, object!, past, entryFrame, now, under!, give, execute, step, roomless, shareUsed}
 use Rattle.definition.specs.Verifier.{pop, popAll}
 use Rattle.definition.specs.Maybe as Maybe
 use Rattle.laws.specs.Agreement.{super-falls}
@@ -174,7 +174,7 @@ module _ (task : ℕ) (w : World) (n : ℕ) (os : Objects) (rd : Ready w n os) (
       → ((e : ℕ) (d : A) → looks e ≡ some d → numberIn (g e d (posted w (ties d))) ≡ first (cause 14 (not (fits e)) ∷ cause 11 null ∷ []))
       → numberIn (take? o (wanted r) >>= λ e. take? (looks e) (Word 7) >>= λ d. post w room (ties d) >>= g e d) ≡ first (accessing w k o looks ties room fits null)
   unfolding accessing Maybe._>>=_ number
-  first-access o looks ties room fits null r g h = first-take _ o (wanted r) _ (λ e q. rw q (first-take _ (looks e) (Word 7) _ (λ d p. rw p (first-post w os _ room (ties d) (g e d) (h e d p ∙ no-divisor (not (fits e)) null)))))
+  first-access o looks ties room fits null r g h = first-take _ o (wanted r) _ (λ e q. rw q (first-take _ (looks e) (Word 7) _ (λ d p. rw p (first-post w os _ room (ties d) (g e d) (h e d p ∙ no-divisor (not (fits e)) null) ∙ sym (first-skip 18 _)))))
 
   -- the operand on top, and the one below it, is there and passes
   abbrev upper : (Value → Bool) → Bool
@@ -192,13 +192,13 @@ module _ (task : ℕ) (w : World) (n : ℕ) (os : Objects) (rd : Ready w n os) (
   unfolding first
   plain-stuck stuck = refl
 
-  only-full : (full : Bool) → first (cause 7 false ∷ cause 10 full ∷ cause 9 false ∷ cause 14 false ∷ cause 11 false ∷ cause 17 false ∷ []) ≡ first (cause 10 full ∷ [])
+  only-full : (share full : Bool) → first (cause 7 false ∷ cause 18 share ∷ cause 10 full ∷ cause 9 false ∷ cause 14 false ∷ cause 11 false ∷ cause 17 false ∷ []) ≡ first (cause 18 share ∷ cause 10 full ∷ [])
   unfolding first
-  only-full full = refl
+  only-full share full = refl
 
   -- an operator, which refuses a divisor 0 alone
   plain-divisor : (stuck zero : Bool)
-      → first (cause 5 false ∷ cause 7 false ∷ cause 10 false ∷ cause 9 false ∷ cause 14 stuck ∷ cause 11 false ∷ cause 17 zero ∷ []) ≡ first (cause 14 stuck ∷ cause 17 zero ∷ [])
+      → first (cause 5 false ∷ cause 7 false ∷ cause 18 false ∷ cause 10 false ∷ cause 9 false ∷ cause 14 stuck ∷ cause 11 false ∷ cause 17 zero ∷ []) ≡ first (cause 14 stuck ∷ cause 17 zero ∷ [])
   unfolding first
   plain-divisor stuck zero = refl
 
@@ -335,7 +335,9 @@ module _ (task : ℕ) (w : World) (n : ℕ) (os : Objects) (rd : Ready w n os) (
   execute-first (Getfield c x t) = first-access _ _ _ true _ _ _ _ (λ e d p. getfield-first x t e d p (posted w (fieldTies w k t d)))
   execute-first (Putfield c x t) = first-access _ _ _ true _ _ _ _ (λ e d p. putfield-first x t e d p (posted w (fieldTies w k t d)))
   execute-first (Invokevirtual c s) = first-access _ _ _ _ _ _ _ _ (λ e d p. invoke-first s e (posted w (methodTies w k s d)))
-  execute-first (New c) = first-take _ (find (w .base .cache) (at (k .loader) c)) (wanted (at (k .loader) c)) _ (λ e _. first-need [] _ (Word 10) _ (λ _. number-ok _) ∙ sym (only-full _))
+  execute-first (New c) = first-take _ (find (w .base .cache) (at (k .loader) c)) (wanted (at (k .loader) c)) _ (λ e _.
+      first-need _ (not (shareUsed task os)) (Word 18) _ (λ _. first-need [] _ (Word 10) _ (λ _. number-ok _))
+      ∙ ap (λ (b : Bool). first (cause 18 b ∷ cause 10 (not (not (roomless task os) && ltb (length (f .operands)) 16)) ∷ [])) (Bool·not-not (shareUsed task os)) ∙ sym (only-full _ _))
   execute-first (Branch c p) = number-on (jumps c (f .operands)) _ ∙ jumps-first c ∙ sym (plain-stuck _)
   execute-first (Return kind) =
       first-under fs _ _ (first-top (cause 14 (not (not (isEmpty fs) || upper anInt)) ∷ []) (f .operands) (aValueOf kind) _ (λ v us q. rw q (first-of-kind _ kind v _ (give-first fs v)))

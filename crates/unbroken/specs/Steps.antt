@@ -16,7 +16,7 @@ use Rattle.definition.specs.Instructions.{Decoded, pick}
 use Rattle.definition.specs.Lists.{any}
 use Rattle.definition.specs.Maybe as Maybe
 use Rattle.definition.specs.Superclasses.{below}
-use Rattle.definition.specs.Machine.{Frame, Now, Object, ObjectRow, free, owned, Objects, objectHeld, Exists, unused, made, roomless, rewritten, changed, Progress, Value, entryFrame, execute, give, initialValue, int!, intValue, jumps, newObject, now, nullValue, object!, objectValue, ofKind!, past, pop!, popAll!, reference!, room!, step, under!, emptyValue, unlistedValue, existing}
+use Rattle.definition.specs.Machine.{Frame, Now, Object, ObjectRow, free, owned, Objects, objectHeld, Exists, unused, made, roomless, rewritten, changed, Progress, Value, entryFrame, execute, give, initialValue, int!, intValue, jumps, newObject, now, nullValue, object!, objectValue, ofKind!, past, pop!, popAll!, reference!, room!, step, under!, emptyValue, unlistedValue, existing, madeBy}
 use Rattle.definition.specs.Requests.{Request, at}
 use Rattle.definition.specs.Verifier.{pop, popAll}
 use Rattle.definition.specs.declared.Kind.{Kind}
@@ -29,7 +29,7 @@ use Rattle.definition.specs.declared.Refusal.{Refusal}
 use Rattle.laws.specs.Arguments.{PoppedAll, filled-length}
 use Rattle.laws.specs.Options.{bind-some}
 use Rattle.laws.specs.Growth.{nth-lt}
-use Rattle.laws.specs.Objects.{existing-none, existing-tail, made-there, made-exists, changed-exists}
+use Rattle.laws.specs.Objects.{existing-none, existing-tail, made-there, made-exists, changed-exists, share-made, changed-made}
 use Rattle.laws.specs.Results.{bind-ok, need-ok, ok-inj, take-ok}
 use Rattle.laws.specs.Stable.{Rooted}
 use Rattle.laws.specs.Tests.{and-true}
@@ -231,6 +231,7 @@ pub record Ready (w : World) (n : ℕ) (os : Objects) : Type 0 where
   pub between : All Between (w .ties)
   pub objects : length os ≤ 256
   pub each : All (RowSound (w .base) n (Exists os)) os
+  pub share : madeBy 1 os ≤ 192
 
 pub record Moved (w : World) (n : ℕ) (os : Objects) (o : Progress) : Type 0 where
   pub base : o .world .base ≡ w .base
@@ -242,6 +243,7 @@ pub record Moved (w : World) (n : ℕ) (os : Objects) (o : Progress) : Type 0 wh
   pub more : (p : ℕ) → Exists os p → Exists (o .objects) p
   pub objects : length (o .objects) ≤ 256
   pub each : All (RowSound (w .base) n (Exists (o .objects))) (o .objects)
+  pub share : madeBy 1 (o .objects) ≤ 192
   pub many : length (o .frames) ≤ 32
   pub frames : All (Framed n (Exists (o .objects))) (o .frames)
 
@@ -338,7 +340,7 @@ module _ (w : World) (n : ℕ) (os : Objects) (rd : Ready w n os) where
 
     -- nothing but frames changes
     stays : (gs : List Frame) (x : Option ℕ) → length gs ≤ 32 → All (Framed n M) gs → Moved w n os (record { world = w; objects = os; frames = gs; result = x })
-    stays gs x a b = record { base = refl; subtypes = refl; ties = rd .ties; fresh = []; behind = sym (append-nil (w .ties)); between = rd .between; more = λ _ h. h; objects = rd .objects; each = rd .each; many = a; frames = b }
+    stays gs x a b = record { base = refl; subtypes = refl; ties = rd .ties; fresh = []; behind = sym (append-nil (w .ties)); between = rd .between; more = λ _ h. h; objects = rd .objects; each = rd .each; share = rd .share; many = a; frames = b }
 
     keeps : (o : List Value) → length o ≤ 16 → All (ValueSound M) o → Moved w n os (record { world = w; objects = os; frames = past f i o (f .locals) ∷ fs; result = none })
     keeps o a b = stays _ _ (omega arith) (framed o (f .locals) a b (fr .eight) (fr .locals), frs)
@@ -347,11 +349,11 @@ module _ (w : World) (n : ℕ) (os : Objects) (rd : Ready w n os) where
     stores o j v a b c = stays _ _ (omega arith) (framed o (set (f .locals) j v) a b (length-set (f .locals) j v ∙ fr .eight) (all-set (Local M) (f .locals) (fr .locals) j v (value-local M v c)), frs)
 
     -- ties are posted
-    tied : (room : Bool) (us : List Tie) (v : World) (qs : Objects) (gs : List Frame) → post w room us ≡ ok v → All Between us → ((o : ℕ) → M o → Exists qs o) → length qs ≤ 256 → All (RowSound (w .base) n (Exists qs)) qs
+    tied : (room : Bool) (us : List Tie) (v : World) (qs : Objects) (gs : List Frame) → post w room us ≡ ok v → All Between us → ((o : ℕ) → M o → Exists qs o) → length qs ≤ 256 → All (RowSound (w .base) n (Exists qs)) qs → madeBy 1 qs ≤ 192
         → (room ≡ true → length gs ≤ 32) → All (Framed n (Exists qs)) gs → Moved w n os (record { world = v; objects = qs; frames = gs; result = none })
-    tied room us v qs gs e a b c d g h =
+    tied room us v qs gs e a b c d x g h =
         let p = post-is w room us v e in
-        rw (sym (p .0)) (record { base = refl; subtypes = refl; ties = p .1; fresh = us; behind = refl; between = all-both Between (w .ties) us (rd .between) a; more = b; objects = c; each = d; many = g (p .2); frames = h })
+        rw (sym (p .0)) (record { base = refl; subtypes = refl; ties = p .1; fresh = us; behind = refl; between = all-both Between (w .ties) us (rd .between) a; more = b; objects = c; each = d; share = x; many = g (p .2); frames = h })
 
     between : (d t : ℕ) → All Between (newTie (w .ties) (loaderOf (w .base) d) (k .loader) t)
     between d t = new-between _ _ _ t (loader-small (w .base) (rd .loaders) d) kl
@@ -380,7 +382,7 @@ module _ (w : World) (n : ℕ) (os : Objects) (rd : Ready w n os) where
     each-kept (Getfield c x t) = then Q _ _ (λ e _. then Q _ _ (λ d _. then Q _ _ (λ v pv. then Q _ _ (λ p ep. then Q _ _ (λ o eo. then Q _ _ (λ j _. then Q _ _ (λ z ez.
         let q = pop-all M (f .operands) p (fr .operands) ep in
         let b = object-at (w .base) n M os (rd .each) (o .number) (o .object) (object-is (w .base) os e (p .top) o eo) in
-        tied _ _ v os _ pv (between d t) (λ _ h. h) (rd .objects) (rd .each) (λ _. omega arith)
+        tied _ _ v os _ pv (between d t) (λ _ h. h) (rd .objects) (rd .each) (rd .share) (λ _. omega arith)
         (framed (z ∷ p .more) (f .locals) (omega (arith, q .less, fr .depth)) (all-nth (ValueSound M) (o .object .values) (b .values) j z (take-ok _ _ ez), q .more) (fr .eight) (fr .locals), frs))))))))
     each-kept (Putfield c x t) = then Q _ _ (λ e _. then Q _ _ (λ d _. then Q _ _ (λ v pv. then Q _ _ (λ p ep. then Q _ _ (λ q eq. then Q _ _ (λ _ _. then Q _ _ (λ o eo. then Q _ _ (λ j _.
         let y = pop-all M (f .operands) p (fr .operands) ep in
@@ -392,17 +394,18 @@ module _ (w : World) (n : ℕ) (os : Objects) (rd : Ready w n os) where
         let sound : ObjectSound (w .base) n M new = record { class = b .class; size = length-set (o .object .values) j (p .top) ∙ b .size; values = all-set (ValueSound M) (o .object .values) (b .values) j (p .top) (y .top) } in
         tied _ _ v qs _ pv (between d t) more (omega (arith, changed-length os (o .number) new, rd .objects))
         (all-more (grow-row (w .base) n M (Exists qs) more) qs (all-changed (w .base) n M os (o .number) new sound (rd .each)))
+        (omega (arith, changed-made 1 os (o .number) new, rd .share))
         (λ _. omega arith)
         (all-more (grow-frame n M (Exists qs) more) (past f i (q .more) (f .locals) ∷ fs) (framed (q .more) (f .locals) (omega (arith, y .less, z .less, fr .depth)) (z .more) (fr .eight) (fr .locals), frs))))))))))
     each-kept (Invokevirtual c s) = then Q _ _ (λ e _. then Q _ _ (λ d _. then Q _ _ (λ v pv. then Q _ _ (λ p ep. then Q _ _ (λ q eq. then Q _ _ (λ _ _. then Q _ _ (λ o eo. then Q _ _ (λ m em.
         let y = arguments-all M _ (f .operands) p (fr .operands) ep in
         let z = pop-all M (p .more) q (y .more) eq in
         let h : M (o .number) = (o .object, object-is (w .base) os e (q .top) o eo) in
-        tied _ _ v os _ pv (betweens (d .class) s) (λ _ h. h) (rd .objects) (rd .each) (λ h. omega (arith, ltb-true (suc (length fs)) 32 h)) (
+        tied _ _ v os _ pv (betweens (d .class) s) (λ _ h. h) (rd .objects) (rd .each) (rd .share) (λ h. omega (arith, ltb-true (suc (length fs)) 32 h)) (
           entered-frame n M (m .class) (m .place) (o .number) (p .all) (class-selected s _ m (take-ok _ _ em)) h (all-more (value-local M) (p .all) (y .all)),
           (framed (q .more) (f .locals) (omega (arith, y .less, z .less, fr .depth)) (z .more) (fr .eight) (fr .locals), frs),
         )))))))))
-    each-kept (New c) = then Q _ _ (λ e fe. then Q _ _ (λ _ h.
+    each-kept (New c) = then Q _ _ (λ e fe. then Q _ _ (λ _ sh. then Q _ _ (λ _ h.
         let a = and-true (not (roomless task os)) (ltb (length (f .operands)) 16) (need-ok _ _ h) in
         let x : Object = newObject (w .base) e in
         let qs : Objects = made task x os in
@@ -417,12 +420,13 @@ module _ (w : World) (n : ℕ) (os : Objects) (rd : Ready w n os) where
           more = g;
           objects = made-few task x os (rd .objects) (a .0);
           each = made-objects (w .base) n task os e two (class-found (at (k .loader) c) e (take-ok _ _ fe)) (rd .each);
+          share = share-made task x os two (not-true _ (need-ok _ _ sh)) (rd .share);
           many = omega arith;
           frames = (
             record { class = fr .class; depth = ltb-true (length (f .operands)) 16 (a .1); operands = ((x, made-there task x os), all-more (grow-value M (Exists qs) g) (f .operands) (fr .operands)); eight = fr .eight; locals = all-more (grow-local M (Exists qs) g) (f .locals) (fr .locals) },
             all-more (grow-frame n M (Exists qs) g) fs frs,
           );
-        }))
+        })))
     each-kept (Branch c p) = then Q _ _ (λ j e.
         let l = jumps-left M c (f .operands) j (fr .operands) e in
         stays _ _ (omega arith) (record { class = fr .class; depth = omega (arith, l .1, fr .depth); operands = l .0; eight = fr .eight; locals = fr .locals }, frs))

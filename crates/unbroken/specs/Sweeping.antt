@@ -270,8 +270,8 @@ begun-rows k l n m v r = then G _ _ (λ _ _. then G _ _ (λ o e. let q = ok-at Q
     frames-of (suc k) o = refl
 
     all : Ok (started k l n m v (worldOf r) (r .objects) (framesIn k r)) Q
-    all = then Q _ _ (λ _ _. then Q _ _ (λ _ _. then Q _ _ (λ c _. then Q _ _ (λ s _. then Q _ _ (λ _ _.
-        (takes-made k (newObject (worldOf r .base) c) (r .objects), (s .class, s .place, refl)))))))
+    all = then Q _ _ (λ _ _. then Q _ _ (λ _ _. then Q _ _ (λ c _. then Q _ _ (λ s _. then Q _ _ (λ _ _. then Q _ _ (λ _ _.
+        (takes-made k (newObject (worldOf r .base) c) (r .objects), (s .class, s .place, refl))))))))
 
 pub start-takes : (k l n m v : ℕ) (t : Tables) → perform (callStart k l n m v) t .answer ≡ Accepted → Begun k v (view t) (view (perform (callStart k l n m v) t .tables))
 unfolding perform
@@ -284,7 +284,7 @@ start-takes k l n m v t = shown Denied (startRows k l n m v) (λ a s. a ≡ Acce
 pushed-rows : (task : ℕ) (w : World) (os : Objects) (f : Frame) (fs : List Frame) (k : Class) (i : Decoded) (c : ℕ)
     → Ok (execute task w os f fs k i (New c)) (λ o. Takes task os (o .objects) (unused os) × (o .frames ≡ past f i (objectValue (unused os) ∷ f .operands) (f .locals) ∷ fs))
 unfolding execute
-pushed-rows task w os f fs k i c = then Q _ _ (λ e _. then Q _ _ (λ _ _. (takes-made task (newObject (w .base) e) os, refl)))
+pushed-rows task w os f fs k i c = then Q _ _ (λ e _. then Q _ _ (λ _ _. then Q _ _ (λ _ _. (takes-made task (newObject (w .base) e) os, refl))))
   where
     Q : Progress → Type 0
     Q o = Takes task os (o .objects) (unused os) × (o .frames ≡ past f i (objectValue (unused os) ∷ f .operands) (f .locals) ∷ fs)

@@ -14,7 +14,7 @@ use Rattle.definition.specs.Machine.{Value, emptyValue, intValue, nullValue, ob
 use Rattle.definition.specs.Sweeping.{named, roots, Reached, reached, sweptFrom}
 use Rattle.definition.specs.Tables.{Rows, worldOf, withObjects}
 use Rattle.laws.specs.Objects.{existing-tail}
-use Rattle.laws.specs.Sweeps.{member-left, member-right, roots-left, roots-right, found-reached, names-link, swept, sweep-keeps}
+use Rattle.laws.specs.Sweeps.{member-left, member-right, roots-left, roots-right, found-reached, names-link, swept, sweep-keeps, swept-made}
 use Rattle.layout.specs.OwnedRows.{swept-length}
 use Rattle.layout.specs.Tests.{All}
 use Rattle.layout.specs.Whole.{Local, ValueSound, RowSound, Framed, Whole}
@@ -117,4 +117,5 @@ module _ (r : Rows) (w : Whole r) where
     quote = frames-kept (Exists (r .objects)) (Exists left) (length (r .classes)) (r .quote) (w .quote) (λ o m. root-stays o (roots-left (r .quote) (r .report) o m));
     report = frames-kept (Exists (r .objects)) (Exists left) (length (r .classes)) (r .report) (w .report) (λ o m. root-stays o (roots-right (r .quote) (r .report) o m));
     numbers = w .numbers;
+    share = omega (arith, swept-made 1 (reached (r .objects) all) 0 (r .objects), w .share);
   }

@@ -1,11 +1,12 @@
--- While the quote has a frame, no call but a boot, a start or a drop of the report changes the report's frames. A step that ran moved its task's
--- frames, but for a goto to its own point.
+-- While the quote has a frame, no call but a boot, a start or a drop of the report changes the report's frames; and where it has none, nothing but its start gives it
+-- one. A step that ran moved its task's frames, but for a goto to its own point.
 use mathlib.Core.Path.{_≡_, refl, sym, ap, _∙_, subst}
 use mathlib.Core.Bool.{Bool, true, false, _&&_}
 use mathlib.Core.Option.{Option, none, some}
 use mathlib.Core.List.{List, [], _∷_}
 use Prim.Native.Nat.{ℕ, zero, suc}
 use native.Mathlib.Omega.{arith}
+use lib.ListN.{length}
 use lib.Dec.{leb}
 use borrow.Author.Tests.{ltb-true}
 use Rattle.definition.specs.declared.Refusal.the-variants.{Word}
@@ -13,19 +14,20 @@ use Rattle.definition.specs.declared.Answer.{Answer}
 use Rattle.definition.specs.declared.Answer.the-variants.{Idle, Ran, Refused}
 use Rattle.definition.specs.declared.Reply.{Reply}
 use Rattle.definition.specs.declared.Reply.the-variants.{Denied}
-use Rattle.definition.specs.Answers.{ok}
+use Rattle.definition.specs.Answers.{Result, refused, ok}
 use Rattle.definition.specs.Constraints.{World}
 use Rattle.definition.specs.Machine.{Frame, Progress, step}
-use Rattle.definition.specs.Tables.{Tables, Rows, worldOf, view, framesIn}
+use Rattle.definition.specs.Tables.{Tables, shaped, Rows, worldOf, view, framesIn}
 use Rattle.definition.specs.Broken.{broken}
-use Rattle.definition.specs.Calls.{Given, progressed, defineRows, recordRows, startRows, dropRows, sweepRows, answerOf, stepTask, stepOn, stepRows, Done, done, stepTables, runFrom, run, Call, callBoot, callStep, callRun, perform, RowCall, rowDefine, rowRecord, rowStart, rowDrop, rowSweep, rowTry, onRowCall, callRows}
-use Rattle.laws.specs.Results.{bind-ok, need-ok}
-use Rattle.laws.specs.Runs.{runs-end}
+use Rattle.definition.specs.Calls.{Given, boot, progressed, defineRows, recordRows, startRows, dropRows, sweepRows, answerOf, stepTask, stepOn, stepRows, Done, done, stepTables, runFrom, run, Call, callBoot, callStep, callRun, perform, RowCall, rowDefine, rowRecord, rowStart, rowDrop, rowSweep, rowTry, onRowCall, callRows}
+use Rattle.laws.specs.Results.{bind-ok, need-ok, ok-inj}
+use Rattle.laws.specs.Runs.{runs-end, run-keeps}
 use Rattle.laws.specs.Wrapped.{Ok, ok-at, then}
 use Rattle.laws.specs.Tried.{try-leaves}
 use Rattle.unbroken.specs.Calls.{step-whole, rows-whole}
 use Rattle.unbroken.specs.Progress.{Advances, Loops, step-advances}
 use Rattle.unbroken.specs.Unbroken.{shown}
+use Rattle.unbroken.specs.OnRows.{same-boot}
 
 abbrev Kept : Tables → Answer → Rows → Type 0
 Kept t a r = (r .report ≡ view t .report) × ((k : ℕ) → a ≡ Ran k → r .quote ≡ [] → ⊥)
@@ -56,7 +58,7 @@ step-kept t h = shown Refused stepRows (Kept t) t step-whole (λ w. (refl, λ k 
         let y : progressed 0 r (a .0) ≡ g .rows = cc (a .2) in (
           ap (λ (z : Rows). z .report) (sym y),
           λ k q n.
-              ok-at (Advances (Loops (worldOf r) f) (r .objects) (f ∷ fs)) _ (step-advances 0 (worldOf r) (r .objects) f fs) (a .0) (a .1) .left (same-result 0 k (a .0 .result) (x ∙ q) .0)
+              ok-at (Advances (Loops (worldOf r) f) 0 (r .objects) (f ∷ fs)) _ (step-advances 0 (worldOf r) (r .objects) f fs) (a .0) (a .1) .left (same-result 0 k (a .0 .result) (x ∙ q) .0)
               (ap (λ (z : Rows). z .quote) y ∙ n),
         )
 
@@ -88,7 +90,7 @@ ran-moves t k = shown Refused stepRows (λ a z. a ≡ Ran k → framesIn k z ≡
           frame = f;
           others = fs;
           task = q;
-          loops = ok-at (Advances (Loops (worldOf r) f) (r .objects) (f ∷ fs)) _ (step-advances j (worldOf r) (r .objects) f fs) (o .0) (o .1) .moved (n .0)
+          loops = ok-at (Advances (Loops (worldOf r) f) j (r .objects) (f ∷ fs)) _ (step-advances j (worldOf r) (r .objects) f fs) (o .0) (o .1) .moved (n .0)
               (sym (is (o .0)) ∙ ap (framesIn j) y ∙ z ∙ q);
         })
 
@@ -169,3 +171,63 @@ report-stays callBoot t h m = absurd (m tt)
 report-stays (callRows c) t h m = shown Denied (onRowCall c) (Stays t) t (λ r w. rows-whole r w c) (λ w. refl) (λ _ g e. ok-at _ _ (rows-stay c (view t) m) g e)
 report-stays callStep t h m = step-kept t h .0
 report-stays (callRun n) t h m = run-kept n t h
+
+-- Where the report has no frame, nothing but its start gives it one
+
+abbrev pub StartsReport : Call → Type 0
+StartsReport callBoot = ⊥
+StartsReport (callRows (rowDefine l bs)) = ⊥
+StartsReport (callRows (rowRecord l n c)) = ⊥
+StartsReport (callRows (rowStart k l n m v)) = k ≡ 1
+StartsReport (callRows (rowDrop k)) = ⊥
+StartsReport (callRows rowSweep) = ⊥
+StartsReport (callRows (rowTry c n)) = ⊥
+StartsReport callStep = ⊥
+StartsReport (callRun n) = ⊥
+
+drop-none : (k : ℕ) (r : Rows) → r .report ≡ [] → Ok (dropRows k r) (λ g. g .rows .report ≡ [])
+unfolding dropRows
+drop-none zero r e = then (λ g. g .rows .report ≡ []) _ _ (λ _ _. e)
+drop-none (suc k) r e = then (λ g. g .rows .report ≡ []) _ _ (λ _ _. refl)
+
+rows-none : (c : RowCall) (r : Rows) → (StartsReport (callRows c) → ⊥) → r .report ≡ [] → Ok (onRowCall c r) (λ g. g .rows .report ≡ [])
+rows-none c r h e = go c h
+  where
+    stays : (o : Result (Given Reply)) → Ok o (λ g. g .rows .report ≡ r .report) → Ok o (λ g. g .rows .report ≡ [])
+    stays (refused w) q = tt
+    stays (ok g) q = q ∙ e
+
+    go : (c : RowCall) → (StartsReport (callRows c) → ⊥) → Ok (onRowCall c r) (λ g. g .rows .report ≡ [])
+    go (rowDefine l bs) h = stays (onRowCall (rowDefine l bs) r) (rows-stay (rowDefine l bs) r (λ z. z))
+    go (rowRecord l n c) h = stays (onRowCall (rowRecord l n c) r) (rows-stay (rowRecord l n c) r (λ z. z))
+    go (rowStart k l n m v) h = stays (onRowCall (rowStart k l n m v) r) (rows-stay (rowStart k l n m v) r h)
+    go (rowDrop k) h = drop-none k r e
+    go rowSweep h = stays (onRowCall rowSweep r) (rows-stay rowSweep r (λ z. z))
+    go (rowTry c n) h = stays (onRowCall (rowTry c n) r) (rows-stay (rowTry c n) r (λ z. z))
+
+pub step-none : (t : Tables) → view t .report ≡ [] → view (stepTables t .tables) .report ≡ []
+unfolding stepTables stepRows
+step-none t idle = shown Refused stepRows (λ _ s. s .report ≡ []) t step-whole (λ w. idle) (λ _ g e. go (view t .quote) (view t .report) idle g e)
+  where
+    r : Rows
+    r = view t
+
+    go : (q p : List Frame) → p ≡ [] → (g : Given Answer) → stepOn q p (worldOf r) r ≡ ok g → g .rows .report ≡ []
+    go (f ∷ fs) p n g e =
+        let d : stepTask 0 (worldOf r) f fs r ≡ ok g = unfold stepOn in e in
+        let a = task-ok 0 (worldOf r) f fs r g d in
+        let y : progressed 0 r (a .0) ≡ g .rows = cc (a .2) in
+        ap (λ (z : Rows). z .report) (sym y) ∙ idle
+    go [] [] n g e = let d : ok (record { answer = Idle; rows = r }) ≡ ok g = unfold stepOn in e in ap (λ (z : Given Answer). z .rows .report) (sym (ok-inj d)) ∙ idle
+    go [] (f ∷ fs) n g e = absurd (let l : length (f ∷ fs) ≡ length {A = Frame} [] = ap length n in omega arith)
+
+pub report-none : (c : Call) → (StartsReport c → ⊥) → (t : Tables) → view t .report ≡ [] → view (perform c t .tables) .report ≡ []
+unfolding perform
+report-none callBoot h t e = go (shaped t) refl
+  where
+    go : (b : Bool) → shaped t ≡ b → view (boot t .tables) .report ≡ []
+    go true s = ap (λ (r : Rows). r .report) (same-boot t s .1 .rows)
+    go false s = unfold boot in rw (s, boot) e
+report-none (callRows c) h t e = shown Denied (onRowCall c) (λ _ s. s .report ≡ []) t (λ r w. rows-whole r w c) (λ w. e) (λ _ g q. ok-at (λ (g : Given Reply). g .rows .report ≡ []) _ (rows-none c (view t) h e) g q)
+report-none callStep h t e = step-none t e
+report-none (callRun n) h t e = run-keeps (λ s. view s .report ≡ []) step-none n t e

@@ -9,7 +9,7 @@ use native.Mathlib.Omega.{arith}
 use lib.ListN.{length, getElem?, drop, length-append, length-map, length-drop}
 use lib.Seq.{take-append-le, drop-append-le, drop-at, take-length}
 use lib.Dec.{leb}
-use borrow.Author.Tests.{leb-true, le-leb}
+use borrow.Author.Tests.{leb-true, le-leb, not-true}
 use Rattle.definition.specs.declared.Signature.{Signature}
 use Rattle.definition.specs.Answers.{need}
 use Rattle.definition.specs.Calls.{numberedOn, progressed}
@@ -24,7 +24,7 @@ use Rattle.definition.specs.Tables.{ClassRow, Rows, classAt, fileAt, sizeOf, wo
 use Rattle.definition.specs.Verifier.{Note}
 use Rattle.laws.specs.Agreement.{find-row, super-is}
 use Rattle.laws.specs.Growth.{Grows, grows-super, nth-lt}
-use Rattle.laws.specs.Objects.{made-there, made-exists}
+use Rattle.laws.specs.Objects.{made-there, made-exists, share-made}
 use Rattle.laws.specs.Options.{bind-some, need-true, some-bind}
 use Rattle.laws.specs.Results.{need-ok, take-ok}
 use Rattle.laws.specs.Stable.{slots-stable}
@@ -89,6 +89,7 @@ module _ (r : Rows) (w : Whole r) where
     between = w .ties;
     objects = w .limits .objects;
     each = w .objects;
+    share = w .share;
   }
     where
       real : (q : Request) (c : ℕ) → find (r .cache) q ≡ some c → (k : Class) × (getElem? (map (classAt (r .kept)) (r .classes)) c ≡ some k)
@@ -131,6 +132,7 @@ module _ (r : Rows) (w : Whole r) where
     quote = of-task (All (Framed N (Exists (r .objects)))) k b (w .quote);
     report = of-task (All (Framed N (Exists (r .objects)))) k (w .report) b;
     numbers = w .numbers;
+    share = w .share;
   }
 
   heap-whole : (o : Progress) → Moved W N (r .objects) o → Whole (withObjects (o .objects) (withTies (o .world .ties) (withNumbers (numberedOn (o .world .ties) (r .subtypes) r) r)))
@@ -153,6 +155,7 @@ module _ (r : Rows) (w : Whole r) where
     quote = all-more (grow-frame N (Exists (r .objects)) (Exists (o .objects)) (m .more)) (r .quote) (w .quote);
     report = all-more (grow-frame N (Exists (r .objects)) (Exists (o .objects)) (m .more)) (r .report) (w .report);
     numbers = numbering-on r (w .numbers) (o .world .ties) (r .subtypes) (omega (arith, ap length (m .behind), length-append (r .ties) (m .fresh))) (omega arith);
+    share = m .share;
   }
 
   -- the rows' classes and constraints are then those of the progress
@@ -161,7 +164,7 @@ module _ (r : Rows) (w : Whole r) where
 
   pub start-moves : (k l n m v : ℕ) (fs : List Frame) → k < 2 → Ok (started k l n m v W (r .objects) fs) (Moved W N (r .objects))
   unfolding started
-  start-moves k l n m v fs two = then Q _ _ (λ _ _. then Q _ _ (λ _ _. then Q _ _ (λ c fc. then Q _ _ (λ s es. then Q _ _ (λ _ h.
+  start-moves k l n m v fs two = then Q _ _ (λ _ _. then Q _ _ (λ _ _. then Q _ _ (λ c fc. then Q _ _ (λ s es. then Q _ _ (λ _ sh. then Q _ _ (λ _ h.
       let os = r .objects in
       let x = newObject (W .base) c in
       let lc = class-found W N os ready (at l n) c (take-ok _ _ fc) in
@@ -175,12 +178,13 @@ module _ (r : Rows) (w : Whole r) where
         more = made-exists k x os;
         objects = made-few k x os (w .limits .objects) (need-ok _ _ h);
         each = made-objects (W .base) N k os c two lc (w .objects);
+        share = share-made k x os two (not-true _ (need-ok _ _ sh)) (w .share);
         many = omega arith;
         frames = (
           entered-frame N _ (s .class) (s .place) (unused os) (intValue v ∷ []) (class-selected W N os ready (startSignature m) c s (take-ok _ _ es)) (x, made-there k x os) (tt, tt),
           tt,
         );
-      })))))
+      }))))))
     where
       Q : Progress → Type 0
       Q = Moved W N (r .objects)

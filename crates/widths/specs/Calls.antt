@@ -155,12 +155,12 @@ module _ (r : Rows) (f : RowsFit r) where
   started-fits k l n m v fs h =
       then ProgressFits _ _ (λ _ _. then ProgressFits _ _ (λ _ _. then ProgressFits _ _ (λ c _.
       then-on PlaceFits ProgressFits _ _ (take-read PlaceFits _ _ (selected-fits (worldOf r .base) class-list (startSignature m) c)) (λ s hs.
-      then ProgressFits _ _ (λ _ _.
+      then ProgressFits _ _ (λ _ _. then ProgressFits _ _ (λ _ _.
       record {
         ties = f .ties;
         objects = made-fits k (newObject (worldOf r .base) c) (r .objects) (new-fits (worldOf r .base) c) (f .objects);
         frames = (entered-fits (s .class) (s .place) _ (intValue v ∷ []) hs (h, tt), tt);
-      })))))
+      }))))))
 
   start-fits : (k l n m v : ℕ) → v < 4294967296 → Ok (startRows k l n m v r) Fit
   unfolding startRows

@@ -283,12 +283,12 @@ module _ (task : ℕ) (w : World) (os : Objects) (classes : All ClassFits (w .ba
           objects = objects;
           frames = (entered-fits (m .class) (m .place) (o .number) (p .all) l (hp .0), (moved (q .more) (f .locals) (hq .1) (top .locals), rest));
         }))))))))
-    execute-fits (New c) x = then Q _ _ (λ e _. then Q _ _ (λ _ _.
+    execute-fits (New c) x = then Q _ _ (λ e _. then Q _ _ (λ _ _. then Q _ _ (λ _ _.
         record {
           ties = ties;
           objects = made-fits task (newObject (w .base) e) os (new-fits (w .base) e) objects;
           frames = (moved (objectValue (unused os) ∷ f .operands) (f .locals) (tt, top .operands) (top .locals), rest);
-        }))
+        })))
     execute-fits (Branch c p) x = then-on (λ j. All IntFits (j .more)) Q _ _ (jumps-fit c (f .operands) (top .operands)) (λ j h. record {
       ties = ties;
       objects = objects;

@@ -2,7 +2,7 @@
 use mathlib.Core.Path.{refl, sym, _∙_}
 use native.Mathlib.Omega.{arith}
 use borrow.Author.Tests.{not-true, not-false}
-use Rattle.opening.specs.Openings.{open-no-task, open-unknown, open-busy, open-wanted, open-absent, open-full, open-first, known-loader}
+use Rattle.opening.specs.Openings.{open-no-task, open-unknown, open-busy, open-wanted, open-absent, open-share-used, open-full, open-first, known-loader}
 use Rattle.resolution.specs.Lookups.{selection-at, selection-absent}
 use Rattle.access.specs.Members.{cached, uncached}
 use borrow.Author.Needs.{needs}
@@ -43,29 +43,42 @@ returns-5 c =
 
 returns-6 : tie.Need-returns-6
 returns-6 c =
-    let at8 = c .before .before .before .before .before .before .before .before in
-    let at10 = at8 .before .before in
-    let at11 = at10 .before in
+    let at6 = c .before .before .before .before .before .before in
+    let at9 = at6 .before .before .before in
+    let at11 = at9 .before .before in
     let at12 = at11 .before in
     let at13 = at12 .before in
     let at14 = at13 .before in
-    let at15 = at14 .before in
-    let answer = rw (c .before .before .before .before .before .before .start-signature .ensures) at (c .before .before .before .before .before .select-method .ensures) in
-    let x = selection-at _ _ _ (sym answer ∙ c .before .before .before .s .given .1) in
-    open-full _ _ _ _ _ _ _ _ (at15 .if1 .left) (sym (at14 .are-known .ensures) ∙ not-false _ (at13 .if2 .left)) (rw (at11 .if3 .left) at (sym (at12 .frame-count .ensures))) _ (cached _ _ _ _ _ _ _ _ (at10 .find .ensures) refl _ (at8 .c .given .1)) _ _ x _ (c .before .unused .ensures) (c .if4 .taken)
+    let at16 = at14 .before .before in
+    let answer = rw (at6 .before .start-signature .ensures) at (at6 .select-method .ensures) in
+    let x = selection-at _ _ _ (sym answer ∙ c .before .before .before .before .s .given .1) in
+    open-share-used _ _ _ _ _ _ _ _ (at16 .if1 .left) (sym (at14 .before .are-known .ensures) ∙ not-false _ (at14 .if2 .left)) (rw (at12 .if3 .left) at (sym (at13 .frame-count .ensures))) _ (cached _ _ _ _ _ _ _ _ (at11 .find .ensures) refl _ (at9 .c .given .1)) _ _ x _ (c .before .before .made-by .ensures) (sym (c .before .is-share-used .ensures) ∙ c .if4 .taken)
 
 returns-7 : tie.Need-returns-7
 returns-7 c =
     let at8 = c .before .before .before .before .before .before .before .before in
-    let at10 = at8 .before .before in
-    let at11 = at10 .before in
-    let at12 = at11 .before in
-    let at13 = at12 .before in
+    let at11 = at8 .before .before .before in
+    let at13 = at11 .before .before in
     let at14 = at13 .before in
     let at15 = at14 .before in
-    let answer = rw (c .before .before .before .before .before .before .start-signature .ensures) at (c .before .before .before .before .before .select-method .ensures) in
-    let x = selection-at _ _ _ (sym answer ∙ c .before .before .before .s .given .1) in
-    open-first _ _ _ _ _ _ _ _ (at15 .if1 .left) (sym (at14 .are-known .ensures) ∙ not-false _ (at13 .if2 .left)) (rw (at11 .if3 .left) at (sym (at12 .frame-count .ensures))) _ (cached _ _ _ _ _ _ _ _ (at10 .find .ensures) refl _ (at8 .c .given .1)) _ _ x _ (c .before .unused .ensures) (c .if4 .left)
+    let at16 = at15 .before in
+    let at18 = at16 .before .before in
+    let answer = rw (at8 .before .start-signature .ensures) at (at8 .select-method .ensures) in
+    let x = selection-at _ _ _ (sym answer ∙ c .before .before .before .before .before .before .s .given .1) in
+    open-full _ _ _ _ _ _ _ _ (at18 .if1 .left) (sym (at16 .before .are-known .ensures) ∙ not-false _ (at16 .if2 .left)) (rw (at14 .if3 .left) at (sym (at15 .frame-count .ensures))) _ (cached _ _ _ _ _ _ _ _ (at13 .find .ensures) refl _ (at11 .c .given .1)) _ _ x _ (c .before .before .before .before .made-by .ensures) (sym (c .before .before .before .is-share-used .ensures) ∙ c .before .before .if4 .left) _ (c .before .unused .ensures) (c .if5 .taken)
+
+returns-8 : tie.Need-returns-8
+returns-8 c =
+    let at8 = c .before .before .before .before .before .before .before .before in
+    let at11 = at8 .before .before .before in
+    let at13 = at11 .before .before in
+    let at14 = at13 .before in
+    let at15 = at14 .before in
+    let at16 = at15 .before in
+    let at18 = at16 .before .before in
+    let answer = rw (at8 .before .start-signature .ensures) at (at8 .select-method .ensures) in
+    let x = selection-at _ _ _ (sym answer ∙ c .before .before .before .before .before .before .s .given .1) in
+    open-first _ _ _ _ _ _ _ _ (at18 .if1 .left) (sym (at16 .before .are-known .ensures) ∙ not-false _ (at16 .if2 .left)) (rw (at14 .if3 .left) at (sym (at15 .frame-count .ensures))) _ (cached _ _ _ _ _ _ _ _ (at13 .find .ensures) refl _ (at11 .c .given .1)) _ _ x _ (c .before .before .before .before .made-by .ensures) (sym (c .before .before .before .is-share-used .ensures) ∙ c .before .before .if4 .left) _ (c .before .unused .ensures) (c .if5 .left)
 
 pub decide-spec : {M : Type 1} → statement M
 decide-spec =
@@ -88,6 +101,11 @@ decide-spec =
     (λ c. search needs)
     (λ c. search needs)
     returns-5
+    (λ c. search needs)
+    (λ c. search needs)
+    (λ c κs. search needs)
     (λ c κs. search needs)
     returns-6
-    returns-7)
+    (λ c κs. search needs)
+    returns-7
+    returns-8)

@@ -68,7 +68,7 @@ returns-10 c =
 returns-11 : tie.Need-returns-11
 returns-11 c =
     let at14 = c .before .before .before .before .before .before .before .before .before .before .before .before .before .before in
-    rw (c .plain8 .ensures .0, c .plain8 .ensures .1, c .before .before .before .before .i8 .given .1) (acted-make _ _ _ _ _ _ _ _ _ _ _ _ _ _ _ (at14 .pre .0 .counts .ties) _ _ refl (c .before .before .unused .ensures ∙ at14 .pre .2) (c .before .new-object .ensures) (λ e. at14 .pre .0 .sizes _ e))
+    rw (c .plain8 .ensures .0, c .plain8 .ensures .1, c .before .before .before .before .i8 .given .1) (acted-make _ _ _ _ _ _ _ _ _ _ _ _ _ _ _ (at14 .pre .0 .counts .ties) _ _ _ refl (c .before .before .unused .ensures ∙ at14 .pre .2 .0, at14 .pre .2 .1) (c .before .new-object .ensures) (λ e. at14 .pre .0 .sizes _ e))
 
 returns-12 : tie.Need-returns-12
 returns-12 c = rw (c .plain9 .ensures .0, c .plain9 .ensures .1, c .before .before .before .i9 .given .1) (acted-return _ _ _ _ _ _ _ _ _ _ _ _ _ _ _ (c .before .before .before .before .before .before .before .before .before .before .before .before .before .pre .0 .counts .ties) (c .before .give-back .ensures))

@@ -1,5 +1,5 @@
 -- One test for 'broken', then the step of a store that is not.
-use mathlib.Core.Path.{refl, sym, _∙_}
+use mathlib.Core.Path.{sym, _∙_}
 use denote.Ref.{now}
 use borrow.Author.Needs.{needs}
 use Rattle.execution.specs.Turns.{step-broken}
@@ -13,7 +13,7 @@ returns c =
     step-broken (tables (now (at14 .args .counts)) (now (at14 .args .classes)) (now (at14 .args .kept)) (now (at14 .args .cache)) (now (at14 .args .ties)) (now (at14 .args .subtypes)) (now (at14 .args .objects)) (now (at14 .args .frames))) (sym (c .before .is-broken .ensures) ∙ c .if1 .taken)
 
 step-unbroken-requires : tie.Need-step-unbroken-requires
-step-unbroken-requires c κs = (sym (c .before .before .before .before .before .is-broken .ensures) ∙ c .before .before .before .before .if1 .left, refl)
+step-unbroken-requires c κs = (sym (c .before .before .before .before .before .before .before .is-broken .ensures) ∙ c .before .before .before .before .before .before .if1 .left, c .before .before .before .before .room-for-turn .ensures)
 
 returns-2 : tie.Need-returns-2
 returns-2 c = c .before .before .before .before .before .before .before .before .step-unbroken .ensures
@@ -28,6 +28,7 @@ step-spec =
     (λ c. search needs)
     (λ c. search needs)
     returns
+    (λ c κs. search needs)
     step-unbroken-requires
     (λ c. search needs)
     (λ c. search needs)

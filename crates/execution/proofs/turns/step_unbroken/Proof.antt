@@ -29,7 +29,7 @@ choose-requires c κs =
     let at8 = c .before .before .before .before .before .before .before .before in
     let at10 = at8 .before .before in
     let at20 = at10 .before .before .before .before .before .before .before .before .before .before in
-    (at20 .pre .0, rw (c .before .before .before .before .top-frame .ensures .0, at10 .turn .ensures) (turn-two (now (at20 .args .counts))), rw (c .before .before .before .before .top-frame .ensures .0, c .before .before .before .before .top-frame .ensures .1) (turn-count _ _ _ _ _ _ _ _ (at20 .pre .0) _ _ (at10 .turn .ensures) (at8 .frame-count .ensures) (c .before .before .before .before .before .before .before .if1 .left)), c .before .before .before .before .top-frame .ensures .2, at20 .pre .1)
+    (at20 .pre .0, rw (c .before .before .before .before .top-frame .ensures .0, at10 .turn .ensures) (turn-two (now (at20 .args .counts))), rw (c .before .before .before .before .top-frame .ensures .0, c .before .before .before .before .top-frame .ensures .1) (turn-count _ _ _ _ _ _ _ _ (at20 .pre .0) _ _ (at10 .turn .ensures) (at8 .frame-count .ensures) (c .before .before .before .before .before .before .before .if1 .left)), c .before .before .before .before .top-frame .ensures .2, rw (c .before .before .before .before .top-frame .ensures .0, at10 .turn .ensures) (at20 .pre .1))
 
 post-ties-requires : tie.Need-post-ties-requires
 post-ties-requires c κs = c .before .before .choose .ensures .ready .ties
