@@ -446,7 +446,7 @@ fn a_value(rng: &mut Rng, store: &mut Store) {
 }
 
 /// Constraints that nobody posted; the store may disagree with them.
-fn constraints(rng: &mut Rng, store: &mut Store) {
+pub fn constraints(rng: &mut Rng, store: &mut Store) {
     if !is_whole(store) {
         return;
     }

@@ -1,6 +1,6 @@
 //! Damage to the trace of loads: levels that nobody wrote, right and wrong.
 
-use super::damage::is_whole;
+use super::damage::{constraints, is_whole};
 use super::rng::Rng;
 use crate::store::{cell, count, frame_base, Level, Store, FRAME_ROW, LENGTHS, LIMITS, MOST_LOADS, ROW, TASKS};
 
@@ -60,6 +60,9 @@ pub fn a_trace(rng: &mut Rng, store: &mut Store) {
     if !is_whole(store) {
         return;
     }
+    if rng.percent(50) {
+        constraints(rng, store);
+    }
     let mut left = closed(store);
     let mut levels = Vec::new();
     for _ in 0..rng.pick(&[1, 1, 2, 3, 5, 9]) {
@@ -90,8 +93,14 @@ pub fn a_trace(rng: &mut Rng, store: &mut Store) {
 fn spoil(rng: &mut Rng, store: &mut Store) {
     let levels = store.count(count::LOADS);
     let at = count::LEVELS + 5 * rng.below(levels);
+    let superclass = some_superclass_row(rng, store, store.counts[at]);
     let cell = &mut store.counts[at + rng.weighted(&[3, 2, 3, 2, 2])];
-    match rng.below(10) {
+    match rng.below(15) {
+        10 | 11 => store.counts[at + count::CACHE] = superclass.unwrap_or(0),
+        12..=14 => {
+            let (which, rows) = rng.pick(&[(count::TIES, store.counts[count::TIES]), (count::SUBTYPES, store.counts[count::SUBTYPES])]);
+            store.counts[at + which] = rng.within(0, rows.into()) as u16;
+        }
         0..=3 => *cell = cell.saturating_sub(1),
         4..=6 => *cell = cell.saturating_add(1),
         7 => *cell = rng.pick(&[0, 1, 255, 256, u16::MAX]),
@@ -101,6 +110,13 @@ fn spoil(rng: &mut Rng, store: &mut Store) {
             (0..5).for_each(|cell| store.counts.swap(at + cell, other + cell));
         }
     }
+}
+
+/// The cache row of the superclass of some class below this one.
+fn some_superclass_row(rng: &mut Rng, store: &Store, classes: u16) -> Option<u16> {
+    let class = rng.within(1, usize::from(classes.clamp(2, store.counts[count::CLASSES].max(2))) - 1) as u16;
+    let request = (store.loader_of(class), store.file(class)?.superclass());
+    store.cache_rows().position(|row| (row[0], row[1]) == request).map(|row| row as u16)
 }
 
 /// Why a trace can't be taken back.
