@@ -25,7 +25,7 @@ use crate::gen::rates;
 use crate::gen::shares::{shared, shares};
 use crate::gen::stuck::stuck;
 use crate::gen::swept::swept;
-use crate::gen::taken::{taken, taking};
+use crate::gen::taken::{taken_back, taking};
 use crate::gen::{cases, counts, javas, large, listed, mapped, passed, Call, Trial, CALLS};
 use crate::host::{self, expected, CELLS};
 use crate::placed::misplaced;
@@ -221,7 +221,7 @@ impl Comparison {
 
     /// What needs no seed.
     fn fixed(&mut self) {
-        for (at, trial) in cases::cases().iter().chain(&swept()).chain(&loops()).chain(&rates::rates()).chain(&hidden()).chain(&listed::listed()).chain(&shares()).chain(&taken()).enumerate() {
+        for (at, trial) in cases::cases().iter().chain(&swept()).chain(&loops()).chain(&rates::rates()).chain(&hidden()).chain(&listed::listed()).chain(&shares()).chain(&taken_back()).enumerate() {
             self.play(trial, &format!("case {at}"));
         }
         for seed in 0..4 {

@@ -3,7 +3,7 @@
 use reference::gen::build::{Code, Draft};
 use reference::gen::cases::{f, ready, subtype, tie, MAIN};
 use reference::gen::damage::damaged;
-use reference::gen::taken::{an_override, between, closing, five_back, forty, in_the_way, records, taking, wanting};
+use reference::gen::taken::{an_override, between, closing, five_back, forty, in_the_way, records, taken_back, taking, wanting};
 use reference::gen::traces::{closed, has_wrong_trace, wrongs_in_turn, WRONGS};
 use reference::gen::{Call, Trial};
 use reference::store::{count, Store, LENGTHS, MOST_LOADS, MOST_OBJECTS, ROW};
@@ -68,7 +68,7 @@ fn every_table_reads_as_before() {
     let taken: usize = (0..600).map(|seed| remembered(&taking(seed, 60), &format!("taking {seed}"))).sum();
     println!("{taken} loads taken back");
     assert!(taken > 5_000);
-    for (at, trial) in reference::gen::taken::taken().iter().enumerate() {
+    for (at, trial) in taken_back().iter().enumerate() {
         remembered(trial, &format!("case {at}"));
     }
 }

@@ -153,7 +153,7 @@ pub fn in_the_way() -> Trial {
 }
 
 /// Every list here.
-pub fn taken() -> Vec<Trial> {
+pub fn taken_back() -> Vec<Trial> {
     vec![an_override(), records(), between(), forty(), five_back(), closing(), wanting(), in_the_way()]
 }
 
