@@ -15,7 +15,7 @@
 
 /* The version: how many change papers the machine has taken up, the number of the store's layout (docs/STORE.md, 'Layouts'), and the
    toolchain that proved it. A store that was saved under another layout is no store of this machine. */
-#define TARIFF_PAPERS 7
+#define TARIFF_PAPERS 9
 #define TARIFF_LAYOUT 3
 #define TARIFF_TOOLCHAIN "rattle-kit-5b-plain logic 097e4c862dff5811"
 
@@ -135,6 +135,7 @@ static inline const char *tariff_word_name(uint32_t word)
     case TARIFF_UNMAPPED: return "unmapped";
     case TARIFF_SHORT_LIST: return "short list";
     case TARIFF_ZERO_DIVISOR: return "zero divisor";
+    case TARIFF_SHARE_USED: return "share used";
     default: return "no such word";
     }
 }

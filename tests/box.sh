@@ -1,13 +1,16 @@
 #!/usr/bin/env bash
-# ./box as a person uses it: interrupted while it proves, on a disk that can't be written, moved, through a link, without cargo, rt or a compiler;
-# scripts and texts of every kind; exit statuses; many files at the desk.
+# ./box as a person uses it: interrupted while it proves, on a disk that can't be written, moved, through a link, without cargo, rt or a
+# compiler; scripts and texts of every kind; exit statuses; many files at the desk.
 set -uo pipefail
 cd "$(dirname "$0")/.." || exit 2
 tests/build host desk boxscript || exit 1
 work=$(mktemp -d)
 trap 'rm -rf "$work"' EXIT
 wrong=0
-fail() { echo "box: $*"; wrong=1; } # WORDS
+fail() { # WORDS
+    echo "box: $*" | head -n 20
+    wrong=1
+}
 
 # ---- interrupts, with a stand-in for rt
 tree=$work/tree
@@ -42,7 +45,10 @@ begun() { # SECONDS OF A PROVER: ./box check in a group of its own, as in a term
 
 gone() { # WORDS: what was started ends
     for _ in $(seq 200); do
-        if ! alive && ! kill -0 "$box" 2>/dev/null; then return 0; fi
+        if ! alive && ! kill -0 "$box" 2>/dev/null; then
+            { wait "$box"; } 2>/dev/null
+            return 0
+        fi
         sleep 0.1
     done
     fail "provers run on after $*"
@@ -108,16 +114,19 @@ mkdir "$work/links" && ln -s "$moved/box" "$work/links/second" && ln -s second "
 chmod -R a-w "$moved"
 chmod 711 "$work" && mkdir "$work/out" && chmod 777 "$work/out"
 user=()
-if [ "$(id -u)" = 0 ] && setpriv --reuid=65534 --regid=65534 --clear-groups true 2>/dev/null; then user=(setpriv --reuid=65534 --regid=65534 --clear-groups); fi
+# root may write anywhere, so it tries as nobody
+nobody=(setpriv --reuid=65534 --regid=65534 --clear-groups)
+if [ "$(id -u)" = 0 ] && "${nobody[@]}" true 2>/dev/null; then user=("${nobody[@]}"); fi
 ln -s "$(command -v env)" "$work/bin/env"
-for words in examples/p5-a-tie.lesson examples/first.box "--draw examples/p6-a-chain.lesson $work/out/a.svg" "list examples/first.box" "check examples/first.box" \
-    "asm examples/first.lesson $work/out/classes" "why examples/why-a-load-clashed.lesson"; do
+for words in examples/p5-a-tie.lesson examples/first.box "--draw examples/p6-a-chain.lesson $work/out/a.svg" "list examples/first.box" \
+    "check examples/first.box" "asm examples/first.lesson $work/out/classes" "why examples/why-a-load-clashed.lesson"; do
     # shellcheck disable=SC2086
     (unset CARGO_TARGET_DIR && cd examples/.. && ${user[@]+"${user[@]}"} env PATH="$work/bin" "$work/links/box" $words) >"$work/said" 2>&1 ||
         fail "in a moved tree that can't be written, box $words: $(cat "$work/said")"
 done
 chmod -R u+w "$moved"
-[ -z "$(find "$moved" -newer "$work/links/box" -type f -print -quit)" ] || fail "something is written: $(find "$moved" -newer "$work/links/box" -type f | head -3)"
+written=$(find "$moved" -newer "$work/links/box" -type f)
+[ -z "$written" ] || fail "something is written: $written"
 
 # ---- exit statuses and texts
 ends() { # STATUS WORDS..
@@ -150,7 +159,7 @@ says "finished"
 ends 0 check "$work/windows.box"
 # the same answers with the program boxscript and without it
 for script in examples/*.box; do
-    ./box "$script" >"$work/one" && "${CARGO_TARGET_DIR:-tools/target}/host/release/writer" "$script" >"$work/two" && cmp "$work/one" "$work/two" ||
+    ./box "$script" >"$work/one" && "$(./box --build)" "$script" >"$work/two" && cmp "$work/one" "$work/two" ||
         fail "$script is answered otherwise without boxscript"
 done
 
@@ -167,7 +176,7 @@ says "below/3000.class: "
 says "1 refused"
 ends 1 check --quiet "$work/many" "$file"
 [ "$(wc -l <"$work/said")" -eq 1 ] || fail "--quiet says more than what is refused"
-ends 0 check "$file" examples
+ends 0 check "$file" examples/first.lesson examples/first.box
 ends 2 check "$file" "$work/nothing-there"
 ends 1 check "$work/bad.box" "$file"
 mkdir "$work/empty"

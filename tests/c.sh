@@ -1,6 +1,6 @@
 #!/usr/bin/env bash
-# The C header, the example and the tests in C, as strict compilers and sanitizers see them: no warning on fresh memory, every word and kind has
-# its name, the example says any refusal without reading past a table, and nothing that address,undefined find.
+# The C header, the example and the tests in C, as strict compilers and sanitizers see them: no warning on fresh memory, every word and kind
+# has its name, the example says any refusal without reading past a table, and nothing that address,undefined find.
 set -euo pipefail
 cd "$(dirname "$0")/.."
 tests/build host desk
@@ -75,5 +75,6 @@ for after in 0 1 2 3 4; do
 done
 
 gcc "${clean[@]}" tests/desk.c target/staticlib/libdesk.a -o "$work/desk" && "$work/desk" || fail "tests/desk.c"
-gcc "${clean[@]}" tests/host.c "${libraries[@]}" -Wl,-z,now -o "$work/host" && "$work/host" 2>&1 | grep -v 'ASan doesn.t fully support' || fail "tests/host.c"
+gcc "${clean[@]}" tests/host.c "${libraries[@]}" -Wl,-z,now -o "$work/host" || fail "tests/host.c"
+"$work/host" 2>&1 | grep -v 'ASan doesn.t fully support' || fail "tests/host.c"
 exit "$wrong"

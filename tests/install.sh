@@ -1,6 +1,6 @@
 #!/usr/bin/env bash
-# make install into odd folders: the host program of docs/HOST.md and examples/quote.c compile by tariff.pc alone, in C and C++, without a warning, and
-# run from another folder with the checkout gone; so does the command box. make uninstall leaves nothing.
+# make install into odd folders: the host program of docs/HOST.md and examples/quote.c compile by tariff.pc alone, in C and C++, without a
+# warning, and run from another folder with the checkout gone; so does the command box. make uninstall leaves nothing.
 set -uo pipefail
 cd "$(dirname "$0")/.." || exit 2
 tests/build host desk || exit 1
@@ -12,8 +12,10 @@ wrong=0
 fail() { echo "install: $*"; wrong=1; } # WORDS
 
 # the program that docs/HOST.md prints
-awk '/^## A first program/ { on = 1; next } on && /^    / { print substr($0, 5); began = 1; next } on && /^$/ { if (began) print ""; next } on && began { exit }' \
-    docs/HOST.md >"$work/first.c"
+awk '/^## A first program/ { on = 1; next }
+    on && /^    / { print substr($0, 5); began = 1; next }
+    on && /^$/ { if (began) print ""; next }
+    on && began { exit }' docs/HOST.md >"$work/first.c"
 grep -q tariff_boot "$work/first.c" || fail "docs/HOST.md prints no program"
 cp examples/quote.c examples/quote.out "$work"
 
@@ -41,9 +43,11 @@ flags() { # as pkg-config says them, or as tariff.pc does
     if command -v pkg-config >/dev/null; then
         PKG_CONFIG_PATH=$prefix/lib/pkgconfig pkg-config --cflags --libs tariff
     else
-        sed -n -e "s|\"\${includedir}\"|'$prefix/include'|" -e "s|\"\${libdir}\"|'$prefix/lib'|" -e 's/^Cflags: //p' -e 's/^Libs: //p' "$prefix/lib/pkgconfig/tariff.pc"
+        sed -n -e "s|\"\${includedir}\"|'$prefix/include'|" -e "s|\"\${libdir}\"|'$prefix/lib'|" -e 's/^Cflags: //p' -e 's/^Libs: //p' \
+            "$prefix/lib/pkgconfig/tariff.pc"
     fi
 }
+flags=()
 eval "flags=($(flags | tr '\n' ' '))"
 papers=$(sed -n 's/^#define TARIFF_PAPERS //p' "$prefix/include/tariff.h")
 if command -v pkg-config >/dev/null; then
@@ -55,7 +59,7 @@ for source in first quote; do
         command -v "${compiler%% *}" >/dev/null || continue
         # the libraries stand behind the source, and are none in C++
         # shellcheck disable=SC2086
-        $compiler -O2 -Wall -Wextra -Wpedantic -Werror "../$source.c" -x none "${flags[@]}" -o "$source" || { fail "$source.c by $compiler"; continue; }
+        $compiler -O2 -Wall -Wextra -Wpedantic -Werror "../$source.c" -x none "${flags[@]}" -o "$source" || fail "$source.c by $compiler"
         away "./$source" >"$source.said" || fail "$source.c by $compiler ends with $?"
         case $source in
         quote) cmp ../quote.out quote.said || fail "quote.c prints something else" ;;

@@ -1,5 +1,6 @@
-/* Stands in for the machine: the first calls are accepted, as many as REFUSED_AFTER says, then every call is refused with the number that
-   REFUSED_WITH says; a run is accepted and has the number in its answer. For programs that must say any refusal, also one of later papers. */
+/* Stands in for the machine: the first calls are accepted, as many as REFUSED_AFTER says, then every call is refused with the number
+   that REFUSED_WITH says; a run is accepted and has the number in its answer. For programs that must say any refusal, also one of later
+   papers. */
 #include <stdlib.h>
 
 #include "tariff.h"

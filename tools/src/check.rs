@@ -5,6 +5,7 @@ use reference::file::File;
 use reference::verifier::{refused, Why};
 
 use crate::input::{Input, Piece};
+use crate::java::classfile::MAGIC;
 use crate::listing;
 use crate::machine;
 use crate::maps;
@@ -38,7 +39,10 @@ pub fn check(input: &Input) -> (Verdict, String) {
             Asked::Accepted => out.push_str(&format!("{}: accepted, {} bytes\n", piece.called, piece.bytes.len())),
             Asked::Refused(said) => {
                 worst = Verdict::Refused;
-                let reason = reason(&piece.bytes, &input.names, piece.text.as_ref().zip(input.source.as_ref()));
+                let mut reason = reason(&piece.bytes, &input.names, piece.text.as_ref().zip(input.source.as_ref()));
+                if piece.bytes.starts_with(&MAGIC) {
+                    reason.push_str("    It is a class file of Java's: ./box from-java makes one of the box of it.\n");
+                }
                 out.push_str(&format!("{}: refused: {said}\n{reason}", piece.called));
             }
         }

@@ -35,8 +35,8 @@ impl<'a> Cursor<'a> {
         let mut all = self.problems.clone();
         all.sort_by_key(|problem| problem.span.start);
         let line = |problem: &Problem| self.source.place(problem.span.start).0;
-        let strange: Vec<usize> = self.problems[..self.strange].iter().map(line).collect();
-        all.retain(|problem| !strange.contains(&line(problem)) || self.problems[..self.strange].iter().any(|other| other.span == problem.span));
+        let strange: Vec<(usize, Span)> = self.problems[..self.strange].iter().map(|problem| (line(problem), problem.span)).collect();
+        all.retain(|problem| strange.iter().all(|&(at, span)| at != line(problem) || span == problem.span));
         if let [before @ .., last] = &all[..] {
             let is_end = last.said.ends_with("the file ends here");
             if is_end && last.help.is_some() && before.iter().any(|other| other.help == last.help) {

@@ -60,7 +60,10 @@ impl Strip {
         }
         let rows = aged(before.cache_rows(), after.cache_rows(), tried.entry);
         // a class that isn't there yet would be of the loader that asks for it
-        let definer = |[loader, _, class]: Row| if usize::from(class) < after.count(count::CLASSES) { after.loader_of(class) } else { loader };
+        let definer = |[loader, _, class]: Row| match usize::from(class) < after.count(count::CLASSES) {
+            true => after.loader_of(class),
+            false => loader,
+        };
         let entries: Vec<Entry> = rows.into_iter().map(|(row, age)| Entry { row, age, definer: definer(row) }).collect();
         let ties = aged(before.tie_rows(), after.tie_rows(), tried.ties);
         let subtypes = aged(before.subtype_rows(), after.subtype_rows(), tried.subtypes);
@@ -118,7 +121,7 @@ impl Strip {
 
     pub fn svg(&self) -> String {
         let width = self.pictures.iter().map(Picture::width).max().unwrap_or(0).max(760);
-        let height: i64 = self.pictures.iter().map(Picture::height).sum::<i64>() + 90;
+        let height: i64 = self.pictures.iter().map(Picture::height).sum::<i64>() + 108;
         let mut out = format!(
             "<svg xmlns=\"http://www.w3.org/2000/svg\" width=\"{width}\" height=\"{height}\" viewBox=\"0 0 {width} {height}\" \
              font-family=\"sans-serif\" font-size=\"13\">\n<rect width=\"{width}\" height=\"{height}\" fill=\"white\"/>\n{}",
@@ -405,7 +408,8 @@ fn legend(out: &mut String, y: i64, has_reasons: bool) {
         "Orange is new since the last call. Red dashes are what a refused call would have added."
     };
     let lines = [
-        "A box is a request: a loader and a name. It says its class and the loader that defined that; boxes of one colour and pattern mean one class. A dashed box isn't loaded.",
+        "A box is a request: a loader and a name. It says its class and the loader that defined that. A dashed box isn't loaded.",
+        "Boxes of one colour and pattern mean one class.",
         "A line is a tie. An arrow is a subtype constraint and goes from the lower name to the higher.",
         last,
     ];

@@ -5,6 +5,7 @@ pub mod cursor;
 pub mod draw;
 pub mod expect;
 pub mod input;
+pub mod java;
 pub mod lesson;
 pub mod listing;
 pub mod machine;

@@ -9,7 +9,7 @@ use std::{env, fs};
 
 use writer::check::{check, Verdict};
 use writer::input::{self, Input};
-use writer::lesson::Lesson;
+use writer::java::workshop;
 use writer::listing;
 use writer::many;
 use writer::play::{Outcome, Play, Show};
@@ -71,6 +71,7 @@ fn command(words: &[String]) -> Result<(), Failure> {
             io::stdin().read_to_end(&mut printed)?;
             answers(file, &String::from_utf8_lossy(&printed))
         }
+        [command @ ("from-java" | "java"), ref rest @ ..] => java(command, rest),
         ["list" | "check" | "asm" | "calls" | "answers", ..] => Err(usage()),
         ["why", ref rest @ ..] => play(rest, true),
         ref rest => play(rest, false),
@@ -79,6 +80,14 @@ fn command(words: &[String]) -> Result<(), Failure> {
 
 fn usage() -> Failure {
     Failure::Usage(USAGE.into())
+}
+
+fn java(command: &str, words: &[&str]) -> Result<(), Failure> {
+    match writer::java::commands::run(command, words) {
+        Ok(said) => print(&said),
+        Err((1, said)) => Err(Failure::Bad(said)),
+        Err((_, said)) => Err(Failure::Usage(said)),
+    }
 }
 
 fn bytes(file: &str) -> Result<Vec<u8>, Failure> {
@@ -96,7 +105,7 @@ fn source(file: &str) -> Result<Source, Failure> {
 }
 
 fn input(file: &str) -> Result<Input, Failure> {
-    Ok(input::read(file, bytes(file)?, input::names_beside(file))?)
+    Ok(input::of_file(file, bytes(file)?)?)
 }
 
 /// Writes to standard output; a reader that has gone away is no failure.
@@ -114,7 +123,7 @@ fn list(input: &Input) -> Result<(), Failure> {
     }
     for piece in &input.pieces {
         out.push('\n');
-        out.push_str(&listing::listing(&piece.bytes, &piece.called, &input.names));
+        out.push_str(&listing::with_lines(&piece.bytes, &piece.called, &input.names, &piece.lines));
     }
     print(&out)
 }
@@ -225,7 +234,7 @@ fn play(words: &[&str], why: bool) -> Result<(), Failure> {
     let lesson = if is_script {
         script::lesson(&source, input::names_beside(&file))
     } else {
-        Lesson::read(&source).map_err(|problems| (source.clone(), problems))?
+        workshop::lesson(&source).map_err(|problems| (source.clone(), problems))?
     };
     let outcome = match Play::run(&source, &lesson, show, &mut io::stdout().lock()) {
         Err(error) if error.kind() == io::ErrorKind::BrokenPipe => return Ok(()),

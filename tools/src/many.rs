@@ -148,7 +148,7 @@ fn said(path: &Path, is_given: bool, quiet: bool) -> Option<Said> {
     if !is_given && !input::is_ours(&file, &bytes) {
         return None;
     }
-    let input = match input::read(&file, bytes, input::names_beside(&file)) {
+    let input = match input::of_file(&file, bytes) {
         Ok(input) => input,
         Err((source, problems)) => {
             let errors = source.show_all(&problems);

@@ -13,6 +13,7 @@ use reference::gen::build::{Code, Draft, MapDraft, MethodDraft};
 use reference::store::LOCALS;
 
 use crate::cursor::{Cursor, Parsed};
+use crate::java::lines::Lines;
 use crate::source::{Problem, Span};
 use crate::tokens::Kind;
 
@@ -23,6 +24,8 @@ pub struct Text {
     pub called: String,
     pub span: Span,
     pub bytes: Vec<u8>,
+    /// The Java lines of its code, if it was written in Java.
+    pub lines: Lines,
     /// Where parts of the text stand in the bytes, by rising place.
     marks: Vec<(usize, Span)>,
     /// The labels by the byte of the instruction behind them.
@@ -33,6 +36,11 @@ impl Text {
     /// The label before the instruction at this byte.
     pub fn label(&self, byte: usize) -> Option<&str> {
         self.labels.iter().find(|label| label.0 == byte).map(|label| label.1.as_str())
+    }
+
+    /// A file that was made otherwise: all of it comes from this part.
+    pub fn made(called: String, span: Span, bytes: Vec<u8>, lines: Lines) -> Text {
+        Text { called, span, bytes, lines, marks: Vec::new(), labels: Vec::new() }
     }
 
     /// The part of the text that this byte comes from.
@@ -102,16 +110,20 @@ fn head_and_brace(at: &mut Cursor) -> Parsed<(Head, Span)> {
 
 /// `class NAME extends NAME [version N] [as WORD] { members }`, behind the word class.
 pub fn class(at: &mut Cursor) -> Parsed<Text> {
+    let start = at.mark();
     let (Head { mut draft, called, span, own, above }, brace) = head_and_brace(at)?;
     let mut members = Members::default();
     while !at.has_sign('}') {
         let from = at.mark();
         if let Err(problem) = member(at, &mut draft, &mut members, brace) {
-            if at.is_end() {
+            // where another class begins, this one isn't closed
+            if at.is_end() || is_begun(at, start, &["class"]) {
                 return Err(problem);
             }
             at.note(problem);
-            at.skip(from, true, |word| ["field", "method"].contains(&word));
+            if !is_begun(at, from, &["field", "method"]) {
+                at.skip(from, true, |word| ["field", "method"].contains(&word));
+            }
         }
     }
     let end = at.take();
@@ -119,7 +131,7 @@ pub fn class(at: &mut Cursor) -> Parsed<Text> {
     let mut labels = Vec::new();
     marks.extend(members.marks(draft.version, &mut labels));
     let bytes = fits(&draft).map_err(|said| Problem::new(end, said))?;
-    Ok(Text { called, span, bytes, marks, labels })
+    Ok(Text { called, span, bytes, lines: Lines::default(), marks, labels })
 }
 
 /// Where the members of a class stand in its text.
@@ -207,9 +219,9 @@ fn member(at: &mut Cursor, draft: &mut Draft, members: &mut Members, brace: Span
     }
 }
 
-/// Does a member stand at this mark? Then the method above it isn't closed.
-fn is_member(at: &Cursor, mark: usize) -> bool {
-    at.mark() == mark && at.word().is_some_and(|word| ["field", "method", "class"].contains(&word))
+/// Does one of these words stand here, behind the mark, and first on its line? Then what is read since the mark isn't closed.
+pub fn is_begun(at: &Cursor, mark: usize, words: &[&str]) -> bool {
+    at.mark() > mark && !at.goes_on() && at.word().is_some_and(|word| words.contains(&word))
 }
 
 fn not_closed(at: &Cursor, brace: Span) -> String {
@@ -230,6 +242,7 @@ fn method_head(at: &mut Cursor, version: u8) -> Parsed<(u16, Vec<u16>, u16)> {
 
 /// `method NAME(TYPES) TYPE { code }`
 fn method(at: &mut Cursor, version: u8) -> Parsed<(MethodDraft, MethodPlaces)> {
+    let start = at.mark();
     let begin = at.take();
     let (name, arguments, result) = method_head(at, version)?;
     let head = begin.to(at.last().span);
@@ -238,7 +251,7 @@ fn method(at: &mut Cursor, version: u8) -> Parsed<(MethodDraft, MethodPlaces)> {
     while !at.has_sign('}') {
         let from = at.mark();
         if let Err(problem) = body.part(at) {
-            if at.is_end() || is_member(at, from) {
+            if at.is_end() || at.mark() == from && is_begun(at, start, &["field", "method", "class"]) {
                 return Err(problem);
             }
             at.note(problem);
@@ -464,5 +477,5 @@ pub fn file(at: &mut Cursor) -> Parsed<Text> {
     at.sign('{')?;
     let bytes = at.bytes(true)?;
     at.sign('}')?;
-    Ok(Text { called: called.into(), span: begin.to(end), bytes, marks: Vec::new(), labels: Vec::new() })
+    Ok(Text { called: called.into(), span: begin.to(end), bytes, lines: Lines::default(), marks: Vec::new(), labels: Vec::new() })
 }

@@ -4,13 +4,13 @@ use crate::source::{Problem, Source, Span};
 
 #[derive(Clone, Debug, PartialEq, Eq)]
 pub enum Kind {
-    /// A letter or _, then letters, digits and _.
+    /// A letter or _, then letters, digits, _ and $.
     Word,
     /// Digits, perhaps with a minus before them.
     Number(i64),
     /// Digits and letters that begin with a digit: no number, but perhaps hexadecimal.
     Mixed,
-    /// One of `{ } [ ] ( ) . , :`, or a minus alone.
+    /// One of `{ } [ ] ( ) . , : /`, or a minus alone.
     Sign(char),
     /// A line that begins with >: words for the reader, without the sign.
     Said(String),
@@ -26,7 +26,7 @@ pub struct Token {
 }
 
 /// The signs that end a word or number.
-const SIGNS: &str = "{}[]().,:";
+const SIGNS: &str = "{}[]().,:/";
 
 /// All tokens of a text, the last of which is `End`, and the problems: what begins no token is passed over.
 pub fn tokens(source: &Source) -> (Vec<Token>, Vec<Problem>) {
@@ -80,7 +80,7 @@ fn strange(first: char, span: Span) -> Problem {
 /// How far a word or number goes.
 fn length_of(rest: &str) -> usize {
     let minus = usize::from(rest.starts_with('-'));
-    let is_part = |c: char| c.is_alphanumeric() || c == '_';
+    let is_part = |c: char| c.is_alphanumeric() || c == '_' || c == '$';
     minus + rest[minus..].find(|c| !is_part(c)).unwrap_or(rest.len() - minus)
 }
 

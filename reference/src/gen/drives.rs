@@ -7,6 +7,7 @@ use super::graphs::graphs;
 use super::list::list;
 use super::listed;
 use super::rng::Rng;
+use super::shares::shared;
 use super::taken::taking;
 use super::{Call, Trial};
 use crate::answer::{denied, word};
@@ -152,10 +153,11 @@ pub fn fixed() -> Vec<u8> {
 pub fn drive(seed: u64) -> Vec<u8> {
     let mut rng = Rng::new(seed ^ 0x64_72_69_76);
     let length = rng.within(5, 90);
-    let trial = match rng.weighted(&[4, 2, 4, 2]) {
+    let trial = match rng.weighted(&[4, 2, 4, 2, 2]) {
         0 => list(seed, length),
         1 => graphs(seed, length),
         2 => chains(seed, length / 2),
+        3 => shared(seed, length / 2),
         _ => taking(seed, length / 3),
     };
     let mut calls = trying(&trial, &mut rng);
