@@ -24,6 +24,10 @@ cp "$tree/bin/cargo" "$tree/bin/rustc"
 chmod +x "$tree/bin/"*
 export RT_PIDS=$work/pids
 
+# a test that runs in the background may have been started with interrupts ignored
+heeding=(env)
+if env --default-signal=INT true 2>/dev/null; then heeding=(env --default-signal=INT); fi
+
 alive() { # are there provers that were started?
     local pid
     while read -r pid; do if kill -0 "$pid" 2>/dev/null; then return 0; fi; done <"$RT_PIDS"
@@ -33,7 +37,7 @@ alive() { # are there provers that were started?
 begun() { # SECONDS OF A PROVER: ./box check in a group of its own, as in a terminal, until it proves
     : >"$RT_PIDS"
     set -m
-    RT_SECONDS=$1 PATH=$tree/bin:$PATH "$tree/box" check examples/first.box >"$work/said" 2>&1 &
+    RT_SECONDS=$1 PATH=$tree/bin:$PATH "${heeding[@]}" "$tree/box" check examples/first.box >"$work/said" 2>&1 &
     box=$!
     set +m
     for _ in $(seq 600); do

@@ -1,7 +1,7 @@
-/* The ten calls from C: tables of wrong lengths, damaged stores, every word of refusal, numbers at their limits, answer tables of every
-   length, a run beside its steps, objects freed and their numbers used again, the report's share, files of version 2, products and
-   quotients, fields of one name in a class and above it, files of version 3 with 0 to 4 arguments, loads tried on short and long lists,
-   and the chains of those that clash; and the desk beside define. */
+/* The ten calls from C: tables of wrong lengths, damaged stores, every word of refusal on pages that may only be read, numbers at their
+   limits, answer tables of every length, a run beside its steps, objects freed and their numbers used again, the report's share, files of
+   version 2, products and quotients, fields of one name in a class and above it, files of version 3 with 0 to 4 arguments, loads tried on
+   short and long lists, and the chains of those that clash; and the desk beside define. */
 #define _GNU_SOURCE
 #include "host.h"
 
@@ -1096,6 +1096,7 @@ int main(void)
 {
     static const char *const names[] = {"boot", "define", "record", "start", "step", "run", "drop", "sweep", "try define", "try record", "check"};
     make_tables();
+    watch_writes();
     booting();
     wrong_lengths();
     damage();

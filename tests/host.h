@@ -1,4 +1,6 @@
-/* For tests/host.c: tables and files that end where their memory ends, calls on a painted stack, and what a call is expected to answer. */
+/* For tests/host.c: tables and files that end where their memory ends, calls on a painted stack, pages that may only be read, and what a call is
+   expected to answer. */
+#include <signal.h>
 #include <stdio.h>
 #include <stdlib.h>
 #include <string.h>
@@ -316,6 +318,66 @@ static uint8_t performed(const struct call *c)
     return returned;
 }
 
+/* Pages that may only be read. A write to one is noted, and then goes on. */
+
+static int pages_written;
+
+static void let_tables(int rights)
+{
+    for (int i = 0; i < TABLES; i++)
+        if (mprotect(memory[i], room[i], rights) != 0)
+            abort();
+}
+
+static void on_write(int number, siginfo_t *told, void *context)
+{
+    (void)number;
+    (void)context;
+    uint8_t *place = told->si_addr;
+    for (int i = 0; i < TABLES; i++)
+        if (memory[i] <= place && place < memory[i] + room[i]) {
+            pages_written++;
+            let_tables(PROT_READ | PROT_WRITE);
+            return;
+        }
+    signal(SIGSEGV, SIG_DFL);
+}
+
+static void watch_writes(void)
+{
+    static uint8_t other[1 << 16];
+    stack_t aside = {.ss_sp = other, .ss_size = sizeof other};
+    struct sigaction action = {.sa_sigaction = on_write, .sa_flags = SA_SIGINFO | SA_ONSTACK};
+    if (sigaltstack(&aside, NULL) != 0 || sigaction(SIGSEGV, &action, NULL) != 0) {
+        perror("host");
+        exit(2);
+    }
+}
+
+/* Does the call write to no table: is it refused or a try, has no step run, is nothing freed? */
+static int is_reading(const struct call *c, uint8_t number, const uint32_t six[])
+{
+    uint32_t kind = six[TARIFF_CELL_KIND];
+    if (number != 0 || c->name == TRY_DEFINE || c->name == TRY_RECORD)
+        return 1;
+    if (kind == TARIFF_STEPPED || (kind == TARIFF_RAN_FOR && six[TARIFF_CELL_STEPS] == 0))
+        return six[TARIFF_CELL_WORD] != 0 || six[TARIFF_CELL_ONE] == TARIFF_IDLE;
+    return kind == TARIFF_SWEPT && six[TARIFF_CELL_ONE] == 0;
+}
+
+/* The call, on tables that may only be read if it is to write to none. */
+static uint8_t performed_reading(const char *what, const struct call *c, int reading)
+{
+    if (!reading)
+        return performed(c);
+    pages_written = 0;
+    let_tables(PROT_READ);
+    uint8_t number = performed(c);
+    let_tables(PROT_READ | PROT_WRITE);
+    check(what, pages_written == 0);
+    return number;
+}
+
 /* The desk's number for the file of a define. */
 static uint8_t desk(struct call c)
 {
@@ -333,8 +395,9 @@ static int unlisted(size_t n)
     return 1;
 }
 
-/* A call's number and six cells. It writes those cells of the answer table that there is room for, and if it is refused nothing else. The
-   desk says of a define's file, if define looked at it, what define said. Of a list only the rows of a clash are written. */
+/* A call's number and six cells. It writes those cells of the answer table that there is room for, and if it is refused or idle nothing else, not
+   even a value that is there. The desk says of a define's file, if define looked at it, what define said. Of a list only the rows of a clash are
+   written. */
 static void expect(const char *what, struct call c, uint8_t number, const uint32_t six[])
 {
     static uint8_t cell[2 * PAGE];
@@ -343,7 +406,7 @@ static void expect(const char *what, struct call c, uint8_t number, const uint32
     memset(memory[LIST], 0xEE, room[LIST]);
     memset(cell, 0xEE, sizeof cell);
     memcpy(cell + room[ANSWER] - length[ANSWER] * 4, six, (length[ANSWER] < 6 ? length[ANSWER] : 6) * 4);
-    check(what, performed(&c) == number);
+    check(what, performed_reading(what, &c, is_reading(&c, number, six)) == number);
     check(what, memcmp(cell, memory[ANSWER], room[ANSWER]) == 0);
     if (number != 0)
         check(what, same(&before));

@@ -10,6 +10,7 @@ wrong=0
 tools=${CARGO_TARGET_DIR:-$PWD/tools/target}
 work=$(mktemp -d)
 trap 'rm -rf "$work"' EXIT
+export TMPDIR=$work
 
 fail() { # WORDS
     echo "java: $*"
@@ -102,7 +103,8 @@ usage() {
         [ "$status" -eq 2 ] || fail "./box $words ends with $status"
     done
     status=0
-    PATH=$work JAVA_HOME='' "$tools/host/release/writer" java examples/java/Plan.java >"$work/out" 2>&1 || status=$?
+    mkdir "$work/nothing"
+    PATH=$work/nothing JAVA_HOME='' "$tools/host/release/writer" java examples/java/Plan.java >"$work/out" 2>&1 || status=$?
     { [ "$status" -eq 1 ] && grep -q "install a JDK, as by: sudo apt-get install default-jdk-headless" "$work/out"; } || fail "nothing is said where there is no javac"
 }
 

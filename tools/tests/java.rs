@@ -11,6 +11,7 @@ use std::fs;
 use std::io::Write;
 use std::path::{Path, PathBuf};
 use std::process::{Command, Stdio};
+use std::sync::OnceLock;
 
 use reference::answer::word;
 use reference::gen::rng::Rng;
@@ -52,7 +53,7 @@ fn javac(files: &[PathBuf], into: &Path, list: &Path) {
 }
 
 /// What HotSpot makes of each run, one after the other.
-fn on_hotspot(cases: &[Case], classes: &Path) -> Vec<String> {
+fn on_hotspot(cases: &[Case]) -> Vec<String> {
     let mut plan = String::new();
     for case in cases {
         plan.push_str("fresh\n");
@@ -66,7 +67,7 @@ fn on_hotspot(cases: &[Case], classes: &Path) -> Vec<String> {
             plan.push_str(&format!("run {loader} {class} {method} {int}\n"));
         }
     }
-    let mut java = Command::new("java").args(["-XX:TieredStopAtLevel=1", "-XX:+UseSerialGC", "-Xshare:auto", "-cp"]).arg(classes).arg("Runner")
+    let mut java = Command::new("java").args(["-XX:TieredStopAtLevel=1", "-XX:+UseSerialGC", "-Xshare:auto", "-cp"]).arg(compiled().0).arg("Runner")
         .stdin(Stdio::piped()).stdout(Stdio::piped()).spawn().expect("java");
     let mut input = java.stdin.take().expect("its input");
     let write = std::thread::spawn(move || input.write_all(plan.as_bytes()));
@@ -216,9 +217,9 @@ fn boxscript() -> Option<PathBuf> {
 }
 
 /// Runs all cases on both sides. Those that are refused must be few, and refused for a limit.
-fn on_both(cases: Vec<Case>, classes: &Path, scripts: usize) -> Tally {
+fn on_both(cases: Vec<Case>, scripts: usize) -> Tally {
     let mut tally = Tally::default();
-    let hotspot = on_hotspot(&cases, classes);
+    let hotspot = on_hotspot(&cases);
     assert_eq!(hotspot.len(), cases.iter().map(|case| case.runs.len()).sum::<usize>());
     let mut answers = &hotspot[..];
     let boxscript = boxscript();
@@ -244,9 +245,11 @@ fn on_both(cases: Vec<Case>, classes: &Path, scripts: usize) -> Tally {
 /// The ints that the programs written by hand are run with.
 const INTS: [i32; 14] = [i32::MIN, -100_000, -7, -1, 0, 1, 2, 3, 7, 12, 25, 60, 1_000_003, i32::MAX];
 
-/// The class files of a folder, superclasses first.
-fn in_order(folder: &Path) -> Vec<(String, PathBuf)> {
-    let mut left: Vec<_> = class_files(folder).expect("class files").into_iter().map(|path| (ClassFile::read(&fs::read(&path).expect("a file")).expect("a class"), path)).collect();
+/// The class files of a folder that come from this Java file, superclasses first.
+fn in_order(folder: &Path, source: &str) -> Vec<(String, PathBuf)> {
+    let read = |path: PathBuf| (ClassFile::read(&fs::read(&path).expect("a file")).expect("a class"), path);
+    let mut left: Vec<_> = class_files(folder).expect("class files").into_iter().map(read).collect();
+    left.retain(|(class, _)| class.source.as_deref() == Some(source));
     let mut all: Vec<(String, PathBuf)> = Vec::new();
     while !left.is_empty() {
         let is_ready = |class: &ClassFile| class.superclass.as_ref().is_none_or(|name| !left.iter().any(|other| other.0.name == *name));
@@ -257,26 +260,35 @@ fn in_order(folder: &Path) -> Vec<(String, PathBuf)> {
     all
 }
 
+/// The folder with the compiled runner and the compiled programs that are written by hand.
+fn compiled() -> (&'static Path, Vec<PathBuf>) {
+    static FOLDER: OnceLock<Folder> = OnceLock::new();
+    let entries = fs::read_dir(here().join("programs")).expect("programs");
+    let mut programs: Vec<PathBuf> = entries.map(|entry| entry.expect("a program").path()).collect();
+    programs.sort();
+    let folder = FOLDER.get_or_init(|| {
+        let folder = Folder::new().expect("a folder");
+        let files = [&programs[..], &[here().join("Runner.java")]].concat();
+        javac(&files, folder.path(), &folder.path().join("list"));
+        folder
+    });
+    (folder.path(), programs)
+}
+
 /// Programs written by hand, each by itself: the class of the file's name, from int to int.
 #[test]
 fn by_hand() {
-    let folder = Folder::new().expect("a folder");
-    let runner = folder.path().join("runner");
+    let (folder, programs) = compiled();
     let mut cases = Vec::new();
-    for entry in fs::read_dir(here().join("programs")).expect("programs") {
-        let file = entry.expect("a program").path();
+    for file in programs {
         let name = file.file_stem().expect("a name").to_string_lossy().into_owned();
-        let classes = folder.path().join(&name);
-        fs::create_dir(&classes).expect("a folder");
-        javac(&[file], &classes, &folder.path().join("list"));
-        let defines = in_order(&classes).into_iter().map(|(name, path)| (1, name, path)).collect();
+        let defines = in_order(folder, &format!("{name}.java")).into_iter().map(|(name, path)| (1, name, path)).collect();
         let runs = INTS.map(|int| (1, name.clone(), "of".to_string(), int)).to_vec();
         cases.push(Case { said: name, defines, records: Vec::new(), runs });
     }
-    fs::create_dir(&runner).expect("a folder");
-    javac(&[here().join("Runner.java")], &runner, &folder.path().join("list"));
     let count = cases.len();
-    let tally = on_both(cases, &runner, usize::MAX);
+    let tally = on_both(cases, usize::MAX);
+    println!("by hand: {tally:?}");
     assert!(tally.taken == count && count >= 12 && tally.refused == 0 && tally.skipped == 0, "{tally:?}");
 }
 
@@ -308,10 +320,8 @@ fn two_insurers() {
         records: vec![to(3, "Tariff")],
         runs: vec![run(3, "SmithTariff")],
     };
-    fs::create_dir(at("runner")).expect("a folder");
-    javac(&[here().join("Runner.java")], &at("runner"), &at("list"));
-    assert_eq!(on_hotspot(&[smith], &at("runner")), ["clash"]);
-    let tally = on_both(vec![brown], &at("runner"), 1);
+    assert_eq!(on_hotspot(&[smith]), ["clash"]);
+    let tally = on_both(vec![brown], 1);
     assert_eq!((tally.compared, tally.taken), (2, 1), "{tally:?}");
 }
 
@@ -337,12 +347,9 @@ fn taken_or_refused(bytes: &[u8], said: &str) -> bool {
 #[test]
 fn of_the_jdk() {
     let folder = Folder::new().expect("a folder");
-    let (runner, dumped) = (folder.path().join("runner"), folder.path().join("jdk"));
-    [&runner, &dumped].iter().for_each(|path| fs::create_dir(path).expect("a folder"));
-    javac(&[here().join("Runner.java")], &runner, &folder.path().join("list"));
-    let status = Command::new("java").arg("-cp").arg(&runner).arg("Runner").arg(&dumped).arg("40").status().expect("java");
+    let status = Command::new("java").arg("-cp").arg(compiled().0).arg("Runner").arg(folder.path()).arg("40").status().expect("java");
     assert!(status.success());
-    let files = class_files(&dumped).expect("class files");
+    let files = class_files(folder.path()).expect("class files");
     let taken = files.iter().filter(|path| taken_or_refused(&fs::read(path).expect("a file"), &path.display().to_string())).count();
     println!("{} classes of the JDK, {taken} of them taken", files.len());
     assert!(files.len() >= 100);
@@ -351,10 +358,7 @@ fn of_the_jdk() {
 /// Class files with bytes changed, left out or doubled: any of them may come.
 #[test]
 fn damaged() {
-    let folder = Folder::new().expect("a folder");
-    let files: Vec<PathBuf> = fs::read_dir(here().join("programs")).expect("programs").map(|entry| entry.expect("a program").path()).collect();
-    javac(&files, folder.path(), &folder.path().join("list"));
-    let classes: Vec<Vec<u8>> = class_files(folder.path()).expect("class files").iter().map(|path| fs::read(path).expect("a file")).collect();
+    let classes: Vec<Vec<u8>> = class_files(compiled().0).expect("class files").iter().map(|path| fs::read(path).expect("a file")).collect();
     let mut rng = Rng::new(number("JAVA_SEED").unwrap_or(1));
     let mut taken = 0;
     let count = number("JAVA_DAMAGED").unwrap_or(4_000);
@@ -386,7 +390,7 @@ fn damaged() {
 fn drawn() {
     let folder = Folder::new().expect("a folder");
     let (count, seed) = (number("JAVA_PROGRAMS").unwrap_or(200), number("JAVA_SEED").unwrap_or(1));
-    let (mut files, mut cases, mut text) = (vec![here().join("Runner.java")], Vec::new(), String::new());
+    let (mut files, mut cases, mut text) = (Vec::new(), Vec::new(), String::new());
     let classes = folder.path().join("classes");
     fs::create_dir(&classes).expect("a folder");
     for place in 0..count {
@@ -414,12 +418,9 @@ fn drawn() {
             fs::write(files.last().expect("a file"), std::mem::take(&mut text)).expect("a file");
         }
     }
-    if std::env::var_os("JAVA_KEEP").is_some() {
-        files.iter().for_each(|file| drop(fs::copy(file, Path::new("/tmp").join(file.file_name().expect("a name")))));
-    }
     javac(&files, &classes, &folder.path().join("list"));
-    let tally = on_both(cases, &classes, number("JAVA_SCRIPTS").unwrap_or(200) as usize);
-    println!("{tally:?}");
+    let tally = on_both(cases, number("JAVA_SCRIPTS").unwrap_or(200) as usize);
+    println!("drawn: {tally:?}");
     assert!(tally.refused * 10 <= tally.taken && tally.skipped * 10 <= tally.compared, "{tally:?}");
     assert!(tally.taken as u64 >= count - count / 10, "{tally:?}");
 }

@@ -36,7 +36,7 @@ pub(crate) struct Before {
     pub(crate) subtypes: u16,
 }
 
-// Ties posted: their rows and their count. Answers how many rows there were.
+// Ties posted: their rows and their count. Where there are none nothing is written, so a refused step writes nothing. Answers how many rows there were.
 pub(crate) fn post_ties(counts: &mut [u16], ties: &mut [u16], posting: Posting) -> Before
     requires { ⌜ getD (now counts) countTies 0 + length (toPost posting) ≤ tieLimit ⌝ }
     ensures counted { λ _. ⌜ now (counts .exit) ≡ set (now (counts .entry)) countTies (getD (now (counts .entry)) countTies 0 + length (toPost posting)) ⌝ }
@@ -45,8 +45,12 @@ pub(crate) fn post_ties(counts: &mut [u16], ties: &mut [u16], posting: Posting) 
 {
     let n = cells::at16(counts, COUNT_TIES);
     let subtypes = cells::at16(counts, COUNT_SUBTYPES);
+    let k = posting::tie_number(posting);
+    if k == 0 {
+        return Before { ties: n, subtypes };
+    }
     posting::write_ties(ties, n, posting);
-    cells::put16(counts, COUNT_TIES, n + posting::tie_number(posting));
+    cells::put16(counts, COUNT_TIES, n + k);
     Before { ties: n, subtypes }
 }
 

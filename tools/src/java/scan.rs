@@ -141,7 +141,7 @@ impl Scan<'_, '_> {
             let of = types::field(&field.descriptor);
             let word = of.as_ref().map_or(String::new(), JavaType::said);
             let word = word.split('[').next().unwrap_or("").to_string();
-            let line = self.report.line_with(&[&word, &field.name]);
+            let line = self.report.line_with(&[&word, &field.name]).or(line);
             count += usize::from(!field.is(flag::STATIC));
             if let Some(construct) = self.field(field, of) {
                 self.report.refuse(line, &format!("the field {}", field.name), construct);

@@ -21,8 +21,7 @@ class Spare {
         int e = a + b;
         int g = c + d;
         int h = e + g;
-        int sum = two(a + b, c) > two(c, d) ? a : b;
-        return sum + e + g + h + c + d;
+        return (two(a + b, c) > two(c, d) ? a : b) + e + g + h + c + d;
     }
 
     int two(int x, int y) { return x; }
