@@ -26,7 +26,7 @@ use crate::gen::shares::{shared, shares};
 use crate::gen::stuck::stuck;
 use crate::gen::swept::swept;
 use crate::gen::taken::{taken_back, taking};
-use crate::gen::{cases, counts, javas, large, listed, mapped, passed, Call, Trial, CALLS};
+use crate::gen::{cases, counts, javas, large, listed, mapped, passed, traces, Call, Trial, CALLS};
 use crate::host::{self, expected, CELLS};
 use crate::placed::misplaced;
 use crate::sharing::keeps_room;
@@ -248,6 +248,9 @@ impl Comparison {
         }
         for (what, store, load, _) in clashes::choices() {
             self.call(&store, &load, CELLS, what);
+        }
+        for (what, store, _) in traces::cases() {
+            [Call::TakeBack, Call::Step, Call::Sweep].iter().for_each(|call| drop(self.call(&store, call, CELLS, what)));
         }
         self.large();
     }

@@ -1,10 +1,10 @@
 //! Loads taken back: what every table reads then, how many are remembered, what closes, and which traces are broken.
 
 use reference::gen::build::{Code, Draft};
-use reference::gen::cases::{f, ready, subtype, tie, MAIN};
+use reference::gen::cases::{ready, MAIN};
 use reference::gen::damage::damaged;
 use reference::gen::taken::{an_override, between, closing, five_back, forty, in_the_way, records, taken_back, taking, wanting};
-use reference::gen::traces::{closed, has_wrong_trace, wrongs_in_turn, WRONGS};
+use reference::gen::traces::{self, closed, has_wrong_trace, wrongs_in_turn, WRONGS};
 use reference::gen::{Call, Trial};
 use reference::store::{count, Store, LENGTHS, MOST_LOADS, MOST_OBJECTS, ROW};
 use reference::{broken, Answer, Refusal, Reply};
@@ -112,89 +112,18 @@ fn runs() {
     assert_eq!(trial.take_back(), Reply::Accepted);
 }
 
-/// Is a store with these levels, the oldest first, broken?
-fn check(store: &Store, levels: &[[u16; 5]], expected: bool, what: &str) {
-    let mut store = store.clone();
-    store.set_levels(levels);
-    assert_eq!(broken(&store), expected, "{what}: {levels:?}");
-}
-
+/// Traces by hand, and what stands past their counts.
 #[test]
 fn broken_traces() {
-    let mut trial = ready();
-    trial.define(1, &f());
-    trial.define(1, &Draft::new(11).under(10));
-    trial.define(1, &Draft::new(12));
-    let levels = trial.store.levels();
-    let size = trial.store.counts[count::KEPT];
-    let store = closed(&trial.store);
-    let now = store.level();
-    let [.., before_f, before_11, before_12] = levels[..] else {
-        panic!("six loads")
-    };
-    check(&store, &levels, false, "as it is");
-    check(&store, &[now], false, "takes nothing");
-    check(&store, &[before_f], false, "takes three classes");
-    check(&store, &[before_f, before_11, before_12, now], false, "in turn");
-    check(&store, &[before_12, before_11], true, "more rows than are there at that turn");
-    check(&store, &[before_11, before_11, before_11], false, "nothing between");
-    check(&store, &[[0, 0, 0, 0, 0]], false, "takes all");
-    check(&store, &[[1, 0, 0, 0, 0]], false, "takes all but Object, which needs no entry");
-    check(&store, &[[now[0], size, now[2], 0, 0], [now[0], size + 1, now[2], 0, 0]], true, "kept bytes that aren't there");
-    let with = |at: usize, value: u16| {
-        let mut level = before_12;
-        level[at] = value;
-        [level]
-    };
-    check(&store, &with(0, before_11[0]), true, "the entry stays and the class goes");
-    check(&store, &with(0, now[0]), true, "the class stays and its file goes");
-    check(&store, &with(1, size), false, "bytes stay that no class has");
-    check(&store, &with(1, before_12[1] - 1), true, "a file is cut");
-    check(&store, &with(2, before_11[2]), false, "the entry goes and the class stays");
-    check(&store, &with(2, before_f[2]), true, "the entry of a superclass goes");
-    check(&store, &with(3, 1), true, "a tie that isn't there");
-    check(&store, &with(4, u16::MAX), true, "far more than are there");
-    check(&store, &with(0, 65), true, "past the limit");
-    check(&store, &[now; MOST_LOADS], false, "32 loads");
-    let mut many = store.clone();
-    many.set_levels(&[now; MOST_LOADS]);
-    many.counts[count::LOADS] = 33;
-    assert!(broken(&many), "33 loads");
-    assert!(!broken(&closed(&many)), "what stands past the count says nothing");
+    let cases = traces::cases();
+    assert!(cases.iter().filter(|case| case.2).count() > 10 && cases.iter().filter(|case| !case.2).count() > 10);
+    for (what, store, is_broken) in cases {
+        assert_eq!(broken(&store), is_broken, "{what}: {:?}", store.levels());
+        assert!(!broken(&closed(&store)), "{what}: what stands past the count says nothing");
+    }
     let mut zeros = Store::zeros();
-    check(&zeros, &[[0; 5]; 3], false, "no rows at all");
     zeros.set_levels(&[[0; 5]; 3]);
     assert_eq!([(); 4].map(|_| reference::take_back(&mut zeros).refusal().map_or(0, Refusal::number)), [0, 0, 0, 19]);
-}
-
-/// An object's class can't go, dead or not, until a sweep; and numbers must count from 0 on when they are cut.
-#[test]
-fn objects_and_numbers() {
-    let mut trial = ready();
-    trial.define(1, &f());
-    let before = trial.store.level();
-    trial.define(1, &Draft::new(11).under(10));
-    trial.start(1, 1, 11, MAIN, 0);
-    trial.drop_task(1);
-    check(&trial.store, &[before], true, "a dead object's class");
-    trial.sweep();
-    check(&trial.store, &[before], false, "after a sweep");
-    trial.start(1, 1, 10, MAIN, 0);
-    check(&trial.store, &[before], false, "another class's object");
-    let mut frames = trial.store.clone();
-    frames.frames[32 * 52] = 2;
-    check(&frames, &[before], true, "a frame's class");
-
-    let mut trial = ready();
-    tie(&mut trial, 1, 2, 12);
-    subtype(&mut trial, 1, 13, 12);
-    tie(&mut trial, 2, 3, 12);
-    let store = closed(&trial.store);
-    assert_eq!((store.tie_numbers(), store.subtype_numbers()), (&[0, 2][..], &[1][..]));
-    let now = store.level();
-    for (ties, subtypes, is_broken) in [(2, 1, false), (1, 1, false), (1, 0, false), (0, 0, false), (2, 0, true), (0, 1, true)] {
-        check(&store, &[[now[0], now[1], now[2], ties, subtypes]], is_broken, "numbers");
-    }
 }
 
 /// Taking back what nobody loaded does just that, and what is wrong about a trace is one of six things.

@@ -1,8 +1,97 @@
 //! Damage to the trace of loads: levels that nobody wrote, right and wrong.
 
+use super::build::Draft;
+use super::cases::{f, ready, subtype, tie, MAIN};
 use super::damage::{constraints, is_whole};
 use super::rng::Rng;
 use crate::store::{cell, count, frame_base, Level, Store, FRAME_ROW, LENGTHS, LIMITS, MOST_LOADS, ROW, TASKS};
+
+/// Stores with traces by hand: what it is, the store, and whether it is broken.
+pub type Case = (&'static str, Store, bool);
+
+/// The store with these levels, the oldest first.
+fn with(store: &Store, levels: &[Level]) -> Store {
+    let mut copy = store.clone();
+    copy.set_levels(levels);
+    copy
+}
+
+/// Three classes of loader 1, the second below the first.
+fn classes() -> Vec<Case> {
+    let mut trial = ready();
+    trial.define(1, &f());
+    trial.define(1, &Draft::new(11).under(10));
+    trial.define(1, &Draft::new(12));
+    let (levels, store) = (trial.store.levels(), closed(&trial.store));
+    let (now, size) = (store.level(), store.counts[count::KEPT]);
+    let [before_f, before_11, before_12] = [3, 4, 5].map(|load| levels[load]);
+    let off = |at: usize, value: u16| {
+        let mut level = before_12;
+        level[at] = value;
+        with(&store, &[level])
+    };
+    let mut many = with(&store, &[now; MOST_LOADS]);
+    many.counts[count::LOADS] += 1;
+    vec![
+        ("as it is", with(&store, &levels), false),
+        ("takes nothing", with(&store, &[now]), false),
+        ("takes three classes", with(&store, &[before_f]), false),
+        ("in turn", with(&store, &[before_f, before_11, before_12, now]), false),
+        ("more rows than are there at that turn", with(&store, &[before_12, before_11]), true),
+        ("nothing between", with(&store, &[before_11; 3]), false),
+        ("takes all", with(&store, &[[0; 5]]), false),
+        ("takes all but Object, which needs no entry", with(&store, &[[1, 0, 0, 0, 0]]), false),
+        ("kept bytes that aren't there", with(&store, &[[now[0], size + 1, now[2], 0, 0]]), true),
+        ("the entry stays and the class goes", off(0, before_11[0]), true),
+        ("the class stays and its file goes", off(0, now[0]), true),
+        ("bytes stay that no class has", off(1, size), false),
+        ("a file is cut", off(1, before_12[1] - 1), true),
+        ("the entry goes and the class stays", off(2, before_11[2]), false),
+        ("the entry of a superclass goes", off(2, before_f[2]), true),
+        ("the entry of a superclass goes at last", with(&store, &[[before_12[0], before_12[1], 0, 0, 0], before_12, now]), true),
+        ("a tie that isn't there", off(3, 1), true),
+        ("far more than are there", off(4, u16::MAX), true),
+        ("past the limit", off(0, 65), true),
+        ("32 loads", with(&store, &[now; MOST_LOADS]), false),
+        ("33 loads", many, true),
+    ]
+}
+
+/// An object's class can't go, dead or not, until a sweep; nor a frame's.
+fn objects() -> Vec<Case> {
+    let mut trial = ready();
+    trial.define(1, &f());
+    let before = trial.store.level();
+    trial.define(1, &Draft::new(11).under(10));
+    trial.start(1, 1, 11, MAIN, 0);
+    trial.drop_task(1);
+    let dead = with(&trial.store, &[before]);
+    trial.sweep();
+    let swept = with(&trial.store, &[before]);
+    trial.start(1, 1, 10, MAIN, 0);
+    let other = with(&trial.store, &[before]);
+    let mut frame = other.clone();
+    frame.frames[frame_base(1, 0) + cell::CLASS] = 2;
+    vec![
+        ("a dead object's class", dead, true), ("after a sweep", swept, false), ("another class's object", other, false), ("a frame's class", frame, true),
+    ]
+}
+
+/// Ties 0 and 2 and subtype constraint 1: what is left must be numbered from 0 on.
+fn numbers() -> Vec<Case> {
+    let mut trial = ready();
+    tie(&mut trial, 1, 2, 12);
+    subtype(&mut trial, 1, 13, 12);
+    tie(&mut trial, 2, 3, 12);
+    let store = closed(&trial.store);
+    let [n, k, e, ..] = store.level();
+    let left = [(2, 1, false), (1, 1, false), (1, 0, false), (0, 0, false), (2, 0, true), (0, 1, true)];
+    left.map(|(ties, subtypes, is_broken)| ("numbers that are cut", with(&store, &[[n, k, e, ties, subtypes]]), is_broken)).into()
+}
+
+pub fn cases() -> Vec<Case> {
+    [classes(), objects(), numbers(), vec![("no rows at all", with(&Store::zeros(), &[[0; 5]; 3]), false)]].concat()
+}
 
 /// A copy of the store without a load to be taken back.
 pub fn closed(store: &Store) -> Store {
