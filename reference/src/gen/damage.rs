@@ -19,12 +19,12 @@ use crate::store::{cell, count, frame_base, Store};
 use crate::store::{FIELDS, FRAME_ROW, INT, LENGTHS, LIMITS, OBJECT, OBJECT_ROW, MOST_LOADS, REPORT, ROW, SHARE, TASKS};
 
 /// Kinds of damage, each a way to change a good store.
-const KINDS: [fn(&mut Rng, &mut Store); 41] = [
+const KINDS: [fn(&mut Rng, &mut Store); 42] = [
     any_cells, a_count, uniform_table, wrong_length, second_cache_row, overlapping_files, superclass_not_lower,
     code_bytes, kept_byte, top_frame, operand_count, a_value, constraints, full_frames, uniform_store, file_place,
     nested_file, full_rows, many_fields, many_fields, hidden_fields, hidden_fields, many_classes, report_past_its_code, an_owner, free_rows,
     unused_number, links, many_objects, unseen_jumps, unseen_jumps, unseen_jumps, other_version, map_bytes,
-    unseen_rates, unseen_calls, a_share, a_share, a_trace, a_trace, a_trace,
+    unseen_rates, unseen_calls, a_share, a_share, a_trace, a_trace, a_trace, a_trace,
 ];
 
 /// What a damaged store may have, and the test for it.

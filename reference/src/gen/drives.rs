@@ -98,8 +98,8 @@ fn no_call(rng: &mut Rng) -> [u32; ROW] {
     }
 }
 
-/// A list of calls of every kind, a product, a quotient by 0, a hidden field, and a load that is accepted and one that clashes tried among them; from further boots,
-/// methods with 0 to 4 arguments, an inline count of 5, an override and a call that tie each argument; then a row that has no call, then one that is not reached.
+/// A list of calls of every kind, a product, a quotient by 0, a hidden field, and a load that is accepted and one that clashes tried among them; from further boots, a
+/// load that is taken back, methods with 0 to 4 arguments, an inline count of 5, an override and a call that tie each argument; then a row that has no call, then one that is not reached.
 pub fn fixed() -> Vec<u8> {
     let mut trial = cases::across(&cases::caller(), true, false);
     trial.run(3);
@@ -135,7 +135,7 @@ pub fn fixed() -> Vec<u8> {
         calls.extend([512, 511, u32::MAX, 0].into_iter().filter_map(|cells| load.tried(cells as usize)));
         calls.push(load);
     }
-    calls.extend([Call::Boot, Call::Step]);
+    calls.extend([Call::Boot, Call::Record { loader: 1, name: 2, class: 0 }, Call::Step, Call::TakeBack, Call::TakeBack]);
     let mut numbers = listed::numbers();
     let code = Code::listed().aload(0).call(18, 21, &[INT; 5], INT).ireturn();
     numbers.define(1, &Draft::listed(18).main(MAIN, &code));
@@ -153,7 +153,7 @@ pub fn fixed() -> Vec<u8> {
 pub fn drive(seed: u64) -> Vec<u8> {
     let mut rng = Rng::new(seed ^ 0x64_72_69_76);
     let length = rng.within(5, 90);
-    let trial = match rng.weighted(&[4, 2, 4, 2, 2]) {
+    let trial = match rng.weighted(&[4, 2, 14, 2, 2]) {
         0 => list(seed, length),
         1 => graphs(seed, length),
         2 => chains(seed, length / 2),

@@ -184,16 +184,17 @@ fn spoil(rng: &mut Rng, store: &mut Store) {
     let at = count::LEVELS + 5 * rng.below(levels);
     let superclass = some_superclass_row(rng, store, store.counts[at]);
     let cell = &mut store.counts[at + rng.weighted(&[3, 2, 3, 2, 2])];
-    match rng.below(15) {
-        10 | 11 => store.counts[at + count::CACHE] = superclass.unwrap_or(0),
-        12..=14 => {
-            let (which, rows) = rng.pick(&[(count::TIES, store.counts[count::TIES]), (count::SUBTYPES, store.counts[count::SUBTYPES])]);
-            store.counts[at + which] = rng.within(0, rows.into()) as u16;
-        }
+    match rng.below(19) {
         0..=3 => *cell = cell.saturating_sub(1),
         4..=6 => *cell = cell.saturating_add(1),
         7 => *cell = rng.pick(&[0, 1, 255, 256, u16::MAX]),
         8 => store.counts[count::LOADS] = rng.pick(&[MOST_LOADS as u16 + 1, 33, 64, u16::MAX]),
+        9 | 10 => store.counts[at + count::CACHE] = superclass.unwrap_or(0),
+        11..=13 => store.counts[at] = store.counts[at].saturating_sub(1),
+        14..=17 => {
+            let (which, rows) = rng.pick(&[(count::TIES, store.counts[count::TIES]), (count::SUBTYPES, store.counts[count::SUBTYPES])]);
+            store.counts[at + which] = rng.within(0, rows.into()) as u16;
+        }
         _ => {
             let other = count::LEVELS + 5 * rng.below(levels);
             (0..5).for_each(|cell| store.counts.swap(at + cell, other + cell));
@@ -203,7 +204,11 @@ fn spoil(rng: &mut Rng, store: &mut Store) {
 
 /// The cache row of the superclass of some class below this one.
 fn some_superclass_row(rng: &mut Rng, store: &Store, classes: u16) -> Option<u16> {
-    let class = rng.within(1, usize::from(classes.clamp(2, store.counts[count::CLASSES].max(2))) - 1) as u16;
+    let classes = usize::from(classes.min(store.counts[count::CLASSES]));
+    if classes < 2 {
+        return None;
+    }
+    let class = rng.within(1, classes - 1) as u16;
     let request = (store.loader_of(class), store.file(class)?.superclass());
     store.cache_rows().position(|row| (row[0], row[1]) == request).map(|row| row as u16)
 }
