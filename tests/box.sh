@@ -24,9 +24,9 @@ cp "$tree/bin/cargo" "$tree/bin/rustc"
 chmod +x "$tree/bin/"*
 export RT_PIDS=$work/pids
 
-# a test that runs in the background may have been started with interrupts ignored
+# a test that runs in the background may have been started with signals ignored
 heeding=(env)
-if env --default-signal=INT true 2>/dev/null; then heeding=(env --default-signal=INT); fi
+if env --default-signal=INT,HUP,TERM true 2>/dev/null; then heeding=(env --default-signal=INT,HUP,TERM); fi
 
 alive() { # are there provers that were started?
     local pid

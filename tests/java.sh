@@ -56,7 +56,7 @@ lessons() {
     done
     [ "$count" -ge 4 ] || fail "there are only $count lessons in Java"
     ./box list examples/java/age-bands.lesson >"$work/out"
-    grep -q "^        # Premium.java:12  if (age < 18) {$" "$work/out" || fail "a lesson's listing has no Java lines"
+    grep -q "^        # Premium.java:11  if (age < 18) {$" "$work/out" || fail "a lesson's listing has no Java lines"
 }
 
 # The class and the lesson that docs/JAVA.md prints, from nothing to a quote.

@@ -207,7 +207,7 @@ mod tests {
         for int in near.chain(spread) {
             let (made, bytes) = value(int);
             assert_eq!(made, int);
-            assert!(bytes <= 19, "{int} takes {bytes} bytes");
+            assert!(bytes <= 21, "{int} takes {bytes} bytes");
         }
     }
 }
