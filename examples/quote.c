@@ -11,15 +11,12 @@ static const uint8_t file[] = {0x01, 0x00, 0x11, 0x00, 0x0A, 0x00, 0x02, 0x00, 0
 static struct tariff_store store;
 static uint32_t answer[TARIFF_ANSWER];
 
-static const char *const words[] = {"accepted", "broken", "file", "unknown", "taken", "wanted", "unverified", "absent",
-                                    "hidden", "clash", "full", "null", "busy", "misnamed", "stuck"};
-
 /* Ends the program where a call was refused, or answered something else than its kind. */
 static void expect(const char *call, uint8_t number, uint32_t kind)
 {
     if (number == 0 && answer[TARIFF_CELL_KIND] == kind)
         return;
-    printf("%s: %s", call, words[number]);
+    printf("%s: %s", call, tariff_word_name(number));
     if (number == TARIFF_WANTED)
         printf(", class %u under loader %u", answer[TARIFF_CELL_TWO], answer[TARIFF_CELL_ONE]);
     printf("\n");
@@ -43,7 +40,7 @@ int main(void)
     expect("run", tariff_run(TARIFF_LEND(&store), 1000, answer, TARIFF_ANSWER), TARIFF_RAN_FOR);
     printf("Steps that ran: %u.\n", answer[TARIFF_CELL_STEPS]);
     if (answer[TARIFF_CELL_WORD] != 0) {
-        printf("The next was refused: %s.\n", words[answer[TARIFF_CELL_WORD]]);
+        printf("The next was refused: %s.\n", tariff_word_name(answer[TARIFF_CELL_WORD]));
         return 1;
     }
     if (answer[TARIFF_CELL_ONE] != TARIFF_FINISHED) {

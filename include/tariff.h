@@ -13,6 +13,17 @@
 #include <stddef.h>
 #include <stdint.h>
 
+/* The version: how many change papers the machine has taken up, the number of the store's layout (docs/STORE.md, 'Layouts'), and the
+   toolchain that proved it. A store that was saved under another layout is no store of this machine. */
+#define TARIFF_PAPERS 9
+#define TARIFF_LAYOUT 3
+#define TARIFF_TOOLCHAIN "rattle-kit-5b-plain logic 097e4c862dff5811"
+
+#define TARIFF_TEXT_(number) #number
+#define TARIFF_TEXT(number) TARIFF_TEXT_(number)
+/* As `box --version` prints it. */
+#define TARIFF_VERSION "tariff " TARIFF_TEXT(TARIFF_PAPERS) ", layout " TARIFF_TEXT(TARIFF_LAYOUT) ", proved by " TARIFF_TOOLCHAIN
+
 #ifdef __cplusplus
 extern "C" {
 #endif
@@ -102,7 +113,57 @@ enum tariff_word {
     TARIFF_TOO_LATE = 19    /* take back: no load is left that can be taken back */
 };
 
+/* A word of refusal in words, for any number: 0 is "accepted", and a number that is no word is "no such word". The names are those of
+   docs/HOST.md, 'Words of refusal'. */
+static inline const char *tariff_word_name(uint32_t word)
+{
+    switch (word) {
+    case 0: return "accepted";
+    case TARIFF_BROKEN: return "broken";
+    case TARIFF_FILE: return "file";
+    case TARIFF_UNKNOWN: return "unknown";
+    case TARIFF_TAKEN: return "taken";
+    case TARIFF_WANTED: return "wanted";
+    case TARIFF_UNVERIFIED: return "unverified";
+    case TARIFF_ABSENT: return "absent";
+    case TARIFF_HIDDEN: return "hidden";
+    case TARIFF_CLASH: return "clash";
+    case TARIFF_FULL: return "full";
+    case TARIFF_NULL: return "null";
+    case TARIFF_BUSY: return "busy";
+    case TARIFF_MISNAMED: return "misnamed";
+    case TARIFF_STUCK: return "stuck";
+    case TARIFF_UNMAPPED: return "unmapped";
+    case TARIFF_SHORT_LIST: return "short list";
+    case TARIFF_ZERO_DIVISOR: return "zero divisor";
+    case TARIFF_SHARE_USED: return "share used";
+    default: return "no such word";
+    }
+}
+
+/* The kind of an answer in words, for any number. */
+static inline const char *tariff_kind_name(uint32_t kind)
+{
+    switch (kind) {
+    case TARIFF_ACCEPTED: return "accepted";
+    case TARIFF_DEFINED: return "defined";
+    case TARIFF_STEPPED: return "stepped";
+    case TARIFF_RAN_FOR: return "ran";
+    case TARIFF_DENIED: return "denied";
+    case TARIFF_SWEPT: return "swept";
+    default: return "no such kind";
+    }
+}
+
+/* Says of boot that it reads and writes none of a table's cells, so that a store may be fresh memory; the argument's place, from 1. */
+#if defined(__GNUC__) && !defined(__clang__) && __GNUC__ >= 11
+#define TARIFF_UNTOUCHED(place) __attribute__((access(none, place)))
+#else
+#define TARIFF_UNTOUCHED(place)
+#endif
+
 /* boot: makes a store of the tables, whatever they held. Class 0 is Object, known to loader 0 alone. Refusal: 1, for the lengths. */
+TARIFF_UNTOUCHED(5) TARIFF_UNTOUCHED(9) TARIFF_UNTOUCHED(11) TARIFF_UNTOUCHED(13) TARIFF_UNTOUCHED(15)
 uint8_t tariff_boot(uint16_t *counts, size_t counts_length, uint16_t *classes, size_t classes_length,
                     const uint8_t *kept, size_t kept_length, uint16_t *cache, size_t cache_length,
                     const uint16_t *ties, size_t ties_length, const uint16_t *subtypes, size_t subtypes_length,
@@ -178,8 +239,9 @@ uint8_t tariff_take_back(uint16_t *counts, size_t counts_length, const uint16_t 
                          uint32_t *answer, size_t answer_length);
 
 /* try define, try record: the load isn't made, and is answered as it would be. No table of the store changes. If it clashes, the first cells
-   of the list get the numbers of the rows, upward, of one chain of constraints that breaks agreement, and TARIFF_CELL_STEPS how many they
-   are; the list past them stays, and on any other answer all of it. Refusals: 1 3 16 2 15 6 4 5 10 9, and 1 3 16 13 4 10 9. */
+   of the list get the numbers of the rows, upward, of the shortest chain of constraints that breaks agreement (of several of one length that
+   with the lower row at the earliest position where they differ, a chain of ties alone being read from either end), and TARIFF_CELL_STEPS how
+   many they are; the list past them stays, and on any other answer all of it. Refusals: 1 3 16 2 15 6 4 5 10 9, and 1 3 16 13 4 10 9. */
 uint8_t tariff_try_define(const uint16_t *counts, size_t counts_length, const uint16_t *classes, size_t classes_length,
                           const uint8_t *kept, size_t kept_length, const uint16_t *cache, size_t cache_length,
                           const uint16_t *ties, size_t ties_length, const uint16_t *subtypes, size_t subtypes_length,

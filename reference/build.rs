@@ -21,5 +21,8 @@ fn main() {
         println!("cargo:rustc-link-lib={library}");
         println!("cargo:rerun-if-changed={directory}/lib{name}.{ending}");
     }
-    println!("cargo:rustc-link-arg=-Wl,-rpath,{directory}");
+    // a shared library is found where it was linked; an archive needs no such path in the program
+    if libraries.contains("dylib=") {
+        println!("cargo:rustc-link-arg=-Wl,-rpath,{directory}");
+    }
 }

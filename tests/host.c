@@ -1,7 +1,7 @@
-/* The calls from C: tables of wrong lengths, damaged stores, every word of refusal on pages that may only be read, numbers at their limits,
-   answer tables of every length, a run beside its steps, objects freed and their numbers used again, the report's share, files of version 2,
-   products and quotients, fields of one name in a class and above it, files of version 3 with 0 to 4 arguments, loads tried on short and
-   long lists, and the chains of those that clash; and the desk beside define. */
+/* The eleven calls from C: tables of wrong lengths, damaged stores, every word of refusal on pages that may only be read, numbers at their
+   limits, answer tables of every length, a run beside its steps, objects freed and their numbers used again, the report's share, files of
+   version 2, products and quotients, fields of one name in a class and above it, files of version 3 with 0 to 4 arguments, loads tried on
+   short and long lists, and the chains of those that clash; and the desk beside define. */
 #define _GNU_SOURCE
 #include "host.h"
 
@@ -664,17 +664,11 @@ static struct call tried(struct call load)
     return load;
 }
 
-/* A try that clashes by exactly these rows, which are upward; a chain of ties alone may be listed from its other end. The store stays. */
-static void clashes(const char *what, struct call load, size_t rows, const uint16_t *row, int ties_alone)
+/* A try that clashes by exactly these rows, in this order. The store stays. */
+static void clashes(const char *what, struct call load, size_t rows, const uint16_t *row)
 {
-    const uint16_t *list = table[LIST];
-    int upward = 1, downward = ties_alone;
     expect(what, tried(load), TARIFF_CLASH, SIX(TARIFF_DENIED, TARIFF_CLASH, 0, 0, 0, (uint32_t)rows));
-    for (size_t i = 0; i < rows; i++) {
-        upward = upward && list[i] == row[i];
-        downward = downward && list[i] == row[rows - 1 - i];
-    }
-    check(what, upward || downward);
+    check(what, memcmp(table[LIST], row, rows * sizeof *row) == 0);
 }
 
 #define ROWS(...) sizeof((uint16_t[]){__VA_ARGS__}) / 2, (uint16_t[]){__VA_ARGS__}
@@ -714,7 +708,7 @@ static void short_list(void)
 
 static void long_list(void)
 {
-    clashes("loader 2's own 12", define(2, 12, 2, 0, 0, 0, NULL), ROWS(0), 1);
+    clashes("loader 2's own 12", define(2, 12, 2, 0, 0, 0, NULL), ROWS(0));
     would("loader 1's 12 under loader 2", record(2, 12, 3), TARIFF_ACCEPTED, 0);
     would("an entry that is there", record(1, 12, 3), TARIFF_ACCEPTED, 0);
     would("another class", define(2, 14, 2, 0, 0, 0, NULL), TARIFF_DEFINED, 4);
@@ -738,10 +732,10 @@ static void mixed_chains(void)
     tied();
     defines("14 below 12", define(2, 15, 2, 0, 1, BELOW(14, 12)), 4);
     check("the second row is row 1", ((uint16_t *)table[0])[SUBTYPE_NUMBERS] == 1);
-    clashes("upward, then across", define(2, 14, 2, 0, 0, 0, NULL), ROWS(1, 0), 0);
-    clashes("its own row, and nobody's request", define(1, 16, 2, 0, 1, BELOW(12, 10)), ROWS(2), 0);
+    clashes("upward, then across", define(2, 14, 2, 0, 0, 0, NULL), ROWS(1, 0));
+    clashes("its own row, and nobody's request", define(1, 16, 2, 0, 1, BELOW(12, 10)), ROWS(2));
     lend(ANSWER, 3);
-    clashes("a short answer", define(2, 14, 2, 0, 0, 0, NULL), ROWS(1, 0), 0);
+    clashes("a short answer", define(2, 14, 2, 0, 0, 0, NULL), ROWS(1, 0));
     lend_all();
     keep(&first);
     static const struct { size_t cell; uint32_t value; } harm[] = {
@@ -756,12 +750,12 @@ static void mixed_chains(void)
     put_back(&first);
     set(0, TIE_NUMBERS, 1);
     set(0, SUBTYPE_NUMBERS, 0);
-    clashes("posted the other way round", define(2, 14, 2, 0, 0, 0, NULL), ROWS(0, 1), 0);
+    clashes("posted the other way round", define(2, 14, 2, 0, 0, 0, NULL), ROWS(0, 1));
     for (size_t row = 1; row < 256; row++) {
         set(0, TIE_NUMBERS + row, 65535);
         set(0, SUBTYPE_NUMBERS + row, 65535);
     }
-    clashes("numbers of rows that aren't used", define(2, 14, 2, 0, 0, 0, NULL), ROWS(0, 1), 0);
+    clashes("numbers of rows that aren't used", define(2, 14, 2, 0, 0, 0, NULL), ROWS(0, 1));
 }
 
 /* A define posts its notes, then its ties, and both are numbered so. */
@@ -772,11 +766,31 @@ static void numbers(void)
     accepts("loader 3 asks for class 10", record(3, 10, 1));
     defines("a note and a tie", define(3, 17, 10, 0, 12, BELOW(18, 19)), 4);
     check("the note, then the tie", counts[3] == 2 && counts[4] == 1 && counts[SUBTYPE_NUMBERS] == 1 && counts[TIE_NUMBERS + 1] == 2);
-    clashes("loader 3's own 12", define(3, 12, 2, 0, 0, 0, NULL), ROWS(2), 1);
+    clashes("loader 3's own 12", define(3, 12, 2, 0, 0, 0, NULL), ROWS(2));
     tied();
     accepts("loader 3 asks for class 10", record(3, 10, 1));
     defines("loader 3's own 12", define(3, 12, 2, 0, 0, 0, NULL), 4);
-    clashes("the tie behind the note", define(3, 17, 10, 0, 12, BELOW(18, 19)), ROWS(2), 1);
+    clashes("the tie behind the note", define(3, 17, 10, 0, 12, BELOW(18, 19)), ROWS(2));
+}
+
+/* The shortest chain, and of two of one length that with the lower row where they first differ; ties alone are read from either end. */
+static void shortest(void)
+{
+    tied();
+    accepts("loader 3 asks for loader 2's 13", record(3, 13, 2));
+    defines("row 1 ties 12 between loaders 3 and 2", define(3, 17, 13, 0, 12, ZERO), 4);
+    clashes("from loader 1's 12", define(3, 12, 2, 0, 0, 0, NULL), ROWS(0, 1));
+    accepts("loader 3 asks for class 10", record(3, 10, 1));
+    defines("row 2 ties 12 between loaders 3 and 1", define(3, 18, 10, 0, 12, ZERO), 5);
+    clashes("one row, though two lower ones would do", define(3, 12, 2, 0, 0, 0, NULL), ROWS(2));
+    ready();
+    defines("loader 2's class 10", define(2, 10, 2, 5, 12, ZERO), 1);
+    accepts("loader 3 asks for it", record(3, 10, 1));
+    accepts("loader 1 asks for it", record(1, 10, 1));
+    defines("row 0 ties 12 between loaders 3 and 2", define(3, 13, 10, 0, 12, ZERO), 2);
+    defines("row 1 ties 12 between loaders 1 and 2", define(1, 17, 10, 0, 12, ZERO), 3);
+    defines("loader 1's 12", define(1, 12, 2, 0, 0, 0, NULL), 4);
+    clashes("from loader 3's 12, as it would be", define(3, 12, 2, 0, 0, 0, NULL), ROWS(0, 1));
 }
 
 /* A call with a list: its count, the types and the result. */
@@ -972,7 +986,7 @@ static void tied_arguments(void)
         put_back(&after);
         defines("loader 1's", define(1, 12 + i, 2, 0, 0, 0, NULL), 4);
         refuses("loader 2's own", define(2, 12 + i, 2, 0, 0, 0, NULL), TARIFF_CLASH);
-        clashes("by its tie alone", define(2, 12 + i, 2, 0, 0, 0, NULL), ROWS(i), 1);
+        clashes("by its tie alone", define(2, 12 + i, 2, 0, 0, 0, NULL), ROWS(i));
         accepts("loader 1's under loader 2", record(2, 12 + i, 4));
         put_back(&first);
         defines("loader 1's", define(1, 12 + i, 2, 0, 0, 0, NULL), 3);
@@ -1053,7 +1067,7 @@ static void longest_chain(void)
     set(0, 4, 256);
     for (uint16_t i = 0; i < 512; i++)
         all[i] = i;
-    clashes("512 rows", define(0, 300, 2, 0, 0, 0, NULL), 512, all, 0);
+    clashes("512 rows", define(0, 300, 2, 0, 0, 0, NULL), 512, all);
     would("the upper class all along", define(0, 300, 556, 0, 0, 0, NULL), TARIFF_DEFINED, 2);
 }
 
@@ -1074,6 +1088,7 @@ static void trying(void)
     lend_all();
     mixed_chains();
     numbers();
+    shortest();
     longest_chain();
 }
 

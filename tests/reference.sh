@@ -1,5 +1,6 @@
 #!/usr/bin/env bash
 # The second implementation's own tests: the paper's cases, the words of each call, invariants on generated lists of calls.
+# Needs nothing that is proved.
 set -euo pipefail
 cd "$(dirname "$0")/.."
 # every test that is written runs, but for those that need the verified machine

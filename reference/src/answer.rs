@@ -20,11 +20,12 @@ pub mod word {
     pub const UNMAPPED: u8 = 15;
     pub const SHORT_LIST: u8 = 16;
     pub const ZERO_DIVISOR: u8 = 17;
+    pub const SHARE_USED: u8 = 18;
 
     /// The words in the order of their numbers, from 1.
-    pub const NAMES: [&str; 17] = [
+    pub const NAMES: [&str; 18] = [
         "broken", "file", "unknown", "taken", "wanted", "unverified", "absent", "hidden", "clash", "full",
-        "null", "busy", "misnamed", "stuck", "unmapped", "short list", "zero divisor",
+        "null", "busy", "misnamed", "stuck", "unmapped", "short list", "zero divisor", "share used",
     ];
 }
 

@@ -100,8 +100,8 @@ fn loaded(store: &Store, added: &Added, (loader, name): Request) -> Option<u16> 
     entries(store, added).find(|row| (row[0], row[1]) == (loader, name)).map(|row| row[2])
 }
 
-/// Are both ends loaded, and do their classes break agreement: two classes, if ties alone join them, or a first that isn't the last or below?
-fn ends_break(store: &Store, added: &Added, classes: &Classes, requests: &[Request], chain: &[Constraint]) -> bool {
+/// Are both ends of the requests along a chain loaded, and do their classes break agreement: two classes, if ties alone join them, or a first that isn't the last or below?
+pub fn ends_break(store: &Store, added: &Added, classes: &Classes, requests: &[Request], chain: &[Constraint]) -> bool {
     let ends = [requests[0], requests[requests.len() - 1]].map(|at| loaded(store, added, at));
     let [Some(first), Some(last)] = ends else {
         return false;

@@ -2,7 +2,7 @@
 
 use crate::classes::Classes;
 use crate::store::{cell, frame_base, Store, Value};
-use crate::store::{FRAME_ROW, FREE, LENGTHS, LIMITS, LOADERS, LOCALS, OBJECT_ROW, OPERANDS, TASKS};
+use crate::store::{FRAME_ROW, FREE, LENGTHS, LIMITS, LOADERS, LOCALS, OBJECT_ROW, OPERANDS, REPORT, SHARE, TASKS};
 
 /// Do the tables have the published lengths? All that boot checks.
 pub fn lengths_fit(store: &Store) -> bool {
@@ -19,7 +19,8 @@ pub fn unbroken(store: &Store) -> Option<Classes> {
         return None;
     }
     let classes = Classes::read(store)?;
-    (numbers_fit(store) && rows_fit(store, &classes) && objects_fit(store, &classes) && frames_fit(store, &classes)).then_some(classes)
+    let rows_fit = numbers_fit(store) && rows_fit(store, &classes);
+    (rows_fit && objects_fit(store, &classes) && share_fits(store) && frames_fit(store, &classes)).then_some(classes)
 }
 
 fn counts_fit(store: &Store) -> bool {
@@ -71,6 +72,11 @@ fn objects_fit(store: &Store, classes: &Classes) -> bool {
         1..=TASKS => object_fits(row),
         _ => false,
     })
+}
+
+/// Paper 8: "the report may hold at most 192 until swept; a store with more is broken".
+fn share_fits(store: &Store) -> bool {
+    store.made_by(REPORT) <= SHARE
 }
 
 fn frames_fit(store: &Store, classes: &Classes) -> bool {

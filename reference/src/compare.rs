@@ -22,12 +22,14 @@ use crate::gen::list::list;
 use crate::gen::rng::Rng;
 use crate::gen::loops::loops;
 use crate::gen::rates;
+use crate::gen::shares::{shared, shares};
 use crate::gen::stuck::stuck;
 use crate::gen::swept::swept;
 use crate::gen::{cases, counts, javas, large, listed, mapped, passed, Call, Trial, CALLS};
 use crate::host::{self, expected, CELLS};
 use crate::placed::misplaced;
-use crate::store::{Store, LENGTHS, MOST_ROWS};
+use crate::sharing::keeps_room;
+use crate::store::{Store, LENGTHS, MOST_ROWS, QUOTE};
 use crate::tally::{Tally, ENDS_FROM_A_BOOT, FROM_A_BOOT, ONLY_DAMAGE};
 
 /// Damaged stores and files that go with a seed.
@@ -77,15 +79,13 @@ fn differences(one: &Store, other: &Store) -> Vec<&'static str> {
 /// What a list holds before a try: no row's number.
 const UNLISTED: u16 = 0xEEEE;
 
-/// How many rows the library listed. Which chain it lists is left to it, but on a clash the chain must break agreement, and otherwise nothing is
-/// listed; the list past the chain stays as it was.
-fn listed(call: &Call, store: &Store, reply: Reply, list: &[u16], label: &str) -> usize {
-    let rows = list.iter().take_while(|&&row| row != UNLISTED).count();
-    let (chain, rest) = list.split_at(rows);
-    assert!(rest.iter().all(|&row| row == UNLISTED), "{label}: {call:?} differs: it lists past its chain {chain:?}");
-    let is_right = if let Reply::Clashed(_) = reply { call.is_reason(store, chain) } else { rows == 0 };
-    assert!(is_right, "{label}: {call:?} differs: it lists {chain:?}, which is no reason");
-    rows
+/// The lists must be the same, cell for cell. On a clash the first cells are a chain that breaks agreement, by its definition alone; otherwise nothing is
+/// listed, and the list past the chain stays as it was.
+fn same_list(call: &Call, store: &Store, reply: Reply, lists: [&[u16]; 2], label: &str) {
+    let chains = lists.map(|list| list.split(|&row| row == UNLISTED).next().unwrap_or(&[]));
+    let is_right = if let Reply::Clashed(_) = reply { call.is_reason(store, chains[0]) } else { chains[0].is_empty() };
+    assert!(is_right, "{label}: {call:?} lists {:?}, which is no reason", chains[0]);
+    assert!(lists[0] == lists[1], "{label}: {call:?} differs: it lists {:?}, not {:?}", chains[1], chains[0]);
 }
 
 /// Makes the call on both stores, which are alike, and compares answers and tables. The answer table has so many cells of noise: the
@@ -93,14 +93,12 @@ fn listed(call: &Call, store: &Store, reply: Reply, list: &[u16], label: &str) -
 fn both(ours: &mut Store, theirs: &mut Store, call: &Call, cells: usize, label: &str) -> Reply {
     const NOISE: u32 = 0x5EED;
     let turn = turn(ours);
-    let reply = call.apply(ours);
-    let mut told = expected(reply, turn);
-    let (mut answer, mut list) = (vec![NOISE; cells], vec![UNLISTED; call.cells()]);
+    let [mut our_list, mut list] = [vec![UNLISTED; call.cells()], vec![UNLISTED; call.cells()]];
+    let reply = call.apply_listing(ours, &mut our_list);
+    let told = expected(reply, turn);
+    let mut answer = vec![NOISE; cells];
     let number = host::make(call, theirs, &mut answer, &mut list);
-    let rows = listed(call, ours, reply, &list, label);
-    if let Reply::Clashed(_) = reply {
-        told.cells[CELLS - 1] = rows as u32;
-    }
+    same_list(call, ours, reply, [&our_list, &list], label);
     let wanted: Vec<u32> = (0..cells).map(|cell| *told.cells.get(cell).unwrap_or(&NOISE)).collect();
     assert!(number == told.number, "{label}: {call:?} differs: returns {number}, not {}", told.number);
     assert!(answer == wanted, "{label}: {call:?} differs: answers {answer:?}, not {wanted:?}");
@@ -115,8 +113,9 @@ fn tries(load: &Call, turn: usize) -> Vec<Call> {
     cells.into_iter().filter_map(|cells| load.tried(cells)).collect()
 }
 
-/// What demand 3 says of a store from a boot, and what the call answered there.
-fn sound(store: &Store, reply: Reply, label: &str) {
+/// What demand 3 says of a store from a boot, what the call answered there, and the room that is kept for quotes.
+fn sound(store: &Store, call: &Call, reply: Reply, label: &str) {
+    assert!(keeps_room(call, reply, store), "{label}: {reply:?} with {} objects of the quote's", store.made_by(QUOTE));
     let Some(classes) = unbroken(store) else {
         panic!("{label}: broken after {reply:?}")
     };
@@ -141,7 +140,7 @@ impl Comparison {
             }
             let before = ours.clone();
             let reply = both(&mut ours, &mut theirs, call, CELLS, &label);
-            sound(&theirs, reply, &label);
+            sound(&theirs, call, reply, &label);
             self.booted.count(&before, call, reply, &ours);
         }
     }
@@ -171,6 +170,7 @@ impl Comparison {
         if seed % STORES == 0 {
             self.reboot(&store, &list(seed, 40), &format!("damage {seed}, booted"));
             self.reboot(&store, &graphs(seed, 10), &format!("damage {seed}, booted for objects"));
+            self.reboot(&store, &shared(seed, 10), &format!("damage {seed}, booted for shares"));
         }
     }
 
@@ -182,7 +182,7 @@ impl Comparison {
             let reply = both(&mut ours, &mut theirs, call, CELLS, &label);
             if store.lengths() == LENGTHS {
                 assert!(reply == from_zeros, "{label}: {call:?} answers {reply:?}, and {from_zeros:?} from zeros");
-                sound(&theirs, reply, &label);
+                sound(&theirs, call, reply, &label);
                 self.rebooted += u64::from(at > 0);
             }
         }
@@ -207,6 +207,7 @@ impl Comparison {
         self.play(&list(seed, 120), &format!("list {seed}"));
         self.play(&chains(seed, 30), &format!("chains {seed}"));
         self.play(&graphs(seed, 50), &format!("graphs {seed}"));
+        self.play(&shared(seed, 30), &format!("shared {seed}"));
         (STORES * seed..STORES * (seed + 1)).for_each(|seed| self.damage(seed));
         for seed in CLASHES * seed..CLASHES * (seed + 1) {
             let (store, load) = clash(seed);
@@ -218,7 +219,7 @@ impl Comparison {
 
     /// What needs no seed.
     fn fixed(&mut self) {
-        for (at, trial) in cases::cases().iter().chain(&swept()).chain(&loops()).chain(&rates::rates()).chain(&hidden()).chain(&listed::listed()).enumerate() {
+        for (at, trial) in cases::cases().iter().chain(&swept()).chain(&loops()).chain(&rates::rates()).chain(&hidden()).chain(&listed::listed()).chain(&shares()).enumerate() {
             self.play(trial, &format!("case {at}"));
         }
         for seed in 0..4 {
@@ -241,6 +242,9 @@ impl Comparison {
         counts::bad().into_iter().for_each(|bytes| self.file(&store, bytes, "a bad file of version 3"));
         mapped::bad().into_iter().for_each(|bytes| self.file(&store, bytes, "a bad file of version 2"));
         for (what, store, load, _) in clashes::cases() {
+            self.call(&store, &load, CELLS, what);
+        }
+        for (what, store, load, _) in clashes::choices() {
             self.call(&store, &load, CELLS, what);
         }
         self.large();
@@ -313,6 +317,7 @@ impl Comparison {
             demand(tally.passing.unpassed().is_empty(), format!("calls {what} never had {:?}", tally.passing.unpassed()));
             demand(tally.hiding.unmet().is_empty(), format!("accesses {what} never met {:?}", tally.hiding.unmet()));
         }
+        demand(self.booted.sharing.unmet().is_empty(), format!("starts and news from a boot never met {:?}", self.booted.sharing.unmet()));
         demand(self.booted.passing.unmet().is_empty(), format!("calls from a boot never met {:?}", self.booted.passing.unmet()));
         demand(self.booted.hiding.undone().is_empty(), format!("no define from a boot {:?}", self.booted.hiding.undone()));
         demand(self.misshapen.iter().all(|&calls| calls > 0), format!("calls on misshapen tables: {:?}", self.misshapen));

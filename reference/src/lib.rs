@@ -21,6 +21,7 @@ pub mod passing;
 pub mod placed;
 pub mod reason;
 pub mod script;
+pub mod sharing;
 pub mod signature;
 pub mod step;
 pub mod store;
@@ -29,6 +30,7 @@ pub mod tally;
 pub mod task;
 pub mod tries;
 pub mod verifier;
+pub mod walks;
 
 pub use answer::{Answer, Refusal, Reply};
 pub use broken::broken;

@@ -54,7 +54,7 @@ impl Plan {
         Added { entry: Some(self.entry), ties: &self.ties, subtypes: &self.subtypes }
     }
 
-    fn agrees(&self, store: &Store) -> bool {
+    pub fn agrees(&self, store: &Store) -> bool {
         agrees(store, &self.added(), &self.classes)
     }
 }

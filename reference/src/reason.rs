@@ -1,24 +1,46 @@
-//! A chain of constraints that breaks agreement, found by a search.
+//! The reason of a clash: of all chains of constraints that break agreement the shortest, and of those of one length the first.
 //!
-//! From all loaded requests of one class at once, requests are looked at in the order of their distance; the first loaded one whose class isn't
-//! that class or above ends a chain. A chain of ties between two classes breaks agreement read either way, and in one of the two ways its first
-//! class isn't below its last, since two classes aren't below each other: so no second search for ties is needed.
+//! Paper 9: "The chain of Paper 3 becomes the shortest one there is. A chain of ties alone may be read from either end. Between chains of one length, the
+//! first is the one with the lower row at the earliest position where they differ."
+//!
+//! From all loaded requests of one class at once, the lists of one row are made, then those of two and so on. Where a list has led is a request, and
+//! whether ties alone led there: that and the class decide whether it breaks agreement, and what may come behind it. So of the lists of one length that
+//! have led to one place only the first is kept, and none that leads where a shorter one has led. Then a list that breaks agreement and has the least
+//! length repeats no request, since without the rows between it would be shorter.
+
+use std::collections::BTreeMap;
 
 use crate::agree::{entries, key, numbered, Added, Constraint};
 use crate::classes::Classes;
 use crate::store::{count, Store, LIMITS};
 
-/// No request, no class, or a row that isn't there.
+/// Between two rows: does the one make its chain the first?
+pub type Order = fn(u16, u16) -> bool;
+
+/// Paper 9's order.
+pub const LOWER_FIRST: Order = |row, other| row < other;
+
+/// Of two lists of one length: is the one before the other, by the earliest position where they differ?
+pub fn is_before(one: &[u16], other: &[u16], order: Order) -> bool {
+    one.iter().zip(other).find(|(row, other)| row != other).is_some_and(|(&row, &other)| order(row, other))
+}
+
+/// Is the one shorter, or as long and before the other?
+fn is_better(one: &[u16], other: &[u16], order: Order) -> bool {
+    one.len() < other.len() || one.len() == other.len() && is_before(one, other, order)
+}
+
+/// No class.
 const NONE: u16 = u16::MAX;
 
-/// The requests that are loaded or that a constraint names, numbered, and the rows by which each may be left.
+/// A way to leave a request: by this row, to this request, and whether it is a tie.
+type Way = (u16, u16, bool);
+
+/// The requests that are loaded or that a constraint names, numbered, and the ways to leave each.
 struct Map {
-    requests: Vec<u32>,
     /// The class of each request that is loaded, else `NONE`.
     classes: Vec<u16>,
-    /// The rows that leave each request, one run a request, each with where it leads.
-    first: Vec<u16>,
-    out: Vec<(u16, u16)>,
+    ways: Vec<Vec<Way>>,
 }
 
 impl Map {
@@ -28,37 +50,21 @@ impl Map {
         requests.extend(ends.iter().flat_map(|&(from, to, _)| [from, to]));
         requests.sort_unstable();
         requests.dedup();
-        let mut map = Map { classes: vec![NONE; requests.len()], first: vec![0; requests.len() + 1], out: Vec::new(), requests };
+        let number = |request: u32| requests.binary_search(&request).expect("a request of the store");
+        let mut map = Map { classes: vec![NONE; requests.len()], ways: vec![Vec::new(); requests.len()] };
         for [loader, name, class] in entries(store, added) {
-            let of = &mut map.classes[usize::from(number(&map.requests, key(loader, name)))];
+            let of = &mut map.classes[number(key(loader, name))];
             // Of two rows for one request the lower is read.
             *of = if *of == NONE { class } else { *of };
         }
-        map.lead(&ends);
+        for (row, &(from, to, is_tie)) in (0..).zip(&ends) {
+            let (from, to) = (number(from), number(to));
+            map.ways[from].push((row, to as u16, is_tie));
+            if is_tie {
+                map.ways[to].push((row, from as u16, true));
+            }
+        }
         map
-    }
-
-    /// Gathers the ways to walk the rows by the request that they leave.
-    fn lead(&mut self, ends: &[(u32, u32, bool)]) {
-        let mut ways = Vec::new();
-        for (row, &(from, to, is_tie)) in (0..).zip(ends) {
-            let (from, to) = (number(&self.requests, from), number(&self.requests, to));
-            ways.push((from, row, to));
-            ways.extend(is_tie.then_some((to, row, from)));
-        }
-        ways.iter().for_each(|&(from, _, _)| self.first[usize::from(from) + 1] += 1);
-        (1..self.first.len()).for_each(|at| self.first[at] += self.first[at - 1]);
-        let mut place = self.first.clone();
-        self.out = vec![(0, 0); ways.len()];
-        for (from, row, to) in ways {
-            self.out[usize::from(place[usize::from(from)])] = (row, to);
-            place[usize::from(from)] += 1;
-        }
-    }
-
-    fn leaving(&self, request: u16) -> &[(u16, u16)] {
-        let request = usize::from(request);
-        &self.out[usize::from(self.first[request])..usize::from(self.first[request + 1])]
     }
 }
 
@@ -70,54 +76,67 @@ fn ends(constraint: Constraint) -> (u32, u32, bool) {
     }
 }
 
-fn number(requests: &[u32], request: u32) -> u16 {
-    requests.binary_search(&request).expect("a request of the store") as u16
-}
-
-/// The rows, upward, of one chain that breaks agreement; nothing if the store would agree. `classes` holds the new class, if there is one.
+/// The rows, upward, of the chain that is the reason; nothing if the store would agree. `classes` holds the new class, if there is one.
 pub fn chain(store: &Store, added: &Added, classes: &Classes) -> Option<Vec<u16>> {
-    let map = Map::new(store, added);
-    let mut from = vec![(NONE, NONE); map.requests.len()];
-    (0..LIMITS[count::CLASSES]).filter(|class| map.classes.contains(class)).find_map(|class| {
-        let last = breaking(&map, class, &mut from, |other| classes.below(class, other))?;
-        Some(traced(&from, last))
-    })
+    chain_by(store, added, classes, LOWER_FIRST)
 }
 
-/// A loaded request that one of this class leads to and whose class doesn't fit. `from` gets the row and the request by which each one that is
-/// passed was first come to; those of the class itself have none.
-fn breaking(map: &Map, class: u16, from: &mut [(u16, u16)], fits: impl Fn(u16) -> bool) -> Option<u16> {
-    const UNSEEN: (u16, u16) = (NONE, 0);
-    let mut seen: Vec<u16> = (0..map.requests.len() as u16).filter(|&at| map.classes[usize::from(at)] == class).collect();
-    from.fill(UNSEEN);
-    seen.iter().for_each(|&at| from[usize::from(at)] = (NONE, NONE));
-    let mut looked_at = 0;
-    while let Some(&here) = seen.get(looked_at) {
-        looked_at += 1;
-        for &(row, to) in map.leaving(here) {
-            if from[usize::from(to)] != UNSEEN {
-                continue;
-            }
-            from[usize::from(to)] = (row, here);
-            let of = map.classes[usize::from(to)];
-            if of != NONE && !fits(of) {
-                return Some(to);
-            }
-            seen.push(to);
+/// The same, with this order between chains of one length.
+pub fn chain_by(store: &Store, added: &Added, classes: &Classes, order: Order) -> Option<Vec<u16>> {
+    let map = Map::new(store, added);
+    let mut best: Option<Vec<u16>> = None;
+    for class in (0..LIMITS[count::CLASSES]).filter(|class| map.classes.contains(class)) {
+        let most = best.as_ref().map_or(usize::MAX, Vec::len);
+        let found = from_class(&map, class, classes, most, order);
+        best = match (best, found) {
+            (Some(best), Some(found)) => Some(if is_better(&found, &best, order) { found } else { best }),
+            (best, found) => best.or(found),
+        };
+    }
+    best
+}
+
+/// Where a list has led: a request, and whether by ties alone.
+type Place = (u16, bool);
+
+/// The best list of at most so many rows from a loaded request of this class to one that it breaks agreement with.
+fn from_class(map: &Map, class: u16, classes: &Classes, most: usize, order: Order) -> Option<Vec<u16>> {
+    let breaks = |&(to, by_ties): &Place| {
+        let other = map.classes[usize::from(to)];
+        other != NONE && (by_ties && other != class || !classes.below(class, other))
+    };
+    let starts = (0..map.classes.len()).filter(|&at| map.classes[at] == class);
+    let mut layer: BTreeMap<Place, Vec<u16>> = starts.map(|at| ((at as u16, true), Vec::new())).collect();
+    let mut led = vec![[false; 2]; map.classes.len()];
+    for _ in 0..most {
+        layer.keys().for_each(|&(to, by_ties)| led[usize::from(to)][usize::from(by_ties)] = true);
+        layer = longer(map, &layer, &led, order);
+        if layer.is_empty() {
+            return None;
+        }
+        let reasons = layer.iter().filter(|(place, _)| breaks(place)).map(|(_, list)| list);
+        let first = reasons.reduce(|one, other| if is_before(other, one, order) { other } else { one });
+        if first.is_some() {
+            return first.cloned();
         }
     }
     None
 }
 
-/// The rows from the first request to this one. Each was come to from one that was there before it, so none comes twice.
-fn traced(from: &[(u16, u16)], last: u16) -> Vec<u16> {
-    let mut rows = Vec::new();
-    let mut at = last;
-    while from[usize::from(at)].1 != NONE {
-        let (row, before) = from[usize::from(at)];
-        rows.push(row);
-        at = before;
+/// The lists with one row more, the first for each place where no shorter one has led.
+fn longer(map: &Map, layer: &BTreeMap<Place, Vec<u16>>, led: &[[bool; 2]], order: Order) -> BTreeMap<Place, Vec<u16>> {
+    let mut next: BTreeMap<Place, Vec<u16>> = BTreeMap::new();
+    for (&(here, by_ties), list) in layer {
+        for &(row, to, is_tie) in &map.ways[usize::from(here)] {
+            let place = (to, by_ties && is_tie);
+            if led[usize::from(to)][usize::from(place.1)] {
+                continue;
+            }
+            let longer = [&list[..], &[row]].concat();
+            if next.get(&place).is_none_or(|there| is_before(&longer, there, order)) {
+                next.insert(place, longer);
+            }
+        }
     }
-    rows.reverse();
-    rows
+    next
 }

@@ -275,6 +275,10 @@ impl Turn<'_> {
 
     fn new_object(&mut self, name: u16) -> Result<Answer, Refusal> {
         let class = self.named_class(name)?;
+        // Straight before every sort of 10.
+        if self.store.is_share_used(self.task) {
+            return Err(Refusal::Word(word::SHARE_USED));
+        }
         if self.operands >= OPERANDS {
             return Err(FULL);
         }

@@ -34,11 +34,16 @@ pub const TABLES: [(&str, u32); 8] = [
 pub const MOST_ROWS: usize = (LIMITS[count::TIES] + LIMITS[count::SUBTYPES]) as usize;
 /// The most objects in use.
 pub const MOST_OBJECTS: usize = LIMITS[count::OBJECTS] as usize;
+/// The most objects in use that the report may have made (paper 8).
+pub const SHARE: usize = 192;
 /// The owner of a free object row. An object's is 1 more than the task that made it.
 pub const FREE: u16 = 0;
 
 pub const LOADERS: u16 = 16;
 pub const TASKS: u16 = 2;
+/// The tasks by number.
+pub const QUOTE: usize = 0;
+pub const REPORT: usize = 1;
 pub const FIELDS: usize = 16;
 pub const LOCALS: usize = 8;
 pub const OPERANDS: usize = 16;
@@ -121,6 +126,11 @@ impl Value {
             Value::Null | Value::Object(_) => wanted != INT,
         }
     }
+}
+
+/// The owner of the objects that a task makes.
+pub fn owner_of(task: usize) -> u16 {
+    1 + task as u16
 }
 
 /// The used rows of a table with three cells a row.
@@ -224,9 +234,19 @@ impl Store {
         (object < MOST_OBJECTS).then_some(object as u32)
     }
 
+    /// How many objects exist that the task made, whoever holds them.
+    pub fn made_by(&self, task: usize) -> usize {
+        self.owners().iter().filter(|&&owner| owner == owner_of(task)).count()
+    }
+
+    /// Has the task a share of the objects, and is it used up? The quote has none.
+    pub fn is_share_used(&self, task: usize) -> bool {
+        task == REPORT && self.made_by(task) >= SHARE
+    }
+
     /// Says that a row is an object that the task made.
     pub fn own_object(&mut self, object: u32, task: usize) {
-        self.counts[count::OWNERS + object as usize] = 1 + task as u16;
+        self.counts[count::OWNERS + object as usize] = owner_of(task);
         let used = &mut self.counts[count::OBJECTS];
         *used = (*used).max(object as u16 + 1);
     }

@@ -2,25 +2,27 @@
 
 use std::fmt;
 
-use crate::agree::{numbered, Constraint};
+use crate::agree::{entries, numbered, Constraint};
 use crate::answer::{word, Answer, Reply};
-use crate::breaks::{walked, ways, Pairs};
+use crate::breaks::{walked, ways, Pairs, Request};
 use crate::code::op;
 use crate::gen::reach::{reached, Without, LEFT_OUT};
 use crate::gen::{Call, CALLS};
 use crate::hidden::Hiding;
 use crate::passing::Passing;
 use crate::reason::chain;
+use crate::sharing::Sharing;
 use crate::step::{instruction_of, take_step};
 use crate::store::{cell, frame_base, Store, FREE};
+use crate::walks::reasons;
 
 /// The words that a call is given on lists from a boot; 0 is accepted.
 pub const FROM_A_BOOT: [(&str, &[usize]); 10] = [
     ("boot", &[0]),
     ("define", &[0, 2, 3, 4, 5, 6, 9, 10, 15]),
     ("record", &[0, 3, 4, 9, 10, 13]),
-    ("start", &[0, 3, 5, 7, 10, 12]),
-    ("step", &[0, 5, 7, 9, 10, 11, 17]),
+    ("start", &[0, 3, 5, 7, 10, 12, 18]),
+    ("step", &[0, 5, 7, 9, 10, 11, 17, 18]),
     ("run", &[0, 3]),
     ("drop", &[0, 3]),
     ("sweep", &[0]),
@@ -43,7 +45,7 @@ pub const ONLY_DAMAGE: [(&str, &[usize]); 10] = [
 ];
 
 /// How runs end on lists from a boot; damage brings word 14 too.
-pub const ENDS_FROM_A_BOOT: [usize; 9] = [5, 7, 9, 10, 11, 17, IDLE, RAN, FINISHED];
+pub const ENDS_FROM_A_BOOT: [usize; 10] = [5, 7, 9, 10, 11, 17, 18, IDLE, RAN, FINISHED];
 
 #[derive(Clone)]
 pub struct Tally {
@@ -67,6 +69,8 @@ pub struct Tally {
     pub hiding: Hiding,
     /// What calls met.
     pub passing: Passing,
+    /// What starts and news met of the report's share.
+    pub sharing: Sharing,
 }
 
 /// What a chain that breaks agreement may have, and the test for it.
@@ -80,11 +84,47 @@ pub struct Found {
     has_subtypes: bool,
     has_newcomer: bool,
     is_loaded_throughout: bool,
+    /// Is the first end's class below the last's?
+    is_below: bool,
+    /// Is the newcomer one of its ends?
+    ends_with_newcomer: bool,
     /// How the newcomer breaks agreement, by this chain or another.
     newcomer: Pairs,
+    /// The other chains that are as long or longer by one row; none if there are too many ways to walk. Those with ties alone come in both readings.
+    others: Vec<Other>,
 }
 
-pub const REASONS: [Reason; 12] = [
+/// Another chain for a clash.
+struct Other {
+    rows: Vec<u16>,
+    has_subtypes: bool,
+    ends_with_newcomer: bool,
+}
+
+impl Found {
+    /// The other chains of its length.
+    fn rivals(&self) -> impl Iterator<Item = &Other> {
+        self.others.iter().filter(|other| other.rows.len() == self.rows.len())
+    }
+
+    fn longer(&self) -> impl Iterator<Item = &Other> {
+        self.others.iter().filter(|other| other.rows.len() > self.rows.len())
+    }
+
+    /// Is the list this chain's, from its other end?
+    fn is_turned(&self, rows: &[u16]) -> bool {
+        rows.iter().eq(self.rows.iter().rev())
+    }
+}
+
+/// The rows by number.
+fn sorted(rows: &[u16]) -> Vec<u16> {
+    let mut rows = rows.to_vec();
+    rows.sort_unstable();
+    rows
+}
+
+pub const REASONS: [Reason; 20] = [
     ("stored rows alone", |found| found.rows.iter().all(|&row| usize::from(row) < found.stored)),
     ("own rows alone", |found| found.rows.iter().all(|&row| usize::from(row) >= found.stored)),
     ("own and stored rows", |found| {
@@ -99,6 +139,16 @@ pub const REASONS: [Reason; 12] = [
     ("a newcomer that leads out of its superclasses", |found| found.newcomer.out),
     ("a newcomer led to by what isn't below it", |found| found.newcomer.into),
     ("pairs without the newcomer alone", |found| !found.newcomer.is_any()),
+    ("a longer one beside it", |found| found.longer().next().is_some()),
+    ("another of its length", |found| found.rivals().any(|other| !found.is_turned(&other.rows))),
+    ("its other reading", |found| found.rivals().any(|other| found.is_turned(&other.rows))),
+    ("ties from a class below the other", |found| !found.has_subtypes && found.is_below && found.rows.len() > 1),
+    ("a mixed one and ties of one length", |found| found.rivals().any(|other| other.has_subtypes != found.has_subtypes)),
+    ("a lower last difference elsewhere", |found| found.rivals().any(|other| other.rows.iter().rev().lt(found.rows.iter().rev()))),
+    ("a lower set of rows elsewhere", |found| found.rivals().any(|other| sorted(&other.rows) < sorted(&found.rows))),
+    ("the newcomer only in longer ones", |found| {
+        !found.ends_with_newcomer && found.rivals().all(|other| !other.ends_with_newcomer) && found.longer().any(|other| other.ends_with_newcomer)
+    }),
 ];
 
 impl Found {
@@ -108,10 +158,22 @@ impl Found {
         let added = plan.added();
         let rows = chain(store, &added, &plan.classes)?;
         let constraints = numbered(store, &added);
-        let walked_rows: Vec<Constraint> = rows.iter().map(|&row| constraints[usize::from(row)]).collect();
-        let requests = ways(walked_rows[0]).into_iter().find_map(|(start, _)| walked(start, &walked_rows))?;
         let is_tie = |constraint: &Constraint| matches!(constraint, Constraint::Tie(_));
         let newcomer = (plan.entry[0], plan.entry[1]);
+        let along = |rows: &[u16]| {
+            let chain: Vec<Constraint> = rows.iter().map(|&row| constraints[usize::from(row)]).collect();
+            let requests = ways(chain[0]).into_iter().find_map(|(start, _)| walked(start, &chain)).expect("a chain");
+            (chain, requests)
+        };
+        let ends_with_newcomer = |requests: &[Request]| [requests.first(), requests.last()].contains(&Some(&newcomer));
+        let (walked_rows, requests) = along(&rows);
+        let class = |at: Request| entries(store, &added).find(|row| (row[0], row[1]) == at).map_or(0, |row| row[2]);
+        let others = reasons(store, &added, &plan.classes, rows.len() + 1).unwrap_or_default().into_iter().filter(|other| *other != rows);
+        let others = others.map(|rows| {
+            let (chain, requests) = along(&rows);
+            Other { has_subtypes: !chain.iter().all(is_tie), ends_with_newcomer: ends_with_newcomer(&requests), rows }
+        });
+        let others = others.collect();
         Some(Found {
             rows,
             stored: store.constraint_count(),
@@ -119,7 +181,10 @@ impl Found {
             has_subtypes: !walked_rows.iter().all(is_tie),
             has_newcomer: requests.contains(&newcomer),
             is_loaded_throughout: requests.iter().all(|&at| at == newcomer || store.cached(at.0, at.1).is_some()),
+            is_below: plan.classes.below(class(requests[0]), class(requests[requests.len() - 1])),
+            ends_with_newcomer: ends_with_newcomer(&requests),
             newcomer: Pairs::of(store, &added, &plan.classes),
+            others,
         })
     }
 }
@@ -138,6 +203,7 @@ impl Default for Tally {
             reasons: [0; REASONS.len()],
             hiding: Hiding::default(),
             passing: Passing::default(),
+            sharing: Sharing::default(),
         }
     }
 }
@@ -173,6 +239,7 @@ impl Tally {
         let number = reply.refusal().map_or(0, |refusal| usize::from(refusal.number()));
         self.words[call.kind()][number] += 1;
         self.hiding.count_define(before, call, reply);
+        self.sharing.count(call, reply, after);
         match reply {
             Reply::Stepped(answer) => {
                 self.steps[ending(answer)] += 1;
@@ -242,6 +309,7 @@ impl Tally {
         (0..REASONS.len()).for_each(|what| self.reasons[what] += other.reasons[what]);
         self.hiding.add(&other.hiding);
         self.passing.add(&other.passing);
+        self.sharing.add(&other.sharing);
     }
 
     /// The words given to a call, by number; 0 is accepted.
@@ -299,9 +367,9 @@ impl fmt::Display for Tally {
             writeln!(f, "   sweeps that need {what:<23}{held:>6}")?;
         }
         for ((what, _), chains) in REASONS.iter().zip(self.reasons) {
-            writeln!(f, "   chains with {what:<28}{chains:>6}")?;
+            writeln!(f, "   chains with {what:<46}{chains:>8}")?;
         }
-        write!(f, "{}{}", self.hiding, self.passing)?;
+        write!(f, "{}{}{}", self.hiding, self.passing, self.sharing)?;
         writeln!(f, "   objects freed{:>33}\n   objects in freed rows{:>25}", self.freed, self.reused)?;
         writeln!(f, "   runs of 1,000 steps and more{:>18}", self.long_runs)
     }

@@ -40,6 +40,9 @@ pub fn start(store: &mut Store, task: u32, loader: u32, name: u16, method: u16, 
         return denied(word::ABSENT);
     };
     let place = selected.place;
+    if store.is_share_used(task) {
+        return denied(word::SHARE_USED);
+    }
     let Some(this) = make_object(store, &classes, class, task) else {
         return denied(word::FULL);
     };

@@ -1,4 +1,4 @@
-//! The two calls that try a load: they answer what it would get, change nothing, and on a clash list the rows of a chain that breaks agreement.
+//! The two calls that try a load: they answer what it would get, change nothing, and on a clash list the rows of the chain that is its reason.
 
 use crate::answer::Reply;
 use crate::load::{judge, plan_define, plan_record, Plan};
@@ -22,9 +22,10 @@ pub fn try_record(store: &Store, loader: u32, name: u32, class: u32, list: &mut 
 
 /// The chain's rows go to the first cells of the list; the others are left, and all of them if the store would agree.
 fn tried(store: &Store, plan: &Plan, list: &mut [u16], accepted: Reply) -> Reply {
-    let Some(rows) = chain(store, &plan.added(), &plan.classes) else {
+    if plan.agrees(store) {
         return accepted;
-    };
+    }
+    let rows = chain(store, &plan.added(), &plan.classes).expect("every clash yields a chain");
     list[..rows.len()].copy_from_slice(&rows);
     Reply::Clashed(rows.len() as u16)
 }

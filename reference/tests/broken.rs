@@ -51,6 +51,14 @@ fn counts() {
         s.counts[5] = 256;
         s.owners_mut()[3..].fill(1);
     });
+    for (reports, is_broken) in [(191, false), (192, false), (193, true), (253, true)] {
+        check(is_broken, "so many of the report's objects, one of which was there", |s| {
+            s.counts[5] = 256;
+            s.owners_mut()[3..].fill(1);
+            s.owners_mut()[3..2 + reports].fill(2);
+        });
+    }
+    check(false, "free rows, and owners past the count, that say the report's", |s| s.counts[11..264].fill(2));
     check(false, "frames of Object", |s| s.counts[7] = 32);
     check(true, "classes at the limit, without files", |s| s.counts[0] = 64);
     check(true, "no classes, but objects", |s| s.counts[0] = 0);

@@ -12,8 +12,10 @@ use reference::gen::listed::listed;
 use reference::gen::loops::loops;
 use reference::gen::rates::rates;
 use reference::gen::rng::Rng;
+use reference::gen::shares::{shared, shares};
 use reference::gen::swept::swept;
 use reference::gen::{cases, Call, Trial};
+use reference::sharing::keeps_room;
 use reference::store::Store;
 use reference::tally::{Tally, ENDS_FROM_A_BOOT, FROM_A_BOOT};
 use reference::{misplaced, step};
@@ -39,6 +41,7 @@ fn watch(trial: &Trial, label: &str, tally: &mut Tally) {
             as_steps(&before, n, reply, &store, label);
         }
         sound(&store, reply, &format!("{label}, call {at}"));
+        assert!(keeps_room(call, reply, &store), "{label}, call {at}: {reply:?}");
         tally.count(&before, call, reply, &store);
     }
 }
@@ -124,12 +127,15 @@ fn random_lists() {
         let trial = graphs(seed, 50);
         watch(&trial, &format!("graphs {seed}"), &mut tally);
         amid_noise(seed, &trial);
+        let trial = shared(seed, 30);
+        watch(&trial, &format!("shared {seed}"), &mut tally);
+        amid_noise(seed, &trial);
     }
-    println!("{SEEDS} random lists, as many about constraints, and as many about objects\n{tally}");
+    println!("{SEEDS} random lists, as many about constraints, about objects and about the report's share\n{tally}");
     assert_eq!(tally.unswept(), Vec::<&str>::new(), "what sweeps never had");
-    assert_eq!(tally.unreasoned(), Vec::<&str>::new(), "what chains of clashes never had");
     assert_eq!(tally.hiding.unmet(), Vec::<&str>::new(), "what accesses never met");
-    for trial in cases::cases().iter().chain(&swept()).chain(&loops()).chain(&rates()).chain(&hidden()).chain(&listed()) {
+    assert_eq!(tally.sharing.unmet(), Vec::<&str>::new(), "what starts and news never met");
+    for trial in cases::cases().iter().chain(&swept()).chain(&loops()).chain(&rates()).chain(&hidden()).chain(&listed()).chain(&shares()) {
         watch(trial, "a case", &mut tally);
     }
     for (name, limit) in LIMITS {
@@ -139,6 +145,7 @@ fn random_lists() {
     for (call, words) in FROM_A_BOOT {
         assert_eq!(tally.given(call), words, "{call}: words from a boot");
     }
+    assert_eq!(tally.unreasoned(), Vec::<&str>::new(), "what chains of clashes never had");
     assert_eq!(tally.ended(), ENDS_FROM_A_BOOT, "the ends of runs");
     assert_eq!(tally.idle_opcodes(), Vec::<&str>::new(), "opcodes that never ran");
     assert_eq!(tally.passing.unmet(), Vec::<&str>::new(), "what no call met");

@@ -113,10 +113,9 @@ fn start_order() {
     assert_eq!(trial.start(1, 1, 99, 98, 0), Reply::Denied(Refusal::Wanted(1, 99)));
     let mut full = trial.clone();
     while !full.store.is_full(count::OBJECTS) {
-        full.drop_task(1);
-        full.start(1, 1, 10, MAIN, 0);
+        full.drop_task(0);
+        full.start(0, 1, 10, MAIN, 0);
     }
-    full.drop_task(1);
     assert_eq!(full.start(1, 1, 10, 98, 0), word(7), "7 before 10");
     assert_eq!(full.start(1, 1, 10, MAIN, 0), word(10));
     assert_eq!(full.start(1, 1, 99, MAIN, 0), Reply::Denied(Refusal::Wanted(1, 99)));

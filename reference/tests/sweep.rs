@@ -100,7 +100,7 @@ fn a_full_step_goes_on_after_a_sweep() {
     let code = Code::new().object(10).pop().object(10).pop().end(INT);
     trial.define(1, &Draft::new(11).main(20, &code));
     trial.start(0, 1, 11, 20, 7);
-    trial.store.owners_mut()[2..].fill(2);
+    trial.store.owners_mut()[2..].fill(1);
     assert_eq!(trial.run(9), Reply::RanFor(2, Answer::Refused(Refusal::Word(10))));
     assert_eq!(trial.sweep(), Reply::Swept(255), "all but the quote's own");
     assert_eq!(trial.run(9), Reply::RanFor(3, Answer::Finished(0, 0)));

@@ -9,14 +9,15 @@ use reference::broken::unbroken;
 use reference::classes::Classes;
 use reference::gen::build::{Code, Draft};
 use reference::gen::chains::chains;
-use reference::gen::clashes::{below_and_tied, cases, clash};
+use reference::gen::clashes::{below_and_tied, cases, choices, clash};
 use reference::gen::damage::{damaged, probes};
 use reference::gen::list::list;
 use reference::gen::numbers::{renumber, WRONG};
 use reference::gen::rng::Rng;
 use reference::gen::{large, Call, Trial};
-use reference::reason::chain;
+use reference::reason::{chain, chain_by};
 use reference::store::{count, Store, INT};
+use reference::walks::reasons;
 use reference::{broken, Refusal};
 
 /// What no row has for a number.
@@ -112,6 +113,34 @@ fn clashes_with_a_purpose() {
     }
 }
 
+/// Paper 9: the shortest, and of those the one with the lower row at the earliest difference.
+#[test]
+fn the_shortest_and_first() {
+    for (what, store, call, rows) in choices() {
+        assert_eq!(all_lists(&store, &call, what), Some(rows.to_vec()), "{what}");
+    }
+    let (mut clashes, mut several, mut longer) = (0, 0, 0);
+    for seed in 0..20_000 {
+        let (store, call) = clash(seed);
+        let Some((plan, rows)) = call.plan(&store).zip(tried(&store, &call, 512, &format!("clash {seed}"))) else {
+            continue;
+        };
+        let Some(all) = reasons(&store, &plan.added(), &plan.classes, rows.len() + 2) else {
+            continue;
+        };
+        let least: Vec<&Vec<u16>> = all.iter().filter(|other| other.len() == rows.len()).collect();
+        assert_eq!(least.iter().min(), Some(&&rows), "clash {seed}");
+        assert!(all.iter().all(|other| rows.len() <= other.len()), "clash {seed}");
+        let highest = chain_by(&store, &plan.added(), &plan.classes, |row, other| row > other);
+        assert_eq!(least.iter().copied().max(), highest.as_ref(), "clash {seed}, the order turned");
+        clashes += 1;
+        several += u64::from(least.len() > 1);
+        longer += u64::from(all.len() > least.len());
+    }
+    println!("{clashes} clashes, {several} with several chains of the least length, {longer} with longer ones");
+    assert!(clashes > 2_000 && several > 700 && longer > 700);
+}
+
 /// What breaks is the chain that is listed. A chain of ties alone may be listed from either end.
 #[test]
 fn a_chain_that_agrees_is_no_reason() {
@@ -194,7 +223,8 @@ fn the_checker_is_the_definition() {
         let agreed = agrees(&store, &Added::default(), &classes);
         assert_eq!(reasons.is_empty(), agreed, "store {seed}");
         disagree += u64::from(!agreed);
-        assert_eq!(chain(&store, &Added::default(), &classes).is_some(), !agreed, "store {seed}");
+        let first = reasons.iter().min_by_key(|rows| (rows.len(), rows.to_vec()));
+        assert_eq!(chain(&store, &Added::default(), &classes).as_ref(), first, "store {seed}: the shortest and first");
         for list in lists(few as u16, 4) {
             let is_reason = breaks(&store, &Added::default(), &classes, &list);
             assert_eq!(is_reason, reasons.contains(&list), "store {seed}: {list:?}");

@@ -12,11 +12,84 @@ pub struct Cursor<'a> {
     pub names: Names,
     tokens: Vec<Token>,
     at: usize,
+    /// The problems so far; reading goes on behind them.
+    problems: Vec<Problem>,
+    /// How many of them are strange signs.
+    strange: usize,
 }
 
 impl<'a> Cursor<'a> {
-    pub fn new(source: &'a Source) -> Parsed<Cursor<'a>> {
-        Ok(Cursor { source, names: Names::default(), tokens: tokens(source)?, at: 0 })
+    pub fn new(source: &'a Source) -> Cursor<'a> {
+        let (tokens, problems) = tokens(source);
+        Cursor { source, names: Names::default(), tokens, at: 0, strange: problems.len(), problems }
+    }
+
+    /// Notes a problem.
+    pub fn note(&mut self, problem: Problem) {
+        self.problems.push(problem);
+    }
+
+    /// The problems in the order of the text. A line with a strange sign has that one alone, and what is said at the end of the text
+    /// isn't said if another problem has said it.
+    pub fn problems(&self) -> Vec<Problem> {
+        let mut all = self.problems.clone();
+        all.sort_by_key(|problem| problem.span.start);
+        let line = |problem: &Problem| self.source.place(problem.span.start).0;
+        let strange: Vec<(usize, Span)> = self.problems[..self.strange].iter().map(|problem| (line(problem), problem.span)).collect();
+        all.retain(|problem| strange.iter().all(|&(at, span)| at != line(problem) || span == problem.span));
+        if let [before @ .., last] = &all[..] {
+            let is_end = last.said.ends_with("the file ends here");
+            if is_end && last.help.is_some() && before.iter().any(|other| other.help == last.help) {
+                all.pop();
+            }
+        }
+        all
+    }
+
+    /// Goes on behind a problem: to the next line, or before it to a closing brace or a word that begins something; what a brace opens is
+    /// passed as far as it closes, on this line or, `across_lines`, on any. At least one token is passed since `from`.
+    pub fn skip(&mut self, from: usize, across_lines: bool, begins: impl Fn(&str) -> bool) {
+        if self.at == from && !self.has_sign('}') && !self.is_end() {
+            self.at += 1;
+        }
+        let mut open = self.open_since(from);
+        while !self.is_end() && (self.goes_on() || (across_lines && open > 0)) {
+            match self.peek().kind {
+                Kind::Sign('{') => open += 1,
+                Kind::Sign('}') if open == 0 => return,
+                Kind::Sign('}') => open -= 1,
+                _ if open == 0 && self.word().is_some_and(&begins) => return,
+                _ => {}
+            }
+            self.at += 1;
+        }
+    }
+
+    /// How many braces that were opened since this mark aren't closed.
+    fn open_since(&self, from: usize) -> usize {
+        self.tokens[from.min(self.at)..self.at].iter().fold(0, |open: usize, token| match token.kind {
+            Kind::Sign('{') => open + 1,
+            Kind::Sign('}') => open.saturating_sub(1),
+            _ => open,
+        })
+    }
+
+    /// Goes to a brace that opens on this line, if there is one.
+    pub fn skip_to_brace(&mut self) -> bool {
+        while self.goes_on() && !self.has_sign('{') && !self.has_sign('}') {
+            self.at += 1;
+        }
+        self.has_sign('{')
+    }
+
+    /// Goes to the end: nothing more is read.
+    pub fn give_up(&mut self) {
+        self.at = self.tokens.len() - 1;
+    }
+
+    /// Where the reader is, for `skip`.
+    pub fn mark(&self) -> usize {
+        self.at
     }
 
     /// The next token, on whatever line.
@@ -162,7 +235,15 @@ impl<'a> Cursor<'a> {
         }
         match self.word() {
             Some(word) => {
-                let number = self.names.number(word).ok_or_else(|| self.undeclared(word))?;
+                let number = match self.names.number(word) {
+                    Some(number) => number,
+                    None if is_reserved(word) => return Err(self.expected(what)),
+                    None => {
+                        // said once: from here on the name counts as declared
+                        self.problems.push(self.undeclared(word));
+                        self.names.suppose(word)
+                    }
+                };
                 self.at += 1;
                 Ok(number)
             }
@@ -204,6 +285,11 @@ impl<'a> Cursor<'a> {
         }
         Ok(bytes)
     }
+}
+
+/// Is this the word of an instruction, which stands where a name was forgotten?
+fn is_reserved(word: &str) -> bool {
+    reference::code::op::NAMES.contains(&word)
 }
 
 fn clipped(text: &str) -> String {

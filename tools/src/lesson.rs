@@ -5,8 +5,9 @@ use reference::store::{LENGTHS, TABLES};
 
 use crate::cursor::{Cursor, Parsed};
 use crate::expect::Expected;
+use crate::java::translate::Made;
 use crate::names::{Names, Taken};
-use crate::source::{Problem, Source, Span};
+use crate::source::{Problem, Problems, Source, Span};
 use crate::text::{self, Text};
 use crate::tokens::Kind;
 
@@ -69,28 +70,55 @@ const STATEMENTS: [Statement; 10] = [
     ("damage", "damage counts 5 300", |reader| reader.damage()),
 ];
 
-const OTHERS: [&str; 5] = ["name", "class", "file", "repeat", "expect"];
+const OTHERS: [&str; 6] = ["name", "class", "file", "java", "repeat", "expect"];
+
+/// Makes class texts of Java files, by the names of the lesson, which gets new ones.
+pub type Javas<'a> = &'a mut dyn FnMut(&[String], &mut Names) -> Result<Vec<Made>, String>;
 
 impl Lesson {
-    pub fn read(source: &Source) -> Parsed<Lesson> {
+    /// Reads a lesson without Java files.
+    pub fn read(source: &Source) -> Result<Lesson, Problems> {
+        Lesson::read_with(source, &mut |_, _| Err("Java files are compiled by ./box alone".into()))
+    }
+
+    /// Reads a text to its end; the problems of all its statements, if it has any.
+    pub fn read_with(source: &Source, javas: Javas) -> Result<Lesson, Problems> {
         let lesson = Lesson { names: Names::default(), texts: Vec::new(), acts: Vec::new() };
-        let mut reader = Reader { at: Cursor::new(source)?, lesson };
+        let mut reader = Reader { at: Cursor::new(source), lesson, javas };
         while !reader.at.is_end() {
-            if let Some(act) = reader.statement(false)? {
-                reader.lesson.acts.push(act);
+            let from = reader.at.mark();
+            match reader.statement(false) {
+                Ok(act) => reader.lesson.acts.extend(act),
+                Err(problem) => {
+                    reader.at.note(problem);
+                    if text::is_begun(&reader.at, from, &["class"]) {
+                        continue;
+                    }
+                    reader.at.skip(from, true, |_| false);
+                    // a brace that closes nothing
+                    if reader.at.has_sign('}') {
+                        reader.at.take();
+                    }
+                }
             }
         }
-        reader.lesson.names = reader.at.names;
-        Ok(reader.lesson)
+        match reader.at.problems() {
+            problems if !problems.is_empty() => Err(Problems(problems)),
+            _ => {
+                reader.lesson.names = reader.at.names;
+                Ok(reader.lesson)
+            }
+        }
     }
 }
 
-struct Reader<'a> {
+struct Reader<'a, 'j> {
     at: Cursor<'a>,
     lesson: Lesson,
+    javas: Javas<'j>,
 }
 
-impl Reader<'_> {
+impl Reader<'_, '_> {
     /// The next statement; a declaration is no act. A round of a repeat has calls and words alone.
     fn statement(&mut self, in_repeat: bool) -> Parsed<Option<Act>> {
         if let Kind::Said(said) = &self.at.peek().kind {
@@ -102,8 +130,8 @@ impl Reader<'_> {
             return Err(self.at.here(if in_repeat { "a call or '}'" } else { "a statement" }));
         };
         match word {
-            "name" | "class" | "file" | "repeat" if in_repeat => Err(self.at.here("a call or '}'")),
-            "name" | "class" | "file" => self.declaration(word).map(|()| None),
+            "name" | "class" | "file" | "java" | "repeat" if in_repeat => Err(self.at.here("a call or '}'")),
+            "name" | "class" | "file" | "java" => self.declaration(word).map(|()| None),
             "repeat" => self.repeat().map(Some),
             "expect" => Err(Problem::new(self.at.peek().span, "expect stands behind a call, and there is none")),
             _ => self.doing(word).map(|doing| Some(Act::Do(doing))),
@@ -112,10 +140,43 @@ impl Reader<'_> {
 
     fn declaration(&mut self, word: &str) -> Parsed<()> {
         self.at.take();
-        if word == "name" {
-            return self.name();
+        match word {
+            "name" => self.name(),
+            "java" => self.java(),
+            "class" => text::class(&mut self.at).and_then(|text| self.add(text)),
+            _ => text::file(&mut self.at).and_then(|text| self.add(text)),
         }
-        let text = if word == "class" { text::class(&mut self.at)? } else { text::file(&mut self.at)? };
+    }
+
+    /// `java FILE.. [as WORD]`: the texts of the files' classes; the word is for the class of the first file's name.
+    fn java(&mut self) -> Parsed<()> {
+        let begin = self.at.last().span;
+        let mut files: Vec<String> = Vec::new();
+        let mut end = begin.end;
+        while self.at.goes_on() && self.at.word() != Some("as") {
+            let (span, part) = (self.at.peek().span, self.at.text());
+            match files.last_mut() {
+                Some(last) if span.start == end => last.push_str(part),
+                _ => files.push(part.into()),
+            }
+            end = self.at.take().end;
+        }
+        let span = begin.to(self.at.last().span);
+        if files.is_empty() {
+            return Err(self.at.expected("a Java file").help("as in: java Discount.java"));
+        }
+        let called = if self.at.took("as") { Some(self.at.fresh("what the text is called")?.0) } else { None };
+        self.at.line_ends("the Java files")?;
+        let made = (self.javas)(&files, &mut self.at.names).map_err(|said| Problem::new(span, said))?;
+        let first = files[0].rsplit('/').next().and_then(|name| name.strip_suffix(".java")).unwrap_or("").to_string();
+        for Made { called: own, bytes, lines } in made {
+            let called = called.filter(|_| own == first).map_or(own, str::to_string);
+            self.add(Text::made(called, span, bytes, lines))?;
+        }
+        Ok(())
+    }
+
+    fn add(&mut self, text: Text) -> Parsed<()> {
         if let Some(there) = self.lesson.texts.iter().find(|there| there.called == text.called) {
             let line = self.at.source.place(there.span.start).0;
             let problem = Problem::new(text.span, format!("line {line} has a text called {} already", text.called));
@@ -142,7 +203,15 @@ impl Reader<'_> {
         self.at.sign('{')?;
         let mut acts = Vec::new();
         while !self.at.has_sign('}') {
-            acts.extend(self.statement(true)?);
+            let from = self.at.mark();
+            match self.statement(true) {
+                Ok(act) => acts.extend(act),
+                Err(problem) if self.at.is_end() => return Err(problem),
+                Err(problem) => {
+                    self.at.note(problem);
+                    self.at.skip(from, false, |_| false);
+                }
+            }
         }
         self.at.take();
         Ok(Act::Repeat { times, acts })
@@ -153,6 +222,7 @@ impl Reader<'_> {
             let known = STATEMENTS.iter().map(|statement| statement.0).chain(OTHERS);
             let problem = Problem::new(self.at.peek().span, format!("'{word}' begins no statement"));
             if ["R", "D", "S", "N", "X"].contains(&word) {
+                self.at.give_up();
                 return Err(problem.help("a script of such lines has a name that ends in .box"));
             }
             return Err(problem.near(word, known).or_help("docs/LESSONS.md has the words of a lesson"));

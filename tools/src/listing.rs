@@ -7,6 +7,8 @@ use reference::code::op::{self, Inline};
 use reference::file::{File, Flaw, Map, Method, Sketch, MAPPED};
 use reference::verifier::{seen, Rejected, Seen, Type, Types, Why};
 
+use crate::java::classfile::MAGIC;
+use crate::java::lines::Lines;
 use crate::names::Names;
 use crate::reasons;
 
@@ -15,11 +17,16 @@ pub const LEGEND: &str =
 
 /// A listing that assembles to these bytes. Bytes that are no file are listed, in comments, as far as they read.
 pub fn listing(bytes: &[u8], called: &str, names: &Names) -> String {
+    with_lines(bytes, called, names, &Lines::default())
+}
+
+/// The same with the Java line, in a comment, before the first instruction that comes from it.
+pub fn with_lines(bytes: &[u8], called: &str, names: &Names, lines: &Lines) -> String {
     let sketch = Sketch::read(bytes);
     match File::explained(bytes) {
         Ok(file) => {
             let called = Some(called).filter(|&called| called != names.class(file.name()));
-            class(&sketch, called, names, seen)
+            class(&sketch, called, names, seen, lines)
         }
         Err(flaw) => damaged(bytes, &sketch, flaw, called, names),
     }
@@ -27,7 +34,10 @@ pub fn listing(bytes: &[u8], called: &str, names: &Names) -> String {
 
 fn damaged(bytes: &[u8], sketch: &Sketch, flaw: Flaw, called: &str, names: &Names) -> String {
     let mut out = format!("# No class file: at byte {}, {}.\n", flaw.at, reasons::rule(flaw.rule, names));
-    let read = class(sketch, None, names, |_, _| (Vec::new(), None));
+    if bytes.starts_with(&MAGIC) {
+        out.push_str("# It is a class file of Java's: ./box from-java makes one of the box of it.\n");
+    }
+    let read = class(sketch, None, names, |_, _| (Vec::new(), None), &Lines::default());
     out.push_str("# As far as it reads:\n");
     read.lines().for_each(|line| out.push_str(&format!("#   {line}\n")));
     let _ = writeln!(out, "file {} {{", called);
@@ -44,7 +54,7 @@ pub fn hexadecimal(bytes: &[u8]) -> String {
 /// What the verifier sees in a method; nothing in a file that doesn't read.
 type Seeing = fn(u16, Method) -> (Vec<Seen>, Option<Rejected>);
 
-fn class(sketch: &Sketch, called: Option<&str>, names: &Names, seeing: Seeing) -> String {
+fn class(sketch: &Sketch, called: Option<&str>, names: &Names, seeing: Seeing, lines: &Lines) -> String {
     let name = |name: Option<u16>| name.map_or("?".into(), |name| names.class(name));
     let called = called.map_or(String::new(), |called| format!(" as {called}"));
     let version = sketch.version.filter(|&version| version >= MAPPED).map_or(String::new(), |version| format!(" version {version}"));
@@ -54,7 +64,7 @@ fn class(sketch: &Sketch, called: Option<&str>, names: &Names, seeing: Seeing) -
     }
     for method in &sketch.methods {
         let _ = writeln!(out, "    method {} {{", names.method(method.signature));
-        out.push_str(&code(*method, names, seeing(sketch.name.unwrap_or(0), *method)));
+        out.push_str(&code(*method, names, seeing(sketch.name.unwrap_or(0), *method), lines));
         out.push_str("    }\n");
     }
     out + "}\n"
@@ -69,7 +79,7 @@ fn labels(method: Method) -> Vec<usize> {
 }
 
 /// The instructions and maps of a method, each instruction with what the verifier sees there.
-fn code(method: Method, names: &Names, (points, rejected): (Vec<Seen>, Option<Rejected>)) -> String {
+fn code(method: Method, names: &Names, (points, rejected): (Vec<Seen>, Option<Rejected>), lines: &Lines) -> String {
     let mut out = String::new();
     let labels = labels(method);
     let mut maps = method.maps().peekable();
@@ -80,6 +90,9 @@ fn code(method: Method, names: &Names, (points, rejected): (Vec<Seen>, Option<Re
         }
         while let Some(map) = maps.next_if(|map| map.offset() <= point) {
             let _ = writeln!(out, "        {}", mapped(map, point, names));
+        }
+        if let Some(line) = lines.at(method.place, point) {
+            let _ = writeln!(out, "        # {line}");
         }
         let seen = points.iter().find(|seen| seen.point == point);
         let rejected = rejected.filter(|rejected| rejected.point == point);

@@ -1,4 +1,5 @@
-//! The tariff writer's tool, which ./box runs: lessons on the proved machine, listings, the desk's verdict, and an assembler.
+//! The tariff writer's tool: lessons on the proved machine, listings, the desk's verdict, and an assembler. It is what `make install`
+//! installs as `box`, and what ./box builds and runs.
 //! It reads and shows; what is accepted or refused is decided by the proved libraries alone.
 
 use std::io::{self, Read, Write};
@@ -8,16 +9,16 @@ use std::{env, fs};
 
 use writer::check::{check, Verdict};
 use writer::input::{self, Input};
-use writer::lesson::Lesson;
+use writer::java::workshop;
 use writer::listing;
-use writer::names::Names;
+use writer::many;
 use writer::play::{Outcome, Play, Show};
 use writer::script;
-use writer::source::{Problem, Source};
+use writer::source::{visible, Problems, Source};
+use writer::version;
 use writer::words::counted;
 
-const USAGE: &str = "usage: writer play [--store] [--draw OUT] FILE | why [--store] [--draw OUT] FILE | answers SCRIPT | list FILE | check FILE | asm FILE DIR
-./box is the way to run it.";
+const USAGE: &str = include_str!("usage.txt");
 
 /// Why the program ends without success.
 enum Failure {
@@ -29,9 +30,9 @@ enum Failure {
     Differ(String),
 }
 
-impl From<(Source, Problem)> for Failure {
-    fn from((source, problem): (Source, Problem)) -> Failure {
-        Failure::Bad(source.show(&problem))
+impl From<(Source, Problems)> for Failure {
+    fn from((source, problems): (Source, Problems)) -> Failure {
+        Failure::Bad(source.show_all(&problems))
     }
 }
 
@@ -58,23 +59,53 @@ fn main() -> ExitCode {
 fn command(words: &[String]) -> Result<(), Failure> {
     let words: Vec<&str> = words.iter().map(String::as_str).collect();
     match words[..] {
+        ["--help" | "-h" | "help"] => print(USAGE),
+        ["--version" | "-V"] => print(&format!("{}\n", version::line())),
         ["list", file] => list(&input(file)?),
-        ["check", file] => verdict(&input(file)?),
+        ["check", ref files @ ..] if !files.is_empty() => verdicts(files),
         ["asm", file, directory] => assemble(&input(file)?, Path::new(directory)),
-        ["answers", file] => answers(file),
-        ["play", ref options @ .., file] => play(options, file, false),
-        ["why", ref options @ .., file] => play(options, file, true),
-        _ => Err(Failure::Usage(USAGE.into())),
+        // ./box puts a script through the proved program boxscript between these two
+        ["calls", file] => print(&script::plain(&source(file)?)),
+        ["answers", file] => {
+            let mut printed = Vec::new();
+            io::stdin().read_to_end(&mut printed)?;
+            answers(file, &String::from_utf8_lossy(&printed))
+        }
+        [command @ ("from-java" | "java"), ref rest @ ..] => java(command, rest),
+        ["list" | "check" | "asm" | "calls" | "answers", ..] => Err(usage()),
+        ["why", ref rest @ ..] => play(rest, true),
+        ref rest => play(rest, false),
+    }
+}
+
+fn usage() -> Failure {
+    Failure::Usage(USAGE.into())
+}
+
+fn java(command: &str, words: &[&str]) -> Result<(), Failure> {
+    match writer::java::commands::run(command, words) {
+        Ok(said) => print(&said),
+        Err((1, said)) => Err(Failure::Bad(said)),
+        Err((_, said)) => Err(Failure::Usage(said)),
     }
 }
 
 fn bytes(file: &str) -> Result<Vec<u8>, Failure> {
-    fs::read(file).map_err(|error| Failure::Usage(format!("{file}: {error}")))
+    if Path::new(file).is_dir() {
+        return Err(Failure::Usage(format!("box: {file} is a folder")));
+    }
+    fs::read(file).map_err(|error| match error.kind() {
+        io::ErrorKind::NotFound => Failure::Usage(format!("box: there is no file {file}")),
+        _ => Failure::Usage(format!("box: {file}: {error}")),
+    })
+}
+
+fn source(file: &str) -> Result<Source, Failure> {
+    Ok(Source::new(file, bytes(file)?)?)
 }
 
 fn input(file: &str) -> Result<Input, Failure> {
-    let names = if file.ends_with(".box") { names_beside(file) } else { Names::default() };
-    Ok(input::read(file, bytes(file)?, names)?)
+    Ok(input::of_file(file, bytes(file)?)?)
 }
 
 /// Writes to standard output; a reader that has gone away is no failure.
@@ -92,17 +123,36 @@ fn list(input: &Input) -> Result<(), Failure> {
     }
     for piece in &input.pieces {
         out.push('\n');
-        out.push_str(&listing::listing(&piece.bytes, &piece.called, &input.names));
+        out.push_str(&listing::with_lines(&piece.bytes, &piece.called, &input.names, &piece.lines));
     }
     print(&out)
 }
 
-fn verdict(input: &Input) -> Result<(), Failure> {
+/// One file is answered at length, several files or a folder a line each.
+fn verdicts(words: &[&str]) -> Result<(), Failure> {
+    let is_quiet = |word: &&str| ["--quiet", "-q"].contains(word);
+    let quiet = words.iter().any(|word| is_quiet(word));
+    let files: Vec<&str> = words.iter().copied().filter(|word| !is_quiet(word)).collect();
+    match files[..] {
+        [] => Err(usage()),
+        _ if files.iter().any(|file| file.starts_with('-')) => Err(usage()),
+        [file] if !Path::new(file).is_dir() => verdict(&input(file)?, quiet),
+        _ => match many::check(&files, quiet) {
+            many::Status::Accepted => Ok(()),
+            many::Status::Refused => Err(Failure::Bad(String::new())),
+            many::Status::Trouble => Err(Failure::Usage(String::new())),
+            many::Status::Differ => Err(Failure::Differ(String::new())),
+        },
+    }
+}
+
+fn verdict(input: &Input, quiet: bool) -> Result<(), Failure> {
     if input.pieces.is_empty() {
         return Err(Failure::Usage("there is no class in that file".into()));
     }
     let (verdict, said) = check(input);
     match verdict {
+        Verdict::Accepted if quiet => Ok(()),
         Verdict::Accepted => print(&said),
         Verdict::Refused => {
             print(&said)?;
@@ -126,60 +176,82 @@ fn assemble(input: &Input, directory: &Path) -> Result<(), Failure> {
     Ok(())
 }
 
-/// The names for a script: those that the lesson beside it declares, if there is one.
-fn names_beside(script: &str) -> Names {
-    let lesson = Path::new(script).with_extension("lesson");
-    let source = fs::read(&lesson).ok().and_then(|bytes| Source::new("", bytes).ok());
-    source.and_then(|source| Lesson::read(&source).ok()).map_or_else(Names::default, |lesson| lesson.names)
-}
-
-/// The script's lines beside what boxscript printed, which is read from standard input.
-fn answers(file: &str) -> Result<(), Failure> {
-    let script = String::from_utf8_lossy(&bytes(file)?).into_owned();
-    let mut printed = Vec::new();
-    io::stdin().read_to_end(&mut printed)?;
-    print(&script::beside(&script, &String::from_utf8_lossy(&printed), &names_beside(file)))
-}
-
-/// What is to be shown, and where the picture goes.
-fn shown<'a>(mut options: &[&'a str], why: bool) -> Result<(Show, Option<&'a str>), Failure> {
-    let (mut show, mut picture) = (Show { why, ..Show::default() }, None);
-    loop {
-        options = match *options {
-            [] => return Ok((show, picture)),
-            ["--store", ref rest @ ..] => {
-                show.store = true;
-                rest
-            }
-            ["--draw", out, ref rest @ ..] => {
-                (show.draw, picture) = (true, Some(out));
-                rest
-            }
-            _ => return Err(Failure::Usage(USAGE.into())),
-        };
+/// The page beside a script, then its lines beside what was printed for them. A line that can't be read is a failure.
+fn answers(file: &str, printed: &str) -> Result<(), Failure> {
+    if let Ok(page) = fs::read(Path::new(file).with_extension("txt")) {
+        let page = String::from_utf8_lossy(&page).into_owned();
+        page.lines().try_for_each(|line| print(&format!("{}\n", visible(line))))?;
+        print("\n")?;
     }
+    let source = source(file)?;
+    print(&script::beside(&source.text, printed, &input::names_beside(file)))?;
+    is_readable(&source)
 }
 
-fn play(options: &[&str], file: &str, why: bool) -> Result<(), Failure> {
-    let (show, picture) = shown(options, why)?;
-    let source = Source::new(file, bytes(file)?)?;
-    let lesson = if file.ends_with(".box") {
-        script::lesson(&source, names_beside(file))
+fn is_readable(script: &Source) -> Result<(), Failure> {
+    script::is_readable(script, &script::lines(&script.text)).map_err(|problem| Failure::Bad(script.show(&problem)))
+}
+
+/// What is to be played: what is shown, the file, and the picture's name.
+struct Wanted {
+    show: Show,
+    file: String,
+    picture: Option<String>,
+}
+
+/// `[--store] [--draw] FILE [OUT]`
+fn wanted(words: &[&str], why: bool) -> Result<Wanted, Failure> {
+    let mut show = Show { why, ..Show::default() };
+    let files: Vec<&str> = words.iter().copied().filter(|word| !word.starts_with('-')).collect();
+    for option in words.iter().filter(|word| word.starts_with('-')) {
+        match *option {
+            "--store" => show.store = true,
+            "--draw" => show.draw = true,
+            _ => return Err(usage()),
+        }
+    }
+    let (file, out) = match files[..] {
+        [file] => (file, None),
+        [file, out] if show.draw => (file, Some(out)),
+        _ => return Err(usage()),
+    };
+    if let Some(out) = out.filter(|out| !out.ends_with(".svg")) {
+        return Err(Failure::Usage(format!("box: the picture's name ends in .svg, and {out} doesn't")));
+    }
+    let stem = Path::new(file).file_stem().map_or("picture".into(), |stem| stem.to_string_lossy().into_owned());
+    let picture = show.draw.then(|| out.map_or(format!("{stem}.svg"), str::to_string));
+    Ok(Wanted { show, file: file.into(), picture })
+}
+
+fn play(words: &[&str], why: bool) -> Result<(), Failure> {
+    let Wanted { show, file, picture } = wanted(words, why)?;
+    let source = source(&file)?;
+    let is_script = file.ends_with(".box");
+    if is_script && !(show.store || show.draw || why) {
+        let printed = script::printed(&source.text).ok_or_else(|| Failure::Usage("this build has no machine; use ./box".into()))?;
+        return answers(&file, &printed);
+    }
+    let lesson = if is_script {
+        script::lesson(&source, input::names_beside(&file))
     } else {
-        Lesson::read(&source).map_err(|problem| (source.clone(), problem))?
+        workshop::lesson(&source).map_err(|problems| (source.clone(), problems))?
     };
     let outcome = match Play::run(&source, &lesson, show, &mut io::stdout().lock()) {
         Err(error) if error.kind() == io::ErrorKind::BrokenPipe => return Ok(()),
         outcome => outcome?,
     };
     if why && outcome.reasons == 0 {
-        print("no load clashed\n")?;
+        print("no load and no step clashed\n")?;
     }
     if let Some(picture) = picture {
-        fs::write(picture, outcome.strip.svg()).map_err(|error| Failure::Usage(format!("{picture}: {error}")))?;
+        fs::write(&picture, outcome.strip.svg()).map_err(|error| Failure::Usage(format!("box: {picture}: {error}")))?;
         print(&format!("drawn: {picture}, {}\n", counted(outcome.strip.count(), "picture")))?;
     }
-    end(file, &outcome)
+    end(&file, &outcome)?;
+    if is_script {
+        return is_readable(&source);
+    }
+    Ok(())
 }
 
 fn end(file: &str, outcome: &Outcome) -> Result<(), Failure> {
@@ -188,6 +260,13 @@ fn end(file: &str, outcome: &Outcome) -> Result<(), Failure> {
         let answers = if failed == 1 { "answer wasn't" } else { "answers weren't" };
         return Err(Failure::Bad(format!("{file} failed: {failed} {answers} as expected")));
     }
-    let met = if met == 0 { String::new() } else { format!(", {} as expected", counted(met, "answer")) };
-    print(&format!("{file}: {}{met}\n", counted(calls, "call")))
+    if calls == 0 {
+        return Err(Failure::Bad(format!("{file} makes no call, so there is nothing that it shows")));
+    }
+    let met = match met {
+        0 => "no answer expected".to_string(),
+        1 => "1 expected answer, met".to_string(),
+        _ => format!("{met} expected answers, all met"),
+    };
+    print(&format!("{file}: {}, {met}\n", counted(calls, "call")))
 }

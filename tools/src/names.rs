@@ -6,6 +6,8 @@ use reference::store::{INT, OBJECT};
 #[derive(Clone, Debug)]
 pub struct Names {
     all: Vec<(String, u16)>,
+    /// Names that a text uses and doesn't declare, with numbers that let a reader go on.
+    supposed: Vec<(String, u16)>,
 }
 
 /// Why a name can't be declared.
@@ -19,14 +21,14 @@ pub enum Taken {
 
 impl Default for Names {
     fn default() -> Names {
-        Names { all: vec![("int".into(), INT), ("Object".into(), OBJECT)] }
+        Names { all: vec![("int".into(), INT), ("Object".into(), OBJECT)], supposed: Vec::new() }
     }
 }
 
 impl Names {
     pub fn declare(&mut self, name: &str, number: u16) -> Result<(), Taken> {
-        if let Some(there) = self.number(name) {
-            return Err(Taken::Name(there));
+        if let Some(there) = self.all.iter().find(|entry| entry.0 == name) {
+            return Err(Taken::Name(there.1));
         }
         if let Some(there) = self.name(number) {
             return Err(Taken::Number(there.into()));
@@ -35,8 +37,15 @@ impl Names {
         Ok(())
     }
 
+    /// A number for a name that isn't declared.
+    pub fn suppose(&mut self, name: &str) -> u16 {
+        let number = u16::MAX - (self.supposed.len() as u16).min(u16::MAX - 2);
+        self.supposed.push((name.into(), number));
+        number
+    }
+
     pub fn number(&self, name: &str) -> Option<u16> {
-        self.all.iter().find(|entry| entry.0 == name).map(|entry| entry.1)
+        self.all.iter().chain(&self.supposed).find(|entry| entry.0 == name).map(|entry| entry.1)
     }
 
     pub fn name(&self, number: u16) -> Option<&str> {

@@ -12,7 +12,7 @@ use crate::draw::Strip;
 use crate::lesson::{Act, Doing, Lesson, What};
 use crate::machine;
 use crate::rows;
-use crate::source::{Problem, Source};
+use crate::source::{visible, Problem, Source};
 use crate::tried::tried;
 use crate::why::why;
 use crate::words;
@@ -95,7 +95,7 @@ impl<'a> Play<'a> {
 
     fn say(&mut self, said: &str) -> io::Result<()> {
         self.turn_to(Last::Words)?;
-        writeln!(self.out, "{said}")
+        writeln!(self.out, "{}", visible(said))
     }
 
     /// The first round is shown, of the others what is answered otherwise.

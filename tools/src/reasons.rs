@@ -39,6 +39,16 @@ pub fn rule(rule: Rule, names: &Names) -> String {
     }
 }
 
+/// Why the verifier rejects an instruction, with the labels of its text.
+pub fn why_at<'a>(why: Why, names: &Names, label: impl Fn(usize) -> Option<&'a str>) -> String {
+    let named = |point: usize| label(point).map_or(point.to_string(), |label| format!("{label} ({point})"));
+    match why {
+        Why::TargetUnmapped(target) => format!("a jump to {}, where there is no map", named(target)),
+        Why::Flow(into, misfit) => format!("into the map at {}: {}", named(into), misfit_in_words(misfit, names)),
+        _ => self::why(why, names),
+    }
+}
+
 /// Why the verifier rejects an instruction.
 pub fn why(why: Why, names: &Names) -> String {
     match why {

@@ -3,10 +3,12 @@
 use reference::gen::Call;
 use reference::host::Told;
 use reference::script::{read_line, Line};
+use reference::Store;
 
 use crate::lesson::{Act, Doing, Lesson, What};
+use crate::machine;
 use crate::names::Names;
-use crate::source::{Source, Span};
+use crate::source::{visible, Problem, Source, Span};
 use crate::words;
 
 fn call_of(line: Line) -> Call {
@@ -21,11 +23,12 @@ fn call_of(line: Line) -> Call {
     }
 }
 
-/// The lines of a script with their calls, up to the first that can't be read, which has none.
+/// The lines of a script with their calls, up to the first that can't be read, which has none. A line may end as on Windows.
 pub fn lines(script: &str) -> Vec<(&str, Option<Call>)> {
     let mut all = Vec::new();
     let text = script.strip_suffix('\n').unwrap_or(script);
     for line in text.split('\n').filter(|_| !script.is_empty()) {
+        let line = line.strip_suffix('\r').unwrap_or(line);
         let call = read_line(line.as_bytes()).map(call_of);
         let is_end = call.is_none();
         all.push((line, call));
@@ -36,19 +39,58 @@ pub fn lines(script: &str) -> Vec<(&str, Option<Call>)> {
     all
 }
 
+/// Where a line of a text stands in it.
+fn span(text: &str, line: &str) -> Span {
+    let start = line.as_ptr() as usize - text.as_ptr() as usize;
+    Span { start, end: start + line.len() }
+}
+
+/// The problem of the line that can't be read, if there is one: the last of these.
+pub fn is_readable(source: &Source, lines: &[(&str, Option<Call>)]) -> Result<(), Problem> {
+    match lines.last() {
+        Some(&(line, None)) => {
+            let problem = Problem::new(span(&source.text, line), "a line that can't be read: the script ends here");
+            Err(problem.help("as in: R 1 2 0, D 1 0100.., S 0 1 10 20 7, N, X 0, with one space between, and no more in the file"))
+        }
+        _ => Ok(()),
+    }
+}
+
 /// The script, which has no names of its own, as a lesson that expects nothing.
 pub fn lesson(source: &Source, names: Names) -> Lesson {
-    let mut acts = Vec::new();
-    let mut start = 0;
-    for (line, call) in lines(&source.text) {
-        let span = Span { start, end: start + line.len() };
-        acts.push(match call {
-            Some(call) => Act::Do(Doing { said: words::call(&call, &names), what: What::Call(call), span, expected: Vec::new() }),
-            None => Act::Say(UNREADABLE.into()),
-        });
-        start += line.len() + 1;
-    }
+    let act = |(line, call): (&str, Option<Call>)| match call {
+        Some(call) => {
+            let (said, span) = (words::call(&call, &names), span(&source.text, line));
+            Act::Do(Doing { said, what: What::Call(call), span, expected: Vec::new() })
+        }
+        None => Act::Say(UNREADABLE.into()),
+    };
+    let acts = lines(&source.text).into_iter().map(act).collect();
     Lesson { names, texts: Vec::new(), acts }
+}
+
+/// The script as the program boxscript reads it: plain line ends, no byte order mark.
+pub fn plain(source: &Source) -> String {
+    source.text.replace("\r\n", "\n")
+}
+
+/// What boxscript prints for a script, by the machine's calls from a boot; nothing if this build has no machine.
+pub fn printed(script: &str) -> Option<String> {
+    let mut store = Store::zeros();
+    machine::make(&Call::Boot, &mut store, &mut [])?;
+    let mut out = String::new();
+    for call in lines(script).into_iter().filter_map(|(_, call)| call) {
+        let [_, number, one, two, three, _] = machine::make(&call, &mut store, &mut [])?.cells;
+        let letter = match call {
+            Call::Record { .. } => 'R',
+            Call::Define { .. } => 'D',
+            Call::Start { .. } => 'S',
+            Call::Drop { .. } => 'X',
+            _ => 'N',
+        };
+        out.push_str(&format!("{letter} {number} {one} {two} {}\n", three as i32));
+    }
+    Some(out)
 }
 
 const UNREADABLE: &str = "A line that it cannot read: the script ends here.";
@@ -66,7 +108,7 @@ pub fn beside(script: &str, printed: &str, names: &Names) -> String {
             }
             None => ("", UNREADABLE.into()),
         };
-        out.push_str(&format!("{:<30}  {numbers:<14}  {said}\n", cut(line)));
+        out.push_str(&format!("{:<30}  {numbers:<14}  {said}\n", visible(&cut(line))));
     }
     out
 }

@@ -13,7 +13,9 @@ use reference::gen::build::{Code, Draft, MapDraft, MethodDraft};
 use reference::store::LOCALS;
 
 use crate::cursor::{Cursor, Parsed};
+use crate::java::lines::Lines;
 use crate::source::{Problem, Span};
+use crate::tokens::Kind;
 
 /// A class file's text, assembled.
 #[derive(Clone, Debug)]
@@ -22,11 +24,25 @@ pub struct Text {
     pub called: String,
     pub span: Span,
     pub bytes: Vec<u8>,
+    /// The Java lines of its code, if it was written in Java.
+    pub lines: Lines,
     /// Where parts of the text stand in the bytes, by rising place.
     marks: Vec<(usize, Span)>,
+    /// The labels by the byte of the instruction behind them.
+    labels: Vec<(usize, String)>,
 }
 
 impl Text {
+    /// The label before the instruction at this byte.
+    pub fn label(&self, byte: usize) -> Option<&str> {
+        self.labels.iter().find(|label| label.0 == byte).map(|label| label.1.as_str())
+    }
+
+    /// A file that was made otherwise: all of it comes from this part.
+    pub fn made(called: String, span: Span, bytes: Vec<u8>, lines: Lines) -> Text {
+        Text { called, span, bytes, lines, marks: Vec::new(), labels: Vec::new() }
+    }
+
     /// The part of the text that this byte comes from.
     pub fn part(&self, byte: usize) -> Span {
         self.marks.iter().rev().find(|mark| mark.0 <= byte).map_or(self.span, |mark| mark.1)
@@ -40,12 +56,24 @@ const FIELD: usize = 4;
 const METHOD_HEAD: usize = 6;
 const MAP_HEAD: usize = 19;
 
-/// `class NAME extends NAME [version N] [as WORD] { members }`, behind the word class.
-pub fn class(at: &mut Cursor) -> Parsed<Text> {
+/// The first line of a class.
+struct Head {
+    draft: Draft,
+    called: String,
+    span: Span,
+    own: Span,
+    above: Span,
+}
+
+/// `NAME extends NAME [version N] [as WORD]`
+fn head(at: &mut Cursor) -> Parsed<Head> {
     let begin = at.last().span;
     let own = at.peek().span;
     let mut draft = Draft::new(at.name("the class's name")?);
-    let mut called = at.names.class(draft.name);
+    let mut called = at.source.of(own).to_string();
+    if at.last().kind != Kind::Word {
+        called = at.names.class(draft.name);
+    }
     at.keyword("extends")?;
     let above = at.peek().span;
     draft = draft.under(at.name("the superclass's name")?);
@@ -57,16 +85,53 @@ pub fn class(at: &mut Cursor) -> Parsed<Text> {
         let (word, end) = at.fresh("what the text is called")?;
         (called, span) = (word.to_string(), begin.to(end));
     }
-    let brace = at.sign('{')?;
+    Ok(Head { draft, called, span, own, above })
+}
+
+/// A class's first line and its brace; one with a problem is passed over as far as its brace, so that the members are read all the same.
+fn head_and_brace(at: &mut Cursor) -> Parsed<(Head, Span)> {
+    let begin = at.last().span;
+    let called = at.text().to_string();
+    let read = head(at).and_then(|head| match at.has_sign('{') {
+        true => Ok(head),
+        false => Err(at.expected("'{'").near(at.text(), ["version", "as"])),
+    });
+    let head = read.or_else(|problem| {
+        if !at.skip_to_brace() {
+            return Err(problem);
+        }
+        at.note(problem);
+        let mut draft = Draft::new(0);
+        draft.version = LAST;
+        Ok(Head { draft, called, span: begin, own: begin, above: begin })
+    })?;
+    Ok((head, at.sign('{')?))
+}
+
+/// `class NAME extends NAME [version N] [as WORD] { members }`, behind the word class.
+pub fn class(at: &mut Cursor) -> Parsed<Text> {
+    let start = at.mark();
+    let (Head { mut draft, called, span, own, above }, brace) = head_and_brace(at)?;
     let mut members = Members::default();
     while !at.has_sign('}') {
-        member(at, &mut draft, &mut members, brace)?;
+        let from = at.mark();
+        if let Err(problem) = member(at, &mut draft, &mut members, brace) {
+            // where another class begins, this one isn't closed
+            if at.is_end() || is_begun(at, start, &["class"]) {
+                return Err(problem);
+            }
+            at.note(problem);
+            if !is_begun(at, from, &["field", "method"]) {
+                at.skip(from, true, |word| ["field", "method"].contains(&word));
+            }
+        }
     }
     let end = at.take();
     let mut marks = vec![(0, span), (HEAD, own), (HEAD + 2, above), (HEAD + 4, span)];
-    marks.extend(members.marks(draft.version));
+    let mut labels = Vec::new();
+    marks.extend(members.marks(draft.version, &mut labels));
     let bytes = fits(&draft).map_err(|said| Problem::new(end, said))?;
-    Ok(Text { called, span, bytes, marks })
+    Ok(Text { called, span, bytes, lines: Lines::default(), marks, labels })
 }
 
 /// Where the members of a class stand in its text.
@@ -81,19 +146,22 @@ struct MethodPlaces {
     /// How many bytes the list of arguments has.
     list: usize,
     instructions: Vec<(usize, Span)>,
+    labels: Vec<(usize, String)>,
     length: usize,
     /// How many bytes each map has.
     maps: Vec<(usize, Span)>,
 }
 
 impl Members {
-    fn marks(&self, version: u8) -> Vec<(usize, Span)> {
+    /// Where members, instructions and maps stand; `labels` gets where the labels do.
+    fn marks(&self, version: u8, labels: &mut Vec<(usize, String)>) -> Vec<(usize, Span)> {
         let mut marks: Vec<_> = self.fields.iter().enumerate().map(|(i, &span)| (FIELDS + FIELD * i, span)).collect();
         let mut at = FIELDS + FIELD * self.fields.len() + 1;
         for method in &self.methods {
             marks.push((at, method.head));
             let code = at + METHOD_HEAD + method.list;
             marks.extend(method.instructions.iter().map(|&(point, span)| (code + point, span)));
+            labels.extend(method.labels.iter().map(|(point, word)| (code + point, word.clone())));
             at = code + method.length;
             if version >= MAPPED {
                 marks.push((at, method.head));
@@ -151,27 +219,50 @@ fn member(at: &mut Cursor, draft: &mut Draft, members: &mut Members, brace: Span
     }
 }
 
+/// Does one of these words stand here, behind the mark, and first on its line? Then what is read since the mark isn't closed.
+pub fn is_begun(at: &Cursor, mark: usize, words: &[&str]) -> bool {
+    at.mark() > mark && !at.goes_on() && at.word().is_some_and(|word| words.contains(&word))
+}
+
 fn not_closed(at: &Cursor, brace: Span) -> String {
     format!("the '{{' of line {} isn't closed yet", at.source.place(brace.start).0)
 }
 
+/// `NAME(TYPES) TYPE`; one with a problem is passed over as far as its brace.
+fn method_head(at: &mut Cursor, version: u8) -> Parsed<(u16, Vec<u16>, u16)> {
+    let read = |at: &mut Cursor| Ok((at.name("the method's name")?, arguments(at, version)?, at.name("the result's type")?));
+    read(at).or_else(|problem: Problem| {
+        if !at.skip_to_brace() {
+            return Err(problem);
+        }
+        at.note(problem);
+        Ok((0, vec![0], 0))
+    })
+}
+
 /// `method NAME(TYPES) TYPE { code }`
 fn method(at: &mut Cursor, version: u8) -> Parsed<(MethodDraft, MethodPlaces)> {
+    let start = at.mark();
     let begin = at.take();
-    let name = at.name("the method's name")?;
-    let arguments = arguments(at, version)?;
-    let result = at.name("the result's type")?;
+    let (name, arguments, result) = method_head(at, version)?;
     let head = begin.to(at.last().span);
     let brace = at.sign('{')?;
     let mut body = Body { version, brace, code: Code::of_version(version), ..Body::default() };
     while !at.has_sign('}') {
-        body.part(at)?;
+        let from = at.mark();
+        if let Err(problem) = body.part(at) {
+            if at.is_end() || at.mark() == from && is_begun(at, start, &["field", "method", "class"]) {
+                return Err(problem);
+            }
+            at.note(problem);
+            at.skip(from, false, |word| op::NAMES.contains(&word) || ["map", "bytes"].contains(&word));
+        }
     }
     at.take();
-    body.labels_are_there(at)?;
-    let Body { code, instructions, maps, .. } = body;
+    body.labels_are_there(at);
+    let Body { code, instructions, maps, placed, .. } = body;
     let list = usize::from(version >= LISTED) + 2 * arguments.len();
-    let places = MethodPlaces { head, list, instructions, length: code.bytes.len(), maps };
+    let places = MethodPlaces { head, list, instructions, labels: placed, length: code.bytes.len(), maps };
     Ok((MethodDraft { name, arguments, result, code: code.bytes, maps: code.maps }, places))
 }
 
@@ -210,6 +301,8 @@ struct Body {
     maps: Vec<(usize, Span)>,
     /// Each label's word, where it stands if it does yet, and where it was used first if it was. Its place is its number in the code.
     labels: Vec<(String, Option<Span>, Option<Span>)>,
+    /// The labels that stand, by their points.
+    placed: Vec<(usize, String)>,
 }
 
 impl Body {
@@ -254,6 +347,7 @@ impl Body {
             let line = at.source.place(there.start).0;
             return Err(Problem::new(span, format!("line {line} has a label {word} already")));
         }
+        self.placed.push((self.code.bytes.len(), word.into()));
         self.emit(|code| code.label(place as u16));
         Ok(())
     }
@@ -266,13 +360,12 @@ impl Body {
         Err(problem.help(format!("say so behind the superclass: class Loop extends Object version {version} {{ .. }}")))
     }
 
-    fn labels_are_there(&self, at: &Cursor) -> Parsed<()> {
-        let Some((word, _, Some(used))) = self.labels.iter().find(|label| label.1.is_none()) else {
-            return Ok(());
-        };
-        let problem = Problem::new(*used, format!("the method has no label {word}"));
-        let placed = self.labels.iter().filter(|label| label.1.is_some()).map(|label| label.0.as_str());
-        Err(problem.near(at.source.of(*used), placed).or_help(format!("it stands before an instruction, as: {word}: iload 1")))
+    fn labels_are_there(&self, at: &mut Cursor) {
+        for (word, _, used) in self.labels.iter().filter(|label| label.1.is_none()) {
+            let problem = Problem::new(used.unwrap_or(self.brace), format!("the method has no label {word}"));
+            let placed = self.labels.iter().filter(|label| label.1.is_some()).map(|label| label.0.as_str());
+            at.note(problem.near(word, placed).or_help(format!("it stands before an instruction, as: {word}: iload 1")));
+        }
     }
 
     /// One instruction, or `bytes` and code in hexadecimal.
@@ -303,6 +396,7 @@ impl Body {
 
     /// What follows an opcode.
     fn inline(&mut self, at: &mut Cursor, opcode: u8, inline: Inline) -> Parsed<()> {
+        let begin = at.last().span;
         let names = match inline {
             Inline::Nothing => Vec::new(),
             Inline::Int => vec![at.number("an int", i16::MIN.into(), i16::MAX.into())? as u16],
@@ -314,12 +408,14 @@ impl Body {
             Inline::Class => vec![at.name("a class")?],
             Inline::Field => {
                 let [class, field] = dotted(at, "a field")?;
-                vec![class, field, at.name("the field's type")?]
+                let whole = begin.to(at.last().span);
+                vec![class, field, at.name("the field's type").map_err(|problem| forgotten(at, whole, "int", problem))?]
             }
             Inline::Method => {
                 let [class, method] = dotted(at, "a method")?;
                 let arguments = arguments(at, self.version)?;
-                let result = at.name("the result's type")?;
+                let whole = begin.to(at.last().span);
+                let result = at.name("the result's type").map_err(|problem| forgotten(at, whole, "int", problem))?;
                 self.emit(|code| code.call(class, method, &arguments, result));
                 return Ok(());
             }
@@ -335,6 +431,11 @@ impl Body {
         self.emit(|code| code.names(opcode, &names));
         Ok(())
     }
+}
+
+/// The problem that a type was forgotten, with the instruction as it may have been meant.
+fn forgotten(at: &Cursor, written: Span, of: &str, problem: Problem) -> Problem {
+    problem.or_help(format!("its type stands behind it, as in: {} {of}", at.source.of(written)))
 }
 
 /// `map [at OFFSET] [OPERANDS] {LOCALS}`: the types at what comes next, or at an offset. Operands stand from the lowest up, locals from 0;
@@ -376,5 +477,5 @@ pub fn file(at: &mut Cursor) -> Parsed<Text> {
     at.sign('{')?;
     let bytes = at.bytes(true)?;
     at.sign('}')?;
-    Ok(Text { called: called.into(), span: begin.to(end), bytes, marks: Vec::new() })
+    Ok(Text { called: called.into(), span: begin.to(end), bytes, lines: Lines::default(), marks: Vec::new(), labels: Vec::new() })
 }

@@ -109,7 +109,7 @@ fn try_all(name: &str, bytes: Vec<u8>) {
             let (verdict, said) = check(&input);
             assert!(verdict != Verdict::Differ, "{said}");
         }
-        Err((source, problem)) => assert!(source.show(&problem).contains(" | ")),
+        Err((source, problems)) => assert!(source.show_all(&problems).contains(" | ")),
     }
     let lossy = String::from_utf8_lossy(&bytes).into_owned();
     drop(script::beside(&lossy, "R 0 0 0 0\nN 5 1 2 3\nD", &Names::default()));
@@ -124,10 +124,10 @@ fn try_all(name: &str, bytes: Vec<u8>) {
                         drop(outcome.expect("a machine").strip.svg());
                     }
                 }
-                Err(problem) => assert!(source.show(&problem).contains(" | ")),
+                Err(problems) => assert!(source.show_all(&problems).contains(" | ")),
             }
         }
-        Err((source, problem)) => assert!(source.show(&problem).contains(" | ")),
+        Err((source, problems)) => assert!(source.show_all(&problems).contains(" | ")),
     }
 }
 

@@ -10,7 +10,7 @@ use writer::script;
 use writer::source::Source;
 
 fn read(source: &Source) -> Lesson {
-    Lesson::read(source).unwrap_or_else(|problem| panic!("{}", source.show(&problem)))
+    Lesson::read(source).unwrap_or_else(|problems| panic!("{}", source.show_all(&problems)))
 }
 
 fn played(source: &Source, lesson: &Lesson) -> Outcome {

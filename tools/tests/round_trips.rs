@@ -16,7 +16,7 @@ use writer::source::Source;
 /// The bytes of every text in this listing.
 fn assembled(text: &str) -> Vec<(String, Vec<u8>)> {
     let source = Source { file: "listing".into(), text: text.into() };
-    let lesson = Lesson::read(&source).unwrap_or_else(|problem| panic!("{}\n{text}", source.show(&problem)));
+    let lesson = Lesson::read(&source).unwrap_or_else(|problems| panic!("{}\n{text}", source.show_all(&problems)));
     lesson.texts.into_iter().map(|text| (text.called, text.bytes)).collect()
 }
 
@@ -77,7 +77,7 @@ fn the_examples() {
     for path in common::examples("box").into_iter().chain(common::examples("lesson")) {
         let source = common::source(&path);
         let read = input::read(&source.file, source.text.clone().into_bytes(), Names::default());
-        let input = read.unwrap_or_else(|(source, problem)| panic!("{}", source.show(&problem)));
+        let input = read.unwrap_or_else(|(source, problems)| panic!("{}", source.show_all(&problems)));
         assert!(!input.pieces.is_empty());
         let mut text = String::new();
         for (name, number) in input.names.declared() {

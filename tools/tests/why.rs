@@ -1,4 +1,4 @@
-//! Why loads clash, on the course's lessons and by the proved machine: each load that clashes has its chain.
+//! Why loads and steps clash, on the course's lessons and by the proved machine: each call that clashes has its chain.
 
 mod common;
 
@@ -8,22 +8,21 @@ use writer::source::Source;
 
 /// What is printed, and what came of it.
 fn played(source: &Source) -> (String, Outcome) {
-    let lesson = Lesson::read(source).unwrap_or_else(|problem| panic!("{}", source.show(&problem)));
+    let lesson = Lesson::read(source).unwrap_or_else(|problems| panic!("{}", source.show_all(&problems)));
     let mut out = Vec::new();
     let outcome = Play::run(source, &lesson, Show { store: false, draw: true, why: true }, &mut out).expect("a machine");
     (String::from_utf8(out).expect("words"), outcome)
 }
 
-/// Every lesson passes, and each load in it that clashes has its chain and its picture.
+/// Every lesson passes, and each load, step and run in it that clashes has its chain and its picture.
 #[test]
-fn every_clash_of_a_load_is_explained() {
+fn every_clash_is_explained() {
     let mut reasons = 0;
     for path in common::examples("lesson") {
         let source = common::source(&path);
         let (said, outcome) = played(&source);
         assert_eq!(outcome.failed, 0, "{}: {said}", source.file);
-        let is_load = |line: &str| (line.contains(" defines ") || line.contains(" records ")) && line.ends_with("refused: 9, clash");
-        let clashes = said.lines().filter(|line| is_load(line)).count();
+        let clashes = said.lines().filter(|line| line.ends_with("refused: 9, clash")).count();
         assert_eq!(said.matches("        why: ").count(), clashes, "{}", source.file);
         assert_eq!((outcome.reasons, outcome.strip.count()), (clashes, clashes), "{}", source.file);
         reasons += clashes;
@@ -47,8 +46,25 @@ fn the_chain_is_said_row_by_row() {
         assert!(said.contains(line), "{line}\n{said}");
     }
     let svg = outcome.strip.svg();
-    for text in ["tie, row 0", "tie, row 1", "below, row 2", "below, row 3", "class 5? refused", "Purple rows"] {
+    for text in ["tie, row 0", "tie, row 1", "below, row 2", "below, row 3", "class 5 of loader 3? refused", "Purple rows"] {
         assert!(svg.contains(text), "{text}");
     }
     assert!(!svg.contains("Orange"));
+}
+
+/// A step that clashes: the row of the store, the tie that the step would post, and the same for a run that ends so.
+#[test]
+fn a_step_is_explained() {
+    let path = common::examples("lesson").into_iter().find(|path| path.ends_with("why-a-step-clashed.lesson")).expect("the lesson");
+    let (said, outcome) = played(&common::source(&path));
+    assert_eq!(outcome.reasons, 2, "{said}");
+    for line in [
+        "why: 2 rows lead from Discount of loader 1 (class 2) to Discount of loader 3 (class 4)",
+        "row 0: a tie, Discount is one class under loaders 2 and 1; on to Discount of loader 2 (not loaded)",
+        "row 1, that the step would post: a tie, Discount is one class under loaders 2 and 3; on to Discount of loader 3 (class 4)",
+        "ties alone: both must be one class, and class 2 isn't class 4",
+    ] {
+        assert_eq!(said.matches(line).count(), 2, "{line}\n{said}");
+    }
+    assert!(outcome.strip.svg().contains("tie, row 1, its own"));
 }

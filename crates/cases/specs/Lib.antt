@@ -9,5 +9,6 @@ pub mod Rates
 pub mod HiddenFields
 pub mod Arguments
 pub mod Tried
+pub mod Versions
 pub mod Share
 pub mod TakenBack

@@ -1,4 +1,5 @@
--- Why a load clashed, paper 3: the chains of P5, P6 and P7 and of loads beside them, from a boot of any tables that boot accepts.
+-- Why a load clashed, papers 3 and 9: the chains of P5, P6 and P7 and of loads beside them, the shortest and of those the first, from a boot of any tables that boot
+-- accepts.
 use mathlib.Core.Path.{_≡_, refl, ap, _∙_}
 use mathlib.Core.List.{List, [], _∷_, _++_, map}
 use Prim.Native.Nat.{ℕ}
@@ -44,6 +45,36 @@ tiedOne = tied12 ++ callDefine 1 (plain 12 2) ∷ []
 abbrev untied : List Call
 untied = ready ++ callDefine 1 (taker 40 2) ∷ callRecord 2 40 1 ∷ callDefine 1 (plain 12 2) ∷ callDefine 2 (plain 12 2) ∷ []
 
+-- a class of name n below s with method 30, (t) → int: as `taker`, where t is 12
+abbrev passer : ℕ → ℕ → ℕ → List ℕ
+passer t n s = fileOf n s 1 (method 30 t 1 (0x11 ∷ 0 ∷ 0 ∷ 0xAC ∷ []))
+
+-- ties on 12, in the order of their rows: 1–3, 1–4, 4–2, 3–2, so that 1 and 2 are tied by way of 3 and by way of 4; and (1,12) loaded
+abbrev crossed : List Call
+crossed =
+    ready
+    ++ callDefine 1 (taker 40 2) ∷ callRecord 3 40 1 ∷ callDefine 3 (taker 41 40) ∷ callRecord 4 40 1 ∷ callDefine 4 (taker 42 40)
+    ∷ callRecord 2 42 3 ∷ callDefine 2 (taker 43 42) ∷ callRecord 2 41 2 ∷ callDefine 2 (taker 44 41) ∷ callDefine 1 (plain 12 2) ∷ []
+
+-- ties 2–3 and then 1–2 on 12, and (1,12) loaded
+abbrev tiedBack : List Call
+tiedBack =
+    ready
+    ++ callDefine 2 (taker 40 2) ∷ callRecord 3 40 1 ∷ callDefine 3 (taker 41 40) ∷ callRecord 1 40 1 ∷ callDefine 1 (taker 42 40) ∷ callDefine 1 (plain 12 2) ∷ []
+
+-- a tie 1–2 on 12, then 13 below 12 in 1, then a tie 1–3 on 12; (3,12) loaded, and (1,13) as a class below it
+abbrev mixed : List Call
+mixed =
+    tied12
+    ++ callDefine 1 lifts ∷ callRecord 3 40 1 ∷ callDefine 3 (taker 42 40) ∷ callDefine 3 (plain 12 2) ∷ callRecord 1 60 5 ∷ callDefine 1 (plain 13 60) ∷ []
+
+-- ties 1–3 and 3–2 on 41, with (1,41) loaded; and a tie 1–2 on 12 still to be posted, with (1,12) and (2,12) loaded
+abbrev around : List Call
+around =
+    ready
+    ++ callDefine 1 (passer 41 43 2) ∷ callRecord 3 43 1 ∷ callDefine 3 (passer 41 44 43) ∷ callRecord 2 44 2 ∷ callDefine 2 (passer 41 45 44)
+    ∷ callDefine 1 (taker 40 2) ∷ callRecord 2 40 4 ∷ callDefine 1 (plain 12 2) ∷ callDefine 2 (plain 12 2) ∷ callDefine 1 (plain 41 2) ∷ []
+
 unfoldable pub tryings : List TriedCase
 tryings =
     -- P5: the tie
@@ -62,6 +93,17 @@ tryings =
     ∷ tries 7 (tied12 ++ callDefine 1 (plain 13 2) ∷ callDefine 2 (plain 12 2) ∷ []) (loadDefine 1 lifts) 512 9 (1 ∷ 0 ∷ [])
     -- the load's own tie alone: the new request, (2,41), isn't in the chain
     ∷ tries 5 untied (loadDefine 2 (taker 41 40)) 512 9 (0 ∷ [])
+    -- of two ways and both readings of each, the one with the lower row where they first differ: neither the lower row at the end, nor the lower highest
+    ∷ tries 6 crossed (loadDefine 2 (plain 12 2)) 512 9 (0 ∷ 3 ∷ [])
+    -- ties are read from either end, whichever loader is lower: here from (3,12), the new request
+    ∷ tries 6 tiedBack (loadDefine 3 (plain 12 2)) 512 9 (0 ∷ 1 ∷ [])
+    -- the shortest: one tie, though the two others have lower rows; one subtype constraint, though the two ties have
+    ∷ tries 6 (tied123 ++ callRecord 3 40 1 ∷ callDefine 3 (taker 43 40) ∷ callDefine 1 (plain 12 2) ∷ []) (loadDefine 3 (plain 12 2)) 512 9 (2 ∷ [])
+    ∷ tries 7 (tied123 ++ callDefine 3 lifts ∷ callDefine 3 (plain 13 2) ∷ callDefine 1 (plain 12 2) ∷ []) (loadDefine 3 (plain 12 2)) 512 9 (2 ∷ [])
+    -- two ties before a subtype constraint and a tie, 1 ∷ 0, which have the lower rows when sorted
+    ∷ tries 7 mixed (loadDefine 2 (plain 12 2)) 512 9 (0 ∷ 2 ∷ [])
+    -- the load's own tie, though the new request is in a longer chain of stored ones
+    ∷ tries 5 around (loadDefine 2 (taker 41 40)) 512 9 (2 ∷ [])
     -- a list of 511 numbers is short, whatever the load would get but 3
     ∷ tries 5 tiedOne (loadDefine 2 (plain 12 2)) 511 16 []
     ∷ tries 5 tiedOne (loadRecord 2 12 3) 511 16 []

@@ -1,4 +1,4 @@
--- Rows that break agreement by themselves: whether one does, the lowest of them, and that no chain is better where there is one.
+-- Rows that break agreement by themselves: whether one does, the first of them, and that no chain is better where there is one.
 use mathlib.Core.Path.{_≡_, refl, sym, ap, subst, _∙_}
 use mathlib.Core.Bool.{Bool, true, false, false≢true, not, _&&_}
 use mathlib.Core.Option.{Option, none, some, Option·none-ne-some, Option·some-injective}
@@ -14,6 +14,7 @@ use Rattle.definition.specs.Lists.{rows}
 use Rattle.definition.specs.Superclasses.{Below, Falls, below, same, up}
 use Rattle.definition.specs.Reasons.{precedes}
 use Rattle.laws.specs.Upward.{below-true, true-below}
+use Rattle.laws.specs.Earlier.{rowBefore}
 use Rattle.constraints.specs.Upward.{classOf}
 use Rattle.constraints.specs.Walks.{badOver, endsOver, InRange, Sole}
 use Rattle.constraints.specs.Choosing.{noSize, held, pick, NoBetter, OneSize, WalkFrom, Chosen, alone, consideredAlone, Alone, BestOf}
@@ -121,33 +122,33 @@ module _ (froms tos labels classes : List ℕ) (cached : ℕ) (only : Bool) (sup
     is : alone froms tos classes cached only sup e ≡ true
     is = sym test ∙ yes
 
-    -- the row that is kept is as low
-    pub alone-higher : (size y : ℕ) → size ≡ 1 → y ≡ getD best 0 0 → y ≤ x → held best size ≡ consideredAlone froms tos labels classes cached only sup e (held best size)
+    -- it doesn't go before the row that is kept
+    pub alone-later : (size y : ℕ) → size ≡ 1 → y ≡ getD best 0 0 → rowBefore x y ≡ false → held best size ≡ consideredAlone froms tos labels classes cached only sup e (held best size)
     unfolding pick precedes
-    alone-higher size y s p l =
+    alone-later size y s p l =
         ap (held best) s ∙ (one-held best ∙ sym (ap (λ (z : ℕ). after (held best z)) s ∙ (ap after (one-held best) ∙ (taken (some (getD best 0 0 ∷ [])) is ∙ kept))))
       where
-        low : ltb (getD labels e 0) (getD best 0 0) ≡ false
-        low = le-ltb (getD labels e 0) (getD best 0 0) (omega arith)
+        after-it : rowBefore (getD labels e 0) (getD best 0 0) ≡ false
+        after-it = sym (λ i. rowBefore (label i) (p i)) ∙ l
 
-        late : (u : Bool) → precedes ltb (getD labels e 0 ∷ []) (getD best 0 0 ∷ []) ≡ false
-        late u = rw (low, precedes) (go (ltb (getD best 0 0) (getD labels e 0)))
+        late : precedes rowBefore (getD labels e 0 ∷ []) (getD best 0 0 ∷ []) ≡ false
+        late = rw (after-it, precedes) (go (rowBefore (getD best 0 0) (getD labels e 0)))
           where
-            go : (t : Bool) → _≡_ {A = Bool} (elim t as (λ _. Bool) [ true ↦ false | false ↦ precedes ltb [] [] ]) false
+            go : (t : Bool) → _≡_ {A = Bool} (elim t as (λ _. Bool) [ true ↦ false | false ↦ precedes rowBefore [] [] ]) false
             go true = refl
             go false = refl
 
         kept : pick (some (getD best 0 0 ∷ [])) (getD labels e 0 ∷ []) ≡ some (getD best 0 0 ∷ [])
-        kept = rw (late true, pick) refl
+        kept = rw (late, pick) refl
 
-    -- it is higher, or there is none
-    pub alone-lower : (size : ℕ) → OneSize size → 0 < length best → (size ≡ 1 → x < getD best 0 0)
+    -- it goes before it, or there is none
+    pub alone-sooner : (size : ℕ) → OneSize size → 0 < length best → (size ≡ 1 → rowBefore x (getD best 0 0) ≡ true)
         → held (set best 0 x) 1 ≡ consideredAlone froms tos labels classes cached only sup e (held best size)
     unfolding pick precedes
-    alone-lower size s long l = one-held (set best 0 x) ∙ (ap (λ (z : ℕ). some (z ∷ [])) (getD-set-same best 0 x 0 long ∙ label) ∙ sym (taken (held best size) is ∙ go s))
+    alone-sooner size s long l = one-held (set best 0 x) ∙ (ap (λ (z : ℕ). some (z ∷ [])) (getD-set-same best 0 x 0 long ∙ label) ∙ sym (taken (held best size) is ∙ go s))
       where
         first : size ≡ 1 → pick (some (getD best 0 0 ∷ [])) (getD labels e 0 ∷ []) ≡ some (getD labels e 0 ∷ [])
-        first q = rw (lt-ltb (getD labels e 0) (getD best 0 0) (omega (arith, l q, label)), pick, precedes) refl
+        first q = rw (sym (ap (λ (z : ℕ). rowBefore z (getD best 0 0)) label) ∙ l q, pick, precedes) refl
 
         go : (size ≡ 1) ⊎ (size ≡ noSize) → pick (held best size) (getD labels e 0 ∷ []) ≡ some (getD labels e 0 ∷ [])
         go (inl q) = ap (λ (z : Option (List ℕ)). pick z (getD labels e 0 ∷ [])) (ap (held best) q ∙ one-held best) ∙ first q
@@ -217,7 +218,7 @@ module _ (froms tos labels : List ℕ) (classes : List ℕ) (cached : ℕ) (sup 
     unfolding endsOver
     some-row q w = false≢true (sym (self-good sup falls (getD classes q 0) (getD classes q 0) only refl) ∙ both-true (ltb q cached) (badOver only sup (getD classes q 0) (getD classes q 0)) w .1)
 
-    -- where one row is kept, none is better than the lowest
+    -- where one row is kept, none is better than the first
     one-best : (x : ℕ) → ((d : ℕ) → d < count → alone froms tos classes cached only sup d ≡ true → NoBetter (some (x ∷ [])) (getD labels d 0 ∷ []))
         → (q : ℕ) (ms : List ℕ) → q < cached → WalkFrom froms tos labels count classes cached only sup q ms → NoBetter (some (x ∷ [])) ms
     one-best x h q [] l w = absurd (some-row q w)

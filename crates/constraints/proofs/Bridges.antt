@@ -19,7 +19,7 @@ use Rattle.definition.specs.Constraints.{Tie, Subtype}
 use Rattle.definition.specs.Tables.{entryAt, tieAt, subtypeAt, numberAt}
 use Rattle.definition.specs.Reasons.{Link, link, tieLinks, subtypeLinks, Upward, reasonOver}
 use Rattle.laws.specs.Agreement.{find-row}
-use Rattle.laws.specs.Earlier.{lower-first}
+use Rattle.laws.specs.Earlier.{rowBefore, row-order}
 use Rattle.laws.specs.Clashes.{Led, Leads, ClashingOver, other, notBelow}
 use Rattle.laws.specs.Found.{first-reason, none-reason}
 use Rattle.constraints.specs.Nodes.{requestOf, AllNumbered, First, NodesOf, ClassesOf}
@@ -317,10 +317,10 @@ module _ {cache ties subtypes numbers : List ℕ} {n tied noted : ℕ} (put : Al
         go (inl w) = inl (tied-other ns (walk-leads true sup tie-bridged (w .0) ns (w .1) (w .2)))
         go (inr w) = inr (led-below ns (walk-leads false sup any-bridged (w .0) ns (w .1) (w .2)))
 
-    pub best-reason : (new : Option (List ℕ)) → Best new → new ≡ reasonOver ltb sup theCache theTies (theTies ++ theSubtypes)
-    best-reason none b = sym (none-reason lower-first sup theCache theTies (theTies ++ theSubtypes) (no-better none b))
+    pub best-reason : (new : Option (List ℕ)) → Best new → new ≡ reasonOver rowBefore sup theCache theTies (theTies ++ theSubtypes)
+    best-reason none b = sym (none-reason row-order sup theCache theTies (theTies ++ theSubtypes) (no-better none b))
     best-reason (some ns) b =
-        sym (first-reason lower-first sup theCache theTies (theTies ++ theSubtypes) (λ l m. Memᴰ·append-left theSubtypes m) ns (record {
+        sym (first-reason row-order sup theCache theTies (theTies ++ theSubtypes) (λ l m. Memᴰ·append-left theSubtypes m) ns (record {
           clashes = clashes (some ns) b ns refl;
           least = λ ms c _. no-better (some ns) b ms c .0;
           notLater = λ ms c l. no-better (some ns) b ms c .1 l;

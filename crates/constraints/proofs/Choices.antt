@@ -16,7 +16,7 @@ use borrow.Author.Tests.{eqb-true, eqb-false, eq-eqb, ne-eqb, ltb-true, ltb-fals
 use Rattle.definition.specs.Lists.{rows}
 use Rattle.definition.specs.Superclasses.{Falls}
 use Rattle.definition.specs.Reasons.{precedes}
-use Rattle.laws.specs.Earlier.{lower-first, later-head, same-head, not-itself, not-before-on, before-not}
+use Rattle.laws.specs.Earlier.{rowBefore, row-order, later-head, same-head, not-itself, not-before-on, before-not}
 use Rattle.layout.specs.Places.{rows-length, rows-step, rows-none, rows-last, rows-cong}
 use Rattle.constraints.specs.Nodes.{placeLimit}
 use Rattle.constraints.specs.Walks.{Found, distOf, wayOf, Walk, Onward, Exact, Spread, Sole, trail, badIn, endsIn, badOver, endsOver, Zeroed, InRange}
@@ -27,9 +27,9 @@ use Rattle.constraints.proofs.Marking.{stamped-none}
 use Rattle.constraints.proofs.Supers.{above-below}
 
 -- lists with the same first go by the rest
-same-first : (m n : ℕ) (ms ns : List ℕ) → n ≤ m → m ≤ n → precedes ltb (m ∷ ms) (n ∷ ns) ≡ precedes ltb ms ns
+same-first : (m n : ℕ) (ms ns : List ℕ) → rowBefore m n ≡ false → rowBefore n m ≡ false → precedes rowBefore (m ∷ ms) (n ∷ ns) ≡ precedes rowBefore ms ns
 unfolding precedes
-same-first m n ms ns h l = rw (le-ltb m n h, precedes) (rw (le-ltb n m l) refl)
+same-first m n ms ns h l = rw (h, precedes) (rw l refl)
 
 -- The rows of the links that lead on
 
@@ -54,9 +54,9 @@ module _ (tos labels ways : List ℕ) where
   -- compared with the first cells of a table, from place i on
   module _ (best : List ℕ) (k : ℕ) where
     unfoldable pub goesOn : ℕ → ℕ → Bool
-    goesOn i q = precedes ltb (trail tos labels ways (k - i) q) (rows (λ j. getD best j 0) (k - i) i)
+    goesOn i q = precedes rowBefore (trail tos labels ways (k - i) q) (rows (λ j. getD best j 0) (k - i) i)
 
-    pub goes-start : (q : ℕ) → goesOn 0 q ≡ precedes ltb (trail tos labels ways k q) (rows (λ j. getD best j 0) k 0)
+    pub goes-start : (q : ℕ) → goesOn 0 q ≡ precedes rowBefore (trail tos labels ways k q) (rows (λ j. getD best j 0) k 0)
     unfolding goesOn
     goes-start q = let z : k - 0 ≡ k = omega arith in rw z
 
@@ -65,18 +65,18 @@ module _ (tos labels ways : List ℕ) where
     goes-none i q h = rw (trail-none k i q h, rows-none (λ j. getD best j 0) k i h)
 
     module _ (i q way row kept : ℕ) (h : i < k) (isWay : way ≡ getD ways q 0) (isRow : row ≡ getD labels way 0) (isKept : kept ≡ getD best i 0) where
-      goes-step : goesOn i q ≡ precedes ltb (row ∷ trail tos labels ways (k - (i + 1)) (getD tos way 0)) (kept ∷ rows (λ j. getD best j 0) (k - (i + 1)) (i + 1))
+      goes-step : goesOn i q ≡ precedes rowBefore (row ∷ trail tos labels ways (k - (i + 1)) (getD tos way 0)) (kept ∷ rows (λ j. getD best j 0) (k - (i + 1)) (i + 1))
       unfolding goesOn
       goes-step = rw (trail-step k i q way row h isWay isRow, rows-step (λ j. getD best j 0) k i h, isKept)
 
-      pub goes-before : row < kept → goesOn i q ≡ true
+      pub goes-before : rowBefore row kept ≡ true → goesOn i q ≡ true
       unfolding precedes
-      goes-before l = goes-step ∙ rw (lt-ltb row kept l, precedes)
+      goes-before l = goes-step ∙ rw (l, precedes)
 
-      pub goes-after : kept < row → goesOn i q ≡ false
-      goes-after l = goes-step ∙ later-head lower-first row kept (trail tos labels ways (k - (i + 1)) (getD tos way 0)) (rows (λ j. getD best j 0) (k - (i + 1)) (i + 1)) (lt-ltb kept row l)
+      pub goes-after : rowBefore kept row ≡ true → goesOn i q ≡ false
+      goes-after l = goes-step ∙ later-head row-order row kept (trail tos labels ways (k - (i + 1)) (getD tos way 0)) (rows (λ j. getD best j 0) (k - (i + 1)) (i + 1)) l
 
-      pub goes-on : (next : ℕ) → next ≡ getD tos way 0 → kept ≤ row → row ≤ kept → goesOn (i + 1) next ≡ goesOn i q
+      pub goes-on : (next : ℕ) → next ≡ getD tos way 0 → rowBefore row kept ≡ false → rowBefore kept row ≡ false → goesOn (i + 1) next ≡ goesOn i q
       unfolding goesOn
       goes-on next e l m = rw e (sym (goes-step ∙ same-first row kept (trail tos labels ways (k - (i + 1)) (getD tos way 0)) (rows (λ j. getD best j 0) (k - (i + 1)) (i + 1)) l m))
 
@@ -131,13 +131,13 @@ module _ (froms tos labels : List ℕ) (count : ℕ) (ends : ℕ → Bool) (s : 
             z ∙ ap suc same
 
     -- no walk of a node's distance goes before them
-    trail-first : (ms : List ℕ) (q k : ℕ) → distOf s q ≡ suc k → Walk froms tos labels count ends q ms → length ms ≡ k → precedes ltb ms (trail tos labels (s .ways) k q) ≡ false
+    trail-first : (ms : List ℕ) (q k : ℕ) → distOf s q ≡ suc k → Walk froms tos labels count ends q ms → length ms ≡ k → precedes rowBefore ms (trail tos labels (s .ways) k q) ≡ false
     unfolding trail precedes
     trail-first [] q zero e w l = refl
     trail-first [] q (suc k) e w l = absurd (omega arith)
     trail-first (r ∷ ms) q zero e w l = absurd (omega arith)
     trail-first (r ∷ ms) q (suc j) e (d, h, f, g, w) l =
-        go (eq-or-lt-of-le (rw g at (o .lowest d h f dist))) (trail-first ms (getD tos d 0) j dist w (omega arith))
+        go (rowBefore row r) refl (trail-first ms (getD tos d 0) j dist w (omega arith))
       where
         o : Onward froms tos labels count ends s q j (wayOf s q)
         o = exact .onward q j e
@@ -148,20 +148,21 @@ module _ (froms tos labels : List ℕ) (count : ℕ) (ends : ℕ → Bool) (s : 
         row : ℕ
         row = getD labels (wayOf s q) 0
 
-        go : (row ≡ r) ⊎ (row < r) → precedes ltb ms (trail tos labels (s .ways) j (getD tos d 0)) ≡ false → precedes ltb (r ∷ ms) (row ∷ trail tos labels (s .ways) j (getD tos (wayOf s q) 0)) ≡ false
-        go (inl a) b =
-            let same : getD tos (wayOf s q) 0 ≡ getD tos d 0 = sole (wayOf s q) d (o .fits) h (o .from ∙ sym f) (a ∙ sym g) in
-            rw (a, same) (same-head lower-first r ms (trail tos labels (s .ways) j (getD tos d 0)) b)
-        go (inr a) b = later-head lower-first r row ms (trail tos labels (s .ways) j (getD tos (wayOf s q) 0)) (lt-ltb row r a)
+        go : (t : Bool) → rowBefore row r ≡ t → precedes rowBefore ms (trail tos labels (s .ways) j (getD tos d 0)) ≡ false → precedes rowBefore (r ∷ ms) (row ∷ trail tos labels (s .ways) j (getD tos (wayOf s q) 0)) ≡ false
+        go false a b =
+            let equal : row ≡ r = row-order .total row r a (rw g at (o .first d h f dist)) in
+            let same : getD tos (wayOf s q) 0 ≡ getD tos d 0 = sole (wayOf s q) d (o .fits) h (o .from ∙ sym f) (equal ∙ sym g) in
+            rw (equal, same) (same-head row-order r ms (trail tos labels (s .ways) j (getD tos d 0)) b)
+        go true a b = later-head row-order r row ms (trail tos labels (s .ways) j (getD tos (wayOf s q) 0)) a
 
 -- The better of two
 
 no-worse : (t : List ℕ) → NoBetter (some t) t
-no-worse t = (omega arith, λ e. not-itself lower-first t)
+no-worse t = (omega arith, λ e. not-itself row-order t)
 
 better-on : (o : Option (List ℕ)) (t ms : List ℕ) → NoBetter o t → NoBetter (some t) ms → NoBetter o ms
 better-on none t ms a b = a
-better-on (some ns) t ms a b = (omega arith, λ e. not-before-on lower-first ms t ns (b .1 (omega arith)) (a .1 (omega arith)))
+better-on (some ns) t ms a b = (omega arith, λ e. not-before-on row-order ms t ns (b .1 (omega arith)) (a .1 (omega arith)))
 
 module _ (ns t : List ℕ) where
   pick-shorter : length t < length ns → pick (some ns) t ≡ some t
@@ -172,7 +173,7 @@ module _ (ns t : List ℕ) where
   unfolding pick
   pick-longer h = rw (le-ltb (length t) (length ns) (omega arith), ne-eqb (length t) (length ns) (λ e. omega arith), pick)
 
-  pick-alike : (u : Bool) → length t ≡ length ns → precedes ltb t ns ≡ u → pick (some ns) t ≡ elim u as (λ _. Option (List ℕ)) [ true ↦ some t | false ↦ some ns ]
+  pick-alike : (u : Bool) → length t ≡ length ns → precedes rowBefore t ns ≡ u → pick (some ns) t ≡ elim u as (λ _. Option (List ℕ)) [ true ↦ some t | false ↦ some ns ]
   unfolding pick
   pick-alike u h e = rw (le-ltb (length t) (length ns) (omega arith), eq-eqb (length t) (length ns) h, e, pick)
 
@@ -183,13 +184,13 @@ Picked o t = ((pick o t ≡ some t) × ((ms : List ℕ) → NoBetter o ms → No
 picked : (o : Option (List ℕ)) (t : List ℕ) → Picked o t
 unfolding pick
 picked none t = inl (refl, λ ms b. absurd b)
-picked (some ns) t = go (eqb (length t) (length ns)) refl (ltb (length t) (length ns)) refl (precedes ltb t ns) refl
+picked (some ns) t = go (eqb (length t) (length ns)) refl (ltb (length t) (length ns)) refl (precedes rowBefore t ns) refl
   where
-    go : (u : Bool) → eqb (length t) (length ns) ≡ u → (v : Bool) → ltb (length t) (length ns) ≡ v → (w : Bool) → precedes ltb t ns ≡ w
+    go : (u : Bool) → eqb (length t) (length ns) ≡ u → (v : Bool) → ltb (length t) (length ns) ≡ v → (w : Bool) → precedes rowBefore t ns ≡ w
         → Picked (some ns) t
     go true p v q true r =
         let e = eqb-true (length t) (length ns) p in
-        inl (pick-alike ns t true e r, λ ms b. (omega arith, λ f. not-before-on lower-first ms ns t (b .1 (omega arith)) (before-not lower-first t ns r)))
+        inl (pick-alike ns t true e r, λ ms b. (omega arith, λ f. not-before-on row-order ms ns t (b .1 (omega arith)) (before-not row-order t ns r)))
     go true p v q false r = let e = eqb-true (length t) (length ns) p in inr (pick-alike ns t false e r, (omega arith, λ f. r))
     go false p true q w r = let l = ltb-true (length t) (length ns) q in inl (pick-shorter ns t l, λ ms b. (omega arith, λ f. absurd (omega arith)))
     go false p false q w r =
@@ -373,13 +374,13 @@ module _ (tos labels dists ways best : List ℕ) (q k size : ℕ) (dist : getD d
       let e = held-some best size (omega arith) in
       rw e (sym (considered-found tos labels dists ways q k (some kept) dist ∙ pick-longer kept new (omega arith)))
 
-  pub stays-after : size ≡ k → precedes ltb new (rows (λ i. getD best i 0) k 0) ≡ false → held best size ≡ considered tos labels dists ways q (held best size)
+  pub stays-after : size ≡ k → precedes rowBefore new (rows (λ i. getD best i 0) k 0) ≡ false → held best size ≡ considered tos labels dists ways q (held best size)
   stays-after h p =
       let s = sizes in
       let e = held-some best size (omega arith) in
       rw e (sym (considered-found tos labels dists ways q k (some kept) dist ∙ pick-alike kept new false (omega arith) (rw h p)))
 
-  pub comes-in : (after : List ℕ) → (size ≤ placeLimit) ⊎ (size ≡ noSize) → k ≤ size → (size ≡ k → precedes ltb new (rows (λ i. getD best i 0) k 0) ≡ true) → rows (λ i. getD after i 0) k 0 ≡ new
+  pub comes-in : (after : List ℕ) → (size ≤ placeLimit) ⊎ (size ≡ noSize) → k ≤ size → (size ≡ k → precedes rowBefore new (rows (λ i. getD best i 0) k 0) ≡ true) → rows (λ i. getD after i 0) k 0 ≡ new
       → held after k ≡ considered tos labels dists ways q (held best size)
   unfolding pick
   comes-in after fits h p w = held-some after k low ∙ ap (λ (l : List ℕ). some l) w ∙ sym (considered-found tos labels dists ways q k (held best size) dist ∙ go fits)

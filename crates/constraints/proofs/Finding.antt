@@ -7,18 +7,20 @@ use mathlib.Core.Logic.{_⊎_, inl, inr}
 use Prim.Native.Nat.{ℕ, _+_, _≤_}
 use native.Mathlib.Omega.{arith}
 use lib.ListN.{getD, set}
-use lib.Dec.{leb, ltb}
+use lib.Dec.{leb}
 use borrow.Author.Tests.{leb-false, ne-eqb}
 use Rattle.definition.specs.Numbers.{cacheLimit, tieLimit, subtypeLimit, countCache, countTies, countSubtypes, tieNumbersCell, subtypeNumbersCell}
 use Rattle.definition.specs.Lists.{rows, writeRows}
 use Rattle.definition.specs.declared.Reply.{Reply}
 use Rattle.definition.specs.Tables.{entryAt, tieAt, subtypeAt, numberAt}
 use Rattle.definition.specs.Reasons.{tieLinks, subtypeLinks, reasonOver, tries, listed}
+use Rattle.laws.specs.Earlier.{rowBefore}
 use Rattle.layout.specs.Places.{rows-length}
+use Rattle.rows.specs.Numbers.{numbersFit}
 use Rattle.constraints.specs.Agreement.{atMost, superIn}
 use Rattle.constraints.specs.Nodes.{placeLimit, AllNumbered, NodesOf, ClassesOf}
 use Rattle.constraints.specs.Choosing.{noSize, held, Holds, BestOf}
-use Rattle.constraints.specs.Linking.{Linked, Labelled, numbersFit, reasonIn}
+use Rattle.constraints.specs.Linking.{Linked, Labelled, reasonIn}
 use Rattle.constraints.proofs.Bridges.{best-reason}
 
 -- a count that is held to a limit is no more than it was
@@ -39,7 +41,7 @@ held-none best = refl
 abbrev reasonFor : List ℕ → List ℕ → List ℕ → List ℕ → List ℕ → ℕ → ℕ → ℕ → Option (List ℕ)
 reasonFor supers counts cache ties subtypes n tied noted =
     let T = tieLinks (rows (tieAt ties) tied 0) (rows (numberAt tieNumbersCell counts) tied 0) in
-    reasonOver ltb (superIn supers) (rows (entryAt cache) n 0) T (T ++ subtypeLinks (rows (subtypeAt subtypes) noted 0) (rows (numberAt subtypeNumbersCell counts) noted 0))
+    reasonOver rowBefore (superIn supers) (rows (entryAt cache) n 0) T (T ++ subtypeLinks (rows (subtypeAt subtypes) noted 0) (rows (numberAt subtypeNumbersCell counts) noted 0))
 
 -- where the numbers fit, the reason is that of the first rows
 reason-fits : (supers counts cache ties subtypes : List ℕ) → numbersFit counts ≡ true

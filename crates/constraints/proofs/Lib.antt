@@ -15,8 +15,6 @@ pub mod Naming
 pub mod Spreading
 pub mod Choices
 pub mod Alones
-pub mod Posted
-pub mod Turns
 pub mod Linked
 pub mod Writing
 pub mod Bridges

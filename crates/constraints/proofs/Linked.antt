@@ -9,9 +9,10 @@ use Rattle.definition.specs.Numbers.{cacheLimit, tieLimit, subtypeLimit, countT
 use Rattle.definition.specs.Lists.{rows}
 use Rattle.definition.specs.Tables.{numberAt, rowNumbers}
 use Rattle.layout.specs.InTurn.{RisesFrom, Exactly, in-turn-words}
+use Rattle.rows.specs.Numbers.{numbersFit}
 use Rattle.constraints.specs.Nodes.{placeLimit, NodesOf}
 use Rattle.constraints.specs.Walks.{InRange, Sole}
-use Rattle.constraints.specs.Linking.{Copied, Linked, Labelled, numbersFit}
+use Rattle.constraints.specs.Linking.{Copied, Linked, Labelled}
 use Rattle.constraints.proofs.Rows.{Order, less, equal, more, order, in-rows}
 
 -- Blocks

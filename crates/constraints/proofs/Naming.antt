@@ -3,9 +3,9 @@
 use mathlib.Core.Path.{_≡_, refl, sym, ap, _∙_}
 use mathlib.Core.Bool.{Bool, true, false, not, false≢true}
 use mathlib.Core.Option.{Option, none, some, Option·none-ne-some, Option·some-injective}
-use mathlib.Core.List.{List, _++_}
+use mathlib.Core.List.{List, [], _++_}
 use mathlib.Core.Logic.{_⊎_, inl, inr}
-use Prim.Native.Nat.{ℕ, _<_}
+use Prim.Native.Nat.{ℕ, zero, suc, _+_, _<_}
 use native.Mathlib.Omega.{arith}
 use lib.Dec.{ltb, eqb}
 use borrow.Author.Tests.{ltb-true}
@@ -19,7 +19,7 @@ use Rattle.definition.specs.declared.Check.{Check}
 use Rattle.definition.specs.declared.Check.the-variants.{Agreed, Breaking}
 use Rattle.definition.specs.Checks.{breaksOver, agreed, breaking, OneOf, NamesOver}
 use Rattle.definition.specs.Tables.{entryAt, tieAt, subtypeAt}
-use Rattle.laws.specs.Agreement.{find-row}
+use Rattle.laws.specs.Agreement.{find-row, agrees-alone}
 use Rattle.constraints.specs.Agreement.{atMost, entriesIn, tiesIn, edgesIn, newOf, newIn, toldOf}
 use Rattle.constraints.specs.Pairs.{Found, NoPair, Pair, isPair, pairOn, agreeOn, Fresh, Finding, agree, apart}
 use Rattle.constraints.proofs.Rows.{rows-in}
@@ -132,3 +132,16 @@ pub names-counted : (sup : ℕ → Option ℕ) (cache ties subtypes : List ℕ) 
     (newOf cache n new) r
     → NamesOver sup (entriesIn cache entries) (tiesIn ties tieCount) (edgesIn ties tieCount subtypes subtypeCount) (newIn cache entries newcomer) r
 names-counted sup cache ties subtypes n tied noted new entries tieCount subtypeCount newcomer r p q s t h = rw (sym p, sym q, sym s, sym t) h
+
+-- where there are no rows of constraints, none is named
+pub names-alone : (sup : ℕ → Option ℕ) (cache ties subtypes : List ℕ) (n tied noted new : ℕ) → tied + noted ≡ 0
+    → NamesOver sup (rows (entryAt cache) n 0) (tieEdges (rows (tieAt ties) tied 0)) (tieEdges (rows (tieAt ties) tied 0) ++ subtypeEdges (rows (subtypeAt subtypes) noted 0))
+    (newOf cache n new) Agreed
+unfolding rows tieEdges subtypeEdges agreed
+names-alone sup cache ties subtypes n zero zero new h = record {
+  exactly = sym (agrees-alone sup (rows (entryAt cache) n 0));
+  breaks = λ a b e. absurd (none-named a b e);
+  newFirst = λ a b e. absurd (none-named a b e);
+}
+names-alone sup cache ties subtypes n zero (suc noted) new h = absurd (omega arith)
+names-alone sup cache ties subtypes n (suc tied) noted new h = absurd (omega arith)

@@ -8,7 +8,7 @@ use native.Mathlib.Nat.{eq-or-lt-of-le}
 use native.Mathlib.Omega.{arith}
 use lib.Dec.{ltb}
 use borrow.Author.Tests.{ltb-true, ltb-false}
-use Rattle.definition.specs.Lists.{rows, all, any}
+use Rattle.definition.specs.Lists.{rows, all}
 use Rattle.layout.specs.Places.{rows-start}
 
 -- two numbers
@@ -63,12 +63,9 @@ all-same f g p h (suc k) i e = rw (e i (omega arith) (omega arith))
     go true r = r
     go false r = refl
 
--- a test and a search of n rows begin
+-- a test of n rows begins
 pub all-start : {A : Type 0} (f : A → Bool) (g : ℕ → A) (n : ℕ) → all f (rows g (n - 0) 0) ≡ all f (rows g n 0)
 all-start f g n = rw (rows-start g n)
-
-pub any-start : {A : Type 0} (f : A → Bool) (g : ℕ → A) (n m : ℕ) → n ≡ m → any f (rows g (n - 0) 0) ≡ any f (rows g m 0)
-any-start f g n m e = let z : n - 0 ≡ m = omega arith in rw z
 
 -- both of two tests that hold together
 pub both-true : (s t : Bool) → s && t ≡ true → (s ≡ true) × (t ≡ true)

@@ -11,6 +11,7 @@ use lib.ListN.{length, getD, set, length-set, List·getD-eq-default, replicate, 
 use lib.Seq.{getD-set-same, getD-set-other}
 use lib.Dec.{eqb, ltb}
 use borrow.Author.Tests.{eqb-true, eqb-false, ltb-true, ltb-false, lt-ltb, eq-eqb, ne-eqb}
+use Rattle.laws.specs.Earlier.{rowBefore, row-order, itself, number-on}
 use Rattle.constraints.specs.Nodes.{placeLimit}
 use Rattle.constraints.specs.Joining.{Last}
 use Rattle.constraints.specs.Search.{marked, startOf}
@@ -68,9 +69,9 @@ module _ (froms labels : List ℕ) (layer : ℕ) where
     fresh : distOf s (getD froms e 0) ≡ 0
         → look froms labels layer e s ≡ found (set (s .dists) (getD froms e 0) layer) (set (s .ways) (getD froms e 0) e) (set (s .queue) (s .tail) (getD froms e 0)) (s .tail + 1)
         → Looked e s
-    lower : distOf s (getD froms e 0) ≡ layer → getD labels e 0 < getD labels (wayOf s (getD froms e 0)) 0
+    sooner : distOf s (getD froms e 0) ≡ layer → rowBefore (getD labels e 0) (getD labels (wayOf s (getD froms e 0)) 0) ≡ true
         → look froms labels layer e s ≡ found (s .dists) (set (s .ways) (getD froms e 0) e) (s .queue) (s .tail) → Looked e s
-    same : (distOf s (getD froms e 0) ≡ 0 → ⊥) → (distOf s (getD froms e 0) ≡ layer → getD labels (wayOf s (getD froms e 0)) 0 ≤ getD labels e 0)
+    same : (distOf s (getD froms e 0) ≡ 0 → ⊥) → (distOf s (getD froms e 0) ≡ layer → rowBefore (getD labels e 0) (getD labels (wayOf s (getD froms e 0)) 0) ≡ false)
         → look froms labels layer e s ≡ s → Looked e s
 
   looked : (e : ℕ) (s : Found) → Looked e s
@@ -79,11 +80,11 @@ module _ (froms labels : List ℕ) (layer : ℕ) where
     where
       go : (d : ℕ) → distOf s (getD froms e 0) ≡ d → Looked e s
       go zero p = fresh p (rw (p, look) refl)
-      go (suc d) p = next (eqb (suc d) layer) refl (ltb (getD labels e 0) (getD labels (wayOf s (getD froms e 0)) 0)) refl
+      go (suc d) p = next (eqb (suc d) layer) refl (rowBefore (getD labels e 0) (getD labels (wayOf s (getD froms e 0)) 0)) refl
         where
-          next : (t : Bool) → eqb (suc d) layer ≡ t → (u : Bool) → ltb (getD labels e 0) (getD labels (wayOf s (getD froms e 0)) 0) ≡ u → Looked e s
-          next true f true g = lower (p ∙ eqb-true (suc d) layer f) (ltb-true (getD labels e 0) (getD labels (wayOf s (getD froms e 0)) 0) g) (rw (p, look) (rw (f, g) refl))
-          next true f false g = same (λ z. omega (arith, p, z)) (λ _. ltb-false (getD labels e 0) (getD labels (wayOf s (getD froms e 0)) 0) g) (rw (p, look) (rw (f, g) refl))
+          next : (t : Bool) → eqb (suc d) layer ≡ t → (u : Bool) → rowBefore (getD labels e 0) (getD labels (wayOf s (getD froms e 0)) 0) ≡ u → Looked e s
+          next true f true g = sooner (p ∙ eqb-true (suc d) layer f) g (rw (p, look) (rw (f, g) refl))
+          next true f false g = same (λ z. omega (arith, p, z)) (λ _. g) (rw (p, look) (rw (f, g) refl))
           next false f u g = same (λ z. omega (arith, p, z)) (λ z. absurd (eqb-false (suc d) layer f (sym p ∙ z))) (rw (p, look) (rw f refl))
 
   room-left : (s : Found) (a : ℕ) → Room s → a < placeLimit → distOf s a ≡ 0 → 0 < layer → s .tail < placeLimit
@@ -123,7 +124,7 @@ module _ (froms labels : List ℕ) (layer : ℕ) where
 
       go : Looked e s → Both (look froms labels layer e s)
       go (fresh p q) = rw q (fresh-sized e s l h z p)
-      go (lower p m q) = rw q (
+      go (sooner p m q) = rw q (
         record {
           room = record { distsLong = z .room .distsLong; waysLong = length-set (s .ways) (getD froms e 0) e ∙ z .room .waysLong; queueLong = z .room .queueLong; few = z .room .few };
           nodes = z .nodes;
@@ -144,18 +145,18 @@ module _ (froms labels : List ℕ) (layer : ℕ) where
 -- One round: looks at links, of which H are those that were looked at, on what was found before the round
 
 module _ (froms labels : List ℕ) (n : ℕ) (s₀ : Found) (bound : (q k : ℕ) → distOf s₀ q ≡ suc k → k ≤ n) where
-  -- of the links looked at that lead from q, e has the lowest row
-  record Lowest (H : ℕ → Type 0) (q e : ℕ) : Type 0 where
+  -- of the links looked at that lead from q, e has the row that goes first
+  record Foremost (H : ℕ → Type 0) (q e : ℕ) : Type 0 where
     is : H e
     from : getD froms e 0 ≡ q
-    low : (d : ℕ) → H d → getD froms d 0 ≡ q → getD labels e 0 ≤ getD labels d 0
+    first : (d : ℕ) → H d → getD froms d 0 ≡ q → rowBefore (getD labels d 0) (getD labels e 0) ≡ false
 
   record Stage (H : ℕ → Type 0) (s : Found) : Type 0 where
     sized : Sized s
     grows : Grows s₀ s
     kept : (q k : ℕ) → distOf s₀ q ≡ suc k → (distOf s q ≡ suc k) × (wayOf s q ≡ wayOf s₀ q)
     none : (q : ℕ) → distOf s q ≡ 0 → (distOf s₀ q ≡ 0) × ((d : ℕ) → H d → getD froms d 0 ≡ q → ⊥)
-    new : (q k : ℕ) → distOf s q ≡ suc k → distOf s₀ q ≡ 0 → (k ≡ suc n) × Lowest H q (wayOf s q)
+    new : (q k : ℕ) → distOf s q ≡ suc k → distOf s₀ q ≡ 0 → (k ≡ suc n) × Foremost H q (wayOf s q)
     isQueued : (q k : ℕ) → distOf s q ≡ suc k → distOf s₀ q ≡ 0 → (i : ℕ) × (s₀ .tail ≤ i) × (i < s .tail) × (nodeAt s i ≡ q)
     isNew : (i : ℕ) → s₀ .tail ≤ i → i < s .tail → distOf s (nodeAt s i) ≡ suc (suc n)
 
@@ -170,8 +171,8 @@ module _ (froms labels : List ℕ) (n : ℕ) (s₀ : Found) (bound : (q k : ℕ)
     isNew = λ i l k. absurd (omega arith);
   }
 
-  lowest-same : {H K : ℕ → Type 0} → ((d : ℕ) → H d → K d) → ((d : ℕ) → K d → H d) → (q e : ℕ) → Lowest H q e → Lowest K q e
-  lowest-same f g q e l = record { is = f e (l .is); from = l .from; low = λ d k. l .low d (g d k) }
+  foremost-same : {H K : ℕ → Type 0} → ((d : ℕ) → H d → K d) → ((d : ℕ) → K d → H d) → (q e : ℕ) → Foremost H q e → Foremost K q e
+  foremost-same f g q e l = record { is = f e (l .is); from = l .from; first = λ d k. l .first d (g d k) }
 
   stage-same : {H K : ℕ → Type 0} → ((d : ℕ) → H d → K d) → ((d : ℕ) → K d → H d) → (s : Found) → Stage H s → Stage K s
   stage-same f g s t = record {
@@ -179,7 +180,7 @@ module _ (froms labels : List ℕ) (n : ℕ) (s₀ : Found) (bound : (q k : ℕ)
     grows = t .grows;
     kept = t .kept;
     none = λ q e. (t .none q e .0, λ d k. t .none q e .1 d (g d k));
-    new = λ q k e h. (t .new q k e h .0, lowest-same f g q (wayOf s q) (t .new q k e h .1));
+    new = λ q k e h. (t .new q k e h .0, foremost-same f g q (wayOf s q) (t .new q k e h .1));
     isQueued = t .isQueued;
     isNew = t .isNew;
   }
@@ -189,11 +190,11 @@ module _ (froms labels : List ℕ) (n : ℕ) (s₀ : Found) (bound : (q k : ℕ)
     More d = H d ⊎ (d ≡ e)
 
     -- where another node is asked for, one more link changes nothing
-    lowest-other : (q d : ℕ) → (q ≡ getD froms e 0 → ⊥) → Lowest H q d → Lowest More q d
-    lowest-other q d m l = record { is = inl (l .is); from = l .from; low = λ c k f. go c k f }
+    foremost-other : (q d : ℕ) → (q ≡ getD froms e 0 → ⊥) → Foremost H q d → Foremost More q d
+    foremost-other q d m l = record { is = inl (l .is); from = l .from; first = λ c k f. go c k f }
       where
-        go : (c : ℕ) → H c ⊎ (c ≡ e) → getD froms c 0 ≡ q → getD labels d 0 ≤ getD labels c 0
-        go c (inl k) f = l .low c k f
+        go : (c : ℕ) → H c ⊎ (c ≡ e) → getD froms c 0 ≡ q → rowBefore (getD labels c 0) (getD labels d 0) ≡ false
+        go c (inl k) f = l .first c k f
         go c (inr k) f = absurd (m (sym f ∙ ap (λ (x : ℕ). getD froms x 0) k))
 
     none-other : (q : ℕ) → (q ≡ getD froms e 0 → ⊥) → ((d : ℕ) → H d → getD froms d 0 ≡ q → ⊥) → (d : ℕ) → H d ⊎ (d ≡ e) → getD froms d 0 ≡ q → ⊥
@@ -239,16 +240,16 @@ module _ (froms labels : List ℕ) (n : ℕ) (s₀ : Found) (bound : (q k : ℕ)
         nones q f (here m w) = absurd (omega (arith, f, w))
         nones q f (there m w) = let r = t .none q (sym w ∙ f) in (r .0, none-other q m (r .1))
 
-        news : (q k : ℕ) → distOf u q ≡ suc k → distOf s₀ q ≡ 0 → Written (s .dists) (getD froms e 0) (suc (suc n)) q → (k ≡ suc n) × Lowest More q (wayOf u q)
-        news q k f g (here m w) = (omega (arith, f, w), rw own (record { is = inr refl; from = sym m; low = λ d k r. low d k r }))
+        news : (q k : ℕ) → distOf u q ≡ suc k → distOf s₀ q ≡ 0 → Written (s .dists) (getD froms e 0) (suc (suc n)) q → (k ≡ suc n) × Foremost More q (wayOf u q)
+        news q k f g (here m w) = (omega (arith, f, w), rw own (record { is = inr refl; from = sym m; first = λ d k r. first d k r }))
           where
             own : wayOf u q ≡ e
             own = ap (λ (x : ℕ). wayOf u x) m ∙ getD-set-same (s .ways) (getD froms e 0) e 0 (omega (arith, t .sized .room .waysLong))
 
-            low : (d : ℕ) → H d ⊎ (d ≡ e) → getD froms d 0 ≡ q → getD labels e 0 ≤ getD labels d 0
-            low d (inl k) r = absurd (t .none (getD froms e 0) p .1 d k (r ∙ m))
-            low d (inr k) r = rw k (omega arith)
-        news q k f g (there m w) = let r = t .new q k (sym w ∙ f) g in (r .0, rw (other-way q m) (lowest-other q (wayOf s q) m (r .1)))
+            first : (d : ℕ) → H d ⊎ (d ≡ e) → getD froms d 0 ≡ q → rowBefore (getD labels d 0) (getD labels e 0) ≡ false
+            first d (inl k) r = absurd (t .none (getD froms e 0) p .1 d k (r ∙ m))
+            first d (inr k) r = rw k (itself row-order (getD labels e 0))
+        news q k f g (there m w) = let r = t .new q k (sym w ∙ f) g in (r .0, rw (other-way q m) (foremost-other q (wayOf s q) m (r .1)))
 
         queues : (q k : ℕ) → distOf u q ≡ suc k → distOf s₀ q ≡ 0 → Written (s .dists) (getD froms e 0) (suc (suc n)) q → (i : ℕ) × (s₀ .tail ≤ i) × (i < s .tail + 1) × (nodeAt u i ≡ q)
         queues q k f g (here m w) = (s .tail, t .grows .more, omega arith, getD-set-same (s .queue) (s .tail) (getD froms e 0) 0 left ∙ sym m)
@@ -269,10 +270,10 @@ module _ (froms labels : List ℕ) (n : ℕ) (s₀ : Found) (bound : (q k : ℕ)
     not-before : (q : ℕ) → distOf s q ≡ suc (suc n) → distOf s₀ q ≡ 0
     not-before q f = elim (zero-or (distOf s₀ q)) [ inl z ↦ z | inr z ↦ absurd (omega (arith, t .kept q (z .0) (z .1) .0, bound q (z .0) (z .1), f)) ]
 
-    -- it was found in this round, by a higher row
-    lower-stage : distOf s (getD froms e 0) ≡ suc (suc n) → getD labels e 0 < getD labels (wayOf s (getD froms e 0)) 0
+    -- it was found in this round, by a row that goes after
+    sooner-stage : distOf s (getD froms e 0) ≡ suc (suc n) → rowBefore (getD labels e 0) (getD labels (wayOf s (getD froms e 0)) 0) ≡ true
         → Stage More (found (s .dists) (set (s .ways) (getD froms e 0) e) (s .queue) (s .tail))
-    lower-stage p l = record {
+    sooner-stage p l = record {
       sized = record {
         room = record {
           distsLong = t .sized .room .distsLong;
@@ -293,38 +294,42 @@ module _ (froms labels : List ℕ) (n : ℕ) (s₀ : Found) (bound : (q k : ℕ)
         keeps : (q k : ℕ) → distOf s₀ q ≡ suc k → getD (set (s .ways) (getD froms e 0) e) q 0 ≡ wayOf s₀ q
         keeps q k f = getD-set-other (s .ways) (getD froms e 0) q e 0 (λ m. omega (arith, f, not-before q (ap (λ (x : ℕ). distOf s x) m ∙ p))) ∙ t .kept q k f .1
 
-        news : (q k : ℕ) → distOf s q ≡ suc k → distOf s₀ q ≡ 0 → Written (s .ways) (getD froms e 0) e q → (k ≡ suc n) × Lowest More q (getD (set (s .ways) (getD froms e 0) e) q 0)
-        news q k f g (here m w) = let r = t .new q k f g in (r .0, rw w (record { is = inr refl; from = sym m; low = λ d k z. low (r .1) d k z }))
+        news : (q k : ℕ) → distOf s q ≡ suc k → distOf s₀ q ≡ 0 → Written (s .ways) (getD froms e 0) e q → (k ≡ suc n) × Foremost More q (getD (set (s .ways) (getD froms e 0) e) q 0)
+        news q k f g (here m w) = let r = t .new q k f g in (r .0, rw w (record { is = inr refl; from = sym m; first = λ d k z. first (r .1) d k z }))
           where
-            low : Lowest H q (wayOf s q) → (d : ℕ) → H d ⊎ (d ≡ e) → getD froms d 0 ≡ q → getD labels e 0 ≤ getD labels d 0
-            low r d (inl k) z = omega (arith, r .low d k z, ap (λ (x : ℕ). getD labels (wayOf s x) 0) m)
-            low r d (inr k) z = rw k (omega arith)
-        news q k f g (there m w) = let r = t .new q k f g in (r .0, rw w (lowest-other q (wayOf s q) m (r .1)))
+            first : Foremost H q (wayOf s q) → (d : ℕ) → H d ⊎ (d ≡ e) → getD froms d 0 ≡ q → rowBefore (getD labels d 0) (getD labels e 0) ≡ false
+            first r d (inl k) z =
+                let after : rowBefore (getD labels (wayOf s q) 0) (getD labels e 0) ≡ false =
+                row-order .onlyOne (getD labels e 0) (getD labels (wayOf s q) 0) (ap (λ (x : ℕ). rowBefore (getD labels e 0) (getD labels (wayOf s x) 0)) m ∙ l) in
+                number-on row-order (getD labels d 0) (getD labels (wayOf s q) 0) (getD labels e 0) (r .first d k z) after
+            first r d (inr k) z = rw k (itself row-order (getD labels e 0))
+        news q k f g (there m w) = let r = t .new q k f g in (r .0, rw w (foremost-other q (wayOf s q) m (r .1)))
 
-    -- it was found by a lower row, or in an earlier round
-    same-stage : (distOf s (getD froms e 0) ≡ 0 → ⊥) → (distOf s (getD froms e 0) ≡ suc (suc n) → getD labels (wayOf s (getD froms e 0)) 0 ≤ getD labels e 0) → Stage More s
+    -- it was found by a row that doesn't go after, or in an earlier round
+    same-stage : (distOf s (getD froms e 0) ≡ 0 → ⊥) → (distOf s (getD froms e 0) ≡ suc (suc n) → rowBefore (getD labels e 0) (getD labels (wayOf s (getD froms e 0)) 0) ≡ false) → Stage More s
     same-stage p l = record {
       sized = t .sized;
       grows = t .grows;
       kept = t .kept;
       none = λ q f. (t .none q f .0, none-other q (λ m. p (ap (λ (x : ℕ). distOf s x) (sym m) ∙ f)) (t .none q f .1));
-      new = λ q k f g. (let r = t .new q k f g in (r .0, record { is = inl (r .1 .is); from = r .1 .from; low = λ d k z. low q r f d k z }));
+      new = λ q k f g. (let r = t .new q k f g in (r .0, record { is = inl (r .1 .is); from = r .1 .from; first = λ d k z. first q r f d k z }));
       isQueued = t .isQueued;
       isNew = t .isNew;
     }
       where
-        low : (q : ℕ) {k : ℕ} → (k ≡ suc n) × Lowest H q (wayOf s q) → distOf s q ≡ suc k → (d : ℕ) → H d ⊎ (d ≡ e) → getD froms d 0 ≡ q → getD labels (wayOf s q) 0 ≤ getD labels d 0
-        low q r f d (inl k) z = r .1 .low d k z
-        low q r f d (inr k) z =
+        first : (q : ℕ) {k : ℕ} → (k ≡ suc n) × Foremost H q (wayOf s q) → distOf s q ≡ suc k → (d : ℕ) → H d ⊎ (d ≡ e) → getD froms d 0 ≡ q
+            → rowBefore (getD labels d 0) (getD labels (wayOf s q) 0) ≡ false
+        first q r f d (inl k) z = r .1 .first d k z
+        first q r f d (inr k) z =
             let b : getD froms e 0 ≡ q = sym (ap (λ (x : ℕ). getD froms x 0) k) ∙ z in
-            omega (arith, l (ap (λ (x : ℕ). distOf s x) b ∙ (f ∙ ap suc (r .0))), ap (λ (x : ℕ). getD labels (wayOf s x) 0) b, ap (λ (x : ℕ). getD labels x 0) k)
+            (λ i. rowBefore (getD labels (k i) 0) (getD labels (wayOf s (sym b i)) 0)) ∙ l (ap (λ (x : ℕ). distOf s x) b ∙ (f ∙ ap suc (r .0)))
 
     look-stage : Stage More (look froms labels (suc (suc n)) e s)
     look-stage = go (looked froms labels (suc (suc n)) e s)
       where
         go : Looked froms labels (suc (suc n)) e s → Stage More (look froms labels (suc (suc n)) e s)
         go (fresh p q) = rw q (fresh-stage p)
-        go (lower p l q) = rw q (lower-stage p l)
+        go (sooner p l q) = rw q (sooner-stage p l)
         go (same p l q) = rw q (same-stage p l)
 
   looks-stage : (es : List ℕ) → ((e : ℕ) → List·Memᴰ e es → getD froms e 0 < placeLimit) → Sized s₀ → Stage (λ d. List·Memᴰ d es) (looks froms labels (suc (suc n)) es s₀)
@@ -386,10 +391,10 @@ module _ (froms tos labels : List ℕ) (count : ℕ) (ends : ℕ → Bool) where
           fits = o .fits;
           from = o .from;
           nearer = t .kept (getD tos (wayOf s q) 0) j (o .nearer) .0;
-          lowest = λ d a b c. o .lowest d a b (before (getD tos d 0) j (omega arith) c);
+          first = λ d a b c. o .first d a b (before (getD tos d 0) j (omega arith) c);
         })
 
-        new : (suc j ≡ suc n) × Lowest froms labels n s (y .bound) (λ d. List·Memᴰ d es) q (wayOf u q) → Onward froms tos labels count ends u q j (wayOf u q)
+        new : (suc j ≡ suc n) × Foremost froms labels n s (y .bound) (λ d. List·Memᴰ d es) q (wayOf u q) → Onward froms tos labels count ends u q j (wayOf u q)
         new r =
             let e : j ≡ n = omega (arith, r .0) in
             let m = r .1 .is in
@@ -397,7 +402,7 @@ module _ (froms tos labels : List ℕ) (count : ℕ) (ends : ℕ → Bool) where
               fits = those .fit (wayOf u q) m;
               from = r .1 .from;
               nearer = t .kept (getD tos (wayOf u q) 0) n (looked-layer (wayOf u q) m) .0 ∙ ap suc (sym e);
-              lowest = λ d a b c. r .1 .low d (layer-looked d a (before (getD tos d 0) n (omega arith) (c ∙ ap suc e))) b;
+              first = λ d a b c. r .1 .first d (layer-looked d a (before (getD tos d 0) n (omega arith) (c ∙ ap suc e))) b;
             }
 
         go : (distOf s q ≡ 0) ⊎ ((k : ℕ) × (distOf s q ≡ suc k)) → Onward froms tos labels count ends u q j (wayOf u q)
@@ -524,13 +529,13 @@ module _ (froms labels dists ways queue : List ℕ) (layer e tail a : ℕ) (is :
   unfolding look
   look-fresh h = rw (is, at-node 0 h, look) refl
 
-  look-same : (getD dists a 0 ≡ 0 → ⊥) → (getD dists a 0 ≡ layer → getD labels (getD ways a 0) 0 ≤ getD labels e 0)
+  look-same : (getD dists a 0 ≡ 0 → ⊥) → (getD dists a 0 ≡ layer → rowBefore (getD labels e 0) (getD labels (getD ways a 0) 0) ≡ false)
       → found dists ways queue tail ≡ look froms labels layer e (found dists ways queue tail)
   look-same n l = go (looked froms labels layer e (found dists ways queue tail))
     where
       go : Looked froms labels layer e (found dists ways queue tail) → found dists ways queue tail ≡ look froms labels layer e (found dists ways queue tail)
       go (fresh p q) = absurd (n (ap (λ (x : ℕ). getD dists x 0) is ∙ p))
-      go (lower p m q) = absurd (omega (arith, l (ap (λ (x : ℕ). getD dists x 0) is ∙ p), m, ap (λ (x : ℕ). getD labels (getD ways x 0) 0) is))
+      go (sooner p m q) = absurd (false≢true (sym (l (ap (λ (x : ℕ). getD dists x 0) is ∙ p)) ∙ (ap (λ (x : ℕ). rowBefore (getD labels e 0) (getD labels (getD ways x 0) 0)) is ∙ m)))
       go (same p m q) = sym q
 
   pub look-old : (getD dists a 0 ≡ 0 → ⊥) → (getD dists a 0 ≡ layer → ⊥) → found dists ways queue tail ≡ look froms labels layer e (found dists ways queue tail)
@@ -538,18 +543,21 @@ module _ (froms labels dists ways queue : List ℕ) (layer e tail a : ℕ) (is :
 
   -- x is the link's row, and y that of the link w that is kept
 
-  pub look-lower : {x y w : ℕ} → x ≡ getD labels e 0 → y ≡ getD labels w 0 → w ≡ getD ways a 0 → (getD dists a 0 ≡ 0 → ⊥) → getD dists a 0 ≡ layer → x < y
+  rows-same : {x y w : ℕ} → x ≡ getD labels e 0 → y ≡ getD labels w 0 → w ≡ getD ways a 0 → rowBefore x y ≡ rowBefore (getD labels e 0) (getD labels (getD ways a 0) 0)
+  rows-same i j k = λ t. rowBefore (i t) ((j ∙ ap (λ (x : ℕ). getD labels x 0) k) t)
+
+  pub look-sooner : {x y w : ℕ} → x ≡ getD labels e 0 → y ≡ getD labels w 0 → w ≡ getD ways a 0 → (getD dists a 0 ≡ 0 → ⊥) → getD dists a 0 ≡ layer → rowBefore x y ≡ true
       → found dists (set ways a e) queue tail ≡ look froms labels layer e (found dists ways queue tail)
-  look-lower i j k n h l = go (looked froms labels layer e (found dists ways queue tail))
+  look-sooner i j k n h l = go (looked froms labels layer e (found dists ways queue tail))
     where
       go : Looked froms labels layer e (found dists ways queue tail) → found dists (set ways a e) queue tail ≡ look froms labels layer e (found dists ways queue tail)
       go (fresh p q) = absurd (n (ap (λ (x : ℕ). getD dists x 0) is ∙ p))
-      go (lower p m q) = (λ i. found dists (set ways (is i) e) queue tail) ∙ sym q
-      go (same p m q) = absurd (omega (arith, i, j, ap (λ (x : ℕ). getD labels x 0) k, m (at-node layer h), ap (λ (x : ℕ). getD labels (getD ways x 0) 0) is))
+      go (sooner p m q) = (λ i. found dists (set ways (is i) e) queue tail) ∙ sym q
+      go (same p m q) = absurd (false≢true (sym (m (at-node layer h)) ∙ (sym (ap (λ (x : ℕ). rowBefore (getD labels e 0) (getD labels (getD ways x 0) 0)) is) ∙ (sym (rows-same i j k) ∙ l))))
 
-  pub look-higher : {x y w : ℕ} → x ≡ getD labels e 0 → y ≡ getD labels w 0 → w ≡ getD ways a 0 → (getD dists a 0 ≡ 0 → ⊥) → y ≤ x
+  pub look-later : {x y w : ℕ} → x ≡ getD labels e 0 → y ≡ getD labels w 0 → w ≡ getD ways a 0 → (getD dists a 0 ≡ 0 → ⊥) → rowBefore x y ≡ false
       → found dists ways queue tail ≡ look froms labels layer e (found dists ways queue tail)
-  look-higher i j k n l = look-same n (λ _. omega (arith, i, j, ap (λ (x : ℕ). getD labels x 0) k))
+  look-later i j k n l = look-same n (λ _. sym (rows-same i j k) ∙ l)
 
 -- Bad classes, by the steps of their test
 

@@ -1,4 +1,4 @@
--- The chain that is kept of those that searches find: the shortest, and of those the one with the lower row at the earliest difference.
+-- The chain that is kept of those that searches find: the shortest, and of those the one whose row goes first at the earliest difference.
 use mathlib.Core.Path.{_≡_}
 use mathlib.Core.Bool.{Bool, true, false, _&&_}
 use mathlib.Core.Option.{Option, none, some}
@@ -9,6 +9,7 @@ use lib.ListN.{length, getD}
 use lib.Dec.{eqb, ltb}
 use Rattle.definition.specs.Lists.{rows}
 use Rattle.definition.specs.Reasons.{precedes}
+use Rattle.laws.specs.Earlier.{rowBefore}
 use Rattle.constraints.specs.Nodes.{placeLimit}
 use Rattle.constraints.specs.Walks.{Walk, trail, badOver, endsOver}
 
@@ -29,7 +30,7 @@ unfoldable pub pick : Option (List ℕ) → List ℕ → Option (List ℕ)
 pick none t = some t
 pick (some ns) t = elim (ltb (length t) (length ns)) [
   | true ↦ some t
-  | false ↦ elim (eqb (length t) (length ns) && precedes ltb t ns) [ true ↦ some t | false ↦ some ns ]
+  | false ↦ elim (eqb (length t) (length ns) && precedes rowBefore t ns) [ true ↦ some t | false ↦ some ns ]
 ]
 
 module _ (tos labels dists ways : List ℕ) where
@@ -46,7 +47,7 @@ module _ (tos labels dists ways : List ℕ) where
 -- ms is no better than what is kept
 abbrev pub NoBetter : Option (List ℕ) → List ℕ → Type 0
 NoBetter none ms = ⊥
-NoBetter (some ns) ms = (length ns ≤ length ms) × (length ms ≡ length ns → precedes ltb ms ns ≡ false)
+NoBetter (some ns) ms = (length ns ≤ length ms) × (length ms ≡ length ns → precedes rowBefore ms ns ≡ false)
 
 module _ (froms tos labels : List ℕ) (count : ℕ) (classes : List ℕ) (cached : ℕ) where
   -- what is kept is what was kept or a walk from a cached request of class c, and no such walk is better, nor any list that wasn't before

@@ -1,4 +1,4 @@
--- Agreement over tables, the search behind it, and what posting writes.
+-- Agreement over tables, and the searches behind it and behind its reasons.
 pub mod Agreement
 pub mod Nodes
 pub mod Joining
@@ -10,5 +10,4 @@ pub mod Looking
 pub mod Walks
 pub mod Choosing
 pub mod Linking
-pub mod Posting
 pub mod Laws

@@ -1,25 +1,21 @@
 -- The links of a store's rows between nodes: each tie forth, then each tie back, then each subtype constraint from its lower name to its higher.
 use mathlib.Core.Path.{_≡_}
-use mathlib.Core.Bool.{Bool, true, false}
+use mathlib.Core.Bool.{true, false}
 use mathlib.Core.Option.{Option, none}
-use mathlib.Core.List.{List, [], _∷_, _++_}
-use Prim.Native.Nat.{ℕ, _+_, _*_, _<_}
+use mathlib.Core.List.{List, _++_}
+use Prim.Native.Nat.{ℕ, _+_, _<_}
 use lib.ListN.{getD}
-use lib.Dec.{ltb}
-use Rattle.definition.specs.Numbers.{shortRange, tieLimit, subtypeLimit, countCache, countTies, countSubtypes, tieNumbersCell, subtypeNumbersCell}
+use Rattle.definition.specs.Numbers.{tieLimit, subtypeLimit, countCache, countTies, countSubtypes, tieNumbersCell, subtypeNumbersCell}
 use Rattle.definition.specs.Lists.{rows}
-use Rattle.definition.specs.Tables.{numberAt, tieAt, subtypeAt, rowNumbers}
-use Rattle.definition.specs.Broken.{numbered}
+use Rattle.definition.specs.Tables.{numberAt, tieAt, subtypeAt}
 use Rattle.definition.specs.Reasons.{Link, tieLinks, subtypeLinks, reasonOver}
+use Rattle.laws.specs.Earlier.{rowBefore}
+use Rattle.rows.specs.Numbers.{numbersFit}
 use Rattle.constraints.specs.Agreement.{atMost, superIn, entriesIn}
 
 -- the most links there are
 abbrev pub linkLimit : ℕ
 linkLimit = tieLimit + tieLimit + subtypeLimit
-
--- a number above those that rows can have
-abbrev pub noNumber : ℕ
-noNumber = 2 * shortRange
 
 -- n cells from `from` on of a table stand from `at` on in another, which has the rest as it was
 pub record Copied (source : List ℕ) (from n : ℕ) (old new : List ℕ) (at : ℕ) : Type 0 where
@@ -41,16 +37,6 @@ pub record Labelled (counts : List ℕ) (noted tied : ℕ) (labels : List ℕ) :
   pub back : (i : ℕ) → i < tied → getD labels (tied + i) 0 ≡ numberAt tieNumbersCell counts i
   pub up : (i : ℕ) → i < noted → getD labels (tied + tied + i) 0 ≡ numberAt subtypeNumbersCell counts i
 
--- The numbers of the used rows are in turn
-unfoldable pub numbersFit : List ℕ → Bool
-numbersFit counts =
-    numbered (rowNumbers (rows (numberAt tieNumbersCell counts) (getD counts countTies 0) 0) (rows (numberAt subtypeNumbersCell counts) (getD counts countSubtypes 0) 0))
-
--- the number of the first of rows, or one that none has
-unfoldable pub standing : List ℕ → ℕ
-standing [] = noNumber
-standing (x ∷ xs) = x
-
 -- The links of the first rows of the tables, with their numbers
 
 abbrev pub tieLinksIn : List ℕ → List ℕ → List Link
@@ -62,6 +48,6 @@ subtypeLinksIn counts subtypes = let n = atMost subtypeLimit (getD counts countS
 -- why the store of these tables doesn't agree; none where it does, or where the rows' numbers aren't in turn
 unfoldable pub reasonIn : List ℕ → List ℕ → List ℕ → List ℕ → List ℕ → Option (List ℕ)
 reasonIn supers counts cache ties subtypes = elim (numbersFit counts) [
-  | true ↦ reasonOver ltb (superIn supers) (entriesIn cache (getD counts countCache 0)) (tieLinksIn counts ties) (tieLinksIn counts ties ++ subtypeLinksIn counts subtypes)
+  | true ↦ reasonOver rowBefore (superIn supers) (entriesIn cache (getD counts countCache 0)) (tieLinksIn counts ties) (tieLinksIn counts ties ++ subtypeLinksIn counts subtypes)
   | false ↦ none
 ]

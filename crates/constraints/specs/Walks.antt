@@ -7,8 +7,9 @@ use mathlib.Core.List.{List, [], _∷_, List·Memᴰ}
 use Prim.Native.Nat.{ℕ, zero, suc, _+_, _<_, _≤_}
 use lib.ListN.{length, getD, set}
 use lib.Dec.{eqb, ltb}
-use Rattle.constraints.specs.Nodes.{placeLimit}
 use Rattle.definition.specs.Superclasses.{below}
+use Rattle.laws.specs.Earlier.{rowBefore}
+use Rattle.constraints.specs.Nodes.{placeLimit}
 use Rattle.constraints.specs.Joining.{Joined}
 use Rattle.constraints.specs.Search.{marked, startOf}
 use Rattle.constraints.specs.Upward.{isAbove}
@@ -47,12 +48,12 @@ pub record Sized (s : Found) : Type 0 where
   pub nodes : (i : ℕ) → i < s .tail → nodeAt s i < placeLimit
 
 -- A look at link e, which leads to a node of the layer before: the node that it leads from is found, with this distance, or was; of two links that lead on from
--- it, the one with the lower row is kept.
+-- it, the one whose row goes first is kept.
 module _ (froms labels : List ℕ) (layer : ℕ) where
   unfoldable pub look : ℕ → Found → Found
   look e s = let a = getD froms e 0 in elim (distOf s a) [
     | zero ↦ found (set (s .dists) a layer) (set (s .ways) a e) (set (s .queue) (s .tail) a) (s .tail + 1)
-    | suc d ↦ elim (eqb (suc d) layer && ltb (getD labels e 0) (getD labels (wayOf s a) 0)) [ true ↦ found (s .dists) (set (s .ways) a e) (s .queue) (s .tail) | false ↦ s ]
+    | suc d ↦ elim (eqb (suc d) layer && rowBefore (getD labels e 0) (getD labels (wayOf s a) 0)) [ true ↦ found (s .dists) (set (s .ways) a e) (s .queue) (s .tail) | false ↦ s ]
   ]
 
   -- at several, the last of the list first
@@ -72,12 +73,12 @@ module _ (froms tos labels : List ℕ) (count : ℕ) (ends : ℕ → Bool) where
   Walk q [] = ends q ≡ true
   Walk q (r ∷ ns) = (e : ℕ) × (e < count) × (getD froms e 0 ≡ q) × (getD labels e 0 ≡ r) × Walk (getD tos e 0) ns
 
-  -- link e leads on from q: to a node one nearer, by the lowest row of all that do
+  -- link e leads on from q: to a node one nearer, and no row of all that do goes before its own
   pub record Onward (s : Found) (q j e : ℕ) : Type 0 where
     pub fits : e < count
     pub from : getD froms e 0 ≡ q
     pub nearer : distOf s (getD tos e 0) ≡ suc j
-    pub lowest : (d : ℕ) → d < count → getD froms d 0 ≡ q → distOf s (getD tos d 0) ≡ suc j → getD labels e 0 ≤ getD labels d 0
+    pub first : (d : ℕ) → d < count → getD froms d 0 ≡ q → distOf s (getD tos d 0) ≡ suc j → rowBefore (getD labels d 0) (getD labels e 0) ≡ false
 
   -- what is found is so: ends, links that lead on, and no walk is shorter than a node's distance
   pub record Exact (s : Found) : Type 0 where

@@ -171,7 +171,7 @@ pub fn agreed(check: Check) -> bool
 }
 
 // The check of agreement of the store of these tables: tied cached requests mean one class, and where one leads to another, its class is the other's or
-// below. The newcomer is a row of the cache, or none where it isn't one.
+// below. The newcomer is a row of the cache, or none where it isn't one. A store without constraints is judged at once.
 pub fn check(
     supers: &[u8],
     cache: &[u16],
@@ -187,6 +187,9 @@ pub fn check(
     let cached = at_most(entries);
     let tied = at_most(tie_count);
     let noted = at_most(subtype_count);
+    if tied + noted == 0 {
+        return Check::Agreed;
+    }
     let ones = cached + noted + noted;
     let mut numbers = [0u32; PLACE_LIMIT];
     number_places(cache, cached, ties, tied, subtypes, noted, &mut numbers);

@@ -4,6 +4,7 @@ use crate::joining::place;
 use crate::layers::seed;
 use crate::layers::spread;
 use crate::numbering::PLACE_LIMIT;
+use crate::order::comes_first;
 use crate::upward::mark_above;
 use cells::at16;
 use cells::put16;
@@ -11,10 +12,11 @@ use definition::numbers::BYTE_RANGE;
 ghost use mathlib.Core.Path.{_≡_};
 ghost use Prim.Native.Nat.{ℕ, _+_, _≤_};
 ghost use lib.ListN.{length, getD, set};
-ghost use lib.Dec.{eqb, ltb};
+ghost use lib.Dec.{eqb};
 ghost use Rattle.definition.specs.Numbers.{cacheLimit};
 ghost use Rattle.definition.specs.Lists.{rows};
 ghost use Rattle.definition.specs.Reasons.{precedes};
+ghost use Rattle.laws.specs.Earlier.{rowBefore};
 ghost use Rattle.constraints.specs.Nodes.{placeLimit};
 ghost use Rattle.constraints.specs.Walks.{trail, endsIn, Joint, InRange, Sole};
 ghost use Rattle.constraints.specs.Choosing.{held, Holds, considered, consideredAll, ChosenFor, Chosen};
@@ -32,7 +34,7 @@ fn goes_before(
     k: usize,
     best: &[u16],
 ) -> bool
-    ensures { λ r. ⌜ r ≡ precedes ltb (trail (now (tos .entry)) (now (labels .entry)) (now (ways .entry)) k node) (rows (λ i. getD (now (best .entry)) i 0) k 0) ⌝ }
+    ensures { λ r. ⌜ r ≡ precedes rowBefore (trail (now (tos .entry)) (now (labels .entry)) (now (ways .entry)) k node) (rows (λ i. getD (now (best .entry)) i 0) k 0) ⌝ }
 {
     let mut at = node;
     let mut i = 0;
@@ -40,10 +42,10 @@ fn goes_before(
         let way = place(ways, at);
         let row = at16(labels, way);
         let kept = at16(best, i);
-        if row < kept {
+        if comes_first(row, kept) {
             return true;
         }
-        if kept < row {
+        if comes_first(kept, row) {
             return false;
         }
         at = place(tos, way);

@@ -1,5 +1,6 @@
 // The search backward from where walks end, one layer of nodes after another.
 use crate::joining::place;
+use crate::order::comes_first;
 use cells::at16;
 use cells::put16;
 ghost use mathlib.Core.Path.{_≡_};
@@ -33,7 +34,7 @@ fn look_at(
         return tail + 1;
     }
     if dist == layer {
-        if at16(labels, e) < at16(labels, place(ways, a)) {
+        if comes_first(at16(labels, e), at16(labels, place(ways, a))) {
             put16(ways, a, e as u16);
         }
     }

@@ -1,5 +1,4 @@
-// Posting ties and subtype constraints, the test of agreement, and why it fails.
-mod posting; // posting.rt: rows added to the tables of ties and of subtype constraints
+// The test of agreement, and why it fails.
 mod joining; // joining.rt: places joined into lists by a key
 mod numbering; // numbering.rt: the requests of a store as numbers and as nodes
 mod grouping; // grouping.rt: groups of tied requests
@@ -8,8 +7,8 @@ mod upward; // upward.rt: the classes above a class
 mod pairs; // pairs.rt: whether a pair of requests breaks agreement
 mod looking; // looking.rt: whose turn it is to be looked at, and where
 mod agreement; // agreement.rt: the test of agreement
-mod numbers; // numbers.rt: the numbers of rows
 mod linking; // linking.rt: the links of rows between nodes
+mod order; // order.rt: which of two rows goes first
 mod layers; // layers.rt: the search backward from where walks end
 mod choosing; // choosing.rt: the best of the chains found
 mod singles; // singles.rt: rows that break agreement by themselves
@@ -17,9 +16,4 @@ mod reasons; // reasons.rt: why a store doesn't agree
 
 pub use agreement::agreed;
 pub use agreement::check;
-pub use numbers::numbers_fit;
-pub use posting::add_tie;
-pub use posting::post_note;
-pub use posting::subtype_known;
-pub use posting::tie_known;
 pub use reasons::reason;

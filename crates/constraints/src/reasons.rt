@@ -9,14 +9,14 @@ use crate::numbering::at_most;
 use crate::numbering::list_classes;
 use crate::numbering::number_nodes;
 use crate::numbering::number_places;
-use crate::numbers::numbers_fit;
-use crate::singles::lowest_alone;
+use crate::singles::first_alone;
 use cells::at16;
 use cells::put16;
 use definition::numbers::CACHE_LIMIT;
 use definition::numbers::COUNT_CACHE;
 use definition::numbers::COUNT_SUBTYPES;
 use definition::numbers::COUNT_TIES;
+use rows::numbers_fit;
 ghost use mathlib.Core.Path.{_≡_};
 ghost use mathlib.Core.Bool.{true};
 ghost use Prim.Native.Nat.{_≤_};
@@ -29,7 +29,8 @@ ghost use Rattle.constraints.specs.Nodes.{placeLimit};
 ghost use Rattle.constraints.specs.Choosing.{held, Holds, BestOf};
 ghost use Rattle.constraints.specs.Walks.{InRange, Sole};
 ghost use Rattle.constraints.specs.Agreement.{superIn};
-ghost use Rattle.constraints.specs.Linking.{numbersFit, reasonIn};
+ghost use Rattle.rows.specs.Numbers.{numbersFit};
+ghost use Rattle.constraints.specs.Linking.{reasonIn};
 
 // The best chain by links between cached requests, of which the first `turned` are ties, into a table. Answers its size. A row that breaks agreement by itself is looked
 // for first, since no chain is shorter; then chains by ties alone, and by all links.
@@ -47,7 +48,7 @@ fn search_links(
     requires { ⌜ (cached ≤ cacheLimit) × (turned ≤ count) × InRange (now froms) (now tos) count × Sole (now froms) (now tos) (now labels) count × (length (now best) ≡ placeLimit) ⌝ }
     ensures { λ r. ⌜ Holds (now (best .exit)) r × BestOf (now (froms .entry)) (now (tos .entry)) (now (labels .entry)) turned count (now (classes .entry)) cached (superIn (now (supers .entry))) (held (now (best .exit)) r) ⌝ }
 {
-    let tie = lowest_alone(
+    let tie = first_alone(
         supers,
         classes,
         cached,
@@ -59,7 +60,7 @@ fn search_links(
         best,
         NO_SIZE,
     );
-    let row = lowest_alone(
+    let row = first_alone(
         supers,
         classes,
         cached,

@@ -1,5 +1,6 @@
 // Rows that break agreement by themselves: no chain is shorter, and most clashes have one.
 use crate::joining::place;
+use crate::order::comes_first;
 use crate::upward::is_below;
 use cells::at16;
 use cells::put16;
@@ -49,7 +50,7 @@ fn breaks_alone(
     is_bad_for(supers, only, place(classes, a), place(classes, b))
 }
 
-// Its row is kept if it is lower than the one that is.
+// Its row is kept if it goes before the one that is.
 fn consider_alone(
     supers: &[u8],
     classes: &[u16],
@@ -70,7 +71,7 @@ fn consider_alone(
     }
     let label = at16(labels, e);
     if size == 1 {
-        if at16(best, 0) <= label {
+        if !comes_first(label, at16(best, 0)) {
             return size;
         }
     }
@@ -78,8 +79,8 @@ fn consider_alone(
     1
 }
 
-// The lowest such row of these links, or of those before. Answers the size.
-pub(crate) fn lowest_alone(
+// The first such row of these links, or of those before. Answers the size.
+pub(crate) fn first_alone(
     supers: &[u8],
     classes: &[u16],
     cached: usize,

@@ -23,13 +23,15 @@ use Rattle.definition.specs.Tables.{RowNumbers, rowNumbers, putThree, entry, en
 use Rattle.definition.specs.Broken.{numbered}
 use Rattle.definition.specs.Reasons.{tieLinks, subtypeLinks, reasonOver, reason}
 use Rattle.laws.specs.Agreement.{super-falls, find-more}
+use Rattle.laws.specs.Earlier.{rowBefore}
 use Rattle.layout.specs.Places.{rows-getD, rows-cong, rows-length, writeRows-length}
 use Rattle.layout.specs.Cells.{entry-rows, rows-after-last}
 use Rattle.resolution.specs.Quick.{quickClass, quickBase}
 use Rattle.resolution.specs.Lookups.{superCell, cell-none, cell-some}
 use Rattle.constraints.specs.Agreement.{superIn, entriesIn, tiesIn, edgesIn, newOf, newIn}
 use Rattle.laws.specs.Options.{nth-last}
-use Rattle.constraints.specs.Linking.{numbersFit, reasonIn}
+use Rattle.rows.specs.Numbers.{numbersFit}
+use Rattle.constraints.specs.Linking.{reasonIn}
 use Rattle.constraints.specs.Laws.{within, names-store}
 use Rattle.entries.specs.World.{worldIn, numbersIn, baseWith, Searchable, Loadable}
 use Rattle.entries.specs.Entering.{Entered}
@@ -123,7 +125,7 @@ unfolding reasonIn numbersFit reason
 reason-store w m supers counts cache ties subtypes s e t u q h k l turn =
     let fit : numbered (numbersIn counts) ≡ true = ap numbered (sym q) ∙ turn in
     rw (fit, reasonIn, within 256 (getD counts 2 0) h, within 256 (getD counts 3 0) k, within 256 (getD counts 4 0) l)
-    (λ i. reasonOver ltb (λ c. s c i) (sym e i) (tieLinks (sym t i) (sym q i .ties)) (tieLinks (sym t i) (sym q i .ties) ++ subtypeLinks (sym u i) (sym q i .subtypes)))
+    (λ i. reasonOver rowBefore (λ c. s c i) (sym e i) (tieLinks (sym t i) (sym q i .ties)) (tieLinks (sym t i) (sym q i .ties) ++ subtypeLinks (sym u i) (sym q i .subtypes)))
 
 -- A store with one more entry: the copies hold it, and the test of agreement is the definition's, and the reason why there is none
 

@@ -1,5 +1,5 @@
--- What a request means, and agreement: the test `agrees` holds exactly if the paper's sentence `Agrees` does.
-use mathlib.Core.Path.{_≡_, refl, ap, _∙_}
+-- What a request means, and agreement: the test `agrees` holds exactly if the paper's sentence `Agrees` does, and where there are no constraints it does.
+use mathlib.Core.Path.{_≡_, refl, sym, ap, _∙_}
 use mathlib.Core.Bool.{Bool, true, false, false≢true}
 use mathlib.Core.Option.{Option, none, some, Option·none-ne-some, Option·some-injective}
 use mathlib.Core.List.{List, [], _∷_, _++_, List·Memᴰ, List·Memᴰ·head, List·Memᴰ·tail}
@@ -7,7 +7,7 @@ use Prim.Native.Nat.{ℕ, zero, suc, _<_}
 use lib.ListN.{getElem?}
 use lib.Dec.{eqb, ltb}
 use borrow.Author.Tests.{eqb-true, eq-eqb, ltb-true, lt-ltb}
-use Rattle.definition.specs.Chains.{Chain, Edge, has, leads, reach}
+use Rattle.definition.specs.Chains.{Chain, Edge, grow, has, leads, reach, reachFrom}
 use Rattle.definition.specs.Classes.{Base, Class, Entry, find, lower, superOf}
 use Rattle.definition.specs.Constraints.{Agrees, World, agrees, edges, pairAgrees, rowAgrees, tieEdges, agreesOver}
 use Rattle.definition.specs.Lists.{all}
@@ -155,3 +155,34 @@ true-agrees w g = all-of (λ e. rowAgrees (superOf (w .base)) (w .base .cache) t
     row : (a : Request) (o : Option ℕ) → find (w .base .cache) a ≡ o → (elim o as (λ _. Bool) [ none ↦ true | some c ↦ all (λ f. pairAgrees (superOf (w .base)) (w .base .cache) c (reach sameRequest ts a) (reach sameRequest es a) (f .request)) (w .base .cache) ]) ≡ true
     row a none p = refl
     row a (some c) p = all-of (λ f. pairAgrees (superOf (w .base)) (w .base .cache) c (reach sameRequest ts a) (reach sameRequest es a) (f .request)) (w .base .cache) (λ f _. pair a (f .request) c p (find (w .base .cache) (f .request)) refl)
+
+-- Without constraints each request leads to itself alone, and there is nothing to agree on
+
+module _ (sup : ℕ → Option ℕ) (cache : List Entry) where
+  pair-alone : (a b : Request) (c : ℕ) → find cache a ≡ some c → pairAgrees sup cache c (a ∷ []) (a ∷ []) b ≡ true
+  unfolding pairAgrees has
+  pair-alone a b c p = go (find cache b) refl (sameRequest b a) refl
+    where
+      go : (o : Option ℕ) → find cache b ≡ o → (t : Bool) → sameRequest b a ≡ t
+          → (elim o as (λ _. Bool) [
+            | none ↦ true
+            | some d ↦ elim (elim t as (λ _. Bool) [ true ↦ true | false ↦ false ]) as (λ _. Bool) [
+              | true ↦ eqb c d
+              | false ↦ elim (elim t as (λ _. Bool) [ true ↦ true | false ↦ false ]) as (λ _. Bool) [ true ↦ below sup c d | false ↦ true ]
+            ]
+          ]) ≡ true
+      go none q t e = refl
+      go (some d) q true e = eq-eqb c d (Option·some-injective c d (sym p ∙ (ap (find cache) (sym (requests .same-eq b a e)) ∙ q)))
+      go (some d) q false e = refl
+
+  pub agrees-alone : agreesOver sup cache [] [] ≡ true
+  unfolding agreesOver rowAgrees reach reachFrom grow
+  agrees-alone = all-of (λ e. rowAgrees sup cache [] [] (e .request)) cache (λ e _. row (e .request) (find cache (e .request)) refl)
+    where
+      row : (a : Request) (o : Option ℕ) → find cache a ≡ o
+          → (elim o as (λ _. Bool) [
+            | none ↦ true
+            | some c ↦ all (λ f. pairAgrees sup cache c (reach sameRequest [] a) (reach sameRequest [] a) (f .request)) cache
+          ]) ≡ true
+      row a none p = refl
+      row a (some c) p = all-of (λ f. pairAgrees sup cache c (a ∷ []) (a ∷ []) (f .request)) cache (λ f _. pair-alone a (f .request) c p)

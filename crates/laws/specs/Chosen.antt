@@ -1,9 +1,10 @@
 -- The chain that is listed for a clash: there is one exactly if the world doesn't agree, it breaks agreement, it repeats no request, none that breaks agreement is
--- shorter, and none as long goes before it.
+-- shorter, and none as long goes before it. So it is the only one: every other that breaks agreement is longer, or as long and behind it at the earliest position
+-- where they differ. A chain of ties alone breaks agreement read from either end.
 use mathlib.Core.Path.{_≡_, refl, sym, ap, _∙_}
 use mathlib.Core.Bool.{Bool, true, false, false≢true, not}
 use mathlib.Core.Option.{Option, none, some}
-use mathlib.Core.List.{List, [], _∷_, _++_, map, List·Memᴰ, List·Memᴰ·head, List·Memᴰ·tail, List·Memᴰ·not-nil}
+use mathlib.Core.List.{List, [], _∷_, _++_, map, reverse, reverseAux, List·Memᴰ, List·Memᴰ·head, List·Memᴰ·tail, List·Memᴰ·not-nil}
 use mathlib.Core.Logic.{_⊎_, inl, inr}
 use Prim.Native.Nat.{ℕ, suc, _+_, _≤_, _<_}
 use native.Mathlib.Omega.{arith}
@@ -14,13 +15,13 @@ use Rattle.definition.specs.Chains.{Chain, Edge, stay, hop}
 use Rattle.definition.specs.Requests.{Request, at}
 use Rattle.definition.specs.Classes.{find, superOf}
 use Rattle.definition.specs.Constraints.{Tie, Subtype, World, Agrees, agrees, edges, tieEdges, subtypeEdges}
-use Rattle.definition.specs.Superclasses.{Below, below}
+use Rattle.definition.specs.Superclasses.{Below, below, same}
 use Rattle.definition.specs.Tables.{RowNumbers}
-use Rattle.definition.specs.Reasons.{Link, link, Upward, Distinct, Breaks, tiesOnly, links, tieLinks, subtypeLinks, shortest, reasonOver, reasonBy}
+use Rattle.definition.specs.Reasons.{Link, link, Upward, Distinct, Breaks, tiesOnly, links, tieLinks, subtypeLinks, precedes, shortest, reasonOver, reasonBy}
 use Rattle.laws.specs.Chains.{chain-join}
 use Rattle.laws.specs.Upward.{below-true, true-below}
 use Rattle.laws.specs.Agreement.{super-falls, agrees-true, true-agrees}
-use Rattle.laws.specs.Earlier.{Order, NotBefore, neither-before}
+use Rattle.laws.specs.Earlier.{Order, NotBefore, FirstDiffers, neither-before, precedes-words}
 use Rattle.laws.specs.Clashes.{Clashing, First, shortest-first, shortest-none}
 
 -- A list none of which stands twice is no longer than one that has all of it
@@ -147,6 +148,10 @@ breaks-length w m ns b =
     let u = up-ends (links w m) (b .first) (b .through) ns (b .last) (b .upward) in
     omega (arith, u .0, distinct-length (b .through) (map (λ (l : Link). l .edge .to) (links w m)) (b .once .1) (u .1), length-map (links w m) (λ (l : Link). l .edge .to))
 
+-- ms is ns, or it is longer, or it is as long and has the later row at the earliest position where they differ
+abbrev pub NotSooner : (ℕ → ℕ → Bool) → List ℕ → List ℕ → Type 0
+NotSooner before ns ms = (ms ≡ ns) ⊎ ((length ns < length ms) ⊎ ((length ms ≡ length ns) × FirstDiffers before ns ms))
+
 module _ {before : ℕ → ℕ → Bool} (order : Order before) (w : World) (m : RowNumbers) where
   -- the shortest that the search is for breaks agreement
   pub first-breaks : (ns : List ℕ) → First order (superOf (w .base)) (w .base .cache) (tiesOnly w m) (links w m) 0 ns → Breaks w m ns
@@ -210,6 +215,76 @@ module _ {before : ℕ → ℕ → Bool} (order : Order before) (w : World) (m :
   -- every other chain that breaks agreement is longer or goes after it: one that isn't is the reason
   pub reason-only : (ns ms : List ℕ) → reasonBy before w m ≡ some ns → Breaks w m ms → length ms ≤ length ns → NotBefore order ns ms → ms ≡ ns
   reason-only ns ms h b l k = neither-before order ms ns (reason-not-later ns ms h b (omega (arith, reason-shortest ns ms h b))) k
+
+  -- nobody may receive a longer chain, or another of that length
+  pub reason-rest : (ns ms : List ℕ) → reasonBy before w m ≡ some ns → Breaks w m ms → NotSooner before ns ms
+  reason-rest ns ms h b = go (eqb (length ms) (length ns)) refl (precedes before ns ms) refl
+    where
+      go : (s : Bool) → eqb (length ms) (length ns) ≡ s → (t : Bool) → precedes before ns ms ≡ t → NotSooner before ns ms
+      go false e t f = inr (inl (omega (arith, eqb-false (length ms) (length ns) e, reason-shortest ns ms h b)))
+      go true e true f = let l = eqb-true (length ms) (length ns) e in inr (inr (l, precedes-words order ns ms (sym l) f))
+      go true e false f = inl (reason-only ns ms h b (omega (arith, eqb-true (length ms) (length ns) e)) f)
+
+-- Read from the other end: a tie leads either way
+
+tie-back : (ts : List Tie) (ks : List ℕ) (n : ℕ) (a b : Request) → List·Memᴰ (link n a b) (tieLinks ts ks) → List·Memᴰ (link n b a) (tieLinks ts ks)
+unfolding tieLinks
+tie-back [] ks n a b m = absurd (List·Memᴰ·not-nil m)
+tie-back (t ∷ ts) [] n a b m = absurd (List·Memᴰ·not-nil m)
+tie-back (t ∷ ts) (k ∷ ks) n a b (List·Memᴰ·head e) = List·Memᴰ·tail (List·Memᴰ·head (λ i. link (e i .row) (e i .edge .to) (e i .edge .from)))
+tie-back (t ∷ ts) (k ∷ ks) n a b (List·Memᴰ·tail (List·Memᴰ·head e)) = List·Memᴰ·head (λ i. link (e i .row) (e i .edge .to) (e i .edge .from))
+tie-back (t ∷ ts) (k ∷ ks) n a b (List·Memᴰ·tail (List·Memᴰ·tail m)) = List·Memᴰ·tail (List·Memᴰ·tail (tie-back ts ks n a b m))
+
+-- the requests from a through qs but the last, the last of them first, and then ps
+turnedThrough : Request → List Request → List Request → List Request
+turnedThrough a [] ps = ps
+turnedThrough a (q ∷ qs) ps = turnedThrough q qs (a ∷ ps)
+
+module _ (T : List Link) (back : (n : ℕ) (a b : Request) → List·Memᴰ (link n a b) T → List·Memᴰ (link n b a) T) where
+  up-turned : (a : Request) (qs : List Request) (ns : List ℕ) (b : Request) → Upward T a qs ns b → (ps : List Request) (ks : List ℕ) (z : Request) → Upward T a ps ks z
+      → Upward T b (turnedThrough a qs ps) (reverseAux ns ks) z
+  unfolding turnedThrough
+  up-turned a [] [] b u ps ks z v = rw (sym u) v
+  up-turned a [] (n ∷ ns) b u ps ks z v = absurd u
+  up-turned a (q ∷ qs) [] b u ps ks z v = absurd u
+  up-turned a (q ∷ qs) (n ∷ ns) b u ps ks z v = up-turned q qs ns b (u .1) (a ∷ ps) (n ∷ ks) z (back n a q (u .0), v)
+
+  through-turned : (a : Request) (qs : List Request) (ns : List ℕ) (b : Request) → Upward T a qs ns b → (ps : List Request) → reverseAux (a ∷ qs) ps ≡ b ∷ turnedThrough a qs ps
+  unfolding turnedThrough
+  through-turned a [] [] b u ps = ap (λ (x : Request). x ∷ ps) u
+  through-turned a [] (n ∷ ns) b u ps = absurd u
+  through-turned a (q ∷ qs) [] b u ps = absurd u
+  through-turned a (q ∷ qs) (n ∷ ns) b u ps = through-turned q qs ns b (u .1) (a ∷ ps)
+
+distinct-turned : {A : Type 0} (xs ys : List A) → Distinct xs → Distinct ys → ((x : A) → List·Memᴰ x xs → List·Memᴰ x ys → ⊥) → Distinct (reverseAux xs ys)
+distinct-turned [] ys d e f = e
+distinct-turned {A} (x ∷ xs) ys d e f = distinct-turned xs (x ∷ ys) (d .1) (f x (List·Memᴰ·head refl), e) (λ z m k. apart z m k)
+  where
+    apart : (z : A) → List·Memᴰ z xs → List·Memᴰ z (x ∷ ys) → ⊥
+    apart z m (List·Memᴰ·head q) = d .0 (rw q at m)
+    apart z m (List·Memᴰ·tail k) = f z (List·Memᴰ·tail m) k
+
+-- a chain of ties alone that breaks agreement breaks it read from its other end
+pub ties-turned : (w : World) (m : RowNumbers) (ns : List ℕ) (b : Breaks w m ns) → Upward (tiesOnly w m) (b .first) (b .through) ns (b .last) → Breaks w m (reverse ns)
+ties-turned w m ns b u =
+    let back = tie-back (w .ties) (m .ties) in
+    let v = up-turned (tiesOnly w m) back (b .first) (b .through) ns (b .last) u [] [] (b .first) refl in
+    record {
+      first = b .last;
+      through = turnedThrough (b .first) (b .through) [];
+      last = b .first;
+      low = b .high;
+      high = b .low;
+      firstMeans = b .lastMeans;
+      lastMeans = b .firstMeans;
+      upward = up-more (tiesOnly w m) (links w m) (b .last) (turnedThrough (b .first) (b .through) []) (reverse ns) (b .first) (tie-link w m) v;
+      once = rw (through-turned (tiesOnly w m) back (b .first) (b .through) ns (b .last) u []) at (distinct-turned (b .first ∷ b .through) [] (b .once) tt (λ x k l. List·Memᴰ·not-nil l));
+      breaks = inl (v, λ e. differ (b .breaks) (sym e));
+    }
+  where
+    differ : (Upward (tiesOnly w m) (b .first) (b .through) ns (b .last) × (b .low ≡ b .high → ⊥)) ⊎ (Below (superOf (w .base)) (b .low) (b .high) → ⊥) → b .low ≡ b .high → ⊥
+    differ (inl k) e = k .1 e
+    differ (inr k) e = k (same e)
 
 -- Agreement: each row has a number, so that the links are the edges of the constraints
 

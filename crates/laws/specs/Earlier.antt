@@ -1,11 +1,13 @@
--- Lists of row numbers in the order of their earliest difference, over any order on numbers: of a choice of lists one is first, and no other is before it.
+-- Lists of row numbers in the order of their earliest difference, over any order on numbers: what it is that one goes before another; and of a choice of lists
+-- one is first, and no other is before it. At the end stands the order that reasons are listed by.
 use mathlib.Core.Path.{_≡_, refl, sym, _∙_}
 use mathlib.Core.Bool.{Bool, true, false, false≢true}
 use mathlib.Core.Option.{Option, none, some, Option·none-ne-some, Option·some-injective}
 use mathlib.Core.List.{List, [], _∷_, List·Memᴰ, List·Memᴰ·head, List·Memᴰ·tail}
 use mathlib.Core.Logic.{_⊎_, inl, inr}
-use Prim.Native.Nat.{ℕ}
+use Prim.Native.Nat.{ℕ, zero, suc, _<_}
 use native.Mathlib.Omega.{arith}
+use lib.ListN.{length, getD}
 use lib.Dec.{ltb}
 use borrow.Author.Tests.{ltb-true, ltb-false, lt-ltb, le-ltb}
 use Rattle.definition.specs.Reasons.{precedes, earlier, firstOf}
@@ -16,17 +18,32 @@ pub record Order (before : ℕ → ℕ → Bool) : Type 0 where
   pub onward : (m n o : ℕ) → before m n ≡ true → before n o ≡ true → before m o ≡ true
   pub total : (m n : ℕ) → before m n ≡ false → before n m ≡ false → m ≡ n
 
+-- two lists of one length: up to a position they have the same numbers, and there the first's goes before the second's
+pub record FirstDiffers (before : ℕ → ℕ → Bool) (ns ms : List ℕ) : Type 0 where
+  pub at : ℕ
+  pub within : at < length ns
+  pub same : (j : ℕ) → j < at → getD ns j 0 ≡ getD ms j 0
+  pub goes : before (getD ns at 0) (getD ms at 0) ≡ true
+
 module _ {before : ℕ → ℕ → Bool} (order : Order before) where
   -- the first list isn't before the second
   abbrev pub NotBefore : List ℕ → List ℕ → Type 0
   NotBefore ns ms = precedes before ns ms ≡ false
 
-  itself : (n : ℕ) → before n n ≡ false
+  pub itself : (n : ℕ) → before n n ≡ false
   itself n = go (before n n) refl
     where
       go : (t : Bool) → before n n ≡ t → before n n ≡ false
       go true e = order .onlyOne n n e
       go false e = e
+
+  pub number-on : (m n o : ℕ) → before m n ≡ false → before n o ≡ false → before m o ≡ false
+  number-on m n o h k = go (before m o) refl (before n m) refl
+    where
+      go : (s : Bool) → before m o ≡ s → (t : Bool) → before n m ≡ t → s ≡ false
+      go true e true f = absurd (false≢true (sym k ∙ order .onward n m o f e))
+      go true e false f = absurd (false≢true (sym k ∙ rw (order .total m n h f) at e))
+      go false e t f = refl
 
   -- the first difference decides
 
@@ -94,6 +111,37 @@ module _ {before : ℕ → ℕ → Bool} (order : Order before) where
       go false true p q f r = absurd (false≢true r)
       go false false p q f r = rw (order .total n m p q) (same-head m ms ns (f r))
 
+  -- of two lists of one length that one goes before the other which has the number that goes first at the earliest position where they differ
+  pub precedes-words : (ns ms : List ℕ) → length ns ≡ length ms → precedes before ns ms ≡ true → FirstDiffers before ns ms
+  unfolding precedes
+  precedes-words [] [] l h = absurd (false≢true h)
+  precedes-words [] (m ∷ ms) l h = absurd (omega arith)
+  precedes-words (n ∷ ns) [] l h = absurd (omega arith)
+  precedes-words (n ∷ ns) (m ∷ ms) l h = go (before n m) (before m n) refl refl h (precedes-words ns ms (omega arith))
+    where
+      go : (s t : Bool) → before n m ≡ s → before m n ≡ t → (elim s as (λ _. Bool) [ true ↦ true | false ↦ elim t as (λ _. Bool) [ true ↦ false | false ↦ precedes before ns ms ] ]) ≡ true
+          → (precedes before ns ms ≡ true → FirstDiffers before ns ms) → FirstDiffers before (n ∷ ns) (m ∷ ms)
+      go true t p q r f = record { at = 0; within = omega arith; same = λ j k. absurd (omega arith); goes = p }
+      go false true p q r f = absurd (false≢true r)
+      go false false p q r f = let d = f r in record { at = suc (d .at); within = omega (arith, d .within); same = λ j k. here j k (order .total n m p q) (d .same); goes = d .goes }
+        where
+          here : {i : ℕ} (j : ℕ) → j < suc i → n ≡ m → ((k : ℕ) → k < i → getD ns k 0 ≡ getD ms k 0) → getD (n ∷ ns) j 0 ≡ getD (m ∷ ms) j 0
+          here zero k e f = e
+          here (suc j) k e f = f j (omega arith)
+
+  precedes-from : (ns ms : List ℕ) (i : ℕ) → length ns ≡ length ms → i < length ns → ((j : ℕ) → j < i → getD ns j 0 ≡ getD ms j 0) → before (getD ns i 0) (getD ms i 0) ≡ true
+      → precedes before ns ms ≡ true
+  unfolding precedes
+  precedes-from [] ms i l k s g = absurd (omega arith)
+  precedes-from (n ∷ ns) [] i l k s g = absurd (omega arith)
+  precedes-from (n ∷ ns) (m ∷ ms) zero l k s g = rw (g, precedes) refl
+  precedes-from (n ∷ ns) (m ∷ ms) (suc i) l k s g =
+      let e : n ≡ m = s 0 (omega arith) in
+      rw e (rw (itself m, precedes) (rw (itself m) (precedes-from ns ms i (omega arith) (omega arith) (λ j h. s (suc j) (omega arith)) g)))
+
+  pub words-precede : (ns ms : List ℕ) → length ns ≡ length ms → FirstDiffers before ns ms → precedes before ns ms ≡ true
+  words-precede ns ms l d = precedes-from ns ms (d .at) l (d .within) (d .same) (d .goes)
+
   -- a choice has a first, and ns isn't before it
   abbrev pub Has : Option (List ℕ) → List ℕ → Type 0
   Has o ns = (ms : List ℕ) × (o ≡ some ms) × NotBefore ns ms
@@ -152,3 +200,11 @@ lower-first = record {
   onward = λ m n o h k. lt-ltb m o (omega (arith, ltb-true m n h, ltb-true n o k));
   total = λ m n h k. omega (arith, ltb-false m n h, ltb-false n m k);
 }
+
+-- The order of a reason's rows, here and nowhere else: the lower row goes first
+
+abbrev pub rowBefore : ℕ → ℕ → Bool
+rowBefore = ltb
+
+pub row-order : Order rowBefore
+row-order = lower-first

@@ -48,3 +48,5 @@ pub mod Refused
 pub mod Ints
 pub mod Quotients
 pub mod Rates
+pub mod FileRules
+pub mod Versions

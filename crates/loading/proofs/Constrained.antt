@@ -24,8 +24,8 @@ use Rattle.layout.specs.Places.{rows-length, rows-cong, writeRows-length}
 use Rattle.layout.specs.Cells.{tie-rows, subtype-rows, rows-after-more, cells-block}
 use Rattle.classfile.specs.Reading.{fieldCount, fieldIn, quickFields, quickMethods, quickFile}
 use Rattle.resolution.specs.Quick.{quickClass, quickBase}
-use Rattle.constraints.specs.Posting.{newSubtypesIn, subtypesAfter, Noted, noted, postNotes}
-use Rattle.constraints.specs.Laws.{Posts, posts}
+use Rattle.rows.specs.Posting.{newSubtypesIn, subtypesAfter, Noted, noted, postNotes}
+use Rattle.rows.specs.Laws.{Posts, posts}
 use Rattle.entries.specs.World.{worldIn, world, baseWith, Loadable}
 use Rattle.loading.specs.Posting.{TiesPosted, NotesPosted}
 use Rattle.loading.specs.declared.loads.Newcomer.{Newcomer}

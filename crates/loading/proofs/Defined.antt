@@ -30,7 +30,7 @@ use Rattle.verifier.specs.Lookups.{unmappedIn}
 use Rattle.verifier.specs.Trace.{verification, posting, classTrace, acceptedNotes, granted}
 use Rattle.verifier.proofs.PostingLaws.{answer-says}
 use Rattle.verifier.proofs.ClassLaws.{class-says, unmapped-says}
-use Rattle.constraints.specs.Posting.{Noted}
+use Rattle.rows.specs.Posting.{Noted}
 use Rattle.loading.specs.declared.loads.Plan.{Plan}
 use Rattle.loading.specs.Stages.{superFor, postedFor, placedFor, classTies, newNotes, placedAfter, definedFrom, define-stages, Decided}
 

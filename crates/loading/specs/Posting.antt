@@ -8,7 +8,7 @@ use Rattle.definition.specs.Lists.{writeRows}
 use Rattle.definition.specs.Constraints.{Tie}
 use Rattle.definition.specs.Tables.{putTie}
 use Rattle.definition.specs.Verifier.{Note}
-use Rattle.constraints.specs.Posting.{noted, postNotes}
+use Rattle.rows.specs.Posting.{noted, postNotes}
 
 -- cells for all ties that may be there and five more for each method of a file
 abbrev pub triedTiesLength : ℕ

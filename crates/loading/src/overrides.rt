@@ -1,48 +1,18 @@
 // The ties of a file's methods that override others.
-use cells::arguments::argument_at;
-use cells::arguments::argument_count;
 use classfile::MethodFound;
-use definition::Arguments;
 use definition::Signature;
 use resolution::Selection;
 ghost use mathlib.Core.Path.{_≡_};
 ghost use Prim.Native.Nat.{ℕ, _+_, _*_, _<_, _≤_};
 ghost use lib.ListN.{length};
-ghost use Rattle.definition.specs.Numbers.{shortRange, loaderLimit, tieLimit, memberLimit, rowCells};
+ghost use Rattle.definition.specs.Numbers.{loaderLimit, tieLimit, memberLimit, rowCells};
 ghost use Rattle.definition.specs.Lists.{rows};
 ghost use Rattle.definition.specs.Tables.{tieAt};
-ghost use Rattle.definition.specs.Constraints.{newTies, signatureTies};
 ghost use Rattle.definition.specs.Loading.{overrideTie, overrideTies};
-ghost use Rattle.definition.specs.Classes.{typesOf, loaderOf};
+ghost use Rattle.definition.specs.Classes.{loaderOf};
 ghost use Rattle.classfile.specs.Reading.{methodCount, methodIn, quickMethods};
 ghost use Rattle.resolution.specs.Quick.{quickBase};
 ghost use Rattle.loading.specs.Posting.{TiesPosted, triedTiesLength};
-
-// Ties between two loaders on each of these types in turn, behind the first rows of a table. Answers the new count.
-fn post_types(ties: &mut [u16], count: u16, one: u8, two: u8, types: Arguments) -> u16
-    requires { ⌜ (count + length (typesOf types) < shortRange) × ((count + length (typesOf types)) * rowCells ≤ length (now ties)) ⌝ }
-    ensures { λ r. ⌜ TiesPosted (newTies (rows (tieAt (now (ties .entry))) count 0) one two (typesOf types)) (now (ties .entry)) count (now (ties .exit)) r ⌝ }
-{
-    let n = argument_count(types);
-    let mut total = count;
-    let mut i: u8 = 0;
-    while i < n {
-        total = constraints::add_tie(ties, total, one, two, argument_at(types, i)) as u16;
-        i += 1;
-    }
-    total
-}
-
-// Ties between two loaders on a signature's arguments, then on its result.
-fn post_signature(ties: &mut [u16], count: u16, one: u8, two: u8, s: Signature) -> u16
-    requires { ⌜ (count < 65531) × ((count + 5) * rowCells ≤ length (now ties)) ⌝ }
-    ensures { λ r. ⌜ TiesPosted (signatureTies (rows (tieAt (now (ties .entry))) count 0) one two s) (now (ties .entry)) count (now (ties .exit)) r ⌝ }
-{
-    let arguments = s.arguments;
-    let result = Arguments::OneArgument(s.result);
-    let total = post_types(ties, count, one, two, arguments);
-    post_types(ties, total, one, two, result)
-}
 
 // Ties on a signature's types between a loader and that of the nearest class, p or one upward, with a method alike, behind the first rows of a table.
 // Answers the new count.
@@ -65,7 +35,8 @@ fn post_override(
         return count;
     };
     let other = resolution::loader_of(counts, classes, y) as u8;
-    post_signature(ties, count, loader, other, s)
+    let arguments = s.arguments;
+    posting::post(ties, count, loader, other, arguments, s.result) as u16
 }
 
 // The ties of the file's method number j.

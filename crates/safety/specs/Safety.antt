@@ -18,6 +18,8 @@ use Rattle.definition.specs.declared.Reply.the-variants.{Accepted, Denied}
 use Rattle.definition.specs.Answers.{number, numberOf, endsIn, numberOfStep, Result, refused, ok, _>>=_}
 use Rattle.definition.specs.Constraints.{World, Agrees}
 use Rattle.definition.specs.File.{classOf}
+use Rattle.definition.specs.Classes.{Class, Map, Method}
+use Rattle.definition.specs.Verifier.{Note, notesOfMethod, typesIn, mapAt, mapTypes}
 use Rattle.definition.specs.Machine.{Exists, Frame, Progress}
 use Rattle.definition.specs.Tables.{Tables, shaped, Level, Rows, worldOf, view, put, framesIn, withFrames}
 use Rattle.definition.specs.Broken.{broken}
@@ -28,6 +30,7 @@ use Rattle.laws.specs.Results.{NotStuck, Wp, not-word, ok-inj, wp-need, wp-take
 use Rattle.laws.specs.Refusals.{unmoved, try-either}
 use Rattle.laws.specs.Runs.{runs-end}
 use Rattle.laws.specs.Tasks.{of-task}
+use Rattle.laws.specs.Walk.{mapped-types}
 use Rattle.laws.specs.Wrapped.{wrapped, Ok, ok-at}
 use Rattle.layout.specs.Tests.{All}
 use Rattle.layout.specs.Whole.{Whole, Framed}
@@ -315,6 +318,16 @@ valid-from-boot t b = from-boot t b .valid
 -- and the store agrees
 pub agrees-from-boot : (t : Tables) → ComesFromBoot t → Agrees (worldOf (view t))
 agrees-from-boot t b = from-boot t b .valid .linked .agreed
+
+-- and every method that is kept was verified: the verifier has notes for it
+pub verified-from-boot : (t : Tables) → ComesFromBoot t → (c j : ℕ) (k : Class) (m : Method) → getElem? (worldOf (view t) .base .classes) c ≡ some k → getElem? (k .methods) j ≡ some m
+    → (ns : List Note) × (notesOfMethod k m ≡ some ns)
+verified-from-boot t b c j k m e d = let v = from-boot t b .valid .linked .verified c j k m e d in (v .notes, v .passes)
+
+-- so at a mapped point of any method that is kept the types, by which a value is misplaced or not, are the map's
+pub mapped-from-boot : (t : Tables) → ComesFromBoot t → (c j : ℕ) (k : Class) (m : Method) → getElem? (worldOf (view t) .base .classes) c ≡ some k → getElem? (k .methods) j ≡ some m
+    → (p : ℕ) (x : Map) → mapAt (m .maps) p ≡ some x → typesIn k m p ≡ some (mapTypes x)
+mapped-from-boot t b c j k m e d = let v = verified-from-boot t b c j k m e d in mapped-types k m (v .0) (v .1)
 
 -- and what calls make of it comes from that boot too
 pub later-from-boot : (t : Tables) → ComesFromBoot t → (cs : List Call) → ComesFromBoot (performAll cs t .tables)

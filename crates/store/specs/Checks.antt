@@ -14,7 +14,7 @@ use Rattle.definition.specs.Machine.{Value, emptyValue, intValue, nullValue, ob
 use Rattle.definition.specs.File.{readFile}
 use Rattle.definition.specs.Tables.{Tables, shaped, ClassRow, classRowAt, entryAt, tieAt, subtypeAt, fieldAt, ownedBy, ownerAt, objectRowAt, frameIn, sizeOf, viewBase}
 use Rattle.definition.specs.Broken.{within, isObject, entryFits, tieFits, subtypeFits, broken}
-use Rattle.constraints.specs.Linking.{numbersFit}
+use Rattle.rows.specs.Numbers.{numbersFit}
 use Rattle.frames.specs.Made.{madeIn}
 use Rattle.classfile.specs.Reading.{partOf}
 use Rattle.resolution.specs.Quick.{quickOf}

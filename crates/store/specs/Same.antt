@@ -21,7 +21,7 @@ use Rattle.layout.specs.Whole.{First, ClassSound, Classes, fits-classes, classe
 use Rattle.layout.specs.View.{object-there, object-past, object-free}
 use Rattle.layout.specs.Unbroken.{within-true, view-whole}
 use Rattle.layout.specs.ReadBack.{shaped-true}
-use Rattle.constraints.specs.Linking.{numbersFit}
+use Rattle.rows.specs.Numbers.{numbersFit}
 use Rattle.frames.specs.Made.{made-by-is}
 use Rattle.classfile.specs.Reading.{quickFile, partOf}
 use Rattle.classfile.specs.Laws.{reads-some}

@@ -140,7 +140,7 @@ fn is_readable(
     if !share_fits(counts) {
         return false;
     }
-    if !constraints::numbers_fit(counts) {
+    if !rows::numbers_fit(counts) {
         return false;
     }
     if !sources_fit(counts, classes, kept) {

@@ -1,5 +1,6 @@
 -- What every call leaves: a store that is not broken, what lasts in it, what it refuses with, and whose turn it is.
 pub mod Steps
+pub mod StepTies
 pub mod Progress
 pub mod Accepted
 pub mod WholeRows
@@ -29,3 +30,4 @@ pub mod HiddenFields
 pub mod FieldsLast
 pub mod TakenBack
 pub mod Share
+pub mod Branches

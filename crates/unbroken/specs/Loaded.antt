@@ -15,7 +15,7 @@ use Rattle.definition.specs.Classes.{find}
 use Rattle.definition.specs.Constraints.{World}
 use Rattle.definition.specs.File.{File, readFile, classOf}
 use Rattle.definition.specs.Verifier.{Note, notesOf}
-use Rattle.definition.specs.Loading.{newSubtypes}
+use Rattle.definition.specs.Loading.{newSubtypes, overrideTies}
 use Rattle.definition.specs.Tables.{Tables, Rows, levelOf, withCache, classRow, entry, worldOf, view, classAt}
 use Rattle.definition.specs.Calls.{Given, remembered, addFile, addEntry, defineRows, recordRows, callDefine, callRecord, perform, rowDefine, rowRecord}
 use Rattle.laws.specs.Options.{nth-last}
@@ -30,7 +30,7 @@ use Rattle.unbroken.specs.Calls.{world-defined, rows-whole}
 use Rattle.unbroken.specs.Unbroken.{shown}
 
 -- class c was defined by loader l from the bytes; before it there were the rows r, after it s: exactly one class, its bytes and one cache entry more, and of its
--- verifier's notes those that weren't there yet, in order
+-- verifier's notes those that weren't there yet, in order; and of the ties of its methods that override one, from the superclass upward, those that weren't there yet
 pub record DefinedAs (l : ℕ) (bs : List ℕ) (c : ℕ) (r s : Rows) : Type 0 where
   pub file : File
   pub reads : readFile bs ≡ some file
@@ -44,6 +44,9 @@ pub record DefinedAs (l : ℕ) (bs : List ℕ) (c : ℕ) (r s : Rows) : Type 0 w
   pub verified : notesOf (classOf l file) (file .methods) ≡ some notes
   pub subtypes : s .subtypes ≡ r .subtypes ++ newSubtypes (r .subtypes) l notes
   pub trace : s .trace ≡ take 32 (levelOf r ∷ r .trace)
+  pub super : ℕ
+  pub found : find (r .cache) (at l (file .super)) ≡ some super
+  pub ties : s .ties ≡ r .ties ++ overrideTies (worldOf r .base) l super (r .ties) (file .methods)
 
 define-as : (l : ℕ) (bs : List ℕ) (r : Rows) → Whole r → Ok (defineRows l bs r) (λ g. (c : ℕ) → g .answer ≡ Defined c → DefinedAs l bs c r (g .rows))
 unfolding defineRows
@@ -66,6 +69,9 @@ define-as l bs r w = then Q _ _ (λ _ a. then Q _ _ (λ f rf. then Q _ _ (λ v e
       verified = d .verified;
       subtypes = sym (ap (λ (z : World). z .subtypes) (d .is));
       trace = refl;
+      super = d .super;
+      found = d .cached;
+      ties = sym (ap (λ (z : World). z .ties) (d .is));
     })))
   where
     Q : Given Reply → Type 0

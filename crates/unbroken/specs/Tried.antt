@@ -1,6 +1,7 @@
 -- The tried loads, whatever the store. A try changes nothing. With a list of 512 numbers or more it answers what the load would; with a shorter one 16, but for 1
 -- and 3. One that would clash lists a chain of the store as it would be after the load: the chain breaks agreement, repeats no request and no row, and has at most
--- 512 rows; no chain that breaks agreement is shorter, and none as long goes before it. Without a clash nothing is listed.
+-- 512 rows; every other chain that breaks agreement is longer, or as long with the higher row at the earliest position where they differ. Without a clash
+-- nothing is listed.
 use mathlib.Core.Path.{_≡_, refl, sym, ap, _∙_}
 use mathlib.Core.Bool.{Bool, true, false}
 use mathlib.Core.Option.{Option, none, some}
@@ -25,8 +26,8 @@ use Rattle.definition.specs.declared.Refusal.the-variants.{Word}
 use Rattle.definition.specs.declared.Refusal.{Refusal}
 use Rattle.definition.specs.Reasons.{Distinct, Breaks, reason, reasonAfter, Tried, tries, unlisted, listed, tried, afterLoad, tryLoadRows, tryLoad}
 use Rattle.laws.specs.Options.{some-bind}
-use Rattle.laws.specs.Earlier.{NotBefore, lower-first}
-use Rattle.laws.specs.Chosen.{clash-reason, reason-breaks, reason-shortest, reason-not-later}
+use Rattle.laws.specs.Earlier.{rowBefore, row-order}
+use Rattle.laws.specs.Chosen.{NotSooner, clash-reason, reason-breaks, reason-rest}
 use Rattle.laws.specs.Listed.{breaks-once, breaks-count}
 use Rattle.laws.specs.Wrapped.{ok-at, wrapped, wrap-broken, wrap-carried}
 use Rattle.laws.specs.Causes.{cause, first, rowCauses, defineCauses, recordCauses, causes}
@@ -73,8 +74,7 @@ pub record Reasoned (r : Rows) (after : Option World) : Type 0 where
   pub breaks : Breaks world (numberedOn (world .ties) (world .subtypes) r) chain
   pub rowsOnce : Distinct chain
   pub count : length chain ≤ 512
-  pub shortest : (ms : List ℕ) → Breaks world (numberedOn (world .ties) (world .subtypes) r) ms → length chain ≤ length ms
-  pub first : (ms : List ℕ) → Breaks world (numberedOn (world .ties) (world .subtypes) r) ms → length ms ≡ length chain → NotBefore lower-first ms chain
+  pub only : (ms : List ℕ) → Breaks world (numberedOn (world .ties) (world .subtypes) r) ms → NotSooner rowBefore chain ms
 
 pub clash-reasoned : (r : Rows) → Whole r → (after : Option World) → Clashed r after → Reasoned r after
 unfolding reasonAfter reason
@@ -83,8 +83,8 @@ clash-reasoned r w after c =
     let n = numbering-on r (w .numbers) (c .world .ties) (c .world .subtypes)
     (omega (arith, ap length (c .ties), length-append (r .ties) (c .newTies))) (omega (arith, ap length (c .subtypes), length-append (r .subtypes) (c .newSubtypes))) in
     let d = words-distinct m (in-turn-words m (n .turn)) in
-    let e = clash-reason lower-first (c .world) m (record { ties = n .ties; subtypes = n .subtypes }) (c .disagrees) in
-    let b = reason-breaks lower-first (c .world) m (e .0) (e .1) in
+    let e = clash-reason row-order (c .world) m (record { ties = n .ties; subtypes = n .subtypes }) (c .disagrees) in
+    let b = reason-breaks row-order (c .world) m (e .0) (e .1) in
     record {
       world = c .world;
       left = c .left;
@@ -93,8 +93,7 @@ clash-reasoned r w after c =
       breaks = b;
       rowsOnce = breaks-once (c .world) m d (e .0) b;
       count = omega (arith, breaks-count (c .world) m d (e .0) b, n .ties, n .subtypes, c .tieRoom (w .limits .ties), c .subtypeRoom (w .limits .subtypes));
-      shortest = λ ms x. reason-shortest lower-first (c .world) m (e .0) ms (e .1) x;
-      first = λ ms x l. reason-not-later lower-first (c .world) m (e .0) ms (e .1) x l;
+      only = λ ms x. reason-rest row-order (c .world) m (e .0) ms (e .1) x;
     }
 
 -- Every clash of a load yields one

@@ -22,7 +22,7 @@ use Rattle.classfile.specs.Reading.{fileVersion, className, mapDepth, typeAt, m
 use Rattle.classfile.specs.Rules.{WholeMaps, Readable}
 use Rattle.classfile.specs.Searches.{numbered-in, method-at, method-absent}
 use Rattle.classfile.specs.Laws.{file-readable, version-of, name-of, methods-of}
-use Rattle.constraints.specs.Posting.{Noted, postNotes}
+use Rattle.rows.specs.Posting.{Noted, postNotes}
 use Rattle.verifier.specs.Lookups.{unmappedIn}
 use Rattle.verifier.specs.Trace.{Trace, acceptedNotes, granted, Verification, verification, posting, methodTrace, traceOf, methodsTrace, classTrace}
 use Rattle.verifier.proofs.MeetLaws.{both-say}

@@ -17,7 +17,7 @@ use borrow.Author.Tests.{eq-eqb, ne-eqb, leb-true}
 use Rattle.layout.specs.Places.{rows-last, rows-cong, rows-length, rows-map, stack-length}
 use Rattle.classfile.specs.Reading.{mapDepth, typeAt, mapOf}
 use Rattle.verifier.specs.Types.{typeOf, localAt, operandAt, localsOf, typesOf}
-use Rattle.constraints.specs.Posting.{Noted, postNotes}
+use Rattle.rows.specs.Posting.{Noted, postNotes}
 use Rattle.verifier.specs.Trace.{Trace, refusing, accepting, after, followed, meetEach, meetFrom, fits, meetTrace, Verification, verification, posting}
 use Rattle.verifier.specs.declared.types.Types.{Types}
 use Rattle.verifier.specs.declared.flows.Part.the-variants.{Locals, Operands}

@@ -6,8 +6,8 @@ use mathlib.Core.List.{List}
 use Prim.Native.Nat.{ℕ}
 use Rattle.definition.specs.Instructions.{pick}
 use Rattle.definition.specs.Verifier.{Note}
-use Rattle.constraints.specs.Posting.{Noted, postNotes}
-use Rattle.constraints.specs.Laws.{post-append}
+use Rattle.rows.specs.Posting.{Noted, postNotes}
+use Rattle.rows.specs.Laws.{post-append}
 use Rattle.verifier.specs.Trace.{Trace, after, followed, Turned, refused, once, Verification, verification, posting, Turning, turning, taking, granted, acceptedNotes}
 
 pub posting-after : (l : ℕ) (ns : List Note) (w : Trace) (k : Noted) → posting l (after ns w) k ≡ posting l w (postNotes l ns k)

@@ -13,8 +13,8 @@ use Rattle.definition.specs.Instructions.{decode, pick}
 use Rattle.definition.specs.Classes.{Map}
 use Rattle.definition.specs.Verifier.{Note, TypeState, Flow, mapAt, mapTypes, target, goesOn}
 use Rattle.classfile.specs.Reading.{mapDepth, mapOf, mapsOf}
-use Rattle.constraints.specs.Posting.{Noted, postNotes}
-use Rattle.constraints.specs.Laws.{post-append}
+use Rattle.rows.specs.Posting.{Noted, postNotes}
+use Rattle.rows.specs.Laws.{post-append}
 use Rattle.verifier.specs.declared.types.Types.{Types}
 use Rattle.verifier.specs.declared.changes.Change.{Change}
 use Rattle.verifier.specs.Types.{typesOf}

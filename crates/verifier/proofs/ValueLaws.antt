@@ -17,7 +17,7 @@ use Rattle.definition.specs.declared.Arguments.the-variants.{OneArgument}
 use Rattle.definition.specs.Classes.{typesOf as namesOf, argumentTypes, isNamed}
 use Rattle.definition.specs.Verifier.{VerifierType, Note, flow, pop, popAll, meets, meetAll, meetClass, typeOfName, effect}
 use Rattle.layout.specs.Places.{stack-length, rows-last, rows-cong, rows-take}
-use Rattle.constraints.specs.Posting.{Noted}
+use Rattle.rows.specs.Posting.{Noted}
 use Rattle.verifier.specs.declared.types.Types.{Types}
 use Rattle.verifier.specs.declared.effects.Meeting.{Meeting}
 use Rattle.verifier.specs.declared.effects.Effect.the-variants.{Pushed}

@@ -13,7 +13,7 @@ use Rattle.definition.specs.Classes.{Map}
 use Rattle.definition.specs.Verifier.{TypeState, mapAt, mapTypes, mapsPast}
 use Rattle.layout.specs.Places.{rows-start}
 use Rattle.classfile.specs.Reading.{mapCount, mapNumbered, mapsOf}
-use Rattle.constraints.specs.Posting.{Noted, postNotes}
+use Rattle.rows.specs.Posting.{Noted, postNotes}
 use Rattle.verifier.specs.declared.methods.Passed.{Passed}
 use Rattle.verifier.specs.declared.methods.Passed.the-variants.{Inside, To}
 use Rattle.verifier.specs.declared.turns.Step.{Step}

@@ -15,7 +15,7 @@ use Rattle.definition.specs.declared.Arguments.{Arguments}
 use Rattle.definition.specs.Classes.{typesOf as namesOf, Map, Method}
 use Rattle.definition.specs.Verifier.{Note, TypeState, Flow, mapAt, mapTypes, meetLocal, meets, target, goesOn, mapsPast}
 use Rattle.classfile.specs.Reading.{mapCount, mapNumbered, fileVersion, className, quickMethods}
-use Rattle.constraints.specs.Posting.{Noted, postNotes}
+use Rattle.rows.specs.Posting.{Noted, postNotes}
 use Rattle.verifier.specs.Types.{entryOf}
 use Rattle.verifier.specs.Effects.{meetValue, leaves}
 

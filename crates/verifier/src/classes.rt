@@ -6,7 +6,7 @@ use classfile::MethodFound;
 ghost use mathlib.Core.Path.{_≡_};
 ghost use Prim.Native.Nat.{_<_};
 ghost use Rattle.classfile.specs.Reading.{fileVersion, className, methodCount, methodIn};
-ghost use Rattle.constraints.specs.Posting.{noted};
+ghost use Rattle.rows.specs.Posting.{noted};
 ghost use Rattle.verifier.specs.Trace.{verification, posting, traceOf, classTrace};
 
 // Method j of the file: its code and its maps are handed over as parts of the bytes.

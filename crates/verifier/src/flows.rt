@@ -20,7 +20,7 @@ ghost use Prim.Native.Nat.{ℕ, _+_, _<_, _≤_};
 ghost use Rattle.classfile.specs.Reading.{mapDepth, typeAt, mapOf};
 ghost use Rattle.verifier.specs.Types.{localOf, localAt, localsOf, operandAt, typesOf};
 ghost use Rattle.verifier.specs.Effects.{notesIn};
-ghost use Rattle.constraints.specs.Posting.{noted};
+ghost use Rattle.rows.specs.Posting.{noted};
 ghost use Rattle.verifier.specs.Trace.{verification, posting, fits, meetFrom, valuesTrace, meetTrace};
 ghost use Rattle.verifier.specs.Answers.{meetAt, partLimit};
 

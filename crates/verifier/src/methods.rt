@@ -14,7 +14,7 @@ ghost use lib.Dec.{leb};
 ghost use Prim.Native.Nat.{ℕ};
 ghost use Rattle.definition.specs.Verifier.{mapsPast};
 ghost use Rattle.classfile.specs.Reading.{mapsOf};
-ghost use Rattle.constraints.specs.Posting.{noted};
+ghost use Rattle.rows.specs.Posting.{noted};
 ghost use Rattle.verifier.specs.Lookups.{Indexed};
 ghost use Rattle.verifier.specs.Types.{typesOf};
 ghost use Rattle.verifier.specs.Trace.{verification, posting, trace, methodTrace, leftFrom};

@@ -2,7 +2,7 @@
 use crate::effects::Meeting;
 ghost use mathlib.Core.Bool.{false};
 ghost use mathlib.Core.Path.{_≡_};
-ghost use Rattle.constraints.specs.Posting.{noted, postNotes};
+ghost use Rattle.rows.specs.Posting.{noted, postNotes};
 ghost use Rattle.verifier.specs.Answers.{made};
 
 // What verifying answers: whether it accepts, and how many rows the table of subtype constraints has with the notes. Past 256 there are too many.
@@ -18,7 +18,7 @@ pub(crate) fn post_meeting(m: Meeting, loader: u8, subtypes: &mut [u16], count: 
     match m {
         Meeting::Unmet => count,
         Meeting::Met => count,
-        Meeting::Noted(low, high) => constraints::post_note(subtypes, count, loader, low, high),
+        Meeting::Noted(low, high) => rows::post_note(subtypes, count, loader, low, high),
     }
 }
 

@@ -20,7 +20,7 @@ use definition::Instruction;
 ghost use mathlib.Core.Path.{_≡_};
 ghost use Prim.Native.Nat.{ℕ};
 ghost use Rattle.classfile.specs.Reading.{mapsOf};
-ghost use Rattle.constraints.specs.Posting.{noted};
+ghost use Rattle.rows.specs.Posting.{noted};
 ghost use Rattle.verifier.specs.Lookups.{Indexed, targetOf};
 ghost use Rattle.verifier.specs.Types.{typesOf};
 ghost use Rattle.verifier.specs.Trace.{verification, posting, turning, taking, refused, targetTrace, intoTurn, startTurn, flowing, turnedTo, turned};

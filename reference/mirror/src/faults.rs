@@ -1,5 +1,4 @@
-//! Wrong machines, which the comparison must tell from the right one. MIRROR_FAULT names the one to be; without it the mirror is right, and
-//! with `another-chain` too.
+//! Wrong machines, which the comparison must tell from the right one. MIRROR_FAULT names the one to be; without it the mirror is right.
 
 use std::sync::OnceLock;
 
@@ -16,7 +15,7 @@ use reference::{step, Answer, Refusal, Reply, Store};
 
 use crate::judged::{agrees, Judge};
 use crate::made::{post, write};
-use crate::{hidden, listed, mapped, rates, swept, tried};
+use crate::{chosen, hidden, listed, mapped, rates, shared, swept, tried};
 
 /// The name of the fault and the calls that have it.
 pub type Fault = (&'static str, fn(&Call, &mut Store) -> Option<Reply>);
@@ -252,10 +251,10 @@ pub fn check(bytes: &[u8]) -> u8 {
 
 /// Makes the call, wrongly if a fault is named and has it. A try is lent the list.
 pub fn make(call: &Call, store: &mut Store, list: &mut [u16]) -> Reply {
-    let fault = FAULTS.iter().chain(&mapped::FAULTS).chain(&rates::FAULTS).chain(&hidden::FAULTS).chain(&listed::FAULTS).find(|fault| Some(fault.0) == chosen());
+    let fault = FAULTS.iter().chain(&mapped::FAULTS).chain(&rates::FAULTS).chain(&hidden::FAULTS).chain(&listed::FAULTS).chain(&shared::FAULTS).find(|fault| Some(fault.0) == chosen());
     // Those leave the list alone, so a try has none of them.
     let is_try = call.load().is_some();
-    let listing = tried::FAULTS.iter().chain([&tried::ANOTHER]).find(|fault| Some(fault.0) == chosen());
+    let listing = tried::FAULTS.iter().chain(&chosen::FAULTS).find(|fault| Some(fault.0) == chosen());
     let is_desks = DESKS.iter().any(|desk| Some(desk.0) == chosen());
     let is_there = fault.is_some() || listing.is_some() || slip().is_some() || is_desks;
     assert!(is_there || chosen().is_none(), "no such fault");

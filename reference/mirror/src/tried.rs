@@ -143,18 +143,7 @@ pub const FAULTS: [Listing; 23] = [
     }),
 ];
 
-/// No fault: a clash lists the longest chain that breaks agreement and that `walks` finds.
-pub const ANOTHER: Listing = ("another-chain", |call, store, list| {
-    relisted(call, store, list, |store, plan, chain| {
-        let added = plan.added();
-        let constraints = numbered(store, &added);
-        let walked = entries(store, &added).flat_map(|row| walks((row[0], row[1]), &constraints, breaks::ways)).map(|walk| walk.0);
-        let found = walked.filter(|rows| breaks::breaks(store, &added, &plan.classes, rows)).max_by_key(Vec::len);
-        *chain = found.unwrap_or_else(|| chain.clone());
-    })
-});
-
-fn is_tie(constraint: &Constraint) -> bool {
+pub fn is_tie(constraint: &Constraint) -> bool {
     matches!(constraint, Constraint::Tie(_))
 }
 
@@ -165,7 +154,7 @@ fn downward(constraint: Constraint) -> Vec<(Request, Request)> {
 }
 
 /// A try whose chain is changed before it is listed.
-fn relisted(call: &Call, store: &mut Store, list: &mut [u16], change: impl Fn(&Store, &Plan, &mut Vec<u16>)) -> Option<Reply> {
+pub fn relisted(call: &Call, store: &mut Store, list: &mut [u16], change: impl Fn(&Store, &Plan, &mut Vec<u16>)) -> Option<Reply> {
     call.load()?;
     let mut own = list.to_vec();
     let Reply::Clashed(rows) = call.apply_listing(store, &mut own) else {

@@ -57,6 +57,58 @@ pub fn subtype_then_tie() -> Trial {
     trial
 }
 
+/// Ties join loader 2's 12 to loader 1's by 3, the row of loader 2 first. Loader 2's own 12 would be below loader 1's, which isn't enough; it is the
+/// lower end of the chain that is listed.
+pub fn tied_to_a_class_above() -> Trial {
+    let mut trial = ready();
+    tie(&mut trial, 3, 2, 12);
+    tie(&mut trial, 1, 3, 12);
+    trial.define(1, &Draft::new(12));
+    trial.define(1, &Draft::new(13).under(12));
+    trial.record(2, 13, trial.store.counts[0] - 1);
+    trial.define(2, &Draft::new(12).under(13));
+    trial
+}
+
+/// Loader 3's own 12 would clash by two ties and, as shortly, by a subtype constraint and a tie.
+pub fn ties_and_a_mixed_chain() -> Trial {
+    let mut trial = Trial::ready(1..5);
+    trial.define(2, &Draft::new(10));
+    trial.record(1, 10, 1);
+    trial.define(1, &Draft::new(12).under(10));
+    subtype(&mut trial, 3, 12, 10);
+    tie(&mut trial, 3, 4, 12);
+    tie(&mut trial, 4, 1, 12);
+    tie(&mut trial, 3, 2, 10);
+    trial.define(3, &Draft::new(12));
+    trial
+}
+
+/// Loader 3's own 12 would clash by rows 1 and 3 or by rows 2 and 0, upward.
+pub fn two_mixed_chains() -> Trial {
+    let mut trial = Trial::ready(1..6);
+    trial.define(4, &Draft::new(10));
+    trial.define(5, &Draft::new(11));
+    tie(&mut trial, 3, 5, 11);
+    subtype(&mut trial, 3, 12, 10);
+    subtype(&mut trial, 3, 12, 11);
+    tie(&mut trial, 3, 4, 10);
+    trial.define(3, &Draft::new(12));
+    trial
+}
+
+/// Loader 1's 40 would clash by two ties, and by its own note that 11 is below 12, which is shorter.
+pub fn a_note_of_others() -> Trial {
+    let mut trial = ready();
+    trial.define(1, &Draft::new(12));
+    trial.define(1, &Draft::new(11));
+    trial.define(2, &Draft::new(40));
+    tie(&mut trial, 1, 3, 40);
+    tie(&mut trial, 3, 2, 40);
+    trial.define(1, &Draft::new(40).main(MAIN, &Code::new().object(11).getfield(12, 30, INT).ireturn()));
+    trial
+}
+
 /// Loader 2 uses loader 1's class 11 by `code`: field 30 of class 12, method 21 from 12 to 12.
 /// Both loaders may have a 12 of their own.
 pub fn across(code: &Code, first: bool, second: bool) -> Trial {
@@ -178,7 +230,7 @@ pub fn wide_numbers() -> Trial {
 /// Every list here, run to its end.
 pub fn cases() -> Vec<Trial> {
     let mut all = vec![
-        far_ends_of_ties(), subtype_then_tie(), overriding(), override_apart(), wide_numbers(), superclass_of_its_own_loader(),
+        far_ends_of_ties(), subtype_then_tie(), tied_to_a_class_above(), ties_and_a_mixed_chain(), two_mixed_chains(), a_note_of_others(), overriding(), override_apart(), wide_numbers(), superclass_of_its_own_loader(),
     ];
     for code in [reader(), caller(), null_reader()] {
         for (first, second) in [(false, false), (false, true), (true, false), (true, true)] {

@@ -178,6 +178,76 @@ pub fn cases() -> Vec<Clash> {
     [stored(), agreeing(), own_rows(), elsewhere(), long.into()].concat()
 }
 
+/// A clash with several chains, and the rows that it lists.
+pub type Choice = (&'static str, Store, Call, &'static [u16]);
+
+/// Clashes by ties alone, of which some may be read from two ends.
+fn tied_choices() -> Vec<Choice> {
+    let own = |loader: u16| define(loader, &Draft::new(12));
+    let mut two = defined(&[1], 12);
+    two.record(7, 12, 1);
+    let mut family = defined(&[1], 12);
+    family.define(1, &Draft::new(13).under(12));
+    family.record(2, 13, 2);
+    let below = define(2, &Draft::new(12).under(13));
+    let (up, down) = ([tie(3, 2, 12), tie(1, 3, 12)], [tie(1, 3, 12), tie(3, 2, 12)]);
+    vec![
+        ("from the loaded end", with(defined(&[1], 12), &[tie(1, 2, 12), tie(2, 3, 12)]), own(3), &[0, 1]),
+        ("from the newcomer", with(defined(&[1], 12), &[tie(2, 3, 12), tie(1, 2, 12)]), own(3), &[0, 1]),
+        ("one middle, two loaded ends", with(two.clone(), &[tie(1, 2, 12), tie(2, 7, 12), tie(2, 6, 12)]), own(6), &[0, 2]),
+        ("one middle, the other loaded end", with(two, &[tie(2, 6, 12), tie(2, 7, 12), tie(1, 2, 12)]), own(6), &[0, 1]),
+        ("from the class below", with(family.clone(), &up), below.clone(), &[0, 1]),
+        ("from the class above", with(family, &down), below, &[0, 1]),
+        (
+            "three ties, the lower row behind",
+            with(defined(&[1], 12), &[tie(4, 5, 12), tie(1, 2, 12), tie(2, 3, 12), tie(3, 6, 12), tie(1, 4, 12), tie(5, 6, 12)]),
+            own(6),
+            &[1, 2, 3],
+        ),
+        ("two ties before three of lower rows", with(defined(&[1], 12), &[tie(1, 2, 12), tie(2, 3, 12), tie(3, 5, 12), tie(1, 4, 12), tie(4, 5, 12)]), own(5), &[3, 4]),
+    ]
+}
+
+/// Clashes by mixed chains, or by mixed chains and ties.
+fn mixed_choices() -> Vec<Choice> {
+    let own = |loader: u16, name: u16| define(loader, &Draft::new(name));
+    let mut both = defined(&[1], 12);
+    both.define(3, &Draft::new(11));
+    both.define(2, &Draft::new(10));
+    let mut ends = defined(&[], 12);
+    ends.define(4, &Draft::new(10));
+    ends.define(5, &Draft::new(11));
+    let by_sets = [tie(3, 5, 11), subtype(3, 12, 10), subtype(3, 12, 11), tie(6, 7, 13), tie(3, 4, 10)];
+    let by_last = [subtype(3, 12, 10), subtype(3, 12, 11), tie(5, 3, 11), tie(6, 7, 13), tie(4, 3, 10)];
+    vec![
+        ("one subtype constraint before two ties", with(both.clone(), &[tie(1, 2, 12), tie(2, 3, 12), subtype(3, 12, 11)]), own(3, 12), &[2]),
+        ("a mixed chain before ties", with(both.clone(), &[subtype(3, 12, 10), tie(3, 4, 12), tie(4, 1, 12), tie(3, 2, 10)]), own(3, 12), &[0, 3]),
+        ("ties before a mixed chain", with(both, &[tie(3, 4, 12), subtype(3, 12, 10), tie(4, 1, 12), tie(3, 2, 10)]), own(3, 12), &[0, 2]),
+        ("a lower set elsewhere", with(ends.clone(), &by_sets), own(3, 12), &[1, 4]),
+        ("a lower last row elsewhere", with(ends, &by_last), own(3, 12), &[0, 4]),
+    ]
+}
+
+/// Clashes with the load's own rows, and without its request.
+fn own_choices() -> Vec<Choice> {
+    let mut apart = defined(&[1, 2], 12);
+    apart.define(1, &Draft::new(11));
+    apart.define(2, &Draft::new(OTHER));
+    let noted = |notes: &[(u16, u16)]| define(1, &noting(Draft::new(OTHER), notes));
+    let far = [tie(1, 3, OTHER), tie(3, 2, OTHER)];
+    vec![
+        ("a stored row before its own", with(apart.clone(), &[tie(1, 2, OTHER)]), noted(&[(OTHER, 11)]), &[0]),
+        ("its own first note before its second", apart.store.clone(), noted(&[(11, 12), (12, 11)]), &[0]),
+        ("its own row elsewhere before two of its request", with(apart.clone(), &far), noted(&[(11, 12)]), &[2]),
+        ("a note of its request before two ties of it", with(apart, &far), noted(&[(OTHER, 11)]), &[2]),
+    ]
+}
+
+/// Clashes with chains of unlike and of like length.
+pub fn choices() -> Vec<Choice> {
+    [tied_choices(), mixed_choices(), own_choices()].concat()
+}
+
 /// A random store and a load: classes below each other under a few loaders, ties and subtype constraints on a few names, now and then many of
 /// them, or one long chain. Some disagree before the load.
 pub fn clash(seed: u64) -> (Store, Call) {

@@ -9,27 +9,28 @@ use super::large;
 use super::list::busy_list;
 use super::loops::{spinning, unset_at_a_join, waiting};
 use super::numbers::{has_wrong_numbers, renumber, wrong_numbers};
-use super::objects::{all_in_use, an_owner, free_rows, links, many_objects, unused_number};
+use super::objects::{a_share, all_in_use, an_owner, free_rows, is_past_the_share, links, many_objects, unused_number};
 use super::rng::Rng;
 use super::unverified::{has_unverified, jumps_out, map_bytes, other_version, unseen_calls, unseen_jumps, unseen_rates};
 use super::{Call, Trial};
 use crate::file::File;
-use crate::store::{cell, count, frame_base, Store, FIELDS, FRAME_ROW, INT, LENGTHS, LIMITS, OBJECT, OBJECT_ROW, ROW, TASKS};
+use crate::store::{cell, count, frame_base, Store};
+use crate::store::{FIELDS, FRAME_ROW, INT, LENGTHS, LIMITS, OBJECT, OBJECT_ROW, REPORT, ROW, SHARE, TASKS};
 
 /// Kinds of damage, each a way to change a good store.
-const KINDS: [fn(&mut Rng, &mut Store); 35] = [
+const KINDS: [fn(&mut Rng, &mut Store); 38] = [
     any_cells, a_count, uniform_table, wrong_length, second_cache_row, overlapping_files, superclass_not_lower,
     code_bytes, kept_byte, top_frame, operand_count, a_value, constraints, full_frames, uniform_store, file_place,
-    nested_file, full_rows, many_fields, hidden_fields, hidden_fields, many_classes, report_past_its_code, an_owner, free_rows,
+    nested_file, full_rows, many_fields, many_fields, hidden_fields, hidden_fields, many_classes, report_past_its_code, an_owner, free_rows,
     unused_number, links, many_objects, unseen_jumps, unseen_jumps, unseen_jumps, other_version, map_bytes,
-    unseen_rates, unseen_calls,
+    unseen_rates, unseen_calls, a_share, a_share,
 ];
 
 /// What a damaged store may have, and the test for it.
 pub type Shape = (&'static str, fn(&Store) -> bool);
 
 /// What damaged stores must have among them.
-pub const SHAPES: [Shape; 15] = [
+pub const SHAPES: [Shape; 18] = [
     ("a class of more than 16 fields", |store| classes(store).iter().any(|&class| field_names(store, class).len() > FIELDS)),
     ("a field's name repeated below", |store| has_repeated_field(store, 2)),
     ("a field's name in three classes", |store| has_repeated_field(store, 3)),
@@ -41,6 +42,9 @@ pub const SHAPES: [Shape; 15] = [
     ("a free row with any cells", |store| is_whole(store) && crate::broken(&all_in_use(store, false))),
     ("a value that names a free row", |store| looked_at(store) && crate::broken(store) && is_whole(&all_in_use(store, true))),
     ("256 objects in use", |store| is_whole(store) && store.unused_object().is_none()),
+    ("192 of the report's objects", |store| is_whole(store) && store.made_by(REPORT) == SHARE),
+    ("192 of the report's objects among 256", |store| is_whole(store) && store.made_by(REPORT) == SHARE && store.unused_object().is_none()),
+    ("193 of the report's objects and more, and nothing else", is_past_the_share),
     ("a file of version 2 that define refuses", has_unverified),
     ("a jump out of the code", jumps_out),
     ("wrong numbers of constraints, and nothing else", has_wrong_numbers),

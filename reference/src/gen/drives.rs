@@ -7,6 +7,7 @@ use super::graphs::graphs;
 use super::list::list;
 use super::listed;
 use super::rng::Rng;
+use super::shares::shared;
 use super::{Call, Trial};
 use crate::answer::{denied, word};
 use crate::drive::{ANSWERS, HEAD, INPUT, LIST, ROW};
@@ -150,10 +151,11 @@ pub fn fixed() -> Vec<u8> {
 pub fn drive(seed: u64) -> Vec<u8> {
     let mut rng = Rng::new(seed ^ 0x64_72_69_76);
     let length = rng.within(5, 90);
-    let trial = match rng.weighted(&[4, 2, 4]) {
+    let trial = match rng.weighted(&[4, 2, 4, 2]) {
         0 => list(seed, length),
         1 => graphs(seed, length),
-        _ => chains(seed, length / 2),
+        2 => chains(seed, length / 2),
+        _ => shared(seed, length / 2),
     };
     let mut calls = trying(&trial, &mut rng);
     let room = |calls: &[Call]| Encoded::new(calls, 1).files.len() + 4 * (HEAD + LIST) <= INPUT;

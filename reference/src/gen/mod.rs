@@ -30,6 +30,7 @@ pub mod rates;
 pub mod reach;
 pub mod rng;
 pub mod scripts;
+pub mod shares;
 pub mod spoils;
 pub mod stuck;
 pub mod swept;
@@ -39,6 +40,7 @@ pub mod walk;
 use crate::answer::{Answer, Reply};
 use crate::breaks::breaks;
 use crate::load::{judge, plan_define, plan_record, Plan};
+use crate::reason::chain;
 use crate::store::{Store, MOST_ROWS};
 use crate::{boot, define, drop_task, record, run, start, step, sweep, try_define, try_record};
 
@@ -111,6 +113,11 @@ impl Call {
     /// Are these the rows of a chain that breaks agreement after the load?
     pub fn is_reason(&self, store: &Store, list: &[u16]) -> bool {
         self.plan(store).is_some_and(|plan| breaks(store, &plan.added(), &plan.classes, list))
+    }
+
+    /// Are these the rows of the chain that is the reason of its clash: the shortest, and of those the first?
+    pub fn is_the_reason(&self, store: &Store, list: &[u16]) -> bool {
+        self.plan(store).is_some_and(|plan| chain(store, &plan.added(), &plan.classes).as_deref() == Some(list))
     }
 
     /// How many cells the list has that the call is lent.

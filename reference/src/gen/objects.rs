@@ -1,9 +1,12 @@
 //! Damage to objects and their owners: free rows, values that name them, links between objects, full stores.
 
-use super::damage::{is_whole, number};
+use super::build::{Code, Draft};
+use super::cases::MAIN;
+use super::damage::{add_unseen, is_whole, looked_at, number, start_in, unused_name};
 use super::rng::Rng;
 use crate::broken::unbroken;
-use crate::store::{cell, count, frame_base, Store, Value, FREE, LOCALS, MOST_OBJECTS, OBJECT_ROW, TASKS};
+use crate::store::{cell, count, frame_base, owner_of, Store, Value};
+use crate::store::{FREE, LOCALS, MOST_OBJECTS, OBJECT, OBJECT_ROW, OPERANDS, QUOTE, REPORT, SHARE, TASKS};
 use crate::task::make_object;
 
 /// A copy in which every row below the object count is in use; those that were free hold what they hold, or an object of Object.
@@ -101,7 +104,12 @@ pub fn many_objects(rng: &mut Rng, store: &mut Store) {
     let linked: Vec<u16> = (0..store.counts[count::CLASSES]).filter(|&class| classes.field_count(class) > 0).collect();
     let class = if linked.is_empty() { 0 } else { rng.pick(&linked) };
     let (all, task) = (rng.pick(&[256, 256, 255, 100]), rng.below(2));
-    while store.objects_in_use().count() < all && make_object(store, &classes, class, task).is_some() {}
+    // mostly no more than the report's share
+    let exceeds = rng.percent(10);
+    while store.objects_in_use().count() < all {
+        let maker = if store.is_share_used(task) && !exceeds { QUOTE } else { task };
+        make_object(store, &classes, class, maker);
+    }
     let objects: Vec<u32> = store.objects_in_use().collect();
     let way = rng.below(4);
     for (at, &object) in objects.iter().enumerate().filter(|_| way > 0) {
@@ -116,4 +124,56 @@ pub fn many_objects(rng: &mut Rng, store: &mut Store) {
         let end = rng.pick(&[objects[0], objects[objects.len() - 1]]);
         put_somewhere(rng, store, Value::Object(end));
     }
+}
+
+/// The report's objects at its share, one less, one more or many more, beside the quote's; mostly a task is about to make some.
+pub fn a_share(rng: &mut Rng, store: &mut Store) {
+    if !is_whole(store) || store.cached(0, OBJECT) != Some(0) {
+        return;
+    }
+    if rng.percent(75) {
+        about_to_make(rng, store);
+    }
+    let classes = unbroken(store).expect("a store");
+    let reports = SHARE + rng.pick(&[0, 0, 0, 1, 1, 2, 64]) - rng.pick(&[0, 0, 1]);
+    let all = rng.pick(&[reports, reports + 1, 255, 256]).clamp(reports, MOST_OBJECTS);
+    while store.objects_in_use().count() < all && make_object(store, &classes, 0, QUOTE).is_some() {}
+    let mut objects: Vec<u32> = store.objects_in_use().collect();
+    (1..objects.len()).for_each(|at| objects.swap(at, rng.below(at + 1)));
+    for (place, &object) in objects.iter().enumerate() {
+        store.own_object(object, if place < reports { REPORT } else { QUOTE });
+    }
+    // what free rows and those past the count say is never read
+    if rng.percent(30) && store.count(count::OBJECTS) < MOST_OBJECTS {
+        let used = store.count(count::OBJECTS);
+        store.counts[count::OWNERS + used..count::TIE_NUMBERS].fill(owner_of(REPORT));
+    }
+}
+
+/// A task before a method that makes objects and lets them go; now and then it has no room for another operand, or wants the class.
+fn about_to_make(rng: &mut Rng, store: &mut Store) {
+    let name = unused_name(store);
+    let made = if rng.percent(90) { name } else { name + 1 };
+    let code = (0..rng.within(1, 9)).fold(Code::new(), |code, _| code.object(made).pop());
+    if add_unseen(store, 0, &Draft::new(name).main(MAIN, &code.iload(1).ireturn())).is_none() {
+        return;
+    }
+    start_in(rng, store, 0, name);
+    if let Some(task) = store.turn().filter(|_| rng.percent(20)) {
+        let base = frame_base(task, store.frame_count(task) - 1);
+        store.frames[base + cell::OPERANDS] = OPERANDS as u32;
+        (0..OPERANDS).for_each(|place| Value::Null.write(&mut store.frames, base + cell::OPERAND_0 + 2 * place));
+    }
+}
+
+/// Is the store broken by the report's share alone?
+pub fn is_past_the_share(store: &Store) -> bool {
+    looked_at(store) && store.made_by(REPORT) > SHARE && is_whole(&without_reports(store))
+}
+
+/// A copy in which every object that the report made is the quote's.
+pub fn without_reports(store: &Store) -> Store {
+    let mut copy = store.clone();
+    copy.owners_mut().iter_mut().filter(|owner| **owner == owner_of(REPORT)).for_each(|owner| *owner = owner_of(QUOTE));
+    copy
 }

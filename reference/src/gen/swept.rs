@@ -96,10 +96,10 @@ pub fn a_deep_chain() -> Trial {
     let main = call(Code::new().null().astore(2), 2).pop().end(INT);
     let deep = call((0..9).fold(Code::new(), |code, _| prepend(code, 1)), 1).areturn();
     trial.define(1, &Draft::new(NODE).field(FIELDS[0], NODE).main(MAIN, &main).method(DEEP, NODE, NODE, &deep));
-    trial.start(1, 1, NODE, MAIN, 0);
+    trial.start(0, 1, NODE, MAIN, 0);
     trial.run(5_000);
     trial.sweep();
-    trial.drop_task(1);
+    trial.drop_task(0);
     trial.sweep();
     trial
 }

@@ -9,7 +9,7 @@ use Rattle.definition.specs.Lists.{rows}
 use Rattle.definition.specs.Classes.{typesOf}
 use Rattle.definition.specs.Constraints.{newTie, newTies}
 use Rattle.definition.specs.Tables.{tieAt}
-use Rattle.constraints.specs.Laws.{tie-few}
+use Rattle.rows.specs.Laws.{tie-few}
 use Rattle.posting.specs.Postings.{toPost, namesOf, Between, Left, few-names, ties-same, first-left, next-left, last-left}
 use borrow.Author.Needs.{needs}
 use Rattle.posting.proofs.new_ties.Statement.{statement}

@@ -10,7 +10,7 @@ use Rattle.definition.specs.Answers.{number}
 use Rattle.definition.specs.File.{readFile}
 use Rattle.classfile.specs.Reading.{fileVersion, quickMethods}
 use Rattle.classfile.specs.Laws.{reads-some, file-readable}
-use Rattle.constraints.specs.Posting.{noted}
+use Rattle.rows.specs.Posting.{noted}
 use Rattle.verifier.specs.Lookups.{unmappedIn}
 use Rattle.verifier.specs.Trace.{verification, posting, classTrace}
 use Rattle.verifier.proofs.PostingLaws.{rows-say}

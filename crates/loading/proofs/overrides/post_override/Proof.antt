@@ -2,45 +2,54 @@
 use mathlib.Core.Path.{_≡_, sym, _∙_}
 use native.Mathlib.Omega.{arith}
 use denote.Ref.{now}
+use Rattle.definition.specs.Lists.{rows}
 use Rattle.definition.specs.Classes.{loaderOf}
+use Rattle.definition.specs.Tables.{tieAt}
 use Rattle.resolution.specs.Quick.{quickBase, loader-quick}
 use Rattle.resolution.specs.Lookups.{selection-at, selection-absent}
-use Rattle.loading.proofs.Posted.{posts-none, posts-all, posted-long}
+use Rattle.loading.proofs.Posted.{posts-none, posts-all, few-new}
 use borrow.Author.Needs.{needs}
 use Rattle.loading.proofs.overrides.post_override.Statement.{statement}
 use Rattle.loading.proofs.overrides.post_override.Tie as tie
+
+-- the loader of the class that was found
+module _ (c : tie.After-loader-of) where
+  abbrev start : tie.Start
+  start = c .before .before .before .before .before .before .before .before .before .before
+
+  loader-is : c .loader-of .result ≡ loaderOf (quickBase (now (start .args .counts)) (now (start .args .classes)) (now (start .args .kept)) (now (start .args .cache))) (c .before .before .y .given .0 .0)
+  loader-is = c .loader-of .ensures ∙ sym (loader-quick (now (start .args .counts)) (now (start .args .classes)) (now (start .args .kept)) (now (start .args .cache)) _)
 
 returns : tie.Need-returns
 returns c = posts-none _ _ _ _ _ _ (selection-absent _ (sym (c .before .before .select-method .ensures) ∙ c .enum-told .given .1))
 
 cast-other : tie.Need-cast-other
-cast-other c =
-    let at10 = c .before .before .before .before .before .before .before .before .before .before in
-    let counts = now (at10 .args .counts) in
-    let classes = now (at10 .args .classes) in
-    let kept = now (at10 .args .kept) in
-    let cache = now (at10 .args .cache) in
-    let e : c .loader-of .result ≡ loaderOf (quickBase counts classes kept cache) (c .before .before .y .given .0 .0) = c .loader-of .ensures ∙ sym (loader-quick counts classes kept cache _) in omega (arith, at10 .pre .2 (c .before .before .y .given .0 .0))
+cast-other c = omega (arith, loader-is c, c .before .before .before .before .before .before .before .before .before .before .pre .2 (c .before .before .y .given .0 .0))
 
-post-signature-requires : tie.Need-post-signature-requires
-post-signature-requires c κs =
-    let at11 = c .before .before .before .before .before .before .before .before .before .before .before in
-    (at11 .pre .0, at11 .pre .1)
-
-same-length : tie.Need-same-length
-same-length c = posted-long _ _ _ _ _ (c .before .before .post-signature .ensures)
+cast-result : tie.Need-cast-result
+cast-result c =
+    let start = c .before .before .before .before .before .before .before .before .before .before .before .before .before .before in
+    let few = few-new (rows (tieAt (now (start .args .ties))) (start .args .count) 0) (start .args .loader) (c .before .before .before .before .loader-of .result) (start .args .s) (start .args .count) _ (c .before .before .post .ensures .0) in
+    omega (arith, few, start .pre .0)
 
 returns-2 : tie.Need-returns-2
 returns-2 c =
-    let at4 = c .before .before .before .before in
-    let at6 = at4 .before .before in
-    let at8 = at6 .before .before in
-    let at14 = at8 .before .before .before .before .before .before in
-    let counts = now (at14 .args .counts) in
-    let classes = now (at14 .args .classes) in
-    let kept = now (at14 .args .kept) in
-    let cache = now (at14 .args .cache) in
-    let e : at4 .loader-of .result ≡ loaderOf (quickBase counts classes kept cache) (at6 .y .given .0 .0) = at4 .loader-of .ensures ∙ sym (loader-quick counts classes kept cache _) in posts-all _ _ _ _ _ _ _ _ _ _ (selection-at _ _ _ (sym (at8 .select-method .ensures) ∙ at6 .y .given .1)) (sym e) (c .before .before .post-signature .ensures)
+    let found : tie.After-loader-of = c .before .before .before .before in
+    let args = c .before .before .before .before .before .before .before .before .before .before .before .before .before .before .args in
+    posts-all (quickBase (now (args .counts)) (now (args .classes)) (now (args .kept)) (now (args .cache))) (args .loader) (args .p) (args .s) (now (args .ties)) (args .count) _ (found .loader-of .result) _ _
+    (selection-at _ _ _ (sym (c .before .before .before .before .before .before .before .before .select-method .ensures) ∙ c .before .before .before .before .before .before .y .given .1)) (sym (loader-is found)) (c .before .before .post .ensures .0) (c .before .before .post .ensures .1)
 
 pub post-override-spec : {M : Type 1} → statement M
-post-override-spec = tie.close (tie.spec (λ c κs. search needs) (λ c. search needs) (λ c. search needs) returns (λ c κs. search needs) cast-other post-signature-requires same-length returns-2)
+post-override-spec =
+    tie.close
+    (tie.spec
+    (λ c κs. search needs)
+    (λ c. search needs)
+    (λ c. search needs)
+    returns
+    (λ c κs. search needs)
+    cast-other
+    (λ c κs. search needs)
+    cast-result
+    (λ c. search needs)
+    returns-2)

@@ -6,7 +6,7 @@ use lib.ListN.{length}
 use denote.Ref.{now}
 use borrow.Author.Tests.{not-true, not-false}
 use Rattle.classfile.specs.Reading.{fileVersion, className, methodCount, methodsFrom}
-use Rattle.constraints.specs.Posting.{noted}
+use Rattle.rows.specs.Posting.{noted}
 use Rattle.verifier.specs.Trace.{methodsTrace, classTrace, posting}
 use Rattle.verifier.proofs.ClassLaws.{class-goes, class-stops, class-ends, class-begins}
 use borrow.Author.Needs.{needs}

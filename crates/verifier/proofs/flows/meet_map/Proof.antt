@@ -3,7 +3,7 @@ use mathlib.Core.Path.{_≡_, refl, sym, _∙_}
 use Prim.Native.Nat.{_≤_}
 use native.Mathlib.Omega.{arith}
 use borrow.Author.Tests.{not-true, not-false}
-use Rattle.constraints.specs.Posting.{postNotes}
+use Rattle.rows.specs.Posting.{postNotes}
 use denote.Ref.{now}
 use Rattle.classfile.specs.Reading.{mapOf}
 use Rattle.verifier.specs.declared.flows.Part.the-variants.{Locals, Operands}

@@ -4,7 +4,7 @@ use Prim.Native.Nat.{_≤_, _-_}
 use native.Mathlib.Omega.{arith}
 use lib.ListN.{length}
 use borrow.Author.Tests.{not-true, not-false}
-use Rattle.constraints.specs.Posting.{noted}
+use Rattle.rows.specs.Posting.{noted}
 use Rattle.verifier.specs.Trace.{posting, meetFrom}
 use Rattle.verifier.specs.Answers.{meetAt}
 use Rattle.verifier.proofs.ChangeLaws.{met-notes, unmet-notes}

@@ -4,7 +4,7 @@ use mathlib.Core.List.{[]}
 use native.Mathlib.Omega.{arith}
 use lib.ListN.{length}
 use Rattle.classfile.specs.Reading.{mapsOf, mapPlace}
-use Rattle.constraints.specs.Posting.{noted}
+use Rattle.rows.specs.Posting.{noted}
 use Rattle.verifier.specs.Types.{typesOf}
 use Rattle.verifier.specs.Trace.{trace, leftFrom, posting}
 use Rattle.verifier.specs.Answers.{PlaceOf, nextOf}

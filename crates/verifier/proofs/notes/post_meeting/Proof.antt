@@ -1,6 +1,6 @@
 -- A note is posted if the meeting makes one.
 use mathlib.Core.Path.{refl}
-use Rattle.constraints.specs.Posting.{postNotes}
+use Rattle.rows.specs.Posting.{postNotes}
 use Rattle.verifier.specs.Answers.{made}
 use borrow.Author.Needs.{needs}
 use Rattle.verifier.proofs.notes.post_meeting.Statement.{statement}

@@ -1,6 +1,6 @@
 -- Nothing flows where there is no target; else the target has a map, and it is met.
 use mathlib.Core.Path.{refl}
-use Rattle.constraints.specs.Posting.{postNotes}
+use Rattle.rows.specs.Posting.{postNotes}
 use Rattle.verifier.specs.Lookups.{targetOf}
 use Rattle.verifier.specs.Trace.{targetTrace, posting}
 use Rattle.verifier.proofs.PostingLaws.{posting-same}

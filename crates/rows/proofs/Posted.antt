@@ -1,0 +1,131 @@
+-- Posting: when a constraint is there already, and what is written where one is added.
+use mathlib.Core.Path.{_≡_, refl, sym, _∙_}
+use mathlib.Core.Bool.{Bool, true, false, true≢false, _&&_, _||_}
+use mathlib.Core.List.{List, [], _∷_, _++_}
+use Prim.Native.Nat.{ℕ, _+_, _-_, _*_}
+use native.Mathlib.Omega.{arith}
+use lib.ListN.{length, getD}
+use lib.Dec.{eqb}
+use borrow.Author.Tests.{eq-eqb, ne-eqb}
+use Rattle.definition.specs.Lists.{any, rows, writeRows}
+use Rattle.definition.specs.Constraints.{Tie, Subtype, tieIs, newTie}
+use Rattle.definition.specs.Loading.{subtypeIs, subtypeOf, newSubtypes}
+use Rattle.definition.specs.Verifier.{Note}
+use Rattle.definition.specs.Tables.{tie, tieAt, putTie, subtypeAt, putSubtype, putThree}
+use Rattle.rows.specs.Posting.{newTieIn, note, newSubtypesIn, tiesAfter, subtypesAfter}
+
+-- a search of n rows begins
+pub any-start : {A : Type 0} (f : A → Bool) (g : ℕ → A) (n m : ℕ) → n ≡ m → any f (rows g (n - 0) 0) ≡ any f (rows g m 0)
+any-start f g n m e = let z : n - 0 ≡ m = omega arith in rw z
+
+-- A row is the constraint
+
+module _ (t : List ℕ) (i l m n : ℕ) where
+  pub tie-not : (getD t (i * 3 + 2) 0 ≡ n → ⊥) → tieIs l m n (tieAt t i) ≡ false
+  unfolding tieIs tieAt
+  tie-not h = rw (ne-eqb (getD t (i * 3 + 2) 0) n h) refl
+
+  pub tie-straight : getD t (i * 3 + 2) 0 ≡ n → (eqb (getD t (i * 3) 0) l && eqb (getD t (i * 3 + 1) 0) m) ≡ true → tieIs l m n (tieAt t i) ≡ true
+  unfolding tieIs tieAt
+  tie-straight h e = rw (eq-eqb (getD t (i * 3 + 2) 0) n h, e) refl
+
+  pub tie-turned : getD t (i * 3 + 2) 0 ≡ n → (eqb (getD t (i * 3) 0) l && eqb (getD t (i * 3 + 1) 0) m) ≡ false
+      → tieIs l m n (tieAt t i) ≡ (eqb (getD t (i * 3) 0) m && eqb (getD t (i * 3 + 1) 0) l)
+  unfolding tieIs tieAt
+  tie-turned h e = rw (eq-eqb (getD t (i * 3 + 2) 0) n h, e) refl
+
+module _ (t : List ℕ) (i l a b : ℕ) where
+  -- the names first, then the loader
+  turned : (x y z : Bool) → (x && y && z) ≡ (y && z && x)
+  turned true true true = refl
+  turned true true false = refl
+  turned true false z = refl
+  turned false true true = refl
+  turned false true false = refl
+  turned false false z = refl
+
+  names-first : subtypeIs l (note a b) (subtypeAt t i) ≡ (eqb (getD t (i * 3 + 1) 0) a && eqb (getD t (i * 3 + 2) 0) b && eqb (getD t (i * 3) 0) l)
+  unfolding subtypeIs subtypeAt
+  names-first = turned (eqb (getD t (i * 3) 0) l) (eqb (getD t (i * 3 + 1) 0) a) (eqb (getD t (i * 3 + 2) 0) b)
+
+  pub subtype-not : (eqb (getD t (i * 3 + 1) 0) a && eqb (getD t (i * 3 + 2) 0) b) ≡ false → subtypeIs l (note a b) (subtypeAt t i) ≡ false
+  subtype-not h = names-first ∙ go (eqb (getD t (i * 3 + 1) 0) a) (eqb (getD t (i * 3 + 2) 0) b) h
+    where
+      go : (y z : Bool) → (y && z) ≡ false → (y && z && eqb (getD t (i * 3) 0) l) ≡ false
+      go true true q = absurd (true≢false q)
+      go true false q = refl
+      go false z q = refl
+
+  pub subtype-named : (eqb (getD t (i * 3 + 1) 0) a && eqb (getD t (i * 3 + 2) 0) b) ≡ true → subtypeIs l (note a b) (subtypeAt t i) ≡ eqb (getD t (i * 3) 0) l
+  subtype-named h = names-first ∙ go (eqb (getD t (i * 3 + 1) 0) a) (eqb (getD t (i * 3 + 2) 0) b) h
+    where
+      go : (y z : Bool) → (y && z) ≡ true → (y && z && eqb (getD t (i * 3) 0) l) ≡ eqb (getD t (i * 3) 0) l
+      go true true q = refl
+      go true false q = absurd (true≢false (sym q))
+      go false z q = absurd (true≢false (sym q))
+
+-- A tie
+
+module _ (t : List ℕ) (c l m n r : ℕ) where
+  -- none is added
+  abbrev TieSame : Type 0
+  TieSame = (r ≡ c + length (newTieIn t c l m n)) × (t ≡ tiesAfter t c (newTieIn t c l m n))
+
+  tie-same : newTieIn t c l m n ≡ [] → r ≡ c → TieSame
+  unfolding tiesAfter writeRows
+  tie-same e q = rw e (omega arith, refl)
+
+  pub tie-alone : l ≡ m → r ≡ c → TieSame
+  unfolding newTieIn newTie
+  tie-alone e = tie-same (rw (eq-eqb l m e, newTie) refl)
+
+  pub tie-int : n ≡ 1 → r ≡ c → TieSame
+  unfolding newTieIn newTie
+  tie-int e = tie-same (go (eqb l m) (eqb n 1) (eq-eqb n 1 e))
+    where
+      go : (a b : Bool) → b ≡ true → _≡_ {A = List Tie}
+          (elim (a || b || any (tieIs l m n) (rows (tieAt t) c 0)) as (λ _. List Tie) [ true ↦ [] | false ↦ tie l m n ∷ [] ]) []
+      go true b h = refl
+      go false b h = rw h refl
+
+  pub tie-there : any (tieIs l m n) (rows (tieAt t) c 0) ≡ true → r ≡ c → TieSame
+  unfolding newTieIn newTie
+  tie-there e = tie-same (go (eqb l m || eqb n 1) (any (tieIs l m n) (rows (tieAt t) c 0)) e)
+    where
+      go : (a b : Bool) → b ≡ true → _≡_ {A = List Tie} (elim (a || b) as (λ _. List Tie) [ true ↦ [] | false ↦ tie l m n ∷ [] ]) []
+      go true b h = refl
+      go false b h = rw h refl
+
+  pub tie-new : (u : List ℕ) → (l ≡ m → ⊥) → (n ≡ 1 → ⊥) → any (tieIs l m n) (rows (tieAt t) c 0) ≡ false → r ≡ c → u ≡ putThree t c l m n
+      → (r + 1 ≡ c + length (newTieIn t c l m n)) × (u ≡ tiesAfter t c (newTieIn t c l m n))
+  unfolding newTieIn newTie tiesAfter writeRows putTie
+  tie-new u p q e z w = rw (one (eqb l m) (eqb n 1) (any (tieIs l m n) (rows (tieAt t) c 0)) (ne-eqb l m p) (ne-eqb n 1 q) e) (omega arith, w)
+    where
+      one : (a b d : Bool) → a ≡ false → b ≡ false → d ≡ false
+          → _≡_ {A = List Tie} (elim (a || b || d) as (λ _. List Tie) [ true ↦ [] | false ↦ tie l m n ∷ [] ]) (tie l m n ∷ [])
+      one a b d x y z = rw (x, y, z) refl
+
+-- A subtype constraint
+
+module _ (ss : List Subtype) (l : ℕ) (n : Note) (ns : List Note) where
+  pub note-there : any (subtypeIs l n) ss ≡ true → newSubtypes ss l (n ∷ ns) ≡ newSubtypes ss l ns
+  unfolding newSubtypes
+  note-there e = rw (e, newSubtypes) refl
+
+  pub note-new : any (subtypeIs l n) ss ≡ false → newSubtypes ss l (n ∷ ns) ≡ subtypeOf l n ∷ newSubtypes (ss ++ (subtypeOf l n ∷ [])) l ns
+  unfolding newSubtypes
+  note-new e = rw (e, newSubtypes) refl
+
+module _ (t : List ℕ) (c l a b r : ℕ) where
+  abbrev one : List Note
+  one = note a b ∷ []
+
+  pub subtype-there : any (subtypeIs l (note a b)) (rows (subtypeAt t) c 0) ≡ true → r ≡ c
+      → (r ≡ c + length (newSubtypesIn t c l one)) × (t ≡ subtypesAfter t c (newSubtypesIn t c l one))
+  unfolding newSubtypesIn newSubtypes subtypesAfter writeRows
+  subtype-there e q = rw (note-there (rows (subtypeAt t) c 0) l (note a b) [] e) (omega arith, refl)
+
+  pub subtype-new : (u : List ℕ) → any (subtypeIs l (note a b)) (rows (subtypeAt t) c 0) ≡ false → r ≡ c → u ≡ putThree t c l a b
+      → (r + 1 ≡ c + length (newSubtypesIn t c l one)) × (u ≡ subtypesAfter t c (newSubtypesIn t c l one))
+  unfolding newSubtypesIn newSubtypes subtypesAfter writeRows putSubtype
+  subtype-new u e q w = rw (note-new (rows (subtypeAt t) c 0) l (note a b) [] e) (omega arith, w)

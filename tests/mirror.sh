@@ -1,0 +1,35 @@
+#!/usr/bin/env bash
+# The comparison itself, tried: a mirror of the second implementation stands in for the verified libraries. It must pass, and
+# each of its faults must be seen.
+# Needs nothing that is proved.
+set -euo pipefail
+cd "$(dirname "$0")/../reference"
+work=$(mktemp -d)
+trap 'rm -rf "$work"' EXIT
+built=target/mirror
+
+cargo build --offline --release --quiet -p mirror --target-dir "$built"
+# one program for all the runs; cargo says where it is
+TARIFF_LIB=$PWD/$built/release TARIFF_LINK=dylib=tariff cargo test --offline --release --quiet --features host --test host --target-dir "$built" \
+    --no-run --message-format=json >"$work/built"
+compare=$(sed -n 's|.*"executable":"\([^"]*/host-[^"]*\)".*|\1|p' "$work/built")
+[ -x "$compare" ] || { cat "$work/built"; echo "the comparison isn't built"; exit 1; }
+
+passes() { # all four tests
+    TARIFF_SEEDS=40 "$compare" >"$work/said" 2>&1 && grep -q '^test result: ok\. 4 passed' "$work/said"
+}
+passes || { cat "$work/said"; exit 1; }
+
+tables=(mirror/src/faults.rs mirror/src/mapped.rs mirror/src/rates.rs mirror/src/hidden.rs mirror/src/listed.rs mirror/src/shared.rs mirror/src/tried.rs mirror/src/chosen.rs src/gen/plain.rs)
+faults=$(sed -n 's/^    ("\([a-z-]*\)",.*/\1/p' "${tables[@]}")
+# the list has every fault that the mirror can have
+declared=$(sed -n 's/.*const \(FAULTS\|DESKS\|SLIPS\): \[.*; \([0-9]*\)\].*/\2/p' "${tables[@]}" | awk '{ sum += $1 } END { print sum + 0 }')
+[ "$declared" -gt 0 ] && [ "$(echo "$faults" | wc -w)" -eq "$declared" ] || { echo "not every fault of the mirror is tried"; exit 1; }
+for fault in $faults; do
+    if MIRROR_FAULT=$fault TARIFF_SEEDS=40 "$compare" the_two_machines_are_the_same >"$work/said" 2>&1 || ! grep -q differs "$work/said"; then
+        cat "$work/said"
+        echo "not seen: $fault"
+        exit 1
+    fi
+    echo "seen: $fault"
+done
