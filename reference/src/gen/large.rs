@@ -254,6 +254,7 @@ pub fn full(repeated: Repeated) -> Store {
     for task in 0..2 {
         (0..32).for_each(|depth| fill_frame(&mut store, task, depth));
     }
+    store.close();
     store
 }
 
