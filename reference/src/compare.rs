@@ -272,9 +272,13 @@ impl Comparison {
         let swept = held.map(|held| (large::objects(held), Call::Sweep));
         let made = [false, true].map(|freed| (large::making(freed), run.clone()));
         let looping = [large::Round::Ints, large::Round::Field].map(|round| (large::looping(round), run.clone()));
-        let empty = Trial::ready([1]).store;
-        let long = large::long_files().map(|(_, file)| (empty.clone(), Call::Define { loader: 1, file }));
-        for (at, (store, call)) in calls.iter().chain(&reasons).chain(&swept).chain(&made).chain(&looping).chain(&long).enumerate() {
+        let long = large::long_files().map(|(_, file)| (large::empty(), Call::Define { loader: 1, file }));
+        let (open, open_full) = (large::remembering(), large::full_remembering(large::Repeated::NullPop));
+        let taken = [
+            (open.clone(), large::usual_define()), (open.clone(), large::usual_record()), (open.clone(), Call::Step), (open, Call::TakeBack),
+            (open_full.clone(), Call::Step), (open_full.clone(), Call::Sweep), (open_full, Call::TakeBack),
+        ];
+        for (at, (store, call)) in calls.iter().chain(&reasons).chain(&swept).chain(&made).chain(&looping).chain(&long).chain(&taken).enumerate() {
             self.call(store, call, CELLS, &format!("large store {at}"));
         }
     }

@@ -18,7 +18,7 @@ use writer::script;
 use writer::source::Source;
 
 /// Pieces that make sense somewhere.
-const WORDS: [&str; 43] = [
+const WORDS: [&str; 44] = [
     "version 2 ",
     "version 3 ",
     "again: ",
@@ -54,6 +54,7 @@ const WORDS: [&str; 43] = [
     "run 65535\n",
     "step\n",
     "sweep\n",
+    "take back\n",
     "damage counts 9 1\n",
     "quote ",
     "-2147483649 ",
