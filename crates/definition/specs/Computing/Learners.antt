@@ -1,8 +1,9 @@
 -- What learners do instead, and what the definitions do: each mistake would change one of these answers.
 use mathlib.Core.Path.{_≡_, refl}
+use mathlib.Core.Bool.{false}
 use mathlib.Core.List.{List, [], _∷_, _++_, map}
 use Prim.Native.Nat.{ℕ}
-use Rattle.definition.specs.Lists.{every, all, any, doubled, indexOf, isNone, toList, sameList, filled, rows}
+use Rattle.definition.specs.Lists.{every, all, allFrom, any, doubled, indexOf, isNone, toList, sameList, filled, rows}
 use Rattle.definition.specs.Chains.{has, fires, rest, grow, reachFrom, reach, leads}
 use Rattle.definition.specs.Requests.{sameRequest}
 use Rattle.definition.specs.Superclasses.{seek, nearest, below}
@@ -21,7 +22,8 @@ use Rattle.definition.specs.Computing.OnRows.{settle, onRows, runRows, p
 use Rattle.definition.specs.Computing.Samples.{two, method, ints, fielded, into, from, fileOf, plain, fileF, taker, coded, lifts, pushes, ready, tied12, tied123}
 use Rattle.definition.specs.Maybe as Maybe
 use Rattle.definition.specs.Answers.{Refusal, Finished, Accepted, Defined, RanFor, Denied}
-use Rattle.definition.specs.Tables.{Tables, rowNumbers}
+use Rattle.definition.specs.Tables.{Tables, rowNumbers, level}
+use Rattle.definition.specs.Broken.{isObject, classesFit, entryFits, inTurn, numbered, sound, levelFits, traceFits}
 use Rattle.definition.specs.Calls.{bootRows, numberedOn, Call, callDefine, callRecord, callStart, callRun, callSweep, callTakeBack}
 
 -- the numbers of the answers to the calls, from a boot
@@ -89,3 +91,8 @@ taken-numbers = refl
 swept-late : numbers (callRecord 1 2 0 ∷ callSweep ∷ callTakeBack ∷ []) ≡ 0 ∷ 0 ∷ 19 ∷ []
 unfolding numbers every all any sameRequest has fires rest grow reachFrom reach leads find below tieEdges subtypeEdges edges pairAgrees rowAgrees agreesOver agrees agreesAfter recorded fileAt classAt entryTrace recordRows sweepRows takenBack cutTo linksFrom roots reached sweptFrom freedFrom number numberOf _>>=_ need take? settle onRows performRows performAllRows Maybe._>>=_ Maybe.need readFile byte
 swept-late = refl
+
+-- Loads are taken back in turn: the second finds what the first left, and no class is there
+taken-in-turn : traceFits (level 0 0 0 0 0 ∷ level 1 0 1 0 0 ∷ []) bootRows ≡ false
+unfolding cutTo isObject classesFit entryFits inTurn numbered sound levelFits traceFits every all allFrom madeBy
+taken-in-turn = refl
