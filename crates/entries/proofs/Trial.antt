@@ -18,7 +18,7 @@ use Rattle.definition.specs.Constraints.{World}
 use Rattle.definition.specs.declared.Check.{Check}
 use Rattle.definition.specs.Checks.{NamesOver, Names}
 use Rattle.definition.specs.Loading.{withEntry}
-use Rattle.definition.specs.Numbers.{tieNumbersCell, subtypeNumbersCell}
+use Rattle.definition.specs.Numbers.{tieNumbersCell, subtypeNumbersCell, countsLength}
 use Rattle.definition.specs.Tables.{RowNumbers, rowNumbers, putThree, entry, entryAt, putEntry, tieAt, subtypeAt, numberAt, classRowAt}
 use Rattle.definition.specs.Broken.{numbered}
 use Rattle.definition.specs.Reasons.{tieLinks, subtypeLinks, reasonOver, reason}
@@ -153,12 +153,12 @@ module _ (counts classes kept cache : List ℕ) (ready : Searchable counts class
       ∙ (getD-set-same (writeRows set counts 0 zeros) 2 ((getD counts 2 0 + 1) % 65536) 0 (omega (arith, writeRows-length set length-set counts 0 zeros)) ∙ z)
 
   -- all of them, where there is room
-  pub counted-is : size ≡ 776 → counted ≡ set counts 2 (getD counts 2 0 + 1)
+  pub counted-is : size ≡ countsLength → counted ≡ set counts 2 (getD counts 2 0 + 1)
   counted-is nz =
       let z : (getD counts 2 0 + 1) % 65536 ≡ getD counts 2 0 + 1 = omega arith in
       tried .count ∙ (λ i. set (copied counts zeros (ready .countsLong ∙ sym (nl ∙ nz)) i) 2 (z i))
 
-  pub counted-other : size ≡ 776 → (j : ℕ) → (j ≡ 2 → ⊥) → getD counted j 0 ≡ getD counts j 0
+  pub counted-other : size ≡ countsLength → (j : ℕ) → (j ≡ 2 → ⊥) → getD counted j 0 ≡ getD counts j 0
   counted-other nz j h = ap (λ (x : List ℕ). getD x j 0) (counted-is nz) ∙ getD-set-other counts 2 j (getD counts 2 0 + 1) 0 h
 
   trial-is : trial ≡ putThree cache (getD counts 2 0) l m c

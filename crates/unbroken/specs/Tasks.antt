@@ -225,7 +225,7 @@ step-none t idle = shown Refused stepRows (λ _ s. s .report ≡ []) t step-whol
     go (f ∷ fs) p n g e =
         let d : stepTask 0 (worldOf r) f fs r ≡ ok g = unfold stepOn in e in
         let a = task-ok 0 (worldOf r) f fs r g d in
-        let y : progressed 0 r (a .0) ≡ g .rows = cc (a .2) in
+        let y : closed (progressed 0 r (a .0)) ≡ g .rows = cc (a .2) in
         ap (λ (z : Rows). z .report) (sym y) ∙ idle
     go [] [] n g e = let d : ok (record { answer = Idle; rows = r }) ≡ ok g = unfold stepOn in e in ap (λ (z : Given Answer). z .rows .report) (sym (ok-inj d)) ∙ idle
     go [] (f ∷ fs) n g e = absurd (let l : length (f ∷ fs) ≡ length {A = Frame} [] = ap length n in omega arith)

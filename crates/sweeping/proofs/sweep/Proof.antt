@@ -14,7 +14,7 @@ returns-2 c =
     let at10 = at6 .before .before .before .before in
     let at15 = at10 .before .before .before .before .before in
     let tested = at15 .before .class-sizes .ensures in
-    rw (c .before .before .put16 .ensures) (sweep-done _ (sym (tested .verdict) ∙ at15 .if1 .left) _ (tested .sized (at15 .if1 .left)) _ _ _ (at10 .mark-reached .ensures) (at6 .free-unmarked .ensures))
+    rw (c .before .before .close .ensures) (sweep-done _ (sym (tested .verdict) ∙ at15 .if1 .left) _ (tested .sized (at15 .if1 .left)) _ _ _ (at10 .mark-reached .ensures) (at6 .free-unmarked .ensures))
 
 pub sweep-spec : {M : Type 1} → statement M
 sweep-spec = tie.close (tie.spec (λ c κs. search needs) (λ c. search needs) returns (λ c. search needs) (λ c. search needs) (λ c κs. search needs) (λ c. search needs) (λ c κs. search needs) (λ c κs. search needs) (λ c. search needs) returns-2)
