@@ -82,10 +82,10 @@ impl Wish {
 
     /// `wanted`, perhaps with a loader and a name.
     fn wanted(at: &mut Cursor) -> Parsed<Wish> {
-        if !at.took("loader") && !at.has_number() {
+        if !at.took("loader") && !at.has_number() && at.insurer().is_none() {
             return Ok(Wish::Wanted(None));
         }
-        let loader = at.any_number("a loader, 0 to 15")?;
+        let loader = at.loader()?;
         Ok(Wish::Wanted(Some((loader, at.name("a class's name")?))))
     }
 

@@ -1,5 +1,6 @@
 //! The tariff writer's tool: a text form of class files, lessons on the proved machine, listings, verdicts, pictures.
 
+pub mod advice;
 pub mod check;
 pub mod cursor;
 pub mod draw;
@@ -12,6 +13,8 @@ pub mod machine;
 pub mod many;
 pub mod maps;
 pub mod names;
+pub mod orders;
+pub mod origins;
 pub mod play;
 pub mod reasons;
 pub mod rows;

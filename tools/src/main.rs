@@ -123,7 +123,8 @@ fn list(input: &Input) -> Result<(), Failure> {
     }
     for piece in &input.pieces {
         out.push('\n');
-        out.push_str(&listing::with_lines(&piece.bytes, &piece.called, &input.names, &piece.lines));
+        let words = listing::Words { lines: Some(&piece.lines), text: piece.text.as_ref() };
+        out.push_str(&listing::with_words(&piece.bytes, &piece.called, &input.names, &words));
     }
     print(&out)
 }

@@ -4,7 +4,7 @@ use std::fmt::Write;
 
 use reference::broken::unbroken;
 use reference::classes::Classes;
-use reference::store::{cell, count, frame_base, FRAME_ROW, LENGTHS, LOCALS, TABLES, TASKS};
+use reference::store::{cell, count, frame_base, FRAME_ROW, LENGTHS, LOCALS, OBJECT, TABLES, TASKS};
 use reference::store::{Store, Value};
 
 use crate::listing;
@@ -78,13 +78,14 @@ fn rows(store: &Store, classes: &Classes, names: &Names) -> Vec<Row> {
         add("class", class.into(), class_says(store, class, names));
     }
     for (place, [loader, name, class]) in store.cache_rows().enumerate() {
-        add("cache", place, format!("loader {loader} means class {class} by {}", names.class(name)));
+        add("cache", place, format!("{} means class {class} by {}", names.loader(loader), names.class(name)));
     }
     for ((place, [one, other, name]), row) in store.tie_rows().enumerate().zip(store.tie_numbers()) {
-        add("tie", place, format!("{} is one class under loaders {one} and {other}, row {row}", names.class(name)));
+        add("tie", place, format!("{} is one class under {}, row {row}", names.class(name), names.loaders(one, other)));
     }
     for ((place, [loader, lower, higher]), row) in store.subtype_rows().enumerate().zip(store.subtype_numbers()) {
-        let says = format!("under loader {loader}, {} is below {}, row {row}", names.class(lower), names.class(higher));
+        let (loader, lower, higher) = (names.loader(loader), names.class(lower), names.class(higher));
+        let says = format!("under {loader}, {lower} is below {higher}, row {row}");
         add("subtype constraint", place, says);
     }
     for object in store.objects_in_use() {
@@ -100,10 +101,10 @@ fn rows(store: &Store, classes: &Classes, names: &Names) -> Vec<Row> {
 
 fn class_says(store: &Store, class: u16, names: &Names) -> String {
     let Some(file) = store.file(class) else {
-        return "Object of loader 0".into();
+        return names.request(0u16, OBJECT.into());
     };
-    let (name, above) = (names.class(file.name()), names.class(file.superclass()));
-    let mut says = format!("{name} of loader {}, below {above}", store.loader_of(class));
+    let own = names.request(store.loader_of(class), file.name().into());
+    let mut says = format!("{own}, below {}", names.class(file.superclass()));
     for field in file.fields() {
         let _ = write!(says, ", field {} {}", names.member(field.name), names.class(field.of));
     }
