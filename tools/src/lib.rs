@@ -15,6 +15,7 @@ pub mod maps;
 pub mod names;
 pub mod orders;
 pub mod origins;
+pub mod page;
 pub mod play;
 pub mod reasons;
 pub mod rows;

@@ -85,7 +85,7 @@ fn class(sketch: &Sketch, called: Option<&str>, names: &Names, seeing: Seeing, w
 }
 
 /// The points that a jump of the method goes to and that an instruction starts at.
-fn labels(method: Method) -> Vec<usize> {
+pub fn labels(method: Method) -> Vec<usize> {
     let next = |point: &usize| decode(method.version, method.code, *point).map(|(_, next)| next);
     let starts: Vec<usize> = std::iter::successors(Some(0), next).filter(|&point| point < method.code.len()).collect();
     let decoded = starts.iter().filter_map(|&point| decode(method.version, method.code, point)?.0.target());

@@ -72,6 +72,8 @@ fn command(words: &[String]) -> Result<(), Failure> {
             answers(file, &String::from_utf8_lossy(&printed))
         }
         [command @ ("from-java" | "java"), ref rest @ ..] => java(command, rest),
+        ["page"] => Err(usage()),
+        ["page", ref rest @ ..] => said(writer::page::make::run(rest)),
         ["list" | "check" | "asm" | "calls" | "answers", ..] => Err(usage()),
         ["why", ref rest @ ..] => play(rest, true),
         ref rest => play(rest, false),
@@ -83,7 +85,12 @@ fn usage() -> Failure {
 }
 
 fn java(command: &str, words: &[&str]) -> Result<(), Failure> {
-    match writer::java::commands::run(command, words) {
+    said(writer::java::commands::run(command, words))
+}
+
+/// What a command says, or why it ends with a status of its own.
+fn said(result: Result<String, (u8, String)>) -> Result<(), Failure> {
+    match result {
         Ok(said) => print(&said),
         Err((1, said)) => Err(Failure::Bad(said)),
         Err((_, said)) => Err(Failure::Usage(said)),

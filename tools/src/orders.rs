@@ -31,6 +31,10 @@ impl Tried {
         Tried { called: called.into(), calls: Vec::new() }
     }
 
+    pub fn called(&self) -> &str {
+        &self.called
+    }
+
     pub fn add(&mut self, said: &str, told: &Told, answer: &str) {
         self.calls.push(Answered { said: said.into(), answer: answer.into(), essence: essence(told) });
     }
@@ -54,13 +58,16 @@ impl Tried {
         self.pairs(other).into_iter().filter(differs).collect()
     }
 
-    /// The same in words.
+    /// That one call is answered otherwise, in words.
+    pub fn parting_at(&self, other: &Tried, at: usize, there: usize) -> String {
+        let (one, two) = (&self.calls[at], &other.calls[there]);
+        let (a, b) = (&self.called, &other.called);
+        format!("orders {a} and {b} part at {}: {} in {a}, {} in {b}", one.said, one.answer, two.answer)
+    }
+
+    /// The same of all, in words.
     pub fn parting(&self, other: &Tried) -> Vec<String> {
-        let line = |(at, there): (usize, usize)| {
-            let (one, two) = (&self.calls[at], &other.calls[there]);
-            format!("orders {} and {} part at {}: {} in {}, {} in {}", self.called, other.called, one.said, one.answer, self.called, two.answer, other.called)
-        };
-        let lines: Vec<String> = self.parted(other).into_iter().map(line).collect();
+        let lines: Vec<String> = self.parted(other).into_iter().map(|(at, there)| self.parting_at(other, at, there)).collect();
         match lines.is_empty() {
             true => vec![format!("orders {} and {} have the same answers", self.called, other.called)],
             false => lines,

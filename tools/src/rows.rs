@@ -4,7 +4,7 @@ use std::fmt::Write;
 
 use reference::broken::unbroken;
 use reference::classes::Classes;
-use reference::store::{cell, count, frame_base, FRAME_ROW, LENGTHS, LOCALS, OBJECT, TABLES, TASKS};
+use reference::store::{cell, count, frame_base, FRAME_ROW, LENGTHS, LOCALS, OBJECT, OPERANDS, TABLES, TASKS};
 use reference::store::{Store, Value};
 
 use crate::listing;
@@ -99,7 +99,7 @@ fn rows(store: &Store, classes: &Classes, names: &Names) -> Vec<Row> {
     rows
 }
 
-fn class_says(store: &Store, class: u16, names: &Names) -> String {
+pub fn class_says(store: &Store, class: u16, names: &Names) -> String {
     let Some(file) = store.file(class) else {
         return names.request(0u16, OBJECT.into());
     };
@@ -124,7 +124,7 @@ fn value(cells: &[u32], at: usize) -> String {
     }
 }
 
-fn object_says(store: &Store, classes: &Classes, object: u32, names: &Names) -> String {
+pub fn object_says(store: &Store, classes: &Classes, object: u32, names: &Names) -> String {
     let class = store.object_class(object);
     let mut fields = Vec::new();
     let mut upward: Vec<u16> = classes.upward(class).collect();
@@ -152,14 +152,24 @@ fn frame_says(store: &Store, task: usize, depth: usize, names: &Names) -> String
     let place = method.map_or("no method".into(), |method| names.method(method.signature));
     let next = method.and_then(|method| listing::readable_at(method, point, names, &[]));
     let next = next.map_or("nothing".into(), |(instruction, _)| instruction);
-    let values = |first: usize, count: usize| (0..count).map(|i| value(frame, first + 2 * i)).collect::<Vec<_>>();
-    let mut locals = values(cell::LOCAL_0, LOCALS);
+    let (operands, locals) = (operands(store, base), locals(store, base));
+    let class = names.class(store.name_of(class));
+    format!("{class}.{place} at {point}, next {next}; operands [{}] locals {{{}}}", operands.join(", "), locals.join(", "))
+}
+
+/// The operands of the frame at this cell, the lowest first.
+pub fn operands(store: &Store, base: usize) -> Vec<String> {
+    let count = (store.frames[base + cell::OPERANDS] as usize).min(OPERANDS);
+    (0..count).map(|place| value(&store.frames, base + cell::OPERAND_0 + 2 * place)).collect()
+}
+
+/// The locals of the frame at this cell, up to the last that is set.
+pub fn locals(store: &Store, base: usize) -> Vec<String> {
+    let mut locals: Vec<String> = (0..LOCALS).map(|place| value(&store.frames, base + cell::LOCAL_0 + 2 * place)).collect();
     while locals.last().is_some_and(|local| local == "-") {
         locals.pop();
     }
-    let operands = values(cell::OPERAND_0, frame[cell::OPERANDS] as usize);
-    let class = names.class(store.name_of(class));
-    format!("{class}.{place} at {point}, next {next}; operands [{}] locals {{{}}}", operands.join(", "), locals.join(", "))
+    locals
 }
 
 /// The instruction that the next step takes, and its task.

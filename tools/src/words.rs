@@ -51,7 +51,8 @@ pub fn call(call: &Call, names: &Names) -> String {
     }
 }
 
-fn refused(number: u32, [one, two]: [u32; 2], names: &Names) -> String {
+/// A refusal: its number, its word, and what is wanted.
+pub fn refused(number: u32, [one, two]: [u32; 2], names: &Names) -> String {
     if number == u32::from(word::WANTED) {
         return format!("refused: 5, wanted: {}", names.request(one, two));
     }

@@ -13,12 +13,21 @@ use writer::input;
 use writer::lesson::Lesson;
 use writer::listing::listing;
 use writer::names::Names;
+use writer::page::page;
 use writer::play::{Play, Show};
 use writer::script;
 use writer::source::Source;
 
 /// Pieces that make sense somewhere.
-const WORDS: [&str; 43] = [
+const WORDS: [&str; 51] = [
+    "insurer Red 2\n",
+    "insurer Blue\nready Blue 1 2\n",
+    "Red defines ",
+    "order A {\n",
+    "mistake compares-by-name\n",
+    "mistake sweep-frees-all\n",
+    "ask ",
+    "> </script><script>\n",
     "version 2 ",
     "version 3 ",
     "again: ",
@@ -123,6 +132,8 @@ fn try_all(name: &str, bytes: Vec<u8>) {
                         let outcome = Play::run(&source, &lesson, Show { store: true, draw: true, why }, &mut io::sink());
                         drop(outcome.expect("a machine").strip.svg());
                     }
+                    let made = page(&source, &lesson, name, None).expect("a machine");
+                    assert_eq!(made.html.matches("</script>").count(), 2, "a lesson ends the page's script");
                 }
                 Err(problems) => assert!(source.show_all(&problems).contains(" | ")),
             }
