@@ -22,6 +22,7 @@ pub mod rows;
 pub mod script;
 pub mod source;
 pub mod svg;
+pub mod talk;
 pub mod text;
 pub mod tokens;
 pub mod tried;

@@ -41,6 +41,24 @@ pub struct Outcome {
     pub strip: Strip,
 }
 
+/// What is left of calls that were made, for more to go on from.
+#[derive(Clone)]
+pub struct Kept {
+    pub store: Store,
+    origins: Origins,
+    orders: Vec<Tried>,
+    last: Last,
+}
+
+impl Kept {
+    /// Tables of zeros that are booted, as boxscript does.
+    pub fn booted() -> io::Result<Kept> {
+        let mut store = Store::zeros();
+        machine::make(&Call::Boot, &mut store, &mut []).ok_or_else(|| io::Error::other("this build has no machine; use ./box"))?;
+        Ok(Kept { store, origins: Origins::default(), orders: Vec::new(), last: Last::Nothing })
+    }
+}
+
 pub struct Play<'a> {
     source: &'a Source,
     lesson: &'a Lesson,
@@ -72,21 +90,25 @@ struct Made {
 }
 
 impl<'a> Play<'a> {
-    /// Carries out the lesson on tables of zeros that are booted first, as boxscript does.
+    /// Carries out the lesson from a boot.
     pub fn run(source: &'a Source, lesson: &'a Lesson, show: Show, out: &'a mut dyn Write) -> io::Result<Outcome> {
-        let mut play = Play::new(source, lesson, show, out)?;
+        let mut play = Play::new(source, lesson, show, out, Kept::booted()?);
         play.acts(&lesson.acts)?;
         Ok(play.outcome)
     }
 
-    /// What stands before the first act: a store that is booted.
-    pub fn new(source: &'a Source, lesson: &'a Lesson, show: Show, out: &'a mut dyn Write) -> io::Result<Play<'a>> {
-        let outcome = Outcome { store: Store::zeros(), calls: 0, met: 0, failed: 0, reasons: 0, strip: Strip::default() };
-        let (origins, last) = (Origins::default(), Last::Nothing);
-        let mut play = Play { source, lesson, show, out, outcome, origins, order: None, orders: Vec::new(), last };
-        machine::make(&Call::Boot, &mut play.outcome.store, &mut [])
-            .ok_or_else(|| io::Error::other("this build has no machine; use ./box"))?;
-        Ok(play)
+    /// Carries out the acts from this one on, after those that led to what is kept: how many acts there are.
+    pub fn go_on(source: &'a Source, lesson: &'a Lesson, show: Show, out: &'a mut dyn Write, kept: &mut Kept, from: usize) -> io::Result<usize> {
+        let mut play = Play::new(source, lesson, show, out, kept.clone());
+        play.acts(lesson.acts.get(from..).unwrap_or_default())?;
+        *kept = Kept { store: play.outcome.store, origins: play.origins, orders: play.orders, last: play.last };
+        Ok(lesson.acts.len())
+    }
+
+    fn new(source: &'a Source, lesson: &'a Lesson, show: Show, out: &'a mut dyn Write, kept: Kept) -> Play<'a> {
+        let Kept { store, origins, orders, last } = kept;
+        let outcome = Outcome { store, calls: 0, met: 0, failed: 0, reasons: 0, strip: Strip::default() };
+        Play { source, lesson, show, out, outcome, origins, order: None, orders, last }
     }
 
     fn acts(&mut self, acts: &[Act]) -> io::Result<()> {

@@ -41,6 +41,14 @@ pub fn changes(before: &Store, after: &Store, names: &Names) -> Vec<String> {
     }
 }
 
+/// All that a store holds, a line a row.
+pub fn listed(store: &Store, names: &Names) -> Vec<String> {
+    match unbroken(store) {
+        Some(classes) => rows(store, &classes, names).iter().map(|row| format!("{} {}: {}", row.kind, row.number, row.says)).collect(),
+        None => vec!["the tables are no store: broken".into()],
+    }
+}
+
 fn row_changes(before: &[Row], after: &[Row]) -> Vec<String> {
     let mut lines = Vec::new();
     for row in after {
