@@ -22,7 +22,7 @@ fail() { # WORDS
 own() {
     local ran
     TARIFF_LIB=$PWD/target/staticlib FUZZ_SECONDS=${FUZZ_SECONDS:-60} cargo test --manifest-path tools/Cargo.toml --offline --release --quiet \
-        --features host --target-dir "$tools/host" --lib --test round_trips --test lessons --test why --test fuzz 2>&1 | tee "$work/own" || fail "a test of tools/"
+        --features host --target-dir "$tools/host" --lib --test round_trips --test lessons --test why --test editors --test fuzz 2>&1 | tee "$work/own" || fail "a test of tools/"
     ran=$(awk '/^test result: ok\. [0-9]+ passed/ { ran += $4 } END { print ran + 0 }' "$work/own")
     [ "$ran" -ge 18 ] || fail "only $ran tests of tools/ ran"
 }

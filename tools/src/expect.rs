@@ -26,7 +26,7 @@ pub enum Wish {
 }
 
 /// Answers besides the words of refusal.
-const ANSWERS: [&str; 7] = ["accepted", "class", "freed", "idle", "ran", "finished", "wanted"];
+pub const ANSWERS: [&str; 7] = ["accepted", "class", "freed", "idle", "ran", "finished", "wanted"];
 
 impl Expected {
     /// `expect ANSWER [after STEPS]`, at its first word.

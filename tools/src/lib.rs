@@ -27,5 +27,6 @@ pub mod text;
 pub mod tokens;
 pub mod tried;
 pub mod version;
+pub mod vocabulary;
 pub mod why;
 pub mod words;
