@@ -59,6 +59,23 @@ lessons() {
     [ "$count" -gt 19 ] || fail "there are only $count lessons"
 }
 
+# The answers to the course's exercises, and the pages that it names.
+course() {
+    local lesson name count=0
+    for lesson in docs/course/*.lesson; do
+        count=$((count + 1))
+        ./box "$lesson" >"$work/out" 2>&1 || { cat "$work/out"; fail "$lesson fails"; }
+        grep -q 'all met$\|, met$' "$work/out" || fail "$lesson expects nothing"
+    done
+    [ "$count" -eq 10 ] || fail "there are $count answers to the course's exercises"
+    for name in $(awk -F'|' '/^\| [0-9]/ { gsub(/, then/, "", $5); print $5 }' docs/COURSE.md); do
+        [ -e "examples/$name.lesson" ] || fail "docs/COURSE.md names the page $name, and there is no such lesson"
+    done
+    awk '/^## A lesson of one/ { on = 1 } on && /^    / { print substr($0, 5) }' docs/COURSE.md >"$work/orders.lesson"
+    ./box "$work/orders.lesson" >"$work/out" 2>&1 || fail "the lesson of docs/COURSE.md fails"
+    grep -q "^orders A and B part at Red defines Discount: refused: 9, clash in A, defined: class 3 in B$" "$work/out" || fail "the orders of docs/COURSE.md don't part"
+}
+
 # Texts through the assembler, and their files listed and assembled again.
 assembler() {
     local file
@@ -160,6 +177,7 @@ if [ "${1:-}" = --write-errors ]; then
 fi
 own
 lessons
+course
 assembler
 printed
 usage

@@ -1,5 +1,6 @@
 //! What would be accepted where a load clashes: the lesson's own loads of the same request, each tried by the proved machine.
 
+use reference::answer::word;
 use reference::file::Sketch;
 use reference::gen::Call;
 use reference::store::MOST_ROWS;
@@ -35,17 +36,18 @@ pub fn resolved(what: &What, store: &Store) -> Option<Call> {
 /// A line that says which of the lesson's own loads of this request would be accepted here, and which were tried; none if it has no other.
 pub fn advice(call: &Call, lesson: &Lesson, store: &Store) -> Option<String> {
     let (loader, name) = request(call)?;
-    let mut tried: Vec<(Call, &str, bool)> = Vec::new();
+    let mut tried: Vec<(Call, String, bool)> = Vec::new();
     for doing in lesson.doings() {
         let Some(other) = resolved(&doing.what, store).filter(|other| other != call && request(other) == Some((loader, name))) else {
             continue;
         };
         if tried.len() < MOST_TRIED && !tried.iter().any(|there| there.0 == other) {
             let told = machine::make(&other.tried(MOST_ROWS)?, &mut store.clone(), &mut [0; MOST_ROWS])?;
-            tried.push((other, &doing.said, told.number == 0));
+            let word = word::NAMES.get(usize::from(told.number.wrapping_sub(1))).map_or(String::new(), |word| format!(" ({word})"));
+            tried.push((other, format!("{}{word}", doing.said), told.number == 0));
         }
     }
-    let joined = |accepted: bool| tried.iter().filter(|load| load.2 == accepted).map(|load| load.1).collect::<Vec<_>>().join("; ");
+    let joined = |accepted: bool| tried.iter().filter(|load| load.2 == accepted).map(|load| load.1.as_str()).collect::<Vec<_>>().join("; ");
     let (taken, refused) = (joined(true), joined(false));
     match (taken.is_empty(), refused.is_empty()) {
         (true, true) => None,
