@@ -109,7 +109,8 @@ usage() {
     local words status
     for words in "" "--store" "nothing-there.lesson" "list" "check nothing-there" "asm examples/first.lesson" "--what examples/first.box" \
         "--draw examples/first.lesson mine.lesson" "examples/first.lesson mine.svg" "examples" "why" "why nothing-there.lesson" \
-        "why --what examples/first.lesson"; do
+        "why --what examples/first.lesson" "page" "page nothing-there.lesson" "page examples/first.lesson -o" "talk examples/first.lesson" "watch" \
+        "watch nothing-there.lesson"; do
         status=0
         # shellcheck disable=SC2086
         ./box $words >"$work/out" 2>&1 || status=$?

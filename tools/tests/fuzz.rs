@@ -17,6 +17,7 @@ use writer::page::page;
 use writer::play::{Play, Show};
 use writer::script;
 use writer::source::Source;
+use writer::talk::Talk;
 
 /// Pieces that make sense somewhere.
 const WORDS: [&str; 51] = [
@@ -121,6 +122,11 @@ fn try_all(name: &str, bytes: Vec<u8>) {
         Err((source, problems)) => assert!(source.show_all(&problems).contains(" | ")),
     }
     let lossy = String::from_utf8_lossy(&bytes).into_owned();
+    // those write files
+    if !lossy.contains("save") && !lossy.contains("draw") {
+        let talked = Talk::new(&mut io::sink()).and_then(|mut talk| talk.talk(&mut &bytes[..], false));
+        talked.expect("a talk that ends with its input");
+    }
     drop(script::beside(&lossy, "R 0 0 0 0\nN 5 1 2 3\nD", &Names::default()));
     match Source::new(name, bytes) {
         Ok(source) => {

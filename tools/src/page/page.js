@@ -56,11 +56,12 @@ function isOpen(step) {
   return isAsked(step) && !state.seen[step];
 }
 
-function question(step, lane) {
+function question(step) {
+  const isFirst = opened()[0] === step;
   const asked = el('div', { class: 'card ask' }, el('p', {}, el('b', {}, 'What will the machine say?')));
   const choices = el('div', { class: 'choices' });
   L.steps[step].choices.forEach(([text], place) => {
-    const button = el('button', { type: 'button', class: 'choice' }, lane ? null : el('kbd', {}, String(place + 1)), text);
+    const button = el('button', { type: 'button', class: 'choice' }, isFirst ? el('kbd', {}, String(place + 1)) : null, text);
     button.addEventListener('click', () => pick(step, place));
     choices.append(button);
   });
@@ -69,14 +70,15 @@ function question(step, lane) {
 }
 
 function answered(step) {
-  const { answer, refused, rule, choices, right, reason, advice } = L.steps[step], picked = state.picks[step];
+  const { answer, mark, refused, rule, choices, right, reason, advice } = L.steps[step], picked = state.picks[step];
   const card = el('div', { class: `card ${refused ? 'no' : 'yes'}`, 'aria-live': 'polite' }, el('p', { class: 'answer' }, answer));
+  if (mark === 'NO') card.append(el('p', { class: 'pick' }, 'The lesson expected another answer.'));
   if (picked !== undefined && isAsked(step)) {
     const isRight = picked === right, [text, other] = choices[picked];
     card.append(el('p', { class: 'pick' }, isRight ? 'You said so.' : `You said: ${text}.`));
     if (!isRight) card.append(el('p', {}, `That is said of: ${other}`));
   }
-  if (rule && (refused || picked !== undefined)) card.append(el('p', { class: 'rule' }, rule));
+  if (rule && (refused || picked !== undefined)) card.append(el('p', { class: 'rule' }, capital(rule)));
   card.append(...chain(step));
   if (reason) card.append(el('pre', {}, reason));
   if (advice) card.append(el('p', { class: 'advice' }, `${capital(advice)}.`));
@@ -184,14 +186,14 @@ function running(step, isAfter) {
 
 // ---- a slot: a call, or one of each order beside each other
 
-function lane(step, place, isPrinted) {
+function lane(step, isPrinted) {
   const { call, number, say = [], order, parts } = L.steps[step], open = !isPrinted && isOpen(step), isAfter = !open && (isPrinted || !state.before);
   const part = el('section', { class: 'lane', 'data-step': step });
   if (order) part.append(el('div', { class: 'order' }, `Order ${order}`));
   // words before a call often say what it answers: they come with the answer
   if (!open) part.append(...words(say));
   part.append(el('div', { class: 'call' }, number ? el('span', { class: 'number' }, `${number}`) : null, el('span', { class: 'words' }, call)));
-  if (open) part.append(question(step, place));
+  if (open) part.append(question(step));
   else if (!L.steps[step].rounds) part.append(answered(step), ...mistakes(step));
   if (!open && parts) part.append(el('div', { class: 'parts' }, `${capital(parts)}.`));
   if (!isPrinted && !open) {
@@ -206,11 +208,22 @@ function lane(step, place, isPrinted) {
 }
 
 function slotAt(at, isPrinted) {
-  if (at === 0) return [el('div', { class: 'intro' }, words(L.intro.slice(1))),
-    el('p', {}, `${L.slots.length} calls follow. Go on with Next, or the right arrow.`)];
+  if (at === 0) return [el('div', { class: 'intro' }, words(L.intro.slice(1))), ...(isPrinted ? [] : reading()),
+    el('p', {}, `${L.slots.length} steps follow. Go on with Next, or the right arrow.`)];
   if (at === END) return ending(isPrinted);
   const steps = L.slots[at - 1];
-  return [el('div', { class: steps.length > 1 ? 'lanes two' : 'lanes' }, steps.map((step, place) => lane(step, place, isPrinted)))];
+  return [el('div', { class: steps.length > 1 ? 'lanes two' : 'lanes' }, steps.map(step => lane(step, isPrinted)))];
+}
+
+// For who has read nothing.
+function reading() {
+  return [el('h2', {}, 'How to read it'), el('ul', { class: 'reading' }, [
+    "Each insurer's classes come through a loader of its own. A request is a loader and a name: what that loader means by that name.",
+    "'defines' hands the machine a class file. 'records' says that a loader means by a name a class that is there already, as another loader does.",
+    'A tie says that a name means one class under two loaders. A subtype constraint says that under a loader one name lies below another.',
+    'In the picture a box is a request, a column a loader. A dashed box isn\'t loaded: nobody has a class for it yet. Boxes of one colour mean one class.',
+    'A line is a tie, an arrow a subtype constraint. Orange is new, red dashes were refused, purple is the chain by which a call clashed.',
+  ].map(line => el('li', {}, line)))];
 }
 
 function ending(isPrinted) {

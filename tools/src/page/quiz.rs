@@ -3,7 +3,7 @@
 
 use reference::answer::word;
 use reference::broken::unbroken;
-use reference::code::Instruction;
+use reference::code::{decode, Instruction};
 use reference::file::Sketch;
 use reference::gen::Call;
 use reference::host::Told;
@@ -165,11 +165,34 @@ fn finished(told: &Told, before: &Store) -> Vec<(u32, String)> {
     };
     let came = (told.cells[1] == 0 && told.cells[2] == 2).then_some(told.cells[4] as i32);
     let on_top = operands.checked_sub(1).and_then(|last| int(top + cell::OPERAND_0 + 2 * last));
-    let mut ints: Vec<i32> = [came, int(bottom + cell::LOCAL_0 + 2), on_top, Some(0)].into_iter().flatten().collect();
-    ints.push(ints[0].wrapping_add(1));
-    ints.dedup();
-    ints.truncate(4);
+    let mut ints: Vec<i32> = Vec::new();
+    let guessed = [came, int(bottom + cell::LOCAL_0 + 2), on_top].into_iter().flatten().chain(constants(before, top)).chain([0, 1]);
+    for int in guessed {
+        if ints.len() < MOST_INTS && !ints.contains(&int) {
+            ints.push(int);
+        }
+    }
     ints.into_iter().map(|int| (0, format!("finished: the {} with {int}", task(turn as u32)))).collect()
+}
+
+/// As many ints are offered.
+const MOST_INTS: usize = 5;
+
+/// The ints that the method of a frame pushes, the last first: those stand near its ends.
+fn constants(store: &Store, base: usize) -> Vec<i32> {
+    let file = store.file(store.frames[base + cell::CLASS] as u16);
+    let Some(method) = file.and_then(|file| file.method(store.frames[base + cell::METHOD] as usize)) else {
+        return Vec::new();
+    };
+    let (mut all, mut point) = (Vec::new(), 0);
+    while let Some((instruction, next)) = decode(method.version, method.code, point) {
+        if let Instruction::Sipush(int) = instruction {
+            all.push(i32::from(int));
+        }
+        point = next;
+    }
+    all.reverse();
+    all
 }
 
 /// The request that the next instruction names.
