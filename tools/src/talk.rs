@@ -175,6 +175,10 @@ impl<'a> Talk<'a> {
 
     /// Carries out what a statement adds; one that can't be read is said and forgotten.
     fn statement(&mut self, statement: &str) -> io::Result<()> {
+        if is_comment(statement) {
+            self.statements.push(statement.into());
+            return Ok(());
+        }
         let source = self.source(statement);
         match workshop::lesson(&source) {
             Err(problems) => write!(self.out, "{}", source.show_all(&problems)),
@@ -247,6 +251,10 @@ impl<'a> Talk<'a> {
             Err(error) => self.say(&format!("{}: {error}", visible(file))),
         }
     }
+}
+
+fn is_comment(line: &str) -> bool {
+    line.trim_start().starts_with('#')
 }
 
 /// Are there braces that aren't closed yet?
