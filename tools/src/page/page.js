@@ -76,7 +76,7 @@ function answered(step) {
   if (picked !== undefined && isAsked(step)) {
     const isRight = picked === right, [text, other] = choices[picked];
     card.append(el('p', { class: 'pick' }, isRight ? 'You said so.' : `You said: ${text}.`));
-    if (!isRight) card.append(el('p', {}, `That is said of: ${other}`));
+    if (!isRight) card.append(el('p', {}, `It would mean: ${other}`));
   }
   if (rule && (refused || picked !== undefined)) card.append(el('p', { class: 'rule' }, capital(rule)));
   card.append(...chain(step));

@@ -50,7 +50,7 @@ pub struct Recorder<'a> {
     source: &'a Source,
     lesson: &'a Lesson,
     time: Time,
-    pub methods: Methods,
+    pub methods: Methods<'a>,
     /// The boot, and the calls that are shown.
     pub steps: Vec<Step>,
     /// The calls that stand beside each other: one, or one of each order.
@@ -87,7 +87,7 @@ impl<'a> Recorder<'a> {
         machine::make(&Call::Boot, &mut store, &mut [])?;
         let wrong = vec![store.clone(); lesson.mistakes.len()];
         let time = Time { store, origins: Origins::default(), wrong, rows: Rows::new(), last: None };
-        let (methods, steps, slots, orders) = (Methods::default(), Vec::new(), Vec::new(), Vec::new());
+        let (methods, steps, slots, orders) = (Methods::new(&lesson.texts), Vec::new(), Vec::new(), Vec::new());
         let (intro, said, order) = (Vec::new(), Vec::new(), None);
         let (first_slot, left_out, failed, calls) = (0, 0, 0, 0);
         let mut recorder =
