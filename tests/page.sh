@@ -11,7 +11,8 @@ trap 'rm -rf "$work"' EXIT
 
 browser=$(command -v chromium || command -v chromium-browser || true)
 if [ -z "$browser" ] && [ "$(id -u)" = 0 ] && command -v apt-get >/dev/null; then
-    { apt-get install -y --no-install-recommends chromium || { apt-get update && apt-get install -y --no-install-recommends chromium; }; } >"$work/apt" 2>&1 || tail -n 5 "$work/apt"
+    install=(apt-get install -y --no-install-recommends chromium)
+    { "${install[@]}" || { apt-get update && "${install[@]}"; }; } >"$work/apt" 2>&1 || tail -n 5 "$work/apt"
     browser=$(command -v chromium || true)
 fi
 [ -n "$browser" ] || { echo "page: there is no Chromium here; install it, as by: sudo apt-get install chromium"; exit 1; }

@@ -122,11 +122,15 @@ function picture(step, isAfter) {
     const isReason = isAfter && rows.includes(number), age = isReason ? 'reason' : isNew(kind, number, value) ? 'new' : 'old';
     return { cells: value.v, age, label: isReason ? `${word}, row ${number}` : age === 'new' ? `${word}, new` : word };
   });
-  const entries = rowsOf(now, 'request').map(([number, cells]) => ({ cells, age: isNew('request', number, cells) ? 'new' : 'old', label: isNew('request', number, cells) ? ', new' : '' }));
+  const entries = rowsOf(now, 'request').map(([number, cells]) => {
+    const fresh = isNew('request', number, cells);
+    return { cells, age: fresh ? 'new' : 'old', label: fresh ? ', new' : '' };
+  });
   const ties = constraint('tie', 'tie'), subtypes = constraint('subtype', 'below');
   if (isAfter) {
     // its own rows are numbered as they would be posted: subtype constraints first
-    const own = (cells, word, place) => rows.includes(stored + place) ? { cells, age: 'own', label: `row ${stored + place}, its own` } : { cells, age: 'refused', label: `${word}? refused` };
+    const own = (cells, word, place) => rows.includes(stored + place)
+      ? { cells, age: 'own', label: `row ${stored + place}, its own` } : { cells, age: 'refused', label: `${word}? refused` };
     tried[2].forEach((cells, place) => subtypes.push(own(cells, 'below', place)));
     tried[1].forEach((cells, place) => ties.push(own(cells, 'tie', tried[2].length + place)));
     tried[0].forEach(([loader, name, number]) => entries.push({ cells: [loader, name, number, loaderOf(now, number, loader)], age: 'refused', label: '? refused' }));
@@ -147,7 +151,9 @@ function loaderOf(store, number, asking) {
 
 function tables(step, isAfter, isPrinted) {
   const { parent } = L.steps[step], now = storeAt(isAfter ? step : parent), then = storeAt(parent), store = el('div', { class: 'store' });
-  if (now.get('broken') && now.get('broken').size) store.append(el('section', {}, el('h2', {}, 'The tables'), el('ul', {}, el('li', { class: 'plus' }, '~ the tables are no store: broken'))));
+  if (now.get('broken') && now.get('broken').size) {
+    store.append(el('section', {}, el('h2', {}, 'The tables'), el('ul', {}, el('li', { class: 'plus' }, '~ the tables are no store: broken'))));
+  }
   for (const [kind, title] of KINDS) {
     const [old, rows] = [then.get(kind) || new Map(), now.get(kind) || new Map()], list = el('ul', {});
     for (const [number, value] of rowsOf(now, kind)) {
@@ -176,9 +182,10 @@ function running(step, isAfter) {
   for (const task of ['quote', 'report']) {
     rowsOf(now, `${task} frame`).reverse().forEach(([depth, { m, p, o, l }], place) => {
       const { title, lines } = L.methods[m];
-      const code = lines.map(([point, instruction, label]) => el('li', { class: point === p ? 'here' : '' }, `${label ? label + '\n' : ''}${String(point).padStart(3)}  ${instruction}`));
-      all.append(el('div', { class: place ? 'frame waits' : 'frame' }, el('h3', {}, `${task}, frame ${depth}: ${title}`), el('ul', { class: lines.length > 24 ? 'code long' : 'code' }, code),
-        cells('operands ', o), cells('locals ', l)));
+      const line = ([point, instruction, label]) => `${label ? label + '\n' : ''}${String(point).padStart(3)}  ${instruction}`;
+      const code = lines.map(all => el('li', { class: all[0] === p ? 'here' : '' }, line(all)));
+      all.append(el('div', { class: place ? 'frame waits' : 'frame' }, el('h3', {}, `${task}, frame ${depth}: ${title}`),
+        el('ul', { class: lines.length > 24 ? 'code long' : 'code' }, code), cells('operands ', o), cells('locals ', l)));
     });
   }
   return all.childElementCount ? [el('div', { class: 'tasks' }, el('h2', {}, 'Frames'), all)] : [];
@@ -254,7 +261,8 @@ function render() {
   id('next').disabled = state.at === END;
   [...id('list').children].forEach((item, place) => {
     item.className = place + 1 === state.at ? 'now' : '';
-    item.lastChild.textContent = L.slots[place].every(step => !isOpen(step) && place + 1 <= state.at) ? ` \u2013 ${L.slots[place].map(step => L.steps[step].answer).join(' | ')}` : '';
+    const isTold = L.slots[place].every(step => !isOpen(step) && place + 1 <= state.at);
+    item.lastChild.textContent = isTold ? ` \u2013 ${L.slots[place].map(step => L.steps[step].answer).join(' | ')}` : '';
   });
 }
 
@@ -298,7 +306,8 @@ function turn() {
   render();
 }
 
-const KEYS = { ArrowRight: next, ' ': next, PageDown: next, n: next, ArrowLeft: () => go(state.at - 1), PageUp: () => go(state.at - 1), Home: () => go(0), End: () => go(END), b: turn, t: theme };
+const back = () => go(state.at - 1);
+const KEYS = { ArrowRight: next, ' ': next, PageDown: next, n: next, ArrowLeft: back, PageUp: back, Home: () => go(0), End: () => go(END), b: turn, t: theme };
 
 function pressed(event) {
   if (event.ctrlKey || event.metaKey || event.altKey || event.target.id === 'slider' && event.key.startsWith('Arrow')) return;
@@ -329,7 +338,7 @@ function begin() {
     id('list').append(item);
   });
   id('next').addEventListener('click', next);
-  id('back').addEventListener('click', () => go(state.at - 1));
+  id('back').addEventListener('click', back);
   id('slider').addEventListener('input', event => go(Number(event.target.value)));
   id('ask').addEventListener('change', render);
   id('theme').addEventListener('click', theme);
