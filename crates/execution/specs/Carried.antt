@@ -55,19 +55,21 @@ closedBy (Ran k) x = set x loadsCell 0
 closedBy (Finished k n) x = set x loadsCell 0
 closedBy (Refused w) x = x
 
-abbrev pub wentOn : Answer → Bool
+unfoldable pub wentOn : Answer → Bool
 wentOn Idle = false
 wentOn (Ran k) = true
 wentOn (Finished k n) = true
 wentOn (Refused w) = false
 
 pub closed-on : (a : Answer) (x : List ℕ) → wentOn a ≡ true → set x loadsCell 0 ≡ closedBy a x
+unfolding wentOn
 closed-on Idle x h = absurd (false≢true h)
 closed-on (Ran k) x h = refl
 closed-on (Finished k n) x h = refl
 closed-on (Refused w) x h = absurd (false≢true h)
 
 pub closed-not : (a : Answer) (x : List ℕ) → wentOn a ≡ false → x ≡ closedBy a x
+unfolding wentOn
 closed-not Idle x h = refl
 closed-not (Ran k) x h = absurd (false≢true (sym h))
 closed-not (Finished k n) x h = absurd (false≢true (sym h))

@@ -29,5 +29,6 @@ pub mod Rates
 pub mod HiddenFields
 pub mod FieldsLast
 pub mod TakenBack
+pub mod History
 pub mod Share
 pub mod Branches

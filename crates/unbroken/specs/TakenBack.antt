@@ -5,10 +5,11 @@ use mathlib.Core.Bool.{Bool, true, false, false≢true, _&&_}
 use mathlib.Core.Option.{Option, none, some, Option·none-ne-some, Option·some-injective}
 use mathlib.Core.List.{List, [], _∷_, _++_}
 use mathlib.Core.Logic.{_⊎_, inl, inr, _≢_}
-use Prim.Native.Nat.{ℕ, zero, suc, _+_, _-_, _≤_, _<_}
+use Prim.Native.Nat.{ℕ, zero, suc, _+_, _-_, _≤_}
 use native.Mathlib.Omega.{arith}
-use lib.ListN.{length, getElem?, getD, set, take, replicate}
-use lib.Dec.{leb}
+use lib.ListN.{length, getElem?, getD, set, take, replicate, length-append}
+use lib.Dec.{leb, ltb}
+use borrow.Author.Tests.{lt-ltb, le-ltb}
 use lib.Seq.{take-take, take-all, getD-set-other}
 use Rattle.definition.specs.declared.Refusal.{Refusal}
 use Rattle.definition.specs.declared.Refusal.the-variants.{Word}
@@ -18,41 +19,35 @@ use Rattle.definition.specs.declared.Reply.{Reply}
 use Rattle.definition.specs.declared.Reply.the-variants.{Accepted, Denied}
 use Rattle.definition.specs.Numbers.{wordLate, loadsCell}
 use Rattle.definition.specs.Lists.{stack}
-use Rattle.definition.specs.Tables.{Tables, tables, Level, Rows, levelOf, cutTo, withTrace, levelAt, worldOf, viewBase, viewOver, view, put}
+use Rattle.definition.specs.Tables.{Tables, tables, shaped, Level, Rows, levelOf, cutTo, withTrace, levelAt, worldOf, viewBase, viewOver, view, put}
 use Rattle.definition.specs.Broken.{traceFits, broken}
 use Rattle.definition.specs.Machine.{Frame}
-use Rattle.definition.specs.Calls.{Given, Done, done, carried, takenBack, Load, loadDefine, loadRecord, RowCall, rowDefine, rowRecord, rowStart, rowDrop, rowSweep, rowTry, rowTakeBack, onRowCall, Call, callBoot, callRows, callStep, callRun, callTakeBack, stepTask, stepOn, stepTables, stepRows, goOn, runFrom, run, perform, performAll}
+use Rattle.definition.specs.Calls.{Given, Done, done, carried, boot, takenBack, Load, loadDefine, loadRecord, RowCall, rowDefine, rowRecord, rowStart, rowDrop, rowSweep, rowTry, rowTakeBack, onRowCall, Call, callBoot, callRows, callStep, callRun, callTakeBack, stepTask, stepOn, stepTables, stepRows, goOn, runFrom, run, perform, performAll}
 use Rattle.definition.specs.Computing.OnRows.{givenRows, settle, onRows, performRows, performAllRows}
 use Rattle.laws.specs.Refusals.{loadCall}
 use Rattle.laws.specs.Refused.{refusal, refused-same, step-refused}
 use Rattle.laws.specs.Runs.{run-keeps, runs-end}
 use Rattle.unbroken.specs.Parts.{idle-same}
 use Rattle.unbroken.specs.Lasting.{UnloadsRows, Unloads}
-use Rattle.laws.specs.Wrapped.{wrap-carried, Ok, ok-at, then}
+use Rattle.laws.specs.Wrapped.{wrap-broken, wrap-carried, Ok, ok-at, then}
 use Rattle.layout.specs.Traced.{EachTurn, Leaves, Under, cut-load, fits-trace, trace-fits}
 use Rattle.layout.specs.Whole.{Whole, whole-sound}
 use Rattle.unbroken.specs.Cut.{cut-whole}
 use Rattle.layout.specs.Fills.{countAt, classes-fill, kept-fill, cache-fill, ties-fill, subtypes-fill}
 use Rattle.layout.specs.View.{back-writes}
-use Rattle.layout.specs.ReadBack.{true-shaped, view-put}
+use Rattle.layout.specs.ReadBack.{view-put}
 use Rattle.layout.specs.Unbroken.{unbroken, broken-false}
 use Rattle.unbroken.specs.Calls.{rows-whole, step-whole}
 use Rattle.unbroken.specs.Traces.{Remembers, Loaded, TakesBack, TraceBy, rows-trace, step-trace}
 use Rattle.unbroken.specs.Unbroken.{Unhurt, shown, kept-unbroken}
 use Rattle.unbroken.specs.OnRows.{Same, same-boot, same-all}
 
--- What each call does to the trace
+-- A call on rows leaves the rows, or does to the trace what it does where it is accepted
 
--- a call on rows, refused or not
-pub call-traces : (c : RowCall) (t : Tables) → (view (perform (callRows c) t .tables) ≡ view t) ⊎ TraceBy c (view t) (view (perform (callRows c) t .tables))
+traces-or-same : (c : RowCall) (t : Tables) → (view (perform (callRows c) t .tables) ≡ view t) ⊎ TraceBy c (view t) (view (perform (callRows c) t .tables))
 unfolding perform
-call-traces c t = shown Denied (onRowCall c) (λ _ s. (s ≡ view t) ⊎ TraceBy c (view t) s) t (λ r w. rows-whole r w c) (λ _. inl refl)
+traces-or-same c t = shown Denied (onRowCall c) (λ _ s. (s ≡ view t) ⊎ TraceBy c (view t) s) t (λ r w. rows-whole r w c) (λ _. inl refl)
     (λ w g e. inr (ok-at (λ (g : Given Reply). TraceBy c (view t) (g .rows)) _ (rows-trace (view t) (w .numbers) c) g e))
-
-pub step-traces : (t : Tables) → (view (stepTables t .tables) ≡ view t) ⊎ (view (stepTables t .tables) .trace ≡ [])
-unfolding stepTables
-step-traces t = shown Refused stepRows (λ _ s. (s ≡ view t) ⊎ (s .trace ≡ [])) t step-whole (λ _. inl refl)
-    (λ w g e. ok-at (λ (g : Given Answer). (g .rows ≡ view t) ⊎ (g .rows .trace ≡ [])) _ (step-trace (view t)) g e)
 
 -- The call
 
@@ -86,7 +81,7 @@ taken-back t = shown Denied (onRowCall rowTakeBack) (λ a s. a ≡ Accepted → 
 
 -- a load that changed the store is taken back: every row reads as before it, and the trace is what it was, but for a load that was pushed out
 loaded-remembers : (c : Load) (t : Tables) → (view (perform (callRows (loadCall c)) t .tables) ≡ view t → ⊥) → Remembers (view t) (view (perform (callRows (loadCall c)) t .tables))
-loaded-remembers c t n = elim (call-traces (loadCall c) t) [ inl e ↦ absurd (n e) | inr h ↦ go c n h ]
+loaded-remembers c t n = elim (traces-or-same (loadCall c) t) [ inl e ↦ absurd (n e) | inr h ↦ go c n h ]
   where
     go : (c : Load) → (view (perform (callRows (loadCall c)) t .tables) ≡ view t → ⊥) → TraceBy (loadCall c) (view t) (view (perform (callRows (loadCall c)) t .tables))
         → Remembers (view t) (view (perform (callRows (loadCall c)) t .tables))
@@ -159,12 +154,6 @@ module _ (r : Rows) (qs : List Rows) (s : Tables) (h : broken s ≡ false) (l : 
   pub takings-show : view taken ≡ withTrace (take (32 - n) (beforeLast n (view s) qs .trace)) (beforeLast n (view s) qs)
   takings-show = takings-same .1 .rows ∙ ap (λ (g : Given (List Reply)). g .rows) takings-rows
 
-  -- after 32 of them it is too late
-  pub takings-late : n ≡ 32 → perform callTakeBack taken ≡ done (Denied (Word wordLate)) taken
-  takings-late e =
-      let z : 32 - n ≡ 0 = omega arith in
-      taken-late taken (takings-same .1 .unbroken) (ap (λ (x : Rows). x .trace) takings-show ∙ ap (λ (j : ℕ). take j (beforeLast n (view s) qs .trace)) z)
-
 before-all : (r : Rows) (qs : List Rows) (s : Rows) → Loading r qs s → beforeLast (length qs) s qs ≡ r
 before-all r [] s h = h
 before-all r (q ∷ qs) s h = before-all r qs q (h .0)
@@ -188,7 +177,7 @@ ClosesRows (rowTry c n) t = ⊥
 ClosesRows rowTakeBack t = ⊥
 
 abbrev pub Closes : Call → Tables → Type 0
-Closes callBoot t = Unit {0}
+Closes callBoot t = refusal (perform callBoot t .answer) ≡ none
 Closes (callRows c) t = ClosesRows c t
 Closes callStep t = WentOn (stepTables t .answer)
 Closes (callRun n) t = (refusal (perform (callRun n) t .answer) ≡ none) × WentOn (stepTables t .answer)
@@ -206,12 +195,12 @@ refused-left c t n = go (refusal (perform c t .answer)) refl
     go (some w) e = inl (ap view (refused-same c t w e .same))
 
 open-rows : (c : RowCall) (t : Tables) → (ClosesRows c t → ⊥) → (UnloadsRows c → ⊥) → Loaded (view t) (view (perform (callRows c) t .tables))
-open-rows (rowDefine l bs) t n i = elim (call-traces (rowDefine l bs) t) [ inl e ↦ inl e | inr h ↦ inr h ]
-open-rows (rowRecord l x c) t n i = elim (call-traces (rowRecord l x c) t) [ inl e ↦ inl e | inr h ↦ h ]
+open-rows (rowDefine l bs) t n i = elim (traces-or-same (rowDefine l bs) t) [ inl e ↦ inl e | inr h ↦ inr h ]
+open-rows (rowRecord l x c) t n i = elim (traces-or-same (rowRecord l x c) t) [ inl e ↦ inl e | inr h ↦ h ]
 open-rows (rowStart k l x m v) t n i = refused-left (callRows (rowStart k l x m v)) t (λ e. absurd (n e))
 open-rows (rowDrop k) t n i = refused-left (callRows (rowDrop k)) t (λ e. absurd (n e))
 open-rows rowSweep t n i = refused-left (callRows rowSweep) t (λ e. absurd (n e))
-open-rows (rowTry c x) t n i = elim (call-traces (rowTry c x) t) [ inl e ↦ inl e | inr e ↦ inl e ]
+open-rows (rowTry c x) t n i = elim (traces-or-same (rowTry c x) t) [ inl e ↦ inl e | inr e ↦ inl e ]
 open-rows rowTakeBack t n i = absurd (i tt)
 
 step-left : (t : Tables) → (WentOn (stepTables t .answer) → ⊥) → stepTables t .tables ≡ t
@@ -223,30 +212,58 @@ step-left t n = go (stepTables t .answer) refl n
     go (Finished k m) e n = absurd (n tt)
     go (Refused w) e n = step-refused t w e .same
 
+run-left : (n : ℕ) (t : Tables) → (Closes (callRun n) t → ⊥) → perform (callRun n) t .tables ≡ t
+run-left n t x = go (refusal (perform (callRun n) t .answer)) refl
+  where
+    go : (o : Option Refusal) → refusal (perform (callRun n) t .answer) ≡ o → perform (callRun n) t .tables ≡ t
+    go (some w) e = refused-same (callRun n) t w e .same
+    go none e = unfold perform in run-keeps (λ s. s ≡ t) (λ s q. ap (λ (z : Tables). stepTables z .tables) q ∙ step-left t (λ y. x (e, y))) n t refl
+
 open-call : (c : Call) (t : Tables) → (Closes c t → ⊥) → (Unloads c → ⊥) → Loaded (view t) (view (perform c t .tables))
-open-call callBoot t n i = absurd (n tt)
+open-call callBoot t n i = absurd (i tt)
 open-call (callRows c) t n i = open-rows c t n i
 open-call callStep t n i = unfold perform in inl (ap view (step-left t n))
-open-call (callRun m) t n i = refused-left (callRun m) t (λ e. unfold perform in
-    run-keeps (λ s. s ≡ t) (λ s q. ap (λ (z : Tables). stepTables z .tables) q ∙ step-left t (λ x. n (e, x))) m t refl)
+open-call (callRun m) t n i = inl (ap view (run-left m t n))
 
 loading-first : (r q : Rows) (qs : List Rows) (s : Rows) → Remembers r q → Loading q qs s → Loading r (qs ++ (r ∷ [])) s
 loading-first r q [] s m h = (refl, subst (Remembers r) (sym h) m)
 loading-first r q (p ∷ qs) s m h = (loading-first r q qs p m (h .0), h .1)
 
+-- whether the call is a load that changed the rows: it added to the cache; and how many of a list of calls are
+abbrev pub adds : Call → Tables → Bool
+adds c t = ltb (length (view t .cache)) (length (view (perform c t .tables) .cache))
+
+abbrev pub loadsIn : List Call → Tables → ℕ
+loadsIn [] t = 0
+loadsIn (c ∷ cs) t = elim (adds c t) as (λ _. ℕ) [ true ↦ suc (loadsIn cs (perform c t .tables)) | false ↦ loadsIn cs (perform c t .tables) ]
+
 -- such calls are loads that changed the rows, and calls that changed nothing
-pub open-loads : (cs : List Call) (t : Tables) → Open cs t → (qs : List Rows) × Loading (view t) qs (view (performAll cs t .tables))
+pub open-adds : (c : Call) (t : Tables) → (Closes c t → ⊥) → (Unloads c → ⊥)
+    → ((adds c t ≡ false) × (view (perform c t .tables) ≡ view t)) ⊎ ((adds c t ≡ true) × Remembers (view t) (view (perform c t .tables)))
+open-adds c t n i = elim (open-call c t n i) [
+  | inl e ↦ inl (ap (λ (r : Rows). ltb (length (view t .cache)) (length (r .cache))) e ∙ le-ltb (length (view t .cache)) (length (view t .cache)) (omega arith), e)
+  | inr m ↦ inr (lt-ltb (length (view t .cache)) (length (view (perform c t .tables) .cache)) (m .more), m)
+]
+
+open-loads : (cs : List Call) (t : Tables) → Open cs t → (qs : List Rows) × (length qs ≡ loadsIn cs t) × Loading (view t) qs (view (performAll cs t .tables))
 unfolding performAll
-open-loads [] t o = ([], refl)
+open-loads [] t o = ([], refl, refl)
 open-loads (c ∷ cs) t o =
     let l = open-loads cs (perform c t .tables) (o .2) in
     let s : Rows = view (performAll cs (perform c t .tables) .tables) in
-    elim (open-call c t (o .0) (o .1)) [
-      | inl e ↦ (l .0, subst (λ (r : Rows). Loading r (l .0) s) e (l .1))
-      | inr m ↦ (l .0 ++ (view t ∷ []), loading-first (view t) (view (perform c t .tables)) (l .0) s m (l .1))
+    elim (open-adds c t (o .0) (o .1)) [
+      | inl e ↦ (l .0, l .1 ∙ sym (rw (e .0, loadsIn) refl), subst (λ (r : Rows). Loading r (l .0) s) (e .1) (l .2))
+      | inr m ↦ (
+        l .0 ++ (view t ∷ []),
+        length-append (l .0) (view t ∷ []) ∙ (plus-one (length (l .0)) ∙ (ap suc (l .1) ∙ sym (rw (m .0, loadsIn) refl))),
+        loading-first (view t) (view (perform c t .tables)) (l .0) s (m .1) (l .2),
+      )
     ]
+  where
+    plus-one : (n : ℕ) → n + 1 ≡ suc n
+    plus-one n = omega arith
 
-all-unbroken : (cs : List Call) (t : Tables) → broken t ≡ false → broken (performAll cs t .tables) ≡ false
+pub all-unbroken : (cs : List Call) (t : Tables) → broken t ≡ false → broken (performAll cs t .tables) ≡ false
 unfolding performAll
 all-unbroken [] t h = h
 all-unbroken (c ∷ cs) t h = all-unbroken cs (perform c t .tables) (kept-unbroken c t h)
@@ -254,30 +271,42 @@ all-unbroken (c ∷ cs) t h = all-unbroken cs (perform c t .tables) (kept-unbrok
 -- The statements: k loads that changed the rows, and among them any calls that close nothing
 
 -- k takings back are accepted and leave the rows as they were, where k is at most 32
-pub loads-undone : (cs : List Call) (t : Tables) → broken t ≡ false → (o : Open cs t)
-    → (let s = performAll cs t .tables in let k = length (open-loads cs t o .0) in
+pub loads-undone : (cs : List Call) (t : Tables) → broken t ≡ false → Open cs t
+    → (let s = performAll cs t .tables in let k = loadsIn cs t in
     k ≤ 32 → (performAll (takings k) s .answer ≡ replicate k Accepted) × (view (performAll (takings k) s .tables) ≡ withTrace (take (32 - k) (view t .trace)) (view t)))
-loads-undone cs t h o few =
-    let s : Tables = performAll cs t .tables in
-    let l = open-loads cs t o in
-    let b = all-unbroken cs t h in
-    let e : beforeLast (length (l .0)) (view s) (l .0) ≡ view t = before-all (view t) (l .0) (view s) (l .1) in (
-      takings-answer (view t) (l .0) s b (l .1) (length (l .0)) few (omega arith),
-      takings-show (view t) (l .0) s b (l .1) (length (l .0)) few (omega arith) ∙ ap (λ (r : Rows). withTrace (take (32 - length (l .0)) (r .trace)) r) e,
-    )
+loads-undone cs t h o few = subst Undone (l .1) here (omega (arith, l .1, few))
+  where
+    s : Tables
+    s = performAll cs t .tables
 
--- of more than 32, 32 are, the next is too late, and the rows are those before the last 32
-pub loads-lost : (cs : List Call) (t : Tables) → broken t ≡ false → (o : Open cs t)
-    → (let s = performAll cs t .tables in let qs = open-loads cs t o .0 in let u = performAll (takings 32) s .tables in
-    32 < length qs → (performAll (takings 32) s .answer ≡ replicate 32 Accepted) × (view u ≡ withTrace [] (beforeLast 32 (view s) qs)) × (perform callTakeBack u ≡ done (Denied (Word wordLate)) u))
-loads-lost cs t h o more =
+    l : (qs : List Rows) × (length qs ≡ loadsIn cs t) × Loading (view t) qs (view s)
+    l = open-loads cs t o
+
+    Undone : ℕ → Type 0
+    Undone k = k ≤ 32 → (performAll (takings k) s .answer ≡ replicate k Accepted) × (view (performAll (takings k) s .tables) ≡ withTrace (take (32 - k) (view t .trace)) (view t))
+
+    here : Undone (length (l .0))
+    here f =
+        let b = all-unbroken cs t h in
+        let e : beforeLast (length (l .0)) (view s) (l .0) ≡ view t = before-all (view t) (l .0) (view s) (l .2) in (
+          takings-answer (view t) (l .0) s b (l .2) (length (l .0)) f (omega arith),
+          takings-show (view t) (l .0) s b (l .2) (length (l .0)) f (omega arith) ∙ ap (λ (r : Rows). withTrace (take (32 - length (l .0)) (r .trace)) r) e,
+        )
+
+-- where k is 32 the next is too late, whatever was loaded before: what they pushed out never returns
+pub loads-lost : (cs : List Call) (t : Tables) → broken t ≡ false → Open cs t → loadsIn cs t ≡ 32
+    → (let s = performAll cs t .tables in let u = performAll (takings 32) s .tables in
+    (performAll (takings 32) s .answer ≡ replicate 32 Accepted) × (view u ≡ withTrace [] (view t)) × (perform callTakeBack u ≡ done (Denied (Word wordLate)) u))
+loads-lost cs t h o k =
     let s : Tables = performAll cs t .tables in
-    let l = open-loads cs t o in
-    let b = all-unbroken cs t h in (
-      takings-answer (view t) (l .0) s b (l .1) 32 (omega arith) (omega arith),
-      takings-show (view t) (l .0) s b (l .1) 32 (omega arith) (omega arith),
-      takings-late (view t) (l .0) s b (l .1) 32 (omega arith) (omega arith) refl,
-    )
+    let u : Tables = performAll (takings 32) s .tables in
+    let d = subst Undone k (loads-undone cs t h o) (omega arith) in
+    (d .0, d .1, taken-late u (all-unbroken (takings 32) s (all-unbroken cs t h)) (ap (λ (r : Rows). r .trace) (d .1)))
+  where
+    Undone : ℕ → Type 0
+    Undone k =
+        let s = performAll cs t .tables in
+        k ≤ 32 → (performAll (takings k) s .answer ≡ replicate k Accepted) × (view (performAll (takings k) s .tables) ≡ withTrace (take (32 - k) (view t .trace)) (view t))
 
 -- The tables
 
@@ -373,27 +402,35 @@ unfolding stepTables
 step-closed t = shown Refused stepRows (λ a s. WentOn a → s .trace ≡ []) t step-whole (λ w n. absurd n)
     (λ w g e. ok-at (λ (g : Given Answer). WentOn (g .answer) → g .rows .trace ≡ []) _ (went-closes (view t)) g e)
 
+step-or-same : (t : Tables) → (view (stepTables t .tables) ≡ view t) ⊎ (view (stepTables t .tables) .trace ≡ [])
+unfolding stepTables
+step-or-same t = shown Refused stepRows (λ _ s. (s ≡ view t) ⊎ (s .trace ≡ [])) t step-whole (λ _. inl refl)
+    (λ w g e. ok-at (λ (g : Given Answer). (g .rows ≡ view t) ⊎ (g .rows .trace ≡ [])) _ (step-trace (view t)) g e)
+
 stays-closed : (t : Tables) → view t .trace ≡ [] → view (stepTables t .tables) .trace ≡ []
-stays-closed t e = elim (step-traces t) [ inl s ↦ ap (λ (r : Rows). r .trace) s ∙ e | inr s ↦ s ]
+stays-closed t e = elim (step-or-same t) [ inl s ↦ ap (λ (r : Rows). r .trace) s ∙ e | inr s ↦ s ]
 
--- a run leaves the rows as they were, or no load to take back
-pub run-traces : (n : ℕ) (t : Tables) → (view (perform (callRun n) t .tables) ≡ view t) ⊎ (view (perform (callRun n) t .tables) .trace ≡ [])
+-- a call that isn't refused found tables that aren't broken
+accepted-unbroken : (c : RowCall) (t : Tables) → refusal (perform (callRows c) t .answer) ≡ none → broken t ≡ false
 unfolding perform
-run-traces n t = run-keeps (λ s. (view s ≡ view t) ⊎ (view s .trace ≡ [])) on n t (inl refl)
+accepted-unbroken c t a = go (broken t) refl
   where
-    on : (s : Tables) → (view s ≡ view t) ⊎ (view s .trace ≡ []) → (view (stepTables s .tables) ≡ view t) ⊎ (view (stepTables s .tables) .trace ≡ [])
-    on s (inl e) = elim (step-traces s) [ inl q ↦ inl (q ∙ e) | inr q ↦ inr q ]
-    on s (inr e) = inr (stays-closed s e)
+    go : (b : Bool) → broken t ≡ b → broken t ≡ false
+    go false e = e
+    go true e = absurd (Option·none-ne-some (Word 1) (sym a ∙ ap (λ (d : Done Reply). refusal (d .answer)) (wrap-broken Denied (onRowCall c) t e)))
 
-accepted-by : (c : RowCall) (t : Tables) → refusal (perform (callRows c) t .answer) ≡ none → TraceBy c (view t) (view (perform (callRows c) t .tables))
-unfolding perform
-accepted-by c t = shown Denied (onRowCall c) (λ a s. refusal a ≡ none → TraceBy c (view t) s) t (λ r w. rows-whole r w c) (λ w e. absurd (Option·none-ne-some w (sym e)))
-    (λ w g e _. ok-at (λ (g : Given Reply). TraceBy c (view t) (g .rows)) _ (rows-trace (view t) (w .numbers) c) g e)
+went-unbroken : (t : Tables) → WentOn (stepTables t .answer) → broken t ≡ false
+unfolding stepTables
+went-unbroken t w = go (broken t) refl
+  where
+    go : (b : Bool) → broken t ≡ b → broken t ≡ false
+    go false e = e
+    go true e = absurd (subst WentOn (ap (λ (d : Done Answer). d .answer) (wrap-broken Refused stepRows t e)) w)
 
 -- a run whose first step goes on
-run-closed : (n : ℕ) (t : Tables) → broken t ≡ false → refusal (perform (callRun n) t .answer) ≡ none → WentOn (stepTables t .answer) → view (perform (callRun n) t .tables) .trace ≡ []
+run-closed : (n : ℕ) (t : Tables) → refusal (perform (callRun n) t .answer) ≡ none → WentOn (stepTables t .answer) → view (perform (callRun n) t .tables) .trace ≡ []
 unfolding perform run runFrom
-run-closed n t h a w = rw (h, run) (go n (leb 1 n && leb n 65535) refl (rw (h, run) at a))
+run-closed n t a w = let h = went-unbroken t w in rw (h, run) (go n (leb 1 n && leb n 65535) refl (rw (h, run) at a))
   where
     runs : (n k : ℕ) (a : Answer) (t : Tables) → view t .trace ≡ [] → view (runFrom stepTables n k a t .tables) .trace ≡ []
     runs n k a t e = runs-end stepTables (λ s. view s .trace ≡ []) (λ _ s. view s .trace ≡ []) (λ s i. stays-closed s i) (λ s _ i _. stays-closed s i) n k a t e e .holds
@@ -412,23 +449,54 @@ run-closed n t h a w = rw (h, run) (go n (leb 1 n && leb n 65535) refl (rw (h, r
     go (suc n) true l a = from n (stepTables t .answer) (stepTables t .tables) w (step-closed t w)
     go n false l a = absurd (Option·none-ne-some (Word 3) (sym a))
 
-pub closed-late : (c : Call) (t : Tables) → broken t ≡ false → Closes c t → perform callTakeBack (perform c t .tables) ≡ done (Denied (Word wordLate)) (perform c t .tables)
-closed-late c t h x = taken-late (perform c t .tables) (kept-unbroken c t h) (go c x)
+-- What each call does to the trace. A refused one changes nothing (`refused-same`).
+
+-- a call on rows that is accepted
+pub call-traces : (c : RowCall) (t : Tables) → refusal (perform (callRows c) t .answer) ≡ none → TraceBy c (view t) (view (perform (callRows c) t .tables))
+unfolding perform
+call-traces c t = shown Denied (onRowCall c) (λ a s. refusal a ≡ none → TraceBy c (view t) s) t (λ r w. rows-whole r w c) (λ w e. absurd (Option·none-ne-some w (sym e)))
+    (λ w g e _. ok-at (λ (g : Given Reply). TraceBy c (view t) (g .rows)) _ (rows-trace (view t) (w .numbers) c) g e)
+
+-- a step that ran or finished closes, and any other leaves every cell; a run goes by its first step
+pub step-traces : (t : Tables) → (WentOn (stepTables t .answer) → view (stepTables t .tables) .trace ≡ []) × ((WentOn (stepTables t .answer) → ⊥) → stepTables t .tables ≡ t)
+step-traces t = (step-closed t, step-left t)
+
+pub run-traces : (n : ℕ) (t : Tables)
+    → (Closes (callRun n) t → view (perform (callRun n) t .tables) .trace ≡ []) × ((Closes (callRun n) t → ⊥) → perform (callRun n) t .tables ≡ t)
+run-traces n t = ((λ x. run-closed n t (x .0) (x .1)), run-left n t)
+
+-- after a call that closes no load is left; no tables are too broken to boot
+pub closes-all : (c : Call) (t : Tables) → Closes c t → (broken (perform c t .tables) ≡ false) × (view (perform c t .tables) .trace ≡ [])
+closes-all c t x = go c x
   where
-    rows : (c : RowCall) → ClosesRows c t → view (perform (callRows c) t .tables) .trace ≡ []
+    Shut : Tables → Type 0
+    Shut s = (broken s ≡ false) × (view s .trace ≡ [])
+
+    row : (c : RowCall) → refusal (perform (callRows c) t .answer) ≡ none → view (perform (callRows c) t .tables) .trace ≡ [] → Shut (perform (callRows c) t .tables)
+    row c a e = (kept-unbroken (callRows c) t (accepted-unbroken c t a), e)
+
+    rows : (c : RowCall) → ClosesRows c t → Shut (perform (callRows c) t .tables)
     rows (rowDefine l bs) x = absurd x
     rows (rowRecord l n c) x = absurd x
-    rows (rowStart k l n m v) x = accepted-by (rowStart k l n m v) t x
-    rows (rowDrop k) x = accepted-by (rowDrop k) t x
-    rows rowSweep x = accepted-by rowSweep t x
+    rows (rowStart k l n m v) x = row (rowStart k l n m v) x (call-traces (rowStart k l n m v) t x)
+    rows (rowDrop k) x = row (rowDrop k) x (call-traces (rowDrop k) t x)
+    rows rowSweep x = row rowSweep x (call-traces rowSweep t x)
     rows (rowTry c n) x = absurd x
     rows rowTakeBack x = absurd x
 
-    go : (c : Call) → Closes c t → view (perform c t .tables) .trace ≡ []
-    go callBoot x = unfold perform in ap (λ (r : Rows). r .trace) (same-boot t (true-shaped t (broken-false t h .0)) .1 .rows)
+    booted : (b : Bool) → shaped t ≡ b → refusal (boot t .answer) ≡ none → Shut (boot t .tables)
+    booted true s a = let d = same-boot t s .1 in (d .unbroken, ap (λ (r : Rows). r .trace) (d .rows))
+    booted false s a = absurd (Option·none-ne-some (Word 1) (sym a ∙ (unfold boot in rw (s, boot) refl)))
+
+    go : (c : Call) → Closes c t → Shut (perform c t .tables)
+    go callBoot x = unfold perform in booted (shaped t) refl (unfold perform in x)
     go (callRows c) x = rows c x
-    go callStep x = unfold perform in step-closed t x
-    go (callRun n) x = run-closed n t h (x .0) (x .1)
+    go callStep x = (kept-unbroken callStep t (went-unbroken t x), unfold perform in step-closed t x)
+    go (callRun n) x = (kept-unbroken (callRun n) t (went-unbroken t (x .1)), run-closed n t (x .0) (x .1))
+
+-- so nothing can be taken back
+pub closed-late : (c : Call) (t : Tables) → Closes c t → perform callTakeBack (perform c t .tables) ≡ done (Denied (Word wordLate)) (perform c t .tables)
+closed-late c t x = let e = closes-all c t x in taken-late (perform c t .tables) (e .0) (e .1)
 
 -- Word 1's test of the trace in words: each of the loads, the latest first, finds its rows where those before it were taken back, and leaves whole rows
 
