@@ -7,6 +7,7 @@ use Prim.Native.Nat.{ℕ, zero, suc, _+_, _<_, _≤_}
 use native.Mathlib.Omega.{arith}
 use native.Mathlib.Numerals.{add-one}
 use lib.ListN.{length, getD, set, length-set}
+use Rattle.definition.specs.Numbers.{countsLength}
 use Rattle.definition.specs.Lists.{rows, writeRows}
 use Rattle.definition.specs.Requests.{at}
 use Rattle.definition.specs.Classes.{Base, superOf}
@@ -131,11 +132,11 @@ module _ (counts classes kept cache : List ℕ) (n : Newcomer) (l : ℕ) (z t e 
 
 -- With all counts copied, those of ties and of subtype constraints anew, and the new rows numbered on
 
-module _ (counts classes kept cache : List ℕ) (n : Newcomer) (s : Sized counts classes kept cache n) (zeros blank empty counted trial supers : List ℕ) (nl : length zeros ≡ 776)
+module _ (counts classes kept cache : List ℕ) (n : Newcomer) (s : Sized counts classes kept cache n) (zeros blank empty counted trial supers : List ℕ) (nl : length zeros ≡ countsLength)
     (bl : length blank ≡ 768) (h : NewTried counts classes kept cache n zeros blank empty counted trial supers) where
   other : (x : ℕ) → (x ≡ 2 → ⊥) → getD counted x 0 ≡ getD counts x 0
   other x d =
-      counted-other counts classes kept cache (s .base) (s .room) (n .loader) (n .name) (n .class) zeros blank counted trial 776 nl (omega arith) bl (h .tried .entered) refl x d
+      counted-other counts classes kept cache (s .base) (s .room) (n .loader) (n .name) (n .class) zeros blank counted trial countsLength nl (omega arith) bl (h .tried .entered) refl x d
 
   pub grown-kept : Grown counted (n .tied) (n .noted)
   grown-kept =
@@ -143,9 +144,9 @@ module _ (counts classes kept cache : List ℕ) (n : Newcomer) (s : Sized counts
       let c = other 4 (λ e. omega arith) in
       record { ties = omega (arith, s .grown .ties); tiesFew = s .grown .tiesFew; subtypes = omega (arith, s .grown .subtypes); subtypesFew = s .grown .subtypesFew }
 
-  long : length counted ≡ 776
+  long : length counted ≡ countsLength
   long =
-      ap length (counted-is counts classes kept cache (s .base) (s .room) (n .loader) (n .name) (n .class) zeros blank counted trial 776 nl (omega arith) bl (h .tried .entered) refl)
+      ap length (counted-is counts classes kept cache (s .base) (s .room) (n .loader) (n .name) (n .class) zeros blank counted trial countsLength nl (omega arith) bl (h .tried .entered) refl)
       ∙ (length-set counts 2 (getD counts 2 0 + 1) ∙ s .base .countsLong)
 
   module _ (c d e : ℕ) (same : e ≡ getD counted 2 0) (after : List ℕ)
@@ -156,7 +157,7 @@ module _ (counts classes kept cache : List ℕ) (n : Newcomer) (s : Sized counts
     abbrev counts5 : List ℕ
     counts5 = writeRows set five 0 counted
 
-    long5 : length counts5 ≡ 776
+    long5 : length counts5 ≡ countsLength
     long5 = writeRows-length set length-set five 0 counted ∙ long
 
     kept5 : SameNumbers counted counts5

@@ -2,10 +2,10 @@
 use mathlib.Core.Path.{_≡_, sym, ap, _∙_}
 use mathlib.Core.Bool.{true, false}
 use mathlib.Core.List.{List, [], _++_}
-use Prim.Native.Nat.{ℕ, _+_, _-_, _<_}
+use Prim.Native.Nat.{ℕ, _+_, _-_, _<_, _≤_}
 use native.Mathlib.Omega.{arith}
 use lib.ListN.{length, getD, length-append}
-use Rattle.definition.specs.Numbers.{tieNumbersCell, subtypeNumbersCell}
+use Rattle.definition.specs.Numbers.{countsLength, tieNumbersCell, subtypeNumbersCell}
 use Rattle.definition.specs.Lists.{rows}
 use Rattle.definition.specs.Constraints.{Tie, Subtype}
 use Rattle.definition.specs.Tables.{Tables, tables, rowNumbers, numberAt, putNumbers, tieAt, subtypeAt, tiesOf, subtypesOf, numbersOf, view, viewOver}
@@ -21,10 +21,15 @@ use Rattle.loading.specs.Writing.{numbersOn, numbersAfter, Grown}
 
 -- Numbers written behind those of n into c, which has the same numbers: what is read then
 
-module _ (n c : List ℕ) (i j : ℕ) (g : Grown n i j) (long : length c ≡ 776) (same : SameNumbers n c) (ci : getD c 3 0 ≡ i) (cj : getD c 4 0 ≡ j) where
+module _ (n c : List ℕ) (i j : ℕ) (g : Grown n i j) (long : length c ≡ countsLength) (same : SameNumbers n c) (ci : getD c 3 0 ≡ i) (cj : getD c 4 0 ≡ j) where
   written : numbersOn n i j c ≡ putNumbers (numbersAfter n i j) c
   unfolding numbersOn numbersAfter
-  written = sym (both-numbered (tables n [] [] [] [] [] [] []) _ _ (omega (arith, g .ties, g .tiesFew)) .cells c same)
+  written =
+      let us : List ℕ = numbersFrom (getD n 3 0 + j) (i - getD n 3 0) in
+      let ss : List ℕ = numbersFrom (getD n 3 0 + getD n 4 0) (j - getD n 4 0) in
+      let room : getD n 3 0 + length us ≤ 256 = omega (arith, rows-length (λ x. x) (i - getD n 3 0) (getD n 3 0 + j), g .ties, g .tiesFew) in
+      let space : getD n 4 0 + length ss ≤ 256 = omega (arith, rows-length (λ x. x) (j - getD n 4 0) (getD n 3 0 + getD n 4 0), g .subtypes, g .subtypesFew) in
+      sym (both-numbered (tables n [] [] [] [] [] [] []) us ss room space .cells c same)
 
   pub counts-kept : (x : ℕ) → x < 264 → getD (numbersOn n i j c) x 0 ≡ getD c x 0
   counts-kept x h = ap (λ (y : List ℕ). getD y x 0) written ∙ putNumbers-before (numbersAfter n i j) c x h

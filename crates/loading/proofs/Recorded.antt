@@ -29,6 +29,7 @@ use Rattle.laws.specs.Refusals.{Refuses, on-bind, on-test}
 use Rattle.layout.specs.NumberedRows.{none-numbered-on}
 use Rattle.layout.specs.View.{countAt, put-view, remembering, entry-writes}
 use Rattle.layout.specs.Unbroken.{unbroken}
+use Rattle.unbroken.specs.Traces.{entry-there}
 use Rattle.resolution.specs.Quick.{quickClass, quickBase}
 use Rattle.resolution.specs.Lookups.{nameIn}
 use Rattle.entries.specs.World.{world, quickWorld, numbersIn, quick-world, loadable, numbers-turn}
@@ -239,7 +240,7 @@ module _ (t : Tables) (l n c : ℕ) (sound : broken t ≡ false) where
     entry-admitted small (Refuse r) h = admits-refused (loadRecord l n c) t size (t .ties) (t .subtypes) sound long r (from (refused r) (h .0)) (h .1)
     entry-admitted small Keep h =
         wrap-given Denied offer t sound Accepted (view t) t
-        (whole-by (loadRecord l n c) t size (t .ties) (t .subtypes) sound long _ (from (ok (quickWorld t)) h ∙ ap (λ (w : World). given Accepted (addEntry (view t) w)) (quick-world t sound)))
+        (whole-by (loadRecord l n c) t size (t .ties) (t .subtypes) sound long _ (from (ok (quickWorld t)) h ∙ (ap (λ (w : World). given Accepted (addEntry (view t) w)) (quick-world t sound) ∙ ap (given Accepted) (entry-there (view t)))))
         (put-view t)
     entry-admitted small (Add new) h = entry-newly small new (h .0) (h .1)
 

@@ -5,6 +5,7 @@ use mathlib.Core.List.{List}
 use Prim.Native.Nat.{ℕ, _≤_}
 use native.Mathlib.Omega.{arith}
 use denote.Ref.{now}
+use Rattle.definition.specs.Numbers.{countsLength}
 use Rattle.definition.specs.declared.Refusal.the-variants.{Word}
 use Rattle.definition.specs.declared.Reply.{Reply}
 use Rattle.definition.specs.declared.Reply.the-variants.{Denied}
@@ -16,7 +17,7 @@ use borrow.Author.Needs.{needs}
 use Rattle.loading.proofs.trying.explain.Statement.{statement}
 use Rattle.loading.proofs.trying.explain.Tie as tie
 
-enough : (n : ℕ) → n ≡ 776 → 8 ≤ n
+enough : (n : ℕ) → n ≡ countsLength → 8 ≤ n
 enough n e = omega (arith, e)
 
 reply-of-requires : tie.Need-reply-of-requires
