@@ -1,5 +1,8 @@
 // A run of steps.
+use crate::ahead::go_ahead;
+use crate::ahead::last_of;
 use crate::deciding::Room;
+use crate::opcodes::OPCODE_NUMBERS;
 use crate::turns::step_unbroken;
 use definition::Answer;
 use definition::Refusal;
@@ -60,7 +63,8 @@ fn next_room(counts: &[u16], room: Room, turn: u8) -> Room
     }
 }
 
-// Up to n steps of a store that is not broken: a step leaves it so, and it isn't tested again. Nor are the report's objects counted again.
+// Up to n steps of a store that is not broken: a step leaves it so, and it isn't tested again. Nor are the report's objects counted again. After a step those that
+// touch their frame alone are done at once, one after another.
 fn steps(
     counts: &mut [u16],
     classes: &[u16],
@@ -78,6 +82,7 @@ fn steps(
     let mut k: u16 = 0;
     let mut last = Answer::Idle;
     let mut room = first_room(counts);
+    let opcodes = OPCODE_NUMBERS;
     while k < n {
         let turn = tasks::turn(counts);
         let a = step_unbroken(
@@ -95,8 +100,10 @@ fn steps(
             return Reply::RanFor(k, a);
         }
         room = next_room(counts, room, turn);
-        last = a;
         k += 1;
+        let more = go_ahead(counts, classes, kept, frames, &opcodes, n - k);
+        last = last_of(counts, more, a);
+        k += more;
     }
     Reply::RanFor(k, last)
 }
