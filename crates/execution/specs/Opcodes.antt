@@ -4,7 +4,7 @@ use mathlib.Core.List.{List}
 use Prim.Native.Nat.{ℕ, _+_, _-_, _<_, _≤_, _%_}
 use native.Mathlib.Omega.{arith}
 use lib.Dec.{eqb, ltb}
-use lib.ListN.{getD, take, drop}
+use lib.ListN.{length, getD, take, drop}
 use lib.Seq.{getD-take, getD-drop}
 use borrow.Author.Tests.{le-leb, lt-leb, lt-ltb, le-ltb}
 use Rattle.definition.specs.Lists.{rows}
@@ -14,7 +14,7 @@ use Rattle.definition.specs.declared.Kind.the-variants.{IntKind, ReferenceKind}
 use Rattle.definition.specs.declared.Operator.the-variants.{Add, Subtract, Multiply, Divide}
 use Rattle.definition.specs.declared.Condition.the-variants.{Always, IfZero, IfLess}
 use Rattle.definition.specs.Instructions.{pick, opcodeOf}
-use Rattle.layout.specs.Places.{rows-getD}
+use Rattle.layout.specs.Places.{rows-length, rows-getD}
 
 -- an opcode's number; those that touch their frame alone come first
 abbrev pub numbered : Opcode → ℕ
@@ -147,3 +147,7 @@ numbered-at v xs code p a b i n e f l g q h =
 -- the part of the table as it is lent
 pub numbers-lent : (v first : ℕ) (xs : List ℕ) → xs ≡ numbers → Numbers v (take 256 (drop first numbers)) → Numbers v (take (first + 256 - first) (drop first xs))
 numbers-lent v first xs e h = let z : first + 256 - first ≡ 256 = omega arith in rw (e, z) h
+
+pub numbers-length : length numbers ≡ 768
+unfolding numbers
+numbers-length = rows-length numberAt 768 0

@@ -16,6 +16,7 @@ ghost use Rattle.definition.specs.Numbers.{objectLimit};
 ghost use Rattle.definition.specs.Tables.{tables};
 ghost use Rattle.definition.specs.Broken.{broken};
 ghost use Rattle.definition.specs.Calls.{done, stepTables, runFrom, run};
+ghost use Rattle.execution.specs.Opcodes.{numbers};
 ghost use Rattle.execution.specs.Runs.{goesOn, Ruled, RoomIn, RoomAfter};
 
 fn is_ran(a: Answer) -> bool
@@ -74,15 +75,15 @@ fn steps(
     subtypes: &[u16],
     objects: &mut [u32],
     frames: &mut [u32],
+    opcodes: &[u8],
     n: u16,
 ) -> Reply
-    requires { ⌜ broken (tables (now counts) (now classes) (now kept) (now cache) (now ties) (now subtypes) (now objects) (now frames)) ≡ false ⌝ }
+    requires { ⌜ (broken (tables (now counts) (now classes) (now kept) (now cache) (now ties) (now subtypes) (now objects) (now frames)) ≡ false) × (now opcodes ≡ numbers) ⌝ }
     ensures { λ r. ⌜ done r (tables (now (counts .exit)) (now (classes .entry)) (now (kept .entry)) (now (cache .entry)) (now (ties .exit)) (now (subtypes .entry)) (now (objects .exit)) (now (frames .exit))) ≡ runFrom stepTables n 0 Answer.Idle (tables (now (counts .entry)) (now (classes .entry)) (now (kept .entry)) (now (cache .entry)) (now (ties .entry)) (now (subtypes .entry)) (now (objects .entry)) (now (frames .entry))) ⌝ }
 {
     let mut k: u16 = 0;
     let mut last = Answer::Idle;
     let mut room = first_room(counts);
-    let opcodes = OPCODE_NUMBERS;
     while k < n {
         let turn = tasks::turn(counts);
         let a = step_unbroken(
@@ -101,7 +102,7 @@ fn steps(
         }
         room = next_room(counts, room, turn);
         k += 1;
-        let more = go_ahead(counts, classes, kept, frames, &opcodes, n - k);
+        let more = go_ahead(counts, classes, kept, frames, opcodes, n - k);
         last = last_of(counts, more, a);
         k += more;
     }
@@ -168,6 +169,7 @@ pub fn run(
     if word != 0 {
         return Reply::Denied(Refusal::Word(word));
     }
+    let opcodes = OPCODE_NUMBERS;
     steps(
         counts,
         classes,
@@ -177,6 +179,7 @@ pub fn run(
         subtypes,
         objects,
         frames,
+        &opcodes,
         n as u16,
     )
 }

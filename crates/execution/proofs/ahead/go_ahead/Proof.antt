@@ -1,3 +1,9 @@
+use native.Mathlib.Omega.{arith}
+use mathlib.Core.Path.{_≡_, refl, sym, ap, _∙_}
+use lib.ListN.{length}
+use Rattle.execution.specs.Ahead.{none-ahead}
+use Rattle.execution.specs.Opcodes.{numbers-lent, numbers-length}
+use Rattle.execution.specs.Walks.{row-fits, part-size, part-few, ahead-part}
 use borrow.Author.Needs.{needs}
 use Rattle.execution.proofs.ahead.go_ahead.Statement.{statement}
 use Rattle.execution.proofs.ahead.go_ahead.Tie as tie
@@ -18,7 +24,7 @@ use Rattle.tasks.proofs.turn.Reads as turn-reads
 
 -- src/ahead.rt:55:9
 returns : tie.Need-returns
-returns c = ?
+returns c = (λ E I S O w. none-ahead _ _ w, omega arith)
 
 -- src/ahead.rt:57:8
 at16-requires : tie.Need-at16-requires
@@ -26,7 +32,7 @@ at16-requires c κs = search needs
 
 -- src/ahead.rt:58:9
 returns-2 : tie.Need-returns-2
-returns-2 c = ?
+returns-2 c = (λ E I S O w. none-ahead _ _ w, omega arith)
 
 -- src/ahead.rt:60:9
 turn-requires : tie.Need-turn-requires
@@ -38,7 +44,7 @@ frame-count-requires c κs = search needs
 
 -- src/ahead.rt:63:9
 returns-3 : tie.Need-returns-3
-returns-3 c = ?
+returns-3 c = (λ E I S O w. none-ahead _ _ w, omega arith)
 
 -- src/ahead.rt:65:31
 sub-row : tie.Need-sub-row
@@ -70,7 +76,7 @@ same-length c = search needs
 
 -- src/ahead.rt:69:9
 returns-4 : tie.Need-returns-4
-returns-4 c = ?
+returns-4 c = (λ E I S O w. none-ahead _ _ w, omega arith)
 
 -- src/ahead.rt:71:30
 version-requires : tie.Need-version-requires
@@ -106,7 +112,7 @@ part-walk-start c = search needs
 
 -- src/ahead.rt:75:10
 part-walk-end : tie.Need-part-walk-end
-part-walk-end c = ?
+part-walk-end c = omega (arith, c .wide32 .ensures .0, c .before .before .before .before .before .before .before .before .before .before .row .ensures, row-fits _ _ _ _ _ _ _ _ (c .before .before .before .before .before .before .before .before .before .before .before .before .before .before .before .before .before .before .before .before .before .before .pre .0 .whole) _ _ (c .before .before .before .before .before .before .before .before .before .before .before .before .before .turn .ensures) (c .before .before .before .before .before .before .before .before .before .before .before .before .frame-count .ensures) (c .before .before .before .before .before .before .before .before .before .before .before .if3 .left))
 
 -- src/ahead.rt:75:34
 sub-walk-2 : tie.Need-sub-walk-2
@@ -118,11 +124,11 @@ part-walk-start-2 c = search needs
 
 -- src/ahead.rt:75:34
 part-walk-end-2 : tie.Need-part-walk-end-2
-part-walk-end-2 c = ?
+part-walk-end-2 c = omega (arith, c .before .before .first-number .ensures .0, ap length (c .before .before .before .before .before .before .before .before .before .before .before .before .before .before .before .before .before .before .before .before .before .before .before .pre .1) ∙ numbers-length)
 
 -- src/ahead.rt:75:5
 walk-requires : tie.Need-walk-requires
-walk-requires c κs = ?
+walk-requires c κs = (part-size _ _ _ _ _ _ _ _ (c .before .before .before .before .before .before .before .before .before .before .before .before .before .before .before .before .before .before .before .before .before .before .before .before .pre .0 .whole) _ _ (c .before .before .before .before .before .before .before .before .before .before .before .before .before .before .before .turn .ensures) (c .before .before .before .before .before .before .before .before .before .before .before .before .before .before .frame-count .ensures) (c .before .before .before .before .before .before .before .before .before .before .before .before .before .if3 .left) _ (c .before .before .before .before .before .before .before .before .before .before .before .before .row .ensures) _ (c .before .before .wide32 .ensures .0), part-few _ _ _ _ _ _ _ _ (c .before .before .before .before .before .before .before .before .before .before .before .before .before .before .before .before .before .before .before .before .before .before .before .before .pre .0 .whole) _ _ (c .before .before .before .before .before .before .before .before .before .before .before .before .before .before .before .turn .ensures) (c .before .before .before .before .before .before .before .before .before .before .before .before .before .before .frame-count .ensures) (c .before .before .before .before .before .before .before .before .before .before .before .before .before .if3 .left) _ (c .before .before .before .before .before .before .before .before .before .before .before .before .row .ensures) _ (c .before .before .wide32 .ensures .0), c .before .before .before .before .before .if4 .left, (_, numbers-lent _ _ _ (c .before .before .before .before .before .before .before .before .before .before .before .before .before .before .before .before .before .before .before .before .before .before .before .before .pre .1) (c .before .before .before .first-number .ensures .1)))
 
 -- src/ahead.rt:43:1
 same-length-2 : tie.Need-same-length-2
@@ -130,7 +136,7 @@ same-length-2 c = search needs
 
 -- src/ahead.rt:43:1
 returns-5 : tie.Need-returns-5
-returns-5 c = ?
+returns-5 c = (λ E I S O w. rw (← c .before .before .before .before .before .before .before .before .before .before .before .before .before .before .before .before .before .before .turn .ensures) (ahead-part _ _ _ E I S O _ w _ _ (c .before .before .before .before .before .before .before .before .before .before .before .before .before .before .before .before .before .before .turn .ensures) (c .before .before .before .before .before .before .before .before .before .before .before .before .before .before .before .before .before .frame-count .ensures) (c .before .before .before .before .before .before .before .before .before .before .before .before .before .before .before .before .if3 .left) _ (c .before .before .before .before .before .before .before .before .before .before .before .before .before .before .before .row .ensures) _ _ _ _ _ (c .before .before .before .before .before .before .before .before .before .before .before .before .before .frame-class .ensures) (c .before .before .before .before .before .before .before .before .before .before .frame-method .ensures) (c .before .before .before .before .before .before .before .before .before .before .before .before .file-of .ensures) (c .before .before .before .before .before .before .before .before .before .code-of .ensures) (c .before .before .before .before .before .before .before .version .ensures) (sym (c .before .before .before .before .before .before .before .before .before .before .before .before .before .before .before .before .before .before .before .before .at16 .ensures) ∙ c .before .before .before .before .before .before .before .before .before .before .before .before .before .before .before .before .before .before .before .if2 .left) _ _ _ (c .before .before .before .before .before .wide32 .ensures .0) (c .before .before .walk .ensures .0 _ (numbers-lent _ _ _ (c .before .before .before .before .before .before .before .before .before .before .before .before .before .before .before .before .before .before .before .before .before .before .before .before .before .before .before .pre .1) (c .before .before .before .before .before .before .first-number .ensures .1)))), c .before .before .walk .ensures .1)
 
 pub go-ahead-spec : {M : Type 1} → statement M
 go-ahead-spec =
