@@ -19,6 +19,9 @@ pub record Sound (N L K F : List ℕ) : Type 0 where
   pub objects : List ℕ
   pub whole : broken (tables N L K cache ties subtypes objects F) ≡ false
 
+pub sound : (N L K E I S O F : List ℕ) → broken (tables N L K E I S O F) ≡ false → Sound N L K F
+sound N L K E I S O F h = record { cache = E; ties = I; subtypes = S; objects = O; whole = h }
+
 -- the last answer, after r more steps of task k ran
 unfoldable pub lastOf : ℕ → ℕ → Answer → Answer
 lastOf zero k a = a

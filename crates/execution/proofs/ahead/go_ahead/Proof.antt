@@ -128,7 +128,7 @@ part-walk-end-2 c = omega (arith, c .before .before .first-number .ensures .0, a
 
 -- src/ahead.rt:75:5
 walk-requires : tie.Need-walk-requires
-walk-requires c κs = (part-size _ _ _ _ _ _ _ _ (c .before .before .before .before .before .before .before .before .before .before .before .before .before .before .before .before .before .before .before .before .before .before .before .before .pre .0 .whole) _ _ (c .before .before .before .before .before .before .before .before .before .before .before .before .before .before .before .turn .ensures) (c .before .before .before .before .before .before .before .before .before .before .before .before .before .before .frame-count .ensures) (c .before .before .before .before .before .before .before .before .before .before .before .before .before .if3 .left) _ (c .before .before .before .before .before .before .before .before .before .before .before .before .row .ensures) _ (c .before .before .wide32 .ensures .0), part-few _ _ _ _ _ _ _ _ (c .before .before .before .before .before .before .before .before .before .before .before .before .before .before .before .before .before .before .before .before .before .before .before .before .pre .0 .whole) _ _ (c .before .before .before .before .before .before .before .before .before .before .before .before .before .before .before .turn .ensures) (c .before .before .before .before .before .before .before .before .before .before .before .before .before .before .frame-count .ensures) (c .before .before .before .before .before .before .before .before .before .before .before .before .before .if3 .left) _ (c .before .before .before .before .before .before .before .before .before .before .before .before .row .ensures) _ (c .before .before .wide32 .ensures .0), c .before .before .before .before .before .if4 .left, (_, numbers-lent _ _ _ (c .before .before .before .before .before .before .before .before .before .before .before .before .before .before .before .before .before .before .before .before .before .before .before .before .pre .1) (c .before .before .before .first-number .ensures .1)))
+walk-requires c κs = (part-size _ _ _ _ _ _ _ _ (c .before .before .before .before .before .before .before .before .before .before .before .before .before .before .before .before .before .before .before .before .before .before .before .before .pre .0 .whole) _ _ (c .before .before .before .before .before .before .before .before .before .before .before .before .before .before .before .turn .ensures) (c .before .before .before .before .before .before .before .before .before .before .before .before .before .before .frame-count .ensures) (c .before .before .before .before .before .before .before .before .before .before .before .before .before .if3 .left) _ (c .before .before .before .before .before .before .before .before .before .before .before .before .row .ensures) _ (c .before .before .wide32 .ensures .0), part-few _ _ _ _ _ _ _ _ (c .before .before .before .before .before .before .before .before .before .before .before .before .before .before .before .before .before .before .before .before .before .before .before .before .pre .0 .whole) _ _ (c .before .before .before .before .before .before .before .before .before .before .before .before .before .before .before .turn .ensures) (c .before .before .before .before .before .before .before .before .before .before .before .before .before .before .frame-count .ensures) (c .before .before .before .before .before .before .before .before .before .before .before .before .before .if3 .left) _ (c .before .before .before .before .before .before .before .before .before .before .before .before .row .ensures) _ (c .before .before .wide32 .ensures .0), c .before .before .before .before .before .if4 .left, (_, numbers-lent _ (c .before .before .before .first-number .result) _ (c .before .before .before .before .before .before .before .before .before .before .before .before .before .before .before .before .before .before .before .before .before .before .before .before .pre .1) (c .before .before .before .first-number .ensures .1)))
 
 -- src/ahead.rt:43:1
 same-length-2 : tie.Need-same-length-2
@@ -136,7 +136,7 @@ same-length-2 c = search needs
 
 -- src/ahead.rt:43:1
 returns-5 : tie.Need-returns-5
-returns-5 c = (λ E I S O w. rw (← c .before .before .before .before .before .before .before .before .before .before .before .before .before .before .before .before .before .before .turn .ensures) (ahead-part _ _ _ E I S O _ w _ _ (c .before .before .before .before .before .before .before .before .before .before .before .before .before .before .before .before .before .before .turn .ensures) (c .before .before .before .before .before .before .before .before .before .before .before .before .before .before .before .before .before .frame-count .ensures) (c .before .before .before .before .before .before .before .before .before .before .before .before .before .before .before .before .if3 .left) _ (c .before .before .before .before .before .before .before .before .before .before .before .before .before .before .before .row .ensures) _ _ _ _ _ (c .before .before .before .before .before .before .before .before .before .before .before .before .before .frame-class .ensures) (c .before .before .before .before .before .before .before .before .before .before .frame-method .ensures) (c .before .before .before .before .before .before .before .before .before .before .before .before .file-of .ensures) (c .before .before .before .before .before .before .before .before .before .code-of .ensures) (c .before .before .before .before .before .before .before .version .ensures) (sym (c .before .before .before .before .before .before .before .before .before .before .before .before .before .before .before .before .before .before .before .before .at16 .ensures) ∙ c .before .before .before .before .before .before .before .before .before .before .before .before .before .before .before .before .before .before .before .if2 .left) _ _ _ (c .before .before .before .before .before .wide32 .ensures .0) (c .before .before .walk .ensures .0 _ (numbers-lent _ _ _ (c .before .before .before .before .before .before .before .before .before .before .before .before .before .before .before .before .before .before .before .before .before .before .before .before .before .before .before .pre .1) (c .before .before .before .before .before .before .first-number .ensures .1)))), c .before .before .walk .ensures .1)
+returns-5 c = (λ E I S O w. rw (← c .before .before .before .before .before .before .before .before .before .before .before .before .before .before .before .before .before .before .turn .ensures) (ahead-part _ _ _ E I S O _ w _ _ (c .before .before .before .before .before .before .before .before .before .before .before .before .before .before .before .before .before .before .turn .ensures) (c .before .before .before .before .before .before .before .before .before .before .before .before .before .before .before .before .before .frame-count .ensures) (c .before .before .before .before .before .before .before .before .before .before .before .before .before .before .before .before .if3 .left) _ (c .before .before .before .before .before .before .before .before .before .before .before .before .before .before .before .row .ensures) _ _ _ _ _ (c .before .before .before .before .before .before .before .before .before .before .before .before .before .frame-class .ensures) (c .before .before .before .before .before .before .before .before .before .before .frame-method .ensures) (c .before .before .before .before .before .before .before .before .before .before .before .before .file-of .ensures) (c .before .before .before .before .before .before .before .before .before .code-of .ensures) (c .before .before .before .before .before .before .before .version .ensures) (sym (c .before .before .before .before .before .before .before .before .before .before .before .before .before .before .before .before .before .before .before .before .at16 .ensures) ∙ c .before .before .before .before .before .before .before .before .before .before .before .before .before .before .before .before .before .before .before .if2 .left) _ _ _ (c .before .before .before .before .before .wide32 .ensures .0) (c .before .before .walk .ensures .0 _ (numbers-lent _ (c .before .before .before .before .before .before .first-number .result) _ (c .before .before .before .before .before .before .before .before .before .before .before .before .before .before .before .before .before .before .before .before .before .before .before .before .before .before .before .pre .1) (c .before .before .before .before .before .before .first-number .ensures .1)))), c .before .before .walk .ensures .1)
 
 pub go-ahead-spec : {M : Type 1} → statement M
 go-ahead-spec =
