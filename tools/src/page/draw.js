@@ -1,10 +1,7 @@
 'use strict';
 // Requests and constraints as a picture: a column for each loader, a row for each name. What is drawn was handed over; nothing is decided.
 
-const BOX = [160, 40], STEP = [236, 76], EDGE = 52, LANE = 20, COLOURS = ['#8be3ff', '#f3e362', '#f97486', '#b1fcac', '#649ef3', '#e5b35f', '#b99cc6', '#8fc5ae'];
-const PATTERNS = ['', 'M0 12L12 0M-2 2L2 -2M10 14L14 10', 'M0 6H12', 'M6 0V12', 'M0 0L12 12M-2 10L2 14M10 -2L14 2', 'M0 6H12M6 0V12',
-  'M0 12L12 0M0 0L12 12', 'M3 3h6v6h-6z'];
-
+const BOX = [160, 40], STEP = [236, 76], EDGE = 52, LANE = 20;
 function el(tag, attributes, ...children) {
   return filled(document.createElement(tag), attributes, children);
 }
@@ -46,7 +43,7 @@ function drawn(rows) {
 function patterns() {
   const one = (path, place) => svg('pattern', { id: `p${place}`, width: 12, height: 12, patternUnits: 'userSpaceOnUse' },
     svg('path', { d: path, stroke: '#000', 'stroke-opacity': 0.3, 'stroke-width': 1.4, fill: 'none' }));
-  return svg('defs', {}, PATTERNS.map(one));
+  return svg('defs', {}, L.patterns.map(one));
 }
 
 // Names from the top: what a subtype constraint puts above stands above.
@@ -122,7 +119,8 @@ function box(picture, grid, loader, name, entries) {
   const said = entry ? `class ${entry.cells[2]} of ${L.loaders[entry.cells[3]]}${entry.label}` : 'not loaded';
   const called = L.names[name] || String(name), group = svg('g', {}, svg('title', {}, `${called} under ${L.loaders[loader]}: ${said}`));
   if (isFilled) {
-    const place = entry.cells[2] - 1, colour = place < 0 ? '#e8e8e8' : COLOURS[place % 8], pattern = place < 0 ? 0 : Math.floor(place / 8) % 8;
+    const place = entry.cells[2] - 1, colour = place < 0 ? '#e8e8e8' : L.colours[place % L.colours.length],
+      pattern = place < 0 ? 0 : Math.floor(place / L.colours.length) % L.patterns.length;
     group.append(svg('rect', { ...shape, class: 'fill', fill: colour }));
     if (pattern) group.append(svg('rect', { ...shape, class: 'fill', fill: `url(#p${pattern})` }));
   }

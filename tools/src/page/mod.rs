@@ -12,7 +12,7 @@ use crate::lesson::Lesson;
 use crate::listing::listing;
 use crate::names::Names;
 use crate::source::Source;
-use crate::svg::escaped;
+use crate::svg::{escaped, COLOURS, PATTERNS};
 use crate::version;
 use record::Recorder;
 
@@ -71,6 +71,8 @@ fn data(source: &Source, lesson: &Lesson, record: &Recorder, file: &str, title: 
         ("leftOut", record.left_out.to_string()),
         ("names", names(&lesson.names)),
         ("loaders", json::object((0..16u32).map(|loader| (loader.to_string(), json::string(&lesson.names.loader(loader)))))),
+        ("colours", json::strings(COLOURS)),
+        ("patterns", json::strings(PATTERNS)),
         ("methods", record.methods.json()),
         ("steps", json::list(record.steps.iter().map(|step| json::object(step.iter().map(|(name, value)| (*name, value.clone())))))),
         ("slots", json::list(slots)),

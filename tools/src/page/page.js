@@ -250,7 +250,10 @@ function score() {
 }
 
 function render() {
+  // who went by the keyboard stays in the slot when its buttons go
+  const isWithin = id('slot').contains(document.activeElement);
   id('slot').replaceChildren(...slotAt(state.at, false));
+  if (isWithin) id('slot').focus({ preventScroll: true });
   id('slider').value = state.at;
   const where = state.at === 0 ? 'Begin' : state.at === END ? 'End' : `${state.at} of ${L.slots.length}`;
   id('where').textContent = where;

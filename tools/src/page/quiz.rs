@@ -72,8 +72,9 @@ const ALL_RAN: &str = "all of its steps run, and the task goes on";
 
 /// The rule by which a call is answered with this number, 0 if it is accepted.
 pub fn rule(number: u32, call: &Call) -> String {
-    if let Some(rule) = usize::try_from(number).ok().and_then(|number| RULES.get(number.checked_sub(1)?)) {
-        return format!("{}: {rule}.", word::NAMES[number as usize - 1]);
+    let place = usize::try_from(number).ok().and_then(|number| number.checked_sub(1));
+    if let Some((word, rule)) = place.and_then(|place| Some((word::NAMES.get(place)?, RULES.get(place)?))) {
+        return format!("{word}: {rule}.");
     }
     match call {
         _ if number != 0 => "another word of refusal".into(),
