@@ -183,7 +183,7 @@ fn spoil(rng: &mut Rng, store: &mut Store) {
     let levels = store.count(count::LOADS);
     let at = count::LEVELS + 5 * rng.below(levels);
     let superclass = some_superclass_row(rng, store, store.counts[at]);
-    let cell = &mut store.counts[at + rng.weighted(&[3, 2, 3, 2, 2])];
+    let cell = &mut store.counts[at + rng.weighted(&[3, 4, 3, 2, 2])];
     match rng.below(21) {
         0..=3 => *cell = cell.saturating_sub(1),
         4..=6 => *cell = cell.saturating_add(1),
