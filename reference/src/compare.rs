@@ -396,8 +396,8 @@ impl Drop for Ended<'_> {
     }
 }
 
-/// Compares for so many seeds from 0, and for more until so much time is over, on all processors. When one has met a difference, no other begins a seed.
-pub fn all(seeds: u64, time: Duration) -> Comparison {
+/// Compares for so many seeds from the first on, and for more until so much time is over, on all processors. When one has met a difference, no other begins a seed.
+pub fn all(first: u64, seeds: u64, time: Duration) -> Comparison {
     let (next, clock, ended) = (AtomicU64::new(0), Instant::now(), AtomicBool::new(false));
     let work = || {
         let mut own = Comparison::default();
@@ -408,7 +408,7 @@ pub fn all(seeds: u64, time: Duration) -> Comparison {
                 _ if ended.load(Ordering::Relaxed) => return own,
                 0 => own.fixed(),
                 1 => own.cells(),
-                _ if seed - 2 < seeds || clock.elapsed() < time => own.seed(seed - 2),
+                _ if seed - 2 < seeds || clock.elapsed() < time => own.seed(first + seed - 2),
                 _ => return own,
             }
         }
