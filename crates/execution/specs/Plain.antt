@@ -2,7 +2,7 @@
 use mathlib.Core.Path.{_≡_, refl, sym, ap, _∙_}
 use mathlib.Core.Bool.{Bool, true, false, true≢false, false≢true}
 use mathlib.Core.Option.{Option, none, some}
-use mathlib.Core.List.{List, [], _∷_}
+use mathlib.Core.List.{List}
 use Prim.Native.Nat.{ℕ, zero, suc, _+_, _*_, _<_, _≤_}
 use native.Mathlib.Omega.{arith}
 use native.Mathlib.Numerals.{add-one}
@@ -11,7 +11,6 @@ use lib.Seq.{getD-set-same, getD-set-other}
 use lib.Dec.{leb}
 use borrow.Author.Tests.{le-leb}
 use Rattle.definition.specs.Lists.{rows, stack}
-use Rattle.definition.specs.Classes.{Class}
 use Rattle.definition.specs.Constraints.{World}
 use Rattle.definition.specs.declared.Instruction.{Instruction}
 use Rattle.definition.specs.declared.Instruction.the-variants.{AconstNull, Sipush, Load, Store, Pop, Dup, Arithmetic, Branch}
@@ -28,7 +27,7 @@ use Rattle.layout.specs.Places.{rows-cong, stack-cong}
 use Rattle.frames.specs.declared.Cell.{Cell}
 use Rattle.instructions.specs.declared.Plan.{Plan}
 use Rattle.instructions.specs.declared.Plan.the-variants.{Refuse, Keep, Jump, Above, Local, Give, Finish, Field, Enter, Make}
-use Rattle.instructions.specs.Plans.{decoded, withAbove, withLocal, meaning, FrameOnly}
+use Rattle.instructions.specs.Plans.{decoded, meaning, FrameOnly}
 use Rattle.execution.specs.declared.walking.Moved.{Moved}
 use Rattle.execution.specs.Opcodes.{opcodeNumbered, Numbers, numbered-at}
 use Rattle.execution.specs.RowCells.{IsRow, operand-row, local-row}

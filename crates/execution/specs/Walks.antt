@@ -1,7 +1,7 @@
 -- A walk in the row of a top frame is as many steps of the machine.
 use mathlib.Core.Path.{_≡_, refl, sym, ap, _∙_, subst, subst⁻¹}
-use mathlib.Core.Bool.{false, true}
-use mathlib.Core.List.{List, [], _∷_, _++_}
+use mathlib.Core.Bool.{false}
+use mathlib.Core.List.{List, _++_}
 use mathlib.Core.Logic.{_≢_}
 use Prim.Native.Nat.{ℕ, zero, suc, _+_, _-_, _<_, _≤_}
 use native.Mathlib.Omega.{arith}
@@ -12,7 +12,7 @@ use Rattle.definition.specs.Numbers.{loadsCell}
 use Rattle.definition.specs.Lists.{rows, writeRows}
 use Rattle.definition.specs.declared.Answer.{Answer}
 use Rattle.definition.specs.declared.Answer.the-variants.{Ran}
-use Rattle.definition.specs.Tables.{Tables, tables, frameBase, putTie}
+use Rattle.definition.specs.Tables.{Tables, tables, frameBase}
 use Rattle.definition.specs.Broken.{broken}
 use Rattle.definition.specs.Calls.{done, stepTables, runFrom}
 use Rattle.layout.specs.Unbroken.{unbroken}
@@ -30,7 +30,6 @@ use Rattle.execution.specs.Carried.{Left}
 use Rattle.execution.specs.Steps.{Chosen, chosen, usable, row-low, depth-few}
 use Rattle.execution.specs.Turns.{turn-carried, turn-count}
 use Rattle.execution.specs.Runs.{run-on, still-whole}
-use Rattle.execution.specs.RowCells.{IsRow}
 use Rattle.execution.specs.Plain.{Wrote, Step, Walked, Cells, wrote-cells}
 use Rattle.execution.specs.Ahead.{lastOf, Ahead}
 use Rattle.execution.specs.Parts.{pasted, paste-row, paste-moved, paste-operand, paste-local}

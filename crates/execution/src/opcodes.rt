@@ -1,6 +1,5 @@
 // The opcodes by small numbers: a number for each byte, 256 for version 1, 256 for version 2, and 256 for those above; 0 for a byte that is no opcode. The table is
 // proved equal to the one decision over opcode bytes at every entry, so a walk that goes by it decides nothing anew.
-ghost use mathlib.Core.Path.{_≡_};
 
 pub(crate) const OPCODE_NUMBERS: [u8; 768] = [
     0,

@@ -1,5 +1,4 @@
 use native.Mathlib.Omega.{arith}
-use mathlib.Core.Path.{_≡_, refl, sym, ap, _∙_}
 use Rattle.execution.specs.Opcodes.{numbers-one, numbers-two, numbers-more}
 use Rattle.execution.proofs.ahead.first_number.Statement.{statement}
 use Rattle.execution.proofs.ahead.first_number.Tie as tie

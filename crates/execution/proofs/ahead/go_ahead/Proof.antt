@@ -1,5 +1,5 @@
 use native.Mathlib.Omega.{arith}
-use mathlib.Core.Path.{_≡_, refl, sym, ap, _∙_}
+use mathlib.Core.Path.{sym, ap, _∙_}
 use lib.ListN.{length}
 use Rattle.execution.specs.Ahead.{none-ahead}
 use Rattle.execution.specs.Opcodes.{numbers-lent, numbers-length}

@@ -1,5 +1,3 @@
-use native.Mathlib.Omega.{arith}
-use mathlib.Core.Path.{_≡_, refl, sym, ap, _∙_}
 use Rattle.execution.specs.Ahead.{last-none, last-some}
 use borrow.Author.Needs.{needs}
 use Rattle.execution.proofs.ahead.last_of.Statement.{statement}

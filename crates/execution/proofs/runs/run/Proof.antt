@@ -1,5 +1,5 @@
 -- A run that is refused changes nothing; any other takes its steps.
-use mathlib.Core.Path.{refl, sym}
+use mathlib.Core.Path.{refl}
 use native.Mathlib.Omega.{arith}
 use Rattle.definition.specs.Lists.{rows}
 use Rattle.definition.specs.Instructions.{pick, opcodeOf}

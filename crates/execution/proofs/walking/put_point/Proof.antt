@@ -1,7 +1,4 @@
-use Rattle.definition.specs.declared.Instruction.the-variants.{AconstNull, Sipush, Load, Store, Pop, Dup, Arithmetic, Branch}
-use Rattle.execution.specs.Plain.{left-so, put-so, put-value, put-set, put-kept, put-jumped, stayed, stepping, decode-null, decode-pop, decode-dup, decode-arithmetic, decode-load, decode-store, decode-sipush, decode-branch, walk-more, walk-stops, Walked, At, here}
-use mathlib.Core.Path.{_≡_, refl, sym, ap, _∙_}
-use native.Mathlib.Omega.{arith}
+use Rattle.execution.specs.Plain.{left-so, put-kept, put-jumped}
 use borrow.Author.Needs.{needs}
 use Rattle.execution.proofs.walking.put_point.Statement.{statement}
 use Rattle.execution.proofs.walking.put_point.Tie as tie

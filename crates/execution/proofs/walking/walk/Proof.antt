@@ -1,11 +1,9 @@
-use Rattle.execution.specs.Opcodes.{opcodeNumbered, Numbers}
-use lib.ListN.{length, getD}
+use Rattle.execution.specs.Opcodes.{Numbers}
 use Prim.Native.Nat.{ℕ, _-_, _≤_}
 use borrow.Author.Tests.{not-true, not-false}
 use borrow.Author.Needs.{needs}
-use Rattle.definition.specs.declared.Instruction.the-variants.{AconstNull, Sipush, Load, Store, Pop, Dup, Arithmetic, Branch}
-use Rattle.execution.specs.Plain.{left-so, put-so, put-value, put-set, put-kept, put-jumped, stayed, stepping, decode-null, decode-pop, decode-dup, decode-arithmetic, decode-load, decode-store, decode-sipush, decode-branch, walk-more, walk-stops, Walked, At, here}
-use mathlib.Core.Path.{_≡_, refl, sym, ap, _∙_}
+use Rattle.execution.specs.Plain.{walk-more, walk-stops, Walked, At, here}
+use mathlib.Core.Path.{sym, _∙_}
 use native.Mathlib.Omega.{arith}
 use Rattle.execution.proofs.walking.walk.Statement.{statement}
 use Rattle.execution.proofs.walking.walk.Tie as tie
